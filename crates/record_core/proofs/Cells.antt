@@ -1,0 +1,125 @@
+-- The bytes of record i stand at i times the width, in what is written and in what is read.
+use Rattle.std.proofs.Common.{◌≡◌, ℕ, zero, suc, subst, ◌-◌, ◌+◌, ◌*◌, ◌≤◌, ◌<◌, List, [], ◌∷◌, ◌++◌, length, take, drop, get_or, Option, Some, None, refl, sym, ap, ◌∙◌, arith, inl, inr}
+use Rattle.std.specs.Prelude.{slice_get, IsSome}
+use Rattle.std.specs.List.{flat_map}
+use Rattle.std.proofs.lemmas.Bool.{cases_lt}
+use Rattle.std.proofs.lemmas.List.{take_at, drop_at, drop-drop, take_more, length-append, length_push, flat_map_more}
+use Rattle.std.proofs.lemmas.Nat.{mul-le}
+use Rattle.std.proofs.lemmas.Slice.{take-put_mid}
+use borrow.Rule.Slice.PartMut.{put_mid}
+use Rattle.record_core.specs.Cells.{cell, AreRecords, IsFirstBad}
+
+-- ---- cells
+
+pub cell_first : (width : ℕ) (first rest : List ℕ) → length first ≡ width → cell width (first ++ rest) 0 ≡ first
+cell_first width first rest len =
+    let none : 0 * width ≡ 0 = omega arith in
+    ap (λ n. take width (drop n (first ++ rest))) none ∙ take_at first rest width len
+
+pub cell_next : (width : ℕ) (first rest : List ℕ) (i : ℕ) → length first ≡ width → cell width (first ++ rest) (suc i) ≡ cell width rest i
+cell_next width first rest i len =
+    let more : suc i * width ≡ width + i * width = omega arith in
+    ap (λ n. take width (drop n (first ++ rest))) more ∙ ap (take width) (sym (drop-drop (i * width) width (first ++ rest)) ∙ ap (drop (i * width)) (drop_at first rest width len))
+
+-- the cell as the code cuts it out
+pub cell_is : (width w : ℕ) (bytes : List ℕ) (i : ℕ) → w ≡ width → cell width bytes i ≡ take (i * w + w - i * w) (drop (i * w) bytes)
+cell_is width w bytes i is =
+    let part : width ≡ i * w + w - i * w = omega arith in
+    ap (λ n. take n (drop (i * width) bytes)) part ∙ ap (λ n. take (i * w + w - i * w) (drop (i * n) bytes)) (sym is)
+
+-- ---- elements of a list that grows
+
+pub slice_get-append_left : {X : Type 0} (xs ys : List X) (i : ℕ) → i < length xs → slice_get (xs ++ ys) i ≡ slice_get xs i
+slice_get-append_left [] ys i lt = absurd (omega arith)
+slice_get-append_left (x ∷ xs) ys zero lt = refl
+slice_get-append_left (x ∷ xs) ys (suc i) lt = slice_get-append_left xs ys i (omega arith)
+
+pub slice_get_push : {X : Type 0} (xs : List X) (x : X) → slice_get (xs ++ x ∷ []) (length xs) ≡ Some x
+slice_get_push [] x = refl
+slice_get_push (y ∷ xs) x = slice_get_push xs x
+
+-- ---- what is written
+
+-- what was written of each record is read as that record
+abbrev pub AreReadAgain : {R : Type 0} → (R → List ℕ) → (List ℕ → Option R) → List R → Type 0
+AreReadAgain bytes_of value_of [] = Unit {0}
+AreReadAgain bytes_of value_of (r ∷ rs) = (value_of (bytes_of r) ≡ Some r) × AreReadAgain bytes_of value_of rs
+
+pub AreReadAgain_push : {R : Type 0} (bytes_of : R → List ℕ) (value_of : List ℕ → Option R) (rs : List R) (r : R) → AreReadAgain bytes_of value_of rs → value_of (bytes_of r) ≡ Some r → AreReadAgain bytes_of value_of (rs ++ r ∷ [])
+AreReadAgain_push bytes_of value_of [] r each one = (one, tt)
+AreReadAgain_push bytes_of value_of (s ∷ rs) r each one = (each.0, AreReadAgain_push bytes_of value_of rs r each.1 one)
+
+pub length-flat_map_bytes : {R : Type 0} (width : ℕ) (bytes_of : R → List ℕ) (rs : List R) → ((r : R) → length (bytes_of r) ≡ width) → length (flat_map bytes_of rs) ≡ length rs * width
+length-flat_map_bytes width bytes_of [] wide = omega arith
+length-flat_map_bytes width bytes_of (r ∷ rs) wide =
+    let more = length-flat_map_bytes width bytes_of rs wide in
+    let one = wide r in
+    length-append (bytes_of r) (flat_map bytes_of rs) ∙ omega arith
+
+cells_read : {R : Type 0} (width : ℕ) (bytes_of : R → List ℕ) (value_of : List ℕ → Option R) (rs : List R) → ((r : R) → length (bytes_of r) ≡ width) → AreReadAgain bytes_of value_of rs → (i : ℕ) → i < length rs → value_of (cell width (flat_map bytes_of rs) i) ≡ slice_get rs i
+cells_read width bytes_of value_of [] wide each i lt = absurd (omega arith)
+cells_read width bytes_of value_of (r ∷ rs) wide each zero lt = ap value_of (cell_first width (bytes_of r) (flat_map bytes_of rs) (wide r)) ∙ each.0
+cells_read width bytes_of value_of (r ∷ rs) wide each (suc i) lt = ap value_of (cell_next width (bytes_of r) (flat_map bytes_of rs) i (wide r)) ∙ cells_read width bytes_of value_of rs wide each.1 i (omega arith)
+
+pub AreRecords_written : {R : Type 0} (width : ℕ) (bytes_of : R → List ℕ) (value_of : List ℕ → Option R) (rs : List R) → ((r : R) → length (bytes_of r) ≡ width) → AreReadAgain bytes_of value_of rs → AreRecords width value_of (flat_map bytes_of rs) rs
+AreRecords_written width bytes_of value_of rs wide each = record {
+  filled = length-flat_map_bytes width bytes_of rs wide;
+  each = cells_read width bytes_of value_of rs wide each;
+}
+
+-- ---- what is read
+
+-- the first records of these bytes have been read
+pub record HasRead {R : Type 0} (width : ℕ) (value_of : List ℕ → Option R) (bytes : List ℕ) (count : ℕ) (records : List R) : Type 0 where
+  pub so_far : length records ≡ count
+  pub each : (i : ℕ) → i < count → value_of (cell width bytes i) ≡ slice_get records i
+
+pub HasRead_more : {R : Type 0} (width : ℕ) (value_of : List ℕ → Option R) (bytes : List ℕ) (count : ℕ) (records : List R) (r : R) → HasRead width value_of bytes count records → value_of (cell width bytes count) ≡ Some r → HasRead width value_of bytes (count + 1) (records ++ r ∷ [])
+HasRead_more width value_of bytes count records r read one = record {
+  so_far = length_push records r ∙ ap (λ n. n + 1) read.so_far;
+  each = λ i lt. elim (cases_lt i count) [
+    | inl below ↦ read.each i below ∙ sym (slice_get-append_left records (r ∷ []) i (omega (arith, read.so_far)))
+    | inr past ↦ (
+        let here : i ≡ length records = omega (arith, read.so_far) in
+        let at : i ≡ count = omega arith in
+        ap (λ n. value_of (cell width bytes n)) at ∙ one ∙ sym (ap (slice_get (records ++ r ∷ [])) here ∙ slice_get_push records r))
+  ];
+}
+
+pub IsSome_from_is : {X : Type 0} (o : Option X) (x : X) → o ≡ Some x → IsSome o
+IsSome_from_is o x e = rw e refl
+
+IsSome_within : {X : Type 0} (xs : List X) (i : ℕ) → i < length xs → IsSome (slice_get xs i)
+IsSome_within [] i lt = absurd (omega arith)
+IsSome_within (x ∷ xs) zero lt = refl
+IsSome_within (x ∷ xs) (suc i) lt = IsSome_within xs i (omega arith)
+
+pub IsFirstBad_after : {R : Type 0} (width : ℕ) (value_of : List ℕ → Option R) (bytes : List ℕ) (count i : ℕ) (records : List R) → HasRead width value_of bytes i records → i < count → value_of (cell width bytes i) ≡ None → IsFirstBad width value_of bytes count i
+IsFirstBad_after width value_of bytes count i records read lt none = record {
+  inside = lt;
+  bad = none;
+  before = λ k below. rw (read.each k below) (IsSome_within records k (omega (arith, read.so_far)));
+}
+
+-- one more record's bytes behind those of the records before it
+pub written_more : {R : Type 0} (width : ℕ) (bytes_of : R → List ℕ) (records : List R) (out new : List ℕ) (i at end : ℕ) (r : R) → i < length records → r ≡ get_or records i r → length out ≡ length records * width → at ≡ i * width → end ≡ at + width
+    → new ≡ bytes_of r → length new ≡ width → take (i * width) out ≡ flat_map bytes_of (take i records) → take ((i + 1) * width) (put_mid at (end - at) out new) ≡ flat_map bytes_of (take (i + 1) records)
+written_more width bytes_of records out new i at end r lt is filled begins ends put wide so_far =
+    let inside : at ≤ length out = let rows : i * width ≤ length records * width = mul-le i width (length records) width (omega arith) (omega arith) in omega arith in
+    let upto : (i + 1) * width ≡ at + length new = omega arith in
+    let front : take at out ≡ flat_map bytes_of (take i records) = rw begins so_far in
+    take-put_mid at (end - at) out new ((i + 1) * width) upto inside
+    ∙ ap (λ (bs : List ℕ). bs ++ new) front
+    ∙ ap (λ (bs : List ℕ). flat_map bytes_of (take i records) ++ bs) put
+    ∙ flat_map_more bytes_of [] (take i records) r
+    ∙ ap (flat_map bytes_of) (ap (λ x. take i records ++ x ∷ []) is ∙ sym (take_more records i r lt))
+
+pub AreReadAgain_more : {R : Type 0} (bytes_of : R → List ℕ) (value_of : List ℕ → Option R) (records : List R) (i : ℕ) (r : R) → i < length records → r ≡ get_or records i r → AreReadAgain bytes_of value_of (take i records) → value_of (bytes_of r) ≡ Some r → AreReadAgain bytes_of value_of (take (i + 1) records)
+AreReadAgain_more {R} bytes_of value_of records i r lt is each one =
+    subst (λ (rs : List R). AreReadAgain bytes_of value_of rs) (ap (λ x. take i records ++ x ∷ []) is ∙ sym (take_more records i r lt)) (AreReadAgain_push bytes_of value_of (take i records) r each one)
+
+pub AreRecords_read : {R : Type 0} (width : ℕ) (value_of : List ℕ → Option R) (bytes : List ℕ) (count i : ℕ) (records : List R) → length bytes ≡ count * width → i ≡ count → HasRead width value_of bytes i records → AreRecords width value_of bytes records
+AreRecords_read width value_of bytes count i records filled all read = record {
+  filled = filled ∙ ap (λ n. n * width) (sym all ∙ sym read.so_far);
+  each = λ k lt. read.each k (omega (arith, read.so_far));
+}

@@ -1,0 +1,10 @@
+use Rattle.std.proofs.Common.{◌≡◌, ◌*◌, take}
+use Rattle.std.specs.List.{flat_map}
+use Rattle.record_core.proofs.Cells.{AreReadAgain}
+use Rattle.record_core.proofs.records.put_records.Given as goal
+
+abbrev pub invariant-loop-i : goal.invariant-loop-i
+invariant-loop-i g l = record {
+  written : take (l.i * g.R.Record.WIDTH) l.out ≡ flat_map g.R.Record.bytes_of (take l.i l.records);
+  read_again : AreReadAgain g.R.Record.bytes_of g.R.Record.value_of (take l.i l.records);
+}

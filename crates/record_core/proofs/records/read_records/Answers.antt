@@ -1,0 +1,26 @@
+use Rattle.std.proofs.Common.{◌≡◌, true, cond, List, [], ◌∷◌, ◌++◌, Some, refl, sym, ap, ◌∙◌, arith}
+use Rattle.std.specs.Prelude.{is_ok}
+use Rattle.std.proofs.lemmas.List.{append-nil, append_assoc}
+use Rattle.record_core.specs.Cells.{cell}
+use Rattle.record_core.proofs.Cells.{cell_is, HasRead_more, AreRecords_read}
+use Rattle.record_core.proofs.records.read_records.Goals as goal
+
+pub loop-i-init : goal.loop-i-init
+loop-i-init g c = ([], sym (append-nil _), record { so_far = refl; each = λ i lt. absurd (omega arith) })
+
+pub loop-i-preserved : goal.loop-i-preserved
+loop-i-preserved g c =
+    let before = c.loop-i.invariant in
+    let r = c.in-Some.record in
+    let ok : is_ok c.push.result ≡ true = sym c.map_err.ensures.variant ∙ ap is_ok c.in_ok-map_err.was in
+    let pushed : c.push.new.self.items ≡ c.loop-i.records.items ++ r ∷ [] = c.push.ensures.items ∙ ap (λ b. cond b (c.loop-i.records.items ++ r ∷ []) c.loop-i.records.items) ok in
+    let here : g.R.Record.value_of (cell g.R.Record.WIDTH c.args.bytes.now c.loop-i.i) ≡ Some r = ap g.R.Record.value_of (cell_is g.R.Record.WIDTH c.WIDTH-width.result c.args.bytes.now c.loop-i.i c.WIDTH-width.ensures) ∙ sym c.take.ensures ∙ c.in-Some.is in
+    (before.0 ++ r ∷ [], pushed ∙ ap (λ (rs : List g.row.R.Denot). rs ++ r ∷ []) before.1 ∙ append_assoc c.args.records.now.items before.0 (r ∷ []), HasRead_more g.R.Record.WIDTH g.R.Record.value_of c.args.bytes.now c.loop-i.i before.0 r before.2 here)
+
+pub returns-clause-ok : goal.returns-clause-ok
+returns-clause-ok g c =
+    let read = c.loop-i.invariant in
+    (read.0, read.1, AreRecords_read g.R.Record.WIDTH g.R.Record.value_of c.args.bytes.now c.args.count c.loop-i.i read.0 c.requires (omega arith) read.2)
+
+pub returns-clause-kept : goal.returns-clause-kept
+returns-clause-kept g c = (c.loop-i.invariant.0, c.loop-i.invariant.1)

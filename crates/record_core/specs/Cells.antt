@@ -1,0 +1,23 @@
+-- Lists of records in bytes: record i has the cell of its width at i times the width.
+use Rattle.std.specs.Prelude.{◌≡◌, ℕ, ◌<◌, ◌*◌, List, Option, None, IsSome, length, take, drop, slice_get}
+use Rattle.record_core.specs.declared.records.RecordsFault.{RecordsFault}
+use Rattle.record_core.specs.declared.records.RecordsFault.TheVariants.{Bad, Memory}
+
+-- the bytes of record i
+abbrev pub cell : ℕ → List ℕ → ℕ → List ℕ
+cell width bytes i = take width (drop (i * width) bytes)
+
+-- the bytes are these records and nothing else
+pub record AreRecords {R : Type 0} (width : ℕ) (value_of : List ℕ → Option R) (bytes : List ℕ) (records : List R) : Type 0 where
+  pub filled : length bytes ≡ length records * width
+  pub each : (i : ℕ) → i < length records → value_of (cell width bytes i) ≡ slice_get records i
+
+-- record i is the first of count that the bytes don't have
+pub record IsFirstBad {R : Type 0} (width : ℕ) (value_of : List ℕ → Option R) (bytes : List ℕ) (count i : ℕ) : Type 0 where
+  pub inside : i < count
+  pub bad : value_of (cell width bytes i) ≡ None
+  pub before : (k : ℕ) → k < i → IsSome (value_of (cell width bytes k))
+
+abbrev pub FirstBad : {R : Type 0} → ℕ → (List ℕ → Option R) → List ℕ → ℕ → RecordsFault → Type 0
+FirstBad width value_of bytes count (Bad i) = IsFirstBad width value_of bytes count i
+FirstBad width value_of bytes count Memory = Unit {0}

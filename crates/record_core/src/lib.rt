@@ -1,0 +1,13 @@
+//! Records of fixed width: values that stand in a file as a fixed number of bytes.
+//!
+//! Bytes and value determine each other. On that rest three facts over lists of records, each with the
+//! function that uses it: the bytes of records (`append_records`), the records of bytes (`read_records`),
+//! and that the bytes of record i stand at i times the width (both of them).
+#![tactic(auto)]
+
+mod number;
+mod record;
+mod records;
+
+pub use record::Record;
+pub use records::{RecordsFault, append_records, read_records};
