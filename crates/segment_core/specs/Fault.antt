@@ -1,0 +1,95 @@
+-- The first fault of an image: the first line that holds of a table, at the end of the longest list of frames
+-- that begins the image; past all frames, the least position that has no record.
+use Rattle.std.specs.Prelude.{◌≡◌, ℕ, ◌+◌, ◌<◌, Bool, List, [], ◌∷◌, ◌++◌, length, take, drop, slice_index, Option, Some, None, IsSome, MatchOption, codes, nat_le, nat_lt, not, ◌==◌, ◌&&◌, ◌||◌, if◌then◌else◌, nat_eq, ◌⊎◌}
+use Rattle.std.specs.List.{starts_with}
+use Rattle.std.specs.Int.{w16, from_le_bytes}
+use Rattle.segment_core.specs.declared.fault.Cause.{Cause}
+use Rattle.segment_core.specs.declared.fault.Cause.TheVariants.{NoGate, ShortFrame, Kind, TooLarge, Layout, Range, Unfolded, FoldCount, TooLong, BadRecord}
+use Rattle.segment_core.specs.declared.fault.ScanFault.{ScanFault}
+use Rattle.segment_core.specs.declared.fault.ScanFault.TheVariants.{Unborn, NotSegment, Version, Width, Damaged, Memory}
+use Rattle.segment_core.specs.Frame.{Frame, text, is_built, payload_limit}
+use Rattle.segment_core.specs.Layout.{u32_at, is_layout, frame_in}
+use Rattle.segment_core.specs.Tally.{Tally, tally_of, is_outside, is_unfolded, is_miscounted, is_too_long}
+use Rattle.segment_core.specs.Image.{IsLongest}
+use Rattle.segment_core.specs.Vector.{place_of, record_at}
+
+-- what is answered at the first test that holds
+abbrev pub first_line : List (Bool × ScanFault) → Option ScanFault
+first_line [] = None
+first_line (line ∷ lines) = if line.0 then Some line.1 else first_line lines
+
+abbrev pub damaged : ℕ → Cause → ScanFault
+damaged at cause = Damaged at cause
+
+-- the header, from its first byte on
+unfoldable pub header_fault : ℕ → List ℕ → Option ScanFault
+header_fault width image = first_line (
+    (nat_le (length image) 1 || not (slice_index image 0 == 1), Unborn)
+    ∷ (nat_lt (length image) 11 || not (starts_with nat_eq (drop 1 image) (codes "CVECSEG")), NotSegment)
+    ∷ (not (slice_index image 8 == 1), Version (slice_index image 8))
+    ∷ (not (from_le_bytes w16 (take 2 (drop 9 image)) == width), Width (from_le_bytes w16 (take 2 (drop 9 image))))
+    ∷ [])
+
+-- the fields of the frame that begins these bytes
+abbrev pub kind_in : List ℕ → ℕ
+kind_in bytes = slice_index bytes 1
+
+abbrev pub payload_len_in : List ℕ → ℕ
+payload_len_in bytes = u32_at bytes 2
+
+abbrev pub payload_in : List ℕ → List ℕ
+payload_in bytes = take (payload_len_in bytes) (drop 6 bytes)
+
+-- the frame at p by itself, where bytes is the image from p on
+unfoldable pub frame_lines : ℕ → ℕ → List ℕ → List (Bool × ScanFault)
+frame_lines width p bytes =
+    (length bytes == 0, damaged p NoGate)
+    ∷ (nat_lt (length bytes) 6, damaged p ShortFrame)
+    ∷ (not (is_built (kind_in bytes)), damaged (p + 1) (Kind (kind_in bytes)))
+    ∷ (nat_lt payload_limit (payload_len_in bytes), damaged (p + 2) TooLarge)
+    ∷ (nat_lt (length bytes) (6 + payload_len_in bytes), damaged p ShortFrame)
+    ∷ (not (is_layout width (kind_in bytes) (payload_in bytes)), damaged (p + 6) Layout)
+    ∷ []
+
+-- the frame at p after those before it
+unfoldable pub order_lines : ℕ → ℕ → Tally → Frame → List (Bool × ScanFault)
+order_lines width p tally frame =
+    (is_outside width tally frame, damaged (p + 6) Range)
+    ∷ (is_unfolded tally frame, damaged p Unfolded)
+    ∷ (is_miscounted tally frame, damaged (p + 6) FoldCount)
+    ∷ (is_too_long tally frame, damaged (p + 6) TooLong)
+    ∷ []
+
+-- a gate that is there and isn't open
+abbrev pub is_closed : List ℕ → Bool
+is_closed bytes = nat_lt 0 (length bytes) && not (slice_index bytes 0 == 1)
+
+-- what is wrong at p: nothing where a closed gate ends the frames
+unfoldable pub frame_fault : ℕ → ℕ → Tally → List ℕ → Option ScanFault
+frame_fault width p tally bytes =
+    if is_closed bytes then None else first_line (frame_lines width p bytes ++ order_lines width p tally (frame_in (kind_in bytes) (payload_in bytes)))
+
+-- position i is the least that has no record
+pub record IsFirstBad {R : Type 0} (width : ℕ) (value_of : List ℕ → Option R) (image : List ℕ) (frames : List Frame) (i : ℕ) : Type 0 where
+  pub inside : i < (tally_of frames).size
+  pub bad : record_at width value_of image frames i ≡ None
+  pub before : (k : ℕ) → k < i → IsSome (record_at width value_of image frames k)
+
+abbrev pub IsBadRecord : {R : Type 0} → ℕ → (List ℕ → Option R) → List ℕ → List Frame → ScanFault → Type 0
+IsBadRecord width value_of image frames fault =
+    (i : ℕ) × (place : ℕ) × IsFirstBad width value_of image frames i × (place_of width frames i ≡ Some place) × (fault ≡ damaged place BadRecord)
+
+-- the fault at the end of these frames
+abbrev pub EndsWith : {R : Type 0} → ℕ → (List ℕ → Option R) → List ℕ → List Frame → ScanFault → Type 0
+EndsWith width value_of image frames fault =
+    let p = length (text width frames) in
+    MatchOption (frame_fault width p (tally_of frames) (drop p image)) (IsBadRecord width value_of image frames fault) (λ first. fault ≡ first)
+
+abbrev pub IsFirstFault : {R : Type 0} → ℕ → (List ℕ → Option R) → List ℕ → ScanFault → Type 0
+IsFirstFault width value_of image fault =
+    MatchOption (header_fault width image) ((frames : List Frame) × IsLongest width image frames × EndsWith width value_of image frames fault) (λ first. fault ≡ first)
+
+-- what a scan may answer in place of the image's vector: its first fault, or, once the header is read, that
+-- memory was refused
+abbrev pub IsRefused : {R : Type 0} → ℕ → (List ℕ → Option R) → List ℕ → ScanFault → Type 0
+IsRefused width value_of image fault = IsFirstFault width value_of image fault ⊎ ((fault ≡ Memory) × (header_fault width image ≡ None))

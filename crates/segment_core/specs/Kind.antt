@@ -1,0 +1,7 @@
+-- The byte of a frame's kind.
+use Rattle.std.specs.Prelude.{ℕ}
+use Rattle.segment_core.specs.declared.format.FrameKind.{FrameKind}
+use Rattle.segment_core.specs.declared.format.FrameKind.TheVariants as kinds
+
+abbrev pub kind_byte : FrameKind → ℕ
+kind_byte kinds.Group = 1

@@ -1,0 +1,46 @@
+-- Growths as frames: what a writer of whole files puts into one.
+use Rattle.std.specs.Prelude.{◌≡◌, ℕ, ◌+◌, ◌*◌, ◌<◌, List, [], ◌∷◌, ◌++◌, length, map, position, nat_lt, Option, Some, None}
+use Rattle.std.specs.Global.{Vec}
+use Rattle.std.specs.List.{flat_map, AllByRecursion}
+use Rattle.segment_core.specs.declared.fault.ImageFault.{ImageFault}
+use Rattle.segment_core.specs.declared.fault.ImageFault.TheVariants.{TooLarge, Memory}
+use Rattle.segment_core.specs.Frame.{Frame, Group, text, payload_limit}
+
+-- groups of growths as lists
+abbrev pub growths_of : {R : Type 0} → List (Vec R) → List (List R)
+growths_of growths = map (λ growth. growth.items) growths
+
+abbrev pub groups_of : {R : Type 0} → List (Vec (Vec R)) → List (List (List R))
+groups_of groups = map (λ group. growths_of group.items) groups
+
+-- the records of growths, in order
+abbrev pub joined : {R : Type 0} → List (List R) → List R
+joined growths = flat_map (λ growth. growth) growths
+
+-- the frame of one group
+abbrev pub group_frame : {R : Type 0} → (R → List ℕ) → List (List R) → Frame
+group_frame bytes_of growths = Group (map length growths) (flat_map bytes_of (joined growths))
+
+-- the file: the Groups, and a closed gate
+abbrev pub file_of : {R : Type 0} → ℕ → (R → List ℕ) → List (List (List R)) → List ℕ
+file_of width bytes_of groups = text width (map (group_frame bytes_of) groups) ++ 0 ∷ []
+
+-- the bytes of a group's payload
+abbrev pub payload_len : {R : Type 0} → ℕ → List (List R) → ℕ
+payload_len width growths = 4 + length growths * 4 + length (joined growths) * width
+
+-- every group has a growth, and every growth a record
+abbrev pub AreFilled : {R : Type 0} → List (List (List R)) → Type 0
+AreFilled groups = AllByRecursion (λ group. (0 < length group) × AllByRecursion (λ growth. 0 < length growth) group) groups
+
+-- the records of groups, in order
+abbrev pub all_records : {R : Type 0} → List (List (List R)) → List R
+all_records groups = joined (map joined groups)
+
+-- the first group whose payload passes the limit
+abbrev pub first_too_large : {R : Type 0} → ℕ → List (List (List R)) → Option ℕ
+first_too_large width groups = position (λ group. nat_lt payload_limit (payload_len width group)) groups
+
+abbrev pub IsImageRefused : {R : Type 0} → ℕ → List (List (List R)) → ImageFault → Type 0
+IsImageRefused width groups (TooLarge k) = first_too_large width groups ≡ Some k
+IsImageRefused width groups Memory = first_too_large width groups ≡ None

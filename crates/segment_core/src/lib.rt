@@ -1,0 +1,16 @@
+//! A segment file: the growths and changes of a vector, frame behind frame, and the vector that is found again.
+//!
+//! `write_image` makes the whole file of some growths, `scan` reads the vector of an image or names its first
+//! fault, and `FrameReader` gives the fields of one frame. The format is in `docs/FORMAT.md`.
+#![tactic(auto)]
+
+mod fault;
+mod format;
+mod image;
+mod vector;
+
+pub use fault::{Cause, ImageFault, ScanFault};
+pub use format::{FrameKind, PAYLOAD_LIMIT, RECORD_LIMIT, VERSION};
+pub use image::write_image;
+pub use vector::{Scanned, scan};
+
