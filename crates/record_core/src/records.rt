@@ -56,7 +56,7 @@ pub fn read_records<R: Record>(
     records: &mut Vec<R>,
 ) -> Result<(), RecordsFault>
     requires { length bytes.now ≡ count * R.WIDTH }
-    ensures ok { OnOk result ((read : List R) × (records.new.items ≡ records.old.items ++ read) × AreRecords R.WIDTH R.value_of bytes.now read) }
+    ensures ok { OnOk result ((read : List R) × (records.new.items ≡ records.old.items ++ read) × (length read ≡ count) × AreRecords R.WIDTH R.value_of bytes.now read) }
     ensures bad { IfErr result (FirstBad R.WIDTH R.value_of bytes.now count) }
     ensures kept { (read : List R) × (records.new.items ≡ records.old.items ++ read) }
 {
