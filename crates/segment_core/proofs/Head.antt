@@ -1,17 +1,17 @@
 -- What a reader answers of a frame, test by test.
-use Rattle.std.proofs.Common.{◌≡◌, ℕ, ◌+◌, ◌-◌, ◌*◌, ◌^◌, ◌≤◌, ◌<◌, Bool, true, false, List, [], ◌∷◌, ◌++◌, length, take, drop, sum, slice_index, Option, Some, refl, sym, ap, subst, ◌∙◌, arith}
-use Rattle.std.specs.Prelude.{not, nat_lt, ◌==◌, ◌&&◌}
+use Rattle.std.proofs.Common.{◌≡◌, ℕ, ◌+◌, ◌-◌, ◌*◌, ◌^◌, ◌≤◌, ◌<◌, true, false, List, [], ◌∷◌, ◌++◌, length, take, drop, sum, slice_index, Some, refl, sym, ap, ◌∙◌, arith}
+use Rattle.std.specs.Prelude.{not, ◌==◌}
 use Rattle.std.specs.Int.{w32, to_le_bytes}
 use Rattle.std.proofs.lemmas.Bool.{le-ltb, lt-ltb, eq-eqb, ne_eqb}
-use Rattle.std.proofs.lemmas.List.{take-append-drop, length-take-le, length-drop, take_at, drop_at, drop-drop}
+use Rattle.std.proofs.lemmas.List.{take-append-drop, length-take-le, length-drop}
 use Rattle.record_core.specs.Bytes.{IsBytes}
 use Rattle.segment_core.specs.declared.fault.Cause.TheVariants.{NoGate, ShortFrame, Kind, TooLarge, Layout}
 use Rattle.segment_core.specs.declared.fault.ScanFault.{ScanFault}
 use Rattle.segment_core.specs.declared.format.FrameKind.{FrameKind}
 use Rattle.segment_core.specs.declared.format.FrameKind.TheVariants as kinds
-use Rattle.segment_core.specs.Frame.{Frame, Group, kind_of, is_built, payload_of, payload_limit, frame_text}
+use Rattle.segment_core.specs.Frame.{Group, is_built, payload_of, payload_limit, frame_text}
 use Rattle.segment_core.specs.Kind.{kind_byte}
-use Rattle.segment_core.specs.Layout.{IsFrame, u32_at, count_in, lengths_in, homes_in, frame_in, is_group_layout, is_layout}
+use Rattle.segment_core.specs.Layout.{count_in, lengths_in, homes_in, frame_in, is_group_layout, is_layout}
 use Rattle.segment_core.specs.Fault.{first_line, frame_lines, is_closed, damaged, kind_in, payload_len_in, payload_in}
 use Rattle.segment_core.specs.Reading.{BeginsWith, IsRead}
 use Rattle.segment_core.proofs.Numbers.{IsBytes-drop, IsBytes-take, u32_at-drop, u32_written, length-numbers_in, first_false, second_false}

@@ -1,5 +1,5 @@
 -- The header of a file, and the tests that find it.
-use Rattle.std.proofs.Common.{◌≡◌, ℕ, ◌+◌, ◌≤◌, ◌<◌, Bool, true, false, cond, List, [], ◌∷◌, ◌++◌, length, take, drop, get_or, slice_index, Option, Some, None, refl, sym, ap, ◌∙◌, append_assoc, arith, codes}
+use Rattle.std.proofs.Common.{◌≡◌, ℕ, ◌≤◌, ◌<◌, Bool, true, false, List, [], ◌∷◌, ◌++◌, length, take, drop, get_or, slice_index, Some, None, refl, sym, ap, ◌∙◌, arith, codes}
 use Rattle.std.specs.Prelude.{not, nat_lt, nat_le, nat_eq, ◌==◌, ◌||◌}
 use Rattle.std.specs.List.{starts_with}
 use Rattle.std.specs.Int.{w16, to_le_bytes, from_le_bytes}
@@ -13,7 +13,7 @@ use Rattle.segment_core.specs.declared.fault.ScanFault.TheVariants.{Unborn, NotS
 use Rattle.segment_core.specs.Frame.{header}
 use Rattle.segment_core.specs.Fault.{header_lines, header_fault, first_line}
 use Rattle.segment_core.proofs.Numbers.{IsBytes-drop, IsBytes-take}
-use Rattle.segment_core.proofs.Lines.{IsFirstAt, first_line_at, AreSilent, first_line_silent}
+use Rattle.segment_core.proofs.Lines.{first_line_at, AreSilent, first_line_silent}
 
 pub either : (a b : Bool) → a ≡ false → b ≡ false → (a || b) ≡ false
 either true b p q = absurd cc

@@ -1,5 +1,5 @@
 -- The homes of Groups stand one behind the other, and tell the place of each position.
-use Rattle.std.proofs.Common.{◌≡◌, ℕ, zero, suc, ◌+◌, ◌-◌, ◌*◌, ◌≤◌, ◌<◌, Bool, true, false, cond, List, [], ◌∷◌, ◌++◌, length, take, drop, get_or, sum, Option, Some, None, refl, sym, ap, subst, ◌∙◌, arith, inl, inr}
+use Rattle.std.proofs.Common.{◌≡◌, ℕ, zero, suc, ◌+◌, ◌-◌, ◌*◌, ◌≤◌, ◌<◌, true, false, cond, List, [], ◌∷◌, ◌++◌, length, take, drop, get_or, sum, Option, Some, None, refl, sym, ap, subst, ◌∙◌, arith, inl, inr}
 use Rattle.std.specs.Prelude.{nat_lt, nat_le, slice_get, IsSome, ◌&&◌}
 use Rattle.std.specs.List.{flat_map}
 use Rattle.std.specs.Option.{option_or, option_and_then}
@@ -10,12 +10,11 @@ use Rattle.record_core.specs.Cells as cells
 use Rattle.record_core.proofs.Cells.{slice_get-append_left}
 use Rattle.segment_core.specs.declared.walk.Home.{Home}
 use Rattle.segment_core.specs.Frame.{Frame, Group, Change, Shrink, Fold, header, frame_text, text}
-use Rattle.segment_core.specs.Layout.{IsFrame}
-use Rattle.segment_core.specs.Tally.{Tally, nothing, after, tally_from, tally_of, AreLegalFrom, AreLegal}
+use Rattle.segment_core.specs.Tally.{Tally, nothing, after, tally_from, tally_of, AreLegalFrom}
 use Rattle.segment_core.specs.Image.{HasFrames}
-use Rattle.segment_core.specs.Vector.{home_in, home_from, change_in, change_from, place_of, record_at, IsVectorOf}
+use Rattle.segment_core.specs.Vector.{home_in, home_from, change_from, place_of, record_at}
 use Rattle.segment_core.specs.Fault.{IsFirstBad}
-use Rattle.segment_core.specs.Walk.{home_of, homes_from, bytes_at, HoldsAt, IsBadAt}
+use Rattle.segment_core.specs.Walk.{homes_from, bytes_at, HoldsAt, IsBadAt}
 use Rattle.segment_core.proofs.Numbers.{true_both, first_false, second_false}
 use Rattle.segment_core.proofs.Payload.{length-frame_text, length-group_payload}
 

@@ -8,3 +8,5 @@ pub mod Walked
 pub mod Homes
 pub mod Header
 pub mod Refusals
+pub mod Written
+pub mod ReadAgain

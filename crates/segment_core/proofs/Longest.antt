@@ -1,12 +1,12 @@
 -- Frames that end where no frame follows are the longest list that begins the image.
-use Rattle.std.proofs.Common.{◌≡◌, ℕ, ◌+◌, ◌≤◌, true, false, List, [], ◌∷◌, ◌++◌, length, Option, Some, None, refl, sym, ap, subst, ◌∙◌, append_assoc, arith}
+use Rattle.std.proofs.Common.{◌≡◌, ℕ, ◌≤◌, true, false, List, [], ◌∷◌, ◌++◌, length, Some, None, refl, sym, ap, subst, ◌∙◌, append_assoc, arith}
 use Rattle.std.specs.List.{flat_map}
 use Rattle.std.proofs.lemmas.List.{append_cancel_left, length-append, flat_map_more}
 use Rattle.segment_core.specs.declared.fault.ScanFault.{ScanFault}
 use Rattle.segment_core.specs.Frame.{Frame, header, frame_text, text}
 use Rattle.segment_core.specs.Layout.{IsFrame, frame_in}
 use Rattle.segment_core.specs.Tally.{Tally, nothing, after, tally_from, tally_of, MayFollow, AreLegalFrom, AreLegal}
-use Rattle.segment_core.specs.Image.{Begins, IsLongest}
+use Rattle.segment_core.specs.Image.{IsLongest}
 use Rattle.segment_core.specs.Fault.{frame_fault, is_closed, kind_in, payload_in}
 use Rattle.segment_core.proofs.Payload.{frame_in-frame_text}
 use Rattle.segment_core.proofs.Lines.{frame_fault-frame_text, is_closed-frame_text}

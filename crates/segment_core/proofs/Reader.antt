@@ -1,16 +1,15 @@
 -- The fields of a frame, as a reader finds them in the payload.
-use Rattle.std.proofs.Common.{◌≡◌, ℕ, ◌+◌, ◌-◌, ◌*◌, ◌≤◌, ◌<◌, true, false, List, [], ◌∷◌, ◌++◌, length, take, drop, get_or, Some, None, refl, sym, ap, subst, ◌∙◌, arith}
+use Rattle.std.proofs.Common.{◌≡◌, ℕ, ◌+◌, ◌-◌, ◌*◌, ◌<◌, true, false, List, ◌++◌, length, take, drop, get_or, Some, None, sym, ap, ◌∙◌, arith}
 use Rattle.std.proofs.lemmas.List.{drop-drop}
 use Rattle.segment_core.specs.declared.format.FrameKind.{FrameKind}
 use Rattle.segment_core.specs.declared.fault.ScanFault.{ScanFault}
-use Rattle.segment_core.specs.Frame.{Frame, payload_of, frame_text}
+use Rattle.segment_core.specs.Frame.{Frame, frame_text}
 use Rattle.segment_core.specs.Kind.{kind_byte}
 use Rattle.segment_core.specs.Layout.{u32_at, count_in, frame_in}
 use Rattle.segment_core.specs.Fault.{first_line, frame_lines, is_closed}
 use Rattle.segment_core.specs.Reading.{IsRead, BeginsWith, lengths_of, record_bytes_of}
 use Rattle.record_core.specs.Cells.{cell}
 use Rattle.segment_core.proofs.Numbers.{u32_at-drop, length-numbers_in, get_or-numbers_in}
-use Rattle.segment_core.proofs.Payload.{length-frame_text}
 use Rattle.segment_core.proofs.Lines.{frame_lines-frame_text, is_closed-frame_text}
 use Rattle.segment_core.proofs.Head.{kind_byte_group}
 

@@ -1,14 +1,13 @@
 -- What is answered in place of a vector is the first fault.
-use Rattle.std.proofs.Common.{◌≡◌, ◌≢◌, ℕ, ◌+◌, true, false, List, [], ◌∷◌, ◌++◌, length, drop, Option, Some, None, refl, sym, ap, subst, ◌∙◌, arith, inl, inr}
-use Rattle.std.specs.Prelude.{MatchOption, not, nat_lt, ◌==◌, ◌&&◌, ◌⊎◌}
+use Rattle.std.proofs.Common.{◌≡◌, ℕ, true, List, [], ◌∷◌, length, drop, Option, Some, None, refl, sym, ap, subst, ◌∙◌, arith, inl, inr}
+use Rattle.std.specs.Prelude.{MatchOption, not, nat_lt}
 use Rattle.std.proofs.lemmas.Bool.{lt-ltb, ne_eqb}
 use Rattle.std.proofs.lemmas.List.{drop_at}
 use Rattle.segment_core.specs.declared.fault.ScanFault.{ScanFault}
-use Rattle.segment_core.specs.declared.fault.ScanFault.TheVariants.{Memory}
 use Rattle.segment_core.specs.Frame.{Frame, Group, Change, Shrink, Fold, text}
-use Rattle.segment_core.specs.Tally.{Tally, nothing, after, tally_from, tally_of, AreLegalFrom}
+use Rattle.segment_core.specs.Tally.{Tally, after, tally_from, tally_of, AreLegalFrom}
 use Rattle.segment_core.specs.Image.{HasFrames, IsLongest}
-use Rattle.segment_core.specs.Fault.{header_fault, frame_fault, is_closed, IsBadRecord, EndsWith, IsFirstFault, IsRefused}
+use Rattle.segment_core.specs.Fault.{header_fault, is_closed, IsBadRecord, EndsWith, IsRefused}
 use Rattle.segment_core.specs.Walk.{IsWalkRefused, IsReadRefused}
 use Rattle.segment_core.proofs.Numbers.{true_both}
 use Rattle.segment_core.proofs.Lines.{frame_fault_closed}
@@ -51,7 +50,7 @@ longest_closed width image frames has =
 pub refused_by_read : {R : Type 0} (width : ℕ) (value_of : List ℕ → Option R) (image : List ℕ) (fault : ScanFault) → header_fault width image ≡ None → IsReadRefused width value_of image fault → IsRefused width value_of image fault
 refused_by_read width value_of image fault none refused = elim refused [
   | inl at ↦ refused_at width value_of image fault at.0 none (longest_closed width image at.0 at.1)
-    (at_none _ (IsBadRecord width value_of image at.0 fault) (λ first. fault ≡ first) (frame_fault_closed width (length (text width at.0)) (tally_of at.0) (drop (length (text width at.0)) image) (ends_closed width image at.0 at.1)) at.2)
+      (at_none _ (IsBadRecord width value_of image at.0 fault) (λ first. fault ≡ first) (frame_fault_closed width (length (text width at.0)) (tally_of at.0) (drop (length (text width at.0)) image) (ends_closed width image at.0 at.1)) at.2)
   | inr memory ↦ inr (memory, none)
 ]
 

@@ -1,20 +1,19 @@
 -- What a walk over an image keeps from frame to frame, and what it knows where it ends.
-use Rattle.std.proofs.Common.{◌≡◌, ◌≢◌, ℕ, ◌+◌, ◌-◌, ◌*◌, ◌^◌, ◌≤◌, ◌<◌, Bool, true, false, List, [], ◌∷◌, ◌++◌, length, drop, sum, slice_index, Some, refl, sym, ap, subst, ◌∙◌, append_assoc, arith, inl, inr}
-use Rattle.std.specs.Prelude.{not, nat_lt, ◌==◌, ◌&&◌, ◌⊎◌}
+use Rattle.std.proofs.Common.{◌≡◌, ◌≢◌, ℕ, ◌+◌, ◌-◌, ◌^◌, ◌≤◌, ◌<◌, true, false, List, [], ◌∷◌, ◌++◌, length, drop, sum, Some, refl, sym, ap, ◌∙◌, append_assoc, arith, inl}
+use Rattle.std.specs.Prelude.{not, nat_lt, ◌==◌}
 use Rattle.std.specs.List.{flat_map}
-use Rattle.std.proofs.lemmas.Bool.{le-ltb, lt-ltb, ltb-true, eqb-false}
+use Rattle.std.proofs.lemmas.Bool.{le-ltb, lt-ltb}
 use Rattle.std.proofs.lemmas.List.{append-nil, drop_at, length-append, length-drop, length_push}
 use Rattle.segment_core.specs.declared.fault.Cause.TheVariants.{TooLong}
 use Rattle.segment_core.specs.declared.fault.ScanFault.{ScanFault}
-use Rattle.segment_core.specs.declared.fault.ScanFault.TheVariants.{Memory}
 use Rattle.segment_core.specs.declared.walk.Home.{Home}
 use Rattle.segment_core.specs.declared.walk.Walk.{Walk}
-use Rattle.segment_core.specs.Frame.{Frame, Group, Change, Shrink, Fold, header, frame_text, text, payload_of}
+use Rattle.segment_core.specs.Frame.{Frame, Group, Change, Shrink, Fold, header, frame_text, text}
 use Rattle.segment_core.specs.Layout.{IsFrame}
-use Rattle.segment_core.specs.Tally.{Tally, nothing, after, tally_from, tally_of, is_too_long, MayFollow, AreLegal}
-use Rattle.segment_core.specs.Image.{HasFrames, IsLongest}
+use Rattle.segment_core.specs.Tally.{Tally, nothing, after, tally_of, MayFollow, AreLegal}
+use Rattle.segment_core.specs.Image.{HasFrames}
 use Rattle.segment_core.specs.Fault.{first_line, frame_lines, order_lines, frame_fault, is_closed, damaged}
-use Rattle.segment_core.specs.Reading.{BeginsWith, lengths_of, record_count}
+use Rattle.segment_core.specs.Reading.{BeginsWith, record_count}
 use Rattle.segment_core.specs.Walk.{home_of, homes_from, IsBehind, Steps, IsWalkRefused}
 use Rattle.segment_core.proofs.Numbers.{both_true}
 use Rattle.segment_core.proofs.Payload.{length-frame_text}

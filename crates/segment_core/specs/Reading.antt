@@ -1,5 +1,5 @@
 -- A frame where it stands in an image, and what a reader of it knows.
-use Rattle.std.specs.Prelude.{◌≡◌, ◌≤◌, ◌<◌, ℕ, ◌+◌, ◌*◌, ◌^◌, ◌/◌, Bool, true, false, List, [], ◌++◌, length, drop, sum, Option, Some, None, Result, Ok, Err}
+use Rattle.std.specs.Prelude.{◌≡◌, ◌≤◌, ◌<◌, ℕ, ◌+◌, ◌*◌, ◌^◌, ◌/◌, true, false, List, [], ◌++◌, length, sum, Option, Some, None, Result, Ok, Err}
 use Rattle.segment_core.specs.declared.fault.ScanFault.{ScanFault}
 use Rattle.segment_core.specs.Frame.{Frame, Group, Change, Shrink, Fold, payload_of, payload_limit, frame_text}
 use Rattle.segment_core.specs.Layout.{IsFrame}

@@ -1,8 +1,8 @@
-use Rattle.std.proofs.Common.{◌≡◌, ◌≤◌, ◌<◌, ◌+◌, ◌*◌, ◌^◌, ℕ, List, true, false, length, drop, sum, refl, sym, ap, ◌∙◌, arith, None}
+use Rattle.std.proofs.Common.{◌≡◌, false, drop, sum, sym, ap, ◌∙◌, arith}
 use Rattle.std.specs.Prelude.{nat_lt}
 use Rattle.std.specs.List.{list_all}
 use Rattle.std.proofs.lemmas.Bool.{false≢true}
-use Rattle.segment_core.specs.Layout.{numbers_in, count_in, lengths_in, homes_in}
+use Rattle.segment_core.specs.Layout.{numbers_in, count_in, lengths_in}
 use Rattle.segment_core.proofs.Payload.{no_group, no_group_unfilled, is_group}
 use Rattle.segment_core.proofs.frame.group_counts.Goals as goal
 use Rattle.segment_core.proofs.frame.group_counts.Goals.{then-growths-eq0-via-then-growths-eq0, then-growths-eq0-via-else-growths-eq0+then-payload-growths}

@@ -1,14 +1,14 @@
-use Rattle.std.proofs.Common.{◌≡◌, ◌≤◌, ◌<◌, ◌+◌, ◌*◌, ◌^◌, ◌-◌, ℕ, List, true, false, length, take, drop, sum, slice_index, Some, refl, sym, ap, subst, ◌∙◌, arith}
+use Rattle.std.proofs.Common.{◌≡◌, ◌≤◌, ◌<◌, ◌+◌, ◌^◌, ◌-◌, ℕ, List, true, false, length, take, drop, sum, slice_index, refl, sym, ap, subst, ◌∙◌, arith}
 use Rattle.std.proofs.lemmas.Bool.{eqb-true, eqb-false}
 use Rattle.std.proofs.lemmas.List.{length-take}
 use Rattle.record_core.specs.Bytes.{IsBytes}
 use Rattle.segment_core.specs.Frame.{payload_limit}
 use Rattle.segment_core.specs.Kind.{kind_byte}
 use Rattle.segment_core.specs.Layout.{count_in, lengths_in, frame_in, is_group_layout}
-use Rattle.segment_core.specs.Fault.{first_line, frame_lines, is_closed, kind_in, payload_len_in, payload_in}
+use Rattle.segment_core.specs.Fault.{kind_in, payload_len_in, payload_in}
 use Rattle.segment_core.specs.Reading.{IsRead, BeginsWith}
 use Rattle.segment_core.proofs.Numbers.{IsBytes-drop, IsBytes-take}
-use Rattle.segment_core.proofs.Head.{Finds, IsOpen, finds_no_gate, finds_short_head, finds_kind, finds_too_large, finds_short_payload, finds_layout, begins_with_group, IsRead_group, kind_byte_group, payload_cut}
+use Rattle.segment_core.proofs.Head.{IsOpen, finds_no_gate, finds_short_head, finds_kind, finds_too_large, finds_short_payload, finds_layout, begins_with_group, IsRead_group, kind_byte_group, payload_cut}
 use Rattle.segment_core.proofs.frame.read_frame.Goals as goal
 
 pub returns-then-is_empty : goal.returns-then-is_empty

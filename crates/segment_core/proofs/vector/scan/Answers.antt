@@ -1,10 +1,9 @@
-use Rattle.std.proofs.Common.{◌≡◌, ◌<◌, ℕ, List, ◌++◌, length, drop, refl, sym, ap, subst, ◌∙◌, arith}
+use Rattle.std.proofs.Common.{drop, refl, sym, ap, ◌∙◌, arith}
 use Rattle.std.proofs.lemmas.Result.{err_from_is_err_and}
-use Rattle.segment_core.specs.Frame.{header}
 use Rattle.segment_core.specs.Tally.{nothing}
 use Rattle.segment_core.specs.Fault.{header_fault}
 use Rattle.segment_core.proofs.Header.{header_of_none, header_written}
-use Rattle.segment_core.proofs.Refusals.{refused_by_header, refused_by_walk, refused_by_read, no_changes}
+use Rattle.segment_core.proofs.Refusals.{refused_by_read, no_changes}
 use Rattle.segment_core.proofs.vector.scan.Goals as goal
 
 pub over-requires-clause-header : goal.over-requires-clause-header
@@ -22,13 +21,15 @@ pub returns : goal.returns
 returns g c =
     let found = c.in_ok-records.ensures.ok in
     let behind = found.2 in
-    let changes = no_changes g.R.Record.WIDTH nothing found.0 found.1.legal in
-    (found.0, record {
-      vector = record { framed = found.1; read = found.3 };
-      version_is = refl;
-      width_is = c.WIDTH-width.ensures;
-      frames_are = behind.frames_are;
-      changes_are = sym changes.0;
-      folded_is = sym changes.1;
-      gate_is = behind.at_end;
-    })
+    let changes = no_changes g.R.Record.WIDTH nothing found.0 found.1.legal in (
+      found.0,
+      record {
+        vector = record { framed = found.1; read = found.3 };
+        version_is = refl;
+        width_is = c.WIDTH-width.ensures;
+        frames_are = behind.frames_are;
+        changes_are = sym changes.0;
+        folded_is = sym changes.1;
+        gate_is = behind.at_end;
+      },
+    )

@@ -1,4 +1,4 @@
-use Rattle.std.proofs.Common.{◌+◌, ◌*◌, ap, sym, ◌∙◌, inl}
+use Rattle.std.proofs.Common.{◌+◌, ◌*◌, ap, ◌∙◌, inl}
 use Rattle.segment_core.specs.declared.fault.Cause.TheVariants.{BadRecord}
 use Rattle.segment_core.specs.Fault.{damaged}
 use Rattle.segment_core.proofs.Homes.{holds_part, bad_part}

@@ -1,4 +1,4 @@
-use Rattle.std.proofs.Common.{length, drop, ap, ◌∙◌, sym}
+use Rattle.std.proofs.Common.{drop, ap, ◌∙◌, sym}
 use Rattle.std.proofs.lemmas.List.{take_rest}
 use Rattle.segment_core.specs.Fault.{first_line, frame_lines}
 use Rattle.segment_core.proofs.Reader.{none_where_faulty}

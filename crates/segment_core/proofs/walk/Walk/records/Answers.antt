@@ -1,4 +1,4 @@
-use Rattle.std.proofs.Common.{◌≡◌, ◌≢◌, ◌+◌, ◌*◌, ◌≤◌, ◌<◌, ℕ, List, [], ◌∷◌, ◌++◌, Option, length, drop, get_or, refl, sym, ap, subst, ◌∙◌, arith, inl, inr}
+use Rattle.std.proofs.Common.{◌≡◌, ◌+◌, ◌*◌, ◌<◌, ℕ, List, ◌∷◌, Option, length, drop, get_or, sym, ap, subst, ◌∙◌, arith, inl, inr}
 use Rattle.std.proofs.lemmas.List.{length-append}
 use Rattle.std.proofs.lemmas.Result.{err_from_is_err_and}
 use Rattle.segment_core.specs.declared.fault.ScanFault.{ScanFault}
@@ -7,8 +7,8 @@ use Rattle.segment_core.specs.Frame.{Frame}
 use Rattle.segment_core.specs.Tally.{tally_of}
 use Rattle.segment_core.specs.Image.{HasFrames}
 use Rattle.segment_core.specs.Vector.{place_of}
-use Rattle.segment_core.specs.Walk.{IsBehind, HoldsAt, IsHomeRefused, IsReadRefused}
-use Rattle.segment_core.proofs.Homes.{Tells, Tells_up_to, ReadsUpTo, homes_tell, next_home, tells_end, reads_home, first_bad}
+use Rattle.segment_core.specs.Walk.{HoldsAt, IsHomeRefused, IsReadRefused}
+use Rattle.segment_core.proofs.Homes.{Tells, Tells_up_to, ReadsUpTo, homes_tell, next_home, reads_home, first_bad}
 use Rattle.segment_core.proofs.walk.Walk.records.Goals as goal
 
 pub loop-home-init : goal.loop-home-init
