@@ -13,5 +13,9 @@ mod walk;
 
 pub use fault::{Cause, ImageFault, ScanFault};
 pub use format::{FrameKind, PAYLOAD_LIMIT, RECORD_LIMIT, VERSION};
+pub use frame::FrameReader;
 pub use image::write_image;
 pub use vector::{Scanned, scan};
+
+#[cfg(test)]
+mod tests;
