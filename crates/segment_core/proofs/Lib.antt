@@ -8,5 +8,6 @@ pub mod Walked
 pub mod Homes
 pub mod Header
 pub mod Refusals
+pub mod OneVector
 pub mod Written
 pub mod ReadAgain

@@ -34,7 +34,7 @@ refused_by_walk width value_of image fault none refused = elim refused [
 ]
 
 -- the gate that ends the frames
-ends_closed : (width : ℕ) (image : List ℕ) (frames : List Frame) → HasFrames width image frames → is_closed (drop (length (text width frames)) image) ≡ true
+pub ends_closed : (width : ℕ) (image : List ℕ) (frames : List Frame) → HasFrames width image frames → is_closed (drop (length (text width frames)) image) ≡ true
 ends_closed width image frames has =
     let gate = has.closed in
     let left : drop (length (text width frames)) image ≡ gate.0 ∷ gate.1 = ap (drop (length (text width frames))) gate.3 ∙ drop_at (text width frames) (gate.0 ∷ gate.1) (length (text width frames)) refl in

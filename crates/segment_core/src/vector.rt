@@ -4,6 +4,7 @@ ghost use Rattle.std.specs.Prelude.{◌≡◌, List, Some, None, MatchResult};
 ghost use Rattle.segment_core.specs.Frame.{Frame};
 ghost use Rattle.segment_core.specs.Fault.{header_fault, IsRefused};
 ghost use Rattle.segment_core.specs.Scanned.{IsScanOf};
+ghost use Rattle.segment_core.specs.Vector.{HasVector};
 
 use crate::fault::ScanFault;
 use crate::format::{HEADER_LEN, MAGIC, OPEN, VERSION};
@@ -56,6 +57,17 @@ fn check_header(bytes: &[u8], width: usize) -> Result<(), ScanFault>
 /// vector, its first fault is answered, in the order of `docs/FORMAT.md`; `Memory` may come in place of any
 /// answer once the header is read.
 pub fn scan<R: Record>(alloc: Global, bytes: &[u8]) -> Result<Scanned<R>, ScanFault>
+    ensures answer { MatchResult result
+        (λ scanned. (frames : List Frame) × IsScanOf R.WIDTH R.value_of bytes.now frames scanned)
+        (IsRefused R.WIDTH R.value_of bytes.now) }
+    // An image has one vector at most, and one that has a vector is refused for want of memory alone.
+    ensures only { (frames : List Frame) (records : List R) → HasVector R.WIDTH R.value_of bytes.now frames records
+        → MatchResult result (λ scanned. scanned.records.items ≡ records) (λ fault. fault ≡ ScanFault.Memory) }
+{
+    read_vector(alloc, bytes)
+}
+
+fn read_vector<R: Record>(alloc: Global, bytes: &[u8]) -> Result<Scanned<R>, ScanFault>
     ensures { MatchResult result
         (λ scanned. (frames : List Frame) × IsScanOf R.WIDTH R.value_of bytes.now frames scanned)
         (IsRefused R.WIDTH R.value_of bytes.now) }
