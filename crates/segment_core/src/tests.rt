@@ -1,11 +1,13 @@
 //! Worked files, byte by byte: what the definitions compute to, and what the calls answer.
 
-ghost use Rattle.std.specs.Prelude.{◌≡◌, ◌<◌, ◌∷◌, ◌++◌, []};
+ghost use Rattle.std.specs.Prelude.{◌≡◌, ◌<◌, ◌∷◌, ◌++◌, [], ℕ};
 ghost use Rattle.std.specs.Int.{w64, to_le_bytes};
-ghost use Rattle.segment_core.specs.Frame.{header};
-ghost use Rattle.segment_core.specs.Tally.{nothing};
+ghost use Rattle.segment_core.specs.Command.{content};
+ghost use Rattle.segment_core.specs.Command as commands;
+ghost use Rattle.segment_core.specs.Frame.{Group, Change, Shrink, Fold, header};
+ghost use Rattle.segment_core.specs.Tally.{nothing, tally_of};
 ghost use Rattle.segment_core.specs.Vector.{place_of};
-ghost use Rattle.segment_core.specs.Fault.{frame_fault};
+ghost use Rattle.segment_core.specs.Fault.{first_line, order_lines, frame_fault};
 ghost use Rattle.segment_core.specs.Written.{file_of, group_frame};
 
 use super::*;
@@ -40,6 +42,13 @@ fn worked_definitions()
     ensures short { frame_fault 8 11 nothing (1 ∷ 1 ∷ 18 ∷ 0 ∷ 0 ∷ 0 ∷ 1 ∷ 0 ∷ 0 ∷ 0 ∷ 1 ∷ 0 ∷ 0 ∷ 0 ∷ 5 ∷ 0 ∷ 0 ∷ 0 ∷ 0 ∷ 0 ∷ 0 ∷ 0 ∷ 0 ∷ []) ≡ Some (ScanFault.Damaged 11 Cause.ShortFrame) }
     ensures no_gate { frame_fault 8 11 nothing [] ≡ Some (ScanFault.Damaged 11 Cause.NoGate) }
     ensures closed { frame_fault 8 11 nothing (7 ∷ []) ≡ None }
+
+    // The kinds that aren't built yet: a live change tells, a folded one doesn't.
+    ensures changed { place_of 8 (group_frame (to_le_bytes w64) ((5 ∷ []) ∷ []) ∷ Change 0 (to_le_bytes w64 7) ∷ []) 0 ≡ Some 47 }
+    ensures folded { place_of 8 (group_frame (to_le_bytes w64) ((5 ∷ []) ∷ []) ∷ Change 0 (to_le_bytes w64 7) ∷ Fold 1 ∷ []) 0 ≡ Some 25 }
+    ensures unfolded { first_line (order_lines 8 63 (tally_of (Group (2 ∷ []) [] ∷ Change 1 [] ∷ [])) (Shrink 1)) ≡ Some (ScanFault.Damaged 63 Cause.Unfolded) }
+    ensures miscounted { first_line (order_lines 8 55 (tally_of (Group (1 ∷ []) [] ∷ Change 0 [] ∷ [])) (Fold 2)) ≡ Some (ScanFault.Damaged 61 Cause.FoldCount) }
+    ensures content { content {R = ℕ} [] (commands.Grow (5 ∷ []) ∷ commands.Grow (6 ∷ 7 ∷ []) ∷ commands.Change 1 (8 ∷ 9 ∷ []) ∷ commands.Shrink 2 ∷ []) ≡ 5 ∷ 8 ∷ [] }
 {}
 
 #[test]
