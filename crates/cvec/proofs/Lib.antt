@@ -1,0 +1,4 @@
+pub mod Known
+pub mod NumberLemmas
+pub mod Joins
+pub mod GroupLines

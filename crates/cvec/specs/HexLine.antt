@@ -1,0 +1,10 @@
+-- Hex lines: an even number of hex digits of either case, then one LF or none.
+use Rattle.std.specs.Prelude.{◌≡◌, ℕ, List, [], ◌∷◌, ◌++◌, Ok, ◌⊎◌}
+use Rattle.hex.specs.Hex.{decode_of}
+
+-- the input is one line, the hex of these bytes
+pub record IsHexLine (input bytes : List ℕ) : Type 0 where
+  pub digits : List ℕ
+  pub spelled : decode_of digits ≡ Ok bytes
+  pub line : (input ≡ digits) ⊎ (input ≡ digits ++ 10 ∷ [])
+
