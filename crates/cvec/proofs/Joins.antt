@@ -1,6 +1,7 @@
 -- Words joined by a space, and a line cut at its spaces.
-use Rattle.std.proofs.Common.{◌≡◌, ◌≢◌, ℕ, Bool, true, false, List, [], ◌∷◌, ◌++◌, length, map, codes, slice_index, Option, Some, None, refl, sym, ap, ◌∙◌, subst, arith}
+use Rattle.std.proofs.Common.{◌≡◌, ◌≢◌, ℕ, Bool, true, false, List, [], ◌∷◌, ◌++◌, length, map, codes, slice_index, Option, Some, None, Bor, refl, sym, ap, ◌∙◌, subst, arith}
 use Rattle.std.specs.Prelude.{All, MatchOption, ◌==◌, not, ◌||◌}
+use Rattle.std.specs.Option.{option_copied}
 use Rattle.std.specs.List.{AllPass, AllByRecursion, slice_split, join_with_byte}
 use Rattle.std.proofs.lemmas.Bool.{eqb-true}
 use Rattle.std.proofs.lemmas.Bool.Decides.{nat_tests}
@@ -50,9 +51,9 @@ abbrev pub words_in : Option (List ℕ) → List (List ℕ)
 words_in None = []
 words_in (Some line) = parts_of line
 
-pub words_cut : (line word : List ℕ) (rest : Option (List ℕ)) → MatchOption rest (line ≡ word) (λ after. line ≡ word ++ 32 ∷ after) → All (λ b. b ≢ 32) word → words_in (Some line) ≡ word ∷ words_in rest
+pub words_cut : (line word : List ℕ) (rest : Option (Bor (List ℕ))) → MatchOption rest (line ≡ word) (λ after. line ≡ word ++ 32 ∷ after.now) → All (λ b. b ≢ 32) word → words_in (Some line) ≡ word ∷ words_in (option_copied rest)
 words_cut line word None whole first = ap parts_of whole ∙ slice_split_none (λ b. b == 32) word (All-weaker (λ b. b ≢ 32) (λ b. (b == 32) ≡ false) (λ b. differs b 32) word first)
-words_cut line word (Some after) whole first = ap parts_of whole ∙ slice_split_at (λ b. b == 32) word 32 after (All-weaker (λ b. b ≢ 32) (λ b. (b == 32) ≡ false) (λ b. differs b 32) word first) refl
+words_cut line word (Some after) whole first = ap parts_of whole ∙ slice_split_at (λ b. b == 32) word 32 after.now (All-weaker (λ b. b ≢ 32) (λ b. (b == 32) ≡ false) (λ b. differs b 32) word first) refl
 
 -- a bar is no word
 pub not_bar : (word : List ℕ) → IsWord word → word ≡ codes "|" → ⊥
