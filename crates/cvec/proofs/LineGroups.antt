@@ -48,7 +48,7 @@ first_bad is_value text_of input groups text line rest n some whole plain bad pl
       line = line;
       more = left.0;
       lines = subst (AreLines input) (append_assoc front (line ∷ []) left.0) (Continues_cut input front text line rest some whole plain so.lines left.0 left.1);
-      place = place ∙ ap (λ n. n + 1) (sym (length-map (group_line text_of) groups));
+      place = place ∙ ap (λ n. n + 1) (sym (length-map groups (group_line text_of)));
       before = are_group_lines is_value text_of groups so.each;
       bad = bad;
     }

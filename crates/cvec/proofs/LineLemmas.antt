@@ -69,9 +69,44 @@ Continues_cut input front text line rest some whole plain before more so =
 
 -- ---- every text has lines
 
+first_is : (x y : List ℕ) (xs ys : List (List ℕ)) → x ∷ xs ≡ y ∷ ys → x ≡ y
+first_is x y xs ys is = cc
+
+rest_is : (x y : List ℕ) (xs ys : List (List ℕ)) → x ∷ xs ≡ y ∷ ys → xs ≡ ys
+rest_is x y xs ys is = cc
+
+longer_by_a_byte : (b : ℕ) (rest line : List ℕ) (lines front : List (List ℕ)) (last : List ℕ) → line ∷ lines ≡ front ++ last ∷ [] → 0 < length last → rest ≡ ended front ++ last → LacksLastLf (b ∷ rest) ((b ∷ line) ∷ lines)
+longer_by_a_byte b rest line lines [] last parts some text = record {
+  front = [];
+  last = b ∷ last;
+  parts = ap (λ (l : List ℕ). (b ∷ l) ∷ lines) (first_is line last lines [] parts) ∙ ap (λ (ls : List (List ℕ)). (b ∷ last) ∷ ls) (rest_is line last lines [] parts);
+  some = omega arith;
+  text = ap (λ (t : List ℕ). b ∷ t) text;
+}
+longer_by_a_byte b rest line lines (first ∷ front) last parts some text = record {
+  front = (b ∷ first) ∷ front;
+  last = last;
+  parts = ap (λ (l : List ℕ). (b ∷ l) ∷ lines) (first_is line first lines (front ++ last ∷ []) parts) ∙ ap (λ (ls : List (List ℕ)). (b ∷ first) ∷ ls) (rest_is line first lines (front ++ last ∷ []) parts);
+  some = some;
+  text = ap (λ (t : List ℕ). b ∷ t) text;
+}
+
+nothing_of_none : (front : List (List ℕ)) (last : List ℕ) → [] ≡ front ++ last ∷ [] → ⊥
+nothing_of_none [] last is = cc is
+nothing_of_none (first ∷ front) last is = cc is
+
 starts_with_byte : (b : ℕ) (rest : List ℕ) (lines : List (List ℕ)) → b ≢ 10 → AreLines rest lines → (more : List (List ℕ)) × AreLines (b ∷ rest) more
-starts_with_byte b rest [] other so = ?
-starts_with_byte b rest (line ∷ lines) other so = ?
+starts_with_byte b rest [] other so = elim so.text [
+  | inl all ↦ ((b ∷ []) ∷ [], rw all (line_alone (b ∷ []) (All-cons (λ x. x ≢ 10) b [] other (All-nil (λ x. x ≢ 10))) (omega arith)))
+  | inr lacks ↦ absurd (nothing_of_none lacks.front lacks.last lacks.parts)
+]
+starts_with_byte b rest (line ∷ lines) other so = ((b ∷ line) ∷ lines, record {
+  whole = (All-cons (λ x. x ≢ 10) b line other so.whole.0, so.whole.1);
+  text = elim so.text [
+    | inl all ↦ inl (ap (λ (t : List ℕ). b ∷ t) all)
+    | inr lacks ↦ inr (longer_by_a_byte b rest line lines lacks.front lacks.last lacks.parts lacks.some lacks.text)
+  ];
+})
 
 pub lines_in : (text : List ℕ) → (lines : List (List ℕ)) × AreLines text lines
 lines_in [] = ([], no_lines)
@@ -81,3 +116,17 @@ lines_in (b ∷ rest) =
       | inl lf ↦ ([] ∷ so.0, rw lf (lines_cons [] rest so.0 (All-nil (λ b. b ≢ 10)) so.1))
       | inr other ↦ starts_with_byte b rest so.0 other so.1
     ]
+
+-- ---- the same of what a cut lends
+
+pub lent_whole : (rest : Option (Bor (List ℕ))) (text line : List ℕ) → MatchOption rest (text ≡ line) (λ after. text ≡ line ++ 10 ∷ after.now) → MatchOption (option_copied rest) (text ≡ line) (λ after. text ≡ line ++ 10 ∷ after)
+lent_whole None text line whole = whole
+lent_whole (Some after) text line whole = whole
+
+pub lent_rest : (rest : Option (Bor (List ℕ))) (empty : Bor (List ℕ)) → empty.now ≡ [] → (unwrap_or rest empty).now ≡ after_cut (option_copied rest)
+lent_rest None empty none = none
+lent_rest (Some after) empty none = refl
+
+pub shorter_rest : (rest : Option (List ℕ)) (text line : List ℕ) → 0 < length text → MatchOption rest (text ≡ line) (λ after. text ≡ line ++ 10 ∷ after) → length (after_cut rest) < length text
+shorter_rest None text line some whole = some
+shorter_rest (Some after) text line some whole = let len = ap length whole in let parts = length-append line (10 ∷ after) in omega (arith, len, parts)

@@ -22,10 +22,11 @@ pub fn groups_of_lines<R: TextRecord>(
     let mut rest = input;
     while !rest.is_empty() {
         let (line, after) = cut(rest, b'\n');
-        let group = group_of_line(alloc, line).map_err(|fault| match fault {
-            LineFault::Bad => Refusal::Line(groups.len() as u64 + 1),
-            LineFault::Memory => Refusal::Memory,
-        })?;
+        let group = match group_of_line(alloc, line) {
+            Ok(group) => group,
+            Err(LineFault::Bad) => return Err(Refusal::Line(groups.len() as u64 + 1)),
+            Err(LineFault::Memory) => return Err(Refusal::Memory),
+        };
         groups.push(group).map_err(|_| Refusal::Memory)?;
         rest = after.unwrap_or(&[]);
     }

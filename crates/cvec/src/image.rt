@@ -21,10 +21,11 @@ fn hex_of_lines<R: TextRecord>(alloc: Global, input: &[u8]) -> Result<String, Re
     ensures refused { IfErr result (IsImageRefusal R.WIDTH R.is_value R.text_of input.now) }
 {
     let groups = groups_of_lines::<R>(alloc, input)?;
-    let file = write_image(alloc, groups.as_slice()).map_err(|fault| match fault {
-        ImageFault::TooLarge(index) => Refusal::TooLargeAtLine(index as u64 + 1),
-        ImageFault::Memory => Refusal::Memory,
-    })?;
+    let file = match write_image(alloc, groups.as_slice()) {
+        Ok(file) => file,
+        Err(ImageFault::TooLarge(index)) => return Err(Refusal::TooLargeAtLine(index as u64 + 1)),
+        Err(ImageFault::Memory) => return Err(Refusal::Memory),
+    };
     hex::encode(alloc, file).map_err(|_| Refusal::Memory)
 }
 

@@ -20,8 +20,10 @@ fn records_of_hex<R: TextRecord>(alloc: Global, input: &[u8]) -> Result<Vec<R>, 
     ensures refused { IfErr result (IsShowRefusal R.WIDTH R.value_of input.now) }
 {
     let bytes = bytes_of_hex_line(alloc, input)?;
-    let scanned = scan::<R>(alloc, bytes.as_slice()).map_err(Refusal::Scan)?;
-    Ok(scanned.records)
+    match scan::<R>(alloc, bytes.as_slice()) {
+        Ok(scanned) => Ok(scanned.records),
+        Err(fault) => Err(Refusal::Scan(fault)),
+    }
 }
 
 /// Reads one hex line, and writes the records of the image that it spells, one a line. Of an input that is
