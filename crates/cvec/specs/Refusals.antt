@@ -1,10 +1,11 @@
 -- The names of refusals, and when each of them is right.
-use Rattle.std.specs.Prelude.{◌≡◌, ℕ, ◌+◌, ◌<◌, List, [], ◌∷◌, ◌++◌, length, codes, decimal, Option, Some}
+use Rattle.std.specs.Prelude.{◌≡◌, ℕ, ◌+◌, ◌<◌, List, [], ◌∷◌, ◌++◌, length, codes, decimal, Option}
 use Rattle.segment_core.specs.declared.fault.Cause.{Cause}
 use Rattle.segment_core.specs.declared.fault.Cause.TheVariants.{NoGate, ShortFrame, Kind, TooLarge, Layout, Range, Unfolded, FoldCount, TooLong, BadRecord}
 use Rattle.segment_core.specs.declared.fault.ScanFault.{ScanFault}
 use Rattle.segment_core.specs.declared.fault.ScanFault.TheVariants.{Unborn, NotSegment, Version, Width, Damaged, Memory}
-use Rattle.segment_core.specs.Written.{first_too_large}
+use Rattle.segment_core.specs.declared.fault.ImageFault.TheVariants as image_faults
+use Rattle.segment_core.specs.Written.{IsImageRefused}
 use Rattle.segment_core.specs.Fault.{IsRefused}
 use Rattle.cvec.specs.declared.refusal.Refusal.{Refusal}
 use Rattle.cvec.specs.declared.refusal.Refusal.TheVariants as refusals
@@ -73,7 +74,7 @@ IsLineRefusal is_value text_of input refusals.NotHex = ⊥
 abbrev pub IsImageRefusal : {R : Type 0} → ℕ → (R → Type 0) → (R → List ℕ) → List ℕ → Refusal → Type 0
 IsImageRefusal width is_value text_of input (refusals.Line n) = IsFirstBadLine is_value text_of input n
 IsImageRefusal {R} width is_value text_of input (refusals.TooLargeAtLine n) =
-    (groups : List (List (List R))) × (k : ℕ) × AreGroupLines is_value text_of input groups × (first_too_large width groups ≡ Some k) × (n ≡ k + 1)
+    (groups : List (List (List R))) × (k : ℕ) × AreGroupLines is_value text_of input groups × IsImageRefused width groups (image_faults.TooLarge k) × (n ≡ k + 1)
 IsImageRefusal width is_value text_of input refusals.InputTooLong = input_limit < length input
 IsImageRefusal width is_value text_of input refusals.Input = Unit {0}
 IsImageRefusal width is_value text_of input refusals.Memory = Unit {0}

@@ -58,16 +58,16 @@ pub fn group_of_line<R: TextRecord>(alloc: Global, line: &[u8]) -> Result<Vec<Ve
     ensures bad { result ≡ Err LineFault.Bad → ¬ (IsGroupLine R.is_value R.text_of line.now) }
 {
     let mut growths = Vec::new(alloc);
-    let mut growth = Vec::new(alloc);
+    let mut last = Vec::new(alloc);
     let mut rest = Some(line);
     while let Some(text) = rest {
         let (word, after) = cut(text, b' ');
-        take_word(alloc, word, &mut growths, &mut growth)?;
+        take_word(alloc, word, &mut growths, &mut last)?;
         rest = after;
     }
-    if growth.is_empty() {
+    if last.is_empty() {
         return Err(LineFault::Bad);
     }
-    growths.push(growth).map_err(|_| LineFault::Memory)?;
+    growths.push(last).map_err(|_| LineFault::Memory)?;
     Ok(growths)
 }

@@ -26,7 +26,10 @@ fn hex_of_lines<R: TextRecord>(alloc: Global, input: &[u8]) -> Result<String, Re
         Err(ImageFault::TooLarge(index)) => return Err(Refusal::TooLargeAtLine(index as u64 + 1)),
         Err(ImageFault::Memory) => return Err(Refusal::Memory),
     };
-    hex::encode(alloc, file).map_err(|_| Refusal::Memory)
+    match hex::encode(alloc, file) {
+        Ok(hex) => Ok(hex),
+        Err(_) => Err(Refusal::Memory),
+    }
 }
 
 /// Reads group lines, one group each, and writes the hex of their segment file as one line. Of an input that

@@ -2,13 +2,16 @@
 
 ghost use Rattle.std.specs.Prelude.{◌≡◌, [], IfSome};
 ghost use Rattle.std.specs.Io.KnownBytes.{Keeps};
+ghost use Rattle.cvec.specs.Engines.{IsImageRun};
 
 use crate::image::image;
 use crate::refusal::{Refusal, refuse};
 use crate::show::show;
 use crate::status::Status;
+use crate::text::TextRecord;
 use clap::error::ErrorKind;
 use clap::{Arg, ArgAction, Command, Error};
+use record_core::Record;
 use std::alloc::{AllocError, Global};
 use std::convert::AsStr;
 use std::io::{Read, Write};
@@ -55,6 +58,9 @@ pub fn run<'a, S: AsStr, I: Read, W: Write>(
     reader: &mut I,
     writer: &mut W,
 ) -> Status
+    ensures no_words { words.now ≡ [] → IfSome (I.remaining reader.old) (λ input.
+        IsImageRun ⟦<u64 as Record>⟧.WIDTH ⟦<u64 as Record>⟧.bytes_of ⟦<u64 as TextRecord>⟧.is_value ⟦<u64 as TextRecord>⟧.text_of
+            input (W.contents writer.old) (W.contents writer.new) result) }
     ensures usage { result ≡ Status.Usage → Keeps (W.contents writer.old) (W.contents writer.new) }
 {
     if words.is_empty() {

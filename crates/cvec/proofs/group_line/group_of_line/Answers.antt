@@ -12,7 +12,7 @@ use Rattle.cvec.proofs.group_line.group_of_line.Goals as goal
 pub loop-rest-init : goal.loop-rest-init
 loop-rest-init g c =
     let laws = g.met.R.TextRecord g.world.𝓛 g.world.𝓜 g.world.𝓡 ((λ s x. x), (λ x. x), (λ x. x), λ x. x) in
-    rw (c.new-growths.ensures.items, c.new-growth.ensures.items) (Reads_start g.R.TextRecord.is_value g.R.TextRecord.text_of c.args.line.now laws.is_word)
+    rw (c.new-growths.ensures.items, c.new-last.ensures.items) (Reads_start g.R.TextRecord.is_value g.R.TextRecord.text_of c.args.line.now laws.is_word)
 
 pub returns-in_err-take_word-clause-bad : goal.returns-in_err-take_word-clause-bad
 returns-in_err-take_word-clause-bad g c = λ bad so.
@@ -36,13 +36,13 @@ loop-rest-preserved g c =
 pub returns-then-is_empty-clause-bad : goal.returns-then-is_empty-clause-bad
 returns-then-is_empty-clause-bad g c = λ bad so.
     let ended : words_in (option_copied c.loop-rest.rest) ≡ [] = ap (λ o. words_in (option_copied o)) c.in_default.is in
-    let none = sym c.loop-rest.growth.ok.0 ∙ eqb-true _ 0 (sym c.if-is_empty.ensures) in
+    let none = sym c.loop-rest.last.ok.0 ∙ eqb-true _ 0 (sym c.if-is_empty.ensures) in
     unfinished_is_bad g.R.TextRecord.is_value g.R.TextRecord.text_of c.args.line.now _ _ none (rw ended at c.loop-rest.invariant) so
 
 pub returns-clause-read : goal.returns-clause-read
 returns-clause-read g c =
     let ended : words_in (option_copied c.loop-rest.rest) ≡ [] = ap (λ o. words_in (option_copied o)) c.in_default.is in
-    let some : 0 < length c.loop-rest.growth.items = let no = eqb-false _ 0 (sym c.if-is_empty.ensures) in let len = c.loop-rest.growth.ok.0 in omega (arith, no, len) in
-    let pushed = pushed_items c.push.result c.loop-rest.growths.items _ c.loop-rest.growth c.push.ensures.items (sym c.map_err.ensures.variant ∙ ap is_ok c.in_ok-map_err.was) in
-    rw (ap growths_of pushed ∙ map-append (λ v. v.items) c.loop-rest.growths.items (c.loop-rest.growth ∷ []))
+    let some : 0 < length c.loop-rest.last.items = let no = eqb-false _ 0 (sym c.if-is_empty.ensures) in let len = c.loop-rest.last.ok.0 in omega (arith, no, len) in
+    let pushed = pushed_items c.push.result c.loop-rest.growths.items _ c.loop-rest.last c.push.ensures.items (sym c.map_err.ensures.variant ∙ ap is_ok c.in_ok-map_err.was) in
+    rw (ap growths_of pushed ∙ map-append (λ v. v.items) c.loop-rest.growths.items (c.loop-rest.last ∷ []))
     (read_whole g.R.TextRecord.is_value g.R.TextRecord.text_of c.args.line.now _ _ some (rw ended at c.loop-rest.invariant))
