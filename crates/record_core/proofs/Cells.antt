@@ -7,7 +7,7 @@ use Rattle.std.proofs.lemmas.List.{take_at, drop_at, drop-drop, take_more, lengt
 use Rattle.std.proofs.lemmas.Nat.{mul-le}
 use Rattle.std.proofs.lemmas.Slice.{take-put_mid}
 use borrow.Rule.Slice.PartMut.{put_mid}
-use Rattle.record_core.specs.Cells.{cell, AreRecords, IsFirstBad}
+use Rattle.record_core.specs.Cells.{cell, AreRecords, AreReadAgain, IsFirstBad}
 
 -- ---- cells
 
@@ -39,11 +39,6 @@ slice_get_push [] x = refl
 slice_get_push (y ∷ xs) x = slice_get_push xs x
 
 -- ---- what is written
-
--- what was written of each record is read as that record
-abbrev pub AreReadAgain : {R : Type 0} → (R → List ℕ) → (List ℕ → Option R) → List R → Type 0
-AreReadAgain bytes_of value_of [] = Unit {0}
-AreReadAgain bytes_of value_of (r ∷ rs) = (value_of (bytes_of r) ≡ Some r) × AreReadAgain bytes_of value_of rs
 
 pub AreReadAgain_push : {R : Type 0} (bytes_of : R → List ℕ) (value_of : List ℕ → Option R) (rs : List R) (r : R) → AreReadAgain bytes_of value_of rs → value_of (bytes_of r) ≡ Some r → AreReadAgain bytes_of value_of (rs ++ r ∷ [])
 AreReadAgain_push bytes_of value_of [] r each one = (one, tt)

@@ -1,5 +1,5 @@
 -- Lists of records in bytes: record i has the cell of its width at i times the width.
-use Rattle.std.specs.Prelude.{◌≡◌, ℕ, ◌<◌, ◌*◌, List, Option, None, IsSome, length, take, drop, slice_get}
+use Rattle.std.specs.Prelude.{◌≡◌, ℕ, ◌<◌, ◌*◌, List, [], ◌∷◌, Option, Some, None, IsSome, length, take, drop, slice_get}
 use Rattle.record_core.specs.declared.records.RecordsFault.{RecordsFault}
 use Rattle.record_core.specs.declared.records.RecordsFault.TheVariants.{Bad, Memory}
 
@@ -11,6 +11,11 @@ cell width bytes i = take width (drop (i * width) bytes)
 pub record AreRecords {R : Type 0} (width : ℕ) (value_of : List ℕ → Option R) (bytes : List ℕ) (records : List R) : Type 0 where
   pub filled : length bytes ≡ length records * width
   pub each : (i : ℕ) → i < length records → value_of (cell width bytes i) ≡ slice_get records i
+
+-- what was written of each record is read as that record
+abbrev pub AreReadAgain : {R : Type 0} → (R → List ℕ) → (List ℕ → Option R) → List R → Type 0
+AreReadAgain bytes_of value_of [] = Unit {0}
+AreReadAgain bytes_of value_of (r ∷ rs) = (value_of (bytes_of r) ≡ Some r) × AreReadAgain bytes_of value_of rs
 
 -- record i is the first of count that the bytes don't have
 pub record IsFirstBad {R : Type 0} (width : ℕ) (value_of : List ℕ → Option R) (bytes : List ℕ) (count i : ℕ) : Type 0 where

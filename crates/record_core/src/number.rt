@@ -31,7 +31,7 @@ impl Record for u64 {
     }
 
     fn blank() -> u64 {
-        0
+        0u64
     }
 
     ghost width_in_range = { Prim.search rules };

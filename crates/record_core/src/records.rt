@@ -2,7 +2,7 @@
 
 ghost use Rattle.std.specs.Prelude.{◌≡◌, ◌≤◌, ◌<◌, ◌+◌, ◌*◌, ◌^◌, ◌++◌, ℕ, List, None, length, vec_len, vec_capacity, OnOk, OnErr, IfErr, IsOk};
 ghost use Rattle.std.specs.List.{flat_map};
-ghost use Rattle.record_core.specs.Cells.{AreRecords, FirstBad};
+ghost use Rattle.record_core.specs.Cells.{AreRecords, AreReadAgain, FirstBad};
 
 use crate::record::Record;
 use std::alloc::AllocError;
@@ -23,7 +23,8 @@ pub enum RecordsFault {
 fn put_records<R: Record>(records: &[R], out: &mut [u8])
     requires { length out.old ≡ length records.now * R.WIDTH }
     ensures bytes { out.new ≡ flat_map R.bytes_of records.now }
-    ensures read_again { AreRecords R.WIDTH R.value_of out.new records.now }
+    ensures cells { AreRecords R.WIDTH R.value_of out.new records.now }
+    ensures read_again { AreReadAgain R.bytes_of R.value_of records.now }
 {
     let width = R::WIDTH;
     for i in 0..records.len() {
@@ -37,7 +38,8 @@ fn put_records<R: Record>(records: &[R], out: &mut [u8])
 pub fn append_records<R: Record>(records: &[R], out: &mut Vec<u8>) -> Result<(), AllocError>
     requires { vec_len out.old + length records.now * R.WIDTH < 2 ^ 64 }
     ensures bytes { OnOk result (out.new.items ≡ out.old.items ++ flat_map R.bytes_of records.now) }
-    ensures read_again { OnOk result (AreRecords R.WIDTH R.value_of (flat_map R.bytes_of records.now) records.now) }
+    ensures read_again { OnOk result (AreReadAgain R.bytes_of R.value_of records.now) }
+    ensures cells { OnOk result (AreRecords R.WIDTH R.value_of (flat_map R.bytes_of records.now) records.now) }
     ensures room { vec_len out.old + length records.now * R.WIDTH ≤ vec_capacity out.old → IsOk result }
     ensures capacity { vec_capacity out.old ≤ vec_capacity out.new }
     ensures err { OnErr result (out.new.items ≡ out.old.items) }
@@ -56,7 +58,7 @@ pub fn read_records<R: Record>(
     records: &mut Vec<R>,
 ) -> Result<(), RecordsFault>
     requires { length bytes.now ≡ count * R.WIDTH }
-    ensures ok { OnOk result ((read : List R) × (records.new.items ≡ records.old.items ++ read) × AreRecords R.WIDTH R.value_of bytes.now read) }
+    ensures ok { OnOk result ((read : List R) × (records.new.items ≡ records.old.items ++ read) × (length read ≡ count) × AreRecords R.WIDTH R.value_of bytes.now read) }
     ensures bad { IfErr result (FirstBad R.WIDTH R.value_of bytes.now count) }
     ensures kept { (read : List R) × (records.new.items ≡ records.old.items ++ read) }
 {

@@ -22,13 +22,16 @@ abbrev pub damaged : ℕ → Cause → ScanFault
 damaged at cause = Damaged at cause
 
 -- the header, from its first byte on
-unfoldable pub header_fault : ℕ → List ℕ → Option ScanFault
-header_fault width image = first_line (
+unfoldable pub header_lines : ℕ → List ℕ → List (Bool × ScanFault)
+header_lines width image =
     (nat_le (length image) 1 || not (slice_index image 0 == 1), Unborn)
     ∷ (nat_lt (length image) 11 || not (starts_with nat_eq (drop 1 image) (codes "CVECSEG")), NotSegment)
     ∷ (not (slice_index image 8 == 1), Version (slice_index image 8))
     ∷ (not (from_le_bytes w16 (take 2 (drop 9 image)) == width), Width (from_le_bytes w16 (take 2 (drop 9 image))))
-    ∷ [])
+    ∷ []
+
+abbrev pub header_fault : ℕ → List ℕ → Option ScanFault
+header_fault width image = first_line (header_lines width image)
 
 -- the fields of the frame that begins these bytes
 abbrev pub kind_in : List ℕ → ℕ

@@ -24,10 +24,10 @@ pub record IsFrame (width : ℕ) (frame : Frame) : Type 0 where
 
 -- ---- the same, read from a payload
 
-abbrev pub u32_at : List ℕ → ℕ → ℕ
+unfoldable pub u32_at : List ℕ → ℕ → ℕ
 u32_at bytes i = from_le_bytes w32 (take 4 (drop i bytes))
 
-abbrev pub u64_at : List ℕ → ℕ → ℕ
+unfoldable pub u64_at : List ℕ → ℕ → ℕ
 u64_at bytes i = from_le_bytes w64 (take 8 (drop i bytes))
 
 -- the first numbers of four bytes each

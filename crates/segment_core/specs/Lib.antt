@@ -8,4 +8,5 @@ pub mod Tally
 pub mod Image
 pub mod Vector
 pub mod Fault
+pub mod Walk
 pub mod Written

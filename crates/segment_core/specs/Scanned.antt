@@ -9,7 +9,7 @@ pub record IsScanOf {R : Type 0} (width : ℕ) (value_of : List ℕ → Option R
   pub vector : HasVector width value_of image frames scanned.records.items
   pub version_is : scanned.version ≡ 1
   pub width_is : scanned.width ≡ width
-  pub frames_is : scanned.frames ≡ length frames
-  pub changes_is : scanned.changes ≡ (tally_of frames).changes
+  pub frames_are : scanned.frames ≡ length frames
+  pub changes_are : scanned.changes ≡ (tally_of frames).changes
   pub folded_is : scanned.folded ≡ (tally_of frames).folded
   pub gate_is : scanned.gate ≡ length (text width frames)

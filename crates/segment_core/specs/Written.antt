@@ -1,5 +1,5 @@
 -- Growths as frames: what a writer of whole files puts into one.
-use Rattle.std.specs.Prelude.{◌≡◌, ℕ, ◌+◌, ◌*◌, ◌<◌, List, [], ◌∷◌, ◌++◌, length, map, position, nat_lt, Option, Some, None}
+use Rattle.std.specs.Prelude.{◌≡◌, ℕ, ◌+◌, ◌*◌, ◌<◌, List, [], ◌∷◌, ◌++◌, ◌≤◌, length, map, take, slice_get, Some}
 use Rattle.std.specs.Global.{Vec}
 use Rattle.std.specs.List.{flat_map, AllByRecursion}
 use Rattle.segment_core.specs.declared.fault.ImageFault.{ImageFault}
@@ -37,10 +37,11 @@ AreFilled groups = AllByRecursion (λ group. (0 < length group) × AllByRecursio
 abbrev pub all_records : {R : Type 0} → List (List (List R)) → List R
 all_records groups = joined (map joined groups)
 
--- the first group whose payload passes the limit
-abbrev pub first_too_large : {R : Type 0} → ℕ → List (List (List R)) → Option ℕ
-first_too_large width groups = position (λ group. nat_lt payload_limit (payload_len width group)) groups
+-- every payload is within the limit
+abbrev pub AllFit : {R : Type 0} → ℕ → List (List (List R)) → Type 0
+AllFit width groups = AllByRecursion (λ group. payload_len width group ≤ payload_limit) groups
 
+-- the first group past the limit is k; for want of memory alone, none is
 abbrev pub IsImageRefused : {R : Type 0} → ℕ → List (List (List R)) → ImageFault → Type 0
-IsImageRefused width groups (TooLarge k) = first_too_large width groups ≡ Some k
-IsImageRefused width groups Memory = first_too_large width groups ≡ None
+IsImageRefused {R} width groups (TooLarge k) = AllFit width (take k groups) × (group : List (List R)) × (slice_get groups k ≡ Some group) × (payload_limit < payload_len width group)
+IsImageRefused width groups Memory = AllFit width groups

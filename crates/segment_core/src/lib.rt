@@ -6,11 +6,16 @@
 
 mod fault;
 mod format;
+mod frame;
 mod image;
 mod vector;
+mod walk;
 
 pub use fault::{Cause, ImageFault, ScanFault};
 pub use format::{FrameKind, PAYLOAD_LIMIT, RECORD_LIMIT, VERSION};
+pub use frame::FrameReader;
 pub use image::write_image;
 pub use vector::{Scanned, scan};
 
+#[cfg(test)]
+mod tests;

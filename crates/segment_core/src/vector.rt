@@ -1,13 +1,13 @@
 //! The vector of an image, or its first fault.
 
-ghost use Rattle.std.specs.Prelude.{List, MatchResult};
+ghost use Rattle.std.specs.Prelude.{◌≡◌, List, Some, None, MatchResult};
 ghost use Rattle.segment_core.specs.Frame.{Frame};
-ghost use Rattle.segment_core.specs.Fault.{IsRefused};
+ghost use Rattle.segment_core.specs.Fault.{header_fault, IsRefused};
 ghost use Rattle.segment_core.specs.Scanned.{IsScanOf};
 
 use crate::fault::ScanFault;
 use crate::format::{HEADER_LEN, MAGIC, OPEN, VERSION};
-use byteorder::{ByteOrder, LittleEndian};
+use crate::walk::Walk;
 use record_core::Record;
 use std::alloc::Global;
 
@@ -30,6 +30,28 @@ pub struct Scanned<R> {
     pub gate: u64,
 }
 
+/// Whether the header is that of a file whose records have this width.
+fn check_header(bytes: &[u8], width: usize) -> Result<(), ScanFault>
+    ensures { MatchResult result
+        (λ _. header_fault width bytes.now ≡ None)
+        (λ fault. header_fault width bytes.now ≡ Some fault) }
+{
+    if bytes.len() <= 1 || bytes[0] != OPEN {
+        return Err(ScanFault::Unborn);
+    }
+    if bytes.len() < HEADER_LEN || !bytes[1..].starts_with(MAGIC) {
+        return Err(ScanFault::NotSegment);
+    }
+    if bytes[8] != VERSION {
+        return Err(ScanFault::Version(bytes[8]));
+    }
+    let file_width = u16::from_le_bytes([bytes[9], bytes[10]]);
+    if file_width as usize != width {
+        return Err(ScanFault::Width(file_width));
+    }
+    Ok(())
+}
+
 /// Reads the vector of an image, in one pass over its frames and one over its records. Where the image has no
 /// vector, its first fault is answered, in the order of `docs/FORMAT.md`; `Memory` may come in place of any
 /// answer once the header is read.
@@ -38,5 +60,17 @@ pub fn scan<R: Record>(alloc: Global, bytes: &[u8]) -> Result<Scanned<R>, ScanFa
         (λ scanned. (frames : List Frame) × IsScanOf R.WIDTH R.value_of bytes.now frames scanned)
         (IsRefused R.WIDTH R.value_of bytes.now) }
 {
-    Err(ScanFault::Memory)
+    let width = R::WIDTH;
+    check_header(bytes, width)?;
+    let walk = Walk::over(alloc, bytes, width)?;
+    let records = walk.records(alloc, bytes)?;
+    Ok(Scanned {
+        version: VERSION,
+        width: width as u16,
+        records,
+        frames: walk.frames,
+        changes: 0,
+        folded: 0,
+        gate: walk.at as u64,
+    })
 }

@@ -24,8 +24,8 @@ returns-clause-bytes g c =
     let whole = take_all (c.loop-i.i * g.R.Record.WIDTH) c.loop-i.out (omega (arith, c.loop-i.auto.out, c.requires, ap (λ n. n * g.R.Record.WIDTH) end)) in
     sym whole ∙ c.loop-i.invariant.written ∙ ap (flat_map g.R.Record.bytes_of) all
 
-pub returns-clause-read_again : goal.returns-clause-read_again
-returns-clause-read_again g c =
+pub returns-clause-cells : goal.returns-clause-cells
+returns-clause-cells g c =
     let all = take_all c.loop-i.i c.args.records.now c.loop-i-test.false in
     let each = rw all at c.loop-i.invariant.read_again in
     let laws = g.met.R.Record g.world.𝓛 g.world.𝓜 g.world.𝓡 ((λ s x. x), (λ x. x), (λ x. x), λ x. x) in

@@ -1,6 +1,6 @@
 use Rattle.std.proofs.Common.{◌≡◌, ◌*◌, take}
 use Rattle.std.specs.List.{flat_map}
-use Rattle.record_core.proofs.Cells.{AreReadAgain}
+use Rattle.record_core.specs.Cells.{AreReadAgain}
 use Rattle.record_core.proofs.records.put_records.Given as goal
 
 abbrev pub invariant-loop-i : goal.invariant-loop-i

@@ -20,7 +20,7 @@ loop-i-preserved g c =
 pub returns-clause-ok : goal.returns-clause-ok
 returns-clause-ok g c =
     let read = c.loop-i.invariant in
-    (read.0, read.1, AreRecords_read g.R.Record.WIDTH g.R.Record.value_of c.args.bytes.now c.args.count c.loop-i.i read.0 c.requires (omega arith) read.2)
+    (read.0, read.1, read.2.so_far ∙ omega arith, AreRecords_read g.R.Record.WIDTH g.R.Record.value_of c.args.bytes.now c.args.count c.loop-i.i read.0 c.requires (omega arith) read.2)
 
 pub returns-clause-kept : goal.returns-clause-kept
 returns-clause-kept g c = (c.loop-i.invariant.0, c.loop-i.invariant.1)

@@ -1,0 +1,121 @@
+-- Growths as frames: their sizes, their text one by one, and the vector that is read from them.
+use Rattle.std.proofs.Common.{◌≡◌, ℕ, zero, suc, ◌+◌, ◌*◌, ◌≤◌, ◌<◌, List, [], ◌∷◌, ◌++◌, length, take, drop, get_or, map, sum, Option, Some, refl, sym, ap, subst, ◌∙◌, append_assoc, arith}
+use Rattle.std.specs.Prelude.{slice_get}
+use Rattle.std.specs.Global.{Vec}
+use Rattle.std.specs.List.{flat_map}
+use Rattle.std.specs.Int.{w32, to_le_bytes}
+use Rattle.std.proofs.lemmas.List.{append-nil, length-append, length-map, map_more, map_push, map-append, take-append-drop}
+use Rattle.std.proofs.lemmas.List.Concat.{flat_map-append, length-flat_map}
+use Rattle.std.proofs.lemmas.List.Sums.{sum-map}
+use Rattle.record_core.specs.Cells.{AreReadAgain}
+use Rattle.record_core.proofs.Cells.{length-flat_map_bytes}
+use Rattle.segment_core.specs.Frame.{payload_of, payload_limit, frame_text, text}
+use Rattle.segment_core.specs.Written.{growths_of, groups_of, joined, all_records, group_frame, payload_len, AllFit}
+use Rattle.segment_core.proofs.Payload.{length-group_payload}
+use Rattle.segment_core.proofs.Longest.{text_push}
+
+-- ---- sizes
+
+pub joined-append : {R : Type 0} (a b : List (List R)) → joined (a ++ b) ≡ joined a ++ joined b
+joined-append a b = flat_map-append (λ growth. growth) a b
+
+pub joined_push : {R : Type 0} (growths : List (List R)) (growth : List R) → joined (growths ++ growth ∷ []) ≡ joined growths ++ growth
+joined_push growths growth = joined-append growths (growth ∷ []) ∙ ap (λ (rs : List _). joined growths ++ rs) (append-nil growth)
+
+pub payload_len_push : {R : Type 0} (width : ℕ) (growths : List (List R)) (growth : List R) → payload_len width (growths ++ growth ∷ []) ≡ payload_len width growths + (4 + length growth * width)
+payload_len_push width growths growth =
+    let records = ap length (joined_push growths growth) ∙ length-append (joined growths) growth in
+    let count = length-append growths (growth ∷ []) in
+    let product : length (joined (growths ++ growth ∷ [])) * width ≡ (length (joined growths) + length growth) * width = ap (λ n. n * width) records in
+    omega arith
+
+payload_len-append : {R : Type 0} (width : ℕ) (a b : List (List R)) → payload_len width a ≤ payload_len width (a ++ b)
+payload_len-append width a b =
+    let records = ap length (joined-append a b) ∙ length-append (joined a) (joined b) in
+    let count = length-append a b in
+    let product : length (joined (a ++ b)) * width ≡ (length (joined a) + length (joined b)) * width = ap (λ n. n * width) records in
+    omega arith
+
+pub growths_more : {R : Type 0} (group : List (Vec R)) (k : ℕ) (growth : Vec R) → k < length group → growth ≡ get_or group k growth → growths_of (take (k + 1) group) ≡ growths_of (take k group) ++ growth.items ∷ []
+growths_more {R} group k growth lt is = map_more (λ (v : Vec R). v.items) group k growth lt ∙ ap (λ (v : Vec R). growths_of (take k group) ++ v.items ∷ []) (sym is)
+
+pub payload_len_more : {R : Type 0} (width : ℕ) (group : List (Vec R)) (k : ℕ) (growth : Vec R) → k < length group → growth ≡ get_or group k growth → payload_len width (growths_of (take (k + 1) group)) ≡ payload_len width (growths_of (take k group)) + (4 + length growth.items * width)
+payload_len_more width group k growth lt is = ap (payload_len width) (growths_more group k growth lt is) ∙ payload_len_push width (growths_of (take k group)) growth.items
+
+pub payload_len_within : {R : Type 0} (width : ℕ) (group : List (Vec R)) (k : ℕ) → payload_len width (growths_of (take k group)) ≤ payload_len width (growths_of group)
+payload_len_within {R} width group k =
+    let whole : growths_of (take k group) ++ growths_of (drop k group) ≡ growths_of group = sym (map-append (λ (v : Vec R). v.items) (take k group) (drop k group)) ∙ ap growths_of (take-append-drop k group) in
+    subst (λ (gs : List (List R)). payload_len width (growths_of (take k group)) ≤ payload_len width gs) whole (payload_len-append width (growths_of (take k group)) (growths_of (drop k group)))
+
+-- a growth takes part of its group's payload
+pub growth_within : {R : Type 0} (width : ℕ) (group : List (Vec R)) (k : ℕ) (growth : Vec R) → k < length group → growth ≡ get_or group k growth → payload_len width (growths_of (take k group)) + (4 + length growth.items * width) ≤ payload_len width (growths_of group)
+growth_within width group k growth lt is = let more = payload_len_more width group k growth lt is in let within = payload_len_within width group (k + 1) in omega arith
+
+pub payload_len_nothing : {R : Type 0} (width : ℕ) (growths : List (List R)) → growths ≡ [] → payload_len width growths ≡ 4
+payload_len_nothing width growths none = ap (payload_len width) none ∙ (let nothing : 4 + 0 * 4 + 0 * width ≡ 4 = omega arith in nothing)
+
+-- the product below
+pub long_growth : (width n : ℕ) → 1 ≤ width → n ≤ n * width
+long_growth width zero wide = omega arith
+long_growth width (suc n) wide = let more = long_growth width n wide in omega arith
+
+pub sum-lengths : {R : Type 0} (growths : List (List R)) → length (joined growths) ≡ sum (map length growths)
+sum-lengths growths = length-flat_map (λ growth. growth) growths ∙ sym (sum-map length growths)
+
+pub length-group_frame : {R : Type 0} (width : ℕ) (bytes_of : R → List ℕ) (growths : List (List R)) → ((r : R) → length (bytes_of r) ≡ width) → length (payload_of (group_frame bytes_of growths)) ≡ payload_len width growths
+length-group_frame width bytes_of growths wide =
+    let a = length-group_payload (map length growths) (flat_map bytes_of (joined growths)) in
+    let b = length-map growths length in
+    let d = length-flat_map_bytes width bytes_of (joined growths) wide in
+    omega arith
+
+-- ---- what is read again
+
+pub AreReadAgain-append : {R : Type 0} (bytes_of : R → List ℕ) (value_of : List ℕ → Option R) (a b : List R) → AreReadAgain bytes_of value_of a → AreReadAgain bytes_of value_of b → AreReadAgain bytes_of value_of (a ++ b)
+AreReadAgain-append bytes_of value_of [] b each more = more
+AreReadAgain-append bytes_of value_of (r ∷ a) b each more = (each.0, AreReadAgain-append bytes_of value_of a b each.1 more)
+
+-- ---- text
+
+regroup : (file head lengths bytes : List ℕ) → ((file ++ head) ++ lengths) ++ bytes ≡ file ++ (head ++ (lengths ++ bytes))
+regroup file head lengths bytes = simp append_assoc
+
+-- a frame that was appended piece by piece
+pub group_appended : {R : Type 0} (width : ℕ) (bytes_of : R → List ℕ) (growths : List (List R)) (len n : ℕ) (file headed counted done : List ℕ) → ((r : R) → length (bytes_of r) ≡ width) → len ≡ payload_len width growths → n ≡ length growths
+    → headed ≡ file ++ ((1 ∷ 1 ∷ to_le_bytes w32 len) ++ to_le_bytes w32 n) → counted ≡ headed ++ flat_map (to_le_bytes w32) (map length growths) → done ≡ counted ++ flat_map bytes_of (joined growths) → done ≡ file ++ frame_text (group_frame bytes_of growths)
+group_appended width bytes_of growths len n file headed counted done wide size count a b c =
+    let payload_is : len ≡ length (payload_of (group_frame bytes_of growths)) = size ∙ sym (length-group_frame width bytes_of growths wide) in
+    let count_is : n ≡ length (map length growths) = count ∙ sym (length-map growths length) in
+    let lengths : List ℕ = flat_map (to_le_bytes w32) (map length growths) in
+    let bytes : List ℕ = flat_map bytes_of (joined growths) in
+    let head : List ℕ = (1 ∷ 1 ∷ to_le_bytes w32 len) ++ to_le_bytes w32 n in
+    c ∙ ap (λ (bs : List ℕ). bs ++ bytes) (b ∙ ap (λ (bs : List ℕ). bs ++ lengths) a)
+    ∙ regroup file head lengths bytes
+    ∙ ap (λ (bs : List ℕ). file ++ bs) (append_assoc (1 ∷ 1 ∷ to_le_bytes w32 len) (to_le_bytes w32 n) (lengths ++ bytes))
+    ∙ ap (λ k. file ++ ((1 ∷ 1 ∷ to_le_bytes w32 k) ++ (to_le_bytes w32 n ++ (lengths ++ bytes)))) payload_is
+    ∙ ap (λ k. file ++ ((1 ∷ 1 ∷ to_le_bytes w32 (length (payload_of (group_frame bytes_of growths)))) ++ (to_le_bytes w32 k ++ (lengths ++ bytes)))) count_is
+
+-- ---- one group more
+
+pub groups_more : {R : Type 0} (groups : List (Vec (Vec R))) (k : ℕ) (group : Vec (Vec R)) → k < length groups → group ≡ get_or groups k group → groups_of (take (k + 1) groups) ≡ groups_of (take k groups) ++ growths_of group.items ∷ []
+groups_more {R} groups k group lt is = map_more (λ (g : Vec (Vec R)). growths_of g.items) groups k group lt ∙ ap (λ (g : Vec (Vec R)). groups_of (take k groups) ++ growths_of g.items ∷ []) (sym is)
+
+pub all_records_push : {R : Type 0} (groups : List (List (List R))) (group : List (List R)) → all_records (groups ++ group ∷ []) ≡ all_records groups ++ joined group
+all_records_push groups group = ap joined (map_push joined groups group) ∙ joined_push (map joined groups) (joined group)
+
+pub text_more : {R : Type 0} (width : ℕ) (bytes_of : R → List ℕ) (groups : List (List (List R))) (group : List (List R)) → text width (map (group_frame bytes_of) (groups ++ group ∷ [])) ≡ text width (map (group_frame bytes_of) groups) ++ frame_text (group_frame bytes_of group)
+text_more width bytes_of groups group = ap (text width) (map_push (group_frame bytes_of) groups group) ∙ text_push width (map (group_frame bytes_of) groups) (group_frame bytes_of group)
+
+pub AllFit_push : {R : Type 0} (width : ℕ) (groups : List (List (List R))) (group : List (List R)) → AllFit width groups → payload_len width group ≤ payload_limit → AllFit width (groups ++ group ∷ [])
+AllFit_push width [] group fit small = (small, tt)
+AllFit_push width (first ∷ groups) group fit small = (fit.0, AllFit_push width groups group fit.1 small)
+
+pub fits_at : {R : Type 0} (width : ℕ) (groups : List (Vec (Vec R))) (k : ℕ) (d : Vec (Vec R)) → AllFit width (groups_of groups) → k < length groups → payload_len width (growths_of (get_or groups k d).items) ≤ payload_limit
+fits_at width [] k d fit lt = absurd (omega arith)
+fits_at width (group ∷ groups) zero d fit lt = fit.0
+fits_at width (group ∷ groups) (suc k) d fit lt = fits_at width groups k d fit.1 (omega arith)
+
+pub group_at : {R : Type 0} (groups : List (Vec (Vec R))) (k : ℕ) (d : Vec (Vec R)) → k < length groups → slice_get (groups_of groups) k ≡ Some (growths_of (get_or groups k d).items)
+group_at [] k d lt = absurd (omega arith)
+group_at (group ∷ groups) zero d lt = refl
+group_at (group ∷ groups) (suc k) d lt = group_at groups k d (omega arith)
