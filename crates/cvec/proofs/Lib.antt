@@ -1,0 +1,9 @@
+pub mod Known
+pub mod Small
+pub mod NumberLemmas
+pub mod Joins
+pub mod HexLines
+pub mod Reading
+pub mod LineLemmas
+pub mod LineGroups
+pub mod GroupLines

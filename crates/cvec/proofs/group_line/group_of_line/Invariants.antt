@@ -1,0 +1,12 @@
+use Rattle.std.proofs.Common.{◌≡◌, ◌+◌, length, Option, Some, None}
+use Rattle.std.specs.Option.{option_copied}
+use Rattle.segment_core.specs.Written.{growths_of}
+use Rattle.cvec.proofs.Joins.{words_in}
+use Rattle.cvec.proofs.GroupLines.{Reads}
+use Rattle.cvec.proofs.group_line.group_of_line.Given as goal
+
+abbrev pub invariant-loop-rest : goal.invariant-loop-rest
+invariant-loop-rest g l = Reads g.R.TextRecord.is_value g.R.TextRecord.text_of l.line (growths_of l.growths.items) l.last.items (words_in (option_copied l.rest))
+
+abbrev pub decreases-loop-rest : goal.decreases-loop-rest
+decreases-loop-rest g l = length (words_in (option_copied l.rest))

@@ -1,0 +1,40 @@
+-- Group lines: growths with a bar between each two, a growth's records with a space between each two.
+use Rattle.std.specs.Prelude.{◌≡◌, ℕ, ◌+◌, ◌<◌, List, [], ◌∷◌, ◌++◌, length, map, codes}
+use Rattle.std.specs.List.{AllByRecursion}
+use Rattle.cvec.specs.Text.{joined_by}
+use Rattle.cvec.specs.Lines.{AreLines}
+
+abbrev pub growth_text : {R : Type 0} → (R → List ℕ) → List R → List ℕ
+growth_text text_of records = joined_by (codes " ") (map text_of records)
+
+abbrev pub group_line : {R : Type 0} → (R → List ℕ) → List (List R) → List ℕ
+group_line text_of growths = joined_by (codes " | ") (map (growth_text text_of) growths)
+
+-- a group: a growth or more, and in each a record or more, all of them values of their type
+pub record IsGroup {R : Type 0} (is_value : R → Type 0) (growths : List (List R)) : Type 0 where
+  pub some : 0 < length growths
+  pub filled : AllByRecursion (λ growth. 0 < length growth) growths
+  pub values : AllByRecursion (AllByRecursion is_value) growths
+
+-- the line is the text of these growths
+pub record IsGroupLineOf {R : Type 0} (is_value : R → Type 0) (text_of : R → List ℕ) (line : List ℕ) (growths : List (List R)) : Type 0 where
+  pub group : IsGroup is_value growths
+  pub text : line ≡ group_line text_of growths
+
+abbrev pub IsGroupLine : {R : Type 0} → (R → Type 0) → (R → List ℕ) → List ℕ → Type 0
+IsGroupLine {R} is_value text_of line = (growths : List (List R)) × IsGroupLineOf is_value text_of line growths
+
+-- the lines of the input are the texts of these groups, one each
+pub record AreGroupLines {R : Type 0} (is_value : R → Type 0) (text_of : R → List ℕ) (input : List ℕ) (groups : List (List (List R))) : Type 0 where
+  pub each : AllByRecursion (IsGroup is_value) groups
+  pub lines : AreLines input (map (group_line text_of) groups)
+
+-- line n, counted from 1, is the first that is no group line
+pub record IsFirstBadLine {R : Type 0} (is_value : R → Type 0) (text_of : R → List ℕ) (input : List ℕ) (n : ℕ) : Type 0 where
+  pub front : List (List ℕ)
+  pub line : List ℕ
+  pub more : List (List ℕ)
+  pub lines : AreLines input (front ++ line ∷ more)
+  pub place : n ≡ length front + 1
+  pub before : AllByRecursion (IsGroupLine is_value text_of) front
+  pub bad : ¬ (IsGroupLine is_value text_of line)

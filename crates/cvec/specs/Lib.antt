@@ -1,0 +1,9 @@
+pub mod Text
+pub mod Numbers
+pub mod Lines
+pub mod GroupLine
+pub mod Words
+pub mod HexLine
+pub mod Refusals
+pub mod Engines
+pub mod Status
