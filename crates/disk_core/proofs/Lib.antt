@@ -1,0 +1,7 @@
+mod Walks
+pub mod JoinedMoments
+pub mod ImageLemmas
+pub mod CallLemmas
+pub mod CommitLemmas
+mod ContentsLemmas
+mod LogLemmas

@@ -1,0 +1,20 @@
+-- What a call makes of a disk's states, which stand newest first. Each call adds one.
+use Rattle.std.specs.Prelude.{ℕ, ◌≡◌, List, ◌∷◌}
+use Rattle.disk_core.specs.State.{State, now, settled, written, IsTornWrite}
+
+-- what a read gives
+abbrev pub bytes_of : List State → List ℕ
+bytes_of states = (now states).seen
+
+abbrev pub Stays : List State → List State → Type 0
+Stays old new = new ≡ now old ∷ old
+
+abbrev pub Writes : ℕ → List ℕ → List State → List State → Type 0
+Writes at bytes old new = new ≡ written (now old) at bytes ∷ old
+
+-- a write of these many bytes that failed
+abbrev pub TearsWrite : ℕ → ℕ → List State → List State → Type 0
+TearsWrite at len old new = (s : State) × (new ≡ s ∷ old) × IsTornWrite at len (now old) s
+
+abbrev pub Settles : List State → List State → Type 0
+Settles old new = new ≡ settled (bytes_of old) ∷ old

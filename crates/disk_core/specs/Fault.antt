@@ -1,0 +1,8 @@
+-- Where a call fails, and that it is counted.
+use Rattle.std.specs.Prelude.{ℕ, ◌+◌, ◌≡◌, Result, Ok, Err}
+use Rattle.disk_core.specs.declared.fault.DiskFault.{DiskFault}
+
+-- a call fails with its own kind of fault alone, and where it fails the count of faults rises by one
+abbrev pub IsCounted : {T : Type 0} → DiskFault → ℕ → ℕ → Result T DiskFault → Type 0
+IsCounted kind before after (Ok value) = after ≡ before
+IsCounted kind before after (Err fault) = (fault ≡ kind) × (after ≡ before + 1)

@@ -1,0 +1,11 @@
+pub mod State
+pub mod Calls
+pub mod Moments
+pub mod Fault
+pub mod Commit
+pub mod History
+pub mod Contents
+pub mod Choice
+pub mod Fuse
+pub mod FuseDisk
+pub mod RamDisk

@@ -1,0 +1,37 @@
+//! A commit in four calls, as the layer above makes it: what its contract promises of any disk.
+ghost use Rattle.std.specs.Prelude.{◌≡◌, ◌+◌, ◌<◌, ◌≤◌, ◌^◌, List, ℕ, length, OnOk};
+ghost use Rattle.disk_core.specs.State.{now, overlay, IsImage};
+ghost use Rattle.disk_core.specs.Calls.{bytes_of};
+ghost use Rattle.disk_core.specs.Moments.{LeavesOnly};
+ghost use Rattle.disk_core.specs.Commit.{IsBeforeOrAfter, gate_synced};
+
+use crate::{Disk, DiskFault};
+
+pub(crate) fn commit<D: Disk>(
+    disk: &mut D,
+    at: u64,
+    body: &[u8],
+    gate: u64,
+    byte: u8,
+) -> Result<(), DiskFault>
+    requires inside { D.keeps disk.old → at ≤ length (bytes_of (D.states disk.old)) }
+    requires fits { at + length body.now < 2 ^ 64 }
+    requires gate_inside { D.keeps disk.old
+        → gate < length (overlay (bytes_of (D.states disk.old)) at body.now) }
+    requires gate_fits { gate + 1 < 2 ^ 64 }
+
+    // Whenever it is stopped, the disk is as before outside of the body, or as after but for the gate.
+    ensures any_moment { D.keeps disk.old → LeavesOnly (D.states disk.old) (D.states disk.new)
+        (IsBeforeOrAfter (now (D.states disk.old)) at body.now gate) }
+    ensures done { D.keeps disk.old
+        → OnOk result (D.states disk.new ≡ gate_synced at body.now gate byte (D.states disk.old)) }
+
+    // Once it is done, a crash leaves what a read gives.
+    ensures settled { D.keeps disk.old → OnOk result ((image : List ℕ)
+        → IsImage (now (D.states disk.new)) image → image ≡ bytes_of (D.states disk.new)) }
+{
+    disk.write_at(at, body)?;
+    disk.sync()?;
+    disk.write_at(gate, &[byte])?;
+    disk.sync()
+}

@@ -1,0 +1,20 @@
+ghost use Rattle.std.specs.Prelude.{◌≡◌};
+
+/// A run of bytes of a disk.
+#[derive(Clone, Copy, Debug, PartialEq, Eq)]
+pub struct Extent {
+    /// The place of its first byte.
+    pub at: u64,
+    /// How many bytes it has.
+    pub len: u64,
+}
+
+impl Extent {
+    ghost use Rattle.disk_core.specs.State.{covers};
+
+    pub(crate) fn covers(&self, place: u64) -> bool
+        ensures { result ≡ covers self.now place }
+    {
+        self.at <= place && place - self.at < self.len
+    }
+}
