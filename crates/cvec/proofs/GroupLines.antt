@@ -1,12 +1,11 @@
 -- Reading a group line word by word.
-use Rattle.std.proofs.Common.{◌≡◌, ◌≢◌, ℕ, zero, suc, ◌+◌, ◌<◌, ◌≤◌, Bool, true, false, List, [], ◌∷◌, ◌++◌, length, map, codes, Option, Some, None, refl, sym, ap, ◌∙◌, subst, arith, inl, inr}
-use Rattle.std.specs.Prelude.{◌⊎◌}
+use Rattle.std.proofs.Common.{◌≡◌, ℕ, ◌<◌, List, [], ◌∷◌, ◌++◌, length, map, codes, refl, sym, ap, ◌∙◌, subst, arith, inl, inr}
 use Rattle.std.specs.List.{AllByRecursion}
 use Rattle.std.proofs.lemmas.List.{append_assoc, append-nil, length-append}
 use Rattle.cvec.specs.Text.{IsWord, joined_by}
 use Rattle.cvec.specs.GroupLine.{growth_text, group_line, IsGroup, IsGroupLineOf, IsGroupLine}
-use Rattle.cvec.specs.Words.{EndsGrowth, BringsRecord, TakesWord, IsStrayWord}
-use Rattle.cvec.proofs.Joins.{parts_of, HasNoSpace, no_space_in_word, joined_append, joined_parts, parts_joined, words_in, not_bar, no_space_in_bar}
+use Rattle.cvec.specs.Words.{TakesWord, IsStrayWord}
+use Rattle.cvec.proofs.Joins.{parts_of, HasNoSpace, no_space_in_word, joined_append, joined_parts, parts_joined, not_bar, no_space_in_bar}
 
 -- ---- the words of growths
 

@@ -1,12 +1,8 @@
 -- What a writer holds after one write behind another.
-use Rattle.std.proofs.Common.{◌≡◌, ℕ, List, [], ◌++◌, Option, Some, None, Result, Ok, Err, refl, ap, sym, ◌∙◌}
+use Rattle.std.proofs.Common.{◌≡◌, ℕ, List, ◌++◌, Option, Some, None, Result, Ok, Err, ap, ◌∙◌}
 use Rattle.std.specs.Prelude.{OnOk}
 use Rattle.std.specs.Io.KnownBytes.{Appends}
-use Rattle.std.proofs.lemmas.List.{append_assoc, append-nil}
-
-pub Appends_none : (a : Option (List ℕ)) → Appends a a []
-Appends_none None = tt
-Appends_none (Some xs) = sym (append-nil xs)
+use Rattle.std.proofs.lemmas.List.{append_assoc}
 
 pub Appends_then : (a b c : Option (List ℕ)) (x y : List ℕ) → Appends a b x → Appends b c y → Appends a c (x ++ y)
 Appends_then None b c x y first second = tt

@@ -1,12 +1,10 @@
 -- The lines of an input, one behind another.
-use Rattle.std.proofs.Common.{◌≡◌, ◌≢◌, ℕ, zero, suc, ◌+◌, ◌<◌, List, [], ◌∷◌, ◌++◌, length, Option, Some, None, Bor, refl, sym, ap, ◌∙◌, subst, arith, inl, inr}
-use Rattle.std.specs.Prelude.{All, MatchOption, unwrap_or, ◌⊎◌}
+use Rattle.std.proofs.Common.{◌≡◌, ◌≢◌, ℕ, ◌<◌, List, [], ◌∷◌, ◌++◌, length, Option, Some, None, Bor, refl, sym, ap, ◌∙◌, subst, arith, inl, inr}
+use Rattle.std.specs.Prelude.{MatchOption, unwrap_or}
 use Rattle.std.specs.Option.{option_copied}
-use Rattle.std.specs.List.{AllByRecursion, flat_map}
-use Rattle.std.proofs.lemmas.List.{append_assoc, append-nil, length-append}
+use Rattle.std.proofs.lemmas.List.{append_assoc, length-append}
 use Rattle.std.proofs.lemmas.List.Elements.{All-nil, All-cons}
 use Rattle.std.proofs.lemmas.Bool.{cases_eq}
-use Rattle.cvec.specs.Text.{ended_line}
 use Rattle.cvec.specs.Lines.{ended, HasNoLf, LacksLastLf, AreLines}
 
 -- a line and its LF in front
@@ -100,13 +98,16 @@ starts_with_byte b rest [] other so = elim so.text [
   | inl all ↦ ((b ∷ []) ∷ [], rw all (line_alone (b ∷ []) (All-cons (λ x. x ≢ 10) b [] other (All-nil (λ x. x ≢ 10))) (omega arith)))
   | inr lacks ↦ absurd (nothing_of_none lacks.front lacks.last lacks.parts)
 ]
-starts_with_byte b rest (line ∷ lines) other so = ((b ∷ line) ∷ lines, record {
-  whole = (All-cons (λ x. x ≢ 10) b line other so.whole.0, so.whole.1);
-  text = elim so.text [
-    | inl all ↦ inl (ap (λ (t : List ℕ). b ∷ t) all)
-    | inr lacks ↦ inr (longer_by_a_byte b rest line lines lacks.front lacks.last lacks.parts lacks.some lacks.text)
-  ];
-})
+starts_with_byte b rest (line ∷ lines) other so = (
+  (b ∷ line) ∷ lines,
+  record {
+    whole = (All-cons (λ x. x ≢ 10) b line other so.whole.0, so.whole.1);
+    text = elim so.text [
+      | inl all ↦ inl (ap (λ (t : List ℕ). b ∷ t) all)
+      | inr lacks ↦ inr (longer_by_a_byte b rest line lines lacks.front lacks.last lacks.parts lacks.some lacks.text)
+    ];
+  },
+)
 
 pub lines_in : (text : List ℕ) → (lines : List (List ℕ)) × AreLines text lines
 lines_in [] = ([], no_lines)

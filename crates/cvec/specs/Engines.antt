@@ -47,10 +47,3 @@ WritesVector {R} width value_of text_of input old new =
 abbrev pub WritesShowRefusal : {R : Type 0} → ℕ → (List ℕ → Option R) → List ℕ → Option (List ℕ) → Option (List ℕ) → Type 0
 WritesShowRefusal width value_of input old new =
     (refusal : Refusal) × IsShowRefusal width value_of input refusal × Appends old new (refusal_line refusal)
-
--- how a show engine may end, and what it has written then
-abbrev pub IsShowRun : {R : Type 0} → ℕ → (List ℕ → Option R) → (R → List ℕ) → List ℕ → Option (List ℕ) → Option (List ℕ) → Status → Type 0
-IsShowRun width value_of text_of input old new Done = WritesVector width value_of text_of input old new
-IsShowRun width value_of text_of input old new Refused = WritesShowRefusal width value_of input old new
-IsShowRun width value_of text_of input old new OutputFailed = Unit {0}
-IsShowRun width value_of text_of input old new Usage = ⊥

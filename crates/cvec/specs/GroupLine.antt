@@ -1,5 +1,5 @@
 -- Group lines: growths with a bar between each two, a growth's records with a space between each two.
-use Rattle.std.specs.Prelude.{◌≡◌, ℕ, ◌+◌, ◌<◌, List, [], ◌∷◌, ◌++◌, length, map, codes}
+use Rattle.std.specs.Prelude.{◌≡◌, ℕ, ◌+◌, ◌<◌, List, ◌∷◌, ◌++◌, length, map, codes}
 use Rattle.std.specs.List.{AllByRecursion}
 use Rattle.cvec.specs.Text.{joined_by}
 use Rattle.cvec.specs.Lines.{AreLines}

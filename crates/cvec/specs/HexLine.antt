@@ -8,7 +8,6 @@ pub record IsHexLine (input bytes : List ℕ) : Type 0 where
   pub spelled : decode_of digits ≡ Ok bytes
   pub line : (input ≡ digits) ⊎ (input ≡ digits ++ 10 ∷ [])
 
-
 -- the text without the LF at its end, where it has one
 abbrev pub IsWithoutLf : List ℕ → List ℕ → Type 0
 IsWithoutLf text front = (text ≡ front ++ 10 ∷ []) ⊎ ((text ≡ front) × ((other : List ℕ) → text ≢ other ++ 10 ∷ []))

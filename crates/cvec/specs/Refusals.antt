@@ -1,5 +1,5 @@
 -- The names of refusals, and when each of them is right.
-use Rattle.std.specs.Prelude.{◌≡◌, ℕ, ◌+◌, ◌<◌, List, [], ◌∷◌, ◌++◌, length, codes, decimal, Option}
+use Rattle.std.specs.Prelude.{◌≡◌, ℕ, ◌+◌, ◌<◌, List, ◌++◌, length, codes, decimal, Option}
 use Rattle.segment_core.specs.declared.fault.Cause.{Cause}
 use Rattle.segment_core.specs.declared.fault.Cause.TheVariants.{NoGate, ShortFrame, Kind, TooLarge, Layout, Range, Unfolded, FoldCount, TooLong, BadRecord}
 use Rattle.segment_core.specs.declared.fault.ScanFault.{ScanFault}

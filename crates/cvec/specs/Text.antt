@@ -1,5 +1,5 @@
 -- The text of records: words, and lists of them with a separator between each two.
-use Rattle.std.specs.Prelude.{◌≡◌, ℕ, ◌<◌, List, [], ◌∷◌, ◌++◌, length, Bool, not, ◌==◌, ◌||◌}
+use Rattle.std.specs.Prelude.{ℕ, ◌<◌, List, [], ◌∷◌, ◌++◌, length, Bool, not, ◌==◌, ◌||◌}
 use Rattle.std.specs.List.{AllPass, flat_map}
 
 -- a byte that a record's text may have: neither LF, space nor bar

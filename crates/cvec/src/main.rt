@@ -12,10 +12,9 @@ mod program;
 mod refusal;
 mod show;
 mod status;
-mod text;
-
 #[cfg(test)]
 mod tests;
+mod text;
 
 use crate::program::run;
 use crate::refusal::{Refusal, refuse};

@@ -60,7 +60,7 @@ pub fn run<'a, S: AsStr, I: Read, W: Write>(
 ) -> Status
     ensures no_words { words.now ≡ [] → IfSome (I.remaining reader.old) (λ input.
         IsImageRun ⟦<u64 as Record>⟧.WIDTH ⟦<u64 as Record>⟧.bytes_of ⟦<u64 as TextRecord>⟧.is_value ⟦<u64 as TextRecord>⟧.text_of
-            input (W.contents writer.old) (W.contents writer.new) result) }
+        input (W.contents writer.old) (W.contents writer.new) result) }
     ensures usage { result ≡ Status.Usage → Keeps (W.contents writer.old) (W.contents writer.new) }
 {
     if words.is_empty() {

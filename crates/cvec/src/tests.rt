@@ -12,9 +12,13 @@ use std::io::{self, ErrorKind, Read, Write};
 use std::test::Fail;
 
 const EMPTY: &[u8] = b"014356454353454701080000";
+
 const HEADER: &[u8] = b"0143564543534547010800";
+
 const FIVE: &[u8] = b"01435645435345470108000101100000000100000001000000050000000000000000";
-const THREE: &[u8] = b"014356454353454701080001012400000002000000020000000100000001000000000000000200000000000000030000000000000000";
+
+const THREE: &[u8] =
+    b"014356454353454701080001012400000002000000020000000100000001000000000000000200000000000000030000000000000000";
 
 /// What `image u64` answers.
 fn imaged(alloc: Global, input: &[u8]) -> (Status, Vec<u8>) {
@@ -110,7 +114,10 @@ fn every_line_is_read_before_a_size_is_looked_at(rt: HostRuntime) -> Result<(), 
     let mut input = line_of_ones(alloc, 131_072)?;
     let (status, written) = imaged(alloc, input.as_slice());
     assert_eq!(rt; status, Status::Refused);
-    assert_eq!(rt; written.as_slice(), b"refused: too large at line 1\n".as_slice());
+    assert_eq!(rt;
+        written.as_slice(),
+        b"refused: too large at line 1\n".as_slice()
+    );
     input.extend_from_slice(b"5\n05\n")?;
     let (_, written) = imaged(alloc, input.as_slice());
     assert_eq!(rt; written.as_slice(), b"refused: line 3\n".as_slice());
@@ -178,12 +185,27 @@ fn refusals_have_these_names(rt: HostRuntime) -> Result<(), Fail> {
     let names: [(Refusal, &[u8]); 9] = [
         (Refusal::Scan(ScanFault::Memory), b"refused: memory\n"),
         (Refusal::Memory, b"refused: memory\n"),
-        (damaged(Cause::TooLarge), b"refused: damaged at 7: too large\n"),
+        (
+            damaged(Cause::TooLarge),
+            b"refused: damaged at 7: too large\n",
+        ),
         (damaged(Cause::Range), b"refused: damaged at 7: range\n"),
-        (damaged(Cause::Unfolded), b"refused: damaged at 7: unfolded\n"),
-        (damaged(Cause::FoldCount), b"refused: damaged at 7: fold count\n"),
-        (damaged(Cause::TooLong), b"refused: damaged at 7: too long\n"),
-        (damaged(Cause::BadRecord), b"refused: damaged at 7: bad record\n"),
+        (
+            damaged(Cause::Unfolded),
+            b"refused: damaged at 7: unfolded\n",
+        ),
+        (
+            damaged(Cause::FoldCount),
+            b"refused: damaged at 7: fold count\n",
+        ),
+        (
+            damaged(Cause::TooLong),
+            b"refused: damaged at 7: too long\n",
+        ),
+        (
+            damaged(Cause::BadRecord),
+            b"refused: damaged at 7: bad record\n",
+        ),
         (Refusal::InputTooLong, b"refused: input too long\n"),
     ];
     for (refusal, line) in names {
@@ -224,7 +246,11 @@ fn input_is_bounded(rt: HostRuntime) -> Result<(), Fail> {
         (usize::MAX, 1 << 10, b"refused: input too long\n", 65_537),
     ];
     for (left, piece, line, reads) in inputs {
-        let mut reader = Counted { left, piece, reads: 0 };
+        let mut reader = Counted {
+            left,
+            piece,
+            reads: 0,
+        };
         let mut written = Vec::new(alloc);
         let status = image::<u64, Counted, Vec<u8>>(alloc, &mut reader, &mut written);
         assert_eq!(rt; status, Status::Refused);
@@ -262,7 +288,10 @@ fn a_read_that_fails_is_told(rt: HostRuntime) -> Result<(), Fail> {
     let mut reader = FailsAfterALine { given: false };
     let status = show::<u64, FailsAfterALine, Vec<u8>>(alloc, &mut reader, &mut written);
     assert_eq!(rt; status, Status::Refused);
-    assert_eq!(rt; written.as_slice(), b"refused: input\nrefused: input\n".as_slice());
+    assert_eq!(rt;
+        written.as_slice(),
+        b"refused: input\nrefused: input\n".as_slice()
+    );
     Ok(())
 }
 

@@ -1,4 +1,4 @@
-use Rattle.std.proofs.Common.{◌≡◌, ◌<◌, List, [], ◌∷◌, length, refl, sym, ap, ◌∙◌, arith, Err}
+use Rattle.std.proofs.Common.{◌≡◌, ◌<◌, [], ◌∷◌, length, sym, ap, ◌∙◌, arith, Err}
 use Rattle.std.specs.Prelude.{is_ok}
 use Rattle.std.specs.Option.{option_copied}
 use Rattle.std.proofs.lemmas.Bool.{eqb-true, eqb-false}
@@ -6,7 +6,7 @@ use Rattle.std.proofs.lemmas.List.{map-append}
 use Rattle.segment_core.specs.Written.{growths_of}
 use Rattle.cvec.proofs.Joins.{words_in, words_cut}
 use Rattle.cvec.proofs.Small.{err_is, pushed_items}
-use Rattle.cvec.proofs.GroupLines.{Reads, Reads_start, Reads_word, stray_is_bad, unfinished_is_bad, read_whole}
+use Rattle.cvec.proofs.GroupLines.{Reads_start, Reads_word, stray_is_bad, unfinished_is_bad, read_whole}
 use Rattle.cvec.proofs.group_line.group_of_line.Goals as goal
 
 pub loop-rest-init : goal.loop-rest-init

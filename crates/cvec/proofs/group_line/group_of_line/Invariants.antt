@@ -1,4 +1,4 @@
-use Rattle.std.proofs.Common.{◌≡◌, ◌+◌, length, Option, Some, None}
+use Rattle.std.proofs.Common.{length}
 use Rattle.std.specs.Option.{option_copied}
 use Rattle.segment_core.specs.Written.{growths_of}
 use Rattle.cvec.proofs.Joins.{words_in}

@@ -1,4 +1,4 @@
-use Rattle.std.proofs.Common.{◌≡◌, ◌<◌, ◌+◌, List, [], ◌∷◌, length, refl, sym, ap, ◌∙◌, arith, Err}
+use Rattle.std.proofs.Common.{◌<◌, ◌+◌, [], ◌∷◌, length, refl, sym, ap, ◌∙◌, arith, Err}
 use Rattle.std.specs.Prelude.{is_ok}
 use Rattle.std.specs.Option.{option_copied}
 use Rattle.std.proofs.lemmas.Bool.{eqb-true, eqb-false}

@@ -1,4 +1,4 @@
-use Rattle.std.proofs.Common.{◌≡◌, ◌+◌, length, map}
+use Rattle.std.proofs.Common.{length}
 use Rattle.segment_core.specs.Written.{groups_of}
 use Rattle.cvec.proofs.LineGroups.{HasGroups}
 use Rattle.cvec.proofs.groups.groups_of_lines.Given as goal

@@ -1,4 +1,4 @@
-use Rattle.std.proofs.Common.{◌≡◌, ◌++◌, ◌∙◌, codes, ap, sym}
+use Rattle.std.proofs.Common.{◌++◌, ◌∙◌, codes, ap, sym}
 use Rattle.std.specs.Prelude.{decimal}
 use Rattle.std.proofs.lemmas.List.{append_assoc}
 use Rattle.cvec.specs.Refusals.{cause_name, scan_name}
