@@ -1,5 +1,5 @@
 -- What the engines write for an input, where a reader and a writer tell their bytes.
-use Rattle.std.specs.Prelude.{◌≡◌, ℕ, List, Option}
+use Rattle.std.specs.Prelude.{◌≡◌, ℕ, ◌≤◌, List, length, Option, ◌⊎◌}
 use Rattle.std.specs.Io.KnownBytes.{Appends}
 use Rattle.hex.specs.Hex.{encode_lower}
 use Rattle.segment_core.specs.Frame.{Frame}
@@ -11,21 +11,22 @@ use Rattle.cvec.specs.declared.status.Status.TheVariants.{Done, Refused, OutputF
 use Rattle.cvec.specs.GroupLine.{AreGroupLines}
 use Rattle.cvec.specs.HexLine.{IsHexLine}
 use Rattle.cvec.specs.Text.{ended_line, record_lines}
-use Rattle.cvec.specs.Refusals.{refusal_line, IsImageRefusal, IsShowRefusal}
+use Rattle.cvec.specs.Refusals.{refusal_line, input_limit, IsInputRefusal, IsImageRefusal, IsShowRefusal}
 
 -- the hex of the file of the groups that the input spells
 abbrev pub IsImageHex : {R : Type 0} → ℕ → (R → List ℕ) → (R → Type 0) → (R → List ℕ) → List ℕ → List ℕ → Type 0
 IsImageHex {R} width bytes_of is_value text_of input hex =
     (groups : List (List (List R))) × AreGroupLines is_value text_of input groups × AllFit width groups × (hex ≡ encode_lower (file_of width bytes_of groups))
 
--- that hex as a line
+-- that hex as a line, of an input within the bound
 abbrev pub WritesImage : {R : Type 0} → ℕ → (R → List ℕ) → (R → Type 0) → (R → List ℕ) → List ℕ → Option (List ℕ) → Option (List ℕ) → Type 0
 WritesImage width bytes_of is_value text_of input old new =
-    (hex : List ℕ) × IsImageHex width bytes_of is_value text_of input hex × Appends old new (ended_line hex)
+    (hex : List ℕ) × IsImageHex width bytes_of is_value text_of input hex × (length input ≤ input_limit) × Appends old new (ended_line hex)
 
+-- the line of a refusal: of the reader's bytes as they came, or of an input within the bound
 abbrev pub WritesImageRefusal : {R : Type 0} → ℕ → (R → Type 0) → (R → List ℕ) → List ℕ → Option (List ℕ) → Option (List ℕ) → Type 0
 WritesImageRefusal width is_value text_of input old new =
-    (refusal : Refusal) × IsImageRefusal width is_value text_of input refusal × Appends old new (refusal_line refusal)
+    (refusal : Refusal) × IsImageRefusal width is_value text_of input refusal × (IsInputRefusal input refusal ⊎ (length input ≤ input_limit)) × Appends old new (refusal_line refusal)
 
 -- how an image engine may end, and what it has written then
 abbrev pub IsImageRun : {R : Type 0} → ℕ → (R → List ℕ) → (R → Type 0) → (R → List ℕ) → List ℕ → Option (List ℕ) → Option (List ℕ) → Status → Type 0
@@ -39,11 +40,11 @@ abbrev pub IsVectorOfHex : {R : Type 0} → ℕ → (List ℕ → Option R) → 
 IsVectorOfHex width value_of input records =
     (image : List ℕ) × (frames : List Frame) × IsHexLine input image × HasVector width value_of image frames records
 
--- its records, one a line
+-- its records, one a line, of an input within the bound
 abbrev pub WritesVector : {R : Type 0} → ℕ → (List ℕ → Option R) → (R → List ℕ) → List ℕ → Option (List ℕ) → Option (List ℕ) → Type 0
 WritesVector {R} width value_of text_of input old new =
-    (records : List R) × IsVectorOfHex width value_of input records × Appends old new (record_lines text_of records)
+    (records : List R) × IsVectorOfHex width value_of input records × (length input ≤ input_limit) × Appends old new (record_lines text_of records)
 
 abbrev pub WritesShowRefusal : {R : Type 0} → ℕ → (List ℕ → Option R) → List ℕ → Option (List ℕ) → Option (List ℕ) → Type 0
 WritesShowRefusal width value_of input old new =
-    (refusal : Refusal) × IsShowRefusal width value_of input refusal × Appends old new (refusal_line refusal)
+    (refusal : Refusal) × IsShowRefusal width value_of input refusal × (IsInputRefusal input refusal ⊎ (length input ≤ input_limit)) × Appends old new (refusal_line refusal)
