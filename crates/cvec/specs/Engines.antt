@@ -1,11 +1,12 @@
 -- What the engines write for an input, where a reader and a writer tell their bytes.
 use Rattle.std.specs.Prelude.{◌≡◌, ℕ, ◌≤◌, List, length, Option, ◌⊎◌}
-use Rattle.std.specs.Io.KnownBytes.{Appends}
+use Rattle.std.specs.Io.KnownBytes.{Appends, Keeps}
 use Rattle.hex.specs.Hex.{encode_lower}
 use Rattle.segment_core.specs.Frame.{Frame}
 use Rattle.segment_core.specs.Vector.{HasVector}
 use Rattle.segment_core.specs.Written.{file_of, AllFit}
 use Rattle.cvec.specs.declared.refusal.Refusal.{Refusal}
+use Rattle.cvec.specs.declared.refusal.Refusal.TheVariants as refusals
 use Rattle.cvec.specs.declared.status.Status.{Status}
 use Rattle.cvec.specs.declared.status.Status.TheVariants.{Done, Refused, OutputFailed, Usage}
 use Rattle.cvec.specs.GroupLine.{AreGroupLines}
@@ -48,3 +49,17 @@ WritesVector {R} width value_of text_of input old new =
 abbrev pub WritesShowRefusal : {R : Type 0} → ℕ → (List ℕ → Option R) → List ℕ → Option (List ℕ) → Option (List ℕ) → Type 0
 WritesShowRefusal width value_of input old new =
     (refusal : Refusal) × IsShowRefusal width value_of input refusal × (IsInputRefusal input refusal ⊎ (length input ≤ input_limit)) × Appends old new (refusal_line refusal)
+
+-- how a show engine may end, and what it has written then
+abbrev pub IsShowRun : {R : Type 0} → ℕ → (List ℕ → Option R) → (R → List ℕ) → List ℕ → Option (List ℕ) → Option (List ℕ) → Status → Type 0
+IsShowRun width value_of text_of input old new Done = WritesVector width value_of text_of input old new
+IsShowRun width value_of text_of input old new Refused = WritesShowRefusal width value_of input old new
+IsShowRun width value_of text_of input old new OutputFailed = Unit {0}
+IsShowRun width value_of text_of input old new Usage = ⊥
+
+-- the program gave no engine its work: memory was refused, or the words ask for nothing
+abbrev pub IsIdleRun : Option (List ℕ) → Option (List ℕ) → Status → Type 0
+IsIdleRun old new Done = ⊥
+IsIdleRun old new Refused = Appends old new (refusal_line refusals.Memory)
+IsIdleRun old new OutputFailed = Unit {0}
+IsIdleRun old new Usage = Keeps old new

@@ -21,7 +21,7 @@ use crate::refusal::{Refusal, refuse};
 use crate::status::Status;
 use std::alloc::Global;
 use std::env;
-use std::io::{self, BufWriter};
+use std::io::{self, BufWriter, ErrorKind};
 use std::process::ExitCode;
 
 const OUTPUT_BUFFER_LEN: usize = 65_536;
@@ -29,6 +29,7 @@ const OUTPUT_BUFFER_LEN: usize = 65_536;
 fn main(rt: HostRuntime) -> ExitCode {
     let status = match run_here(&rt) {
         Ok(status) => status,
+        Err(error) if error.kind() == ErrorKind::InvalidData => Status::Usage,
         Err(_) => refuse(&mut io::writer(&rt), Refusal::Memory),
     };
     if status == Status::Usage {
@@ -37,8 +38,8 @@ fn main(rt: HostRuntime) -> ExitCode {
     ExitCode::from(status.code())
 }
 
-/// Runs the words that the program was started with over standard input and output. An error: memory was
-/// refused before anything was read.
+/// Runs the words that the program was started with over standard input and output. An error comes before
+/// anything was read: a word is no UTF-8 (`InvalidData`), or memory was refused.
 fn run_here(rt: &HostRuntime) -> io::Result<Status> {
     let alloc = rt.alloc();
     let words: Vec<String> = env::args(rt)?.skip(1).collect(alloc)?;

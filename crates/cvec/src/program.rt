@@ -1,8 +1,8 @@
 //! The words that the program takes, read by `clap`.
 
-ghost use Rattle.std.specs.Prelude.{◌≡◌, [], IfSome};
+ghost use Rattle.std.specs.Prelude.{◌≡◌, [], IfSome, ◌⊎◌};
 ghost use Rattle.std.specs.Io.KnownBytes.{Keeps};
-ghost use Rattle.cvec.specs.Engines.{IsImageRun};
+ghost use Rattle.cvec.specs.Engines.{IsImageRun, IsShowRun, IsIdleRun};
 
 use crate::image::image;
 use crate::refusal::{Refusal, refuse};
@@ -61,6 +61,12 @@ pub fn run<'a, S: AsStr, I: Read, W: Write>(
     ensures no_words { words.now ≡ [] → IfSome (I.remaining reader.old) (λ input.
         IsImageRun ⟦<u64 as Record>⟧.WIDTH ⟦<u64 as Record>⟧.bytes_of ⟦<u64 as TextRecord>⟧.is_value ⟦<u64 as TextRecord>⟧.text_of
         input (W.contents writer.old) (W.contents writer.new) result) }
+    ensures ends { IfSome (I.remaining reader.old) (λ input.
+        IsImageRun ⟦<u64 as Record>⟧.WIDTH ⟦<u64 as Record>⟧.bytes_of ⟦<u64 as TextRecord>⟧.is_value ⟦<u64 as TextRecord>⟧.text_of
+        input (W.contents writer.old) (W.contents writer.new) result
+        ⊎ (IsShowRun ⟦<u64 as Record>⟧.WIDTH ⟦<u64 as Record>⟧.value_of ⟦<u64 as TextRecord>⟧.text_of
+        input (W.contents writer.old) (W.contents writer.new) result
+        ⊎ IsIdleRun (W.contents writer.old) (W.contents writer.new) result)) }
     ensures usage { result ≡ Status.Usage → Keeps (W.contents writer.old) (W.contents writer.new) }
 {
     if words.is_empty() {

@@ -51,7 +51,7 @@ pub fn append_records<R: Record>(records: &[R], out: &mut Vec<u8>) -> Result<(),
 }
 
 /// Appends the `count` records that these bytes are. Whatever is answered, the records from before stand
-/// first; behind them are those read before the refusal.
+/// first; behind them stand those that were read.
 pub fn read_records<R: Record>(
     bytes: &[u8],
     count: usize,
