@@ -5,9 +5,11 @@
 //! and that the bytes of record i stand at i times the width (both of them).
 #![tactic(auto)]
 
+mod limit;
 mod number;
 mod record;
 mod records;
 
+pub use limit::PAYLOAD_LIMIT;
 pub use record::Record;
 pub use records::{RecordsFault, append_records, read_records};

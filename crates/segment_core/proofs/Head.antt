@@ -9,7 +9,8 @@ use Rattle.segment_core.specs.declared.fault.Cause.TheVariants.{NoGate, ShortFra
 use Rattle.segment_core.specs.declared.fault.ScanFault.{ScanFault}
 use Rattle.segment_core.specs.declared.format.FrameKind.{FrameKind}
 use Rattle.segment_core.specs.declared.format.FrameKind.TheVariants as kinds
-use Rattle.segment_core.specs.Frame.{Group, is_built, payload_of, payload_limit, frame_text}
+use Rattle.record_core.specs.Limits.{payload_limit}
+use Rattle.segment_core.specs.Frame.{Group, is_built, payload_of, frame_text}
 use Rattle.segment_core.specs.Kind.{kind_byte}
 use Rattle.segment_core.specs.Layout.{count_in, lengths_in, homes_in, frame_in, is_group_layout, is_layout}
 use Rattle.segment_core.specs.Fault.{first_line, frame_lines, is_closed, damaged, kind_in, payload_len_in, payload_in}

@@ -4,7 +4,8 @@ use Rattle.std.specs.Prelude.{not, nat_lt}
 use Rattle.std.proofs.lemmas.Bool.{le-ltb, ne_eqb}
 use Rattle.std.proofs.lemmas.List.{length-append}
 use Rattle.segment_core.specs.declared.fault.ScanFault.{ScanFault}
-use Rattle.segment_core.specs.Frame.{Frame, kind_of, payload_of, payload_limit, frame_text}
+use Rattle.record_core.specs.Limits.{payload_limit}
+use Rattle.segment_core.specs.Frame.{Frame, kind_of, payload_of, frame_text}
 use Rattle.segment_core.specs.Layout.{IsFrame, is_layout, frame_in}
 use Rattle.segment_core.specs.Tally.{Tally, MayFollow}
 use Rattle.segment_core.specs.Fault.{first_line, frame_lines, order_lines, frame_fault, is_closed, kind_in, payload_len_in, payload_in}

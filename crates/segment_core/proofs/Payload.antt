@@ -6,7 +6,8 @@ use Rattle.std.specs.Int.{w32, to_le_bytes}
 use Rattle.std.proofs.lemmas.Bool.{leb-true, le-leb, ltb-true, lt-ltb, eqb-true, eq-eqb}
 use Rattle.std.proofs.lemmas.List.{take_at, drop_at, drop-drop, take-append-drop, length-append, length-drop}
 use Rattle.record_core.specs.Bytes.{IsBytes}
-use Rattle.segment_core.specs.Frame.{Frame, Group, Change, Shrink, Fold, kind_of, payload_of, payload_limit, frame_text}
+use Rattle.record_core.specs.Limits.{payload_limit}
+use Rattle.segment_core.specs.Frame.{Frame, Group, Change, Shrink, Fold, kind_of, payload_of, frame_text}
 use Rattle.segment_core.specs.Layout.{IsLength, IsFrame, u32_at, numbers_in, count_in, lengths_in, homes_in, frame_in, is_group_layout, is_layout}
 use Rattle.segment_core.specs.Fault.{kind_in, payload_len_in, payload_in}
 use Rattle.segment_core.proofs.Numbers.{IsBytes-drop, u32_at_first, u32_at-drop, u32_written, length-numbers_in, length-numbers_text, numbers_in-written, numbers_text-numbers_in, both_true, true_both, lengths_positive, positive_lengths}

@@ -6,7 +6,8 @@ use Rattle.std.proofs.lemmas.Bool.{le-ltb}
 use Rattle.std.proofs.lemmas.List.{append-nil, length-append, length-map, drop_at, drop-drop, drop-append-le, take-append-le, length-drop}
 use Rattle.record_core.specs.Cells.{cell, AreReadAgain}
 use Rattle.record_core.proofs.Cells.{length-flat_map_bytes, AreRecords_written}
-use Rattle.segment_core.specs.Frame.{Frame, Group, payload_of, payload_limit, header, frame_text}
+use Rattle.record_core.specs.Limits.{payload_limit}
+use Rattle.segment_core.specs.Frame.{Frame, Group, payload_of, header, frame_text}
 use Rattle.segment_core.specs.Layout.{IsLength, IsFrame}
 use Rattle.segment_core.specs.Tally.{Tally, nothing, after, tally_from, tally_of, AreLegalFrom}
 use Rattle.segment_core.specs.Image.{HasFrames}

@@ -9,7 +9,8 @@ use Rattle.std.proofs.lemmas.List.Concat.{flat_map-append, length-flat_map}
 use Rattle.std.proofs.lemmas.List.Sums.{sum-map}
 use Rattle.record_core.specs.Cells.{AreReadAgain}
 use Rattle.record_core.proofs.Cells.{length-flat_map_bytes}
-use Rattle.segment_core.specs.Frame.{payload_of, payload_limit, frame_text, text}
+use Rattle.record_core.specs.Limits.{payload_limit}
+use Rattle.segment_core.specs.Frame.{payload_of, frame_text, text}
 use Rattle.segment_core.specs.Written.{growths_of, groups_of, joined, all_records, group_frame, payload_len, AllFit}
 use Rattle.segment_core.proofs.Payload.{length-group_payload}
 use Rattle.segment_core.proofs.Longest.{text_push}

@@ -1,6 +1,6 @@
 -- What changes a vector, and the list that is left.
 use Rattle.std.specs.Prelude.{ℕ, ◌+◌, ◌*◌, ◌≤◌, ◌<◌, ◌^◌, List, [], ◌∷◌, ◌++◌, length, take, drop}
-use Rattle.segment_core.specs.Frame.{payload_limit}
+use Rattle.record_core.specs.Limits.{payload_limit}
 
 -- Grow appends, Shrink keeps the first records, Change replaces the records from a position on.
 pub data Command (R : Type 0) : Type 0 where

@@ -7,7 +7,8 @@ use Rattle.segment_core.specs.declared.fault.Cause.{Cause}
 use Rattle.segment_core.specs.declared.fault.Cause.TheVariants.{NoGate, ShortFrame, Kind, TooLarge, Layout, Range, Unfolded, FoldCount, TooLong, BadRecord}
 use Rattle.segment_core.specs.declared.fault.ScanFault.{ScanFault}
 use Rattle.segment_core.specs.declared.fault.ScanFault.TheVariants.{Unborn, NotSegment, Version, Width, Damaged, Memory}
-use Rattle.segment_core.specs.Frame.{Frame, text, is_built, payload_limit}
+use Rattle.record_core.specs.Limits.{payload_limit}
+use Rattle.segment_core.specs.Frame.{Frame, text, is_built}
 use Rattle.segment_core.specs.Layout.{u32_at, is_layout, frame_in}
 use Rattle.segment_core.specs.Tally.{Tally, tally_of, is_outside, is_unfolded, is_miscounted, is_too_long}
 use Rattle.segment_core.specs.Image.{IsLongest}

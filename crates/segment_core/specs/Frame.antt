@@ -1,5 +1,5 @@
 -- The text of a segment file: the header, then the frames, each behind its gate.
-use Rattle.std.specs.Prelude.{ℕ, ◌^◌, Bool, List, ◌∷◌, ◌++◌, length, codes, ◌==◌}
+use Rattle.std.specs.Prelude.{ℕ, Bool, List, ◌∷◌, ◌++◌, length, codes, ◌==◌}
 use Rattle.std.specs.List.{flat_map}
 use Rattle.std.specs.Int.{w16, w32, w64, to_le_bytes}
 
@@ -29,10 +29,6 @@ payload_of (Group lengths bytes) = to_le_bytes w32 (length lengths) ++ (flat_map
 payload_of (Change start bytes) = to_le_bytes w64 start ++ bytes
 payload_of (Shrink n) = to_le_bytes w64 n
 payload_of (Fold count) = to_le_bytes w64 count
-
--- the bytes of a payload at most
-abbrev pub payload_limit : ℕ
-payload_limit = 2 ^ 20
 
 -- an open gate, the kind, the payload's length and the payload
 abbrev pub frame_text : Frame → List ℕ

@@ -2,7 +2,8 @@
 use Rattle.std.specs.Prelude.{◌≡◌, ℕ, zero, suc, ◌+◌, ◌-◌, ◌*◌, ◌%◌, ◌<◌, ◌≤◌, ◌^◌, Bool, true, List, [], ◌∷◌, length, take, drop, sum, nat_le, nat_lt, ◌==◌, ◌&&◌, if◌then◌else◌}
 use Rattle.std.specs.List.{AllByRecursion, list_all}
 use Rattle.std.specs.Int.{w32, w64, from_le_bytes}
-use Rattle.segment_core.specs.Frame.{Frame, Group, Change, Shrink, Fold, kind_of, payload_of, payload_limit, is_built}
+use Rattle.record_core.specs.Limits.{payload_limit}
+use Rattle.segment_core.specs.Frame.{Frame, Group, Change, Shrink, Fold, kind_of, payload_of, is_built}
 
 -- a growth's length as it stands in a Group
 abbrev pub IsLength : ℕ → Type 0

@@ -1,7 +1,8 @@
 -- A frame where it stands in an image, and what a reader of it knows.
 use Rattle.std.specs.Prelude.{◌≡◌, ◌≤◌, ◌<◌, ℕ, ◌+◌, ◌*◌, ◌^◌, ◌/◌, true, false, List, [], ◌++◌, length, sum, Option, Some, None, Result, Ok, Err}
 use Rattle.segment_core.specs.declared.fault.ScanFault.{ScanFault}
-use Rattle.segment_core.specs.Frame.{Frame, Group, Change, Shrink, Fold, payload_of, payload_limit, frame_text}
+use Rattle.record_core.specs.Limits.{payload_limit}
+use Rattle.segment_core.specs.Frame.{Frame, Group, Change, Shrink, Fold, payload_of, frame_text}
 use Rattle.segment_core.specs.Layout.{IsFrame}
 use Rattle.segment_core.specs.Fault.{first_line, frame_lines, is_closed}
 

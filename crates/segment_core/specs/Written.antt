@@ -4,7 +4,8 @@ use Rattle.std.specs.Global.{Vec}
 use Rattle.std.specs.List.{flat_map, AllByRecursion}
 use Rattle.segment_core.specs.declared.fault.ImageFault.{ImageFault}
 use Rattle.segment_core.specs.declared.fault.ImageFault.TheVariants.{TooLarge, Memory}
-use Rattle.segment_core.specs.Frame.{Frame, Group, text, payload_limit}
+use Rattle.record_core.specs.Limits.{payload_limit}
+use Rattle.segment_core.specs.Frame.{Frame, Group, text}
 
 -- groups of growths as lists
 abbrev pub growths_of : {R : Type 0} → List (Vec R) → List (List R)

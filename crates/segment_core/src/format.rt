@@ -6,9 +6,6 @@ ghost use Rattle.segment_core.specs.Frame.{is_built};
 /// The version of the files that are written and read.
 pub const VERSION: u8 = 1;
 
-/// The bytes of a frame's payload at most.
-pub const PAYLOAD_LIMIT: usize = 1_048_576;
-
 /// The records of a vector at most.
 pub const RECORD_LIMIT: u64 = 4_294_967_296;
 

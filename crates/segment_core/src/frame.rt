@@ -2,12 +2,14 @@
 
 ghost use Rattle.std.specs.Prelude.{◌≡◌, ◌≤◌, ◌<◌, ◌+◌, ◌*◌, ◌-◌, ◌^◌, ◌++◌, ℕ, List, true, false, length, take, drop, sum, slice_index, nat_lt, MatchOption};
 ghost use Rattle.std.specs.List.{list_all};
-ghost use Rattle.segment_core.specs.Frame.{Frame, kind_of, payload_of, frame_text, payload_limit};
+ghost use Rattle.record_core.specs.Limits.{payload_limit};
+ghost use Rattle.segment_core.specs.Frame.{Frame, kind_of, payload_of, frame_text};
 ghost use Rattle.segment_core.specs.Layout.{IsFrame, u32_at, numbers_in, count_in, lengths_in, is_group_layout};
 ghost use Rattle.segment_core.specs.Reading.{IsNext, BeginsWith, lengths_of, record_bytes_of, record_count};
 
 use crate::fault::{Cause, ScanFault};
-use crate::format::{FRAME_HEAD_LEN, FrameKind, OPEN, PAYLOAD_LIMIT, VERSION};
+use crate::format::{FRAME_HEAD_LEN, FrameKind, OPEN, VERSION};
+use record_core::PAYLOAD_LIMIT;
 use std::marker::Model;
 
 /// A whole open frame of an image.

@@ -4,15 +4,14 @@ ghost use Rattle.std.specs.Prelude.{◌≡◌, ◌≤◌, ◌<◌, ◌^◌, ◌+
 ghost use Rattle.std.specs.List.{flat_map};
 ghost use Rattle.std.specs.Int.{w32, to_le_bytes};
 ghost use Rattle.record_core.specs.Cells.{AreReadAgain};
-ghost use Rattle.segment_core.specs.Frame.{frame_text, header, payload_limit};
+ghost use Rattle.record_core.specs.Limits.{payload_limit};
+ghost use Rattle.segment_core.specs.Frame.{frame_text, header};
 ghost use Rattle.segment_core.specs.Vector.{HasVector};
 ghost use Rattle.segment_core.specs.Written.{AreFilled, AllFit, growths_of, groups_of, group_frame, file_of, joined, all_records, payload_len, IsImageRefused};
 
 use crate::fault::ImageFault;
-use crate::format::{
-    CLOSED, FRAME_HEAD_LEN, FrameKind, HEADER_LEN, MAGIC, OPEN, PAYLOAD_LIMIT, VERSION,
-};
-use record_core::{Record, append_records};
+use crate::format::{CLOSED, FRAME_HEAD_LEN, FrameKind, HEADER_LEN, MAGIC, OPEN, VERSION};
+use record_core::{PAYLOAD_LIMIT, Record, append_records};
 use std::alloc::{AllocError, Global};
 
 /// Makes the file of these growths: the header, a group frame for each group, and a closed gate. Its memory is

@@ -12,7 +12,7 @@ mod vector;
 mod walk;
 
 pub use fault::{Cause, ImageFault, ScanFault};
-pub use format::{FrameKind, PAYLOAD_LIMIT, RECORD_LIMIT, VERSION};
+pub use format::{FrameKind, RECORD_LIMIT, VERSION};
 pub use frame::FrameReader;
 pub use image::write_image;
 pub use vector::{Scanned, scan};

@@ -2,7 +2,7 @@ use Rattle.std.proofs.Common.{◌≡◌, ◌≤◌, ◌<◌, ◌+◌, ◌^◌, �
 use Rattle.std.proofs.lemmas.Bool.{eqb-true, eqb-false}
 use Rattle.std.proofs.lemmas.List.{length-take}
 use Rattle.record_core.specs.Bytes.{IsBytes}
-use Rattle.segment_core.specs.Frame.{payload_limit}
+use Rattle.record_core.specs.Limits.{payload_limit}
 use Rattle.segment_core.specs.Kind.{kind_byte}
 use Rattle.segment_core.specs.Layout.{count_in, lengths_in, frame_in, is_group_layout}
 use Rattle.segment_core.specs.Fault.{kind_in, payload_len_in, payload_in}

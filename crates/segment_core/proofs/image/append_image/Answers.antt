@@ -2,7 +2,8 @@ use Rattle.std.proofs.Common.{◌≤◌, ◌++◌, ◌∷◌, [], List, ℕ, tak
 use Rattle.std.specs.Global.{Vec}
 use Rattle.std.proofs.lemmas.List.{take_all}
 use Rattle.record_core.specs.Cells.{AreReadAgain}
-use Rattle.segment_core.specs.Frame.{frame_text, text, payload_limit}
+use Rattle.record_core.specs.Limits.{payload_limit}
+use Rattle.segment_core.specs.Frame.{frame_text, text}
 use Rattle.segment_core.specs.Written.{growths_of, groups_of, group_frame, all_records, joined, payload_len}
 use Rattle.segment_core.proofs.Written.{groups_more, all_records_push, text_more, fits_at, AreReadAgain-append}
 use Rattle.segment_core.proofs.image.append_image.Goals as goal

@@ -1,5 +1,5 @@
 use Rattle.std.proofs.Common.{◌≡◌, ◌≤◌, take}
-use Rattle.segment_core.specs.Frame.{payload_limit}
+use Rattle.record_core.specs.Limits.{payload_limit}
 use Rattle.segment_core.specs.Written.{growths_of, payload_len}
 use Rattle.segment_core.proofs.image.payload_size.Given as goal
 
