@@ -1,5 +1,5 @@
 -- Which calls a fuse lets pass.
-use Rattle.std.specs.Prelude.{ℕ, zero, suc, ◌≡◌, ◌<◌, ◌+◌, List, Result, OnErr, IsErr}
+use Rattle.std.specs.Prelude.{ℕ, zero, suc, ◌≡◌, ◌+◌, List, Result, IsErr}
 use Rattle.disk_core.specs.declared.fault.DiskFault.{DiskFault}
 use Rattle.disk_core.specs.declared.blow.Blow.TheVariants.{Stop, FailOnce}
 use Rattle.disk_core.specs.declared.blow.Fuse.{Fuse}
@@ -8,6 +8,7 @@ use Rattle.disk_core.specs.declared.blow.Fate.{Fate}
 use Rattle.disk_core.specs.declared.blow.Fate.TheVariants.{Passes, Fails, Breaks}
 use Rattle.disk_core.specs.State.{State}
 use Rattle.disk_core.specs.Calls.{Writes}
+use Rattle.disk_core.specs.Fault.{IsCounted}
 use Rattle.disk_core.specs.Moments.{clock}
 
 -- what becomes of the next call
@@ -31,10 +32,10 @@ MatchFate Passes passed failed broken = passed
 MatchFate Fails passed failed broken = failed
 MatchFate (Breaks arriving) passed failed broken = broken arriving
 
--- the call reached the disk below, and fails only where that one has failed
-pub record HasPassed {D T : Type 0} (states : D → List State) (faults : D → ℕ) (old new : D) (result : Result T DiskFault) : Type 0 where
+-- the call reached the disk below, and fails where that one has failed, and there alone
+pub record HasPassed {D T : Type 0} (states : D → List State) (faults : D → ℕ) (kind : DiskFault) (old new : D) (result : Result T DiskFault) : Type 0 where
   pub time : clock (states new) ≡ clock (states old) + 1
-  pub cause : OnErr result (faults old < faults new)
+  pub cause : IsCounted kind (faults old) (faults new) result
 
 -- the call failed, and nothing of it reached the disk below
 pub record HasFailed {D T : Type 0} (old new : D) (result : Result T DiskFault) : Type 0 where

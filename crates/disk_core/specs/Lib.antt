@@ -9,3 +9,6 @@ pub mod Choice
 pub mod Fuse
 pub mod FuseDisk
 pub mod RamDisk
+pub mod FileTruth
+pub mod File
+pub mod FileDisk

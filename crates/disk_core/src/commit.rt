@@ -21,13 +21,13 @@ pub(crate) fn commit<D: Disk>(
     requires gate_fits { gate + 1 < 2 ^ 64 }
 
     // Whenever it is stopped, the disk is as before outside of the body, or as after but for the gate.
-    ensures any_moment { D.keeps disk.old → LeavesOnly (D.states disk.old) (D.states disk.new)
+    ensures any_moment { D.keeps disk.new → LeavesOnly (D.states disk.old) (D.states disk.new)
         (IsBeforeOrAfter (now (D.states disk.old)) at body.now gate) }
-    ensures done { D.keeps disk.old
+    ensures done { D.keeps disk.new
         → OnOk result (D.states disk.new ≡ gate_synced at body.now gate byte (D.states disk.old)) }
 
     // Once it is done, a crash leaves what a read gives.
-    ensures settled { D.keeps disk.old → OnOk result ((image : List ℕ)
+    ensures settled { D.keeps disk.new → OnOk result ((image : List ℕ)
         → IsImage (now (D.states disk.new)) image → image ≡ bytes_of (D.states disk.new)) }
 {
     disk.write_at(at, body)?;

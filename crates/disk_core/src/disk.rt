@@ -1,4 +1,4 @@
-ghost use Rattle.std.specs.Prelude.{◌≡◌, ◌+◌, ◌<◌, ◌≤◌, ◌^◌, ◌↔◌, ◌∷◌, List, ℕ, length, slice_range, IfOk, OnOk, OnErr};
+ghost use Rattle.std.specs.Prelude.{◌≡◌, ◌+◌, ◌<◌, ◌≤◌, ◌^◌, ◌∷◌, List, ℕ, length, slice_range, IfOk, OnOk, OnErr};
 ghost use Rattle.disk_core.specs.declared.fault.DiskFault.TheVariants.{Length, Read, Write, Sync};
 ghost use Rattle.disk_core.specs.State.{State, now, IsImage};
 ghost use Rattle.disk_core.specs.Calls.{bytes_of, Stays, Writes, TearsWrite, Settles};
@@ -10,7 +10,7 @@ use crate::DiskFault;
 /// One file of bytes that may lose what was not synced. Places and lengths are in bytes.
 ///
 /// A call may fail at any time. Whatever it did is told by its clauses: those on the clock and on faults hold of
-/// every disk, those on bytes and on what a crash may leave of one that keeps the model.
+/// every disk, those on bytes and on what a crash may leave of one that has kept the model.
 pub trait Disk {
     /// What the disk was at each moment so far, the newest first: each call adds one, and nothing else does.
     /// The clock, and what a crash now or at some moment may leave, are read from this list.
@@ -19,26 +19,28 @@ pub trait Disk {
     /// How often a call has failed.
     ghost faults: { Self → ℕ };
 
-    /// The disk keeps the model: what its clauses say of bytes is so. No call changes that.
+    /// The disk has kept the model so far: what its clauses say of bytes was so. Of a disk in memory that always
+    /// holds. Of a real file no program can know beforehand what it will answer: there a call whose answer is not
+    /// the model's ends it, and no later call brings it back.
     ghost keeps: { Self → Type 0 };
 
     /// The length in bytes. Nothing changes.
     fn len(&mut self) -> Result<u64, DiskFault>
-        ensures value { keeps self.old → IfOk result (λ n. n ≡ length (bytes_of (states self.old))) }
+        ensures value { keeps self.new → IfOk result (λ n. n ≡ length (bytes_of (states self.old))) }
         ensures same { keeps self.old → Stays (states self.old) (states self.new) }
         ensures time { clock (states self.new) ≡ clock (states self.old) + 1 }
         ensures cause { IsCounted Length (faults self.old) (faults self.new) result }
-        ensures model { keeps self.new ↔ keeps self.old };
+        ensures model { keeps self.new → keeps self.old };
 
     /// Fills `out` with the bytes that stand from `at` on. Where it fails, `out` may hold anything.
     fn read_at(&mut self, at: u64, out: &mut [u8]) -> Result<(), DiskFault>
         requires { keeps self.old → at + length out.old ≤ length (bytes_of (states self.old)) }
-        ensures value { keeps self.old
+        ensures value { keeps self.new
             → OnOk result (out.new ≡ slice_range (bytes_of (states self.old)) at (at + length out.old)) }
         ensures same { keeps self.old → Stays (states self.old) (states self.new) }
         ensures time { clock (states self.new) ≡ clock (states self.old) + 1 }
         ensures cause { IsCounted Read (faults self.old) (faults self.new) result }
-        ensures model { keeps self.new ↔ keeps self.old };
+        ensures model { keeps self.new → keeps self.old };
 
     /// Writes `bytes` from `at` on, over what is there and past the end. Until a sync succeeds, a crash may leave
     /// anything in their place. Where it fails, a read too may give anything in their place, and the disk may have
@@ -48,11 +50,11 @@ pub trait Disk {
         requires fits { at + length bytes.now < 2 ^ 64 }
         ensures done { keeps self.old
             → OnOk result (Writes at bytes.now (states self.old) (states self.new)) }
-        ensures torn { keeps self.old
+        ensures torn { keeps self.new
             → OnErr result (TearsWrite at (length bytes.now) (states self.old) (states self.new)) }
         ensures time { clock (states self.new) ≡ clock (states self.old) + 1 }
         ensures cause { IsCounted Write (faults self.old) (faults self.new) result }
-        ensures model { keeps self.new ↔ keeps self.old };
+        ensures model { keeps self.new → keeps self.old };
 
     /// After it succeeds, a crash leaves what a read gives. After it fails, what it might have left before.
     fn sync(&mut self) -> Result<(), DiskFault>
@@ -60,7 +62,7 @@ pub trait Disk {
         ensures same { keeps self.old → OnErr result (Stays (states self.old) (states self.new)) }
         ensures time { clock (states self.new) ≡ clock (states self.old) + 1 }
         ensures cause { IsCounted Sync (faults self.old) (faults self.new) result }
-        ensures model { keeps self.new ↔ keeps self.old };
+        ensures model { keeps self.new → keeps self.old };
 
     /// A crash may leave the bytes as they read.
     ghost reads_an_image: { (disk : Self) → keeps disk

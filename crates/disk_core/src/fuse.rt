@@ -52,7 +52,7 @@ impl<D: Disk> FuseDisk<D> {
 
 impl<D: Disk> Disk for FuseDisk<D> {
     ghost use Rattle.std.proofs.Common.{subst, sym};
-    ghost use Rattle.std.specs.Prelude.{◌+◌, ◌<◌, ◌≤◌, ◌^◌, ◌↔◌, ◌∷◌, length, take, slice_range, IfOk, OnOk, OnErr};
+    ghost use Rattle.std.specs.Prelude.{◌+◌, ◌<◌, ◌≤◌, ◌^◌, ◌∷◌, length, take, slice_range, IfOk, OnOk, OnErr};
     ghost use Rattle.disk_core.specs.State.{IsImage};
     ghost use Rattle.disk_core.specs.Calls.{bytes_of, Stays, Writes, TearsWrite, Settles};
     ghost use Rattle.disk_core.specs.Moments.{clock};
@@ -70,16 +70,16 @@ impl<D: Disk> Disk for FuseDisk<D> {
         subst (λ s. IsImage s s.seen) (sym disk.latest) (D.reads_an_image disk.inner model) };
 
     fn len(&mut self) -> Result<u64, DiskFault>
-        ensures value { D.keeps (below self.old)
+        ensures value { D.keeps (below self.new)
             → IfOk result (λ n. n ≡ length (bytes_of (states_of self.old))) }
         ensures same { D.keeps (below self.old) → Stays (states_of self.old) (states_of self.new) }
         ensures time { clock (states_of self.new) ≡ clock (states_of self.old) + 1 }
         ensures cause { IsCounted DiskFault.Length (faults_of self.old) (faults_of self.new) result }
-        ensures model { D.keeps (below self.new) ↔ D.keeps (below self.old) }
+        ensures model { D.keeps (below self.new) → D.keeps (below self.old) }
 
         ensures burns { fuse_of self.new ≡ burnt (fuse_of self.old) }
         ensures reaches { MatchFate (fate_of (fuse_of self.old))
-            (HasPassed D.states D.faults (below self.old) (below self.new) result)
+            (HasPassed D.states D.faults DiskFault.Length (below self.old) (below self.new) result)
             (HasFailed (below self.old) (below self.new) result)
             (λ _. HasFailed (below self.old) (below self.new) result) }
     {
@@ -94,16 +94,16 @@ impl<D: Disk> Disk for FuseDisk<D> {
     fn read_at(&mut self, at: u64, out: &mut [u8]) -> Result<(), DiskFault>
         requires { D.keeps (below self.old)
             → at + length out.old ≤ length (bytes_of (states_of self.old)) }
-        ensures value { D.keeps (below self.old)
+        ensures value { D.keeps (below self.new)
             → OnOk result (out.new ≡ slice_range (bytes_of (states_of self.old)) at (at + length out.old)) }
         ensures same { D.keeps (below self.old) → Stays (states_of self.old) (states_of self.new) }
         ensures time { clock (states_of self.new) ≡ clock (states_of self.old) + 1 }
         ensures cause { IsCounted DiskFault.Read (faults_of self.old) (faults_of self.new) result }
-        ensures model { D.keeps (below self.new) ↔ D.keeps (below self.old) }
+        ensures model { D.keeps (below self.new) → D.keeps (below self.old) }
 
         ensures burns { fuse_of self.new ≡ burnt (fuse_of self.old) }
         ensures reaches { MatchFate (fate_of (fuse_of self.old))
-            (HasPassed D.states D.faults (below self.old) (below self.new) result)
+            (HasPassed D.states D.faults DiskFault.Read (below self.old) (below self.new) result)
             (HasFailed (below self.old) (below self.new) result)
             (λ _. HasFailed (below self.old) (below self.new) result) }
     {
@@ -120,15 +120,15 @@ impl<D: Disk> Disk for FuseDisk<D> {
         requires fits { at + length bytes.now < 2 ^ 64 }
         ensures done { D.keeps (below self.old)
             → OnOk result (Writes at bytes.now (states_of self.old) (states_of self.new)) }
-        ensures torn { D.keeps (below self.old)
+        ensures torn { D.keeps (below self.new)
             → OnErr result (TearsWrite at (length bytes.now) (states_of self.old) (states_of self.new)) }
         ensures time { clock (states_of self.new) ≡ clock (states_of self.old) + 1 }
         ensures cause { IsCounted DiskFault.Write (faults_of self.old) (faults_of self.new) result }
-        ensures model { D.keeps (below self.new) ↔ D.keeps (below self.old) }
+        ensures model { D.keeps (below self.new) → D.keeps (below self.old) }
 
         ensures burns { fuse_of self.new ≡ burnt (fuse_of self.old) }
         ensures reaches { MatchFate (fate_of (fuse_of self.old))
-            (HasPassed D.states D.faults (below self.old) (below self.new) result)
+            (HasPassed D.states D.faults DiskFault.Write (below self.old) (below self.new) result)
             (HasFailed (below self.old) (below self.new) result)
             (λ arriving. HasBroken D.states D.faults D.keeps at (take arriving bytes.now)
             (below self.old) (below self.new) result) }
@@ -153,11 +153,11 @@ impl<D: Disk> Disk for FuseDisk<D> {
             → OnErr result (Stays (states_of self.old) (states_of self.new)) }
         ensures time { clock (states_of self.new) ≡ clock (states_of self.old) + 1 }
         ensures cause { IsCounted DiskFault.Sync (faults_of self.old) (faults_of self.new) result }
-        ensures model { D.keeps (below self.new) ↔ D.keeps (below self.old) }
+        ensures model { D.keeps (below self.new) → D.keeps (below self.old) }
 
         ensures burns { fuse_of self.new ≡ burnt (fuse_of self.old) }
         ensures reaches { MatchFate (fate_of (fuse_of self.old))
-            (HasPassed D.states D.faults (below self.old) (below self.new) result)
+            (HasPassed D.states D.faults DiskFault.Sync (below self.old) (below self.new) result)
             (HasFailed (below self.old) (below self.new) result)
             (λ _. HasFailed (below self.old) (below self.new) result) }
     {

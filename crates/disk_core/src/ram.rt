@@ -59,7 +59,7 @@ impl RamDisk {
 
 impl Disk for RamDisk {
     ghost use Rattle.std.proofs.Common.{subst, sym};
-    ghost use Rattle.std.specs.Prelude.{◌<◌, ◌≤◌, ◌^◌, ◌↔◌, length, slice_range, IsOk, OnOk, OnErr};
+    ghost use Rattle.std.specs.Prelude.{◌<◌, ◌≤◌, ◌^◌, length, slice_range, IsOk, OnOk, OnErr};
     ghost use Rattle.disk_core.specs.Calls.{bytes_of, Stays, Writes, TearsWrite, Settles};
     ghost use Rattle.disk_core.specs.Moments.{clock};
     ghost use Rattle.disk_core.specs.Fault.{IsCounted};

@@ -1,0 +1,169 @@
+//! A disk that is a file of the operating system.
+ghost use Rattle.std.specs.Prelude.{◌≡◌};
+ghost use Rattle.disk_core.specs.State.{now, IsImage};
+ghost use Rattle.disk_core.specs.File.{file_states, HasAgreed};
+
+use crate::file_event::FileEvent;
+use crate::log::Log;
+use crate::snapshot::Snapshot;
+use crate::truth::Truth;
+use crate::{Disk, DiskFault, Extent};
+use std::fs::{File, OpenFile, OpenOptions};
+use std::io;
+use std::os::unix::fs::FileExt;
+use std::path::Path;
+use std::rt::Files;
+
+/// A disk over a real file, by std's `File`. Places and lengths may be up to 2^48 bytes. It has no buffer of its
+/// own: a read or a write of any length is one call of the system. Where that call is interrupted or does a part
+/// only, it goes on from there until all is done, and what can't be finished is a fault.
+///
+/// What a file holds no program can know, so its meaning as a disk is read from two values that take no memory: the
+/// calls so far with their answers, and what no call tells (`FileTruth`): the bytes that the file held when it was
+/// opened, and those that a failed write left. The contracts of `Disk` hold whatever these are, as long as the
+/// answers agree with them. Before the first sync nothing of the file is known to be on the disk.
+///
+/// **Its user's premise**, which no proof shows, is that the file keeps the model: nobody else writes, shortens or
+/// replaces it while the disk is in use; a read gives what was written last, and the length is what the writes made
+/// it; after a sync that succeeded the device has these bytes and the length, and a crash leaves them, but for the
+/// ranges written since, where it may leave anything, and nothing is changed outside of these.
+#[derive(Drop)]
+pub struct FileDisk<F: FileExt + OpenFile + Drop = File> {
+    file: F,
+    /// Once a sync has failed the system may have dropped what it could not write, and a later sync would succeed
+    /// without it. So all later ones fail.
+    sync_failed: bool,
+    truth: Truth,
+    log: Log<FileEvent, Snapshot>,
+    ghost readable: { HasAgreed truth.facts log.items
+        → IsImage (now (file_states truth.facts log.items)) (now (file_states truth.facts log.items)).seen },
+}
+
+impl<F: FileExt + OpenFile + Drop> FileDisk<F> {
+    ghost use Rattle.std.specs.Prelude.{[], ◌∷◌, IfOk};
+    ghost use Rattle.disk_core.specs.File.{opened};
+    ghost use Rattle.disk_core.specs.FileTruth.{FileTruth};
+    ghost use Rattle.disk_core.specs.FileDisk.{truth_of, states_of, faults_of};
+
+    /// Opens the file at `path` for reading and writing. Its bytes stay. What the system refuses is answered as its
+    /// error: a file that isn't there, a folder, a lack of permission.
+    pub fn open<R: Files<File = F>>(rt: &R, path: &str) -> io::Result<FileDisk<F>>
+        ghost truth: { FileTruth }
+        ensures truth { IfOk result (λ disk. truth_of disk ≡ truth) }
+        ensures states { IfOk result (λ disk. states_of disk ≡ opened truth.held ∷ []) }
+        ensures faults { IfOk result (λ disk. faults_of disk ≡ 0) }
+    {
+        let file = OpenOptions::new().read(true).write(true).open(rt, path)?;
+        Ok(FileDisk::over(file))
+    }
+
+    /// Opens the file at `path`, and makes an empty one where there is none. Bytes that are there stay. The folder is
+    /// synced, so that a crash does not take the new name away; where that fails its error is answered, and the file
+    /// stays.
+    pub fn make<R: Files<File = F>>(rt: &R, path: &str) -> io::Result<FileDisk<F>>
+        ghost truth: { FileTruth }
+        ensures truth { IfOk result (λ disk. truth_of disk ≡ truth) }
+        ensures states { IfOk result (λ disk. states_of disk ≡ opened truth.held ∷ []) }
+        ensures faults { IfOk result (λ disk. faults_of disk ≡ 0) }
+    {
+        let file = OpenOptions::new()
+            .read(true)
+            .write(true)
+            .create(true)
+            .open(rt, path)?;
+        sync_folder(rt, path)?;
+        Ok(FileDisk::over(file))
+    }
+
+    /// A disk over an open file.
+    pub(crate) fn over(file: F) -> FileDisk<F>
+        ghost truth: { FileTruth }
+        ensures truth { truth_of result ≡ truth }
+        ensures states { states_of result ≡ opened truth.held ∷ [] }
+        ensures faults { faults_of result ≡ 0 }
+    {
+        FileDisk {
+            file,
+            sync_failed: false,
+            truth: Truth::any(),
+            log: Log::new(),
+        }
+    }
+}
+
+/// Syncs the folder of `path`, by `fsync`: a new name is durable only then.
+fn sync_folder<R: Files>(rt: &R, path: &str) -> io::Result<()> {
+    let folder = match Path::new(path).parent() {
+        Some(folder) if !folder.as_str().is_empty() => folder,
+        _ => Path::new("."),
+    };
+    File::open(rt, folder)?.sync_all()
+}
+
+impl<F: FileExt + OpenFile + Drop> Disk for FileDisk<F> {
+    ghost use Rattle.disk_core.specs.FileDisk.{states_of, faults_of, KeepsSoFar};
+
+    ghost states = { states_of };
+
+    ghost faults = { faults_of };
+
+    ghost keeps = { KeepsSoFar };
+
+    ghost reads_an_image = { λ disk agreed. disk.readable agreed };
+
+    fn len(&mut self) -> Result<u64, DiskFault> {
+        match self.file.metadata() {
+            Ok(metadata) => {
+                let len = metadata.len();
+                self.log = self.log.and(&FileEvent::Measured(len), &Snapshot::of(&[]));
+                Ok(len)
+            }
+            Err(_) => {
+                self.log = self.log.and(&FileEvent::Failed, &Snapshot::of(&[]));
+                Err(DiskFault::Length)
+            }
+        }
+    }
+
+    fn read_at(&mut self, at: u64, out: &mut [u8]) -> Result<(), DiskFault> {
+        match self.file.read_exact_at(out, at) {
+            Ok(()) => {
+                self.log = self.log.and(&FileEvent::Read(at), &Snapshot::of(out));
+                Ok(())
+            }
+            Err(_) => {
+                self.log = self.log.and(&FileEvent::Failed, &Snapshot::of(&[]));
+                Err(DiskFault::Read)
+            }
+        }
+    }
+
+    fn write_at(&mut self, at: u64, bytes: &[u8]) -> Result<(), DiskFault> {
+        match self.file.write_all_at(bytes, at) {
+            Ok(()) => {
+                self.log = self.log.and(&FileEvent::Written(at), &Snapshot::of(bytes));
+                Ok(())
+            }
+            Err(_) => {
+                let len = bytes.len() as u64;
+                self.log = self
+                    .log
+                    .and(&FileEvent::Torn(Extent { at, len }), &Snapshot::of(&[]));
+                Err(DiskFault::Write)
+            }
+        }
+    }
+
+    /// By `fdatasync`: it writes the bytes and, where the length has grown, the length. It leaves out what no read
+    /// needs, as the times of the file, so a sync of bytes in place costs no change of the file system's own records.
+    fn sync(&mut self) -> Result<(), DiskFault> {
+        if !self.sync_failed && self.file.sync_data().is_ok() {
+            self.log = self.log.and(&FileEvent::Synced, &Snapshot::of(&[]));
+            Ok(())
+        } else {
+            self.sync_failed = true;
+            self.log = self.log.and(&FileEvent::Failed, &Snapshot::of(&[]));
+            Err(DiskFault::Sync)
+        }
+    }
+}

@@ -1,0 +1,222 @@
+//! Disks over real files, and over files that do a part of what they are asked.
+ghost use Rattle.std.specs.Prelude.{◌≡◌, ◌≤◌, [], ◌∷◌, IfOk};
+ghost use Rattle.disk_core.specs.File.{opened};
+ghost use Rattle.disk_core.specs.FileDisk.{states_of};
+
+use crate::{Disk, DiskFault, FileDisk};
+use std::fs::{self, File, Metadata, OpenFile, Permissions};
+use std::io;
+use std::os::unix::fs::{FileExt, MetadataExt, PermissionsExt};
+use std::sync::atomic::{AtomicU64, Ordering};
+use std::test::Fail;
+
+/// Opens a file that held whatever it held.
+fn open(rt: &HostRuntime, path: &str) -> io::Result<FileDisk> {
+    FileDisk::open(rt, path)
+}
+
+/// Makes a file, or opens one that held whatever it held.
+fn make(rt: &HostRuntime, path: &str) -> io::Result<FileDisk> {
+    FileDisk::make(rt, path)
+}
+
+/// Reads inside the length.
+fn read<D: Disk>(disk: &mut D, at: u64, out: &mut [u8]) -> Result<(), DiskFault> {
+    let len = disk.len()?;
+    if at > len || len - at < out.len() as u64 {
+        return Err(DiskFault::Read);
+    }
+    disk.read_at(at, out)
+}
+
+/// Writes inside the length, or at its end.
+fn write<D: Disk>(disk: &mut D, at: u64, bytes: &[u8]) -> Result<(), DiskFault> {
+    let len = disk.len()?;
+    if at > len || u64::MAX - at < bytes.len() as u64 {
+        return Err(DiskFault::Write);
+    }
+    disk.write_at(at, bytes)
+}
+
+#[test]
+fn a_file_is_made_and_opened_again(rt: HostRuntime) -> Result<(), Fail> {
+    let path = "made_and_opened_again";
+    let _ = fs::remove_file(&rt, path);
+    let mut disk = make(&rt, path)?;
+    assert_eq!(rt; disk.len()?, 0);
+    write(&mut disk, 0, &[1, 2, 3, 4])?;
+    disk.sync()?;
+    write(&mut disk, 3, &[5, 6])?;
+    disk.sync()?;
+    drop(disk);
+
+    let mut disk = open(&rt, path)?;
+    assert_eq!(rt; disk.len()?, 5);
+    let mut bytes = [0; 3];
+    read(&mut disk, 2, &mut bytes)?;
+    assert_eq!(rt; bytes, [3, 5, 6]);
+    assert_eq!(rt; fs::read(&rt, path)?.as_slice(), [1, 2, 3, 5, 6].as_slice());
+
+    let mut disk = make(&rt, path)?;
+    assert_eq!(rt; disk.len()?, 5);
+    assert_eq!(rt; fs::read(&rt, path)?.as_slice(), [1, 2, 3, 5, 6].as_slice());
+    fs::remove_file(&rt, path)?;
+    Ok(())
+}
+
+#[test]
+fn places_past_4_gib_are_places_of_their_own(rt: HostRuntime) -> Result<(), Fail> {
+    let path = "past_4_gib";
+    let _ = fs::remove_file(&rt, path);
+    File::create(&rt, path)?.set_len(5 << 30)?;
+    let mut disk = open(&rt, path)?;
+    assert_eq!(rt; disk.len()?, 5 << 30);
+    write(&mut disk, (4 << 30) + 7, &[7, 8])?;
+    write(&mut disk, 5 << 30, &[9])?;
+    disk.sync()?;
+    drop(disk);
+
+    let mut disk = open(&rt, path)?;
+    assert_eq!(rt; disk.len()?, (5 << 30) + 1);
+    let mut bytes = [0; 4];
+    read(&mut disk, (4 << 30) + 6, &mut bytes)?;
+    assert_eq!(rt; bytes, [0, 7, 8, 0]);
+    read(&mut disk, 6, &mut bytes)?;
+    assert_eq!(rt; bytes, [0, 0, 0, 0]);
+    let mut last = [0];
+    File::open(&rt, path)?.read_exact_at(&mut last, 5 << 30)?;
+    assert_eq!(rt; last, [9]);
+    fs::remove_file(&rt, path)?;
+    Ok(())
+}
+
+/// Why no disk was opened.
+fn kind_of(answer: io::Result<FileDisk>) -> Option<io::ErrorKind> {
+    answer.err().map(|error| error.kind())
+}
+
+#[test]
+fn what_cannot_be_opened_is_refused(rt: HostRuntime) -> Result<(), Fail> {
+    let folder = "a_folder";
+    let _ = fs::remove_dir_all(&rt, folder);
+    fs::create_dir(&rt, folder)?;
+    let is_folder = Some(io::ErrorKind::IsADirectory);
+    let missing = Some(io::ErrorKind::NotFound);
+    assert_eq!(rt; kind_of(open(&rt, folder)), is_folder);
+    assert_eq!(rt; kind_of(make(&rt, folder)), is_folder);
+    assert_eq!(rt; kind_of(open(&rt, "a_folder/none")), missing);
+    assert_eq!(rt; kind_of(make(&rt, "a_folder/none/none")), missing);
+    assert!(rt; !fs::exists(&rt, "a_folder/none")?);
+
+    let path = "a_folder/locked";
+    fs::write(&rt, path, b"kept".as_slice())?;
+    fs::set_permissions(&rt, path, Permissions::from_mode(0))?;
+    let is_root = fs::metadata(&rt, "/proc/self")?.uid() == 0;
+    let denied = Some(io::ErrorKind::PermissionDenied);
+    assert_eq!(rt;
+        kind_of(open(&rt, path)),
+        if is_root { None } else { denied }
+    );
+    fs::remove_dir_all(&rt, folder)?;
+    Ok(())
+}
+
+#[test]
+fn a_device_that_takes_no_writes_fails_each_call_in_its_kind(rt: HostRuntime) -> Result<(), Fail> {
+    let path = "/dev/full";
+    if !fs::exists(&rt, path)? {
+        return Ok(());
+    }
+    let mut disk = open(&rt, path)?;
+    assert_eq!(rt; disk.len(), Ok(0));
+    assert_eq!(rt; disk.write_at(0, &[1]), Err(DiskFault::Write));
+    assert_eq!(rt; disk.sync(), Err(DiskFault::Sync));
+    Ok(())
+}
+
+/// A file that does one byte a call up to its end and nothing past it, is interrupted before each call that does
+/// something, and doesn't sync.
+#[derive(Drop)]
+struct Halting {
+    calls: AtomicU64,
+    end: u64,
+}
+
+impl Halting {
+    fn step(&self, at: u64) -> io::Result<usize>
+        ensures { IfOk result (λ n. n ≤ 1) }
+    {
+        if self.calls.fetch_add(1, Ordering::SeqCst) % 2 == 0 {
+            return Err(io::ErrorKind::Interrupted.into());
+        }
+        Ok(usize::from(at < self.end))
+    }
+}
+
+impl FileExt for Halting {
+    fn read_at(&self, buf: &mut [u8], offset: u64) -> io::Result<usize> {
+        let count = self.step(offset)?;
+        if buf.is_empty() || count == 0 {
+            return Ok(0);
+        }
+        buf[0] = offset as u8;
+        Ok(1)
+    }
+
+    fn write_at(&self, buf: &[u8], offset: u64) -> io::Result<usize> {
+        Ok(self.step(offset)?.min(buf.len()))
+    }
+}
+
+impl OpenFile for Halting {
+    fn metadata(&self) -> io::Result<Metadata> {
+        Err(io::ErrorKind::Unsupported.into())
+    }
+
+    fn set_len(&self, _size: u64) -> io::Result<()> {
+        Err(io::ErrorKind::Unsupported.into())
+    }
+
+    fn sync_all(&self) -> io::Result<()> {
+        self.sync_data()
+    }
+
+    /// Fails at first, and would succeed later.
+    fn sync_data(&self) -> io::Result<()> {
+        if self.calls.fetch_add(1, Ordering::SeqCst) == 0 {
+            return Err(io::ErrorKind::Other.into());
+        }
+        Ok(())
+    }
+}
+
+/// A disk over such a file, which held five bytes.
+fn over_halting(end: u64) -> FileDisk<Halting>
+    ensures { states_of result ≡ opened (0 ∷ 1 ∷ 2 ∷ 3 ∷ 4 ∷ []) ∷ [] }
+{
+    FileDisk::over(Halting {
+        calls: AtomicU64::new(0),
+        end,
+    })
+}
+
+#[test]
+fn what_is_done_in_part_is_finished_or_a_fault(rt: HostRuntime) {
+    let mut bytes = [9; 4];
+    assert_eq!(rt; over_halting(4).read_at(0, &mut bytes), Ok(()));
+    assert_eq!(rt; bytes, [0, 1, 2, 3]);
+    assert_eq!(rt;
+        over_halting(4).read_at(1, &mut bytes),
+        Err(DiskFault::Read)
+    );
+    assert_eq!(rt; over_halting(4).write_at(0, &bytes), Ok(()));
+    assert_eq!(rt; over_halting(4).write_at(1, &bytes), Err(DiskFault::Write));
+    assert_eq!(rt; over_halting(4).len(), Err(DiskFault::Length));
+}
+
+#[test]
+fn a_sync_that_failed_is_not_asked_for_again(rt: HostRuntime) {
+    let mut disk = over_halting(0);
+    assert_eq!(rt; disk.sync(), Err(DiskFault::Sync));
+    assert_eq!(rt; disk.sync(), Err(DiskFault::Sync));
+}
