@@ -5,3 +5,5 @@ pub mod CallLemmas
 pub mod CommitLemmas
 mod ContentsLemmas
 mod LogLemmas
+pub mod FileLemmas
+pub mod FuseLemmas

@@ -11,7 +11,7 @@ use crate::{Disk, DiskFault, Extent};
 use std::fs::{File, OpenFile, OpenOptions};
 use std::io;
 use std::os::unix::fs::FileExt;
-use std::path::Path;
+use std::path::{AsPath, Path};
 use std::rt::Files;
 
 /// A disk over a real file, by std's `File`. Places and lengths may be up to 2^48 bytes. It has no buffer of its
@@ -47,10 +47,8 @@ impl<F: FileExt + OpenFile + Drop> FileDisk<F> {
 
     /// Opens the file at `path` for reading and writing. Its bytes stay. What the system refuses is answered as its
     /// error: a file that isn't there, a folder, a lack of permission.
-    pub fn open<R: Files<File = F>>(rt: &R, path: &str) -> io::Result<FileDisk<F>>
-        ghost truth: { FileTruth }
-        ensures truth { IfOk result (λ disk. truth_of disk ≡ truth) }
-        ensures states { IfOk result (λ disk. states_of disk ≡ opened truth.held ∷ []) }
+    pub fn open<R: Files<File = F>, P: AsPath>(rt: &R, path: P) -> io::Result<FileDisk<F>>
+        ensures states { IfOk result (λ disk. states_of disk ≡ opened (truth_of disk).held ∷ []) }
         ensures faults { IfOk result (λ disk. faults_of disk ≡ 0) }
     {
         let file = OpenOptions::new().read(true).write(true).open(rt, path)?;
@@ -60,23 +58,21 @@ impl<F: FileExt + OpenFile + Drop> FileDisk<F> {
     /// Opens the file at `path`, and makes an empty one where there is none. Bytes that are there stay. The folder is
     /// synced, so that a crash does not take the new name away; where that fails its error is answered, and the file
     /// stays.
-    pub fn make<R: Files<File = F>>(rt: &R, path: &str) -> io::Result<FileDisk<F>>
-        ghost truth: { FileTruth }
-        ensures truth { IfOk result (λ disk. truth_of disk ≡ truth) }
-        ensures states { IfOk result (λ disk. states_of disk ≡ opened truth.held ∷ []) }
+    pub fn make<R: Files<File = F>, P: AsPath>(rt: &R, path: P) -> io::Result<FileDisk<F>>
+        ensures states { IfOk result (λ disk. states_of disk ≡ opened (truth_of disk).held ∷ []) }
         ensures faults { IfOk result (λ disk. faults_of disk ≡ 0) }
     {
         let file = OpenOptions::new()
             .read(true)
             .write(true)
             .create(true)
-            .open(rt, path)?;
-        sync_folder(rt, path)?;
+            .open(rt, path.path_text())?;
+        sync_folder(rt, path.path_text())?;
         Ok(FileDisk::over(file))
     }
 
-    /// A disk over an open file.
-    pub(crate) fn over(file: F) -> FileDisk<F>
+    /// A disk over a file that is open for reading and writing. Its contract holds whatever the file held.
+    pub fn over(file: F) -> FileDisk<F>
         ghost truth: { FileTruth }
         ensures truth { truth_of result ≡ truth }
         ensures states { states_of result ≡ opened truth.held ∷ [] }

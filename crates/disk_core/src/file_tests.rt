@@ -10,16 +10,6 @@ use std::os::unix::fs::{FileExt, MetadataExt, PermissionsExt};
 use std::sync::atomic::{AtomicU64, Ordering};
 use std::test::Fail;
 
-/// Opens a file that held whatever it held.
-fn open(rt: &HostRuntime, path: &str) -> io::Result<FileDisk> {
-    FileDisk::open(rt, path)
-}
-
-/// Makes a file, or opens one that held whatever it held.
-fn make(rt: &HostRuntime, path: &str) -> io::Result<FileDisk> {
-    FileDisk::make(rt, path)
-}
-
 /// Reads inside the length.
 fn read<D: Disk>(disk: &mut D, at: u64, out: &mut [u8]) -> Result<(), DiskFault> {
     let len = disk.len()?;
@@ -42,7 +32,7 @@ fn write<D: Disk>(disk: &mut D, at: u64, bytes: &[u8]) -> Result<(), DiskFault> 
 fn a_file_is_made_and_opened_again(rt: HostRuntime) -> Result<(), Fail> {
     let path = "made_and_opened_again";
     let _ = fs::remove_file(&rt, path);
-    let mut disk = make(&rt, path)?;
+    let mut disk = FileDisk::make(&rt, path)?;
     assert_eq!(rt; disk.len()?, 0);
     write(&mut disk, 0, &[1, 2, 3, 4])?;
     disk.sync()?;
@@ -50,14 +40,14 @@ fn a_file_is_made_and_opened_again(rt: HostRuntime) -> Result<(), Fail> {
     disk.sync()?;
     drop(disk);
 
-    let mut disk = open(&rt, path)?;
+    let mut disk = FileDisk::open(&rt, path)?;
     assert_eq!(rt; disk.len()?, 5);
     let mut bytes = [0; 3];
     read(&mut disk, 2, &mut bytes)?;
     assert_eq!(rt; bytes, [3, 5, 6]);
     assert_eq!(rt; fs::read(&rt, path)?.as_slice(), [1, 2, 3, 5, 6].as_slice());
 
-    let mut disk = make(&rt, path)?;
+    let mut disk = FileDisk::make(&rt, path)?;
     assert_eq!(rt; disk.len()?, 5);
     assert_eq!(rt; fs::read(&rt, path)?.as_slice(), [1, 2, 3, 5, 6].as_slice());
     fs::remove_file(&rt, path)?;
@@ -69,14 +59,14 @@ fn places_past_4_gib_are_places_of_their_own(rt: HostRuntime) -> Result<(), Fail
     let path = "past_4_gib";
     let _ = fs::remove_file(&rt, path);
     File::create(&rt, path)?.set_len(5 << 30)?;
-    let mut disk = open(&rt, path)?;
+    let mut disk = FileDisk::open(&rt, path)?;
     assert_eq!(rt; disk.len()?, 5 << 30);
     write(&mut disk, (4 << 30) + 7, &[7, 8])?;
     write(&mut disk, 5 << 30, &[9])?;
     disk.sync()?;
     drop(disk);
 
-    let mut disk = open(&rt, path)?;
+    let mut disk = FileDisk::open(&rt, path)?;
     assert_eq!(rt; disk.len()?, (5 << 30) + 1);
     let mut bytes = [0; 4];
     read(&mut disk, (4 << 30) + 6, &mut bytes)?;
@@ -102,10 +92,10 @@ fn what_cannot_be_opened_is_refused(rt: HostRuntime) -> Result<(), Fail> {
     fs::create_dir(&rt, folder)?;
     let is_folder = Some(io::ErrorKind::IsADirectory);
     let missing = Some(io::ErrorKind::NotFound);
-    assert_eq!(rt; kind_of(open(&rt, folder)), is_folder);
-    assert_eq!(rt; kind_of(make(&rt, folder)), is_folder);
-    assert_eq!(rt; kind_of(open(&rt, "a_folder/none")), missing);
-    assert_eq!(rt; kind_of(make(&rt, "a_folder/none/none")), missing);
+    assert_eq!(rt; kind_of(FileDisk::open(&rt, folder)), is_folder);
+    assert_eq!(rt; kind_of(FileDisk::make(&rt, folder)), is_folder);
+    assert_eq!(rt; kind_of(FileDisk::open(&rt, "a_folder/none")), missing);
+    assert_eq!(rt; kind_of(FileDisk::make(&rt, "a_folder/none/none")), missing);
     assert!(rt; !fs::exists(&rt, "a_folder/none")?);
 
     let path = "a_folder/locked";
@@ -114,7 +104,7 @@ fn what_cannot_be_opened_is_refused(rt: HostRuntime) -> Result<(), Fail> {
     let is_root = fs::metadata(&rt, "/proc/self")?.uid() == 0;
     let denied = Some(io::ErrorKind::PermissionDenied);
     assert_eq!(rt;
-        kind_of(open(&rt, path)),
+        kind_of(FileDisk::open(&rt, path)),
         if is_root { None } else { denied }
     );
     fs::remove_dir_all(&rt, folder)?;
@@ -127,7 +117,7 @@ fn a_device_that_takes_no_writes_fails_each_call_in_its_kind(rt: HostRuntime) ->
     if !fs::exists(&rt, path)? {
         return Ok(());
     }
-    let mut disk = open(&rt, path)?;
+    let mut disk = FileDisk::open(&rt, path)?;
     assert_eq!(rt; disk.len(), Ok(0));
     assert_eq!(rt; disk.write_at(0, &[1]), Err(DiskFault::Write));
     assert_eq!(rt; disk.sync(), Err(DiskFault::Sync));
@@ -159,7 +149,7 @@ impl FileExt for Halting {
         if buf.is_empty() || count == 0 {
             return Ok(0);
         }
-        buf[0] = offset as u8;
+        buf[0] = (offset % 256) as u8;
         Ok(1)
     }
 
@@ -190,11 +180,17 @@ impl OpenFile for Halting {
     }
 }
 
-/// A disk over such a file, which held five bytes.
+/// A disk over a file that held five bytes.
+fn with_five_bytes<F: FileExt + OpenFile + Drop>(file: F) -> FileDisk<F>
+    ensures { states_of result ≡ opened (0 ∷ 1 ∷ 2 ∷ 3 ∷ 4 ∷ []) ∷ [] }
+{
+    FileDisk::over(file)
+}
+
 fn over_halting(end: u64) -> FileDisk<Halting>
     ensures { states_of result ≡ opened (0 ∷ 1 ∷ 2 ∷ 3 ∷ 4 ∷ []) ∷ [] }
 {
-    FileDisk::over(Halting {
+    with_five_bytes(Halting {
         calls: AtomicU64::new(0),
         end,
     })
