@@ -1,9 +1,13 @@
 //! A key with a flag as a record.
 
-ghost use Rattle.std.specs.Prelude.{◌++◌, false};
-ghost use Rattle.std.specs.Int.{w64, to_le_bytes};
+ghost use Rattle.std.specs.Prelude.{false, nat_eq};
+ghost use Rattle.std.specs.Cmp.{unsigned_Decides, booleans_Decides};
+ghost use Rattle.std.specs.Int.{w64};
 ghost use Rattle.std.proofs.Common.{rules, refl};
-ghost use Rattle.record_core.specs.Bytes.{unsigned, flag, flag_bytes, joined};
+ghost use Rattle.std.proofs.Math.Bool.{beq};
+ghost use Rattle.std.proofs.lemmas.Nat.{le_bytes_8};
+ghost use Rattle.record_core.specs.Bytes.{flagged, flagged_parts, unsigned, boolean};
+ghost use Rattle.record_core.specs.WritesBack.{unsigned_back, boolean_back, joined_back, joined_exact};
 
 use crate::record::Record;
 
@@ -20,9 +24,9 @@ impl Record for Flagged {
 
     ghost WIDTH = { 9 };
 
-    ghost bytes_of = { λ flagged. to_le_bytes w64 flagged.key ++ flag_bytes flagged.flag };
+    ghost bytes_of = { flagged.bytes_of };
 
-    ghost value_of = { joined (λ key set. record { key = key; flag = set }) 8 (unsigned w64) flag };
+    ghost value_of = { flagged.value_of };
 
     ghost blank_value = { record { key = 0; flag = false } };
 
@@ -52,7 +56,7 @@ impl Record for Flagged {
 
     ghost width_of_bytes = { λ _. refl };
 
-    ghost writes_back = { ? };
+    ghost writes_back = { joined_back flagged_parts (unsigned w64) boolean (unsigned_back w64 le_bytes_8) boolean_back };
 
-    ghost exact = { ? };
+    ghost exact = { joined_exact flagged_parts nat_eq beq (λ x y. (unsigned_Decides x y).0) (λ x y. (booleans_Decides x y).0) };
 }

@@ -1,9 +1,13 @@
 //! A key with a number as a record.
 
-ghost use Rattle.std.specs.Prelude.{◌++◌, pos};
-ghost use Rattle.std.specs.Int.{w64, to_le_bytes};
+ghost use Rattle.std.specs.Prelude.{pos, nat_eq};
+ghost use Rattle.std.specs.Cmp.{unsigned_Decides, signed_Decides};
+ghost use Rattle.std.specs.Int.{w64};
+ghost use Rattle.std.specs.Ordering.{int_eq};
 ghost use Rattle.std.proofs.Common.{rules, refl};
-ghost use Rattle.record_core.specs.Bytes.{unsigned, signed, signed_bytes, joined};
+ghost use Rattle.std.proofs.lemmas.Nat.{le_bytes_8};
+ghost use Rattle.record_core.specs.Bytes.{pair, pair_parts, unsigned, signed};
+ghost use Rattle.record_core.specs.WritesBack.{unsigned_back, signed_back, joined_back, joined_exact};
 
 use crate::record::Record;
 
@@ -20,9 +24,9 @@ impl Record for Pair {
 
     ghost WIDTH = { 16 };
 
-    ghost bytes_of = { λ pair. to_le_bytes w64 pair.key ++ signed_bytes w64 pair.value };
+    ghost bytes_of = { pair.bytes_of };
 
-    ghost value_of = { joined (λ key value. record { key = key; value = value }) 8 (unsigned w64) (signed w64) };
+    ghost value_of = { pair.value_of };
 
     ghost blank_value = { record { key = 0; value = pos 0 } };
 
@@ -45,7 +49,7 @@ impl Record for Pair {
 
     ghost width_of_bytes = { λ _. refl };
 
-    ghost writes_back = { ? };
+    ghost writes_back = { joined_back pair_parts (unsigned w64) (signed w64) (unsigned_back w64 le_bytes_8) (signed_back w64 le_bytes_8) };
 
-    ghost exact = { ? };
+    ghost exact = { joined_exact pair_parts nat_eq int_eq (λ x y. (unsigned_Decides x y).0) (λ x y. (signed_Decides x y).0) };
 }

@@ -1,11 +1,11 @@
 //! Numbers as records, the lowest byte first.
 
 ghost use Rattle.std.specs.Prelude.{pos};
-ghost use Rattle.std.specs.Int.{w32, w64, to_le_bytes};
+ghost use Rattle.std.specs.Cmp.{unsigned_Decides, signed_Decides};
+ghost use Rattle.std.specs.Int.{w32, w64};
 ghost use Rattle.std.proofs.Common.{rules, refl};
-ghost use Rattle.std.proofs.lemmas.Bool.{eqb-true};
 ghost use Rattle.std.proofs.lemmas.Nat.{le_bytes_4, le_bytes_8};
-ghost use Rattle.record_core.specs.Bytes.{unsigned, signed, signed_bytes};
+ghost use Rattle.record_core.specs.Bytes.{unsigned, signed};
 ghost use Rattle.record_core.specs.WritesBack.{unsigned_back, signed_back};
 
 use crate::record::Record;
@@ -16,9 +16,9 @@ impl Record for u32 {
 
     ghost WIDTH = { 4 };
 
-    ghost bytes_of = { to_le_bytes w32 };
+    ghost bytes_of = { (unsigned w32).bytes_of };
 
-    ghost value_of = { unsigned w32 };
+    ghost value_of = { (unsigned w32).value_of };
 
     ghost blank_value = { 0 };
 
@@ -42,7 +42,7 @@ impl Record for u32 {
 
     ghost writes_back = { unsigned_back w32 le_bytes_4 };
 
-    ghost exact = { eqb-true };
+    ghost exact = { λ x y. (unsigned_Decides x y).0 };
 }
 
 impl Record for u64 {
@@ -50,9 +50,9 @@ impl Record for u64 {
 
     ghost WIDTH = { 8 };
 
-    ghost bytes_of = { to_le_bytes w64 };
+    ghost bytes_of = { (unsigned w64).bytes_of };
 
-    ghost value_of = { unsigned w64 };
+    ghost value_of = { (unsigned w64).value_of };
 
     ghost blank_value = { 0 };
 
@@ -76,7 +76,7 @@ impl Record for u64 {
 
     ghost writes_back = { unsigned_back w64 le_bytes_8 };
 
-    ghost exact = { eqb-true };
+    ghost exact = { λ x y. (unsigned_Decides x y).0 };
 }
 
 /// In two's complement.
@@ -85,9 +85,9 @@ impl Record for i64 {
 
     ghost WIDTH = { 8 };
 
-    ghost bytes_of = { signed_bytes w64 };
+    ghost bytes_of = { (signed w64).bytes_of };
 
-    ghost value_of = { signed w64 };
+    ghost value_of = { (signed w64).value_of };
 
     ghost blank_value = { pos 0 };
 
@@ -111,5 +111,5 @@ impl Record for i64 {
 
     ghost writes_back = { signed_back w64 le_bytes_8 };
 
-    ghost exact = { ? };
+    ghost exact = { λ x y. (signed_Decides x y).0 };
 }
