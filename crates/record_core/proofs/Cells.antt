@@ -1,6 +1,6 @@
 -- The bytes of record i stand at i times the width, in what is written and in what is read.
 use Rattle.std.proofs.Common.{◌≡◌, ℕ, zero, suc, subst, ◌-◌, ◌+◌, ◌*◌, ◌≤◌, ◌<◌, List, [], ◌∷◌, ◌++◌, length, take, drop, get_or, Option, Some, None, refl, sym, ap, ◌∙◌, arith, inl, inr}
-use Rattle.std.specs.Prelude.{slice_get, IsSome}
+use Rattle.std.specs.Prelude.{slice_get, slice_set, IsSome}
 use Rattle.std.specs.List.{flat_map}
 use Rattle.std.proofs.lemmas.Bool.{cases_lt}
 use Rattle.std.proofs.lemmas.List.{take_at, drop_at, drop-drop, take_more, length-append, length_push, flat_map_more}
@@ -27,7 +27,13 @@ cell_is width w bytes i is =
     let part : width ≡ i * w + w - i * w = omega arith in
     ap (λ n. take n (drop (i * width) bytes)) part ∙ ap (λ n. take (i * w + w - i * w) (drop (i * n) bytes)) (sym is)
 
--- ---- elements of a list that grows
+-- ---- elements of a list
+
+-- the only byte is written over
+pub set_alone : (bytes : List ℕ) (b : ℕ) → length bytes ≡ 1 → slice_set bytes 0 b ≡ b ∷ []
+set_alone [] b len = absurd (omega arith)
+set_alone (a ∷ []) b len = refl
+set_alone (a ∷ c ∷ bytes) b len = absurd (omega arith)
 
 pub slice_get-append_left : {X : Type 0} (xs ys : List X) (i : ℕ) → i < length xs → slice_get (xs ++ ys) i ≡ slice_get xs i
 slice_get-append_left [] ys i lt = absurd (omega arith)
