@@ -2,7 +2,7 @@
 
 ghost use Rattle.std.specs.Prelude.{◌≡◌, ◌≤◌, ◌<◌, ◌+◌, ◌*◌, ◌^◌, ◌++◌, ℕ, List, None, length, vec_len, vec_capacity, OnOk, OnErr, IfErr, IsOk};
 ghost use Rattle.std.specs.List.{flat_map};
-ghost use Rattle.record_core.specs.Cells.{AreRecords, AreReadAgain, FirstBad};
+ghost use Rattle.record_core.specs.Cells.{AreRecords, AreReadAgain, HasRead, FirstBad, ComesAfter};
 
 use crate::record::Record;
 use std::alloc::AllocError;
@@ -51,7 +51,7 @@ pub fn append_records<R: Record>(records: &[R], out: &mut Vec<u8>) -> Result<(),
 }
 
 /// Appends the `count` records that these bytes are. Whatever is answered, the records from before stand
-/// first; behind them stand those that were read.
+/// first; behind them stand those that were read before the refusal.
 pub fn read_records<R: Record>(
     bytes: &[u8],
     count: usize,
@@ -60,7 +60,7 @@ pub fn read_records<R: Record>(
     requires { length bytes.now ≡ count * R.WIDTH }
     ensures ok { OnOk result ((read : List R) × (records.new.items ≡ records.old.items ++ read) × (length read ≡ count) × AreRecords R.WIDTH R.value_of bytes.now read) }
     ensures bad { IfErr result (FirstBad R.WIDTH R.value_of bytes.now count) }
-    ensures kept { (read : List R) × (records.new.items ≡ records.old.items ++ read) }
+    ensures kept { (read : List R) × (records.new.items ≡ records.old.items ++ read) × HasRead R.WIDTH R.value_of bytes.now (length read) read × IfErr result (ComesAfter (length read)) }
 {
     let width = R::WIDTH;
     for i in 0..count {
@@ -71,25 +71,4 @@ pub fn read_records<R: Record>(
         records.push(record).map_err(|_| RecordsFault::Memory)?;
     }
     Ok(())
-}
-
-#[cfg(test)]
-mod tests {
-    use super::*;
-    use crate::Record;
-    use std::test::Fail;
-
-    const TWO: [u8; 16] = [5, 0, 0, 0, 0, 0, 0, 0, 0, 1, 0, 0, 0, 0, 0, 255];
-
-    #[test]
-    fn numbers_stand_lowest_byte_first(rt: HostRuntime) -> Result<(), Fail> {
-        let mut bytes = Vec::new(rt.alloc());
-        append_records(&[5u64, 0xff00_0000_0000_0100], &mut bytes)?;
-        assert_eq!(rt; bytes.as_slice(), TWO.as_slice());
-        let mut records: Vec<u64> = Vec::new(rt.alloc());
-        read_records(&TWO, 2, &mut records)?;
-        assert_eq!(rt; records.as_slice(), [5, 0xff00_0000_0000_0100].as_slice());
-        assert_eq!(rt; u64::blank(), 0);
-        Ok(())
-    }
 }

@@ -11,6 +11,9 @@ ghost use Rattle.segment_core.specs.Fault.{first_line, order_lines, frame_fault}
 ghost use Rattle.segment_core.specs.Written.{file_of, group_frame};
 
 use super::*;
+use record_core::{Flagged, Pair, Record};
+use std::fmt::Debug;
+use std::process::Abort;
 use std::test::Fail;
 
 /// The file of one growth of one number, 5.
@@ -25,7 +28,28 @@ const TWO_GROWTHS: [u8; 54] = [
     0, 1, 0, 0, 0, 1, 0, 0, 0, 0, 0, 0, 0, 2, 0, 0, 0, 0, 0, 0, 0, 3, 0, 0, 0, 0, 0, 0, 0, 0,
 ];
 
-/// What the definitions compute to, on the files above: their text, where record 0 of the first has its home, and
+/// The files of one growth of one record: the u32 7, the i64 -2, the pair of 7 and -2, the key 5 flagged.
+const SHORT: [u8; 30] = [
+    1, 0x43, 0x56, 0x45, 0x43, 0x53, 0x45, 0x47, 1, 4, 0, 1, 1, 0x0c, 0, 0, 0, 1, 0, 0, 0, 1, 0, 0,
+    0, 7, 0, 0, 0, 0,
+];
+
+const BELOW_0: [u8; 34] = [
+    1, 0x43, 0x56, 0x45, 0x43, 0x53, 0x45, 0x47, 1, 8, 0, 1, 1, 0x10, 0, 0, 0, 1, 0, 0, 0, 1, 0, 0,
+    0, 0xfe, 0xff, 0xff, 0xff, 0xff, 0xff, 0xff, 0xff, 0,
+];
+
+const PAIR: [u8; 42] = [
+    1, 0x43, 0x56, 0x45, 0x43, 0x53, 0x45, 0x47, 1, 16, 0, 1, 1, 0x18, 0, 0, 0, 1, 0, 0, 0, 1, 0,
+    0, 0, 7, 0, 0, 0, 0, 0, 0, 0, 0xfe, 0xff, 0xff, 0xff, 0xff, 0xff, 0xff, 0xff, 0,
+];
+
+const FLAGGED: [u8; 35] = [
+    1, 0x43, 0x56, 0x45, 0x43, 0x53, 0x45, 0x47, 1, 9, 0, 1, 1, 0x11, 0, 0, 0, 1, 0, 0, 0, 1, 0, 0,
+    0, 5, 0, 0, 0, 0, 0, 0, 0, 1, 0,
+];
+
+/// What the definitions compute to, on the first two files: their text, where record 0 of the first has its home, and
 /// the first fault of that file's frame with another kind, another length, and cut.
 #[tactic(auto, using(std::proofs::lemmas::Grind::common_steps), unfolding(crate::specs::Vector::place_of, crate::specs::Fault::frame_fault, crate::specs::Fault::frame_lines, crate::specs::Fault::order_lines, crate::specs::Layout::is_group_layout, crate::specs::Layout::u32_at))]
 fn worked_definitions()
@@ -56,21 +80,51 @@ fn definitions_give_the_worked_files() {
     worked_definitions();
 }
 
-#[test]
-fn growths_are_written_and_read_again(rt: HostRuntime) -> Result<(), Fail> {
+/// One growth of this record is written as this file, and the file is read as that record. Memory is taken once.
+fn stands_as<R: Record + Debug>(
+    rt: &(impl AllocGlobal + Abort),
+    record: R,
+    file: &[u8],
+) -> Result<(), Fail> {
     let mut growth = Vec::new(rt.alloc());
-    growth.push(5u64)?;
+    growth.push(record)?;
     let mut group = Vec::new(rt.alloc());
     group.push(growth)?;
     let mut groups = Vec::new(rt.alloc());
     groups.push(group)?;
-    let file = write_image(rt.alloc(), &groups)?;
-    assert_eq!(rt; file.as_slice(), FIVE.as_slice());
-    let scanned = scan::<u64>(rt.alloc(), &file)?;
-    assert_eq!(rt; scanned.records.as_slice(), [5].as_slice());
-    assert_eq!(rt; (scanned.version, scanned.width, scanned.frames), (1, 8, 1));
-    assert_eq!(rt; (scanned.changes, scanned.folded, scanned.gate), (0, 0, 33));
+    let written = write_image(rt.alloc(), &groups)?;
+    assert_eq!(rt; written.as_slice(), file);
+    assert_eq!(rt; written.capacity(), file.len());
+    let scanned = scan::<R>(rt.alloc(), &written)?;
+    assert_eq!(rt; scanned.records.as_slice(), [record].as_slice());
+    assert_eq!(rt; scanned.records.capacity(), 1);
+    assert_eq!(rt;
+        (scanned.version, scanned.width as usize, scanned.frames),
+        (1, R::WIDTH, 1)
+    );
+    assert_eq!(rt; (scanned.changes, scanned.folded), (0, 0));
+    assert_eq!(rt; scanned.gate + 1, file.len() as u64);
     Ok(())
+}
+
+#[test]
+fn growths_are_written_and_read_again(rt: HostRuntime) -> Result<(), Fail> {
+    stands_as(&rt, 5u64, &FIVE)?;
+    stands_as(&rt, 7u32, &SHORT)?;
+    stands_as(&rt, -2i64, &BELOW_0)?;
+    stands_as(&rt, Pair { key: 7, value: -2 }, &PAIR)?;
+    stands_as(&rt, Flagged { key: 5, flag: true }, &FLAGGED)
+}
+
+#[test]
+fn a_flag_of_2_is_no_record(rt: HostRuntime) {
+    let mut file = FLAGGED;
+    file[33] = 2;
+    let fault = ScanFault::Damaged {
+        at: 25,
+        cause: Cause::BadRecord,
+    };
+    assert_eq!(rt; scan::<Flagged>(rt.alloc(), &file).err(), Some(fault));
 }
 
 #[test]
