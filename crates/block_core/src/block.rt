@@ -44,7 +44,7 @@ impl<R: Record> Model for Fresh<R> {
 }
 
 impl<R: Record> Fresh<R> {
-    ghost use Rattle.std.specs.Borrow.{sem, Lends, Array};
+    ghost use Rattle.std.specs.Borrow.{sem, Lends, LendsBoth, Array};
     ghost use Rattle.std.specs.Slice.Iter.{chunks_mut_rest, chunks_mut_size};
     ghost use Rattle.block_core.specs.Length.{IsBlockLength, IsLengthFault, IsRefusal};
     ghost use Rattle.block_core.specs.Lent.{left_in};
@@ -143,13 +143,14 @@ impl<R: Record> Fresh<R> {
         self.entry.records.chunks_mut(len)
     }
 
-    /// Two halves, the first of which has `at` records.
+    /// Two halves, the first of which has `at` records. The block has what is left in them.
     pub fn split_mut(&mut self, at: usize) -> (&mut [R], &mut [R])
         requires { at ≤ length self.old }
         ensures joined { self.old ≡ result.0.now ++ result.1.now }
         ensures front { length result.0.now ≡ at }
+        ensures* writes_back { sem 𝓛 (LendsBoth (the_row R.row R.Record.own R.PartialEq) (Array R.row 0) (Array R.row 0) self.entry result (λ front back. left_in self.old (front ++ back))) }
     {
-        self.entry.records.split_at_mut(at)
+        self.records_mut().split_at_mut(at)
     }
 
     /// Touches every record, the first of which stands at the place 0, in parts of `part` records and in as many

@@ -1,4 +1,4 @@
-ghost use Rattle.std.specs.Prelude.{◌+◌, ◌*◌, ◌%◌, ◌^◌, ◌<◌};
+ghost use Rattle.std.specs.Prelude.{◌≡◌, ◌+◌, ◌*◌, ◌%◌, ◌^◌, ◌<◌, length, slice_set};
 
 use super::*;
 use std::test::Fail;
@@ -187,5 +187,18 @@ fn halves_are_written_through(rt: HostRuntime) -> Result<(), Fail> {
     assert_eq!(rt; fresh.records(), [10, 20, 3, 4, 50].as_slice());
     let (none, all) = fresh.split_mut(0);
     assert!(rt; none.is_empty() && all.len() == 5);
+    let mut four = Fresh::from_slice(rt.alloc(), &[1u64, 2, 3, 4])?;
+    write_firsts(&mut four);
+    assert_eq!(rt; four.records(), [10, 2, 30, 4].as_slice());
     Ok(())
+}
+
+/// Writes the first record of each half. What the block then has is known from the clauses on what is lent alone.
+fn write_firsts(fresh: &mut Fresh<u64>)
+    requires { length fresh.old ≡ 4 }
+    ensures { fresh.new ≡ slice_set (slice_set fresh.old 0 10) 2 30 }
+{
+    let (front, back) = fresh.records_mut().split_at_mut(2);
+    front[0] = 10;
+    back[0] = 30;
 }
