@@ -10,7 +10,8 @@ use std::thread::Threads;
 /// Fewer records than these are touched by the calling thread: to start others would take longer.
 const FEW: usize = 4096;
 
-/// Touches the records, the first of which stands at the place 0, in parts of so many records.
+/// Touches the records, the first of which stands at the place 0, in parts of so many records. Few records, and
+/// records of one part, are touched by the calling thread.
 pub(crate) fn fill_parts<R: Copy + Send + Sync, E: Threads + Sync, T: Touch<R>>(
     rt: &E,
     records: &mut [R],
@@ -21,7 +22,7 @@ pub(crate) fn fill_parts<R: Copy + Send + Sync, E: Threads + Sync, T: Touch<R>>(
     requires small { length records.old ≤ 2 ^ 32 }
     ensures { TouchedFrom (T.one touch.now) 0 records.old records.new }
 {
-    if records.len() < FEW {
+    if records.len() < FEW || records.len() <= part {
         touch.touch(0, records);
         return;
     }
