@@ -161,7 +161,7 @@ impl<R: Record> Fresh<R> {
         requires { 0 < part }
         ensures { TouchedFrom (T.one touch.now) 0 self.old self.new }
     {
-        fill_parts(rt, self.entry.records.as_mut_slice(), part, touch);
+        fill_parts(rt, &mut self.entry.records, part, touch);
     }
 }
 
