@@ -1,0 +1,3 @@
+pub mod Length
+pub mod Lent
+pub mod Touched

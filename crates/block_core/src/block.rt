@@ -1,0 +1,169 @@
+//! A block of records that nobody else sees yet.
+
+ghost use Rattle.std.specs.Prelude.{◌≡◌, ◌≤◌, ◌<◌, ◌+◌, ◌*◌, ◌^◌, ◌++◌, length, take, drop, replicate, MatchResult, OnOk, IsOk};
+
+use crate::fault::FreshFault;
+use crate::filling::fill_parts;
+use crate::touching::Touch;
+use record_core::{PAYLOAD_LIMIT, Record};
+use std::alloc::Global;
+use std::marker::Model;
+use std::slice::ChunksMut;
+use std::thread::Threads;
+
+/// The bytes that stand in a frame before the records of its one growth: the count of growths, and one length.
+const HEAD: u64 = 8;
+
+/// A growth as it will stand among others. Its four numbers mean nothing before it is published; they are here
+/// so that publishing writes them through the box and takes no memory.
+#[derive(Drop)]
+struct Entry<R> {
+    number: u64,
+    start: u64,
+    seat: u16,
+    serial: u64,
+    records: Vec<R>,
+}
+
+/// At least one record, and few enough for one frame of the segment file, in the buffer and the box in which
+/// they will be published. Until then nobody else sees them.
+#[derive(Drop)]
+pub struct Fresh<R: Record> {
+    entry: Box<Entry<R>>,
+}
+
+impl<R: Record> Model for Fresh<R> {
+    ghost use Rattle.std.specs.Prelude.{List, length};
+    ghost use Rattle.block_core.specs.Length.{IsBlockLength};
+
+    ghost Value = { List R };
+
+    ghost view = { λ fresh. fresh.entry.value.records.items };
+
+    ghost invariant = { λ fresh. IsBlockLength R.WIDTH (length fresh.entry.value.records.items) };
+}
+
+impl<R: Record> Fresh<R> {
+    ghost use Rattle.std.specs.Borrow.{sem, Lends, LendsBoth, Array};
+    ghost use Rattle.std.specs.Slice.Iter.{chunks_mut_rest, chunks_mut_size};
+    ghost use Rattle.block_core.specs.Length.{IsBlockLength, IsLengthFault, IsRefusal};
+    ghost use Rattle.block_core.specs.Lent.{left_in};
+    ghost use Rattle.block_core.specs.Touched.{TouchedFrom};
+    ghost use Rattle.block_core.specs.contracts.block.Fresh.{the_row};
+
+    /// Whether a block may have `n` records: none is `Empty`, more than fit one frame is `TooLarge`. It takes no
+    /// memory and never answers `Memory`.
+    pub fn check_len(n: u64) -> Result<(), FreshFault>
+        ensures { MatchResult result (λ _. IsBlockLength R.WIDTH n) (IsLengthFault R.WIDTH n) }
+    {
+        if n == 0 {
+            return Err(FreshFault::Empty);
+        }
+        match n.checked_mul(R::WIDTH as u64) {
+            Some(bytes) if bytes <= PAYLOAD_LIMIT as u64 - HEAD => Ok(()),
+            _ => Err(FreshFault::TooLarge),
+        }
+    }
+
+    /// A block of `n` blank records.
+    pub fn new(alloc: Global, n: u64) -> Result<Fresh<R>, FreshFault>
+        ensures { MatchResult result (λ fresh. (fresh ≡ replicate n R.blank_value) × IsBlockLength R.WIDTH n) (IsRefusal R.WIDTH n) }
+    {
+        Fresh::filled(alloc, n, R::blank())
+    }
+
+    /// A block of copies of these records.
+    pub fn from_slice(alloc: Global, records: &[R]) -> Result<Fresh<R>, FreshFault>
+        ensures { MatchResult result (λ fresh. (fresh ≡ records.now) × IsBlockLength R.WIDTH (length records.now)) (IsRefusal R.WIDTH (length records.now)) }
+    {
+        Fresh::<R>::check_len(records.len() as u64)?;
+        let copies = Vec::from_slice(alloc, records).map_err(|_| FreshFault::Memory)?;
+        Fresh::boxed(alloc, copies)
+    }
+
+    /// A block of `n` copies of `v`.
+    pub fn filled(alloc: Global, n: u64, v: R) -> Result<Fresh<R>, FreshFault>
+        ensures { MatchResult result (λ fresh. (fresh ≡ replicate n v) × IsBlockLength R.WIDTH n) (IsRefusal R.WIDTH n) }
+    {
+        Fresh::<R>::check_len(n)?;
+        let len = n as usize;
+        let mut copies = Vec::with_capacity(alloc, len).map_err(|_| FreshFault::Memory)?;
+        copies.resize(len, v).map_err(|_| FreshFault::Memory)?;
+        Fresh::boxed(alloc, copies)
+    }
+
+    /// The block of these records, in its box.
+    fn boxed(alloc: Global, records: Vec<R>) -> Result<Fresh<R>, FreshFault>
+        requires { IsBlockLength R.WIDTH (length records.items) }
+        ensures { MatchResult result (λ fresh. fresh ≡ records.items) (λ fault. fault ≡ FreshFault.Memory) }
+    {
+        let entry = Entry {
+            number: 0,
+            start: 0,
+            seat: 0,
+            serial: 0,
+            records,
+        };
+        match Box::new(alloc, entry) {
+            Ok(entry) => Ok(Fresh { entry }),
+            Err(_) => Err(FreshFault::Memory),
+        }
+    }
+
+    /// How many records it has.
+    pub fn len(&self) -> u64
+        ensures len { result ≡ length self.now }
+        ensures in_a_frame { IsBlockLength R.WIDTH result }
+    {
+        self.entry.records.len() as u64
+    }
+
+    /// The records in order.
+    pub fn records(&self) -> &[R]
+        ensures value { result.now ≡ self.now }
+        ensures in_a_frame { IsBlockLength R.WIDTH (length self.now) }
+    {
+        self.entry.records.as_slice()
+    }
+
+    /// The records in order, to be written over. The block has what is left in them.
+    pub fn records_mut(&mut self) -> &mut [R]
+        ensures value { result.now ≡ self.old }
+        ensures* writes_back { sem 𝓛 (Lends (the_row R.row R.Record.own R.PartialEq) (Array R.row 0) self.entry result (left_in self.old)) }
+    {
+        self.entry.records.as_mut_slice()
+    }
+
+    /// The records in order as disjoint parts of `len` records, the last of which may have fewer.
+    pub fn parts_mut(&mut self, len: usize) -> ChunksMut<'_, R>
+        requires { 0 < len }
+        ensures joined { chunks_mut_rest result ≡ self.old }
+        ensures each { chunks_mut_size result ≡ len }
+    {
+        self.entry.records.chunks_mut(len)
+    }
+
+    /// Two halves, the first of which has `at` records. The block has what is left in them.
+    pub fn split_mut(&mut self, at: usize) -> (&mut [R], &mut [R])
+        requires { at ≤ length self.old }
+        ensures joined { self.old ≡ result.0.now ++ result.1.now }
+        ensures front { length result.0.now ≡ at }
+        ensures* writes_back { sem 𝓛 (LendsBoth (the_row R.row R.Record.own R.PartialEq) (Array R.row 0) (Array R.row 0) self.entry result (λ front back. left_in self.old (front ++ back))) }
+    {
+        self.records_mut().split_at_mut(at)
+    }
+
+    /// Touches every record, the first of which stands at the place 0, in parts of `part` records and in as many
+    /// threads as there are processors. However the parts are cut, each record becomes what the touch makes of it
+    /// alone. Few records, and a block of one part, are touched by the calling thread: starting threads pays only
+    /// where a touch is heavy.
+    pub fn fill<E: Threads + Sync, T: Touch<R>>(&mut self, rt: &E, part: usize, touch: &T)
+        requires { 0 < part }
+        ensures { TouchedFrom (T.one touch.now) 0 self.old self.new }
+    {
+        fill_parts(rt, &mut self.entry.records, part, touch);
+    }
+}
+
+#[cfg(test)]
+mod tests;

@@ -1,0 +1,15 @@
+//! Blocks of records that nobody else sees yet, and touches that write them in parallel.
+//!
+//! A `Fresh` is what a growth will be: at least one record, few enough for one frame of the segment file. Its
+//! buffer is lent in disjoint parts, and `fill` writes these in several threads by a `Touch`, whose law makes the
+//! result the same however the parts are cut.
+#![tactic(auto)]
+
+mod block;
+mod fault;
+mod filling;
+mod touching;
+
+pub use block::Fresh;
+pub use fault::FreshFault;
+pub use touching::Touch;
