@@ -3,6 +3,7 @@
 
 mod group_line;
 mod groups;
+mod halves;
 mod hex_line;
 mod image;
 mod input;
@@ -10,11 +11,13 @@ mod number;
 mod output;
 mod program;
 mod refusal;
+mod request;
 mod show;
 mod status;
 #[cfg(test)]
 mod tests;
 mod text;
+mod words;
 
 use crate::program::run;
 use crate::refusal::{Refusal, refuse};

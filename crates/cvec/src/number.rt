@@ -2,8 +2,8 @@
 
 ghost use Rattle.std.specs.Prelude.{◌<◌, ◌^◌, ◌↔◌, decimal, OnOk, IsTrue};
 ghost use Rattle.std.specs.Io.KnownBytes.{Appends};
-ghost use Rattle.std.proofs.lemmas.Fmt.{decimal_injective};
-ghost use Rattle.cvec.specs.Numbers.{BeginsAsNumber, IsWord-decimal};
+ghost use Rattle.std.proofs.Common.{lit≤};
+ghost use Rattle.cvec.specs.Numbers.{BeginsAsNumber, IsWord-decimal, one_decimal};
 
 use crate::text::TextRecord;
 use std::io;
@@ -44,7 +44,7 @@ impl TextRecord for u64 {
         write_number(writer, *self)
     }
 
-    ghost is_word = { IsWord-decimal };
+    ghost is_word = { IsWord-decimal 64 (lit≤ tt) };
 
-    ghost one_value = { decimal_injective };
+    ghost one_value = { one_decimal 64 (lit≤ tt) };
 }

@@ -1,0 +1,78 @@
+//! The words that the program takes, read by `clap`.
+
+use crate::request::{RecordType, Task};
+use clap::error::ErrorKind;
+use clap::{Arg, ArgAction, ArgMatches, Command, Error};
+use std::alloc::{AllocError, Global};
+use std::convert::AsStr;
+
+/// The words for the types of record.
+const TYPES: [&str; 1] = ["u64"];
+
+/// Why words ask for nothing.
+#[derive(Clone, Copy, Debug, PartialEq, Eq)]
+pub enum WordsFault {
+    /// They are not the program's, or they ask for help.
+    Usage,
+    /// A growth of memory was refused.
+    Memory,
+}
+
+impl From<Error> for WordsFault {
+    fn from(error: Error) -> WordsFault {
+        if error.kind() == ErrorKind::OutOfMemory {
+            WordsFault::Memory
+        } else {
+            WordsFault::Usage
+        }
+    }
+}
+
+impl From<AllocError> for WordsFault {
+    fn from(_: AllocError) -> WordsFault {
+        WordsFault::Memory
+    }
+}
+
+/// A command that takes the word of a type.
+fn typed<'a>(alloc: Global, name: &'a str) -> Result<Command<'a>, AllocError> {
+    let of_type = Arg::new(alloc, "TYPE")
+        .required(true)
+        .action(ArgAction::Set)
+        .value_parser(TYPES.as_slice());
+    Command::new(alloc, name).arg(of_type)
+}
+
+/// The task of a command's name.
+fn task_of(name: &str) -> Option<Task> {
+    match name {
+        "image" => Some(Task::Image),
+        "show" => Some(Task::Show),
+        _ => None,
+    }
+}
+
+/// The type of record that a command was given.
+fn record_type_of(matches: &ArgMatches<'_>) -> Option<RecordType> {
+    match matches.get_str("TYPE")? {
+        "u64" => Some(RecordType::U64),
+        _ => None,
+    }
+}
+
+/// What the words ask for.
+pub fn read_words<'a, S: AsStr>(
+    alloc: Global,
+    words: &'a [S],
+) -> Result<(Task, RecordType), WordsFault> {
+    let command = Command::new(alloc, "cvec")
+        .no_binary_name(true)
+        .subcommand_required(true)
+        .subcommand(typed(alloc, "image")?)?
+        .subcommand(typed(alloc, "show")?)?;
+    let matches = command.try_get_matches_from(words)?;
+    let (name, of_command) = matches.subcommand().ok_or(WordsFault::Usage)?;
+    let task = task_of(name).ok_or(WordsFault::Usage)?;
+    let record_type = record_type_of(of_command).ok_or(WordsFault::Usage)?;
+    Ok((task, record_type))
+}
