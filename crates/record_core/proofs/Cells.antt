@@ -1,13 +1,13 @@
 -- The bytes of record i stand at i times the width, in what is written and in what is read.
 use Rattle.std.proofs.Common.{◌≡◌, ℕ, zero, suc, subst, ◌-◌, ◌+◌, ◌*◌, ◌≤◌, ◌<◌, List, [], ◌∷◌, ◌++◌, length, take, drop, get_or, Option, Some, None, refl, sym, ap, ◌∙◌, arith, inl, inr}
-use Rattle.std.specs.Prelude.{slice_get, IsSome}
+use Rattle.std.specs.Prelude.{slice_get, slice_set, IsSome}
 use Rattle.std.specs.List.{flat_map}
 use Rattle.std.proofs.lemmas.Bool.{cases_lt}
 use Rattle.std.proofs.lemmas.List.{take_at, drop_at, drop-drop, take_more, length-append, length_push, flat_map_more}
 use Rattle.std.proofs.lemmas.Nat.{mul-le}
 use Rattle.std.proofs.lemmas.Slice.{take-put_mid}
 use borrow.Rule.Slice.PartMut.{put_mid}
-use Rattle.record_core.specs.Cells.{cell, AreRecords, AreReadAgain, IsFirstBad}
+use Rattle.record_core.specs.Cells.{cell, AreRecords, AreReadAgain, HasRead, IsFirstBad}
 
 -- ---- cells
 
@@ -27,7 +27,13 @@ cell_is width w bytes i is =
     let part : width ≡ i * w + w - i * w = omega arith in
     ap (λ n. take n (drop (i * width) bytes)) part ∙ ap (λ n. take (i * w + w - i * w) (drop (i * n) bytes)) (sym is)
 
--- ---- elements of a list that grows
+-- ---- elements of a list
+
+-- the only byte is written over
+pub set_alone : (bytes : List ℕ) (b : ℕ) → length bytes ≡ 1 → slice_set bytes 0 b ≡ b ∷ []
+set_alone [] b len = absurd (omega arith)
+set_alone (a ∷ []) b len = refl
+set_alone (a ∷ c ∷ bytes) b len = absurd (omega arith)
 
 pub slice_get-append_left : {X : Type 0} (xs ys : List X) (i : ℕ) → i < length xs → slice_get (xs ++ ys) i ≡ slice_get xs i
 slice_get-append_left [] ys i lt = absurd (omega arith)
@@ -64,11 +70,6 @@ AreRecords_written width bytes_of value_of rs wide each = record {
 
 -- ---- what is read
 
--- the first records of these bytes have been read
-pub record HasRead {R : Type 0} (width : ℕ) (value_of : List ℕ → Option R) (bytes : List ℕ) (count : ℕ) (records : List R) : Type 0 where
-  pub so_far : length records ≡ count
-  pub each : (i : ℕ) → i < count → value_of (cell width bytes i) ≡ slice_get records i
-
 pub HasRead_more : {R : Type 0} (width : ℕ) (value_of : List ℕ → Option R) (bytes : List ℕ) (count : ℕ) (records : List R) (r : R) → HasRead width value_of bytes count records → value_of (cell width bytes count) ≡ Some r → HasRead width value_of bytes (count + 1) (records ++ r ∷ [])
 HasRead_more width value_of bytes count records r read one = record {
   so_far = length_push records r ∙ ap (λ n. n + 1) read.so_far;
@@ -80,6 +81,9 @@ HasRead_more width value_of bytes count records r read one = record {
         ap (λ n. value_of (cell width bytes n)) at ∙ one ∙ sym (ap (slice_get (records ++ r ∷ [])) here ∙ slice_get_push records r))
   ];
 }
+
+pub HasRead_all : {R : Type 0} (width : ℕ) (value_of : List ℕ → Option R) (bytes : List ℕ) (count : ℕ) (records : List R) → HasRead width value_of bytes count records → HasRead width value_of bytes (length records) records
+HasRead_all width value_of bytes count records read = record { so_far = refl; each = λ i lt. read.each i (omega (arith, read.so_far)) }
 
 pub IsSome_from_is : {X : Type 0} (o : Option X) (x : X) → o ≡ Some x → IsSome o
 IsSome_from_is o x e = rw e refl

@@ -17,6 +17,11 @@ abbrev pub AreReadAgain : {R : Type 0} → (R → List ℕ) → (List ℕ → Op
 AreReadAgain bytes_of value_of [] = Unit {0}
 AreReadAgain bytes_of value_of (r ∷ rs) = (value_of (bytes_of r) ≡ Some r) × AreReadAgain bytes_of value_of rs
 
+-- the first records of these bytes have been read
+pub record HasRead {R : Type 0} (width : ℕ) (value_of : List ℕ → Option R) (bytes : List ℕ) (count : ℕ) (records : List R) : Type 0 where
+  pub so_far : length records ≡ count
+  pub each : (i : ℕ) → i < count → value_of (cell width bytes i) ≡ slice_get records i
+
 -- record i is the first of count that the bytes don't have
 pub record IsFirstBad {R : Type 0} (width : ℕ) (value_of : List ℕ → Option R) (bytes : List ℕ) (count i : ℕ) : Type 0 where
   pub inside : i < count
@@ -26,3 +31,8 @@ pub record IsFirstBad {R : Type 0} (width : ℕ) (value_of : List ℕ → Option
 abbrev pub FirstBad : {R : Type 0} → ℕ → (List ℕ → Option R) → List ℕ → ℕ → RecordsFault → Type 0
 FirstBad width value_of bytes count (Bad i) = IsFirstBad width value_of bytes count i
 FirstBad width value_of bytes count Memory = Unit {0}
+
+-- so many records stood before what was refused
+abbrev pub ComesAfter : ℕ → RecordsFault → Type 0
+ComesAfter n (Bad i) = n ≡ i
+ComesAfter n Memory = Unit {0}

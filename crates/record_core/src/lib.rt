@@ -5,11 +5,15 @@
 //! and that the bytes of record i stand at i times the width (both of them).
 #![tactic(auto)]
 
+mod key_flag;
+mod key_value;
 mod limit;
 mod number;
 mod record;
 mod records;
 
+pub use key_flag::Flagged;
+pub use key_value::Pair;
 pub use limit::PAYLOAD_LIMIT;
 pub use record::Record;
 pub use records::{RecordsFault, append_records, read_records};

@@ -1,22 +1,58 @@
 //! Numbers as records, the lowest byte first.
 
-ghost use Rattle.std.specs.Prelude.{◌≡◌, Some, refl};
-ghost use Rattle.std.specs.Int.{w64, to_le_bytes, from_le_bytes};
-ghost use Rattle.std.proofs.Common.{rules};
-ghost use Rattle.std.proofs.lemmas.Bool.{eqb-true};
-ghost use Rattle.record_core.specs.Bytes.{written_8};
+ghost use Rattle.std.specs.Prelude.{pos};
+ghost use Rattle.std.specs.Cmp.{unsigned_Decides, signed_Decides};
+ghost use Rattle.std.specs.Int.{w32, w64};
+ghost use Rattle.std.proofs.Common.{rules, refl};
+ghost use Rattle.std.proofs.lemmas.Nat.{le_bytes_4, le_bytes_8};
+ghost use Rattle.record_core.specs.Bytes.{unsigned, signed};
+ghost use Rattle.record_core.specs.WritesBack.{unsigned_back, signed_back};
 
 use crate::record::Record;
 use byteorder::{ByteOrder, LittleEndian};
+
+impl Record for u32 {
+    const WIDTH: usize = 4;
+
+    ghost WIDTH = { 4 };
+
+    ghost bytes_of = { (unsigned w32).bytes_of };
+
+    ghost value_of = { (unsigned w32).value_of };
+
+    ghost blank_value = { 0 };
+
+    fn put(&self, out: &mut [u8]) {
+        LittleEndian::write_u32(out, *self);
+    }
+
+    fn take(bytes: &[u8]) -> Option<u32> {
+        let mut word = [0u8; 4];
+        word.copy_from_slice(bytes);
+        Some(u32::from_le_bytes(word))
+    }
+
+    fn blank() -> u32 {
+        0u32
+    }
+
+    ghost width_in_range = { Prim.search rules };
+
+    ghost width_of_bytes = { λ _. refl };
+
+    ghost writes_back = { unsigned_back w32 le_bytes_4 };
+
+    ghost exact = { λ x y. (unsigned_Decides x y).0 };
+}
 
 impl Record for u64 {
     const WIDTH: usize = 8;
 
     ghost WIDTH = { 8 };
 
-    ghost bytes_of = { to_le_bytes w64 };
+    ghost bytes_of = { (unsigned w64).bytes_of };
 
-    ghost value_of = { λ bytes. Some (from_le_bytes w64 bytes) };
+    ghost value_of = { (unsigned w64).value_of };
 
     ghost blank_value = { 0 };
 
@@ -38,7 +74,42 @@ impl Record for u64 {
 
     ghost width_of_bytes = { λ _. refl };
 
-    ghost writes_back = { written_8 };
+    ghost writes_back = { unsigned_back w64 le_bytes_8 };
 
-    ghost exact = { eqb-true };
+    ghost exact = { λ x y. (unsigned_Decides x y).0 };
+}
+
+/// In two's complement.
+impl Record for i64 {
+    const WIDTH: usize = 8;
+
+    ghost WIDTH = { 8 };
+
+    ghost bytes_of = { (signed w64).bytes_of };
+
+    ghost value_of = { (signed w64).value_of };
+
+    ghost blank_value = { pos 0 };
+
+    fn put(&self, out: &mut [u8]) {
+        LittleEndian::write_i64(out, *self);
+    }
+
+    fn take(bytes: &[u8]) -> Option<i64> {
+        let mut word = [0u8; 8];
+        word.copy_from_slice(bytes);
+        Some(i64::from_le_bytes(word))
+    }
+
+    fn blank() -> i64 {
+        0i64
+    }
+
+    ghost width_in_range = { Prim.search rules };
+
+    ghost width_of_bytes = { λ _. refl };
+
+    ghost writes_back = { signed_back w64 le_bytes_8 };
+
+    ghost exact = { λ x y. (signed_Decides x y).0 };
 }

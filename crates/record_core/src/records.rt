@@ -2,7 +2,7 @@
 
 ghost use Rattle.std.specs.Prelude.{◌≡◌, ◌≤◌, ◌<◌, ◌+◌, ◌*◌, ◌^◌, ◌++◌, ℕ, List, None, length, vec_len, vec_capacity, OnOk, OnErr, IfErr, IsOk};
 ghost use Rattle.std.specs.List.{flat_map};
-ghost use Rattle.record_core.specs.Cells.{AreRecords, AreReadAgain, FirstBad};
+ghost use Rattle.record_core.specs.Cells.{AreRecords, AreReadAgain, HasRead, FirstBad, ComesAfter};
 
 use crate::record::Record;
 use std::alloc::AllocError;
@@ -51,7 +51,7 @@ pub fn append_records<R: Record>(records: &[R], out: &mut Vec<u8>) -> Result<(),
 }
 
 /// Appends the `count` records that these bytes are. Whatever is answered, the records from before stand
-/// first; behind them stand those that were read.
+/// first; behind them stand those that were read before the refusal.
 pub fn read_records<R: Record>(
     bytes: &[u8],
     count: usize,
@@ -60,7 +60,7 @@ pub fn read_records<R: Record>(
     requires { length bytes.now ≡ count * R.WIDTH }
     ensures ok { OnOk result ((read : List R) × (records.new.items ≡ records.old.items ++ read) × (length read ≡ count) × AreRecords R.WIDTH R.value_of bytes.now read) }
     ensures bad { IfErr result (FirstBad R.WIDTH R.value_of bytes.now count) }
-    ensures kept { (read : List R) × (records.new.items ≡ records.old.items ++ read) }
+    ensures kept { (read : List R) × (records.new.items ≡ records.old.items ++ read) × HasRead R.WIDTH R.value_of bytes.now (length read) read × IfErr result (ComesAfter (length read)) }
 {
     let width = R::WIDTH;
     for i in 0..count {

@@ -2,7 +2,7 @@ use Rattle.std.proofs.Common.{◌≡◌, true, cond, List, [], ◌∷◌, ◌++�
 use Rattle.std.specs.Prelude.{is_ok}
 use Rattle.std.proofs.lemmas.List.{append-nil, append_assoc}
 use Rattle.record_core.specs.Cells.{cell}
-use Rattle.record_core.proofs.Cells.{cell_is, HasRead_more, AreRecords_read}
+use Rattle.record_core.proofs.Cells.{cell_is, HasRead_more, HasRead_all, AreRecords_read}
 use Rattle.record_core.proofs.records.read_records.Goals as goal
 
 pub loop-i-init : goal.loop-i-init
@@ -23,4 +23,6 @@ returns-clause-ok g c =
     (read.0, read.1, read.2.so_far ∙ omega arith, AreRecords_read g.R.Record.WIDTH g.R.Record.value_of c.args.bytes.now c.args.count c.loop-i.i read.0 c.requires (omega arith) read.2)
 
 pub returns-clause-kept : goal.returns-clause-kept
-returns-clause-kept g c = (c.loop-i.invariant.0, c.loop-i.invariant.1)
+returns-clause-kept g c =
+    let read = c.loop-i.invariant in
+    (read.0, read.1, HasRead_all g.R.Record.WIDTH g.R.Record.value_of c.args.bytes.now c.loop-i.i read.0 read.2, tt)

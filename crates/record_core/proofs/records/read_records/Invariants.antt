@@ -1,5 +1,5 @@
 use Rattle.std.proofs.Common.{◌≡◌, ◌++◌, List}
-use Rattle.record_core.proofs.Cells.{HasRead}
+use Rattle.record_core.specs.Cells.{HasRead}
 use Rattle.record_core.proofs.records.read_records.Given as goal
 
 abbrev pub invariant-loop-i : goal.invariant-loop-i
