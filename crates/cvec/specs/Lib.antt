@@ -3,6 +3,7 @@ pub mod Numbers
 pub mod SignedNumbers
 pub mod Halves
 pub mod Flags
+pub mod Keyed
 pub mod Lines
 pub mod GroupLine
 pub mod Words

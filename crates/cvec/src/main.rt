@@ -1,6 +1,7 @@
 //! `cvec`: from lines of records to segment files in hex, and back.
 #![tactic(auto)]
 
+mod flagged;
 mod group_line;
 mod groups;
 mod halves;
@@ -9,10 +10,12 @@ mod image;
 mod input;
 mod number;
 mod output;
+mod pair;
 mod program;
 mod refusal;
 mod request;
 mod show;
+mod signed_number;
 mod status;
 #[cfg(test)]
 mod tests;

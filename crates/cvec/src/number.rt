@@ -48,3 +48,21 @@ impl TextRecord for u64 {
 
     ghost one_value = { one_decimal 64 (lit≤ tt) };
 }
+
+impl TextRecord for u32 {
+    ghost is_value = { λ n. n < 2 ^ 32 };
+
+    ghost text_of = { decimal };
+
+    fn parse(text: &[u8]) -> Option<u32> {
+        u32::try_from(u64::parse(text)?).ok()
+    }
+
+    fn write_text<W: Write>(&self, writer: &mut W) -> io::Result<()> {
+        write_number(writer, u64::from(*self))
+    }
+
+    ghost is_word = { IsWord-decimal 32 (lit≤ tt) };
+
+    ghost one_value = { one_decimal 32 (lit≤ tt) };
+}

@@ -12,6 +12,7 @@ use crate::show::show;
 use crate::status::Status;
 use crate::text::TextRecord;
 use crate::words::{WordsFault, read_words};
+use record_core::{Flagged, Pair};
 use std::alloc::Global;
 use std::convert::AsStr;
 use std::io::{Read, Write};
@@ -46,7 +47,11 @@ fn run_task<I: Read, W: Write>(
     ensures no_usage { result ≢ Status.Usage }
 {
     match record_type {
+        RecordType::U32 => run_of::<u32, I, W>(alloc, task, reader, writer),
         RecordType::U64 => run_of::<u64, I, W>(alloc, task, reader, writer),
+        RecordType::I64 => run_of::<i64, I, W>(alloc, task, reader, writer),
+        RecordType::Pair => run_of::<Pair, I, W>(alloc, task, reader, writer),
+        RecordType::Flagged => run_of::<Flagged, I, W>(alloc, task, reader, writer),
     }
 }
 

@@ -12,5 +12,9 @@ pub enum Task {
 /// The types of record that the program knows.
 #[derive(Clone, Copy, Debug, PartialEq, Eq)]
 pub enum RecordType {
+    U32,
     U64,
+    I64,
+    Pair,
+    Flagged,
 }

@@ -7,7 +7,7 @@ use std::alloc::{AllocError, Global};
 use std::convert::AsStr;
 
 /// The words for the types of record.
-const TYPES: [&str; 1] = ["u64"];
+const TYPES: [&str; 5] = ["u32", "u64", "i64", "pair", "flagged"];
 
 /// Why words ask for nothing.
 #[derive(Clone, Copy, Debug, PartialEq, Eq)]
@@ -55,7 +55,11 @@ fn task_of(name: &str) -> Option<Task> {
 /// The type of record that a command was given.
 fn record_type_of(matches: &ArgMatches<'_>) -> Option<RecordType> {
     match matches.get_str("TYPE")? {
+        "u32" => Some(RecordType::U32),
         "u64" => Some(RecordType::U64),
+        "i64" => Some(RecordType::I64),
+        "pair" => Some(RecordType::Pair),
+        "flagged" => Some(RecordType::Flagged),
         _ => None,
     }
 }
