@@ -10,5 +10,6 @@ pub mod Words
 pub mod HexLine
 pub mod Refusals
 pub mod Engines
+pub mod Request
 pub mod Runs
 pub mod Status

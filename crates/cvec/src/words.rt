@@ -1,8 +1,11 @@
 //! The words that the program takes, read by `clap`.
 
+ghost use Rattle.std.specs.Prelude.{◌≡◌, ◌≢◌, IfSome, IfNone};
+ghost use Rattle.cvec.specs.Request.{task_word, type_word};
+
 use crate::request::{RecordType, Task};
 use clap::error::ErrorKind;
-use clap::{Arg, ArgAction, ArgMatches, Command, Error};
+use clap::{Arg, ArgAction, Command, Error};
 use std::alloc::{AllocError, Global};
 use std::convert::AsStr;
 
@@ -43,8 +46,11 @@ fn typed<'a>(alloc: Global, name: &'a str) -> Result<Command<'a>, AllocError> {
     Command::new(alloc, name).arg(of_type)
 }
 
-/// The task of a command's name.
-fn task_of(name: &str) -> Option<Task> {
+/// The task that a command's name stands for.
+fn task_of(name: &str) -> Option<Task>
+    ensures named { IfSome result (λ task. name.now ≡ task_word task) }
+    ensures unnamed { IfNone result ((task : Task) → name.now ≢ task_word task) }
+{
     match name {
         "image" => Some(Task::Image),
         "show" => Some(Task::Show),
@@ -52,9 +58,12 @@ fn task_of(name: &str) -> Option<Task> {
     }
 }
 
-/// The type of record that a command was given.
-fn record_type_of(matches: &ArgMatches<'_>) -> Option<RecordType> {
-    match matches.get_str("TYPE")? {
+/// The type of record that a word stands for.
+fn record_type_of(word: &str) -> Option<RecordType>
+    ensures named { IfSome result (λ record_type. word.now ≡ type_word record_type) }
+    ensures unnamed { IfNone result ((record_type : RecordType) → word.now ≢ type_word record_type) }
+{
+    match word {
         "u32" => Some(RecordType::U32),
         "u64" => Some(RecordType::U64),
         "i64" => Some(RecordType::I64),
@@ -76,7 +85,8 @@ pub fn read_words<'a, S: AsStr>(
         .subcommand(typed(alloc, "show")?)?;
     let matches = command.try_get_matches_from(words)?;
     let (name, of_command) = matches.subcommand().ok_or(WordsFault::Usage)?;
+    let word = of_command.get_str("TYPE").ok_or(WordsFault::Usage)?;
     let task = task_of(name).ok_or(WordsFault::Usage)?;
-    let record_type = record_type_of(of_command).ok_or(WordsFault::Usage)?;
+    let record_type = record_type_of(word).ok_or(WordsFault::Usage)?;
     Ok((task, record_type))
 }
