@@ -17,3 +17,6 @@ pub use key_value::Pair;
 pub use limit::PAYLOAD_LIMIT;
 pub use record::Record;
 pub use records::{RecordsFault, append_records, read_records};
+
+#[cfg(test)]
+mod tests;

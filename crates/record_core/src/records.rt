@@ -72,24 +72,3 @@ pub fn read_records<R: Record>(
     }
     Ok(())
 }
-
-#[cfg(test)]
-mod tests {
-    use super::*;
-    use crate::Record;
-    use std::test::Fail;
-
-    const TWO: [u8; 16] = [5, 0, 0, 0, 0, 0, 0, 0, 0, 1, 0, 0, 0, 0, 0, 255];
-
-    #[test]
-    fn numbers_stand_lowest_byte_first(rt: HostRuntime) -> Result<(), Fail> {
-        let mut bytes = Vec::new(rt.alloc());
-        append_records(&[5u64, 0xff00_0000_0000_0100], &mut bytes)?;
-        assert_eq!(rt; bytes.as_slice(), TWO.as_slice());
-        let mut records: Vec<u64> = Vec::new(rt.alloc());
-        read_records(&TWO, 2, &mut records)?;
-        assert_eq!(rt; records.as_slice(), [5, 0xff00_0000_0000_0100].as_slice());
-        assert_eq!(rt; u64::blank(), 0);
-        Ok(())
-    }
-}
