@@ -1,7 +1,7 @@
 //! The texts and files of each type of record, by the words that name it.
 
 use crate::program::run;
-use std::alloc::Global;
+use std::alloc::{AllocError, Global};
 use std::test::Fail;
 
 const NUMBERS_OF_4_BYTES: &[u8] =
@@ -33,38 +33,42 @@ fn answered(alloc: Global, words: &[&str], input: &[u8]) -> (u8, Vec<u8>) {
     (status.code(), written)
 }
 
+/// A type's word, a line of its records, the line's file, and its records one a line.
+type Example = (&'static str, &'static [u8], &'static [u8], &'static [u8]);
+
+const EXAMPLES: [Example; 6] = [
+    (
+        "u32",
+        b"0 4294967295\n",
+        NUMBERS_OF_4_BYTES,
+        b"0\n4294967295\n",
+    ),
+    (
+        "u64",
+        b"18446744073709551615\n",
+        GREATEST_U64,
+        b"18446744073709551615\n",
+    ),
+    (
+        "i64",
+        b"-9223372036854775808 9223372036854775807 | -1 0\n",
+        SIGNED_NUMBERS,
+        b"-9223372036854775808\n9223372036854775807\n-1\n0\n",
+    ),
+    ("pair", b"7:-3\n", SMALL_PAIR, b"7:-3\n"),
+    (
+        "pair",
+        b"18446744073709551615:-9223372036854775808 0:0",
+        TWO_PAIRS,
+        b"18446744073709551615:-9223372036854775808\n0:0\n",
+    ),
+    ("flagged", b"5:1 5:0\n", FLAGGED_KEYS, b"5:1\n5:0\n"),
+];
+
 #[test]
 fn records_of_each_type_are_written_and_shown(rt: HostRuntime) -> Result<(), Fail> {
     let alloc = rt.alloc();
-    let examples: [(&str, &[u8], &[u8], &[u8]); 6] = [
-        (
-            "u32",
-            b"0 4294967295\n",
-            NUMBERS_OF_4_BYTES,
-            b"0\n4294967295\n",
-        ),
-        (
-            "u64",
-            b"18446744073709551615\n",
-            GREATEST_U64,
-            b"18446744073709551615\n",
-        ),
-        (
-            "i64",
-            b"-9223372036854775808 9223372036854775807 | -1 0\n",
-            SIGNED_NUMBERS,
-            b"-9223372036854775808\n9223372036854775807\n-1\n0\n",
-        ),
-        ("pair", b"7:-3\n", SMALL_PAIR, b"7:-3\n"),
-        (
-            "pair",
-            b"18446744073709551615:-9223372036854775808 0:0",
-            TWO_PAIRS,
-            b"18446744073709551615:-9223372036854775808\n0:0\n",
-        ),
-        ("flagged", b"5:1 5:0\n", FLAGGED_KEYS, b"5:1\n5:0\n"),
-    ];
-    for (word, lines, hex, records) in examples {
+    for (word, lines, hex, records) in EXAMPLES {
         let (code, written) = answered(alloc, &["image", word], lines);
         assert_eq!(rt; code, 0, "image {word}");
         assert_eq!(rt; written.as_slice(), hex, "image {word}");
@@ -75,85 +79,88 @@ fn records_of_each_type_are_written_and_shown(rt: HostRuntime) -> Result<(), Fai
     Ok(())
 }
 
+const TEXTS_OF_NO_U32: [&[u8]; 7] = [
+    b"4294967296",
+    b"18446744073709551616",
+    b"-1",
+    b"01",
+    b"+1",
+    b"1:1",
+    b"",
+];
+
+const TEXTS_OF_NO_U64: [&[u8]; 6] = [b"18446744073709551616", b"-1", b"00", b"+0", b"1:1", b""];
+
+const TEXTS_OF_NO_I64: [&[u8]; 12] = [
+    b"-9223372036854775809",
+    b"9223372036854775808",
+    b"-18446744073709551616",
+    b"-0",
+    b"+1",
+    b"05",
+    b"-05",
+    b"-",
+    b"--1",
+    b"-+1",
+    b"1-",
+    b"",
+];
+
+const TEXTS_OF_NO_PAIR: [&[u8]; 13] = [
+    b"7",
+    b"7:",
+    b":3",
+    b":",
+    b"7:3:1",
+    b"7::3",
+    b"7:+3",
+    b"07:3",
+    b"7:-0",
+    b"-7:3",
+    b"18446744073709551616:0",
+    b"0:9223372036854775808",
+    b"",
+];
+
+const TEXTS_OF_NO_FLAGGED: [&[u8]; 11] = [
+    b"5:2",
+    b"5",
+    b"5:",
+    b":1",
+    b"5:01",
+    b"5:true",
+    b"5:-1",
+    b"5:1:1",
+    b"05:1",
+    b"18446744073709551616:0",
+    b"",
+];
+
+/// Whether each text, alone on a line, is refused as no group line.
+fn are_refused(alloc: Global, word: &str, texts: &[&[u8]]) -> Result<bool, AllocError> {
+    for text in texts {
+        let mut input = Vec::from_slice(alloc, *text)?;
+        input.push(b'\n')?;
+        let (code, written) = answered(alloc, &["image", word], input.as_slice());
+        if code != 1 || written.as_slice() != b"refused: line 1\n".as_slice() {
+            return Ok(false);
+        }
+    }
+    Ok(true)
+}
+
 #[test]
 fn the_text_of_no_record_is_refused(rt: HostRuntime) -> Result<(), Fail> {
     let alloc = rt.alloc();
-    let words: [(&str, &[&[u8]]); 5] = [
-        (
-            "u32",
-            &[
-                b"4294967296",
-                b"18446744073709551616",
-                b"-1",
-                b"01",
-                b"+1",
-                b"1:1",
-            ],
-        ),
-        (
-            "u64",
-            &[b"18446744073709551616", b"-1", b"00", b"+0", b"1:1"],
-        ),
-        (
-            "i64",
-            &[
-                b"-9223372036854775809",
-                b"9223372036854775808",
-                b"-18446744073709551616",
-                b"-0",
-                b"+1",
-                b"05",
-                b"-05",
-                b"-",
-                b"--1",
-                b"-+1",
-                b"1-",
-            ],
-        ),
-        (
-            "pair",
-            &[
-                b"7",
-                b"7:",
-                b":3",
-                b":",
-                b"7:3:1",
-                b"7::3",
-                b"7:+3",
-                b"07:3",
-                b"7:-0",
-                b"-7:3",
-                b"18446744073709551616:0",
-                b"0:9223372036854775808",
-            ],
-        ),
-        (
-            "flagged",
-            &[
-                b"5:2",
-                b"5",
-                b"5:",
-                b":1",
-                b"5:01",
-                b"5:true",
-                b"5:-1",
-                b"5:1:1",
-                b"05:1",
-                b"18446744073709551616:0",
-            ],
-        ),
+    let types: [(&str, &[&[u8]]); 5] = [
+        ("u32", &TEXTS_OF_NO_U32),
+        ("u64", &TEXTS_OF_NO_U64),
+        ("i64", &TEXTS_OF_NO_I64),
+        ("pair", &TEXTS_OF_NO_PAIR),
+        ("flagged", &TEXTS_OF_NO_FLAGGED),
     ];
-    for (word, texts) in words {
-        for text in texts {
-            let mut input = Vec::from_slice(alloc, *text)?;
-            input.push(b'\n')?;
-            let (code, written) = answered(alloc, &["image", word], input.as_slice());
-            assert_eq!(rt; code, 1, "image {word}");
-            assert_eq!(rt; written.as_slice(), b"refused: line 1\n".as_slice());
-        }
-        let (code, written) = answered(alloc, &["image", word], b"\n");
-        assert_eq!(rt; code, 1, "image {word}");
-        assert_eq!(rt; written.as_slice(), b"refused: line 1\n".as_slice());
+    for (word, texts) in types {
+        assert!(rt; are_refused(alloc, word, texts)?, "image {word}");
     }
     Ok(())
 }
