@@ -1,5 +1,5 @@
 -- A text is one of a key with something behind a colon where its halves are the texts of the two.
-use Rattle.std.proofs.Common.{◌≡◌, ◌≢◌, ℕ, ◌<◌, ◌^◌, List, ◌++◌, ◌∷◌, sym, ap, ◌∙◌, subst}
+use Rattle.std.proofs.Common.{◌≡◌, ◌≢◌, ℕ, ◌<◌, ◌^◌, List, sym, ap, ◌∙◌, subst}
 use Rattle.std.specs.Prelude.{decimal}
 use Rattle.cvec.specs.Halves.{halves_text, HasNoColon, first_half, second_half, some_colon}
 use Rattle.cvec.specs.Keyed.{keyed_text, HasNoColon-key}

@@ -6,12 +6,13 @@ ghost use Rattle.std.proofs.Common.{lit≤};
 ghost use Rattle.cvec.specs.Numbers.{BeginsAsNumber, IsWord-decimal, one_decimal};
 
 use crate::text::TextRecord;
+use itoa::Integer;
 use std::io;
 use std::io::Write;
 
-/// Writes a number in decimal digits.
-pub fn write_number<W: Write>(writer: &mut W, n: u64) -> io::Result<()>
-    ensures { OnOk result (Appends (W.contents writer.old) (W.contents writer.new) (decimal n)) }
+/// Writes a number in decimal digits, with a minus in front of one below 0.
+pub fn write_number<N: Integer, W: Write>(writer: &mut W, n: N) -> io::Result<()>
+    ensures { OnOk result (Appends (W.contents writer.old) (W.contents writer.new) (N.text n)) }
 {
     let mut buffer = itoa::Buffer::new();
     writer.write_all(buffer.format(n).as_bytes())
@@ -59,7 +60,7 @@ impl TextRecord for u32 {
     }
 
     fn write_text<W: Write>(&self, writer: &mut W) -> io::Result<()> {
-        write_number(writer, u64::from(*self))
+        write_number(writer, *self)
     }
 
     ghost is_word = { IsWord-decimal 32 (lit≤ tt) };

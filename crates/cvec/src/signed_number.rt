@@ -7,6 +7,7 @@ ghost use Rattle.std.specs.Option.{SomeIff};
 ghost use Rattle.std.proofs.Common.{neg_ℤ};
 ghost use Rattle.cvec.specs.SignedNumbers.{IsWord-signed, one_signed};
 
+use crate::number::write_number;
 use crate::text::TextRecord;
 use std::io;
 use std::io::Write;
@@ -44,8 +45,7 @@ impl TextRecord for i64 {
     }
 
     fn write_text<W: Write>(&self, writer: &mut W) -> io::Result<()> {
-        let mut buffer = itoa::Buffer::new();
-        writer.write_all(buffer.format(*self).as_bytes())
+        write_number(writer, *self)
     }
 
     ghost is_word = { IsWord-signed };
