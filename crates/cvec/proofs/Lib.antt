@@ -1,6 +1,8 @@
 pub mod Known
 pub mod Small
 pub mod NumberLemmas
+pub mod SignedLemmas
+pub mod KeyedLemmas
 pub mod Joins
 pub mod HexLines
 pub mod Reading

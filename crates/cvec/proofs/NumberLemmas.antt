@@ -1,13 +1,13 @@
 -- A text is a number's where std's `parse` reads it and neither a plus nor a zero stands in front.
-use Rattle.std.proofs.Common.{◌≡◌, ◌≢◌, ℕ, ◌<◌, ◌^◌, List, length, slice_index, Result, Ok, Err, sym, ap, ◌∙◌, subst, arith, inl, inr}
+use Rattle.std.proofs.Common.{◌≡◌, ◌≢◌, ℕ, ◌<◌, ◌≤◌, ◌^◌, List, length, slice_index, Result, Ok, Err, sym, ap, ◌∙◌, subst, arith, inl, inr}
 use Rattle.std.specs.Prelude.{decimal, IfSome, IfNone, IsUtf8}
-use Rattle.std.specs.Result.{result_ok}
+use Rattle.std.specs.Result.{OkIff, result_ok}
 use Rattle.std.specs.Str.Parse.{ParsesUnsigned, AllDigits, IsNumeral, digits_value, without_leading_plus}
 use Rattle.std.proofs.lemmas.Bool.{cases_lt}
-use Rattle.std.proofs.lemmas.Fmt.{decimal_nonempty, decimal_is_IsNumeral, decimal_digit, first_decimal, parse-decimal, decimal-digits_value, IsAscii-decimal}
+use Rattle.std.proofs.lemmas.Fmt.{decimal_nonempty, decimal_is_IsNumeral, decimal_digit, first_decimal, parse-decimal, decimal-digits_value, IsAscii-decimal, decimal_injective}
 use Rattle.std.proofs.lemmas.Str.Parse.{digit_at, numerals_by_value, tells_digits, without_leading_plus_none}
 use Rattle.std.proofs.lemmas.Str.{IsUtf8-from_ascii}
-use Rattle.cvec.specs.Numbers.{BeginsAsNumber}
+use Rattle.cvec.specs.Numbers.{BeginsAsNumber, fits_64}
 
 zero_alone : (n : ℕ) → n < 2 ^ 64 → slice_index (decimal n) 0 ≡ 48 → length (decimal n) ≡ 1
 zero_alone n small zero_first = elim (cases_lt 0 n) [
@@ -46,3 +46,12 @@ refused_is_none bs text (Err e) same parsed = λ n small is. not_err e n (parse-
 
 pub no_text : (bs : List ℕ) → (IsUtf8 bs → ⊥) → (n : ℕ) → n < 2 ^ 64 → decimal n ≢ bs
 no_text bs not_so n small is = not_so (subst IsUtf8 is (IsUtf8-from_ascii (decimal n) (IsAscii-decimal n small)))
+
+-- ---- a number of fewer bits
+
+pub one_text : (text : List ℕ) (m n : ℕ) → m < 2 ^ 64 → n < 2 ^ 64 → decimal m ≡ text → decimal n ≡ text → m ≡ n
+one_text text m n small less is so = decimal_injective m n small less (is ∙ sym so)
+
+pub no_narrow : {E : Type 0} (bits : ℕ) → bits ≤ 64 → (text : List ℕ) (n : ℕ) (r : Result ℕ E) → n < 2 ^ 64 → decimal n ≡ text → OkIff r (n < 2 ^ bits) n → IfNone (result_ok r) ((m : ℕ) → m < 2 ^ bits → decimal m ≢ text)
+no_narrow bits few text n (Ok m) small is so = tt
+no_narrow bits few text n (Err e) small is so = λ m less same. let one = one_text text m n (fits_64 bits few m less) small same is in so (omega (arith, less, one))

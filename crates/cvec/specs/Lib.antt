@@ -1,9 +1,15 @@
 pub mod Text
 pub mod Numbers
+pub mod SignedNumbers
+pub mod Halves
+pub mod Flags
+pub mod Keyed
 pub mod Lines
 pub mod GroupLine
 pub mod Words
 pub mod HexLine
 pub mod Refusals
 pub mod Engines
+pub mod Request
+pub mod Runs
 pub mod Status

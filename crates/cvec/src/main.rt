@@ -1,20 +1,26 @@
 //! `cvec`: from lines of records to segment files in hex, and back.
 #![tactic(auto)]
 
+mod flagged;
 mod group_line;
 mod groups;
+mod halves;
 mod hex_line;
 mod image;
 mod input;
 mod number;
 mod output;
+mod pair;
 mod program;
 mod refusal;
+mod request;
 mod show;
+mod signed_number;
 mod status;
 #[cfg(test)]
 mod tests;
 mod text;
+mod words;
 
 use crate::program::run;
 use crate::refusal::{Refusal, refuse};

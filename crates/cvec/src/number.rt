@@ -2,16 +2,17 @@
 
 ghost use Rattle.std.specs.Prelude.{◌<◌, ◌^◌, ◌↔◌, decimal, OnOk, IsTrue};
 ghost use Rattle.std.specs.Io.KnownBytes.{Appends};
-ghost use Rattle.std.proofs.lemmas.Fmt.{decimal_injective};
-ghost use Rattle.cvec.specs.Numbers.{BeginsAsNumber, IsWord-decimal};
+ghost use Rattle.std.proofs.Common.{lit≤};
+ghost use Rattle.cvec.specs.Numbers.{BeginsAsNumber, IsWord-decimal, one_decimal};
 
 use crate::text::TextRecord;
+use itoa::Integer;
 use std::io;
 use std::io::Write;
 
-/// Writes a number in decimal digits.
-pub fn write_number<W: Write>(writer: &mut W, n: u64) -> io::Result<()>
-    ensures { OnOk result (Appends (W.contents writer.old) (W.contents writer.new) (decimal n)) }
+/// Writes a number in decimal digits, with a minus in front of one below 0.
+pub fn write_number<N: Integer, W: Write>(writer: &mut W, n: N) -> io::Result<()>
+    ensures { OnOk result (Appends (W.contents writer.old) (W.contents writer.new) (N.text n)) }
 {
     let mut buffer = itoa::Buffer::new();
     writer.write_all(buffer.format(n).as_bytes())
@@ -44,7 +45,25 @@ impl TextRecord for u64 {
         write_number(writer, *self)
     }
 
-    ghost is_word = { IsWord-decimal };
+    ghost is_word = { IsWord-decimal 64 (lit≤ tt) };
 
-    ghost one_value = { decimal_injective };
+    ghost one_value = { one_decimal 64 (lit≤ tt) };
+}
+
+impl TextRecord for u32 {
+    ghost is_value = { λ n. n < 2 ^ 32 };
+
+    ghost text_of = { decimal };
+
+    fn parse(text: &[u8]) -> Option<u32> {
+        u32::try_from(u64::parse(text)?).ok()
+    }
+
+    fn write_text<W: Write>(&self, writer: &mut W) -> io::Result<()> {
+        write_number(writer, *self)
+    }
+
+    ghost is_word = { IsWord-decimal 32 (lit≤ tt) };
+
+    ghost one_value = { one_decimal 32 (lit≤ tt) };
 }

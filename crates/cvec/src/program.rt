@@ -1,53 +1,58 @@
-//! The words that the program takes, read by `clap`.
+//! The program: what its words ask for, done on its input and output.
 
-ghost use Rattle.std.specs.Prelude.{◌≡◌, [], IfSome, ◌⊎◌};
+ghost use Rattle.std.specs.Prelude.{◌≡◌, ◌≢◌, [], IfSome, ◌⊎◌};
 ghost use Rattle.std.specs.Io.KnownBytes.{Keeps};
-ghost use Rattle.cvec.specs.Engines.{IsImageRun, IsShowRun, IsIdleRun};
+ghost use Rattle.cvec.specs.Engines.{IsIdleRun};
+ghost use Rattle.cvec.specs.Runs.{IsTaskRun, IsRun, IsSomeRun};
 
 use crate::image::image;
 use crate::refusal::{Refusal, refuse};
+use crate::request::{RecordType, Task};
 use crate::show::show;
 use crate::status::Status;
 use crate::text::TextRecord;
-use clap::error::ErrorKind;
-use clap::{Arg, ArgAction, Command, Error};
-use record_core::Record;
-use std::alloc::{AllocError, Global};
+use crate::words::{WordsFault, read_words};
+use record_core::{Flagged, Pair};
+use std::alloc::Global;
 use std::convert::AsStr;
 use std::io::{Read, Write};
 
-/// The words for a type of record.
-const TYPES: [&str; 1] = ["u64"];
-
-/// What the words ask for.
-#[derive(Clone, Copy, Debug, PartialEq, Eq)]
-enum Task {
-    Image,
-    Show,
+/// Does the task on records of one type.
+fn run_of<R: TextRecord, I: Read, W: Write>(
+    alloc: Global,
+    task: Task,
+    reader: &mut I,
+    writer: &mut W,
+) -> Status
+    ensures ends { IfSome (I.remaining reader.old) (λ input.
+        IsTaskRun task R.WIDTH R.bytes_of R.value_of R.is_value R.text_of input (W.contents writer.old) (W.contents writer.new) result) }
+    ensures no_usage { result ≢ Status.Usage }
+{
+    match task {
+        Task::Image => image::<R, I, W>(alloc, reader, writer),
+        Task::Show => show::<R, I, W>(alloc, reader, writer),
+    }
 }
 
-/// A command that takes the word of a type.
-fn typed<'a>(alloc: Global, name: &'a str) -> Result<Command<'a>, AllocError> {
-    let of_type = Arg::new(alloc, "TYPE")
-        .required(true)
-        .action(ArgAction::Set)
-        .value_parser(TYPES.as_slice());
-    Command::new(alloc, name).arg(of_type)
-}
-
-/// What the words ask for, if they are words of the program.
-fn task_of<'a, S: AsStr>(alloc: Global, words: &'a [S]) -> Result<Option<Task>, Error> {
-    let command = Command::new(alloc, "cvec")
-        .no_binary_name(true)
-        .subcommand_required(true)
-        .subcommand(typed(alloc, "image")?)?
-        .subcommand(typed(alloc, "show")?)?;
-    let matches = command.try_get_matches_from(words)?;
-    Ok(match matches.subcommand_name() {
-        Some("image") => Some(Task::Image),
-        Some("show") => Some(Task::Show),
-        _ => None,
-    })
+/// Does the task on records of the type.
+fn run_task<I: Read, W: Write>(
+    alloc: Global,
+    task: Task,
+    record_type: RecordType,
+    reader: &mut I,
+    writer: &mut W,
+) -> Status
+    ensures ends { IfSome (I.remaining reader.old) (λ input.
+        IsRun task record_type input (W.contents writer.old) (W.contents writer.new) result) }
+    ensures no_usage { result ≢ Status.Usage }
+{
+    match record_type {
+        RecordType::U32 => run_of::<u32, I, W>(alloc, task, reader, writer),
+        RecordType::U64 => run_of::<u64, I, W>(alloc, task, reader, writer),
+        RecordType::I64 => run_of::<i64, I, W>(alloc, task, reader, writer),
+        RecordType::Pair => run_of::<Pair, I, W>(alloc, task, reader, writer),
+        RecordType::Flagged => run_of::<Flagged, I, W>(alloc, task, reader, writer),
+    }
 }
 
 /// Does what the words behind the program's name ask for, and with no words what `image u64` does. Words that
@@ -59,23 +64,18 @@ pub fn run<'a, S: AsStr, I: Read, W: Write>(
     writer: &mut W,
 ) -> Status
     ensures no_words { words.now ≡ [] → IfSome (I.remaining reader.old) (λ input.
-        IsImageRun ⟦<u64 as Record>⟧.WIDTH ⟦<u64 as Record>⟧.bytes_of ⟦<u64 as TextRecord>⟧.is_value ⟦<u64 as TextRecord>⟧.text_of
-        input (W.contents writer.old) (W.contents writer.new) result) }
+        IsRun Task.Image RecordType.U64 input (W.contents writer.old) (W.contents writer.new) result) }
     ensures ends { IfSome (I.remaining reader.old) (λ input.
-        IsImageRun ⟦<u64 as Record>⟧.WIDTH ⟦<u64 as Record>⟧.bytes_of ⟦<u64 as TextRecord>⟧.is_value ⟦<u64 as TextRecord>⟧.text_of
-        input (W.contents writer.old) (W.contents writer.new) result
-        ⊎ (IsShowRun ⟦<u64 as Record>⟧.WIDTH ⟦<u64 as Record>⟧.value_of ⟦<u64 as TextRecord>⟧.text_of
-        input (W.contents writer.old) (W.contents writer.new) result
-        ⊎ IsIdleRun (W.contents writer.old) (W.contents writer.new) result)) }
+        IsSomeRun input (W.contents writer.old) (W.contents writer.new) result
+        ⊎ IsIdleRun (W.contents writer.old) (W.contents writer.new) result) }
     ensures usage { result ≡ Status.Usage → Keeps (W.contents writer.old) (W.contents writer.new) }
 {
     if words.is_empty() {
-        return image::<u64, I, W>(alloc, reader, writer);
+        return run_task(alloc, Task::Image, RecordType::U64, reader, writer);
     }
-    match task_of(alloc, words) {
-        Ok(Some(Task::Image)) => image::<u64, I, W>(alloc, reader, writer),
-        Ok(Some(Task::Show)) => show::<u64, I, W>(alloc, reader, writer),
-        Err(error) if error.kind() == ErrorKind::OutOfMemory => refuse(writer, Refusal::Memory),
-        Ok(None) | Err(_) => Status::Usage,
+    match read_words(alloc, words) {
+        Ok((task, record_type)) => run_task(alloc, task, record_type, reader, writer),
+        Err(WordsFault::Memory) => refuse(writer, Refusal::Memory),
+        Err(WordsFault::Usage) => Status::Usage,
     }
 }

@@ -1,5 +1,7 @@
 //! Worked inputs and outputs of the engines and of the program, and readers and writers that fail.
 
+mod record_types;
+
 use crate::image::image;
 use crate::input::INPUT_LIMIT;
 use crate::program::run;
@@ -344,7 +346,7 @@ fn words_choose_the_engine(rt: HostRuntime) -> Result<(), Fail> {
         (&["image", "u64"], b"\n", 1, b"refused: line 1\n"),
         (&["show", "u64"], b"\n", 1, b"refused: unborn\n"),
         (&["show", "u64"], FIVE, 0, b"5\n"),
-        (&["show", "u32"], FIVE, 2, b""),
+        (&["show", "u16"], FIVE, 2, b""),
         (&["show"], FIVE, 2, b""),
         (&["show", "u64", "u64"], FIVE, 2, b""),
         (&["help"], FIVE, 2, b""),
