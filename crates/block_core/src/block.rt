@@ -1,6 +1,6 @@
 //! A block of records that nobody else sees yet.
 
-ghost use Rattle.std.specs.Prelude.{◌≡◌, ◌≤◌, ◌<◌, ◌+◌, ◌*◌, ◌^◌, ◌++◌, length, take, drop, replicate, MatchResult, OnOk, IsOk};
+ghost use Rattle.std.specs.Prelude.{◌≡◌, ◌≤◌, ◌<◌, ◌++◌, length, replicate, MatchResult};
 
 use crate::fault::FreshFault;
 use crate::filling::fill_parts;
@@ -44,12 +44,11 @@ impl<R: Record> Model for Fresh<R> {
 }
 
 impl<R: Record> Fresh<R> {
-    ghost use Rattle.std.specs.Borrow.{sem, Lends, LendsBoth, Array};
+    ghost use Rattle.std.specs.Borrow.{sem};
     ghost use Rattle.std.specs.Slice.Iter.{chunks_mut_rest, chunks_mut_size};
     ghost use Rattle.block_core.specs.Length.{IsBlockLength, IsLengthFault, IsRefusal};
-    ghost use Rattle.block_core.specs.Lent.{left_in};
+    ghost use Rattle.block_core.specs.Lent.{LendsRecords, LendsHalves};
     ghost use Rattle.block_core.specs.Touched.{TouchedFrom};
-    ghost use Rattle.block_core.specs.contracts.block.Fresh.{the_row};
 
     /// Whether a block may have `n` records: none is `Empty`, more than fit one frame is `TooLarge`. It takes no
     /// memory and never answers `Memory`.
@@ -67,14 +66,18 @@ impl<R: Record> Fresh<R> {
 
     /// A block of `n` blank records.
     pub fn new(alloc: Global, n: u64) -> Result<Fresh<R>, FreshFault>
-        ensures { MatchResult result (λ fresh. (fresh ≡ replicate n R.blank_value) × IsBlockLength R.WIDTH n) (IsRefusal R.WIDTH n) }
+        ensures { MatchResult result
+            (λ fresh. (fresh ≡ replicate n R.blank_value) × IsBlockLength R.WIDTH n)
+            (IsRefusal R.WIDTH n) }
     {
         Fresh::filled(alloc, n, R::blank())
     }
 
     /// A block of copies of these records.
     pub fn from_slice(alloc: Global, records: &[R]) -> Result<Fresh<R>, FreshFault>
-        ensures { MatchResult result (λ fresh. (fresh ≡ records.now) × IsBlockLength R.WIDTH (length records.now)) (IsRefusal R.WIDTH (length records.now)) }
+        ensures { MatchResult result
+            (λ fresh. (fresh ≡ records.now) × IsBlockLength R.WIDTH (length records.now))
+            (IsRefusal R.WIDTH (length records.now)) }
     {
         Fresh::<R>::check_len(records.len() as u64)?;
         let copies = Vec::from_slice(alloc, records).map_err(|_| FreshFault::Memory)?;
@@ -83,7 +86,9 @@ impl<R: Record> Fresh<R> {
 
     /// A block of `n` copies of `v`.
     pub fn filled(alloc: Global, n: u64, v: R) -> Result<Fresh<R>, FreshFault>
-        ensures { MatchResult result (λ fresh. (fresh ≡ replicate n v) × IsBlockLength R.WIDTH n) (IsRefusal R.WIDTH n) }
+        ensures { MatchResult result
+            (λ fresh. (fresh ≡ replicate n v) × IsBlockLength R.WIDTH n)
+            (IsRefusal R.WIDTH n) }
     {
         Fresh::<R>::check_len(n)?;
         let len = n as usize;
@@ -95,7 +100,9 @@ impl<R: Record> Fresh<R> {
     /// The block of these records, in its box.
     fn boxed(alloc: Global, records: Vec<R>) -> Result<Fresh<R>, FreshFault>
         requires { IsBlockLength R.WIDTH (length records.items) }
-        ensures { MatchResult result (λ fresh. fresh ≡ records.items) (λ fault. fault ≡ FreshFault.Memory) }
+        ensures { MatchResult result
+            (λ fresh. fresh ≡ records.items)
+            (λ fault. fault ≡ FreshFault.Memory) }
     {
         let entry = Entry {
             number: 0,
@@ -129,7 +136,7 @@ impl<R: Record> Fresh<R> {
     /// The records in order, to be written over. The block has what is left in them.
     pub fn records_mut(&mut self) -> &mut [R]
         ensures value { result.now ≡ self.old }
-        ensures* writes_back { sem 𝓛 (Lends (the_row R.row R.Record.own R.PartialEq) (Array R.row 0) self.entry result (left_in self.old)) }
+        ensures* writes_back { sem 𝓛 (LendsRecords R.row R.Record.own R.PartialEq self.entry result) }
     {
         self.entry.records.as_mut_slice()
     }
@@ -148,7 +155,7 @@ impl<R: Record> Fresh<R> {
         requires { at ≤ length self.old }
         ensures joined { self.old ≡ result.0.now ++ result.1.now }
         ensures front { length result.0.now ≡ at }
-        ensures* writes_back { sem 𝓛 (LendsBoth (the_row R.row R.Record.own R.PartialEq) (Array R.row 0) (Array R.row 0) self.entry result (λ front back. left_in self.old (front ++ back))) }
+        ensures* writes_back { sem 𝓛 (LendsHalves R.row R.Record.own R.PartialEq self.entry result) }
     {
         self.records_mut().split_at_mut(at)
     }

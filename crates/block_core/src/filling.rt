@@ -1,6 +1,6 @@
 //! A touch of many records, in several threads.
 
-ghost use Rattle.std.specs.Prelude.{◌≡◌, ◌≤◌, ◌<◌, ◌+◌, ◌^◌, length};
+ghost use Rattle.std.specs.Prelude.{◌≤◌, ◌<◌, ◌+◌, ◌^◌, length};
 ghost use Rattle.block_core.specs.Touched.{TouchedFrom};
 
 use crate::touching::Touch;
