@@ -1,6 +1,9 @@
 //! The words that the program takes, read by `clap`.
 
-ghost use Rattle.std.specs.Prelude.{◌≡◌, ◌≢◌, IfSome, IfNone};
+ghost use Rattle.std.specs.Prelude.{◌≡◌, ◌≢◌, ◌↔◌, IfSome, IfNone};
+ghost use Rattle.clap.specs.Values.{kind_of};
+ghost use Rattle.clap.specs.declared.error.kind.ErrorKind.TheVariants as kinds;
+ghost use Rattle.cvec.specs.declared.words.WordsFault.TheVariants as faults;
 ghost use Rattle.cvec.specs.Request.{task_word, type_word};
 
 use crate::request::{RecordType, Task};
@@ -22,6 +25,8 @@ pub enum WordsFault {
 }
 
 impl From<Error> for WordsFault {
+    ghost from_gives = { λ error fault. (fault ≡ faults.Memory) ↔ (kind_of error ≡ kinds.OutOfMemory) };
+
     fn from(error: Error) -> WordsFault {
         if error.kind() == ErrorKind::OutOfMemory {
             WordsFault::Memory
@@ -32,6 +37,8 @@ impl From<Error> for WordsFault {
 }
 
 impl From<AllocError> for WordsFault {
+    ghost from_gives = { λ _ fault. fault ≡ faults.Memory };
+
     fn from(_: AllocError) -> WordsFault {
         WordsFault::Memory
     }
