@@ -6,6 +6,7 @@ ghost use Rattle.disk_core.specs.FileDisk.{states_of};
 use crate::{Disk, DiskFault, FileDisk};
 use std::fs::{self, File, Metadata, OpenFile, Permissions};
 use std::io;
+use std::mem::size_of;
 use std::os::unix::fs::{FileExt, MetadataExt, PermissionsExt};
 use std::sync::atomic::{AtomicU64, Ordering};
 use std::test::Fail;
@@ -26,6 +27,11 @@ fn write<D: Disk>(disk: &mut D, at: u64, bytes: &[u8]) -> Result<(), DiskFault> 
         return Err(DiskFault::Write);
     }
     disk.write_at(at, bytes)
+}
+
+#[test]
+fn what_proofs_alone_read_takes_no_memory(rt: HostRuntime) {
+    assert_eq!(rt; size_of::<FileDisk>(), size_of::<(File, bool)>());
 }
 
 #[test]
