@@ -20,13 +20,16 @@ use std::rt::Files;
 ///
 /// What a file holds no program can know, so its meaning as a disk is read from two values that take no memory: the
 /// calls so far with their answers, and what no call tells (`FileTruth`): the bytes that the file held when it was
-/// opened, and those that a failed write left. The contracts of `Disk` hold whatever these are, as long as the
-/// answers agree with them. Before the first sync nothing of the file is known to be on the disk.
+/// opened, and those that a failed write left. The contracts of `Disk` hold whatever these are; clauses on bytes, as
+/// long as the answers agree with them. Before the first sync nothing of the file is known to be on the disk.
 ///
-/// **Its user's premise**, which no proof shows, is that the file keeps the model: nobody else writes, shortens or
-/// replaces it while the disk is in use; a read gives what was written last, and the length is what the writes made
-/// it; after a sync that succeeded the device has these bytes and the length, and a crash leaves them, but for the
-/// ranges written since, where it may leave anything, and nothing is changed outside of these.
+/// **Its user's premise**, which no proof shows, is that the file keeps the model. Nobody else writes, shortens or
+/// replaces it while the disk is in use, or shortened it before without a sync. A read gives what was written last,
+/// and the length is what the writes made it; a write that fails changes nothing outside its range, and leaves a
+/// length up to its end. After a sync that succeeded the device has these bytes and the length; a crash leaves them,
+/// but for the ranges written since, where it may leave anything, and a length up to the greatest since. Where a
+/// sync failed, nobody opens the file again before the system is restarted: it may show what the device doesn't
+/// have.
 #[derive(Drop)]
 pub struct FileDisk<F: FileExt + OpenFile + Drop = File> {
     file: F,
@@ -97,6 +100,10 @@ fn sync_folder<R: Files>(rt: &R, path: &str) -> io::Result<()> {
 }
 
 impl<F: FileExt + OpenFile + Drop> Disk for FileDisk<F> {
+    ghost use Rattle.std.specs.Prelude.{◌+◌, ◌<◌, ◌≤◌, ◌^◌, length, OnOk, OnErr};
+    ghost use Rattle.disk_core.specs.Calls.{bytes_of, Writes, TearsWrite, LeavesPending};
+    ghost use Rattle.disk_core.specs.Moments.{clock};
+    ghost use Rattle.disk_core.specs.Fault.{IsCounted};
     ghost use Rattle.disk_core.specs.FileDisk.{states_of, faults_of, KeepsSoFar};
 
     ghost states = { states_of };
@@ -134,7 +141,18 @@ impl<F: FileExt + OpenFile + Drop> Disk for FileDisk<F> {
         }
     }
 
-    fn write_at(&mut self, at: u64, bytes: &[u8]) -> Result<(), DiskFault> {
+    fn write_at(&mut self, at: u64, bytes: &[u8]) -> Result<(), DiskFault>
+        requires inside { KeepsSoFar self.old → at ≤ length (bytes_of (states_of self.old)) }
+        requires fits { at + length bytes.now < 2 ^ 64 }
+        ensures done { KeepsSoFar self.old
+            → OnOk result (Writes at bytes.now (states_of self.old) (states_of self.new)) }
+        ensures torn { KeepsSoFar self.new
+            → OnErr result (TearsWrite at (length bytes.now) (states_of self.old) (states_of self.new)) }
+        ensures pending { OnErr result (LeavesPending at (length bytes.now) (states_of self.old) (states_of self.new)) }
+        ensures time { clock (states_of self.new) ≡ clock (states_of self.old) + 1 }
+        ensures cause { IsCounted DiskFault.Write (faults_of self.old) (faults_of self.new) result }
+        ensures model { KeepsSoFar self.new → KeepsSoFar self.old }
+    {
         match self.file.write_all_at(bytes, at) {
             Ok(()) => {
                 self.log = self.log.and(&FileEvent::Written(at), &Snapshot::of(bytes));

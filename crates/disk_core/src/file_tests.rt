@@ -4,10 +4,10 @@ ghost use Rattle.disk_core.specs.File.{opened};
 ghost use Rattle.disk_core.specs.FileDisk.{states_of};
 
 use crate::{Disk, DiskFault, FileDisk};
-use std::fs::{self, File, Metadata, OpenFile, Permissions};
+use std::fs::{self, File, Metadata, OpenFile, OpenOptions, Permissions};
 use std::io;
 use std::mem::size_of;
-use std::os::unix::fs::{FileExt, MetadataExt, PermissionsExt};
+use std::os::unix::fs::{FileExt, PermissionsExt};
 use std::sync::atomic::{AtomicU64, Ordering};
 use std::test::Fail;
 
@@ -104,15 +104,36 @@ fn what_cannot_be_opened_is_refused(rt: HostRuntime) -> Result<(), Fail> {
     assert_eq!(rt; kind_of(FileDisk::make(&rt, "a_folder/none/none")), missing);
     assert!(rt; !fs::exists(&rt, "a_folder/none")?);
 
+    // std's own open tells what this machine refuses to this user.
     let path = "a_folder/locked";
     fs::write(&rt, path, b"kept".as_slice())?;
     fs::set_permissions(&rt, path, Permissions::from_mode(0))?;
-    let is_root = fs::metadata(&rt, "/proc/self")?.uid() == 0;
-    let denied = Some(io::ErrorKind::PermissionDenied);
+    let locked = OpenOptions::new().read(true).write(true).open(&rt, path);
     assert_eq!(rt;
         kind_of(FileDisk::open(&rt, path)),
-        if is_root { None } else { denied }
+        locked.err().map(|error| error.kind())
     );
+    fs::remove_dir_all(&rt, folder)?;
+    Ok(())
+}
+
+#[test]
+fn the_folder_of_a_new_file_is_synced_or_its_error_answered(rt: HostRuntime) -> Result<(), Fail> {
+    let folder = "folder_to_sync";
+    let _ = fs::remove_dir_all(&rt, folder);
+    fs::create_dir(&rt, folder)?;
+    FileDisk::make(&rt, "folder_to_sync/new")?;
+    assert!(rt; fs::exists(&rt, "folder_to_sync/new")?);
+
+    // A folder that may be written and not read: where std can't open it, it can't be synced.
+    fs::set_permissions(&rt, folder, Permissions::from_mode(0o300))?;
+    let unread = File::open(&rt, folder).err().map(|error| error.kind());
+    assert_eq!(rt;
+        kind_of(FileDisk::make(&rt, "folder_to_sync/other")),
+        unread
+    );
+    assert!(rt; fs::exists(&rt, "folder_to_sync/other")?);
+    fs::set_permissions(&rt, folder, Permissions::from_mode(0o700))?;
     fs::remove_dir_all(&rt, folder)?;
     Ok(())
 }
