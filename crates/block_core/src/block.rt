@@ -160,10 +160,9 @@ impl<R: Record> Fresh<R> {
         self.records_mut().split_at_mut(at)
     }
 
-    /// Touches every record, the first of which stands at the place 0, in parts of `part` records and in as many
-    /// threads as there are processors. However the parts are cut, each record becomes what the touch makes of it
-    /// alone. Few records, and a block of one part, are touched by the calling thread: starting threads pays only
-    /// where a touch is heavy.
+    /// Touches every record, the first of which stands at the place 0, in parts of `part` records, and in several
+    /// threads at once. However the parts are cut, each record becomes what the touch makes of it alone. Few records,
+    /// and records of one part, are touched by the calling thread.
     pub fn fill<E: Threads + Sync, T: Touch<R>>(&mut self, rt: &E, part: usize, touch: &T)
         requires { 0 < part }
         ensures { TouchedFrom (T.one touch.now) 0 self.old self.new }

@@ -11,7 +11,7 @@ use std::thread::Threads;
 const FEW: usize = 4096;
 
 /// Touches the records, the first of which stands at the place 0, in parts of so many records. Few records, and
-/// records of one part, are touched by the calling thread.
+/// records of one part, are touched by the calling thread, part by part.
 pub(crate) fn fill_parts<R: Copy + Send + Sync, E: Threads + Sync, T: Touch<R>>(
     rt: &E,
     records: &mut [R],
@@ -23,8 +23,7 @@ pub(crate) fn fill_parts<R: Copy + Send + Sync, E: Threads + Sync, T: Touch<R>>(
     ensures { TouchedFrom (T.one touch.now) 0 records.old records.new }
 {
     if records.len() < FEW || records.len() <= part {
-        touch.touch(0, records);
-        return;
+        return touch_in_turn(records, part, touch);
     }
     par_chunks_mut_for_each(
         rt,
@@ -35,4 +34,18 @@ pub(crate) fn fill_parts<R: Copy + Send + Sync, E: Threads + Sync, T: Touch<R>>(
             ensures { TouchedFrom (T.one touch.entry.now) start chunk.entry.now chunk.exit.now }
         { touch.touch(start as u64, chunk) },
     );
+}
+
+/// The same by the calling thread alone.
+fn touch_in_turn<R: Copy, T: Touch<R>>(records: &mut [R], part: usize, touch: &T)
+    requires some { 0 < part }
+    requires small { length records.old ≤ 2 ^ 32 }
+    ensures { TouchedFrom (T.one touch.now) 0 records.old records.new }
+{
+    let mut at = 0;
+    while at < records.len() {
+        let len = part.min(records.len() - at);
+        touch.touch(at as u64, &mut records[at..at + len]);
+        at += len;
+    }
 }

@@ -1,6 +1,8 @@
 ghost use Rattle.std.specs.Prelude.{◌≡◌, ◌+◌, ◌*◌, ◌%◌, ◌^◌, ◌<◌, length, slice_set};
 
 use super::*;
+use record_core::{Flagged, Pair};
+use std::sync::atomic::{AtomicU64, Ordering};
 use std::test::Fail;
 
 /// The square of the place, whatever stood there.
@@ -25,6 +27,25 @@ impl Touch<u64> for Tripled {
     }
 }
 
+/// Squares that count how often they touch.
+#[derive(Drop)]
+struct Counted {
+    touches: AtomicU64,
+}
+
+impl Touch<u64> for Counted {
+    ghost one = { λ _ at _. at * at };
+
+    fn one(&self, at: u64, _r: u64) -> u64 {
+        at * at
+    }
+
+    fn touch(&self, at: u64, part: &mut [u64]) {
+        self.touches.fetch_add(1, Ordering::SeqCst);
+        Squares.touch(at, part);
+    }
+}
+
 const SQUARES: [u64; 10] = [0, 1, 4, 9, 16, 25, 36, 49, 64, 81];
 
 /// The most records of u64: 8 + 131,071 * 8 is 1,048,576.
@@ -34,6 +55,7 @@ const MOST: u64 = 131_071;
 fn a_block_is_as_long_as_one_frame_holds(rt: HostRuntime) -> Result<(), Fail> {
     let most = Fresh::filled(rt.alloc(), MOST, 1u64)?;
     assert_eq!(rt; most.len(), MOST);
+    assert_eq!(rt; 8 + most.len() * 8, PAYLOAD_LIMIT as u64);
     assert_eq!(rt;
         Fresh::filled(rt.alloc(), MOST + 1, 1u64).err(),
         Some(FreshFault::TooLarge)
@@ -51,6 +73,21 @@ fn a_block_is_as_long_as_one_frame_holds(rt: HostRuntime) -> Result<(), Fail> {
         Some(FreshFault::TooLarge)
     );
     Ok(())
+}
+
+#[test]
+fn each_type_has_its_greatest_length(rt: HostRuntime) {
+    assert_eq!(rt; Fresh::<u32>::check_len(262_142), Ok(()));
+    assert_eq!(rt; Fresh::<u32>::check_len(262_143), Err(FreshFault::TooLarge));
+    assert_eq!(rt; Fresh::<i64>::check_len(131_071), Ok(()));
+    assert_eq!(rt; Fresh::<i64>::check_len(131_072), Err(FreshFault::TooLarge));
+    assert_eq!(rt; Fresh::<Pair>::check_len(65_535), Ok(()));
+    assert_eq!(rt; Fresh::<Pair>::check_len(65_536), Err(FreshFault::TooLarge));
+    assert_eq!(rt; Fresh::<Flagged>::check_len(116_507), Ok(()));
+    assert_eq!(rt;
+        Fresh::<Flagged>::check_len(116_508),
+        Err(FreshFault::TooLarge)
+    );
 }
 
 #[test]
@@ -157,6 +194,33 @@ fn many_records_are_filled_alike_however_they_are_cut(rt: HostRuntime) -> Result
     assert!(rt; fills_many(&rt, 65_536)?);
     assert!(rt; fills_many(&rt, 100_000)?);
     assert!(rt; fills_many(&rt, 1_000_000)?);
+    Ok(())
+}
+
+/// How many parts so many records are touched in.
+fn touches_of<E: Threads + AllocGlobal + Sync>(
+    rt: &E,
+    n: u64,
+    part: usize,
+) -> Result<u64, FreshFault>
+    requires { 0 < part }
+{
+    let counted = Counted {
+        touches: AtomicU64::new(0),
+    };
+    let mut fresh = Fresh::<u64>::new(rt.alloc(), n)?;
+    fresh.fill(rt, part, &counted);
+    Ok(counted.touches.load(Ordering::SeqCst))
+}
+
+#[test]
+fn a_block_is_touched_in_the_parts_that_were_asked_for(rt: HostRuntime) -> Result<(), Fail> {
+    assert_eq!(rt; touches_of(&rt, 10, 1)?, 10);
+    assert_eq!(rt; touches_of(&rt, 10, 3)?, 4);
+    assert_eq!(rt; touches_of(&rt, 10, 10)?, 1);
+    assert_eq!(rt; touches_of(&rt, 10, 11)?, 1);
+    assert_eq!(rt; touches_of(&rt, 100_000, 1000)?, 100);
+    assert_eq!(rt; touches_of(&rt, 100_000, 65_536)?, 2);
     Ok(())
 }
 
