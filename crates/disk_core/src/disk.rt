@@ -21,7 +21,7 @@ pub trait Disk {
 
     /// The disk has kept the model so far: what its clauses say of bytes was so. Of a disk in memory that always
     /// holds. Of a real file no program can know beforehand what it will answer: there a call whose answer is not
-    /// the model's ends it, and no later call brings it back.
+    /// the model's ends it, and nothing else does (`goes_on`). No later call brings it back (`model`).
     ghost keeps: { Self → Type 0 };
 
     /// The length in bytes. Nothing changes.
@@ -30,7 +30,9 @@ pub trait Disk {
         ensures same { keeps self.old → Stays (states self.old) (states self.new) }
         ensures time { clock (states self.new) ≡ clock (states self.old) + 1 }
         ensures cause { IsCounted Length (faults self.old) (faults self.new) result }
-        ensures model { keeps self.new → keeps self.old };
+        ensures model { keeps self.new → keeps self.old }
+        ensures goes_on { keeps self.old
+            → IfOk result (λ n. n ≡ length (bytes_of (states self.old))) → keeps self.new };
 
     /// Fills `out` with the bytes that stand from `at` on. Where it fails, `out` may hold anything.
     fn read_at(&mut self, at: u64, out: &mut [u8]) -> Result<(), DiskFault>
@@ -40,7 +42,10 @@ pub trait Disk {
         ensures same { keeps self.old → Stays (states self.old) (states self.new) }
         ensures time { clock (states self.new) ≡ clock (states self.old) + 1 }
         ensures cause { IsCounted Read (faults self.old) (faults self.new) result }
-        ensures model { keeps self.new → keeps self.old };
+        ensures model { keeps self.new → keeps self.old }
+        ensures goes_on { keeps self.old
+            → OnOk result (out.new ≡ slice_range (bytes_of (states self.old)) at (at + length out.old))
+            → keeps self.new };
 
     /// Writes `bytes` from `at` on, over what is there and past the end. Until a sync succeeds, a crash may leave
     /// anything in their place. Where it fails, a read too may give anything in their place, and the disk may have
@@ -54,7 +59,8 @@ pub trait Disk {
             → OnErr result (TearsWrite at (length bytes.now) (states self.old) (states self.new)) }
         ensures time { clock (states self.new) ≡ clock (states self.old) + 1 }
         ensures cause { IsCounted Write (faults self.old) (faults self.new) result }
-        ensures model { keeps self.new → keeps self.old };
+        ensures model { keeps self.new → keeps self.old }
+        ensures goes_on { keeps self.old → OnOk result (keeps self.new) };
 
     /// After it succeeds, a crash leaves what a read gives. After it fails, what it might have left before.
     fn sync(&mut self) -> Result<(), DiskFault>
@@ -62,7 +68,8 @@ pub trait Disk {
         ensures same { keeps self.old → OnErr result (Stays (states self.old) (states self.new)) }
         ensures time { clock (states self.new) ≡ clock (states self.old) + 1 }
         ensures cause { IsCounted Sync (faults self.old) (faults self.new) result }
-        ensures model { keeps self.new → keeps self.old };
+        ensures model { keeps self.new → keeps self.old }
+        ensures goes_on { keeps self.old → keeps self.new };
 
     /// A crash may leave the bytes as they read.
     ghost reads_an_image: { (disk : Self) → keeps disk

@@ -152,6 +152,9 @@ impl<F: FileExt + OpenFile + Drop> Disk for FileDisk<F> {
         ensures time { clock (states_of self.new) ≡ clock (states_of self.old) + 1 }
         ensures cause { IsCounted DiskFault.Write (faults_of self.old) (faults_of self.new) result }
         ensures model { KeepsSoFar self.new → KeepsSoFar self.old }
+        ensures goes_on { KeepsSoFar self.old → OnOk result (KeepsSoFar self.new) }
+        ensures goes_on_torn { KeepsSoFar self.old → OnErr result (
+            TearsWrite at (length bytes.now) (states_of self.old) (states_of self.new) → KeepsSoFar self.new) }
     {
         match self.file.write_all_at(bytes, at) {
             Ok(()) => {

@@ -76,6 +76,8 @@ impl<D: Disk> Disk for FuseDisk<D> {
         ensures time { clock (states_of self.new) ≡ clock (states_of self.old) + 1 }
         ensures cause { IsCounted DiskFault.Length (faults_of self.old) (faults_of self.new) result }
         ensures model { D.keeps (below self.new) → D.keeps (below self.old) }
+        ensures goes_on { D.keeps (below self.old)
+            → IfOk result (λ n. n ≡ length (bytes_of (states_of self.old))) → D.keeps (below self.new) }
 
         ensures burns { fuse_of self.new ≡ burnt (fuse_of self.old) }
         ensures reaches { MatchFate (fate_of (fuse_of self.old))
@@ -100,6 +102,9 @@ impl<D: Disk> Disk for FuseDisk<D> {
         ensures time { clock (states_of self.new) ≡ clock (states_of self.old) + 1 }
         ensures cause { IsCounted DiskFault.Read (faults_of self.old) (faults_of self.new) result }
         ensures model { D.keeps (below self.new) → D.keeps (below self.old) }
+        ensures goes_on { D.keeps (below self.old)
+            → OnOk result (out.new ≡ slice_range (bytes_of (states_of self.old)) at (at + length out.old))
+            → D.keeps (below self.new) }
 
         ensures burns { fuse_of self.new ≡ burnt (fuse_of self.old) }
         ensures reaches { MatchFate (fate_of (fuse_of self.old))
@@ -125,6 +130,7 @@ impl<D: Disk> Disk for FuseDisk<D> {
         ensures time { clock (states_of self.new) ≡ clock (states_of self.old) + 1 }
         ensures cause { IsCounted DiskFault.Write (faults_of self.old) (faults_of self.new) result }
         ensures model { D.keeps (below self.new) → D.keeps (below self.old) }
+        ensures goes_on { D.keeps (below self.old) → OnOk result (D.keeps (below self.new)) }
 
         ensures burns { fuse_of self.new ≡ burnt (fuse_of self.old) }
         ensures reaches { MatchFate (fate_of (fuse_of self.old))
@@ -154,6 +160,7 @@ impl<D: Disk> Disk for FuseDisk<D> {
         ensures time { clock (states_of self.new) ≡ clock (states_of self.old) + 1 }
         ensures cause { IsCounted DiskFault.Sync (faults_of self.old) (faults_of self.new) result }
         ensures model { D.keeps (below self.new) → D.keeps (below self.old) }
+        ensures goes_on { D.keeps (below self.old) → D.keeps (below self.new) }
 
         ensures burns { fuse_of self.new ≡ burnt (fuse_of self.old) }
         ensures reaches { MatchFate (fate_of (fuse_of self.old))
