@@ -1,0 +1,1 @@
+//! What frames say of a vector, on files written by hand.
