@@ -1,13 +1,2 @@
-pub mod Numbers
-pub mod Payload
-pub mod Lines
-pub mod Head
-pub mod Reader
-pub mod Longest
-pub mod Walked
-pub mod Homes
-pub mod Header
-pub mod Refusals
-pub mod OneVector
-pub mod Written
-pub mod ReadAgain
+pub mod LastFrom
+pub mod FoundLaid

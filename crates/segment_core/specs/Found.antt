@@ -36,11 +36,13 @@ first_record_of seen = seen.at + 6 + head_len seen.shape.format seen.frame
 abbrev pub IsDecoded : {R : Type 0} → Encoding R → List ℕ → ℕ → Option R → Option ℕ → Type 0
 IsDecoded form image place held note = MatchOption (record_in form image place) (note ≡ Some place) (λ r. (held ≡ Some r) × (note ≡ None))
 
--- behind the old records and notes stand new ones: decoded where places are told, and as before elsewhere
+-- the same of a position that a place may be told of: with none it is held as before
+abbrev pub IsLaidAt : {R : Type 0} → Encoding R → List ℕ → Option ℕ → Option R → Option R → Option ℕ → Option ℕ → Type 0
+IsLaidAt form image place held before note note_before = MatchOption place ((held ≡ before) × (note ≡ note_before)) (λ at. IsDecoded form image at held note)
+
+-- the old records and notes gave way to new ones at the positions whose places are told
 abbrev pub IsLaid : {R : Type 0} → Encoding R → List ℕ → (ℕ → Option ℕ) → List R → Notes → List R → Notes → Type 0
-IsLaid form image says old old_notes new new_notes = (i : ℕ) → i < length new → MatchOption (says i)
-    ((slice_get new i ≡ slice_get old i) × (noted new_notes i ≡ noted old_notes i))
-    (λ place. IsDecoded form image place (slice_get new i) (noted new_notes i))
+IsLaid form image says old old_notes new new_notes = (i : ℕ) → i < length new → IsLaidAt form image (says i) (slice_get new i) (slice_get old i) (noted new_notes i) (noted old_notes i)
 
 -- ---- homes
 

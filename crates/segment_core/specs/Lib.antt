@@ -1,12 +1,11 @@
 pub mod Shape
-pub mod Command
 pub mod Frame
 pub mod Kind
 pub mod Reading
-pub mod Scanned
 pub mod Layout
 pub mod Tally
 pub mod Image
 pub mod Vector
 pub mod Fault
-pub mod Written
+pub mod Notes
+pub mod Found

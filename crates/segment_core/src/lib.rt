@@ -6,16 +6,16 @@
 
 mod fault;
 mod format;
+mod found;
 mod frame;
-mod image;
-mod vector;
-mod walk;
+mod notes;
+mod tally;
 
 pub use fault::{Cause, ImageFault, ScanFault};
-pub use format::{FrameKind, RECORD_LIMIT, VERSION};
+pub use format::{Format, FrameKind, RECORD_LIMIT, Shape};
+pub use found::{Home, Homes};
 pub use frame::FrameReader;
-pub use image::write_image;
-pub use vector::{Scanned, scan};
+pub use tally::Tally;
 
 #[cfg(test)]
-mod tests;
+mod found_tests;
