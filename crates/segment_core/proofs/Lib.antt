@@ -1,2 +1,4 @@
 pub mod LastFrom
 pub mod FoundLaid
+pub mod FoundHomes
+pub mod FoundChanges

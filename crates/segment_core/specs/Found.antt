@@ -87,6 +87,11 @@ abbrev pub live_among : ℕ → List Seen → ℕ → Option ℕ
 live_among width [] i = None
 live_among width (change ∷ changes) i = option_or (live_among width changes i) (place_in_runs width i (first_record_of change) (runs_of change.frame))
 
+-- the records of changes were laid over those of their positions, in any image in which the changes stand
+abbrev pub AreLaid : {R : Type 0} → Encoding R → List Seen → List R → Notes → List R → Notes → Type 0
+AreLaid form changes old old_notes new new_notes = (image : List ℕ) → AllByRecursion (λ change. StandsAt image (first_record_of change) (record_bytes_of change.frame)) changes
+    → IsLaid form image (live_among form.width changes) old old_notes new new_notes
+
 -- start and count of each run
 abbrev pub pairs_of : Seen → List (ℕ × ℕ)
 pairs_of change = map (λ run. (run.start, run.count)) (runs_of change.frame)
@@ -130,6 +135,12 @@ pub record IsGrown {R : Type 0} (form : Encoding R) (seen : Seen) (old new : Fou
   pub home : new.homes.items ≡ old.homes.items ++ record { position = length old.records.items; place = first_record_of seen; count = record_count seen.frame } ∷ []
   pub folded_is : new.folded ≡ old.folded
   pub live_is : new.live.items ≡ old.live.items
+
+-- the same is said of the positions, and of their homes
+pub record IsSame {R : Type 0} (old new : Found R) : Type 0 where
+  pub records_are : new.records.items ≡ old.records.items
+  pub notes_are : (i : ℕ) → noted new.notes i ≡ noted old.notes i
+  pub homes_are : new.homes.items ≡ old.homes.items
 
 -- the vector was cut
 pub record IsCut {R : Type 0} (size : ℕ) (old new : Found R) : Type 0 where

@@ -10,7 +10,7 @@ ghost use Rattle.segment_core.specs.Tally.{are_inside};
 ghost use Rattle.segment_core.specs.Vector.{place_among, place_in_runs, IsVectorOf};
 ghost use Rattle.segment_core.specs.Reading.{runs_of, record_bytes_of, record_count};
 ghost use Rattle.segment_core.specs.Notes.{noted};
-ghost use Rattle.segment_core.specs.Found.{StandsAt, first_record_of, IsDecoded, IsLaid, home_among, AreInTurn, AreHomes, AreHomesOf, IsInside, IsFound, Follows, IsGrown, IsCut, BeginsWithText, IsNoVector, IsLeastNoted, live_among, pairs_of};
+ghost use Rattle.segment_core.specs.Found.{StandsAt, first_record_of, IsDecoded, IsLaid, home_among, AreInTurn, AreHomes, AreHomesOf, IsInside, IsFound, Follows, AreLaid, IsGrown, IsSame, IsCut, BeginsWithText, IsNoVector, IsLeastNoted, pairs_of};
 
 use crate::fault::{Cause, ScanFault};
 use crate::format::FrameKind;
@@ -164,8 +164,7 @@ fn lay_all<R: Record>(
 ) -> Result<(), AllocError>
     requires wide { AllByRecursion (λ change. change.shape.width ≡ R.form.width) changes.now.items }
     requires inside { AllByRecursion (IsInside (length records.old)) changes.now.items }
-    ensures { OnOk result ((image : List ℕ) → AllByRecursion (λ change. StandsAt image (first_record_of change) (record_bytes_of change.frame)) changes.now.items
-        → IsLaid R.form image (live_among R.form.width changes.now.items) records.old notes.old records.new notes.new) }
+    ensures { OnOk result (AreLaid R.form changes.now.items records.old notes.old records.new notes.new) }
 {
     for k in 0..changes.len() {
         let change = &changes[k];
@@ -182,11 +181,9 @@ fn lay_live<R: Record>(
 ) -> Result<(), ScanFault>
     requires wide { AllByRecursion (λ change. change.shape.width ≡ R.form.width) changes.now.items }
     requires inside { AllByRecursion (IsInside (length records.old)) changes.now.items }
-    ensures laid { (image : List ℕ) → AllByRecursion (λ change. StandsAt image (first_record_of change) (record_bytes_of change.frame)) changes.now.items
-        → IsLaid R.form image (live_among R.form.width changes.now.items) records.old notes.old records.new notes.new ⊎ (result ≡ Err ScanFault.Memory) }
-    ensures least { MatchResult result
-        (λ _. (i : ℕ) → i < length records.new → noted notes.new i ≡ None)
-        (λ fault. IsLeastNoted (length records.new) notes.new fault ⊎ (fault ≡ ScanFault.Memory)) }
+    ensures { MatchResult result
+        (λ _. AreLaid R.form changes.now.items records.old notes.old records.new notes.new × ((i : ℕ) → i < length records.new → noted notes.new i ≡ None))
+        (λ fault. (AreLaid R.form changes.now.items records.old notes.old records.new notes.new × IsLeastNoted (length records.new) notes.new fault) ⊎ (fault ≡ ScanFault.Memory)) }
 {
     if lay_all(changes, records, notes).is_err() {
         return Err(ScanFault::Memory);
@@ -308,9 +305,7 @@ impl<R: Record> Found<R> {
         requires { self.old.folded ≤ count }
         ensures folded { self.new.folded ≡ count }
         ensures live { self.new.live.items ≡ drop (count - self.old.folded) self.old.live.items }
-        ensures records { self.new.records.items ≡ self.old.records.items }
-        ensures notes { (i : ℕ) → noted self.new.notes i ≡ noted self.old.notes i }
-        ensures homes { self.new.homes.items ≡ self.old.homes.items }
+        ensures same { IsSame self.old self.new }
     {
         while self.folded < count {
             self.live.pop_front();
