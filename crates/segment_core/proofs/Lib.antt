@@ -2,3 +2,4 @@ pub mod LastFrom
 pub mod FoundLaid
 pub mod FoundHomes
 pub mod FoundChanges
+pub mod FoundSteps
