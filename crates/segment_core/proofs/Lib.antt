@@ -3,3 +3,4 @@ pub mod FoundLaid
 pub mod FoundHomes
 pub mod FoundChanges
 pub mod FoundSteps
+pub mod FoundEnd

@@ -185,9 +185,9 @@ fn lay_live<R: Record>(
         (λ _. AreLaid R.form changes.now.items records.old notes.old records.new notes.new × ((i : ℕ) → i < length records.new → noted notes.new i ≡ None))
         (λ fault. (AreLaid R.form changes.now.items records.old notes.old records.new notes.new × IsLeastNoted (length records.new) notes.new fault) ⊎ (fault ≡ ScanFault.Memory)) }
 {
-    if lay_all(changes, records, notes).is_err() {
+    let Ok(()) = lay_all(changes, records, notes) else {
         return Err(ScanFault::Memory);
-    }
+    };
     match notes.least(records.len() as u64) {
         None => Ok(()),
         Some((_, place)) => Err(ScanFault::Damaged {
