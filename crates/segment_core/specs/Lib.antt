@@ -1,3 +1,4 @@
+pub mod Shape
 pub mod Command
 pub mod Frame
 pub mod Kind
@@ -8,5 +9,4 @@ pub mod Tally
 pub mod Image
 pub mod Vector
 pub mod Fault
-pub mod Walk
 pub mod Written

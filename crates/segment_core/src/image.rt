@@ -5,12 +5,13 @@ ghost use Rattle.std.specs.List.{flat_map};
 ghost use Rattle.std.specs.Int.{w32, to_le_bytes};
 ghost use Rattle.record_core.specs.Cells.{AreReadAgain};
 ghost use Rattle.record_core.specs.Limits.{payload_limit};
+ghost use Rattle.segment_core.specs.declared.format.Format.TheVariants.{One};
 ghost use Rattle.segment_core.specs.Frame.{frame_text, header};
 ghost use Rattle.segment_core.specs.Vector.{HasVector};
 ghost use Rattle.segment_core.specs.Written.{AreFilled, AllFit, growths_of, groups_of, group_frame, file_of, joined, all_records, payload_len, IsImageRefused};
 
 use crate::fault::ImageFault;
-use crate::format::{CLOSED, FRAME_HEAD_LEN, FrameKind, HEADER_LEN, MAGIC, OPEN, VERSION};
+use crate::format::{CLOSED, FRAME_HEAD_LEN, Format, FrameKind, HEADER_LEN, MAGIC, OPEN};
 use record_core::{PAYLOAD_LIMIT, Record, append_records, width_of};
 use std::alloc::{AllocError, Global};
 
@@ -25,7 +26,7 @@ pub fn write_image<R: Record>(alloc: Global, groups: &[Vec<Vec<R>>]) -> Result<V
         (IsImageRefused R.form.width (groups_of groups.now)) }
     // The file is read as the records in their order, where they aren't too many for a vector.
     ensures read_again { IfOk result (λ file. length (all_records (groups_of groups.now)) ≤ 2 ^ 32 →
-        HasVector R.form file.items (map (group_frame R.form) (groups_of groups.now)) (all_records (groups_of groups.now))) }
+        HasVector One R.form file.items (map (group_frame R.form) (groups_of groups.now)) (all_records (groups_of groups.now))) }
 {
     let size = image_len(groups)?;
     let Ok(mut file) = Vec::with_capacity(alloc, size) else {
@@ -113,7 +114,7 @@ fn append_head(payload_len: usize, growths: usize, file: &mut Vec<u8>) -> Result
 /// Appends the frame of a group, behind an open gate.
 fn append_group<R: Record>(group: &[Vec<R>], file: &mut Vec<u8>) -> Result<(), AllocError>
     requires { payload_len R.form.width (growths_of group.now) ≤ payload_limit }
-    ensures text { OnOk result (file.new.items ≡ file.old.items ++ frame_text (group_frame R.form (growths_of group.now))) }
+    ensures text { OnOk result (file.new.items ≡ file.old.items ++ frame_text One (group_frame R.form (growths_of group.now))) }
     ensures read_again { OnOk result (AreReadAgain R.form (joined (growths_of group.now))) }
 {
     let len = payload_size(group).unwrap();
@@ -125,11 +126,11 @@ fn append_group<R: Record>(group: &[Vec<R>], file: &mut Vec<u8>) -> Result<(), A
 /// Appends the header.
 fn append_header(width: usize, file: &mut Vec<u8>) -> Result<(), AllocError>
     requires { width < 2 ^ 16 }
-    ensures { OnOk result (file.new.items ≡ file.old.items ++ header width) }
+    ensures { OnOk result (file.new.items ≡ file.old.items ++ header (record { format = One; width = width })) }
 {
     file.push(OPEN)?;
     file.extend_from_slice(MAGIC)?;
-    file.push(VERSION)?;
+    file.push(Format::One.version())?;
     file.extend_from_slice(&(width as u16).to_le_bytes())
 }
 
