@@ -4,10 +4,7 @@ pub mod Lines
 pub mod Head
 pub mod Reader
 pub mod Longest
-pub mod Walked
-pub mod Homes
 pub mod Header
 pub mod Refusals
 pub mod OneVector
-pub mod Written
-pub mod ReadAgain
+pub mod Worked

@@ -9,4 +9,6 @@ pub mod Tally
 pub mod Image
 pub mod Vector
 pub mod Fault
+pub mod Notes
+pub mod Walk
 pub mod Written
