@@ -1,10 +1,4 @@
 pub mod Numbers
-pub mod Payload
-pub mod Lines
-pub mod Head
-pub mod Reader
-pub mod Longest
-pub mod Header
-pub mod Refusals
-pub mod OneVector
+pub mod RunRows
+pub mod Push
 pub mod Worked
