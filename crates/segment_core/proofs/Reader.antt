@@ -1,0 +1,71 @@
+-- The fields of a frame, as a reader finds them in the payload.
+use Rattle.std.proofs.Common.{◌≡◌, ℕ, ◌+◌, ◌-◌, ◌*◌, ◌<◌, ◌≤◌, true, false, List, ◌++◌, length, take, drop, get_or, Some, None, refl, sym, ap, subst, ◌∙◌, append_assoc, arith}
+use Rattle.std.specs.Prelude.{slice_get}
+use Rattle.std.specs.List.{flat_map}
+use Rattle.std.specs.Int.{w32, w64, to_le_bytes}
+use Rattle.std.proofs.lemmas.List.{drop-drop, drop_at, length-append}
+use Rattle.segment_core.specs.declared.format.Format.{Format}
+use Rattle.segment_core.specs.declared.format.Shape.{Shape}
+use Rattle.segment_core.specs.declared.format.FrameKind.{FrameKind}
+use Rattle.segment_core.specs.declared.format.FrameKind.TheVariants as kinds
+use Rattle.segment_core.specs.declared.fault.ScanFault.{ScanFault}
+use Rattle.segment_core.specs.Frame.{Run, Frame, Group, Change, Shrink, Fold, number_len, runs_len, runs_text, kind_of, payload_of, frame_text}
+use Rattle.segment_core.specs.Kind.{kind_byte}
+use Rattle.segment_core.specs.Layout.{u32_at, count_in, run_count_in, runs_in, frame_in}
+use Rattle.segment_core.specs.Fault.{first_line, frame_lines, is_closed}
+use Rattle.segment_core.specs.Reading.{IsRead, IsShort, BeginsWith, lengths_of, runs_of, record_bytes_of, head_len}
+use Rattle.segment_core.proofs.Numbers.{u32_at-drop, length-numbers_in, get_or-numbers_in, length-numbers_text}
+use Rattle.segment_core.proofs.RunRows.{length-runs_text, length-runs_from}
+use Rattle.segment_core.proofs.Lines.{frame_lines-frame_text, is_closed-frame_text}
+
+-- where the gate is closed, no frame begins
+pub none_behind_closed : (shape : Shape) (bytes : List ℕ) (frame : Frame) → is_closed bytes ≡ true → BeginsWith shape bytes frame → ⊥
+none_behind_closed shape bytes frame closed begins =
+    let clash : true ≡ false = sym closed ∙ ap is_closed begins.text.1 ∙ is_closed-frame_text shape.format frame begins.text.0 in
+    absurd cc
+
+-- nor where a line of the table holds
+pub none_where_faulty : (shape : Shape) (p : ℕ) (bytes : List ℕ) (frame : Frame) (fault : ScanFault) → first_line (frame_lines shape p bytes) ≡ Some fault → BeginsWith shape bytes frame → ⊥
+none_where_faulty shape p bytes frame fault some begins =
+    let clash : Some fault ≡ None = sym some ∙ ap (λ bs. first_line (frame_lines shape p bs)) begins.text.1 ∙ frame_lines-frame_text shape p frame begins.text.0 begins.whole in
+    absurd cc
+
+-- nor past the end
+pub none_past_end : (shape : Shape) (bytes : List ℕ) (frame : Frame) → length bytes ≡ 0 → BeginsWith shape bytes frame → ⊥
+none_past_end shape bytes frame none begins =
+    let clash : 0 ≡ length (frame_text shape.format frame ++ begins.text.0) = sym none ∙ ap length begins.text.1 in
+    absurd cc
+
+-- nor where it is cut short
+pub none_where_short : (shape : Shape) (p : ℕ) (bytes : List ℕ) (frame : Frame) → 0 < length bytes → IsShort shape p bytes → BeginsWith shape bytes frame → ⊥
+none_where_short shape p bytes frame some short begins = none_where_faulty shape p bytes frame _ (short.cut some) begins
+
+-- ---- heads
+
+pub heads_of_group : (shape : Shape) (payload : List ℕ) → length (lengths_of (frame_in shape 1 payload)) ≡ count_in payload
+heads_of_group shape payload = length-numbers_in (count_in payload) (drop 4 payload)
+
+pub heads_of_change : (shape : Shape) (payload : List ℕ) → length (runs_of (frame_in shape 2 payload)) ≡ run_count_in shape.format payload
+heads_of_change shape payload = length-runs_from shape.format _ (run_count_in shape.format payload) (drop (number_len shape.format) payload)
+
+-- the bytes of the records stand behind the head
+behind_head : (format : Format) (frame : Frame) → drop (head_len format frame) (payload_of format frame) ≡ record_bytes_of frame
+behind_head format (Group lengths bytes) =
+    let count : List ℕ = to_le_bytes w32 (length lengths) in
+    let numbers : List ℕ = flat_map (to_le_bytes w32) lengths in
+    let len : length (count ++ numbers) ≡ 4 + length lengths * 4 = length-append count numbers ∙ ap (λ n. 4 + n) (length-numbers_text lengths) in
+    ap (drop (4 + length lengths * 4)) (sym (append_assoc count numbers bytes)) ∙ drop_at (count ++ numbers) bytes (4 + length lengths * 4) len
+behind_head format (Change runs bytes) = drop_at (runs_text format runs) bytes (runs_len format (length runs)) (length-runs_text format runs)
+behind_head format (Shrink n) = refl
+behind_head format (Fold count) = refl
+
+pub area_read : (at : ℕ) (shape : Shape) (heads records : ℕ) (payload : List ℕ) (frame : Frame) → IsRead at shape heads records payload frame → drop (head_len shape.format frame) payload ≡ record_bytes_of frame
+area_read at shape heads records payload frame read = ap (drop (head_len shape.format frame)) (sym read.spelled) ∙ behind_head shape.format frame
+
+pub length_read : (shape : Shape) (payload : List ℕ) (kind : FrameKind) (k : ℕ) → k < length (lengths_of (frame_in shape (kind_byte kind) payload)) → u32_at payload (4 + k * 4) ≡ get_or (lengths_of (frame_in shape (kind_byte kind) payload)) k 0
+length_read shape payload kinds.Group k lt =
+    let count = heads_of_group shape payload in
+    sym (u32_at-drop payload 4 (k * 4)) ∙ sym (get_or-numbers_in (count_in payload) (drop 4 payload) k (omega arith))
+length_read shape payload kinds.Change k lt = absurd (omega arith)
+length_read shape payload kinds.Shrink k lt = absurd (omega arith)
+length_read shape payload kinds.Fold k lt = absurd (omega arith)
