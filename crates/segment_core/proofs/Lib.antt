@@ -1,4 +1,12 @@
 pub mod Numbers
 pub mod RunRows
 pub mod Push
+pub mod Payload
+pub mod Lines
+pub mod Longest
+pub mod Head
+pub mod Reader
+pub mod Header
+pub mod Refusals
+pub mod OneVector
 pub mod Worked

@@ -1,6 +1,6 @@
 -- The fields of a frame, as a reader finds them in the payload.
-use Rattle.std.proofs.Common.{◌≡◌, ℕ, ◌+◌, ◌-◌, ◌*◌, ◌<◌, ◌≤◌, true, false, List, ◌++◌, length, take, drop, get_or, Some, None, refl, sym, ap, subst, ◌∙◌, append_assoc, arith}
-use Rattle.std.specs.Prelude.{slice_get}
+use Rattle.std.proofs.Common.{◌≡◌, ℕ, ◌+◌, ◌-◌, ◌*◌, ◌/◌, ◌<◌, ◌≤◌, true, false, List, ◌++◌, length, take, drop, get_or, Option, Some, None, refl, sym, ap, subst, ◌∙◌, append_assoc, arith}
+use Rattle.std.specs.Prelude.{slice_get, sum, MatchOption}
 use Rattle.std.specs.List.{flat_map}
 use Rattle.std.specs.Int.{w32, w64, to_le_bytes}
 use Rattle.std.proofs.lemmas.List.{drop-drop, drop_at, length-append}
@@ -11,11 +11,11 @@ use Rattle.segment_core.specs.declared.format.FrameKind.TheVariants as kinds
 use Rattle.segment_core.specs.declared.fault.ScanFault.{ScanFault}
 use Rattle.segment_core.specs.Frame.{Run, Frame, Group, Change, Shrink, Fold, number_len, runs_len, runs_text, kind_of, payload_of, frame_text}
 use Rattle.segment_core.specs.Kind.{kind_byte}
-use Rattle.segment_core.specs.Layout.{u32_at, count_in, run_count_in, runs_in, frame_in}
+use Rattle.segment_core.specs.Layout.{u32_at, count_in, lengths_in, run_count_in, runs_in, frame_in, is_group_layout, is_layout}
 use Rattle.segment_core.specs.Fault.{first_line, frame_lines, is_closed}
-use Rattle.segment_core.specs.Reading.{IsRead, IsShort, BeginsWith, lengths_of, runs_of, record_bytes_of, head_len}
+use Rattle.segment_core.specs.Reading.{IsRead, IsShort, BeginsWith, lengths_of, runs_of, record_bytes_of, record_count, head_len}
 use Rattle.segment_core.proofs.Numbers.{u32_at-drop, length-numbers_in, get_or-numbers_in, length-numbers_text}
-use Rattle.segment_core.proofs.RunRows.{length-runs_text, length-runs_from}
+use Rattle.segment_core.proofs.RunRows.{length-runs_text, length-runs_from, run_read, run_read-drop, slice_get-runs_from}
 use Rattle.segment_core.proofs.Lines.{frame_lines-frame_text, is_closed-frame_text}
 
 -- where the gate is closed, no frame begins
@@ -69,3 +69,42 @@ length_read shape payload kinds.Group k lt =
 length_read shape payload kinds.Change k lt = absurd (omega arith)
 length_read shape payload kinds.Shrink k lt = absurd (omega arith)
 length_read shape payload kinds.Fold k lt = absurd (omega arith)
+
+-- the run that stands at its place
+pub run_found : (shape : Shape) (payload : List ℕ) (k : ℕ) → k < run_count_in shape.format payload
+    → slice_get (runs_in shape payload) k ≡ Some (run_read shape.format ((length payload - 8) / shape.width) payload (number_len shape.format + k * (8 + number_len shape.format)))
+run_found shape payload k lt =
+    let filling : ℕ = (length payload - 8) / shape.width in
+    slice_get-runs_from shape.format filling (run_count_in shape.format payload) (drop (number_len shape.format) payload) k lt
+    ∙ ap Some (run_read-drop shape.format filling payload (number_len shape.format) (k * (8 + number_len shape.format)))
+
+-- a reader of a change finds its runs in the payload
+pub record IsRunOf (shape : Shape) (payload : List ℕ) (frame : Frame) (k : ℕ) : Type 0 where
+  pub counted : k < run_count_in shape.format payload
+  pub inside : runs_len shape.format (run_count_in shape.format payload) ≤ length payload
+  pub runs_are : runs_of frame ≡ runs_in shape payload
+
+pub is_run_of : (at : ℕ) (shape : Shape) (heads records : ℕ) (payload : List ℕ) (kind : FrameKind) (k : ℕ) → IsRead at shape heads records payload (frame_in shape (kind_byte kind) payload)
+    → k < length (runs_of (frame_in shape (kind_byte kind) payload)) → IsRunOf shape payload (frame_in shape (kind_byte kind) payload) k
+is_run_of at shape heads records payload kinds.Group k read lt = absurd (omega arith)
+is_run_of at shape heads records payload kinds.Change k read lt =
+    let count = heads_of_change shape payload in
+    let sized = read.sized in
+    let head : runs_len shape.format (length (runs_of (frame_in shape 2 payload))) ≡ runs_len shape.format (run_count_in shape.format payload) = ap (runs_len shape.format) count in
+    record { counted = omega arith; inside = omega arith; runs_are = refl }
+is_run_of at shape heads records payload kinds.Shrink k read lt = absurd (omega arith)
+is_run_of at shape heads records payload kinds.Fold k read lt = absurd (omega arith)
+
+-- ---- counts
+
+-- what is counted of a payload of this kind, if it has the form of one
+abbrev pub CountsAre : Shape → List ℕ → Option (ℕ × ℕ) → FrameKind → Type 0
+CountsAre shape payload counts kind = MatchOption counts (is_layout shape (kind_byte kind) payload ≡ false)
+    (λ c. (is_layout shape (kind_byte kind) payload ≡ true) × (c.0 ≡ length (lengths_of (frame_in shape (kind_byte kind) payload)) + length (runs_of (frame_in shape (kind_byte kind) payload))) × (c.1 ≡ record_count (frame_in shape (kind_byte kind) payload)))
+
+group_counted : (shape : Shape) (payload : List ℕ) (counts : Option (ℕ × ℕ)) → MatchOption counts (is_group_layout shape.width payload ≡ false) (λ c. (is_group_layout shape.width payload ≡ true) × (c.0 ≡ count_in payload) × (c.1 ≡ sum (lengths_in payload))) → CountsAre shape payload counts kinds.Group
+group_counted shape payload None m = m
+group_counted shape payload (Some c) m = (m.0, (let n = m.1 in let h = heads_of_group shape payload in omega arith), m.2)
+
+pub counted_of_group : (shape : Shape) (payload : List ℕ) (counts : Option (ℕ × ℕ)) (kind : FrameKind) → kind ≡ kinds.Group → MatchOption counts (is_group_layout shape.width payload ≡ false) (λ c. (is_group_layout shape.width payload ≡ true) × (c.0 ≡ count_in payload) × (c.1 ≡ sum (lengths_in payload))) → CountsAre shape payload counts kind
+counted_of_group shape payload counts kind is m = subst (CountsAre shape payload counts) (sym is) (group_counted shape payload counts m)
