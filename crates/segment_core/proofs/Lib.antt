@@ -9,4 +9,5 @@ pub mod Reader
 pub mod Header
 pub mod Refusals
 pub mod OneVector
+pub mod Tallied
 pub mod Worked

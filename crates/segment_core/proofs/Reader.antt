@@ -1,19 +1,23 @@
 -- The fields of a frame, as a reader finds them in the payload.
-use Rattle.std.proofs.Common.{◌≡◌, ℕ, ◌+◌, ◌-◌, ◌*◌, ◌/◌, ◌<◌, ◌≤◌, true, false, List, ◌++◌, length, take, drop, get_or, Option, Some, None, refl, sym, ap, subst, ◌∙◌, append_assoc, arith}
+use Rattle.std.proofs.Common.{◌≡◌, ℕ, ◌+◌, ◌-◌, ◌*◌, ◌/◌, ◌<◌, ◌≤◌, true, false, List, [], ◌++◌, length, take, drop, get_or, Option, Some, None, Err, refl, sym, ap, subst, ◌∙◌, append_assoc, arith}
 use Rattle.std.specs.Prelude.{slice_get, sum, MatchOption}
 use Rattle.std.specs.List.{flat_map}
 use Rattle.std.specs.Int.{w32, w64, to_le_bytes}
-use Rattle.std.proofs.lemmas.List.{drop-drop, drop_at, length-append}
+use Rattle.std.proofs.lemmas.List.{append-nil, drop-drop, drop_at, length-append}
+use Rattle.segment_core.specs.declared.frame.Unread.{Unread}
+use Rattle.segment_core.specs.declared.frame.Unread.TheVariants.{Short, Fault}
 use Rattle.segment_core.specs.declared.format.Format.{Format}
+use Rattle.segment_core.specs.declared.format.Format.TheVariants.{One, Two}
 use Rattle.segment_core.specs.declared.format.Shape.{Shape}
 use Rattle.segment_core.specs.declared.format.FrameKind.{FrameKind}
 use Rattle.segment_core.specs.declared.format.FrameKind.TheVariants as kinds
 use Rattle.segment_core.specs.declared.fault.ScanFault.{ScanFault}
+use Rattle.segment_core.specs.Shape.{version_of}
 use Rattle.segment_core.specs.Frame.{Run, Frame, Group, Change, Shrink, Fold, number_len, runs_len, runs_text, kind_of, payload_of, frame_text}
 use Rattle.segment_core.specs.Kind.{kind_byte}
 use Rattle.segment_core.specs.Layout.{u32_at, count_in, lengths_in, run_count_in, runs_in, frame_in, is_group_layout, is_layout}
 use Rattle.segment_core.specs.Fault.{first_line, frame_lines, is_closed}
-use Rattle.segment_core.specs.Reading.{IsRead, IsShort, BeginsWith, lengths_of, runs_of, record_bytes_of, record_count, head_len}
+use Rattle.segment_core.specs.Reading.{IsNext, IsRead, IsShort, BeginsWith, lengths_of, runs_of, record_bytes_of, record_count, head_len}
 use Rattle.segment_core.proofs.Numbers.{u32_at-drop, length-numbers_in, get_or-numbers_in, length-numbers_text}
 use Rattle.segment_core.proofs.RunRows.{length-runs_text, length-runs_from, run_read, run_read-drop, slice_get-runs_from}
 use Rattle.segment_core.proofs.Lines.{frame_lines-frame_text, is_closed-frame_text}
@@ -108,3 +112,17 @@ group_counted shape payload (Some c) m = (m.0, (let n = m.1 in let h = heads_of_
 
 pub counted_of_group : (shape : Shape) (payload : List ℕ) (counts : Option (ℕ × ℕ)) (kind : FrameKind) → kind ≡ kinds.Group → MatchOption counts (is_group_layout shape.width payload ≡ false) (λ c. (is_group_layout shape.width payload ≡ true) × (c.0 ≡ count_in payload) × (c.1 ≡ sum (lengths_in payload))) → CountsAre shape payload counts kind
 counted_of_group shape payload counts kind is m = subst (CountsAre shape payload counts) (sym is) (group_counted shape payload counts m)
+
+-- ---- formats by their versions
+
+pub same_format : (one other : Format) → version_of one ≡ version_of other → one ≡ other
+same_format One One is = refl
+same_format One Two is = absurd (omega arith)
+same_format Two One is = absurd (omega arith)
+same_format Two Two is = refl
+
+-- where no frame was read behind an open gate, none is whole
+pub none_unread : (shape : Shape) (p : ℕ) (bytes : List ℕ) (frame : Frame) (unread : Unread) → 0 < length bytes → IsNext shape p bytes (Err unread) → BeginsWith shape bytes frame → ⊥
+none_unread shape p bytes frame Short some next begins = none_where_short shape p bytes frame some next begins
+none_unread shape p bytes frame (Fault fault) some next begins =
+    none_where_faulty shape p bytes frame fault (ap (λ (bs : List ℕ). first_line (frame_lines shape p bs)) (sym (append-nil bytes)) ∙ (next []).1) begins

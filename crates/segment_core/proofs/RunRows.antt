@@ -189,3 +189,10 @@ take_got {X} (y ∷ xs) (suc k) x at =
 
 pub records_of_runs_push : (runs : List Run) (run : Run) → records_of_runs (runs ++ run ∷ []) ≡ records_of_runs runs + run.count
 records_of_runs_push runs run = ap sum (map_push (λ r. r.count) runs run) ∙ sum_by_push (λ x. x) (map (λ r. r.count) runs) run.count
+
+pub drop_got : {X : Type 0} (xs : List X) (k : ℕ) (x : X) → slice_get xs k ≡ Some x → drop k xs ≡ x ∷ drop (k + 1) xs
+drop_got [] k x at = absurd cc
+drop_got {X} (y ∷ xs) zero x at = let same : y ≡ x = cc in ap (λ (z : X). z ∷ xs) same
+drop_got {X} (y ∷ xs) (suc k) x at =
+    let more : suc k + 1 ≡ suc (k + 1) = omega arith in
+    drop_got xs k x at ∙ ap (λ n. x ∷ drop n (y ∷ xs)) (sym more)

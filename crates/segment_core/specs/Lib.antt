@@ -10,5 +10,7 @@ pub mod Image
 pub mod Vector
 pub mod Fault
 pub mod Notes
+pub mod Found
 pub mod Walk
+pub mod Scanner
 pub mod Written

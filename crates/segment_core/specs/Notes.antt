@@ -1,6 +1,6 @@
 -- What is noted of a position.
 use Rattle.std.specs.Prelude.{ℕ, Option}
-use Rattle.std.specs.Prelude.{nat_cmp}
+use Rattle.std.specs.Ordering.{nat_cmp}
 use Rattle.std.specs.BTreeMap.{get}
 use Rattle.segment_core.specs.declared.notes.Notes.{Notes}
 

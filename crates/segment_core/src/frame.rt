@@ -238,7 +238,8 @@ impl<'a> FrameReader<'a> {
 
     /// Where its first record stands in the image.
     pub(crate) fn first_record(&self) -> usize
-        ensures { result ≡ self.now.at + 6 + head_len self.now.shape.format self.now.frame }
+        ensures is { result ≡ self.now.at + 6 + head_len self.now.shape.format self.now.frame }
+        ensures placed { result + length (record_bytes_of self.now.frame) < 2 ^ 64 }
     {
         self.at + FRAME_HEAD_LEN + self.head_len()
     }

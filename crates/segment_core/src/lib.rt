@@ -7,6 +7,7 @@
 
 mod fault;
 mod format;
+mod found;
 mod frame;
 mod image;
 mod notes;
@@ -19,9 +20,9 @@ pub use fault::{Cause, ImageFault, ScanFault};
 pub use format::{Format, FrameKind, RECORD_LIMIT, Shape};
 pub use frame::FrameReader;
 pub use image::write_image;
-pub use scanner::{Homes, Scanner};
+pub use found::{Home, Homes};
+pub use scanner::Scanner;
 pub use vector::{Scanned, scan};
-pub use walk::Home;
 
 #[cfg(test)]
 mod tests;

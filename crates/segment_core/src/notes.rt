@@ -1,10 +1,9 @@
 //! Which positions have no record so far, and where the bytes stand that say so.
 
-ghost use Rattle.std.specs.Prelude.{◌≡◌, ◌≢◌, ◌<◌, ℕ, Some, None, OnOk, OnErr, MatchOption};
+ghost use Rattle.std.specs.Prelude.{◌≡◌, ◌≢◌, ◌<◌, ◌≤◌, ℕ, Some, None, OnOk, MatchOption};
 ghost use Rattle.segment_core.specs.Notes.{noted};
 
-use crate::fault::ScanFault;
-use std::alloc::Global;
+use std::alloc::{AllocError, Global};
 use std::collections::BTreeMap;
 
 /// The positions whose bytes are no record, each with the place of those bytes. Empty in every sound file.
@@ -14,6 +13,7 @@ pub(crate) struct Notes {
 }
 
 impl Notes {
+    /// No notes. It takes no memory.
     pub(crate) fn new(alloc: Global) -> Notes
         ensures { (q : ℕ) → noted result q ≡ None }
     {
@@ -23,15 +23,12 @@ impl Notes {
     }
 
     /// The bytes at this place say what is at the position, and are no record.
-    pub(crate) fn note(&mut self, position: u64, place: u64) -> Result<(), ScanFault>
+    pub(crate) fn note(&mut self, position: u64, place: u64) -> Result<(), AllocError>
         ensures here { OnOk result (noted self.new position ≡ Some place) }
         ensures others { OnOk result ((q : ℕ) → q ≢ position → noted self.new q ≡ noted self.old q) }
-        ensures memory { OnErr result (result ≡ Err ScanFault.Memory) }
     {
-        match self.places.insert(position, place) {
-            Ok(_) => Ok(()),
-            Err(_) => Err(ScanFault::Memory),
-        }
+        self.places.insert(position, place)?;
+        Ok(())
     }
 
     /// The position has a record.
@@ -44,7 +41,20 @@ impl Notes {
         }
     }
 
-    /// The least position that has no record, below this size.
+    /// Forgets all positions from `size` on.
+    pub(crate) fn truncate(&mut self, size: u64)
+        ensures below { (q : ℕ) → q < size → noted self.new q ≡ noted self.old q }
+        ensures beyond { (q : ℕ) → size ≤ q → noted self.new q ≡ None }
+    {
+        while let Some((position, _)) = self.places.last_key_value() {
+            if *position < size {
+                return;
+            }
+            self.places.pop_last();
+        }
+    }
+
+    /// The least position that has no record, below this size, and the place of its bytes.
     pub(crate) fn least(&self, size: u64) -> Option<(u64, u64)>
         ensures { MatchOption result
             ((q : ℕ) → q < size → noted self.now q ≡ None)

@@ -1,26 +1,24 @@
 //! Reading an image piece by piece.
 
+ghost use Rattle.std.specs.Prelude.{◌≡◌, ◌≤◌, ◌<◌, ◌+◌, ◌^◌, ◌++◌, ◌⊎◌, [], ℕ, List, Some, None, Err, length, take, drop, OnOk, OnErr, IfOk, IfErr, MatchResult};
+ghost use Rattle.segment_core.specs.Shape.{shape_of, format_in};
+ghost use Rattle.segment_core.specs.Fault.{header_fault, IsRefused};
+ghost use Rattle.segment_core.specs.Found.{AreHomesOf};
+ghost use Rattle.segment_core.specs.Scanned.{IsScanOf};
+ghost use Rattle.segment_core.specs.Scanner.{GoesOn, HasEnded, IsRefusedFor, IsFedAt, IsFed, IsLost};
+
 use crate::fault::{Cause, ScanFault};
 use crate::format::{FRAME_HEAD_LEN, Format, HEADER_LEN, MAGIC, OPEN, Shape};
-use crate::frame::{Kept, damaged};
+use crate::found::Homes;
+use crate::frame::damaged;
 use crate::vector::Scanned;
-use crate::walk::{Home, Tail, Walk};
+use crate::walk::{Tail, Walk};
 use record_core::{Record, width_of};
 use std::alloc::Global;
-use std::collections::VecDeque;
-
-/// Where the bytes of a vector stand in its file.
-#[derive(Debug, Drop)]
-pub struct Homes {
-    /// The home bytes of the positions, in their order: each position lies in one.
-    pub homes: Vec<Home>,
-    /// The first position and the number of positions of each run of the live changes, in their order.
-    pub live: Vec<(u64, u64)>,
-}
 
 /// How far an image has been read.
-#[derive(Clone, Copy, Debug, PartialEq, Eq)]
-enum Stage {
+#[derive(Clone, Copy, Debug)]
+pub(crate) enum Stage {
     /// Its header isn't whole yet.
     Header,
     /// The frames go on.
@@ -47,6 +45,9 @@ pub struct Scanner<R> {
 
 /// The format of the file, if the header is that of a file whose records have this width.
 fn check_header(bytes: &[u8], width: usize) -> Result<Format, ScanFault>
+    ensures { MatchResult result
+        (λ format. (header_fault width bytes.now ≡ None) × (format_in bytes.now ≡ format))
+        (λ fault. header_fault width bytes.now ≡ Some fault) }
 {
     if bytes.len() <= 1 || bytes[0] != OPEN {
         return Err(ScanFault::Unborn);
@@ -64,9 +65,13 @@ fn check_header(bytes: &[u8], width: usize) -> Result<Format, ScanFault>
     Ok(format)
 }
 
-/// How many bytes to take next of a frame that has come so far: those of its head, or of its payload.
+/// How many bytes to take next: all where no frame has begun, else those of its head, or of its payload.
 fn wanted(pending: &[u8]) -> usize
+    ensures { 0 < result }
 {
+    if pending.is_empty() {
+        return usize::MAX;
+    }
     let whole = if pending.len() < FRAME_HEAD_LEN {
         FRAME_HEAD_LEN
     } else {
@@ -78,6 +83,7 @@ fn wanted(pending: &[u8]) -> usize
 impl<R: Record> Scanner<R> {
     /// A scanner of the empty image. It takes no memory.
     pub fn new(alloc: Global) -> Scanner<R>
+        ensures { IsFed R.form [] result }
     {
         let shape = Shape {
             format: Format::One,
@@ -96,12 +102,19 @@ impl<R: Record> Scanner<R> {
     /// Takes in the next piece of the image. Only want of memory is refused here, and again by every later
     /// call; any other fault is told by `end`.
     pub fn feed(&mut self, piece: &[u8]) -> Result<(), ScanFault>
+        ghost image: { List ℕ }
+        requires fed { IsFed R.form image self.old }
+        requires small { length image + length piece.now < 2 ^ 64 }
+        ensures fed { IsFed R.form (image ++ piece.now) self.new }
+        ensures memory { IfErr result (λ fault. (fault ≡ ScanFault.Memory) × IsLost self.new) }
+        ensures lost { IsLost self.old → result ≡ Err ScanFault.Memory }
     {
-        let used = self.feed_header(piece);
-        if self.stage == Stage::Open {
-            if let Err(fault) = self.feed_frames(&piece[used..]) {
-                self.stage = Stage::Refused(fault);
+        match self.stage {
+            Stage::Header => {
+                let used = self.feed_header(piece);
+                self.feed_rest(&piece[used..]);
             }
+            _ => self.feed_rest(piece),
         }
         match self.stage {
             Stage::Refused(ScanFault::Memory) => Err(ScanFault::Memory),
@@ -109,12 +122,15 @@ impl<R: Record> Scanner<R> {
         }
     }
 
-    /// Takes what is left of the header out of a piece, and answers how many bytes that was.
+    /// Takes what is left of the header out of a piece, and answers how many bytes that was: all of them where
+    /// it isn't whole even then.
     fn feed_header(&mut self, piece: &[u8]) -> usize
+        ghost image: { List ℕ }
+        requires fed { IsFedAt R.form image self.old Stage.Header }
+        ensures used { result ≤ length piece.now }
+        ensures fed { IsFed R.form (image ++ take result piece.now) self.new }
+        ensures whole { self.new.stage ≡ Stage.Header → result ≡ length piece.now }
     {
-        if self.stage != Stage::Header {
-            return 0;
-        }
         let used = piece.len().min(HEADER_LEN - self.filled);
         self.header[self.filled..self.filled + used].copy_from_slice(&piece[..used]);
         self.filled += used;
@@ -130,20 +146,64 @@ impl<R: Record> Scanner<R> {
         used
     }
 
-    /// Takes in bytes behind the header.
-    fn feed_frames(&mut self, piece: &[u8]) -> Result<(), ScanFault>
+    /// Takes in bytes behind the header, where it is whole.
+    fn feed_rest(&mut self, piece: &[u8])
+        ghost image: { List ℕ }
+        requires fed { IsFed R.form image self.old }
+        requires small { length image + length piece.now < 2 ^ 64 }
+        requires header { self.old.stage ≡ Stage.Header → length piece.now ≡ 0 }
+        ensures fed { IsFed R.form (image ++ piece.now) self.new }
+        ensures lost { IsLost self.old → IsLost self.new }
     {
-        let mut rest = piece;
-        while !rest.is_empty() && !self.pending.is_empty() && self.stage == Stage::Open {
-            let n = wanted(&self.pending).min(rest.len());
-            self.pend(&rest[..n])?;
-            rest = &rest[n..];
+        if let Stage::Open = self.stage {
+            if let Err(fault) = self.feed_frames(piece) {
+                self.stage = Stage::Refused(fault);
+            }
         }
-        if self.stage == Stage::Open && self.pending.is_empty() {
-            let (used, tail) = self.walk.read(self.alloc, rest)?;
-            match tail {
-                Tail::Closed => self.stage = Stage::Closed,
-                Tail::Short => self.pending.extend_from_slice(&rest[used..]).map_err(|_| ScanFault::Memory)?,
+    }
+
+    /// Takes in bytes behind the header, as long as no gate is closed.
+    fn feed_frames(&mut self, piece: &[u8]) -> Result<(), ScanFault>
+        ghost image: { List ℕ }
+        requires open { GoesOn R.form image self.old }
+        requires stage { self.old.stage ≡ Stage.Open }
+        requires small { length image + length piece.now < 2 ^ 64 }
+        ensures ok { OnOk result (IsFed R.form (image ++ piece.now) self.new) }
+        ensures err { IfErr result (IsRefusedFor R.form (image ++ piece.now)) }
+    {
+        let mut used = 0;
+        while used < piece.len() {
+            let Stage::Open = self.stage else {
+                return Ok(());
+            };
+            let n = wanted(&self.pending).min(piece.len() - used);
+            if self.pending.is_empty() {
+                self.take(&piece[used..used + n])?;
+            } else {
+                self.pend(&piece[used..used + n])?;
+            }
+            used += n;
+        }
+        Ok(())
+    }
+
+    /// Takes in bytes that begin a frame.
+    fn take(&mut self, bytes: &[u8]) -> Result<(), ScanFault>
+        ghost image: { List ℕ }
+        requires open { GoesOn R.form image self.old }
+        requires stage { self.old.stage ≡ Stage.Open }
+        requires none { self.old.pending.items ≡ [] }
+        requires small { length image + length bytes.now < 2 ^ 64 }
+        ensures ok { OnOk result (((self.new.stage ≡ Stage.Open) × GoesOn R.form (image ++ bytes.now) self.new) ⊎ ((self.new.stage ≡ Stage.Closed) × HasEnded R.form (image ++ bytes.now) self.new)) }
+        ensures err { IfErr result (IsRefusedFor R.form (image ++ bytes.now)) }
+    {
+        let (used, tail) = self.walk.read(bytes)?;
+        match tail {
+            Tail::Closed => self.stage = Stage::Closed,
+            Tail::Short => {
+                if self.pending.extend_from_slice(&bytes[used..]).is_err() {
+                    return Err(ScanFault::Memory);
+                }
             }
         }
         Ok(())
@@ -151,31 +211,87 @@ impl<R: Record> Scanner<R> {
 
     /// Takes in bytes behind those of a frame that isn't whole yet.
     fn pend(&mut self, bytes: &[u8]) -> Result<(), ScanFault>
+        ghost image: { List ℕ }
+        requires open { GoesOn R.form image self.old }
+        requires stage { self.old.stage ≡ Stage.Open }
+        requires small { length image + length bytes.now < 2 ^ 64 }
+        ensures ok { OnOk result (((self.new.stage ≡ Stage.Open) × GoesOn R.form (image ++ bytes.now) self.new) ⊎ ((self.new.stage ≡ Stage.Closed) × HasEnded R.form (image ++ bytes.now) self.new)) }
+        ensures err { IfErr result (IsRefusedFor R.form (image ++ bytes.now)) }
     {
-        self.pending.extend_from_slice(bytes).map_err(|_| ScanFault::Memory)?;
-        let (used, tail) = self.walk.read(self.alloc, &self.pending)?;
-        if tail == Tail::Closed {
-            self.stage = Stage::Closed;
+        if self.pending.extend_from_slice(bytes).is_err() {
+            return Err(ScanFault::Memory);
         }
-        if used == self.pending.len() {
-            self.pending.clear();
-        } else if used > 0 {
-            let rest = Vec::from_slice(self.alloc, &self.pending[used..]).map_err(|_| ScanFault::Memory)?;
-            self.pending = rest;
+        let (used, tail) = self.walk.read(&self.pending)?;
+        match tail {
+            Tail::Closed => self.stage = Stage::Closed,
+            Tail::Short => cut_front(self.alloc, &mut self.pending, used)?,
         }
         Ok(())
     }
 
     /// Answers of all that was fed what `scan` answers of it.
     pub fn end(self) -> Result<Scanned<R>, ScanFault>
+        ghost image: { List ℕ }
+        requires fed { IsFed R.form image self }
+        ensures answer { MatchResult result (IsScanOf R.form image) (IsRefused R.form image) }
+        ensures lost { IsLost self → result ≡ Err ScanFault.Memory }
     {
-        let mut scanner = self;
-        scanner.close()?;
-        Ok(scanned(scanner.walk))
+        self.check_end()?;
+        let Walk {
+            shape,
+            at,
+            frames,
+            tally,
+            found,
+        } = self.walk;
+        let records = found.finish()?;
+        Ok(Scanned {
+            version: shape.format.version(),
+            width: shape.width as u16,
+            records,
+            frames,
+            changes: tally.changes,
+            folded: tally.folded,
+            gate: at as u64,
+        })
     }
 
-    /// The vector's records, or the first fault.
-    fn close(&mut self) -> Result<(), ScanFault>
+    /// The same, and where the records stand.
+    pub fn end_with(self) -> Result<(Scanned<R>, Homes), ScanFault>
+        ghost image: { List ℕ }
+        requires fed { IsFed R.form image self }
+        ensures answer { MatchResult result
+            (λ answer. (scan : IsScanOf R.form image answer.0) × AreHomesOf (shape_of scan.format R.form) scan.frames answer.1)
+            (IsRefused R.form image) }
+        ensures lost { IsLost self → result ≡ Err ScanFault.Memory }
+    {
+        self.check_end()?;
+        let Walk {
+            shape,
+            at,
+            frames,
+            tally,
+            found,
+        } = self.walk;
+        let (records, homes) = found.finish_with()?;
+        let scanned = Scanned {
+            version: shape.format.version(),
+            width: shape.width as u16,
+            records,
+            frames,
+            changes: tally.changes,
+            folded: tally.folded,
+            gate: at as u64,
+        };
+        Ok((scanned, homes))
+    }
+
+    /// Whether a closed gate has ended the frames, and no fault was found.
+    fn check_end(&self) -> Result<(), ScanFault>
+        ghost image: { List ℕ }
+        requires fed { IsFed R.form image self.now }
+        ensures answer { MatchResult result (λ _. HasEnded R.form image self.now) (IsRefused R.form image) }
+        ensures lost { IsLost self.now → result ≡ Err ScanFault.Memory }
     {
         match self.stage {
             Stage::Header => match check_header(&self.header[..self.filled], width_of::<R>()) {
@@ -183,50 +299,34 @@ impl<R: Record> Scanner<R> {
                 Err(fault) => Err(fault),
             },
             Stage::Open => {
-                let cause = if self.pending.is_empty() { Cause::NoGate } else { Cause::ShortFrame };
+                let cause = if self.pending.is_empty() {
+                    Cause::NoGate
+                } else {
+                    Cause::ShortFrame
+                };
                 Err(damaged(self.walk.at, cause))
             }
-            Stage::Closed => self.walk.finish(),
+            Stage::Closed => Ok(()),
             Stage::Refused(fault) => Err(fault),
         }
     }
-
-    /// The same, and where the records stand.
-    pub fn end_with(self) -> Result<(Scanned<R>, Homes), ScanFault>
-    {
-        let alloc = self.alloc;
-        let mut scanner = self;
-        scanner.close()?;
-        let live = live_runs(alloc, &scanner.walk.live)?;
-        let homes = std::mem::replace(&mut scanner.walk.homes, Vec::new(alloc));
-        Ok((scanned(scanner.walk), Homes { homes, live }))
-    }
 }
 
-/// The runs of live changes, in their order.
-fn live_runs(alloc: Global, live: &VecDeque<Kept>) -> Result<Vec<(u64, u64)>, ScanFault>
+/// Lets the first bytes go.
+fn cut_front(alloc: Global, bytes: &mut Vec<u8>, n: usize) -> Result<(), ScanFault>
+    requires { n ≤ length bytes.old.items }
+    ensures ok { OnOk result (bytes.new.items ≡ drop n bytes.old.items) }
+    ensures memory { IfErr result (λ fault. fault ≡ ScanFault.Memory) }
 {
-    let mut runs = Vec::new(alloc);
-    for change in live {
-        let frame = change.frame();
-        for k in 0..frame.runs() {
-            runs.push(frame.run(k)).map_err(|_| ScanFault::Memory)?;
-        }
+    if n == bytes.len() {
+        bytes.clear();
+        return Ok(());
     }
-    Ok(runs)
-}
-
-/// What a walk found that has ended.
-fn scanned<R>(walk: Walk<R>) -> Scanned<R>
-{
-    let Walk { shape, at, frames, tally, homes: _, records, notes: _, live: _ } = walk;
-    Scanned {
-        version: shape.format.version(),
-        width: shape.width as u16,
-        records,
-        frames,
-        changes: tally.changes,
-        folded: tally.folded,
-        gate: at as u64,
+    if n > 0 {
+        let Ok(rest) = Vec::from_slice(alloc, &bytes[n..]) else {
+            return Err(ScanFault::Memory);
+        };
+        *bytes = rest;
     }
+    Ok(())
 }

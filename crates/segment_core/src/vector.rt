@@ -1,5 +1,12 @@
 //! The vector of an image, or its first fault.
 
+ghost use Rattle.std.specs.Prelude.{◌≡◌, List, MatchResult};
+ghost use Rattle.segment_core.specs.declared.format.Format.{Format};
+ghost use Rattle.segment_core.specs.Frame.{Frame};
+ghost use Rattle.segment_core.specs.Fault.{IsRefused};
+ghost use Rattle.segment_core.specs.Scanned.{IsScanOf};
+ghost use Rattle.segment_core.specs.Vector.{HasVector};
+
 use crate::fault::ScanFault;
 use crate::scanner::Scanner;
 use record_core::Record;
@@ -28,8 +35,20 @@ pub struct Scanned<R> {
 /// answered, in the order of `docs/FORMAT.md`; `Memory` may come in place of any answer once the header is
 /// read.
 pub fn scan<R: Record>(alloc: Global, bytes: &[u8]) -> Result<Scanned<R>, ScanFault>
+    ensures answer { MatchResult result (IsScanOf R.form bytes.now) (IsRefused R.form bytes.now) }
+    // An image has one vector at most, and one that has a vector is refused for want of memory alone.
+    ensures only { (format : Format) (frames : List Frame) (records : List R) → HasVector format R.form bytes.now frames records
+        → MatchResult result (λ scanned. scanned.records.items ≡ records) (λ fault. fault ≡ ScanFault.Memory) }
+{
+    read_vector(alloc, bytes)
+}
+
+fn read_vector<R: Record>(alloc: Global, bytes: &[u8]) -> Result<Scanned<R>, ScanFault>
+    ensures { MatchResult result (IsScanOf R.form bytes.now) (IsRefused R.form bytes.now) }
 {
     let mut scanner = Scanner::new(alloc);
-    scanner.feed(bytes)?;
-    scanner.end()
+    match scanner.feed(bytes) {
+        Ok(()) => scanner.end(),
+        Err(fault) => Err(fault),
+    }
 }
