@@ -20,7 +20,8 @@ use Rattle.segment_core.specs.Vector.{place_among, record_in, home_in, home_of}
 use Rattle.segment_core.specs.Reading.{Seen, runs_of, record_bytes_of, record_count, head_len}
 use Rattle.segment_core.specs.Notes.{noted}
 use Rattle.segment_core.specs.Found.{StandsAt, first_record_of, IsLaidAt, home_among, AreInTurn, AreHomes, changes_in, changes_of, live_of, IsInside, HasHome, IsFound, Follows, IsGrown, IsSame, IsCut}
-use Rattle.segment_core.proofs.LastFrom.{home_push, tally_from_push}
+use Rattle.segment_core.proofs.Push.{text_push, tally_from_push}
+use Rattle.segment_core.proofs.LastFrom.{home_push}
 use Rattle.segment_core.proofs.FoundLaid.{place_among_before, place_among_inside}
 use Rattle.segment_core.proofs.FoundHomes.{home_among_push, in_turn_push}
 use Rattle.segment_core.proofs.FoundChanges.{all_push, all_drop, all_map, changes_push, changes_counted, ends_with_records, records_stand}
@@ -50,9 +51,6 @@ has_home_as {R} form bytes later home other held still told same a b c d has =
         (subst (λ (o : Option ℕ). HasHome form bytes o still same) (sym b)
             (subst (λ (h : Option R). HasHome form bytes home h same) (sym c)
                 (subst (λ (o : Option ℕ). HasHome form bytes home held o) (sym d) has)))
-
-pub text_push : (shape : Shape) (frames : List Frame) (f : Frame) → text shape (frames ++ f ∷ []) ≡ text shape frames ++ frame_text shape.format f
-text_push shape frames f = sym (flat_map_more (frame_text shape.format) (header shape) frames f)
 
 -- ---- what each kind does
 

@@ -1,7 +1,9 @@
 pub mod Shape
+pub mod Command
 pub mod Frame
 pub mod Kind
 pub mod Reading
+pub mod Scanned
 pub mod Layout
 pub mod Tally
 pub mod Image
@@ -9,3 +11,6 @@ pub mod Vector
 pub mod Fault
 pub mod Notes
 pub mod Found
+pub mod Walk
+pub mod Scanner
+pub mod Written

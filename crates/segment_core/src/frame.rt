@@ -1,11 +1,11 @@
 //! One frame of an image, and its fields.
 
-ghost use Rattle.std.specs.Prelude.{◌≡◌, ◌≤◌, ◌<◌, ◌+◌, ◌*◌, ◌-◌, ◌^◌, ◌++◌, ℕ, List, Some, true, false, length, take, drop, sum, slice_index, slice_get, nat_lt, MatchOption, IfOk};
+ghost use Rattle.std.specs.Prelude.{◌≡◌, ◌≤◌, ◌<◌, ◌+◌, ◌*◌, ◌-◌, ◌/◌, ◌^◌, ◌++◌, ℕ, List, Some, true, false, length, take, drop, sum, slice_index, slice_get, nat_lt, MatchOption, IfOk};
 ghost use Rattle.std.specs.List.{list_all};
 ghost use Rattle.segment_core.specs.Shape.{version_of, limit_of};
 ghost use Rattle.segment_core.specs.Frame.{Run, Frame, Shrink, Fold, number_len, runs_len, records_of_runs, kind_of, payload_of, frame_text};
 ghost use Rattle.segment_core.specs.Kind.{kind_byte};
-ghost use Rattle.segment_core.specs.Layout.{IsFrame, u32_at, u64_at, numbers_in, count_in, lengths_in, runs_from, run_count_in, runs_in, frame_in, is_group_layout, is_change_layout, is_layout};
+ghost use Rattle.segment_core.specs.Layout.{u32_at, u64_at, numbers_in, count_in, lengths_in, number_at, run_count_in, runs_in, frame_in, is_group_layout, is_change_layout, is_layout};
 ghost use Rattle.segment_core.specs.Reading.{IsNext, BeginsWith, lengths_of, runs_of, record_bytes_of, record_count, head_len};
 
 use crate::fault::{Cause, ScanFault};
@@ -313,15 +313,39 @@ fn run_at(payload: &[u8], shape: Shape, k: usize) -> (u64, usize)
     requires wide { 0 < shape.width }
     requires counted { k < run_count_in shape.format payload.now }
     requires inside { runs_len shape.format (run_count_in shape.format payload.now) ≤ length payload.now }
-    ensures { slice_get (runs_in shape payload.now) k ≡ Some (record { start = result.0; count = result.1 }) }
+    requires small { length payload.now ≤ 2 ^ 24 }
+    ensures run { slice_get (runs_in shape payload.now) k ≡ Some (record { start = result.0; count = result.1 }) }
+    ensures small { result.1 < 2 ^ 32 }
 {
     let number = number_len(shape.format);
     let at = number + k * (8 + number);
-    let count = match shape.format {
+    (u64_at(payload, at), count_at(payload, shape, at + 8))
+}
+
+/// The number of positions of a run of a change's payload. In version 1 it doesn't stand there: the one run has
+/// all records.
+fn count_at(payload: &[u8], shape: Shape, at: usize) -> usize
+    requires wide { 0 < shape.width }
+    requires inside { at + number_len shape.format ≤ length payload.now }
+    requires started { 8 ≤ length payload.now }
+    ensures { result ≡ number_at shape.format ((length payload.now - 8) / shape.width) payload.now at }
+{
+    match shape.format {
         Format::One => (payload.len() - 8) / shape.width,
-        Format::Two => u32_at(payload, at + 8) as usize,
-    };
-    (u64_at(payload, at), count)
+        Format::Two => u32_at(payload, at) as usize,
+    }
+}
+
+/// How many runs a change's payload has.
+fn run_count(payload: &[u8], format: Format) -> usize
+    requires { number_len format ≤ length payload.now }
+    ensures is { result ≡ run_count_in format payload.now }
+    ensures small { result < 2 ^ 32 }
+{
+    match format {
+        Format::One => 1,
+        Format::Two => u32_at(payload, 0) as usize,
+    }
 }
 
 /// The sum of the lengths that stand behind the count of growths, if each is above 0.
@@ -398,10 +422,7 @@ fn change_counts(payload: &[u8], shape: Shape) -> Option<(usize, usize)>
     if payload.len() < number_len(shape.format) {
         return None;
     }
-    let runs = match shape.format {
-        Format::One => 1,
-        Format::Two => u32_at(payload, 0) as usize,
-    };
+    let runs = run_count(payload, shape.format);
     if runs == 0 || payload.len() < runs_len(shape.format, runs) {
         return None;
     }
@@ -415,6 +436,7 @@ fn change_counts(payload: &[u8], shape: Shape) -> Option<(usize, usize)>
 }
 
 /// How many growths or runs, and how many records, a payload of this kind has, if it has the form of one.
+#[tactic(auto, using(crate::proofs::Reader::heads_of_change))]
 fn counts(payload: &[u8], kind: FrameKind, shape: Shape) -> Option<(usize, usize)>
     requires wide { 0 < shape.width }
     requires small { length payload.now ≤ 2 ^ 24 }

@@ -1,1 +1,0 @@
-//! What frames say of a vector, on files written by hand.

@@ -1,0 +1,104 @@
+//! A walk over the frames of an image, one step a frame.
+
+ghost use Rattle.std.specs.Prelude.{◌≡◌, ◌≤◌, ◌<◌, ◌+◌, ◌^◌, ◌++◌, ◌⊎◌, ◌∷◌, [], ℕ, List, Some, length, drop, OnOk, IfOk, IfErr};
+ghost use Rattle.segment_core.specs.Frame.{Frame};
+ghost use Rattle.segment_core.specs.Tally.{tally_of, MayFollow};
+ghost use Rattle.segment_core.specs.Layout.{IsFrame};
+ghost use Rattle.segment_core.specs.Fault.{first_line, order_lines};
+ghost use Rattle.segment_core.specs.Walk.{IsBehind, StandsBefore, IsTail, IsWalkRefused};
+
+use crate::fault::ScanFault;
+use crate::format::{HEADER_LEN, Shape};
+use crate::found::Found;
+use crate::frame::{FrameReader, Unread, read_frame};
+use crate::tally::Tally;
+use record_core::Record;
+use std::alloc::Global;
+
+/// What stands behind the frames that were read.
+#[derive(Clone, Copy, Debug, PartialEq, Eq)]
+pub(crate) enum Tail {
+    /// A closed gate: the frames end.
+    Closed,
+    /// The front of a frame, or nothing.
+    Short,
+}
+
+/// What the frames before `at` leave.
+#[derive(Drop)]
+pub(crate) struct Walk<R> {
+    pub(crate) shape: Shape,
+    /// The place of the next gate.
+    pub(crate) at: usize,
+    /// The frames so far.
+    pub(crate) frames: u64,
+    pub(crate) tally: Tally,
+    /// What they say of the vector.
+    pub(crate) found: Found<R>,
+}
+
+impl<R: Record> Walk<R> {
+    /// A walk that stands behind the header of a file of this shape. It has no memory of its own so far.
+    pub(crate) fn new(alloc: Global, shape: Shape) -> Walk<R>
+        requires { shape.width ≡ R.form.width }
+        ensures shape { result.shape ≡ shape }
+        ensures behind { IsBehind R.form [] result }
+    {
+        Walk {
+            shape,
+            at: HEADER_LEN,
+            frames: 0,
+            tally: Tally {
+                size: 0,
+                changes: 0,
+                folded: 0,
+            },
+            found: Found::new(alloc),
+        }
+    }
+
+    /// Takes in the whole frames that these bytes begin with, and answers how many bytes they are and what
+    /// stands behind them.
+    pub(crate) fn read(&mut self, bytes: &[u8]) -> Result<(usize, Tail), ScanFault>
+        ghost image: { List ℕ }
+        requires stands { StandsBefore R.form image bytes.now self.old }
+        requires small { length image < 2 ^ 64 }
+        ensures shape { self.new.shape ≡ self.old.shape }
+        ensures ok { IfOk result (λ end. (end.0 ≤ length bytes.now) × StandsBefore R.form image (drop end.0 bytes.now) self.new × IsTail self.new.shape self.new.at (drop end.0 bytes.now) end.1) }
+        ensures err { IfErr result (IsWalkRefused self.old.shape image) }
+    {
+        let mut used = 0;
+        loop {
+            match read_frame(&bytes[used..], self.at, self.shape) {
+                Ok(Some(frame)) => {
+                    self.step(&frame)?;
+                    used += frame.len();
+                }
+                Ok(None) => return Ok((used, Tail::Closed)),
+                Err(Unread::Short) => return Ok((used, Tail::Short)),
+                Err(Unread::Fault(fault)) => return Err(fault),
+            }
+        }
+    }
+
+    /// Takes in the next frame.
+    fn step(&mut self, frame: &FrameReader<'_>) -> Result<(), ScanFault>
+        ghost frames: { List Frame }
+        requires behind { IsBehind R.form frames self.old }
+        requires at { frame.now.at ≡ self.old.at }
+        requires shaped { frame.now.shape ≡ self.old.shape }
+        requires whole { IsFrame self.old.shape frame.now.frame }
+        ensures shape { self.new.shape ≡ self.old.shape }
+        ensures ok { OnOk result (MayFollow (tally_of frames) frame.now.frame × IsBehind R.form (frames ++ frame.now.frame ∷ []) self.new) }
+        ensures err { IfErr result (λ fault. (first_line (order_lines self.old.at (tally_of frames) frame.now.frame) ≡ Some fault) ⊎ (fault ≡ ScanFault.Memory)) }
+    {
+        self.tally.check(frame)?;
+        if self.found.take(frame).is_err() {
+            return Err(ScanFault::Memory);
+        }
+        self.tally = self.tally.after(frame);
+        self.at += frame.len();
+        self.frames += 1;
+        Ok(())
+    }
+}
