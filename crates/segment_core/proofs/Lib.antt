@@ -1,3 +1,5 @@
+pub mod Push
+pub mod LastFrom
 pub mod Numbers
 pub mod Payload
 pub mod Lines
