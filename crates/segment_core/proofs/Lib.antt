@@ -1,5 +1,8 @@
 pub mod Push
 pub mod LastFrom
+pub mod FrameParts
+pub mod PlaceAmong
+pub mod PlaceOf
 pub mod Numbers
 pub mod Payload
 pub mod Lines
