@@ -3,6 +3,8 @@ pub mod LastFrom
 pub mod FrameParts
 pub mod PlaceAmong
 pub mod PlaceOf
+pub mod Replaced
+pub mod OneMore
 pub mod Numbers
 pub mod Payload
 pub mod Lines

@@ -8,5 +8,6 @@ pub mod Layout
 pub mod Tally
 pub mod Image
 pub mod Vector
+pub mod Homes
 pub mod Fault
 pub mod Written
