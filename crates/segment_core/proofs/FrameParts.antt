@@ -79,6 +79,9 @@ frame_parts format frame =
     let start : List ℕ = 1 ∷ kind_of frame ∷ to_le_bytes w32 (length (payload_of format frame)) in
     ap (λ (bs : List ℕ). start ++ bs) (payload_parts format frame) ∙ sym (append_assoc start (head_text format frame) (record_bytes_of frame))
 
+pub length-frame_text : (format : Format) (frame : Frame) → length (frame_text format frame) ≡ 6 + length (payload_of format frame)
+length-frame_text format frame = length-append (1 ∷ kind_of frame ∷ to_le_bytes w32 (length (payload_of format frame))) (payload_of format frame)
+
 pub length-frame_parts : (format : Format) (frame : Frame) → length (frame_text format frame) ≡ 6 + head_len format frame + length (record_bytes_of frame)
 length-frame_parts format frame =
     let all = length-append (front_text format frame) (record_bytes_of frame) in

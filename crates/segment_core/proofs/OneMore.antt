@@ -20,7 +20,7 @@ use Rattle.segment_core.specs.Image.{Begins}
 use Rattle.segment_core.specs.Vector.{place_in_runs, home_in, home_of, change_of, place_of, record_in, record_at, IsVectorOf}
 use Rattle.segment_core.specs.Command.{replaced}
 use Rattle.segment_core.specs.Reading.{record_bytes_of, record_count, head_len}
-use Rattle.segment_core.specs.Homes.{HomesHold}
+use Rattle.segment_core.specs.Folding.{HomesHold}
 use Rattle.segment_core.proofs.Push.{tally_from_push, AreLegalFrom_last, Begins_behind, Begins_before}
 use Rattle.segment_core.proofs.FrameParts.{front_text, length-front_text, frame_parts, records_filled}
 use Rattle.segment_core.proofs.LastFrom.{none_or, place_is, place_of_push}

@@ -8,6 +8,7 @@ pub mod Layout
 pub mod Tally
 pub mod Image
 pub mod Vector
-pub mod Homes
+pub mod Folding
+pub mod Blanked
 pub mod Fault
 pub mod Written
