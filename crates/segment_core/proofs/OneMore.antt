@@ -18,7 +18,9 @@ use Rattle.segment_core.specs.Layout.{IsFrame}
 use Rattle.segment_core.specs.Tally.{nothing, after, tally_of, are_inside, MayFollow, AreLegal}
 use Rattle.segment_core.specs.Image.{Begins}
 use Rattle.segment_core.specs.Vector.{place_in_runs, home_in, home_of, change_of, place_of, record_in, record_at, IsVectorOf}
-use Rattle.segment_core.specs.Command.{replaced}
+use Rattle.segment_core.specs.Command.{Command, replaced, after_command}
+use Rattle.segment_core.specs.Command as commands
+use Rattle.segment_core.specs.CommandFrame.{IsFrameOf}
 use Rattle.segment_core.specs.Reading.{record_bytes_of, record_count, head_len}
 use Rattle.segment_core.specs.Folding.{HomesHold}
 use Rattle.segment_core.proofs.Push.{tally_from_push, AreLegalFrom_last, Begins_behind, Begins_before}
@@ -206,3 +208,15 @@ module _ {R : Type 0} (format : Format) (form : Encoding R) (image : List ℕ) (
           kept frame begins i lt (said i (Some place) is ∙ sym (place_is shape frames i ∙ ap (λ o. option_or o (home_of shape frames i)) still))
       at i lt None is None covered = kept frame begins i lt (said i None is ∙ sym (place_is shape frames i ∙ ap (λ o. option_or o (home_of shape frames i)) covered))
       at i lt None is (Some place) covered = ap (option_and_then (record_in form image)) (said i None is) ∙ hold i (subst (λ (o : Option ℕ). IsSome o) (sym covered) refl) is
+
+  -- the frame of a command makes of the vector what the command does
+  pub IsVectorOf_command : (command : Command R) (frame : Frame) → IsFrameOf form command frame → Begins shape image (frames ++ frame ∷ []) → IsVectorOf format form image (frames ++ frame ∷ []) (after_command records command)
+  IsVectorOf_command (commands.Grow new) frame is begins =
+      let begins' = subst (λ f. Begins shape image (frames ++ f ∷ [])) is.2 begins in
+      subst (λ f. IsVectorOf format form image (frames ++ f ∷ []) (records ++ new)) (sym is.2) (IsVectorOf_group is.0 is.1 new begins' is.3)
+  IsVectorOf_command (commands.Shrink n) frame is begins =
+      let begins' = subst (λ f. Begins shape image (frames ++ f ∷ [])) is begins in
+      subst (λ f. IsVectorOf format form image (frames ++ f ∷ []) (take n records)) (sym is) (IsVectorOf_shrink n begins')
+  IsVectorOf_command (commands.Change runs new) frame is begins =
+      let begins' = subst (λ f. Begins shape image (frames ++ f ∷ [])) is.1 begins in
+      subst (λ f. IsVectorOf format form image (frames ++ f ∷ []) (replaced records runs new)) (sym is.1) (IsVectorOf_change runs is.0 new begins' is.2)

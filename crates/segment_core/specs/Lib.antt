@@ -10,5 +10,6 @@ pub mod Image
 pub mod Vector
 pub mod Folding
 pub mod Blanked
+pub mod CommandFrame
 pub mod Fault
 pub mod Written
