@@ -5,6 +5,7 @@ pub mod PlaceAmong
 pub mod PlaceOf
 pub mod Replaced
 pub mod OneMore
+pub mod LegalCommand
 pub mod Blanked
 pub mod Numbers
 pub mod Payload

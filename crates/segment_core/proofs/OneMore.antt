@@ -49,7 +49,7 @@ record_in_row form image front bytes rest records j is are lt =
     ∙ record_in_front form bytes rest (j * form.width) (omega (arith, are.filled)) ∙ are.each j lt
 
 -- as many as their bytes make
-as_many : {R : Type 0} (form : Encoding R) (bytes : List ℕ) (records : List R) (n : ℕ) → 0 < form.width → AreRecords form bytes records → length bytes ≡ n * form.width → length records ≡ n
+pub as_many : {R : Type 0} (form : Encoding R) (bytes : List ℕ) (records : List R) (n : ℕ) → 0 < form.width → AreRecords form bytes records → length bytes ≡ n * form.width → length records ≡ n
 as_many form bytes records n wide are filled = elim (cases_lt (length records) n) [
   | inl few ↦ (let more = row_fits (length records) form.width n form.width few (omega arith) in absurd (omega (arith, are.filled)))
   | inr le ↦ elim (cases_lt n (length records)) [
