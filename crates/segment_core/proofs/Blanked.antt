@@ -13,7 +13,8 @@ use Rattle.segment_core.specs.Tally.{nothing, after, tally_from, tally_of, MayFo
 use Rattle.segment_core.specs.Vector.{last_from, home_in, change_in, home_of, change_of, place_of}
 use Rattle.segment_core.specs.Blanked.{blanked, all_blanked}
 use Rattle.segment_core.proofs.Push.{length-text}
-use Rattle.segment_core.proofs.FrameParts.{length-payload_of, length-frame_text}
+use Rattle.segment_core.proofs.FrameParts.{length-payload_of}
+use Rattle.segment_core.proofs.Payload.{length-frame_text}
 use Rattle.segment_core.proofs.LastFrom.{place_is}
 
 -- ---- one frame

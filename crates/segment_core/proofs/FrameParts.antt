@@ -1,41 +1,16 @@
 -- The parts of a frame's text: what stands before its records, and its records.
-use Rattle.std.proofs.Common.{◌≡◌, ℕ, ◌+◌, ◌*◌, List, [], ◌∷◌, ◌++◌, length, refl, sym, ap, ◌∙◌, append_assoc, arith}
+use Rattle.std.proofs.Common.{◌≡◌, ℕ, ◌+◌, ◌*◌, List, ◌∷◌, ◌++◌, length, refl, sym, ap, ◌∙◌, append_assoc, arith}
 use Rattle.std.specs.List.{flat_map}
 use Rattle.std.specs.Int.{w32, w64, to_le_bytes}
 use Rattle.std.proofs.lemmas.List.{length-append}
 use Rattle.std.proofs.lemmas.List.Sums.{sum-map, sum_by-cons}
 use Rattle.segment_core.specs.declared.format.Format.{Format}
-use Rattle.segment_core.specs.declared.format.Format.TheVariants.{One, Two}
 use Rattle.segment_core.specs.declared.format.Shape.{Shape}
-use Rattle.segment_core.specs.Frame.{Run, Frame, Group, Change, Shrink, Fold, kind_of, number_text, number_len, run_text, runs_text, runs_len, records_of_runs, payload_of, frame_text}
+use Rattle.segment_core.specs.Frame.{Run, Frame, Group, Change, Shrink, Fold, kind_of, runs_text, records_of_runs, payload_of, frame_text}
 use Rattle.segment_core.specs.Layout.{IsFrame}
 use Rattle.segment_core.specs.Reading.{record_bytes_of, record_count, head_len}
-
--- ---- lengths
-
-length-lengths_text : (lengths : List ℕ) → length (flat_map (to_le_bytes w32) lengths) ≡ length lengths * 4
-length-lengths_text [] = refl
-length-lengths_text (n ∷ lengths) = let more = length-lengths_text lengths in let all = length-append (to_le_bytes w32 n) (flat_map (to_le_bytes w32) lengths) in omega arith
-
-pub length-number_text : (format : Format) (n : ℕ) → length (number_text format n) ≡ number_len format
-length-number_text One n = refl
-length-number_text Two n = refl
-
-length-run_texts : (format : Format) (runs : List Run) → length (flat_map (run_text format) runs) ≡ length runs * (8 + number_len format)
-length-run_texts format [] = omega arith
-length-run_texts format (run ∷ runs) =
-    let more = length-run_texts format runs in
-    let all = length-append (run_text format run) (flat_map (run_text format) runs) in
-    let one = length-append (to_le_bytes w64 run.start) (number_text format run.count) in
-    let number = length-number_text format run.count in
-    omega arith
-
-pub length-runs_text : (format : Format) (runs : List Run) → length (runs_text format runs) ≡ runs_len format (length runs)
-length-runs_text format runs =
-    let all = length-append (number_text format (length runs)) (flat_map (run_text format) runs) in
-    let number = length-number_text format (length runs) in
-    let rest = length-run_texts format runs in
-    omega arith
+use Rattle.segment_core.proofs.Numbers.{length-numbers_text}
+use Rattle.segment_core.proofs.RunRows.{length-runs_text}
 
 -- ---- what stands before the records
 
@@ -47,7 +22,7 @@ head_text format (Shrink n) = to_le_bytes w64 n
 head_text format (Fold count) = to_le_bytes w64 count
 
 pub length-head_text : (format : Format) (frame : Frame) → length (head_text format frame) ≡ head_len format frame
-length-head_text format (Group lengths bytes) = let all = length-append (to_le_bytes w32 (length lengths)) (flat_map (to_le_bytes w32) lengths) in let rest = length-lengths_text lengths in omega arith
+length-head_text format (Group lengths bytes) = let all = length-append (to_le_bytes w32 (length lengths)) (flat_map (to_le_bytes w32) lengths) in let rest = length-numbers_text lengths in omega arith
 length-head_text format (Change runs bytes) = length-runs_text format runs
 length-head_text format (Shrink n) = refl
 length-head_text format (Fold count) = refl
@@ -78,9 +53,6 @@ pub frame_parts : (format : Format) (frame : Frame) → frame_text format frame 
 frame_parts format frame =
     let start : List ℕ = 1 ∷ kind_of frame ∷ to_le_bytes w32 (length (payload_of format frame)) in
     ap (λ (bs : List ℕ). start ++ bs) (payload_parts format frame) ∙ sym (append_assoc start (head_text format frame) (record_bytes_of frame))
-
-pub length-frame_text : (format : Format) (frame : Frame) → length (frame_text format frame) ≡ 6 + length (payload_of format frame)
-length-frame_text format frame = length-append (1 ∷ kind_of frame ∷ to_le_bytes w32 (length (payload_of format frame))) (payload_of format frame)
 
 pub length-frame_parts : (format : Format) (frame : Frame) → length (frame_text format frame) ≡ 6 + head_len format frame + length (record_bytes_of frame)
 length-frame_parts format frame =

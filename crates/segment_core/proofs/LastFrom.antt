@@ -10,7 +10,8 @@ use Rattle.segment_core.specs.declared.tally.Tally.{Tally}
 use Rattle.segment_core.specs.Frame.{Frame, header, frame_text, text}
 use Rattle.segment_core.specs.Tally.{nothing, after, tally_from, tally_of}
 use Rattle.segment_core.specs.Vector.{last_from, home_in, change_in, home_of, change_of, place_of}
-use Rattle.segment_core.proofs.Push.{tally_from_push, length-text}
+use Rattle.segment_core.proofs.Push.{length-text}
+pub use Rattle.segment_core.proofs.Push.{tally_from_push}
 
 -- ---- the first of two that says something
 
@@ -48,19 +49,23 @@ last_from_push says format p tally (first ∷ frames) frame =
     ∙ option_or_assoc (says (n + length (flat_map (frame_text format) frames)) (tally_from (after tally first) frames) frame) rest (says p tally first)
     ∙ ap (λ m. option_or (says m (tally_from (after tally first) frames) frame) (option_or rest (says p tally first))) at
 
+-- where the gate behind a file's frames stands
+pub gate_is : (shape : Shape) (frames : List Frame) → length (header shape) + length (flat_map (frame_text shape.format) frames) ≡ length (text shape frames)
+gate_is shape frames = sym (length-text shape frames)
+
 -- frames of a file
-pub last_of_push : (says : ℕ → Tally → Frame → Option ℕ) (shape : Shape) (frames : List Frame) (frame : Frame)
+pub last_push : (says : ℕ → Tally → Frame → Option ℕ) (shape : Shape) (frames : List Frame) (frame : Frame)
     → last_from says shape.format (length (header shape)) nothing (frames ++ frame ∷ []) ≡ option_or (says (length (text shape frames)) (tally_of frames) frame) (last_from says shape.format (length (header shape)) nothing frames)
-last_of_push says shape frames frame =
+last_push says shape frames frame =
     last_from_push says shape.format (length (header shape)) nothing frames frame
-    ∙ ap (λ n. option_or (says n (tally_of frames) frame) (last_from says shape.format (length (header shape)) nothing frames)) (sym (length-text shape frames))
+    ∙ ap (λ n. option_or (says n (tally_of frames) frame) (last_from says shape.format (length (header shape)) nothing frames)) (gate_is shape frames)
 
-pub home_of_push : (shape : Shape) (frames : List Frame) (frame : Frame) (i : ℕ) → home_of shape (frames ++ frame ∷ []) i ≡ option_or (home_in shape.width i (length (text shape frames)) (tally_of frames) frame) (home_of shape frames i)
-home_of_push shape frames frame i = last_of_push (home_in shape.width i) shape frames frame
+pub home_push : (shape : Shape) (frames : List Frame) (frame : Frame) (i : ℕ) → home_of shape (frames ++ frame ∷ []) i ≡ option_or (home_in shape.width i (length (text shape frames)) (tally_of frames) frame) (home_of shape frames i)
+home_push shape frames frame i = last_push (home_in shape.width i) shape frames frame
 
-pub change_of_push : (shape : Shape) (folded : ℕ) (frames : List Frame) (frame : Frame) (i : ℕ)
+pub change_push : (shape : Shape) (folded : ℕ) (frames : List Frame) (frame : Frame) (i : ℕ)
     → change_of shape folded (frames ++ frame ∷ []) i ≡ option_or (change_in shape folded i (length (text shape frames)) (tally_of frames) frame) (change_of shape folded frames i)
-change_of_push shape folded frames frame i = last_of_push (change_in shape folded i) shape frames frame
+change_push shape folded frames frame i = last_push (change_in shape folded i) shape frames frame
 
 pub place_is : (shape : Shape) (frames : List Frame) (i : ℕ) → place_of shape frames i ≡ option_or (change_of shape (tally_of frames).folded frames i) (home_of shape frames i)
 unfolding place_of
@@ -74,8 +79,8 @@ place_of_push shape folded frames frame i is =
     let count : (tally_of (frames ++ frame ∷ [])).folded ≡ folded = ap (λ t. t.folded) (tally_from_push nothing frames frame) ∙ is in
     place_is shape (frames ++ frame ∷ []) i
     ∙ ap (λ n. option_or (change_of shape n (frames ++ frame ∷ []) i) (home_of shape (frames ++ frame ∷ []) i)) count
-    ∙ ap (λ o. option_or o (home_of shape (frames ++ frame ∷ []) i)) (change_of_push shape folded frames frame i)
-    ∙ ap (λ o. option_or (option_or (change_in shape folded i (length (text shape frames)) (tally_of frames) frame) (change_of shape folded frames i)) o) (home_of_push shape frames frame i)
+    ∙ ap (λ o. option_or o (home_of shape (frames ++ frame ∷ []) i)) (change_push shape folded frames frame i)
+    ∙ ap (λ o. option_or (option_or (change_in shape folded i (length (text shape frames)) (tally_of frames) frame) (change_of shape folded frames i)) o) (home_push shape frames frame i)
 
 -- ---- frames that say the same
 

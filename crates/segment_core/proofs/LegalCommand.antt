@@ -17,14 +17,11 @@ use Rattle.segment_core.specs.Tally.{nothing, after, tally_from, tally_of, are_a
 use Rattle.segment_core.specs.Command.{Command, AreRuns, IsLegalCommand}
 use Rattle.segment_core.specs.Command as commands
 use Rattle.segment_core.specs.CommandFrame.{IsFrameOf}
+use Rattle.segment_core.proofs.Payload.{limit_small}
 use Rattle.segment_core.proofs.FrameParts.{length-payload_of, records_of_runs-cons}
 use Rattle.segment_core.proofs.OneMore.{as_many}
 
 -- ---- sizes
-
-small_limit : (format : Format) → limit_of format ≤ 2 ^ 24
-small_limit One = omega arith
-small_limit Two = omega arith
 
 some_limit : (format : Format) → 8 ≤ limit_of format
 some_limit One = omega arith
@@ -114,7 +111,7 @@ module _ {R : Type 0} (format : Format) (form : Encoding R) (tally : Tally) (rec
   -- one growth
   pub IsFrame_grow : (new : List R) (bytes : List ℕ) → 0 < form.width → AreRecords form bytes new → IsLegalCommand shape records (commands.Grow new) → IsFrame shape (Group (length new ∷ []) bytes) × MayFollow tally (Group (length new ∷ []) bytes)
   IsFrame_grow new bytes wide are legal =
-      let limit = small_limit format in
+      let limit = limit_small format in
       let many = mul-le (length new) 1 (length new) form.width (omega arith) (omega arith) in
       let alone : sum (length new ∷ []) ≡ length new = omega arith in
       (IsFrame_group new (length new ∷ []) bytes wide are (omega arith) ((legal.0, omega (arith, legal.1)), tt) alone (omega (arith, legal.1)), MayFollow_group new (length new ∷ []) bytes alone legal.2)
@@ -134,7 +131,7 @@ module _ {R : Type 0} (format : Format) (form : Encoding R) (tally : Tally) (rec
   pub IsFrame_change : (runs : List Run) (new : List R) (bytes : List ℕ) → 0 < form.width → tally.size ≤ 2 ^ 32 → AreRecords form bytes new → IsLegalCommand shape records (commands.Change runs new) → IsFrame shape (Change runs bytes) × MayFollow tally (Change runs bytes)
   IsFrame_change runs new bytes wide limit are legal =
       let least = mul-le (length new) 1 (length new) form.width (omega arith) (omega arith) in
-      let few : records_of_runs runs < 2 ^ 32 = omega (arith, legal.0.filled, legal.1, small_limit format) in
+      let few : records_of_runs runs < 2 ^ 32 = omega (arith, legal.0.filled, legal.1, limit_small format) in
       let runs_are = are_runs (length records) runs (omega arith) few legal.0.each legal.0.inside in (
         record { wide = wide; small = omega (arith, length-payload_of format (Change runs bytes), are.filled, legal.1); layout = (legal.0.some, runs_are, are.filled ∙ ap (λ n. n * form.width) legal.0.filled) },
         record { ordered = not_from_true (are_ascending 0 runs) legal.0.ordered; inside = not_from_true (are_inside tally.size runs) (ap (λ n. are_inside n runs) (sym size) ∙ legal.0.inside); folded = refl; counted = refl; short = refl },
