@@ -6,6 +6,7 @@ pub mod PlaceOf
 pub mod Replaced
 pub mod OneMore
 pub mod LegalCommand
+pub mod Apart
 pub mod Blanked
 pub mod Numbers
 pub mod Payload
