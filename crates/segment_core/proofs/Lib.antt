@@ -7,6 +7,7 @@ pub mod Replaced
 pub mod OneMore
 pub mod LegalCommand
 pub mod Apart
+pub mod HomesAnew
 pub mod Blanked
 pub mod Numbers
 pub mod Payload
