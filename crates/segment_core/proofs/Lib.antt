@@ -8,6 +8,7 @@ pub mod OneMore
 pub mod LegalCommand
 pub mod Apart
 pub mod HomesAnew
+pub mod Loose
 pub mod Blanked
 pub mod Numbers
 pub mod Payload
