@@ -9,6 +9,7 @@ pub mod LegalCommand
 pub mod Apart
 pub mod HomesAnew
 pub mod Loose
+pub mod HomesHold
 pub mod Blanked
 pub mod Numbers
 pub mod Payload
