@@ -10,6 +10,7 @@ pub mod Apart
 pub mod HomesAnew
 pub mod Loose
 pub mod HomesHold
+pub mod Raw
 pub mod Blanked
 pub mod Numbers
 pub mod Payload

@@ -11,5 +11,6 @@ pub mod Vector
 pub mod Folding
 pub mod Blanked
 pub mod CommandFrame
+pub mod Raw
 pub mod Fault
 pub mod Written
