@@ -11,6 +11,7 @@ pub mod HomesAnew
 pub mod Loose
 pub mod HomesHold
 pub mod Raw
+pub mod Parsed
 pub mod Blanked
 pub mod Numbers
 pub mod Payload

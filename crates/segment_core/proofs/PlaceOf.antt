@@ -14,7 +14,7 @@ use Rattle.segment_core.specs.Vector.{last_from, place_in_runs, home_in, change_
 use Rattle.segment_core.specs.Reading.{head_len}
 use Rattle.segment_core.proofs.Push.{length-text}
 use Rattle.segment_core.proofs.FrameParts.{length-frame_parts}
-use Rattle.segment_core.proofs.LastFrom.{option_or_cases, place_is}
+use Rattle.segment_core.proofs.LastFrom.{option_or_cases, none_or, place_is}
 use Rattle.segment_core.proofs.PlaceAmong.{Between, place_among_inside, place_among_between, place_in_runs_between, place_in_runs_inside}
 
 -- ---- in one frame
@@ -226,3 +226,27 @@ later_from shape lo hi i p tally (frame ∷ frames) place le is =
 -- what the changes from a later number on say is said by the last change
 pub change_of_later : (shape : Shape) (lo hi : ℕ) (frames : List Frame) (i place : ℕ) → lo ≤ hi → change_of shape hi frames i ≡ Some place → change_of shape lo frames i ≡ Some place
 change_of_later shape lo hi frames i place le is = later_from shape lo hi i (length (header shape)) nothing frames place le is
+
+-- ---- where no change is live
+
+all_grow : (tally : Tally) (frames : List Frame) → tally.changes ≤ (tally_from tally frames).changes
+all_grow tally [] = omega arith
+all_grow tally (frame ∷ frames) = omega (arith, changes_grow tally frame, all_grow (after tally frame) frames)
+
+counted_more : (shape : Shape) (folded i p : ℕ) (tally : Tally) (frame : Frame) (place : ℕ) → change_in shape folded i p tally frame ≡ Some place → (after tally frame).changes ≡ tally.changes + 1
+counted_more shape folded i p tally (Group lengths bytes) place is = absurd cc
+counted_more shape folded i p tally (Change runs bytes) place is = refl
+counted_more shape folded i p tally (Shrink n) place is = absurd cc
+counted_more shape folded i p tally (Fold count) place is = absurd cc
+
+live_counts : (shape : Shape) (folded i p : ℕ) (tally : Tally) (frames : List Frame) (place : ℕ) → last_from (change_in shape folded i) shape.format p tally frames ≡ Some place → folded < (tally_from tally frames).changes
+live_counts shape folded i p tally [] place is = absurd cc
+live_counts shape folded i p tally (frame ∷ frames) place is =
+    elim (option_or_cases (last_from (change_in shape folded i) shape.format (p + length (frame_text shape.format frame)) (after tally frame) frames) (change_in shape folded i p tally frame) place is) [
+      | inl later ↦ live_counts shape folded i (p + length (frame_text shape.format frame)) (after tally frame) frames place later
+      | inr here ↦ omega (arith, counted_past shape folded i p tally frame place here.1, counted_more shape folded i p tally frame place here.1, all_grow (after tally frame) frames)
+    ]
+
+-- no change from a number on that isn't there
+pub change_of_none : (shape : Shape) (folded : ℕ) (frames : List Frame) (i : ℕ) → (tally_of frames).changes ≤ folded → change_of shape folded frames i ≡ None
+change_of_none shape folded frames i none = none_or (change_of shape folded frames i) (λ place is. let more = live_counts shape folded i (length (header shape)) nothing frames place is in omega arith)

@@ -12,5 +12,6 @@ pub mod Folding
 pub mod Blanked
 pub mod CommandFrame
 pub mod Raw
+pub mod Parsed
 pub mod Fault
 pub mod Written
