@@ -5,6 +5,7 @@ pub mod PlaceAmong
 pub mod PlaceOf
 pub mod Replaced
 pub mod OneMore
+pub mod OneMoreWorked
 pub mod LegalCommand
 pub mod Apart
 pub mod HomesAnew
