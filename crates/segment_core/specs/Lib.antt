@@ -8,6 +8,11 @@ pub mod Layout
 pub mod Tally
 pub mod Image
 pub mod Vector
+pub mod Folding
+pub mod Blanked
+pub mod CommandFrame
+pub mod Raw
+pub mod Parsed
 pub mod Fault
 pub mod Notes
 pub mod Found
