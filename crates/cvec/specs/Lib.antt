@@ -13,3 +13,4 @@ pub mod Engines
 pub mod Request
 pub mod Runs
 pub mod Status
+pub mod Usage
