@@ -7,6 +7,8 @@
 mod fault;
 mod format;
 mod frame;
+mod growth_list;
+mod growth_row;
 mod image;
 mod vector;
 mod walk;
@@ -14,6 +16,8 @@ mod walk;
 pub use fault::{Cause, ImageFault, ScanFault};
 pub use format::{FrameKind, RECORD_LIMIT, VERSION};
 pub use frame::FrameReader;
+pub use growth_list::GrowthList;
+pub use growth_row::Growths;
 pub use image::write_image;
 pub use vector::{Scanned, scan};
 
