@@ -38,8 +38,8 @@ fn take_word<R: TextRecord>(
     growths: &mut Vec<Vec<R>>,
     growth: &mut Vec<R>,
 ) -> Result<(), LineFault>
-    ensures ok { OnOk result (TakesWord R.is_value R.text_of word.now (growths_of growths.old.items) growth.old.items (growths_of growths.new.items) growth.new.items) }
-    ensures bad { result ≡ Err LineFault.Bad → IsStrayWord R.is_value R.text_of word.now growth.old.items }
+    ensures ok { OnOk result (TakesWord R.spelling word.now (growths_of growths.old.items) growth.old.items (growths_of growths.new.items) growth.new.items) }
+    ensures bad { result ≡ Err LineFault.Bad → IsStrayWord R.spelling word.now growth.old.items }
 {
     if word != BAR {
         let record = R::parse(word).ok_or(LineFault::Bad)?;
@@ -54,8 +54,8 @@ fn take_word<R: TextRecord>(
 
 /// The growths that a group line spells.
 pub fn group_of_line<R: TextRecord>(alloc: Global, line: &[u8]) -> Result<Vec<Vec<R>>, LineFault>
-    ensures read { IfOk result (λ growths. IsGroupLineOf R.is_value R.text_of line.now (growths_of growths.items)) }
-    ensures bad { result ≡ Err LineFault.Bad → ¬ (IsGroupLine R.is_value R.text_of line.now) }
+    ensures read { IfOk result (λ growths. IsGroupLineOf R.spelling line.now (growths_of growths.items)) }
+    ensures bad { result ≡ Err LineFault.Bad → ¬ (IsGroupLine R.spelling line.now) }
 {
     let mut growths = Vec::new(alloc);
     let mut last = Vec::new(alloc);

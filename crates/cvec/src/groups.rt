@@ -15,8 +15,8 @@ pub fn groups_of_lines<R: TextRecord>(
     alloc: Global,
     input: &[u8],
 ) -> Result<Vec<Vec<Vec<R>>>, Refusal>
-    ensures read { IfOk result (λ groups. AreGroupLines R.is_value R.text_of input.now (groups_of groups.items)) }
-    ensures refused { IfErr result (IsLineRefusal R.is_value R.text_of input.now) }
+    ensures read { IfOk result (λ groups. AreGroupLines R.spelling input.now (groups_of groups.items)) }
+    ensures refused { IfErr result (IsLineRefusal R.spelling input.now) }
 {
     let mut groups = Vec::new(alloc);
     let mut rest = input;

@@ -17,8 +17,8 @@ use std::io::{Read, Write};
 
 /// The hex of the file of the groups that the lines spell. All lines are read before a size is looked at.
 fn hex_of_lines<R: TextRecord>(alloc: Global, input: &[u8]) -> Result<String, Refusal>
-    ensures made { IfOk result (λ hex. IsImageHex R.WIDTH R.bytes_of R.is_value R.text_of input.now (string_bytes hex)) }
-    ensures refused { IfErr result (IsImageRefusal R.WIDTH R.is_value R.text_of input.now) }
+    ensures made { IfOk result (λ hex. IsImageHex R.form R.spelling input.now (string_bytes hex)) }
+    ensures refused { IfErr result (IsImageRefusal R.form R.spelling input.now) }
 {
     let groups = groups_of_lines::<R>(alloc, input)?;
     let file = match write_image(alloc, groups.as_slice()) {
@@ -40,9 +40,9 @@ pub fn image<R: TextRecord, I: Read, W: Write>(
     writer: &mut W,
 ) -> Status
     ensures done { result ≡ Status.Done → IfSome (I.remaining reader.old) (λ input.
-        WritesImage R.WIDTH R.bytes_of R.is_value R.text_of input (W.contents writer.old) (W.contents writer.new)) }
+        WritesImage R.form R.spelling input (W.contents writer.old) (W.contents writer.new)) }
     ensures refused { result ≡ Status.Refused → IfSome (I.remaining reader.old) (λ input.
-        WritesImageRefusal R.WIDTH R.is_value R.text_of input (W.contents writer.old) (W.contents writer.new)) }
+        WritesImageRefusal R.form R.spelling input (W.contents writer.old) (W.contents writer.new)) }
     ensures no_usage { result ≢ Status.Usage }
 {
     let answer = match read_input(alloc, reader) {

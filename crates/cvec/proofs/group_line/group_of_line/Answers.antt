@@ -12,7 +12,7 @@ use Rattle.cvec.proofs.group_line.group_of_line.Goals as goal
 pub loop-rest-init : goal.loop-rest-init
 loop-rest-init g c =
     let laws = g.met.R.TextRecord g.world.𝓛 g.world.𝓜 g.world.𝓡 ((λ s x. x), (λ x. x), (λ x. x), λ x. x) in
-    rw (c.new-growths.ensures.items, c.new-last.ensures.items) (Reads_start g.R.TextRecord.is_value g.R.TextRecord.text_of c.args.line.now laws.is_word)
+    rw (c.new-growths.ensures.items, c.new-last.ensures.items) (Reads_start g.R.TextRecord.spelling c.args.line.now laws.is_word)
 
 pub returns-in_err-take_word-clause-bad : goal.returns-in_err-take_word-clause-bad
 returns-in_err-take_word-clause-bad g c = λ bad so.
@@ -20,7 +20,7 @@ returns-in_err-take_word-clause-bad g c = λ bad so.
     let cutting : words_in (option_copied c.loop-rest.rest) ≡ c.cut.result.0.now ∷ words_in (option_copied c.cut.result.1) = ap (λ o. words_in (option_copied o)) c.in-Some.is ∙ words_cut c.in-Some.text.now c.cut.result.0.now c.cut.result.1 c.cut.ensures.whole c.cut.ensures.first in
     let reads = rw cutting at c.loop-rest.invariant in
     let fault = err_is c.from_residual.result _ c.in_err-take_word.field-0.0 c.from_residual.ensures.1 bad in
-    stray_is_bad g.R.TextRecord.is_value g.R.TextRecord.text_of c.args.line.now _ _ c.cut.result.0.now _ laws.is_word (c.in_err-take_word.ensures.bad (ap Err fault)) reads so
+    stray_is_bad g.R.TextRecord.spelling c.args.line.now _ _ c.cut.result.0.now _ laws.is_word (c.in_err-take_word.ensures.bad (ap Err fault)) reads so
 
 pub loop-rest-smaller : goal.loop-rest-smaller
 loop-rest-smaller g c =
@@ -31,13 +31,13 @@ pub loop-rest-preserved : goal.loop-rest-preserved
 loop-rest-preserved g c =
     let laws = g.met.R.TextRecord g.world.𝓛 g.world.𝓜 g.world.𝓡 ((λ s x. x), (λ x. x), (λ x. x), λ x. x) in
     let cutting : words_in (option_copied c.loop-rest.rest) ≡ c.cut.result.0.now ∷ words_in (option_copied c.cut.result.1) = ap (λ o. words_in (option_copied o)) c.in-Some.is ∙ words_cut c.in-Some.text.now c.cut.result.0.now c.cut.result.1 c.cut.ensures.whole c.cut.ensures.first in
-    Reads_word g.R.TextRecord.is_value g.R.TextRecord.text_of c.args.line.now _ _ c.cut.result.0.now _ _ _ laws.is_word laws.one_value c.in_ok-take_word.ensures.ok (rw cutting at c.loop-rest.invariant)
+    Reads_word g.R.TextRecord.spelling c.args.line.now _ _ c.cut.result.0.now _ _ _ laws.is_word laws.one_value c.in_ok-take_word.ensures.ok (rw cutting at c.loop-rest.invariant)
 
 pub returns-then-is_empty-clause-bad : goal.returns-then-is_empty-clause-bad
 returns-then-is_empty-clause-bad g c = λ bad so.
     let ended : words_in (option_copied c.loop-rest.rest) ≡ [] = ap (λ o. words_in (option_copied o)) c.in_default.is in
     let none = sym c.loop-rest.last.ok.0 ∙ eqb-true _ 0 (sym c.if-is_empty.ensures) in
-    unfinished_is_bad g.R.TextRecord.is_value g.R.TextRecord.text_of c.args.line.now _ _ none (rw ended at c.loop-rest.invariant) so
+    unfinished_is_bad g.R.TextRecord.spelling c.args.line.now _ _ none (rw ended at c.loop-rest.invariant) so
 
 pub returns-clause-read : goal.returns-clause-read
 returns-clause-read g c =
@@ -45,4 +45,4 @@ returns-clause-read g c =
     let some : 0 < length c.loop-rest.last.items = let no = eqb-false _ 0 (sym c.if-is_empty.ensures) in let len = c.loop-rest.last.ok.0 in omega (arith, no, len) in
     let pushed = pushed_items c.push.result c.loop-rest.growths.items _ c.loop-rest.last c.push.ensures.items (sym c.map_err.ensures.variant ∙ ap is_ok c.in_ok-map_err.was) in
     rw (ap growths_of pushed ∙ map-append (λ v. v.items) c.loop-rest.growths.items (c.loop-rest.last ∷ []))
-    (read_whole g.R.TextRecord.is_value g.R.TextRecord.text_of c.args.line.now _ _ some (rw ended at c.loop-rest.invariant))
+    (read_whole g.R.TextRecord.spelling c.args.line.now _ _ some (rw ended at c.loop-rest.invariant))

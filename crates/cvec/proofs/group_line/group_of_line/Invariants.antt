@@ -6,7 +6,7 @@ use Rattle.cvec.proofs.GroupLines.{Reads}
 use Rattle.cvec.proofs.group_line.group_of_line.Given as goal
 
 abbrev pub invariant-loop-rest : goal.invariant-loop-rest
-invariant-loop-rest g l = Reads g.R.TextRecord.is_value g.R.TextRecord.text_of l.line (growths_of l.growths.items) l.last.items (words_in (option_copied l.rest))
+invariant-loop-rest g l = Reads g.R.TextRecord.spelling l.line (growths_of l.growths.items) l.last.items (words_in (option_copied l.rest))
 
 abbrev pub decreases-loop-rest : goal.decreases-loop-rest
 decreases-loop-rest g l = length (words_in (option_copied l.rest))
