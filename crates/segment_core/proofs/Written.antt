@@ -38,20 +38,29 @@ payload_len-append width a b =
     let product : length (joined (a ++ b)) * width ≡ (length (joined a) + length (joined b)) * width = ap (λ n. n * width) records in
     omega arith
 
-pub growths_more : {R : Type 0} (group : List (Vec R)) (k : ℕ) (growth : Vec R) → k < length group → growth ≡ get_or group k growth → growths_of (take (k + 1) group) ≡ growths_of (take k group) ++ growth.items ∷ []
-growths_more {R} group k growth lt is = map_more (λ (v : Vec R). v.items) group k growth lt ∙ ap (λ (v : Vec R). growths_of (take k group) ++ v.items ∷ []) (sym is)
+inside_Some : {X : Type 0} (x y : X) → Some x ≡ Some y → x ≡ y
+inside_Some x y is = cc
 
-pub payload_len_more : {R : Type 0} (width : ℕ) (group : List (Vec R)) (k : ℕ) (growth : Vec R) → k < length group → growth ≡ get_or group k growth → payload_len width (growths_of (take (k + 1) group)) ≡ payload_len width (growths_of (take k group)) + (4 + length growth.items * width)
-payload_len_more width group k growth lt is = ap (payload_len width) (growths_more group k growth lt is) ∙ payload_len_push width (growths_of (take k group)) growth.items
+pub take_more : {X : Type 0} (xs : List X) (k : ℕ) (x : X) → slice_get xs k ≡ Some x → take (k + 1) xs ≡ take k xs ++ x ∷ []
+take_more [] k x is = absurd cc
+take_more (y ∷ xs) zero x is = ap (λ (z : _). z ∷ []) (inside_Some y x is)
+take_more (y ∷ xs) (suc k) x is = let n : suc k + 1 ≡ suc (k + 1) = omega arith in rw n (ap (λ (l : List _). y ∷ l) (take_more xs k x is))
 
-pub payload_len_within : {R : Type 0} (width : ℕ) (group : List (Vec R)) (k : ℕ) → payload_len width (growths_of (take k group)) ≤ payload_len width (growths_of group)
-payload_len_within {R} width group k =
-    let whole : growths_of (take k group) ++ growths_of (drop k group) ≡ growths_of group = sym (map-append (λ (v : Vec R). v.items) (take k group) (drop k group)) ∙ ap growths_of (take-append-drop k group) in
-    subst (λ (gs : List (List R)). payload_len width (growths_of (take k group)) ≤ payload_len width gs) whole (payload_len-append width (growths_of (take k group)) (growths_of (drop k group)))
+-- the lengths of the growths, and of one more
+pub lengths_push : {R : Type 0} (growths : List (List R)) (growth : List R) → flat_map (to_le_bytes w32) (map length (growths ++ growth ∷ [])) ≡ flat_map (to_le_bytes w32) (map length growths) ++ to_le_bytes w32 (length growth)
+lengths_push growths growth =
+    ap (flat_map (to_le_bytes w32)) (map_push length growths growth) ∙ flat_map-append (to_le_bytes w32) (map length growths) (length growth ∷ [])
+
+pub payload_len_more : {R : Type 0} (width : ℕ) (growths : List (List R)) (k : ℕ) (growth : List R) → slice_get growths k ≡ Some growth → payload_len width (take (k + 1) growths) ≡ payload_len width (take k growths) + (4 + length growth * width)
+payload_len_more width growths k growth is = ap (payload_len width) (take_more growths k growth is) ∙ payload_len_push width (take k growths) growth
+
+pub payload_len_within : {R : Type 0} (width : ℕ) (growths : List (List R)) (k : ℕ) → payload_len width (take k growths) ≤ payload_len width growths
+payload_len_within {R} width growths k =
+    subst (λ (gs : List (List R)). payload_len width (take k growths) ≤ payload_len width gs) (take-append-drop k growths) (payload_len-append width (take k growths) (drop k growths))
 
 -- a growth takes part of its group's payload
-pub growth_within : {R : Type 0} (width : ℕ) (group : List (Vec R)) (k : ℕ) (growth : Vec R) → k < length group → growth ≡ get_or group k growth → payload_len width (growths_of (take k group)) + (4 + length growth.items * width) ≤ payload_len width (growths_of group)
-growth_within width group k growth lt is = let more = payload_len_more width group k growth lt is in let within = payload_len_within width group (k + 1) in omega arith
+pub growth_within : {R : Type 0} (width : ℕ) (growths : List (List R)) (k : ℕ) (growth : List R) → slice_get growths k ≡ Some growth → payload_len width (take k growths) + (4 + length growth * width) ≤ payload_len width growths
+growth_within width growths k growth is = let more = payload_len_more width growths k growth is in let within = payload_len_within width growths (k + 1) in omega arith
 
 pub payload_len_nothing : {R : Type 0} (width : ℕ) (growths : List (List R)) → growths ≡ [] → payload_len width growths ≡ 4
 payload_len_nothing width growths none = ap (payload_len width) none ∙ (let nothing : 4 + 0 * 4 + 0 * width ≡ 4 = omega arith in nothing)
@@ -111,11 +120,6 @@ text_more form groups group = ap (text form.width) (map_push (group_frame form) 
 pub AllFit_push : {R : Type 0} (width : ℕ) (groups : List (List (List R))) (group : List (List R)) → AllFit width groups → payload_len width group ≤ payload_limit → AllFit width (groups ++ group ∷ [])
 AllFit_push width [] group fit small = (small, tt)
 AllFit_push width (first ∷ groups) group fit small = (fit.0, AllFit_push width groups group fit.1 small)
-
-pub fits_at : {R : Type 0} (width : ℕ) (groups : List (Vec (Vec R))) (k : ℕ) (d : Vec (Vec R)) → AllFit width (groups_of groups) → k < length groups → payload_len width (growths_of (get_or groups k d).items) ≤ payload_limit
-fits_at width [] k d fit lt = absurd (omega arith)
-fits_at width (group ∷ groups) zero d fit lt = fit.0
-fits_at width (group ∷ groups) (suc k) d fit lt = fits_at width groups k d fit.1 (omega arith)
 
 pub group_at : {R : Type 0} (groups : List (Vec (Vec R))) (k : ℕ) (d : Vec (Vec R)) → k < length groups → slice_get (groups_of groups) k ≡ Some (growths_of (get_or groups k d).items)
 group_at [] k d lt = absurd (omega arith)
