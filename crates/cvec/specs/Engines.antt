@@ -15,10 +15,14 @@ use Rattle.cvec.specs.HexLine.{IsHexLine}
 use Rattle.cvec.specs.Text.{Spelling, ended_line, record_lines}
 use Rattle.cvec.specs.Refusals.{refusal_line, input_limit, IsInputRefusal, IsImageRefusal, IsShowRefusal}
 
--- the hex of the file of the groups that the input spells
+-- the file of the groups that the input spells
+abbrev pub IsFileOfLines : {R : Type 0} → Encoding R → Spelling R → List ℕ → List ℕ → Type 0
+IsFileOfLines {R} form spelling input file =
+    (groups : List (List (List R))) × AreGroupLines spelling input groups × AllFit form.width groups × (file ≡ file_of form groups)
+
+-- the hex of that file
 abbrev pub IsImageHex : {R : Type 0} → Encoding R → Spelling R → List ℕ → List ℕ → Type 0
-IsImageHex {R} form spelling input hex =
-    (groups : List (List (List R))) × AreGroupLines spelling input groups × AllFit form.width groups × (hex ≡ encode_lower (file_of form groups))
+IsImageHex form spelling input hex = (file : List ℕ) × IsFileOfLines form spelling input file × (hex ≡ encode_lower file)
 
 -- that hex as a line, of an input within the bound
 abbrev pub WritesImage : {R : Type 0} → Encoding R → Spelling R → List ℕ → Option (List ℕ) → Option (List ℕ) → Type 0

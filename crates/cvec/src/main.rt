@@ -1,9 +1,9 @@
 //! `cvec`: from lines of records to segment files in hex, and back.
 #![tactic(auto)]
 
+mod file_of_lines;
 mod flagged;
 mod group_line;
-mod groups;
 mod halves;
 mod hex_line;
 mod image;

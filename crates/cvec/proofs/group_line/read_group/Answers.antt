@@ -1,18 +1,14 @@
-use Rattle.std.proofs.Common.{◌≡◌, ◌<◌, [], ◌∷◌, length, sym, ap, ◌∙◌, arith, Err}
-use Rattle.std.specs.Prelude.{is_ok}
+use Rattle.std.proofs.Common.{◌≡◌, [], ◌∷◌, length, sym, ap, ◌∙◌, arith, Err}
 use Rattle.std.specs.Option.{option_copied}
-use Rattle.std.proofs.lemmas.Bool.{eqb-true, eqb-false}
-use Rattle.std.proofs.lemmas.List.{map-append}
-use Rattle.segment_core.specs.Written.{growths_of}
 use Rattle.cvec.proofs.Joins.{words_in, words_cut}
-use Rattle.cvec.proofs.Small.{err_is, pushed_items}
+use Rattle.cvec.proofs.Small.{err_is, OnOk_from, OnOk_at, nil_from_test, some_from_test}
 use Rattle.cvec.proofs.GroupLines.{Reads_start, Reads_word, stray_is_bad, unfinished_is_bad, read_whole}
-use Rattle.cvec.proofs.group_line.group_of_line.Goals as goal
+use Rattle.cvec.proofs.group_line.read_group.Goals as goal
 
 pub loop-rest-init : goal.loop-rest-init
 loop-rest-init g c =
     let laws = g.met.R.TextRecord g.world.𝓛 g.world.𝓜 g.world.𝓡 ((λ s x. x), (λ x. x), (λ x. x), λ x. x) in
-    rw (c.new-growths.ensures.items, c.new-last.ensures.items) (Reads_start g.R.TextRecord.spelling c.args.line.now laws.is_word)
+    rw c.clear.ensures (Reads_start g.R.TextRecord.spelling c.args.line.now laws.is_word)
 
 pub returns-in_err-take_word-clause-bad : goal.returns-in_err-take_word-clause-bad
 returns-in_err-take_word-clause-bad g c = λ bad so.
@@ -33,16 +29,15 @@ loop-rest-preserved g c =
     let cutting : words_in (option_copied c.loop-rest.rest) ≡ c.cut.result.0.now ∷ words_in (option_copied c.cut.result.1) = ap (λ o. words_in (option_copied o)) c.in-Some.is ∙ words_cut c.in-Some.text.now c.cut.result.0.now c.cut.result.1 c.cut.ensures.whole c.cut.ensures.first in
     Reads_word g.R.TextRecord.spelling c.args.line.now _ _ c.cut.result.0.now _ _ _ laws.is_word laws.one_value c.in_ok-take_word.ensures.ok (rw cutting at c.loop-rest.invariant)
 
-pub returns-then-is_empty-clause-bad : goal.returns-then-is_empty-clause-bad
-returns-then-is_empty-clause-bad g c = λ bad so.
+pub returns-then-not-is_begun-clause-bad : goal.returns-then-not-is_begun-clause-bad
+returns-then-not-is_begun-clause-bad g c = λ bad so.
     let ended : words_in (option_copied c.loop-rest.rest) ≡ [] = ap (λ o. words_in (option_copied o)) c.in_default.is in
-    let none = sym c.loop-rest.last.ok.0 ∙ eqb-true _ 0 (sym c.if-is_empty.ensures) in
+    let none = ap length (nil_from_test c.loop-rest.group.1 c.is_begun.result c.if-not-is_begun.true c.is_begun.ensures.1) in
     unfinished_is_bad g.R.TextRecord.spelling c.args.line.now _ _ none (rw ended at c.loop-rest.invariant) so
 
 pub returns-clause-read : goal.returns-clause-read
-returns-clause-read g c =
+returns-clause-read g c = OnOk_from c.map_err.result _ (λ ok.
     let ended : words_in (option_copied c.loop-rest.rest) ≡ [] = ap (λ o. words_in (option_copied o)) c.in_default.is in
-    let some : 0 < length c.loop-rest.last.items = let no = eqb-false _ 0 (sym c.if-is_empty.ensures) in let len = c.loop-rest.last.ok.0 in omega (arith, no, len) in
-    let pushed = pushed_items c.push.result c.loop-rest.growths.items _ c.loop-rest.last c.push.ensures.items (sym c.map_err.ensures.variant ∙ ap is_ok c.in_ok-map_err.was) in
-    rw (ap growths_of pushed ∙ map-append (λ v. v.items) c.loop-rest.growths.items (c.loop-rest.last ∷ []))
-    (read_whole g.R.TextRecord.spelling c.args.line.now _ _ some (rw ended at c.loop-rest.invariant))
+    let some = some_from_test c.loop-rest.group.1 c.is_begun.result c.if-not-is_begun.false c.is_begun.ensures.0 in
+    let moved = OnOk_at c.end.result _ c.end.ensures.ok (sym c.map_err.ensures.variant ∙ ok) in
+    rw (ap (λ v. v.0) moved) (read_whole g.R.TextRecord.spelling c.args.line.now _ _ some (rw ended at c.loop-rest.invariant)))
