@@ -1,4 +1,4 @@
-use Rattle.std.proofs.Common.{List, ℕ, ◌++◌, ◌∷◌, [], length, map, take, ap, sym, ◌∙◌, append_assoc, arith}
+use Rattle.std.proofs.Common.{List, ℕ, ◌++◌, length, map, take, ap, sym, ◌∙◌, append_assoc, arith}
 use Rattle.std.specs.List.{flat_map}
 use Rattle.std.specs.Int.{w32, to_le_bytes}
 use Rattle.segment_core.proofs.Written.{growth_within, long_growth, take_more, lengths_push}

@@ -1,11 +1,10 @@
-use Rattle.std.proofs.Common.{◌≤◌, ◌++◌, ◌∷◌, [], List, ℕ, take, map, sym, ap, subst, ◌∙◌, append_assoc}
+use Rattle.std.proofs.Common.{◌++◌, ◌∷◌, [], List, ℕ, take, map, sym, ap, subst, ◌∙◌, append_assoc}
 use Rattle.std.specs.Global.{Vec}
 use Rattle.std.proofs.lemmas.List.{take_all}
 use Rattle.std.proofs.lemmas.Result.{on_ok_weaker}
 use Rattle.record_core.specs.Cells.{AreReadAgain}
-use Rattle.record_core.specs.Limits.{payload_limit}
 use Rattle.segment_core.specs.Frame.{frame_text, text}
-use Rattle.segment_core.specs.Written.{growths_of, groups_of, group_frame, all_records, joined, payload_len}
+use Rattle.segment_core.specs.Written.{growths_of, groups_of, group_frame, all_records, joined}
 use Rattle.segment_core.proofs.Written.{groups_more, all_records_push, text_more, AreReadAgain-append}
 use Rattle.segment_core.proofs.image.append_image.Goals as goal
 
