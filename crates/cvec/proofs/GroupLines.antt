@@ -2,7 +2,7 @@
 use Rattle.std.proofs.Common.{◌≡◌, ℕ, ◌<◌, List, [], ◌∷◌, ◌++◌, length, map, codes, refl, sym, ap, ◌∙◌, subst, arith, inl, inr}
 use Rattle.std.specs.List.{AllByRecursion}
 use Rattle.std.proofs.lemmas.List.{append_assoc, append-nil, length-append}
-use Rattle.cvec.specs.Text.{Spelling, AreWords, HasOneValue, IsWord, joined_by}
+use Rattle.cvec.specs.Text.{Spelling, AreWords, HasOneValue, joined_by}
 use Rattle.cvec.specs.GroupLine.{growth_text, group_line, IsGroup, IsGroupLineOf, IsGroupLine}
 use Rattle.cvec.specs.Words.{TakesWord, IsStrayWord}
 use Rattle.cvec.proofs.Joins.{parts_of, HasNoSpace, no_space_in_word, joined_append, joined_parts, parts_joined, not_bar, no_space_in_bar}

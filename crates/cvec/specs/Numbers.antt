@@ -7,7 +7,7 @@ use Rattle.std.proofs.lemmas.Bool.Decides.{nat_tests}
 use Rattle.std.proofs.lemmas.Fmt.{decimal_nonempty, decimal_is_IsNumeral, decimal_injective}
 use Rattle.std.proofs.lemmas.List.Elements.{All-from_get_or}
 use Rattle.std.proofs.lemmas.Str.Parse.{digit_at}
-use Rattle.cvec.specs.Text.{Spelling, AreWords, HasOneValue, IsWord, is_word_byte}
+use Rattle.cvec.specs.Text.{Spelling, AreWords, HasOneValue, is_word_byte}
 
 -- something stands there, and no plus or zero in front of it
 pub record BeginsAsNumber (text : List ℕ) : Type 0 where

@@ -1,5 +1,5 @@
 -- The names of refusals, and when each of them is right.
-use Rattle.std.specs.Prelude.{◌≡◌, ℕ, ◌+◌, ◌<◌, List, ◌++◌, length, codes, decimal, Option}
+use Rattle.std.specs.Prelude.{◌≡◌, ℕ, ◌+◌, ◌<◌, List, ◌++◌, length, codes, decimal}
 use Rattle.record_core.specs.Bytes.{Encoding}
 use Rattle.segment_core.specs.declared.fault.Cause.{Cause}
 use Rattle.segment_core.specs.declared.fault.Cause.TheVariants.{NoGate, ShortFrame, Kind, TooLarge, Layout, Range, Unfolded, FoldCount, TooLong, BadRecord}
@@ -60,16 +60,6 @@ IsInputRefusal input (refusals.Scan fault) = ⊥
 IsInputRefusal input (refusals.Line n) = ⊥
 IsInputRefusal input (refusals.TooLargeAtLine n) = ⊥
 IsInputRefusal input refusals.NotHex = ⊥
-
--- lines were refused
-abbrev pub IsLineRefusal : {R : Type 0} → Spelling R → List ℕ → Refusal → Type 0
-IsLineRefusal spelling input (refusals.Line n) = IsFirstBadLine spelling input n
-IsLineRefusal spelling input refusals.Memory = Unit {0}
-IsLineRefusal spelling input refusals.InputTooLong = ⊥
-IsLineRefusal spelling input refusals.Input = ⊥
-IsLineRefusal spelling input (refusals.Scan fault) = ⊥
-IsLineRefusal spelling input (refusals.TooLargeAtLine n) = ⊥
-IsLineRefusal spelling input refusals.NotHex = ⊥
 
 -- an input of group lines was refused
 abbrev pub IsImageRefusal : {R : Type 0} → Encoding R → Spelling R → List ℕ → Refusal → Type 0

@@ -71,6 +71,16 @@ fn run_words(rt: &HostRuntime, words: &[String]) -> Status {
     status
 }
 
+/// Answers want of memory.
+fn refuse_memory(rt: &HostRuntime) -> Status {
+    let mut output = Noting::new(io::writer(rt));
+    let status = refuse(&mut output, Refusal::Memory);
+    if status == Status::OutputFailed {
+        tell_failed_write(rt, output.error());
+    }
+    status
+}
+
 /// Tells how the program is used, and what is wrong with the words. Where memory is refused for that, only the former.
 fn tell_usage(rt: &HostRuntime, words: &[String]) {
     let fault = fault_of_words(rt.alloc(), words).unwrap_or(None);
@@ -82,8 +92,4 @@ fn tell_failed_write(rt: &HostRuntime, error: Option<io::Error>) {
     if let Some(error) = error {
         let _ = eprintln!(rt; "cvec: standard output: {error}");
     }
-}
-
-fn refuse_memory(rt: &HostRuntime) -> Status {
-    refuse(&mut io::writer(rt), Refusal::Memory)
 }
