@@ -31,3 +31,6 @@ pub mod Refusals
 pub mod OneVector
 pub mod Tallied
 pub mod Worked
+pub mod Written
+pub mod GrowthRows
+pub mod ReadAgain
