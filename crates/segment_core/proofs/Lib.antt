@@ -1,6 +1,7 @@
 pub mod Numbers
 pub mod RunRows
 pub mod Push
+pub mod LastFrom
 pub mod Payload
 pub mod Lines
 pub mod Longest
@@ -10,4 +11,9 @@ pub mod Header
 pub mod Refusals
 pub mod OneVector
 pub mod Tallied
+pub mod FoundLaid
+pub mod FoundHomes
+pub mod FoundChanges
+pub mod FoundSteps
+pub mod Walked
 pub mod Worked
