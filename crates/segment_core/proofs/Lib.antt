@@ -21,6 +21,7 @@ pub mod FoundHomes
 pub mod FoundChanges
 pub mod FoundSteps
 pub mod FoundEnd
+pub mod Walked
 pub mod Payload
 pub mod Lines
 pub mod Longest

@@ -54,6 +54,10 @@ IsFedAt form image scanner (Refused fault) = IsRefusedFor form image fault
 unfoldable pub IsFed : {R : Type 0} → Encoding R → List ℕ → Scanner R → Type 0
 IsFed form image scanner = IsFedAt form image scanner scanner.stage
 
+-- the frames go on, or have ended
+abbrev pub IsOn : {R : Type 0} → Encoding R → List ℕ → Scanner R → Type 0
+IsOn form image scanner = ((scanner.stage ≡ Open) × GoesOn form image scanner) ⊎ ((scanner.stage ≡ Closed) × HasEnded form image scanner)
+
 -- memory was refused
 abbrev pub IsLost : {R : Type 0} → Scanner R → Type 0
 IsLost scanner = scanner.stage ≡ Refused Memory

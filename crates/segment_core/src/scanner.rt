@@ -5,7 +5,7 @@ ghost use Rattle.segment_core.specs.Shape.{shape_of, format_in};
 ghost use Rattle.segment_core.specs.Fault.{header_fault, IsRefused};
 ghost use Rattle.segment_core.specs.Found.{AreHomesOf};
 ghost use Rattle.segment_core.specs.Scanned.{IsScanOf};
-ghost use Rattle.segment_core.specs.Scanner.{GoesOn, HasEnded, IsRefusedFor, IsFedAt, IsFed, IsLost};
+ghost use Rattle.segment_core.specs.Scanner.{GoesOn, HasEnded, IsOn, IsRefusedFor, IsFedAt, IsFed, IsLost};
 
 use crate::fault::{Cause, ScanFault};
 use crate::format::{FRAME_HEAD_LEN, Format, HEADER_LEN, MAGIC, OPEN, Shape};
@@ -102,10 +102,8 @@ impl<R: Record> Scanner<R> {
     /// Takes in the next piece of the image. Only want of memory is refused here, and again by every later
     /// call; any other fault is told by `end`.
     pub fn feed(&mut self, piece: &[u8]) -> Result<(), ScanFault>
-        ghost image: { List ℕ }
-        requires fed { IsFed R.form image self.old }
-        requires small { length image + length piece.now < 2 ^ 64 }
-        ensures fed { IsFed R.form (image ++ piece.now) self.new }
+        requires { (image : List ℕ) × IsFed R.form image self.old × (length image + length piece.now < 2 ^ 64) }
+        ensures fed { (image : List ℕ) → IsFed R.form image self.old → IsFed R.form (image ++ piece.now) self.new }
         ensures memory { IfErr result (λ fault. (fault ≡ ScanFault.Memory) × IsLost self.new) }
         ensures lost { IsLost self.old → result ≡ Err ScanFault.Memory }
     {
@@ -125,10 +123,9 @@ impl<R: Record> Scanner<R> {
     /// Takes what is left of the header out of a piece, and answers how many bytes that was: all of them where
     /// it isn't whole even then.
     fn feed_header(&mut self, piece: &[u8]) -> usize
-        ghost image: { List ℕ }
-        requires fed { IsFedAt R.form image self.old Stage.Header }
+        requires { (image : List ℕ) × IsFedAt R.form image self.old Stage.Header }
         ensures used { result ≤ length piece.now }
-        ensures fed { IsFed R.form (image ++ take result piece.now) self.new }
+        ensures fed { (image : List ℕ) → IsFedAt R.form image self.old Stage.Header → IsFed R.form (image ++ take result piece.now) self.new }
         ensures whole { self.new.stage ≡ Stage.Header → result ≡ length piece.now }
     {
         let used = piece.len().min(HEADER_LEN - self.filled);
@@ -148,11 +145,9 @@ impl<R: Record> Scanner<R> {
 
     /// Takes in bytes behind the header, where it is whole.
     fn feed_rest(&mut self, piece: &[u8])
-        ghost image: { List ℕ }
-        requires fed { IsFed R.form image self.old }
-        requires small { length image + length piece.now < 2 ^ 64 }
+        requires fed { (image : List ℕ) × IsFed R.form image self.old × (length image + length piece.now < 2 ^ 64) }
         requires header { self.old.stage ≡ Stage.Header → length piece.now ≡ 0 }
-        ensures fed { IsFed R.form (image ++ piece.now) self.new }
+        ensures fed { (image : List ℕ) → IsFed R.form image self.old → IsFed R.form (image ++ piece.now) self.new }
         ensures lost { IsLost self.old → IsLost self.new }
     {
         if let Stage::Open = self.stage {
@@ -164,12 +159,10 @@ impl<R: Record> Scanner<R> {
 
     /// Takes in bytes behind the header, as long as no gate is closed.
     fn feed_frames(&mut self, piece: &[u8]) -> Result<(), ScanFault>
-        ghost image: { List ℕ }
-        requires open { GoesOn R.form image self.old }
+        requires open { (image : List ℕ) × GoesOn R.form image self.old × (length image + length piece.now < 2 ^ 64) }
         requires stage { self.old.stage ≡ Stage.Open }
-        requires small { length image + length piece.now < 2 ^ 64 }
-        ensures ok { OnOk result (IsFed R.form (image ++ piece.now) self.new) }
-        ensures err { IfErr result (IsRefusedFor R.form (image ++ piece.now)) }
+        ensures ok { OnOk result ((image : List ℕ) → GoesOn R.form image self.old → IsFed R.form (image ++ piece.now) self.new) }
+        ensures err { IfErr result (λ fault. (image : List ℕ) → GoesOn R.form image self.old → IsRefusedFor R.form (image ++ piece.now) fault) }
     {
         let mut used = 0;
         while used < piece.len() {
@@ -189,13 +182,11 @@ impl<R: Record> Scanner<R> {
 
     /// Takes in bytes that begin a frame.
     fn take(&mut self, bytes: &[u8]) -> Result<(), ScanFault>
-        ghost image: { List ℕ }
-        requires open { GoesOn R.form image self.old }
+        requires open { (image : List ℕ) × GoesOn R.form image self.old × (length image + length bytes.now < 2 ^ 64) }
         requires stage { self.old.stage ≡ Stage.Open }
         requires none { self.old.pending.items ≡ [] }
-        requires small { length image + length bytes.now < 2 ^ 64 }
-        ensures ok { OnOk result (((self.new.stage ≡ Stage.Open) × GoesOn R.form (image ++ bytes.now) self.new) ⊎ ((self.new.stage ≡ Stage.Closed) × HasEnded R.form (image ++ bytes.now) self.new)) }
-        ensures err { IfErr result (IsRefusedFor R.form (image ++ bytes.now)) }
+        ensures ok { OnOk result ((image : List ℕ) → GoesOn R.form image self.old → IsOn R.form (image ++ bytes.now) self.new) }
+        ensures err { IfErr result (λ fault. (image : List ℕ) → GoesOn R.form image self.old → IsRefusedFor R.form (image ++ bytes.now) fault) }
     {
         let (used, tail) = self.walk.read(bytes)?;
         match tail {
@@ -211,12 +202,10 @@ impl<R: Record> Scanner<R> {
 
     /// Takes in bytes behind those of a frame that isn't whole yet.
     fn pend(&mut self, bytes: &[u8]) -> Result<(), ScanFault>
-        ghost image: { List ℕ }
-        requires open { GoesOn R.form image self.old }
+        requires open { (image : List ℕ) × GoesOn R.form image self.old × (length image + length bytes.now < 2 ^ 64) }
         requires stage { self.old.stage ≡ Stage.Open }
-        requires small { length image + length bytes.now < 2 ^ 64 }
-        ensures ok { OnOk result (((self.new.stage ≡ Stage.Open) × GoesOn R.form (image ++ bytes.now) self.new) ⊎ ((self.new.stage ≡ Stage.Closed) × HasEnded R.form (image ++ bytes.now) self.new)) }
-        ensures err { IfErr result (IsRefusedFor R.form (image ++ bytes.now)) }
+        ensures ok { OnOk result ((image : List ℕ) → GoesOn R.form image self.old → IsOn R.form (image ++ bytes.now) self.new) }
+        ensures err { IfErr result (λ fault. (image : List ℕ) → GoesOn R.form image self.old → IsRefusedFor R.form (image ++ bytes.now) fault) }
     {
         if self.pending.extend_from_slice(bytes).is_err() {
             return Err(ScanFault::Memory);
@@ -231,9 +220,8 @@ impl<R: Record> Scanner<R> {
 
     /// Answers of all that was fed what `scan` answers of it.
     pub fn end(self) -> Result<Scanned<R>, ScanFault>
-        ghost image: { List ℕ }
-        requires fed { IsFed R.form image self }
-        ensures answer { MatchResult result (IsScanOf R.form image) (IsRefused R.form image) }
+        requires { (image : List ℕ) × IsFed R.form image self }
+        ensures answer { (image : List ℕ) → IsFed R.form image self → MatchResult result (IsScanOf R.form image) (IsRefused R.form image) }
         ensures lost { IsLost self → result ≡ Err ScanFault.Memory }
     {
         self.check_end()?;
@@ -258,9 +246,8 @@ impl<R: Record> Scanner<R> {
 
     /// The same, and where the records stand.
     pub fn end_with(self) -> Result<(Scanned<R>, Homes), ScanFault>
-        ghost image: { List ℕ }
-        requires fed { IsFed R.form image self }
-        ensures answer { MatchResult result
+        requires { (image : List ℕ) × IsFed R.form image self }
+        ensures answer { (image : List ℕ) → IsFed R.form image self → MatchResult result
             (λ answer. (scan : IsScanOf R.form image answer.0) × AreHomesOf (shape_of scan.format R.form) scan.frames answer.1)
             (IsRefused R.form image) }
         ensures lost { IsLost self → result ≡ Err ScanFault.Memory }
@@ -288,9 +275,8 @@ impl<R: Record> Scanner<R> {
 
     /// Whether a closed gate has ended the frames, and no fault was found.
     fn check_end(&self) -> Result<(), ScanFault>
-        ghost image: { List ℕ }
-        requires fed { IsFed R.form image self.now }
-        ensures answer { MatchResult result (λ _. HasEnded R.form image self.now) (IsRefused R.form image) }
+        requires { (image : List ℕ) × IsFed R.form image self.now }
+        ensures answer { (image : List ℕ) → IsFed R.form image self.now → MatchResult result (λ _. HasEnded R.form image self.now) (IsRefused R.form image) }
         ensures lost { IsLost self.now → result ≡ Err ScanFault.Memory }
     {
         match self.stage {

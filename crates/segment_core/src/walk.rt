@@ -2,7 +2,6 @@
 
 ghost use Rattle.std.specs.Prelude.{◌≡◌, ◌≤◌, ◌<◌, ◌+◌, ◌^◌, ◌++◌, ◌⊎◌, ◌∷◌, [], ℕ, List, Some, length, drop, OnOk, IfOk, IfErr};
 ghost use Rattle.segment_core.specs.Frame.{Frame};
-ghost use Rattle.segment_core.specs.Tally.{tally_of, MayFollow};
 ghost use Rattle.segment_core.specs.Layout.{IsFrame};
 ghost use Rattle.segment_core.specs.Fault.{first_line, order_lines};
 ghost use Rattle.segment_core.specs.Walk.{IsBehind, StandsBefore, IsTail, IsWalkRefused};
@@ -60,12 +59,11 @@ impl<R: Record> Walk<R> {
     /// Takes in the whole frames that these bytes begin with, and answers how many bytes they are and what
     /// stands behind them.
     pub(crate) fn read(&mut self, bytes: &[u8]) -> Result<(usize, Tail), ScanFault>
-        ghost image: { List ℕ }
-        requires stands { StandsBefore R.form image bytes.now self.old }
-        requires small { length image < 2 ^ 64 }
+        requires { (image : List ℕ) × StandsBefore R.form image bytes.now self.old × (length image < 2 ^ 64) }
         ensures shape { self.new.shape ≡ self.old.shape }
-        ensures ok { IfOk result (λ end. (end.0 ≤ length bytes.now) × StandsBefore R.form image (drop end.0 bytes.now) self.new × IsTail self.new.shape self.new.at (drop end.0 bytes.now) end.1) }
-        ensures err { IfErr result (IsWalkRefused self.old.shape image) }
+        ensures stands { IfOk result (λ end. (image : List ℕ) → StandsBefore R.form image bytes.now self.old → StandsBefore R.form image (drop end.0 bytes.now) self.new) }
+        ensures tail { IfOk result (λ end. (end.0 ≤ length bytes.now) × IsTail self.new.shape self.new.at (drop end.0 bytes.now) end.1) }
+        ensures err { IfErr result (λ fault. (image : List ℕ) → StandsBefore R.form image bytes.now self.old → IsWalkRefused self.old.shape image fault) }
     {
         let mut used = 0;
         loop {
@@ -83,18 +81,19 @@ impl<R: Record> Walk<R> {
 
     /// Takes in the next frame.
     fn step(&mut self, frame: &FrameReader<'_>) -> Result<(), ScanFault>
-        ghost frames: { List Frame }
-        requires behind { IsBehind R.form frames self.old }
+        requires behind { (frames : List Frame) × IsBehind R.form frames self.old }
         requires at { frame.now.at ≡ self.old.at }
+        requires placed { self.old.at < 2 ^ 64 }
         requires shaped { frame.now.shape ≡ self.old.shape }
         requires whole { IsFrame self.old.shape frame.now.frame }
         ensures shape { self.new.shape ≡ self.old.shape }
-        ensures ok { OnOk result (MayFollow (tally_of frames) frame.now.frame × IsBehind R.form (frames ++ frame.now.frame ∷ []) self.new) }
-        ensures err { IfErr result (λ fault. (first_line (order_lines self.old.at (tally_of frames) frame.now.frame) ≡ Some fault) ⊎ (fault ≡ ScanFault.Memory)) }
+        ensures ok { OnOk result ((frames : List Frame) → IsBehind R.form frames self.old → IsBehind R.form (frames ++ frame.now.frame ∷ []) self.new) }
+        ensures err { IfErr result (λ fault. (first_line (order_lines self.old.at self.old.tally frame.now.frame) ≡ Some fault) ⊎ (fault ≡ ScanFault.Memory)) }
     {
         self.tally.check(frame)?;
-        if self.found.take(frame).is_err() {
-            return Err(ScanFault::Memory);
+        match self.found.take(frame) {
+            Ok(()) => {}
+            Err(_) => return Err(ScanFault::Memory),
         }
         self.tally = self.tally.after(frame);
         self.at += frame.len();
