@@ -96,12 +96,12 @@ loop-k-preserved g c =
           let here : StandsAt image place area = subst (λ (bs : List ℕ). StandsAt image place bs) (sym c.record_area-area.ensures.bytes) (subst (λ (p : ℕ). StandsAt image p (record_bytes_of frame)) (sym c.first_record-place.ensures.is) stands) in
           let one = c.in_ok-lay.ensures image (stands_part image place area at (at + c.run-start.result.1 * c.width_of-width.result - at) here (omega arith)) in
           laid_run form image (first_record_of c.args.change.now) at k c.run-start.result.0 c.run-start.result.1 (runs_of frame) c.args.records.now c.args.notes.now c.loop-k.records c.loop-k.notes c.lay.new.records c.lay.new.notes
-              c.loop-k.invariant.here fits.more c.lay.auto.records (c.loop-k.invariant.laid image stands)
-              (subst (λ (p : ℕ). IsLaid form image (place_among width (p + at) c.run-start.result.0 c.run-start.result.1) c.loop-k.records c.loop-k.notes c.lay.new.records c.lay.new.notes) c.first_record-place.ensures.is one));
+          c.loop-k.invariant.here fits.more c.lay.auto.records (c.loop-k.invariant.laid image stands)
+          (subst (λ (p : ℕ). IsLaid form image (place_among width (p + at) c.run-start.result.0 c.run-start.result.1) c.loop-k.records c.loop-k.notes c.lay.new.records c.lay.new.notes) c.first_record-place.ensures.is one));
     }
 
 pub returns : goal.returns
 returns g c = λ image stands. (
     let all : take c.loop-k.k (runs_of c.args.change.now.frame) ≡ runs_of c.args.change.now.frame = take_all c.loop-k.k (runs_of c.args.change.now.frame) (omega (arith, c.loop-k-test.false, c.runs-k-end.ensures)) in
     subst (λ (rs : List Run). IsLaid g.R.Record.form image (λ i. place_in_runs g.R.Record.form.width i (first_record_of c.args.change.now) rs) c.args.records.now c.args.notes.now c.loop-k.records c.loop-k.notes) all
-        (c.loop-k.invariant.laid image stands))
+    (c.loop-k.invariant.laid image stands))
