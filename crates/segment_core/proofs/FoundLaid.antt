@@ -15,7 +15,7 @@ use Rattle.record_core.specs.Bytes.{Encoding}
 use Rattle.segment_core.specs.declared.notes.Notes.{Notes}
 use Rattle.segment_core.specs.Frame.{Run, Frame, Group, Change, Shrink, Fold, records_of_runs}
 use Rattle.segment_core.specs.Tally.{are_inside}
-use Rattle.segment_core.specs.Reading.{runs_of, record_count}
+use Rattle.segment_core.specs.Reading.{Seen, runs_of, record_count}
 use Rattle.segment_core.specs.Vector.{place_among, place_in_runs}
 use Rattle.segment_core.specs.Notes.{noted}
 use Rattle.segment_core.specs.Found.{StandsAt, IsDecoded, IsLaidAt, IsLaid}
@@ -199,7 +199,7 @@ records_of_runs-take (suc n) (first ∷ runs) =
     let b = records_of_runs-cons first runs in
     omega arith
 
-pub runs_fill : (frame : Frame) → records_of_runs (runs_of frame) ≤ record_count frame
+runs_fill : (frame : Frame) → records_of_runs (runs_of frame) ≤ record_count frame
 runs_fill (Group lengths bytes) = omega arith
 runs_fill (Change runs bytes) = omega arith
 runs_fill (Shrink n) = omega arith
@@ -210,37 +210,46 @@ list_all-at test [] k x all is = absurd cc
 list_all-at test (y ∷ xs) zero x all is = let same : y ≡ x = some_is y x is in ap test (sym same) ∙ (and_parts (test y) (list_all test xs) all).0
 list_all-at test (y ∷ xs) (suc k) x all is = list_all-at test xs k x (and_parts (test y) (list_all test xs) all).1 is
 
--- what run k of a change needs of the vector, and of the bytes of the records
-pub record RunFits (width size k at area : ℕ) (runs : List Run) (run : Run) : Type 0 where
+records_of_runs-push : (runs : List Run) (run : Run) → records_of_runs (runs ++ run ∷ []) ≡ records_of_runs runs + run.count
+records_of_runs-push [] run = omega arith
+records_of_runs-push (first ∷ runs) run =
+    let rest = records_of_runs-push runs run in
+    let a = records_of_runs-cons first (runs ++ run ∷ []) in
+    let b = records_of_runs-cons first runs in
+    omega arith
+
+-- run k of a change lies in the vector, and the bytes from at on begin with its records
+pub record RunFits (width size k at w : ℕ) (area : List ℕ) (runs : List Run) (run : Run) : Type 0 where
   pub more : take (k + 1) runs ≡ take k runs ++ run ∷ []
   pub inside : run.start + run.count ≤ size
-  pub within : at + run.count * width ≤ area
-  pub next : at + run.count * width ≡ records_of_runs (take (k + 1) runs) * width
+  pub within : at + run.count * w ≤ length area
+  pub filled : length (take (at + run.count * w - at) (drop at area)) ≡ run.count * width
+  pub next : at + run.count * w ≡ records_of_runs (take (k + 1) runs) * width
 
-pub run_fits : (width size k at area all : ℕ) (runs : List Run) (run : Run) → are_inside size runs ≡ true → slice_get runs k ≡ Some run → at ≡ records_of_runs (take k runs) * width → area ≡ all * width → records_of_runs runs ≤ all → RunFits width size k at area runs run
-run_fits width size k at area all runs run inside is here filled fill =
-    let lt = slice_get_within runs k run is in
-    let more : take (k + 1) runs ≡ take k runs ++ run ∷ [] = take_more runs k run lt ∙ ap (λ r. take k runs ++ r ∷ []) (get_or_from_slice_get runs k run run is) in
+pub run_fits : (width size k at w : ℕ) (area : List ℕ) (change : Seen) (run : Run) → w ≡ width → change.shape.width ≡ width → length area ≡ record_count change.frame * change.shape.width → are_inside size (runs_of change.frame) ≡ true
+    → slice_get (runs_of change.frame) k ≡ Some run → at ≡ records_of_runs (take k (runs_of change.frame)) * width → RunFits width size k at w area (runs_of change.frame) run
+run_fits width size k at w area change run is wide area_len inside told here =
+    let runs : List Run = runs_of change.frame in
+    let all : ℕ = record_count change.frame in
+    let fill = runs_fill change.frame in
+    let filled : length area ≡ all * width = area_len ∙ ap (λ n. all * n) wide in
+    let product : run.count * w ≡ run.count * width = ap (λ n. run.count * n) is in
+    let lt = slice_get_within runs k run told in
+    let more : take (k + 1) runs ≡ take k runs ++ run ∷ [] = take_more runs k run lt ∙ ap (λ r. take k runs ++ r ∷ []) (get_or_from_slice_get runs k run run told) in
     let sum : records_of_runs (take (k + 1) runs) ≡ records_of_runs (take k runs) + run.count = ap records_of_runs more ∙ records_of_runs-push (take k runs) run in
-    let next : at + run.count * width ≡ records_of_runs (take (k + 1) runs) * width =
     let split : (records_of_runs (take k runs) + run.count) * width ≡ records_of_runs (take k runs) * width + run.count * width = omega arith in
-    ap (λ n. n + run.count * width) here ∙ sym split ∙ ap (λ n. n * width) (sym sum) in
+    let next : at + run.count * w ≡ records_of_runs (take (k + 1) runs) * width = ap (λ n. at + n) product ∙ ap (λ n. n + run.count * width) here ∙ sym split ∙ ap (λ n. n * width) (sym sum) in
     let some = records_of_runs-take (k + 1) runs in
     let below : records_of_runs (take (k + 1) runs) * width ≤ all * width = mul-le (records_of_runs (take (k + 1) runs)) width all width (omega arith) (omega arith) in
+    let left = length-drop at area in
+    let part = length-take-le (at + run.count * w - at) (drop at area) (omega arith) in
     record {
       more = more;
-      inside = leb-true (run.start + run.count) size (list_all-at (λ r. nat_le (r.start + r.count) size) runs k run inside is);
+      inside = leb-true (run.start + run.count) size (list_all-at (λ r. nat_le (r.start + r.count) size) runs k run inside told);
       within = omega arith;
+      filled = omega arith;
       next = next;
     }
-  where
-    records_of_runs-push : (runs : List Run) (run : Run) → records_of_runs (runs ++ run ∷ []) ≡ records_of_runs runs + run.count
-    records_of_runs-push [] run = omega arith
-    records_of_runs-push (first ∷ runs) run =
-        let rest = records_of_runs-push runs run in
-        let a = records_of_runs-cons first (runs ++ run ∷ []) in
-        let b = records_of_runs-cons first runs in
-        omega arith
 
 pub place_in_runs_push : (width i p : ℕ) (runs : List Run) (run : Run) → place_in_runs width i p (runs ++ run ∷ []) ≡ option_or (place_among width (p + records_of_runs runs * width) run.start run.count i) (place_in_runs width i p runs)
 place_in_runs_push width i p [] run = let here : p + 0 * width ≡ p = omega arith in sym (option_or_none (place_among width (p + 0 * width) run.start run.count i) ∙ ap (λ n. place_among width n run.start run.count i) here)
