@@ -60,7 +60,7 @@ held_all form format frames image rest found new told is begins same laid i lt =
     let here = subst (λ (cs : List Seen). IsLaidAt form image (live_among form.width cs i) (slice_get new i) (slice_get found.records.items i) (noted told i) (noted found.notes i)) is.live_is (laid image standing i lt) in
     let has = subst (λ (bs : List ℕ). HasHome form bs (home_of shape frames i) (slice_get found.records.items i) (noted found.notes i)) (sym begins) (has_home_more form (text shape frames) rest (home_of shape frames i) (slice_get found.records.items i) (noted found.notes i) (is.each i (omega arith))) in
     subst (λ (o : Option ℕ). IsHeld form image o (slice_get new i) (noted told i)) (sym (place_live shape frames i))
-        (held_after form image (live_among form.width (live_of shape frames) i) (home_of shape frames i) (slice_get new i) (slice_get found.records.items i) (noted told i) (noted found.notes i) has here)
+    (held_after form image (live_among form.width (live_of shape frames) i) (home_of shape frames i) (slice_get new i) (slice_get found.records.items i) (noted told i) (noted found.notes i) has here)
 
 pub vector_found : {R : Type 0} (form : Encoding R) (format : Format) (frames : List Frame) (image rest : List ℕ) (found : Found R) (new : List R) (told : Notes) → IsFound form format frames found → image ≡ text (shape_of format form) frames ++ rest → length new ≡ length found.records.items
     → AreLaid form found.live.items found.records.items found.notes new told → ((i : ℕ) → i < length new → noted told i ≡ None) → IsVectorOf format form image frames new
@@ -79,16 +79,19 @@ first_bad_found form format frames image rest found new told fault is begins sam
     let lt = least.2 in
     let size = is.size_is in
     let held = held_all form format frames image rest found new told is begins same laid i lt in
-    let no = bad (record_in form image held.at) (slice_get new i) (noted told i) held.at place held.decoded least.3 in
-    (i, place,
-     record {
-       inside = omega arith;
-       bad = ap (option_and_then (record_in form image)) held.is ∙ no.0;
-       before = λ k below. (
-           let other = held_all form format frames image rest found new told is begins same laid k (omega arith) in
-           subst IsSome (sym (ap (option_and_then (record_in form image)) other.is)) (good (record_in form image other.at) (slice_get new k) (noted told k) other.at other.decoded (least.4 k below)).1);
-     },
-     held.is ∙ ap Some no.1, least.5)
+    let no = bad (record_in form image held.at) (slice_get new i) (noted told i) held.at place held.decoded least.3 in (
+      i,
+      place,
+      record {
+        inside = omega arith;
+        bad = ap (option_and_then (record_in form image)) held.is ∙ no.0;
+        before = λ k below. (
+            let other = held_all form format frames image rest found new told is begins same laid k (omega arith) in
+            subst IsSome (sym (ap (option_and_then (record_in form image)) other.is)) (good (record_in form image other.at) (slice_get new k) (noted told k) other.at other.decoded (least.4 k below)).1);
+      },
+      held.is ∙ ap Some no.1,
+      least.5,
+    )
 
 -- ---- what laying asks for
 

@@ -26,5 +26,5 @@ returns g c = λ format frames image is begins. (
     let len : c.args.self.records.len ≡ length c.args.self.records.items = search rules in
     let laid = c.in_ok-lay_live.ensures in
     subst (λ (rs : List g.row.R.Denot). IsVectorOf format form image frames rs) (sym (came_back c.args.self.records.len c.lay_live.new.records c.args.self.records.items len same))
-        (vector_found form format frames image begins.0 c.args.self c.lay_live.new.records c.lay_live.new.notes is begins.1 same
-            (subst (λ (rs : List g.row.R.Denot). AreLaid form c.args.self.live.items rs c.args.self.notes c.lay_live.new.records c.lay_live.new.notes) c.deref_mut.ensures.value laid.0) laid.1))
+    (vector_found form format frames image begins.0 c.args.self c.lay_live.new.records c.lay_live.new.notes is begins.1 same
+    (subst (λ (rs : List g.row.R.Denot). AreLaid form c.args.self.live.items rs c.args.self.notes c.lay_live.new.records c.lay_live.new.notes) c.deref_mut.ensures.value laid.0) laid.1))
