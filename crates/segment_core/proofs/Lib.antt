@@ -16,4 +16,5 @@ pub mod FoundHomes
 pub mod FoundChanges
 pub mod FoundSteps
 pub mod Walked
+pub mod Fed
 pub mod Worked
