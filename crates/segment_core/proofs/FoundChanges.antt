@@ -74,8 +74,8 @@ laid_change form image k changes change old old_notes mid mid_notes new new_note
     let more : take (k + 1) changes ≡ take k changes ++ change ∷ [] = take_more changes k change lt ∙ ap (λ x. take k changes ++ x ∷ []) (sym is) in
     let later : ℕ → Option ℕ = λ i. place_in_runs form.width i (first_record_of change) (runs_of change.frame) in
     laid_as form image (λ i. option_or (later i) (live_among form.width (take k changes) i)) (live_among form.width (take (k + 1) changes)) old old_notes new new_notes
-        (λ i. ap (λ cs. live_among form.width cs i) more ∙ live_among_push form.width i (take k changes) change)
-        (laid_then form image later (live_among form.width (take k changes)) old old_notes mid mid_notes new new_notes same laid one)
+    (λ i. ap (λ cs. live_among form.width cs i) more ∙ live_among_push form.width i (take k changes) change)
+    (laid_then form image later (live_among form.width (take k changes)) old old_notes mid mid_notes new new_notes same laid one)
 
 -- ---- one frame more
 
@@ -193,7 +193,7 @@ records_stand format frame image before rest p is here =
     let front : List ℕ = ends.front in
     let bytes : List ℕ = record_bytes_of frame in
     let parts : image ≡ (before ++ front) ++ (bytes ++ rest) =
-        is ∙ ap (λ (bs : List ℕ). before ++ (bs ++ rest)) ends.is ∙ ap (λ (bs : List ℕ). before ++ bs) (append_assoc front bytes rest) ∙ sym (append_assoc before front (bytes ++ rest)) in
+    is ∙ ap (λ (bs : List ℕ). before ++ (bs ++ rest)) ends.is ∙ ap (λ (bs : List ℕ). before ++ bs) (append_assoc front bytes rest) ∙ sym (append_assoc before front (bytes ++ rest)) in
     let len = length-append before front in
     let first = ends.front_len in
     let at : p + 6 + head_len format frame ≡ length (before ++ front) = omega arith in
@@ -225,9 +225,10 @@ changes_stand_from shape image before rest p (Group lengths bytes ∷ frames) is
     changes_stand_from shape image (before ++ frame_text shape.format f) rest (p + length (frame_text shape.format f)) frames next.is next.here
 changes_stand_from shape image before rest p (Change runs bytes ∷ frames) is here =
     let f : Frame = Change runs bytes in
-    let next = behind_first shape image before rest p f frames is here in
-    (records_stand shape.format f image before (flat_map (frame_text shape.format) frames ++ rest) p (is ∙ ap (λ (bs : List ℕ). before ++ bs) (append_assoc (frame_text shape.format f) (flat_map (frame_text shape.format) frames) rest)) here,
-     changes_stand_from shape image (before ++ frame_text shape.format f) rest (p + length (frame_text shape.format f)) frames next.is next.here)
+    let next = behind_first shape image before rest p f frames is here in (
+      records_stand shape.format f image before (flat_map (frame_text shape.format) frames ++ rest) p (is ∙ ap (λ (bs : List ℕ). before ++ bs) (append_assoc (frame_text shape.format f) (flat_map (frame_text shape.format) frames) rest)) here,
+      changes_stand_from shape image (before ++ frame_text shape.format f) rest (p + length (frame_text shape.format f)) frames next.is next.here,
+    )
 changes_stand_from shape image before rest p (Shrink n ∷ frames) is here =
     let f : Frame = Shrink n in
     let next = behind_first shape image before rest p f frames is here in

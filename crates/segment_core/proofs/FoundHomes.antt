@@ -38,7 +38,7 @@ pub home_among_cut : (width i size : ℕ) (homes : List Home) (home : Home) → 
 home_among_cut width i size homes home lt from to =
     let short : Home = record { position = home.position; place = home.place; count = size - home.position } in
     let same : place_among width home.place home.position (size - home.position) i ≡ place_among width home.place home.position home.count i = elim (cases_lt i home.position) [
-        | inl below ↦ place_among_before width home.place home.position (size - home.position) i below ∙ sym (place_among_before width home.place home.position home.count i below)
-        | inr inside ↦ place_among_inside width home.place home.position (size - home.position) i inside (omega arith) ∙ sym (place_among_inside width home.place home.position home.count i inside (omega arith))
-      ] in
+      | inl below ↦ place_among_before width home.place home.position (size - home.position) i below ∙ sym (place_among_before width home.place home.position home.count i below)
+      | inr inside ↦ place_among_inside width home.place home.position (size - home.position) i inside (omega arith) ∙ sym (place_among_inside width home.place home.position home.count i inside (omega arith))
+    ] in
     home_among_push width i homes short ∙ ap (λ o. option_or o (home_among width homes i)) same ∙ sym (home_among_push width i homes home)

@@ -15,7 +15,7 @@ use Rattle.record_core.specs.Bytes.{Encoding}
 use Rattle.segment_core.specs.declared.notes.Notes.{Notes}
 use Rattle.segment_core.specs.Frame.{Run, Frame, Group, Change, Shrink, Fold, records_of_runs}
 use Rattle.segment_core.specs.Tally.{are_inside}
-use Rattle.segment_core.specs.Reading.{runs_of, record_count}
+use Rattle.segment_core.specs.Reading.{Seen, runs_of, record_count}
 use Rattle.segment_core.specs.Vector.{place_among, place_in_runs}
 use Rattle.segment_core.specs.Notes.{noted}
 use Rattle.segment_core.specs.Found.{StandsAt, IsDecoded, IsLaidAt, IsLaid}
@@ -44,9 +44,9 @@ place_among_inside width p start count i le lt = ap (λ b. cond b (Some (p + (i 
 
 pub place_among_none : (width p start i : ℕ) → place_among width p start 0 i ≡ None
 place_among_none width p start i = elim (cases_lt i start) [
-    | inl below ↦ place_among_before width p start 0 i below
-    | inr past ↦ place_among_behind width p start 0 i (omega arith)
-  ]
+  | inl below ↦ place_among_before width p start 0 i below
+  | inr past ↦ place_among_behind width p start 0 i (omega arith)
+]
 
 pub place_among_last : (width p start k i : ℕ) → i ≡ start + k → place_among width p start (k + 1) i ≡ Some (p + k * width)
 place_among_last width p start k i is =
@@ -56,12 +56,12 @@ place_among_last width p start k i is =
 -- positions but the last of more are told by fewer
 pub place_among_other : (width p start k i : ℕ) → i ≢ start + k → place_among width p start (k + 1) i ≡ place_among width p start k i
 place_among_other width p start k i other = elim (cases_lt i start) [
-    | inl below ↦ place_among_before width p start (k + 1) i below ∙ sym (place_among_before width p start k i below)
-    | inr from ↦ elim (cases_lt i (start + k)) [
-        | inl inside ↦ place_among_inside width p start (k + 1) i from (omega arith) ∙ sym (place_among_inside width p start k i from inside)
-        | inr past ↦ place_among_behind width p start (k + 1) i (omega arith) ∙ sym (place_among_behind width p start k i past)
-      ]
+  | inl below ↦ place_among_before width p start (k + 1) i below ∙ sym (place_among_before width p start k i below)
+  | inr from ↦ elim (cases_lt i (start + k)) [
+    | inl inside ↦ place_among_inside width p start (k + 1) i from (omega arith) ∙ sym (place_among_inside width p start k i from inside)
+    | inr past ↦ place_among_behind width p start (k + 1) i (omega arith) ∙ sym (place_among_behind width p start k i past)
   ]
+]
 
 -- ---- bytes that stand in an image
 
@@ -70,11 +70,11 @@ stands_part image place area a n stands within =
     let rest : ℕ = length area - (a + n) in
     let parts : length area ≡ a + (n + rest) = omega arith in
     let is : take n (drop a area) ≡ take n (drop (place + a) image) =
-        ap (λ (bs : List ℕ). take n (drop a bs)) (sym stands)
-        ∙ ap (λ m. take n (drop a (take m (drop place image)))) parts
-        ∙ ap (take n) (drop-take a (n + rest) (drop place image))
-        ∙ take-take n (n + rest) (drop a (drop place image)) (omega arith)
-        ∙ ap (take n) (drop-drop a place image) in
+    ap (λ (bs : List ℕ). take n (drop a bs)) (sym stands)
+    ∙ ap (λ m. take n (drop a (take m (drop place image)))) parts
+    ∙ ap (take n) (drop-take a (n + rest) (drop place image))
+    ∙ take-take n (n + rest) (drop a (drop place image)) (omega arith)
+    ∙ ap (take n) (drop-drop a place image) in
     let left = length-drop a area in
     let len : length (take n (drop a area)) ≡ n = length-take-le n (drop a area) (omega arith) in
     ap (λ m. take m (drop (place + a) image)) len ∙ sym is
@@ -88,7 +88,7 @@ laid_at_same : {R : Type 0} (form : Encoding R) (image : List ℕ) (place : Opti
     → IsLaidAt form image place held before seen seen_before → IsLaidAt form image place later before seen_later seen_before
 laid_at_same {R} form image place held later before seen seen_later seen_before is is_note laid =
     subst (λ (h : Option R). IsLaidAt form image place h before seen_later seen_before) (sym is)
-        (subst (λ (n : Option ℕ). IsLaidAt form image place held before n seen_before) (sym is_note) laid)
+    (subst (λ (n : Option ℕ). IsLaidAt form image place held before n seen_before) (sym is_note) laid)
 
 pub laid_nothing : {R : Type 0} (form : Encoding R) (image : List ℕ) (says : ℕ → Option ℕ) (records : List R) (notes : Notes) → ((i : ℕ) → says i ≡ None) → IsLaid form image says records notes records notes
 laid_nothing form image says records notes none i lt =
@@ -103,21 +103,21 @@ pub laid_more : {R : Type 0} (form : Encoding R) (image : List ℕ) (place start
     → IsLaid form image (place_among form.width place start (k + 1)) old old_notes new new_notes
 laid_more {R} form image place start k old old_notes mid mid_notes new new_notes r laid decoded others got kept i lt =
     let other : i ≢ start + k → IsLaidAt form image (place_among form.width place start (k + 1) i) (slice_get new i) (slice_get old i) (noted new_notes i) (noted old_notes i) = λ apart. (
-        let same = kept i lt apart in
-        subst (λ (o : Option ℕ). IsLaidAt form image o (slice_get new i) (slice_get old i) (noted new_notes i) (noted old_notes i)) (sym (place_among_other form.width place start k i apart))
-            (laid_at_same form image (place_among form.width place start k i) (slice_get mid i) (slice_get new i) (slice_get old i) (noted mid_notes i) (noted new_notes i) (noted old_notes i) same.1 (others i apart) (laid i same.0))) in
+    let same = kept i lt apart in
+    subst (λ (o : Option ℕ). IsLaidAt form image o (slice_get new i) (slice_get old i) (noted new_notes i) (noted old_notes i)) (sym (place_among_other form.width place start k i apart))
+    (laid_at_same form image (place_among form.width place start k i) (slice_get mid i) (slice_get new i) (slice_get old i) (noted mid_notes i) (noted new_notes i) (noted old_notes i) same.1 (others i apart) (laid i same.0))) in
     elim (cases_lt i (start + k)) [
       | inl below ↦ other (omega arith)
       | inr from ↦ elim (cases_lt (start + k) i) [
-          | inl past ↦ other (omega arith)
-          | inr to ↦ (
-              let here : i ≡ start + k = omega arith in
-              let held : slice_get new i ≡ Some r = ap (slice_get new) here ∙ got in
-              let told : noted new_notes i ≡ noted new_notes (start + k) = ap (noted new_notes) here in
-              subst (λ (o : Option ℕ). IsLaidAt form image o (slice_get new i) (slice_get old i) (noted new_notes i) (noted old_notes i)) (sym (place_among_last form.width place start k i here))
-                  (subst (λ (h : Option R). IsDecoded form image (place + k * form.width) h (noted new_notes i)) (sym held)
-                      (subst (λ (n : Option ℕ). IsDecoded form image (place + k * form.width) (Some r) n) (sym told) decoded)))
-        ]
+        | inl past ↦ other (omega arith)
+        | inr to ↦ (
+            let here : i ≡ start + k = omega arith in
+            let held : slice_get new i ≡ Some r = ap (slice_get new) here ∙ got in
+            let told : noted new_notes i ≡ noted new_notes (start + k) = ap (noted new_notes) here in
+            subst (λ (o : Option ℕ). IsLaidAt form image o (slice_get new i) (slice_get old i) (noted new_notes i) (noted old_notes i)) (sym (place_among_last form.width place start k i here))
+            (subst (λ (h : Option R). IsDecoded form image (place + k * form.width) h (noted new_notes i)) (sym held)
+            (subst (λ (n : Option ℕ). IsDecoded form image (place + k * form.width) (Some r) n) (sym told) decoded)))
+      ]
     ]
 
 -- bytes of a record, as the code cuts them out
@@ -143,13 +143,13 @@ pub laid_push : {R : Type 0} (form : Encoding R) (image : List ℕ) (place start
     → IsLaid form image (place_among form.width place start (k + 1)) old old_notes new new_notes
 laid_push form image place start k w position old old_notes mid mid_notes new new_notes r is here len pushed laid decoded others =
     laid_more form image place start k old old_notes mid mid_notes new new_notes r laid
-        (decoded_as form image place k w position (start + k) (Some r) new_notes is here decoded)
-        (others_as mid_notes new_notes position (start + k) here others)
-        (ap (slice_get new) (sym len) ∙ ap (λ rs. slice_get rs (length mid)) pushed ∙ slice_get_push mid r)
-        (λ i lt apart. (
-            let all = ap length pushed ∙ length_push mid r in
-            let below : i < length mid = omega arith in
-            (below, ap (λ rs. slice_get rs i) pushed ∙ slice_get-append_left mid (r ∷ []) i below)))
+    (decoded_as form image place k w position (start + k) (Some r) new_notes is here decoded)
+    (others_as mid_notes new_notes position (start + k) here others)
+    (ap (slice_get new) (sym len) ∙ ap (λ rs. slice_get rs (length mid)) pushed ∙ slice_get_push mid r)
+    (λ i lt apart. (
+    let all = ap length pushed ∙ length_push mid r in
+    let below : i < length mid = omega arith in
+    (below, ap (λ rs. slice_get rs i) pushed ∙ slice_get-append_left mid (r ∷ []) i below)))
 
 -- a record that was written over another
 pub laid_set : {R : Type 0} (form : Encoding R) (image : List ℕ) (place start k w position : ℕ) (old : List R) (old_notes : Notes) (mid : List R) (mid_notes : Notes) (new : List R) (new_notes : Notes) (r : R)
@@ -161,12 +161,12 @@ pub laid_set : {R : Type 0} (form : Encoding R) (image : List ℕ) (place start 
 laid_set form image place start k w position old old_notes mid mid_notes new new_notes r is here inside written laid decoded others =
     let len : length new ≡ length mid = ap length written ∙ length-set mid (start + k) r in
     laid_more form image place start k old old_notes mid mid_notes new new_notes r laid
-        (decoded_as form image place k w position (start + k) (Some r) new_notes is here decoded)
-        (others_as mid_notes new_notes position (start + k) here others)
-        (slice_get-get_or new (start + k) r (omega arith) ∙ ap (λ rs. Some (get_or rs (start + k) r)) written ∙ ap Some (get_or-set_same mid (start + k) r r inside))
-        (λ i lt apart. (
-            let below : i < length mid = omega arith in
-            (below, slice_get-get_or new i r lt ∙ ap (λ rs. Some (get_or rs i r)) written ∙ ap Some (get_or-set_other mid (start + k) i r r apart) ∙ sym (slice_get-get_or mid i r below))))
+    (decoded_as form image place k w position (start + k) (Some r) new_notes is here decoded)
+    (others_as mid_notes new_notes position (start + k) here others)
+    (slice_get-get_or new (start + k) r (omega arith) ∙ ap (λ rs. Some (get_or rs (start + k) r)) written ∙ ap Some (get_or-set_same mid (start + k) r r inside))
+    (λ i lt apart. (
+    let below : i < length mid = omega arith in
+    (below, slice_get-get_or new i r lt ∙ ap (λ rs. Some (get_or rs i r)) written ∙ ap Some (get_or-set_other mid (start + k) i r r apart) ∙ sym (slice_get-get_or mid i r below))))
 
 -- ---- one list of places after the other
 
@@ -199,7 +199,7 @@ records_of_runs-take (suc n) (first ∷ runs) =
     let b = records_of_runs-cons first runs in
     omega arith
 
-pub runs_fill : (frame : Frame) → records_of_runs (runs_of frame) ≤ record_count frame
+runs_fill : (frame : Frame) → records_of_runs (runs_of frame) ≤ record_count frame
 runs_fill (Group lengths bytes) = omega arith
 runs_fill (Change runs bytes) = omega arith
 runs_fill (Shrink n) = omega arith
@@ -210,37 +210,46 @@ list_all-at test [] k x all is = absurd cc
 list_all-at test (y ∷ xs) zero x all is = let same : y ≡ x = some_is y x is in ap test (sym same) ∙ (and_parts (test y) (list_all test xs) all).0
 list_all-at test (y ∷ xs) (suc k) x all is = list_all-at test xs k x (and_parts (test y) (list_all test xs) all).1 is
 
--- what run k of a change needs of the vector, and of the bytes of the records
-pub record RunFits (width size k at area : ℕ) (runs : List Run) (run : Run) : Type 0 where
+records_of_runs-push : (runs : List Run) (run : Run) → records_of_runs (runs ++ run ∷ []) ≡ records_of_runs runs + run.count
+records_of_runs-push [] run = omega arith
+records_of_runs-push (first ∷ runs) run =
+    let rest = records_of_runs-push runs run in
+    let a = records_of_runs-cons first (runs ++ run ∷ []) in
+    let b = records_of_runs-cons first runs in
+    omega arith
+
+-- run k of a change lies in the vector, and the bytes from at on begin with its records
+pub record RunFits (width size k at w : ℕ) (area : List ℕ) (runs : List Run) (run : Run) : Type 0 where
   pub more : take (k + 1) runs ≡ take k runs ++ run ∷ []
   pub inside : run.start + run.count ≤ size
-  pub within : at + run.count * width ≤ area
-  pub next : at + run.count * width ≡ records_of_runs (take (k + 1) runs) * width
+  pub within : at + run.count * w ≤ length area
+  pub filled : length (take (at + run.count * w - at) (drop at area)) ≡ run.count * width
+  pub next : at + run.count * w ≡ records_of_runs (take (k + 1) runs) * width
 
-pub run_fits : (width size k at area all : ℕ) (runs : List Run) (run : Run) → are_inside size runs ≡ true → slice_get runs k ≡ Some run → at ≡ records_of_runs (take k runs) * width → area ≡ all * width → records_of_runs runs ≤ all → RunFits width size k at area runs run
-run_fits width size k at area all runs run inside is here filled fill =
-    let lt = slice_get_within runs k run is in
-    let more : take (k + 1) runs ≡ take k runs ++ run ∷ [] = take_more runs k run lt ∙ ap (λ r. take k runs ++ r ∷ []) (get_or_from_slice_get runs k run run is) in
+pub run_fits : (width size k at w : ℕ) (area : List ℕ) (change : Seen) (run : Run) → w ≡ width → change.shape.width ≡ width → length area ≡ record_count change.frame * change.shape.width → are_inside size (runs_of change.frame) ≡ true
+    → slice_get (runs_of change.frame) k ≡ Some run → at ≡ records_of_runs (take k (runs_of change.frame)) * width → RunFits width size k at w area (runs_of change.frame) run
+run_fits width size k at w area change run is wide area_len inside told here =
+    let runs : List Run = runs_of change.frame in
+    let all : ℕ = record_count change.frame in
+    let fill = runs_fill change.frame in
+    let filled : length area ≡ all * width = area_len ∙ ap (λ n. all * n) wide in
+    let product : run.count * w ≡ run.count * width = ap (λ n. run.count * n) is in
+    let lt = slice_get_within runs k run told in
+    let more : take (k + 1) runs ≡ take k runs ++ run ∷ [] = take_more runs k run lt ∙ ap (λ r. take k runs ++ r ∷ []) (get_or_from_slice_get runs k run run told) in
     let sum : records_of_runs (take (k + 1) runs) ≡ records_of_runs (take k runs) + run.count = ap records_of_runs more ∙ records_of_runs-push (take k runs) run in
-    let next : at + run.count * width ≡ records_of_runs (take (k + 1) runs) * width =
-        let split : (records_of_runs (take k runs) + run.count) * width ≡ records_of_runs (take k runs) * width + run.count * width = omega arith in
-        ap (λ n. n + run.count * width) here ∙ sym split ∙ ap (λ n. n * width) (sym sum) in
+    let split : (records_of_runs (take k runs) + run.count) * width ≡ records_of_runs (take k runs) * width + run.count * width = omega arith in
+    let next : at + run.count * w ≡ records_of_runs (take (k + 1) runs) * width = ap (λ n. at + n) product ∙ ap (λ n. n + run.count * width) here ∙ sym split ∙ ap (λ n. n * width) (sym sum) in
     let some = records_of_runs-take (k + 1) runs in
     let below : records_of_runs (take (k + 1) runs) * width ≤ all * width = mul-le (records_of_runs (take (k + 1) runs)) width all width (omega arith) (omega arith) in
+    let left = length-drop at area in
+    let part = length-take-le (at + run.count * w - at) (drop at area) (omega arith) in
     record {
       more = more;
-      inside = leb-true (run.start + run.count) size (list_all-at (λ r. nat_le (r.start + r.count) size) runs k run inside is);
+      inside = leb-true (run.start + run.count) size (list_all-at (λ r. nat_le (r.start + r.count) size) runs k run inside told);
       within = omega arith;
+      filled = omega arith;
       next = next;
     }
-  where
-    records_of_runs-push : (runs : List Run) (run : Run) → records_of_runs (runs ++ run ∷ []) ≡ records_of_runs runs + run.count
-    records_of_runs-push [] run = omega arith
-    records_of_runs-push (first ∷ runs) run =
-        let rest = records_of_runs-push runs run in
-        let a = records_of_runs-cons first (runs ++ run ∷ []) in
-        let b = records_of_runs-cons first runs in
-        omega arith
 
 pub place_in_runs_push : (width i p : ℕ) (runs : List Run) (run : Run) → place_in_runs width i p (runs ++ run ∷ []) ≡ option_or (place_among width (p + records_of_runs runs * width) run.start run.count i) (place_in_runs width i p runs)
 place_in_runs_push width i p [] run = let here : p + 0 * width ≡ p = omega arith in sym (option_or_none (place_among width (p + 0 * width) run.start run.count i) ∙ ap (λ n. place_among width n run.start run.count i) here)
@@ -264,5 +273,5 @@ pub laid_run : {R : Type 0} (form : Encoding R) (image : List ℕ) (place at k s
 laid_run form image place at k start count runs old old_notes mid mid_notes new new_notes here more same laid one =
     let run : Run = record { start = start; count = count } in
     laid_as form image (λ i. option_or (place_among form.width (place + at) start count i) (place_in_runs form.width i place (take k runs))) (λ i. place_in_runs form.width i place (take (k + 1) runs)) old old_notes new new_notes
-        (λ i. ap (place_in_runs form.width i place) more ∙ place_in_runs_push form.width i place (take k runs) run ∙ ap (λ n. option_or (place_among form.width (place + n) start count i) (place_in_runs form.width i place (take k runs))) (sym here))
-        (laid_then form image (place_among form.width (place + at) start count) (λ i. place_in_runs form.width i place (take k runs)) old old_notes mid mid_notes new new_notes same laid one)
+    (λ i. ap (place_in_runs form.width i place) more ∙ place_in_runs_push form.width i place (take k runs) run ∙ ap (λ n. option_or (place_among form.width (place + n) start count i) (place_in_runs form.width i place (take k runs))) (sym here))
+    (laid_then form image (place_among form.width (place + at) start count) (λ i. place_in_runs form.width i place (take k runs)) old old_notes mid mid_notes new new_notes same laid one)

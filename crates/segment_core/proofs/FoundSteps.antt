@@ -20,7 +20,8 @@ use Rattle.segment_core.specs.Vector.{place_among, record_in, home_in, home_of}
 use Rattle.segment_core.specs.Reading.{Seen, runs_of, record_bytes_of, record_count, head_len}
 use Rattle.segment_core.specs.Notes.{noted}
 use Rattle.segment_core.specs.Found.{StandsAt, first_record_of, IsLaidAt, home_among, AreInTurn, AreHomes, changes_in, changes_of, live_of, IsInside, HasHome, IsFound, Follows, IsGrown, IsSame, IsCut}
-use Rattle.segment_core.proofs.LastFrom.{home_push, tally_from_push}
+use Rattle.segment_core.proofs.Push.{text_push, tally_from_push}
+use Rattle.segment_core.proofs.LastFrom.{home_push}
 use Rattle.segment_core.proofs.FoundLaid.{place_among_before, place_among_inside}
 use Rattle.segment_core.proofs.FoundHomes.{home_among_push, in_turn_push}
 use Rattle.segment_core.proofs.FoundChanges.{all_push, all_drop, all_map, changes_push, changes_counted, ends_with_records, records_stand}
@@ -40,19 +41,19 @@ take_inside n (suc q) (x ∷ xs) ys le = take_inside n q xs ys (omega arith)
 pub has_home_more : {R : Type 0} (form : Encoding R) (bytes more : List ℕ) (home : Option ℕ) (held : Option R) (told : Option ℕ) → HasHome form bytes home held told → HasHome form (bytes ++ more) home held told
 has_home_more {R} form bytes more home held told has =
     let within = has.2 in
-    let len = length-append bytes more in
-    (has.0, has.1, omega arith,
-     subst (λ (o : Option R). MatchOption o (told ≡ Some has.0) (λ r. (held ≡ Some r) × (told ≡ None))) (sym (ap form.value_of (take_inside form.width has.0 bytes more within))) has.3)
+    let len = length-append bytes more in (
+      has.0,
+      has.1,
+      omega arith,
+      subst (λ (o : Option R). MatchOption o (told ≡ Some has.0) (λ r. (held ≡ Some r) × (told ≡ None))) (sym (ap form.value_of (take_inside form.width has.0 bytes more within))) has.3,
+    )
 
 has_home_as : {R : Type 0} (form : Encoding R) (bytes later : List ℕ) (home other : Option ℕ) (held still : Option R) (told same : Option ℕ) → later ≡ bytes → other ≡ home → still ≡ held → same ≡ told → HasHome form bytes home held told → HasHome form later other still same
 has_home_as {R} form bytes later home other held still told same a b c d has =
     subst (λ (bs : List ℕ). HasHome form bs other still same) (sym a)
-        (subst (λ (o : Option ℕ). HasHome form bytes o still same) (sym b)
-            (subst (λ (h : Option R). HasHome form bytes home h same) (sym c)
-                (subst (λ (o : Option ℕ). HasHome form bytes home held o) (sym d) has)))
-
-pub text_push : (shape : Shape) (frames : List Frame) (f : Frame) → text shape (frames ++ f ∷ []) ≡ text shape frames ++ frame_text shape.format f
-text_push shape frames f = sym (flat_map_more (frame_text shape.format) (header shape) frames f)
+    (subst (λ (o : Option ℕ). HasHome form bytes o still same) (sym b)
+    (subst (λ (h : Option R). HasHome form bytes home h same) (sym c)
+    (subst (λ (o : Option ℕ). HasHome form bytes home held o) (sym d) has)))
 
 -- ---- what each kind does
 
@@ -131,8 +132,8 @@ kept : {R : Type 0} (form : Encoding R) (format : Format) (frames : List Frame) 
 kept form format frames f old new i none same told has =
     let shape : Shape = shape_of format form in
     has_home_as form (text shape frames ++ frame_text format f) (text shape (frames ++ f ∷ [])) (home_of shape frames i) (home_of shape (frames ++ f ∷ []) i) (slice_get old.records.items i) (slice_get new.records.items i) (noted old.notes i) (noted new.notes i)
-        (text_push shape frames f) (home_push shape frames f i ∙ ap (λ o. option_or o (home_of shape frames i)) none) same told
-        (has_home_more form (text shape frames) (frame_text format f) (home_of shape frames i) (slice_get old.records.items i) (noted old.notes i) has)
+    (text_push shape frames f) (home_push shape frames f i ∙ ap (λ o. option_or o (home_of shape frames i)) none) same told
+    (has_home_more form (text shape frames) (frame_text format f) (home_of shape frames i) (slice_get old.records.items i) (noted old.notes i) has)
 
 homes_kept : (shape : Shape) (frames : List Frame) (f : Frame) (homes later : List Home) → 1 < kind_of f → (tally_of (frames ++ f ∷ [])).size ≤ (tally_of frames).size → AreHomes shape frames homes
     → AreInTurn 0 later (tally_of (frames ++ f ∷ [])).size → ((i : ℕ) → i < (tally_of (frames ++ f ∷ [])).size → home_among shape.width later i ≡ home_among shape.width homes i) → AreHomes shape (frames ++ f ∷ []) later
@@ -145,6 +146,22 @@ homes_kept shape frames f homes later kind shorter has turn same = record {
 
 same_shape : {R : Type 0} (form : Encoding R) (shape : Shape) → shape.width ≡ form.width → shape ≡ shape_of shape.format form
 same_shape form shape wide = ap (λ w. record { format = shape.format; width = w }) wide
+
+-- ---- the same frames
+
+pub found_same : {R : Type 0} (form : Encoding R) (format : Format) (frames : List Frame) (old new : Found R) → IsSame old new → new.folded ≡ old.folded → new.live.items ≡ old.live.items → IsFound form format frames old → IsFound form format frames new
+found_same form format frames old new same folded live is =
+    let shape : Shape = shape_of format form in
+    record {
+      size_is = ap length same.records_are ∙ is.size_is;
+      small = is.small;
+      each = λ i lt. has_home_as form (text shape frames) (text shape frames) (home_of shape frames i) (home_of shape frames i) (slice_get old.records.items i) (slice_get new.records.items i) (noted old.notes i) (noted new.notes i) refl refl (ap (λ rs. slice_get rs i) same.records_are) (same.notes_are i) (is.each i lt);
+      homes = subst (AreHomes shape frames) (sym same.homes_are) is.homes;
+      folded_is = folded ∙ is.folded_is;
+      counted = is.counted;
+      live_is = live ∙ is.live_is;
+      inside = subst (AllByRecursion (IsInside (tally_of frames).size)) (sym live) is.inside;
+    }
 
 -- ---- a group
 
@@ -170,16 +187,16 @@ found_group {R} form frames seen old new kind follows grown =
     let stands : StandsAt image p bytes = records_stand format f image (text shape frames) [] seen.at (pushed ∙ ap (λ (bs : List ℕ). text shape frames ++ bs) (sym (append-nil (frame_text format f)))) at in
     let filled : length bytes ≡ n * width = group_filled seen.shape f kind follows.whole.layout ∙ ap (λ w. n * w) follows.wide in
     let reach : p + length bytes ≡ length image =
-        let a = ap length pushed ∙ length-append (text shape frames) (frame_text format f) in
-        let b = ap length ends.is ∙ length-append ends.front bytes in
-        let c = ends.front_len in
-        omega arith in
+    let a = ap length pushed ∙ length-append (text shape frames) (frame_text format f) in
+    let b = ap length ends.is ∙ length-append ends.front bytes in
+    let c = ends.front_len in
+    omega arith in
     let start : length old.records.items ≡ t.size = behind.size_is in
     let says : ℕ → Option ℕ = place_among width p t.size n in
     let home : (i : ℕ) → home_of shape (frames ++ f ∷ []) i ≡ option_or (says i) (home_of shape frames i) = λ i. home_push shape frames f i ∙ ap (λ o. option_or o (home_of shape frames i)) (ap (λ m. home_in width i m t f) (sym at) ∙ home_in_group format width i seen.at t f kind) in
     let long : length new.records.items ≡ t.size + n = grown.longer ∙ ap (λ m. m + n) start in
     let laid : (i : ℕ) → i < t.size + n → IsLaidAt form image (says i) (slice_get new.records.items i) (slice_get old.records.items i) (noted new.notes i) (noted old.notes i) = λ i lt. (
-        subst (λ m. IsLaidAt form image (place_among width p m n i) (slice_get new.records.items i) (slice_get old.records.items i) (noted new.notes i) (noted old.notes i)) start (grown.laid image stands i (omega arith))) in
+    subst (λ m. IsLaidAt form image (place_among width p m n i) (slice_get new.records.items i) (slice_get old.records.items i) (noted new.notes i) (noted old.notes i)) start (grown.laid image stands i (omega arith))) in
     let here : Home = record { position = length old.records.items; place = p; count = n } in
     record {
       size_is = long ∙ sym size;
@@ -192,15 +209,18 @@ found_group {R} form frames seen old new kind follows grown =
         | inr from ↦ (
             let q : ℕ = p + (i - t.size) * width in
             let some : says i ≡ Some q = place_among_inside width p t.size n i from (omega arith) in
-            let last : (i - t.size + 1) * width ≤ n * width = mul-le (i - t.size + 1) width n width (omega arith) (omega arith) in
-            (q, home i ∙ ap (λ o. option_or o (home_of shape frames i)) some, omega arith,
-             subst (λ (o : Option ℕ). IsLaidAt form image o (slice_get new.records.items i) (slice_get old.records.items i) (noted new.notes i) (noted old.notes i)) some (laid i (omega arith))))
+            let last : (i - t.size + 1) * width ≤ n * width = mul-le (i - t.size + 1) width n width (omega arith) (omega arith) in (
+              q,
+              home i ∙ ap (λ o. option_or o (home_of shape frames i)) some,
+              omega arith,
+              subst (λ (o : Option ℕ). IsLaidAt form image o (slice_get new.records.items i) (slice_get old.records.items i) (noted new.notes i) (noted old.notes i)) some (laid i (omega arith)),
+            ))
       ];
       homes = record {
         in_turn = subst (λ (hs : List Home). AreInTurn 0 hs (tally_of (frames ++ f ∷ [])).size) (sym grown.home) (in_turn_push 0 t.size (tally_of (frames ++ f ∷ [])).size old.homes.items here behind.homes.in_turn start (sym size));
         each = λ i lt. (
             let is : home_among width new.homes.items i ≡ option_or (says i) (home_among width old.homes.items i) =
-                ap (λ (hs : List Home). home_among width hs i) grown.home ∙ home_among_push width i old.homes.items here ∙ ap (λ m. option_or (place_among width p m n i) (home_among width old.homes.items i)) start in
+            ap (λ (hs : List Home). home_among width hs i) grown.home ∙ home_among_push width i old.homes.items here ∙ ap (λ m. option_or (place_among width p m n i) (home_among width old.homes.items i)) start in
             elim (cases_lt i t.size) [
               | inl below ↦ is ∙ ap (option_or (says i)) (behind.homes.each i below) ∙ sym (home i)
               | inr from ↦ (

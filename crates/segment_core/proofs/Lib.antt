@@ -15,6 +15,7 @@ pub mod FoundLaid
 pub mod FoundHomes
 pub mod FoundChanges
 pub mod FoundSteps
+pub mod FoundEnd
 pub mod Walked
 pub mod Fed
 pub mod Worked

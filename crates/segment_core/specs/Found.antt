@@ -131,7 +131,7 @@ pub record Follows {R : Type 0} (form : Encoding R) (frames : List Frame) (found
 pub record IsGrown {R : Type 0} (form : Encoding R) (seen : Seen) (old new : Found R) : Type 0 where
   pub longer : length new.records.items ≡ length old.records.items + record_count seen.frame
   pub laid : (image : List ℕ) → StandsAt image (first_record_of seen) (record_bytes_of seen.frame)
-    → IsLaid form image (place_among form.width (first_record_of seen) (length old.records.items) (record_count seen.frame)) old.records.items old.notes new.records.items new.notes
+      → IsLaid form image (place_among form.width (first_record_of seen) (length old.records.items) (record_count seen.frame)) old.records.items old.notes new.records.items new.notes
   pub home : new.homes.items ≡ old.homes.items ++ record { position = length old.records.items; place = first_record_of seen; count = record_count seen.frame } ∷ []
   pub folded_is : new.folded ≡ old.folded
   pub live_is : new.live.items ≡ old.live.items

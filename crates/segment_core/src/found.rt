@@ -1,7 +1,7 @@
 //! What the frames so far say of the vector. Records are decoded as their home bytes come by, and live changes
 //! are laid over them at the end.
 
-ghost use Rattle.std.specs.Prelude.{◌≡◌, ◌≢◌, ◌≤◌, ◌<◌, ◌+◌, ◌*◌, ◌-◌, ◌^◌, ◌++◌, ◌∷◌, ◌⊎◌, [], ℕ, List, Some, None, Err, length, take, drop, OnOk, IfOk, IfErr, MatchResult};
+ghost use Rattle.std.specs.Prelude.{◌≡◌, ◌≢◌, ◌≤◌, ◌<◌, ◌+◌, ◌*◌, ◌-◌, ◌^◌, ◌++◌, ◌∷◌, ◌⊎◌, [], ℕ, List, Some, None, Err, length, take, drop, OnOk, IfOk, IfErr, MatchResult, vec_len, vec_capacity};
 ghost use Rattle.std.specs.List.{flat_map, AllByRecursion};
 ghost use Rattle.segment_core.specs.declared.format.Format.{Format};
 ghost use Rattle.segment_core.specs.Shape.{shape_of};
@@ -150,7 +150,14 @@ fn lay_change<R: Record>(
     for k in 0..change.runs() {
         let (start, count) = change.run(k);
         let end = at + count as usize * width;
-        lay(&area[at..end], (place + at) as u64, start as usize, count as usize, records, notes)?;
+        lay(
+            &area[at..end],
+            (place + at) as u64,
+            start as usize,
+            count as usize,
+            records,
+            notes,
+        )?;
         at = end;
     }
     Ok(())
@@ -185,9 +192,9 @@ fn lay_live<R: Record>(
         (λ _. AreLaid R.form changes.now.items records.old notes.old records.new notes.new × ((i : ℕ) → i < length records.new → noted notes.new i ≡ None))
         (λ fault. (AreLaid R.form changes.now.items records.old notes.old records.new notes.new × IsLeastNoted (length records.new) notes.new fault) ⊎ (fault ≡ ScanFault.Memory)) }
 {
-    if lay_all(changes, records, notes).is_err() {
+    let Ok(()) = lay_all(changes, records, notes) else {
         return Err(ScanFault::Memory);
-    }
+    };
     match notes.least(records.len() as u64) {
         None => Ok(()),
         Some((_, place)) => Err(ScanFault::Damaged {
@@ -251,6 +258,14 @@ impl<R: Record> Found<R> {
         }
     }
 
+    /// Takes memory for so many records at once, where they are known to come. It changes nothing else.
+    pub(crate) fn reserve(&mut self, records: usize) -> Result<(), AllocError>
+        ensures found { (format : Format) (frames : List Frame) → IsFound R.form format frames self.old → IsFound R.form format frames self.new }
+        ensures room { OnOk result (vec_len self.new.records + records ≤ vec_capacity self.new.records) }
+    {
+        self.records.reserve_exact(records)
+    }
+
     /// Takes in the next frame. Only memory is refused, and nothing is promised of what stands then.
     pub(crate) fn take(&mut self, frame: &FrameReader<'_>) -> Result<(), AllocError>
         requires { (frames : List Frame) × Follows R.form frames self.old frame.now }
@@ -287,7 +302,13 @@ impl<R: Record> Found<R> {
             place,
             count: u64::from(count),
         })?;
-        grow(frame.record_area(), place, count as usize, &mut self.records, &mut self.notes)
+        grow(
+            frame.record_area(),
+            place,
+            count as usize,
+            &mut self.records,
+            &mut self.notes,
+        )
     }
 
     /// Keeps the first records alone.
@@ -352,3 +373,6 @@ impl<R: Record> Found<R> {
         Ok((records, Homes { homes, live }))
     }
 }
+
+#[cfg(test)]
+mod tests;

@@ -13,7 +13,7 @@ returns-then-home-size-clause-in_turn c =
     let turn = in_turn_pop 0 so_far.0 left home (subst (λ (hs : List Home). AreInTurn 0 hs so_far.0) c.in-Some.ensures.items so_far.2) in
     let short : Home = record { position = home.position; place = home.place; count = c.args.size - home.position } in
     subst (λ (hs : List Home). AreInTurn 0 hs c.args.size) (sym c.push_reserved.ensures.items)
-        (in_turn_push 0 home.position c.args.size left short turn.0 refl (omega arith))
+    (in_turn_push 0 home.position c.args.size left short turn.0 refl (omega arith))
 
 pub returns-then-home-size-clause-each : goal.returns-then-home-size-clause-each
 returns-then-home-size-clause-each c = λ width i lt. (

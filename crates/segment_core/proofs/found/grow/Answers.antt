@@ -39,4 +39,4 @@ pub returns-clause-laid : goal.returns-clause-laid
 returns-clause-laid g c = λ image stands. (
     let all : c.loop-k.k ≡ c.args.count = omega (arith, c.loop-k-test.false, c.loop-k.auto.k-end) in
     subst (λ (n : ℕ). IsLaid g.R.Record.form image (place_among g.R.Record.form.width c.args.place (length c.args.records.now.items) n) c.args.records.now.items c.args.notes.now c.loop-k.records.items c.loop-k.notes) all
-        (c.loop-k.invariant.laid image stands))
+    (c.loop-k.invariant.laid image stands))

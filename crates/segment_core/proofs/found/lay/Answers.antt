@@ -13,6 +13,6 @@ loop-k-preserved g c =
     let form = g.R.Record.form in
     let within = cell_within k c.args.count w form.width (length c.args.area.now) c.width_of-width.ensures.is c.loop-k-test.true c.requires.filled in
     λ image stands. laid_set form image c.args.place c.args.start k w (c.args.start + k) c.args.records.now c.args.notes.now c.loop-k.records c.loop-k.notes _ c.decode.new.notes c.in_ok-record.record
-        c.width_of-width.ensures.is refl (omega (arith, c.loop-k.auto.records)) refl (c.loop-k.invariant image stands)
-        (c.in_ok-record.ensures.decoded image (stands_part image c.args.place c.args.area.now (k * w) (k * w + w - k * w) stands within))
-        c.in_ok-record.ensures.others
+    c.width_of-width.ensures.is refl (omega (arith, c.loop-k.auto.records)) refl (c.loop-k.invariant image stands)
+    (c.in_ok-record.ensures.decoded image (stands_part image c.args.place c.args.area.now (k * w) (k * w + w - k * w) stands within))
+    c.in_ok-record.ensures.others

@@ -15,7 +15,7 @@ returns-in-Group g c =
 pub returns-in_ok-push_back-in-Change : goal.returns-in_ok-push_back-in-Change
 returns-in_ok-push_back-in-Change g c = λ frames follows.
     found_change g.R.Record.form frames c.args.frame.now c.args.self.now _ (sym c.in-Change.ensures) follows (record { records_are = refl; notes_are = λ i. refl; homes_are = refl }) refl
-        (c.in_ok-push_back-in-Change.ensures.items ∙ ap (λ (x : Seen). c.args.self.now.live.items ++ x ∷ []) c.in_ok-change-in-Change.ensures)
+    (c.in_ok-push_back-in-Change.ensures.items ∙ ap (λ (x : Seen). c.args.self.now.live.items ++ x ∷ []) c.in_ok-change-in-Change.ensures)
 
 pub returns-in-Shrink : goal.returns-in-Shrink
 returns-in-Shrink g c = λ frames follows. found_shrink g.R.Record.form frames c.args.frame.now c.args.self.now c.shrink.new.self c.new_length.result c.new_length.ensures follows c.shrink.ensures
