@@ -18,13 +18,13 @@ use Rattle.segment_core.specs.Frame.{Frame, header, frame_text, text}
 use Rattle.segment_core.specs.Tally.{nothing, after, tally_of, AreLegalFrom}
 use Rattle.segment_core.specs.Image.{HasFrames, IsLongest}
 use Rattle.segment_core.specs.Vector.{IsVectorOf, HasVector}
-use Rattle.segment_core.specs.Fault.{header_fault, frame_fault, IsBadRecord, EndsWith, IsFrameFault, IsRefused}
+use Rattle.segment_core.specs.Fault.{header_fault, IsSound, frame_fault, IsBadRecord, EndsWith, IsFrameFault, IsRefused}
 use Rattle.segment_core.specs.Scanned.{IsScanOf}
 use Rattle.segment_core.proofs.Payload.{length-frame_text}
 use Rattle.segment_core.proofs.Lines.{frame_fault_closed}
 use Rattle.segment_core.proofs.Longest.{same_frame}
 use Rattle.segment_core.proofs.Header.{IsSegment, finds_none, format_known, is_version-version_of}
-use Rattle.segment_core.proofs.Refusals.{IsSound, ends_closed, longest_closed}
+use Rattle.segment_core.proofs.Refusals.{ends_closed, longest_closed}
 
 -- ---- one list of frames
 

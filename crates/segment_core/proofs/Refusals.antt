@@ -12,7 +12,7 @@ use Rattle.segment_core.specs.Shape.{shape_of, format_in}
 use Rattle.segment_core.specs.Frame.{Frame, text}
 use Rattle.segment_core.specs.Tally.{tally_of}
 use Rattle.segment_core.specs.Image.{HasFrames, IsLongest}
-use Rattle.segment_core.specs.Fault.{header_fault, frame_fault, is_closed, IsBadRecord, EndsWith, IsFrameFault, IsRefused}
+use Rattle.segment_core.specs.Fault.{header_fault, IsSound, frame_fault, is_closed, IsBadRecord, EndsWith, IsFrameFault, IsRefused}
 use Rattle.segment_core.proofs.Numbers.{true_both}
 use Rattle.segment_core.proofs.Lines.{frame_fault_closed}
 use Rattle.segment_core.proofs.Longest.{NoFrame_closed, is_longest}
@@ -26,11 +26,6 @@ at_none {X} o P Q is p = subst (λ (p : Option X). MatchOption p P Q) (sym is) p
 pub refused_by_header : {R : Type 0} (form : Encoding R) (image : List ℕ) (fault : ScanFault) → header_fault form.width image ≡ Some fault → IsRefused form image fault
 refused_by_header form image fault some =
     inl (at_some (header_fault form.width image) fault (IsFrameFault (format_in image) form image fault) (λ first. fault ≡ first) some refl)
-
--- the header is sound, and names this format
-pub record IsSound (width : ℕ) (format : Format) (image : List ℕ) : Type 0 where
-  pub no_fault : header_fault width image ≡ None
-  pub names : format_in image ≡ format
 
 refused_at : {R : Type 0} (form : Encoding R) (format : Format) (image : List ℕ) (fault : ScanFault) → IsSound form.width format image → IsFrameFault format form image fault → IsRefused form image fault
 refused_at form format image fault sound found =

@@ -42,6 +42,11 @@ header_lines width image =
 abbrev pub header_fault : ℕ → List ℕ → Option ScanFault
 header_fault width image = first_line (header_lines width image)
 
+-- the header is sound, and names this format
+pub record IsSound (width : ℕ) (format : Format) (image : List ℕ) : Type 0 where
+  pub no_fault : header_fault width image ≡ None
+  pub names : format_in image ≡ format
+
 -- the fields of the frame that begins these bytes
 abbrev pub kind_in : List ℕ → ℕ
 kind_in bytes = slice_index bytes 1

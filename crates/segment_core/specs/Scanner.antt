@@ -1,23 +1,16 @@
 -- How far an image has been read.
-use Rattle.std.specs.Prelude.{◌≡◌, ◌<◌, ℕ, List, [], ◌++◌, length, take, None, ◌⊎◌}
+use Rattle.std.specs.Prelude.{◌≡◌, ◌<◌, ℕ, List, [], ◌++◌, length, take, ◌⊎◌}
 use Rattle.record_core.specs.Bytes.{Encoding}
 use Rattle.segment_core.specs.declared.fault.ScanFault.{ScanFault}
 use Rattle.segment_core.specs.declared.fault.ScanFault.TheVariants.{Memory}
-use Rattle.segment_core.specs.declared.format.Format.{Format}
 use Rattle.segment_core.specs.declared.scanner.Scanner.{Scanner}
 use Rattle.segment_core.specs.declared.scanner.Stage.{Stage}
 use Rattle.segment_core.specs.declared.scanner.Stage.TheVariants.{Header, Open, Closed, Refused}
-use Rattle.segment_core.specs.Shape.{format_in}
 use Rattle.segment_core.specs.Frame.{Frame}
 use Rattle.segment_core.specs.Image.{HasFrames}
-use Rattle.segment_core.specs.Fault.{header_fault, IsRefused}
+use Rattle.segment_core.specs.Fault.{IsSound, IsRefused}
 use Rattle.segment_core.specs.Reading.{IsShort}
 use Rattle.segment_core.specs.Walk.{IsBehind, StandsBefore}
-
--- the header is sound, and names this format
-pub record IsSound (width : ℕ) (format : Format) (image : List ℕ) : Type 0 where
-  pub no_fault : header_fault width image ≡ None
-  pub names : format_in image ≡ format
 
 -- the image is the front of a header
 pub record IsFront {R : Type 0} (form : Encoding R) (image : List ℕ) (scanner : Scanner R) : Type 0 where

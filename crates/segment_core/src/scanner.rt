@@ -134,7 +134,8 @@ impl<R: Record> Scanner<R> {
         if self.filled == HEADER_LEN {
             match check_header(&self.header, width_of::<R>()) {
                 Ok(format) => {
-                    self.walk.shape.format = format;
+                    let width = width_of::<R>();
+                    self.walk = Walk::new(self.alloc, Shape { format, width });
                     self.stage = Stage::Open;
                 }
                 Err(fault) => self.stage = Stage::Refused(fault),
