@@ -118,7 +118,7 @@ fed_at form image scanner stage is fed = subst (IsFedAt form image scanner) is f
 
 pub fed_on : {R : Type 0} (form : Encoding R) (image : List ℕ) (scanner : Scanner R) → IsOn form image scanner → IsFed form image scanner
 fed_on form image scanner on = elim on [
-  | inl open ↦ fed_by form image scanner stages.Open open.0 open.1
+  | inl goes ↦ fed_by form image scanner stages.Open goes.0 goes.1
   | inr closed ↦ fed_by form image scanner stages.Closed closed.0 closed.1
 ]
 
@@ -145,3 +145,24 @@ refused_at_end form image walk frames fault whole refused = elim refused [
   | inl bad ↦ refused_by_record form walk.shape.format image frames fault whole.sound whole.framed bad
   | inr memory ↦ refused_for_memory form walk.shape.format image fault whole.sound memory
 ]
+
+-- ---- behind a read
+
+pub after_closed : {R : Type 0} (form : Encoding R) (image left : List ℕ) (scanner : Scanner R) (old : Walk R) → scanner.walk.shape ≡ old.shape → IsSound form.width old.shape.format image → StandsBefore form image left scanner.walk → is_closed left ≡ true → HasEnded form image scanner
+after_closed form image left scanner old same sound stands closed = ended form image left scanner (subst (λ (s : Shape). IsSound form.width s.format image) (sym same) sound) stands closed
+
+pub after_short : {R : Type 0} (form : Encoding R) (image left : List ℕ) (scanner : Scanner R) (old : Walk R) → scanner.walk.shape ≡ old.shape → IsSound form.width old.shape.format image → StandsBefore form image left scanner.walk → IsShort scanner.walk.shape scanner.walk.at left → scanner.pending.items ≡ left → GoesOn form image scanner
+after_short form image left scanner old same sound stands short pending = record {
+  sound = subst (λ (s : Shape). IsSound form.width s.format image) (sym same) sound;
+  stands = subst (λ (bs : List ℕ). StandsBefore form image bs scanner.walk) (sym pending) stands;
+  short = subst (IsShort scanner.walk.shape scanner.walk.at) (sym pending) short;
+}
+
+-- the bytes that are fed stand behind those that are pending
+pub stands_behind_pending : {R : Type 0} (form : Encoding R) (image pending bytes all : List ℕ) (walk : Walk R) → StandsBefore form image pending walk → all ≡ pending ++ bytes → StandsBefore form (image ++ bytes) all walk
+stands_behind_pending form image pending bytes all walk stands is = subst (λ (bs : List ℕ). StandsBefore form (image ++ bytes) bs walk) (sym is) (stands_more form image pending bytes walk stands)
+
+-- ---- what is left at the end of an image that is the front of a header
+
+pub front_fault : {R : Type 0} (form : Encoding R) (image : List ℕ) (scanner : Scanner R) (width : ℕ) (answer : Option ScanFault) → IsFront form image scanner → width ≡ form.width → header_fault width (take scanner.filled scanner.header) ≡ answer → header_fault form.width image ≡ answer
+front_fault form image scanner width answer front is told = ap (λ w. header_fault w image) (sym is) ∙ ap (header_fault width) (sym front.kept) ∙ told
