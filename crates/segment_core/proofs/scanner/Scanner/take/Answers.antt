@@ -1,4 +1,4 @@
-use Rattle.std.proofs.Common.{◌≡◌, ◌+◌, ◌<◌, ◌^◌, List, [], ◌++◌, ℕ, length, drop, refl, sym, ap, ◌∙◌, arith, inl, inr}
+use Rattle.std.proofs.Common.{◌≡◌, ◌+◌, ◌-◌, ◌<◌, ◌^◌, List, [], ◌++◌, ℕ, length, take, drop, refl, sym, ap, ◌∙◌, arith, inl, inr}
 use Rattle.std.proofs.lemmas.List.{length-append, take_rest}
 use Rattle.std.proofs.lemmas.Result.{err_from_is_err_and}
 use Rattle.segment_core.specs.declared.scanner.Scanner.{Scanner}
@@ -41,5 +41,7 @@ returns-in-Ok-clause-ok g c = λ image on. (
     let now : Scanner g.row.R.Denot = record { alloc = self.alloc; header = self.header; filled = self.filled; stage = self.stage; pending = c.extend_from_slice.new.self; walk = c.read.new.self } in
     let stands = stands_behind_pending form image self.pending.items c.args.bytes.now c.args.bytes.now self.walk on.stands (ap (λ (bs : List ℕ). bs ++ c.args.bytes.now) (sym c.requires.none)) in
     let tail = rw c.in-Short.is at c.in_ok-used.ensures.tail in
-    let pending : c.extend_from_slice.new.self.items ≡ left = c.in-Ok.ensures.items ∙ ap (λ (bs : List ℕ). bs ++ _) c.requires.none ∙ take_rest c.args.bytes.now c.in_ok-used.used in
+    let part : List ℕ = take (length c.args.bytes.now - c.in_ok-used.used) left in
+    let grown : c.extend_from_slice.new.self.items ≡ self.pending.items ++ part = c.in-Ok.ensures.items in
+    let pending : c.extend_from_slice.new.self.items ≡ left = grown ∙ ap (λ (bs : List ℕ). bs ++ part) c.requires.none ∙ take_rest c.args.bytes.now c.in_ok-used.used in
     inl (c.requires.stage, after_short form (image ++ c.args.bytes.now) left now self.walk c.in_ok-used.ensures.shape (sound_more form.width self.walk.shape.format image c.args.bytes.now on.sound) (c.in_ok-used.ensures.stands (image ++ c.args.bytes.now) stands) tail.1 pending))
