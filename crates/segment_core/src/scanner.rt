@@ -2,6 +2,7 @@
 
 ghost use Rattle.std.specs.Prelude.{◌≡◌, ◌≤◌, ◌<◌, ◌+◌, ◌^◌, ◌++◌, ◌⊎◌, [], ℕ, List, Some, None, Err, length, take, drop, OnOk, OnErr, IfOk, IfErr, MatchResult};
 ghost use Rattle.segment_core.specs.Shape.{shape_of, format_in};
+ghost use Rattle.segment_core.specs.Frame.{header};
 ghost use Rattle.segment_core.specs.Fault.{header_fault, IsRefused};
 ghost use Rattle.segment_core.specs.Found.{AreHomesOf};
 ghost use Rattle.segment_core.specs.Scanned.{IsScanOf};
@@ -46,7 +47,7 @@ pub struct Scanner<R> {
 /// The format of the file, if the header is that of a file whose records have this width.
 fn check_header(bytes: &[u8], width: usize) -> Result<Format, ScanFault>
     ensures { MatchResult result
-        (λ format. (header_fault width bytes.now ≡ None) × (format_in bytes.now ≡ format))
+        (λ format. (header_fault width bytes.now ≡ None) × (format_in bytes.now ≡ format) × (bytes.now ≡ header (record { format = format; width = width }) ++ drop 11 bytes.now))
         (λ fault. header_fault width bytes.now ≡ Some fault) }
 {
     if bytes.len() <= 1 || bytes[0] != OPEN {
@@ -123,7 +124,8 @@ impl<R: Record> Scanner<R> {
     /// Takes what is left of the header out of a piece, and answers how many bytes that was: all of them where
     /// it isn't whole even then.
     fn feed_header(&mut self, piece: &[u8]) -> usize
-        requires { (image : List ℕ) × IsFedAt R.form image self.old Stage.Header }
+        requires fed { (image : List ℕ) × IsFedAt R.form image self.old Stage.Header }
+        requires stage { self.old.stage ≡ Stage.Header }
         ensures used { result ≤ length piece.now }
         ensures fed { (image : List ℕ) → IsFedAt R.form image self.old Stage.Header → IsFed R.form (image ++ take result piece.now) self.new }
         ensures whole { self.new.stage ≡ Stage.Header → result ≡ length piece.now }
@@ -132,7 +134,7 @@ impl<R: Record> Scanner<R> {
         self.header[self.filled..self.filled + used].copy_from_slice(&piece[..used]);
         self.filled += used;
         if self.filled == HEADER_LEN {
-            match check_header(&self.header, width_of::<R>()) {
+            match check_header(&self.header[..self.filled], width_of::<R>()) {
                 Ok(format) => {
                     let width = width_of::<R>();
                     self.walk = Walk::new(self.alloc, Shape { format, width });
@@ -193,8 +195,9 @@ impl<R: Record> Scanner<R> {
         match tail {
             Tail::Closed => self.stage = Stage::Closed,
             Tail::Short => {
-                if self.pending.extend_from_slice(&bytes[used..]).is_err() {
-                    return Err(ScanFault::Memory);
+                match self.pending.extend_from_slice(&bytes[used..]) {
+                    Ok(()) => {}
+                    Err(_) => return Err(ScanFault::Memory),
                 }
             }
         }
@@ -208,8 +211,9 @@ impl<R: Record> Scanner<R> {
         ensures ok { OnOk result ((image : List ℕ) → GoesOn R.form image self.old → IsOn R.form (image ++ bytes.now) self.new) }
         ensures err { IfErr result (λ fault. (image : List ℕ) → GoesOn R.form image self.old → IsRefusedFor R.form (image ++ bytes.now) fault) }
     {
-        if self.pending.extend_from_slice(bytes).is_err() {
-            return Err(ScanFault::Memory);
+        match self.pending.extend_from_slice(bytes) {
+            Ok(()) => {}
+            Err(_) => return Err(ScanFault::Memory),
         }
         let (used, tail) = self.walk.read(&self.pending)?;
         match tail {
