@@ -17,6 +17,7 @@ use Rattle.segment_core.specs.Tally.{nothing, after, tally_from, tally_of}
 use Rattle.segment_core.specs.Vector.{place_in_runs, last_from, change_in, change_of}
 use Rattle.segment_core.specs.Reading.{Seen, runs_of, record_bytes_of, head_len}
 use Rattle.segment_core.specs.Found.{StandsAt, first_record_of, IsLaid, changes_in, changes_from, changes_of, live_among, pairs_of}
+use Rattle.segment_core.proofs.RunRows.{length-runs_text}
 use Rattle.segment_core.proofs.LastFrom.{option_or_assoc, option_or_none, gate_is}
 use Rattle.segment_core.proofs.FoundLaid.{laid_as, laid_then}
 
@@ -138,20 +139,6 @@ change_of_live shape folded frames i = let all : folded - 0 ≡ folded = omega a
 length-words : (ns : List ℕ) → length (flat_map (to_le_bytes w32) ns) ≡ length ns * 4
 length-words [] = refl
 length-words (n ∷ ns) = let rest = length-words ns in length-append (to_le_bytes w32 n) (flat_map (to_le_bytes w32) ns) ∙ omega arith
-
-length-number_text : (format : Format) (n : ℕ) → length (number_text format n) ≡ number_len format
-length-number_text One n = refl
-length-number_text Two n = refl
-
-length-run_texts : (format : Format) (runs : List Run) → length (flat_map (run_text format) runs) ≡ length runs * (8 + number_len format)
-length-run_texts format [] = omega arith
-length-run_texts format (run ∷ runs) =
-    let rest = length-run_texts format runs in
-    let one : length (run_text format run) ≡ 8 + number_len format = length-append (to_le_bytes w64 run.start) (number_text format run.count) ∙ ap (λ n. 8 + n) (length-number_text format run.count) in
-    length-append (run_text format run) (flat_map (run_text format) runs) ∙ omega arith
-
-pub length-runs_text : (format : Format) (runs : List Run) → length (runs_text format runs) ≡ runs_len format (length runs)
-length-runs_text format runs = length-append (number_text format (length runs)) (flat_map (run_text format) runs) ∙ ap (λ n. n + length (flat_map (run_text format) runs)) (length-number_text format (length runs)) ∙ ap (λ n. number_len format + n) (length-run_texts format runs)
 
 -- a frame's text ends with its records
 pub record EndsWithRecords (format : Format) (frame : Frame) : Type 0 where

@@ -6,7 +6,7 @@ use Rattle.segment_core.specs.declared.found.Home.{Home}
 use Rattle.segment_core.specs.Vector.{place_among}
 use Rattle.segment_core.specs.Found.{home_among, AreInTurn}
 use Rattle.segment_core.proofs.LastFrom.{option_or_assoc, option_or_none}
-use Rattle.segment_core.proofs.FoundLaid.{place_among_before, place_among_inside}
+use Rattle.segment_core.proofs.PlaceAmong.{place_among_inside, place_among_below}
 
 pub home_among_push : (width i : ℕ) (homes : List Home) (home : Home) → home_among width (homes ++ home ∷ []) i ≡ option_or (place_among width home.place home.position home.count i) (home_among width homes i)
 home_among_push width i [] home = sym (option_or_none (place_among width home.place home.position home.count i))
@@ -30,7 +30,7 @@ in_turn_up_to start end (first ∷ homes) turn = let rest = in_turn_up_to (start
 -- a home that begins past a position says nothing of it
 pub home_among_popped : (width i size : ℕ) (homes : List Home) (home : Home) → i < size → size ≤ home.position → home_among width homes i ≡ home_among width (homes ++ home ∷ []) i
 home_among_popped width i size homes home lt past =
-    sym (home_among_push width i homes home ∙ ap (λ o. option_or o (home_among width homes i)) (place_among_before width home.place home.position home.count i (omega arith)))
+    sym (home_among_push width i homes home ∙ ap (λ o. option_or o (home_among width homes i)) (place_among_below width home.place home.position home.count i (omega arith)))
 
 -- a home that ends earlier says the same of what is left
 pub home_among_cut : (width i size : ℕ) (homes : List Home) (home : Home) → i < size → home.position < size → size ≤ home.position + home.count
@@ -38,7 +38,7 @@ pub home_among_cut : (width i size : ℕ) (homes : List Home) (home : Home) → 
 home_among_cut width i size homes home lt from to =
     let short : Home = record { position = home.position; place = home.place; count = size - home.position } in
     let same : place_among width home.place home.position (size - home.position) i ≡ place_among width home.place home.position home.count i = elim (cases_lt i home.position) [
-      | inl below ↦ place_among_before width home.place home.position (size - home.position) i below ∙ sym (place_among_before width home.place home.position home.count i below)
+      | inl below ↦ place_among_below width home.place home.position (size - home.position) i below ∙ sym (place_among_below width home.place home.position home.count i below)
       | inr inside ↦ place_among_inside width home.place home.position (size - home.position) i inside (omega arith) ∙ sym (place_among_inside width home.place home.position home.count i inside (omega arith))
     ] in
     home_among_push width i homes short ∙ ap (λ o. option_or o (home_among width homes i)) same ∙ sym (home_among_push width i homes home)

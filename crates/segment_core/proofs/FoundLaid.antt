@@ -19,33 +19,16 @@ use Rattle.segment_core.specs.Reading.{Seen, runs_of, record_count}
 use Rattle.segment_core.specs.Vector.{place_among, place_in_runs}
 use Rattle.segment_core.specs.Notes.{noted}
 use Rattle.segment_core.specs.Found.{StandsAt, IsDecoded, IsLaidAt, IsLaid}
+use Rattle.segment_core.proofs.FrameParts.{records_of_runs-cons}
+use Rattle.segment_core.proofs.PlaceAmong.{place_among_inside, place_among_below, place_among_past}
 use Rattle.segment_core.proofs.LastFrom.{option_or_assoc, option_or_none}
 
 -- ---- the place of a position among consecutive ones
 
-neither : (a b : Bool) → a ≡ false → (a && b) ≡ false
-neither a b is = rw is refl
-
-nor : (a b : Bool) → b ≡ false → (a && b) ≡ false
-nor true b is = is
-nor false b is = refl
-
-both : (a b : Bool) → a ≡ true → b ≡ true → (a && b) ≡ true
-both a b p q = rw (p, q) refl
-
-pub place_among_before : (width p start count i : ℕ) → i < start → place_among width p start count i ≡ None
-place_among_before width p start count i lt = ap (λ b. cond b (Some (p + (i - start) * width)) None) (neither (nat_le start i) (nat_lt i (start + count)) (lt-leb start i lt))
-
-pub place_among_behind : (width p start count i : ℕ) → start + count ≤ i → place_among width p start count i ≡ None
-place_among_behind width p start count i le = ap (λ b. cond b (Some (p + (i - start) * width)) None) (nor (nat_le start i) (nat_lt i (start + count)) (le-ltb i (start + count) le))
-
-pub place_among_inside : (width p start count i : ℕ) → start ≤ i → i < start + count → place_among width p start count i ≡ Some (p + (i - start) * width)
-place_among_inside width p start count i le lt = ap (λ b. cond b (Some (p + (i - start) * width)) None) (both (nat_le start i) (nat_lt i (start + count)) (le-leb start i le) (lt-ltb i (start + count) lt))
-
 pub place_among_none : (width p start i : ℕ) → place_among width p start 0 i ≡ None
 place_among_none width p start i = elim (cases_lt i start) [
-  | inl below ↦ place_among_before width p start 0 i below
-  | inr past ↦ place_among_behind width p start 0 i (omega arith)
+  | inl below ↦ place_among_below width p start 0 i below
+  | inr past ↦ place_among_past width p start 0 i (omega arith)
 ]
 
 pub place_among_last : (width p start k i : ℕ) → i ≡ start + k → place_among width p start (k + 1) i ≡ Some (p + k * width)
@@ -56,10 +39,10 @@ place_among_last width p start k i is =
 -- positions but the last of more are told by fewer
 pub place_among_other : (width p start k i : ℕ) → i ≢ start + k → place_among width p start (k + 1) i ≡ place_among width p start k i
 place_among_other width p start k i other = elim (cases_lt i start) [
-  | inl below ↦ place_among_before width p start (k + 1) i below ∙ sym (place_among_before width p start k i below)
+  | inl below ↦ place_among_below width p start (k + 1) i below ∙ sym (place_among_below width p start k i below)
   | inr from ↦ elim (cases_lt i (start + k)) [
     | inl inside ↦ place_among_inside width p start (k + 1) i from (omega arith) ∙ sym (place_among_inside width p start k i from inside)
-    | inr past ↦ place_among_behind width p start (k + 1) i (omega arith) ∙ sym (place_among_behind width p start k i past)
+    | inr past ↦ place_among_past width p start (k + 1) i (omega arith) ∙ sym (place_among_past width p start k i past)
   ]
 ]
 
@@ -186,9 +169,6 @@ laid_as form image says others a note_a b note_b same laid i lt =
     subst (λ (o : Option ℕ). IsLaidAt form image o (slice_get b i) (slice_get a i) (noted note_b i) (noted note_a i)) (sym (same i)) (laid i lt)
 
 -- ---- one run more
-
-pub records_of_runs-cons : (first : Run) (runs : List Run) → records_of_runs (first ∷ runs) ≡ first.count + records_of_runs runs
-records_of_runs-cons first runs = sum_by-cons (λ x. x) first.count (map (λ run. run.count) runs)
 
 records_of_runs-take : (n : ℕ) (runs : List Run) → records_of_runs (take n runs) ≤ records_of_runs runs
 records_of_runs-take zero runs = omega arith

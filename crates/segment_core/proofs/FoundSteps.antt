@@ -22,7 +22,8 @@ use Rattle.segment_core.specs.Notes.{noted}
 use Rattle.segment_core.specs.Found.{StandsAt, first_record_of, IsLaidAt, home_among, AreInTurn, AreHomes, changes_in, changes_of, live_of, IsInside, HasHome, IsFound, Follows, IsGrown, IsSame, IsCut}
 use Rattle.segment_core.proofs.Push.{text_push, tally_from_push}
 use Rattle.segment_core.proofs.LastFrom.{home_push}
-use Rattle.segment_core.proofs.FoundLaid.{place_among_before, place_among_inside}
+use Rattle.segment_core.proofs.PlaceAmong.{place_among_inside, place_among_below}
+use Rattle.segment_core.proofs.Replaced.{slice_get-take}
 use Rattle.segment_core.proofs.FoundHomes.{home_among_push, in_turn_push}
 use Rattle.segment_core.proofs.FoundChanges.{all_push, all_drop, all_map, changes_push, changes_counted, ends_with_records, records_stand}
 
@@ -203,7 +204,7 @@ found_group {R} form frames seen old new kind follows grown =
       small = let fits = group_fits t f kind follows.may.short in omega arith;
       each = λ i lt. elim (cases_lt i t.size) [
         | inl below ↦ (
-            let none : says i ≡ None = place_among_before width p t.size n i below in
+            let none : says i ≡ None = place_among_below width p t.size n i below in
             let same = subst (λ (o : Option ℕ). IsLaidAt form image o (slice_get new.records.items i) (slice_get old.records.items i) (noted new.notes i) (noted old.notes i)) none (laid i (omega arith)) in
             kept form format frames f old new i (ap (λ m. home_in width i m t f) (sym at) ∙ home_in_group format width i seen.at t f kind ∙ none) same.0 same.1 (behind.each i below))
         | inr from ↦ (
@@ -279,12 +280,6 @@ found_change form frames seen old new kind follows same folded_same pushed =
     }
 
 -- ---- a shrink
-
-slice_get-take : {X : Type 0} (n : ℕ) (xs : List X) (i : ℕ) → i < n → slice_get (take n xs) i ≡ slice_get xs i
-slice_get-take zero xs i lt = absurd (omega arith)
-slice_get-take (suc n) [] i lt = refl
-slice_get-take (suc n) (x ∷ xs) zero lt = refl
-slice_get-take (suc n) (x ∷ xs) (suc i) lt = slice_get-take n xs i (omega arith)
 
 pub found_shrink : {R : Type 0} (form : Encoding R) (frames : List Frame) (seen : Seen) (old new : Found R) (n : ℕ) → seen.frame ≡ Shrink n → Follows form frames old seen → IsCut n old new → IsFound form seen.shape.format (frames ++ seen.frame ∷ []) new
 found_shrink form frames seen old new n frame follows cut =

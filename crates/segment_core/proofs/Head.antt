@@ -20,6 +20,7 @@ use Rattle.segment_core.specs.Fault.{first_line, frame_lines, is_closed, damaged
 use Rattle.segment_core.specs.Reading.{IsShort, IsFaulty, BeginsWith, IsRead, lengths_of, runs_of, record_bytes_of, record_count, head_len}
 use Rattle.segment_core.proofs.Numbers.{IsBytes-drop, IsBytes-take, u32_at-drop, u32_written, first_false, second_false}
 use Rattle.segment_core.proofs.Payload.{limit_small, OneOf, IsGroup, IsChange, IsShrink, IsFold, is_payload, length-group_payload, length-change_payload}
+use Rattle.segment_core.proofs.FrameParts.{length-payload_of}
 use Rattle.segment_core.proofs.Lines.{first_line_at}
 
 -- the one answer of a fault that the frame has by itself
@@ -193,12 +194,6 @@ filled_of shape (Group lengths bytes) layout = layout.2
 filled_of shape (Change runs bytes) layout = layout.2
 filled_of shape (Shrink n) layout = omega arith
 filled_of shape (Fold count) layout = omega arith
-
-pub length-payload_of : (format : Format) (frame : Frame) → length (payload_of format frame) ≡ head_len format frame + length (record_bytes_of frame)
-length-payload_of format (Group lengths bytes) = length-group_payload format lengths bytes
-length-payload_of format (Change runs bytes) = length-change_payload format runs bytes
-length-payload_of format (Shrink n) = refl
-length-payload_of format (Fold count) = refl
 
 pub is_read : (at : ℕ) (shape : Shape) (kind heads records : ℕ) (bytes : List ℕ) → at + length bytes < 2 ^ 64 → IsWhole shape bytes kind
     → heads ≡ length (lengths_of (frame_in shape kind (payload_in bytes))) + length (runs_of (frame_in shape kind (payload_in bytes))) → records ≡ record_count (frame_in shape kind (payload_in bytes))
