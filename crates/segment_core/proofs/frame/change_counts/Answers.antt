@@ -1,8 +1,6 @@
-use Rattle.std.proofs.Common.{◌≡◌, ◌≤◌, ◌-◌, false, length, sym, ap, ◌∙◌, arith}
-use Rattle.std.specs.Prelude.{nat_lt}
+use Rattle.std.proofs.Common.{◌≡◌, ◌-◌, length, sym, ap, ◌∙◌, arith}
 use Rattle.std.proofs.lemmas.Bool.{false≢true}
-use Rattle.segment_core.specs.Frame.{number_len, runs_len, records_of_runs}
-use Rattle.segment_core.specs.Layout.{run_count_in, runs_in}
+use Rattle.segment_core.specs.Frame.{runs_len}
 use Rattle.segment_core.proofs.Payload.{no_change, no_change_unfilled, is_change}
 use Rattle.segment_core.proofs.frame.change_counts.Goals as goal
 use Rattle.segment_core.proofs.frame.change_counts.Goals.{then-runs-eq0-via-then-runs-eq0, then-runs-eq0-via-else-runs-eq0+then-payload-runs_len}

@@ -1,7 +1,6 @@
 use Rattle.std.proofs.Common.{◌≡◌, ◌+◌, ◌-◌, ◌*◌, ◌/◌, ◌^◌, ◌<◌, ℕ, Some, length, sym, ap, ◌∙◌, arith}
 use Rattle.segment_core.specs.Frame.{Run, number_len}
-use Rattle.segment_core.specs.Layout.{u64_at, number_at}
-use Rattle.segment_core.proofs.Numbers.{u32_small}
+use Rattle.segment_core.specs.Layout.{number_at}
 use Rattle.segment_core.proofs.Payload.{div_small}
 use Rattle.segment_core.proofs.RunRows.{run_read, number_small}
 use Rattle.segment_core.proofs.Reader.{run_found}
