@@ -108,16 +108,33 @@ impl<R: Record> Scanner<R> {
         ensures memory { IfErr result (λ fault. (fault ≡ ScanFault.Memory) × IsLost self.new) }
         ensures lost { IsLost self.old → result ≡ Err ScanFault.Memory }
     {
-        match self.stage {
-            Stage::Header => {
-                let used = self.feed_header(piece);
-                self.feed_rest(&piece[used..]);
-            }
-            _ => self.feed_rest(piece),
-        }
+        let used = self.begin(piece);
+        self.feed_rest(&piece[used..]);
+        self.answer()
+    }
+
+    /// Whether memory was refused.
+    fn answer(&self) -> Result<(), ScanFault>
+        ensures memory { IfErr result (λ fault. (fault ≡ ScanFault.Memory) × IsLost self.now) }
+        ensures lost { IsLost self.now → result ≡ Err ScanFault.Memory }
+    {
         match self.stage {
             Stage::Refused(ScanFault::Memory) => Err(ScanFault::Memory),
             _ => Ok(()),
+        }
+    }
+
+    /// Takes what is left of the header out of a piece, where it isn't whole yet.
+    fn begin(&mut self, piece: &[u8]) -> usize
+        requires { (image : List ℕ) × IsFed R.form image self.old }
+        ensures used { result ≤ length piece.now }
+        ensures fed { (image : List ℕ) → IsFed R.form image self.old → IsFed R.form (image ++ take result piece.now) self.new }
+        ensures whole { self.new.stage ≡ Stage.Header → result ≡ length piece.now }
+        ensures lost { IsLost self.old → IsLost self.new }
+    {
+        match self.stage {
+            Stage::Header => self.feed_header(piece),
+            _ => 0,
         }
     }
 
