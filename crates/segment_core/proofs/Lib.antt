@@ -18,4 +18,7 @@ pub mod FoundSteps
 pub mod FoundEnd
 pub mod Walked
 pub mod Fed
+pub mod Written
+pub mod GrowthRows
+pub mod ReadAgain
 pub mod Worked

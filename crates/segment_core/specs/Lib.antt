@@ -13,4 +13,5 @@ pub mod Notes
 pub mod Found
 pub mod Walk
 pub mod Scanner
+pub mod Growths
 pub mod Written

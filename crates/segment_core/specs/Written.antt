@@ -3,6 +3,8 @@ use Rattle.std.specs.Prelude.{◌≡◌, ℕ, ◌+◌, ◌*◌, ◌<◌, List, [
 use Rattle.std.specs.Global.{Vec}
 use Rattle.std.specs.List.{flat_map, AllByRecursion}
 use Rattle.record_core.specs.Bytes.{Encoding}
+use Rattle.segment_core.specs.declared.fault.GroupFault.{GroupFault}
+use Rattle.segment_core.specs.declared.fault.GroupFault.TheVariants as group_faults
 use Rattle.segment_core.specs.declared.fault.ImageFault.{ImageFault}
 use Rattle.segment_core.specs.declared.fault.ImageFault.TheVariants.{TooLarge, Memory}
 use Rattle.record_core.specs.Limits.{payload_limit}
@@ -44,6 +46,11 @@ all_records groups = joined (map joined groups)
 -- every payload is within the limit
 abbrev pub AllFit : {R : Type 0} → ℕ → List (List (List R)) → Type 0
 AllFit width groups = AllByRecursion (λ group. payload_len width group ≤ payload_limit) groups
+
+-- why a group gets no frame: its payload is past the limit; for want of memory alone, it is not
+abbrev pub IsGroupRefused : {R : Type 0} → ℕ → ℕ → List (List R) → GroupFault → Type 0
+IsGroupRefused width limit growths group_faults.TooLarge = limit < payload_len width growths
+IsGroupRefused width limit growths group_faults.Memory = payload_len width growths ≤ limit
 
 -- the first group past the limit is k; for want of memory alone, none is
 abbrev pub IsImageRefused : {R : Type 0} → ℕ → List (List (List R)) → ImageFault → Type 0
