@@ -98,8 +98,9 @@ fn append_frame<R: Record, G: GrowthList<R>>(
     append_growths::<R, G>(group, file)
 }
 
-/// Appends the frame of a group, behind an open gate: it is the same in each format. `TooLarge` comes where its payload has more than `limit`
-/// bytes, and then nothing was appended. After `Memory` a part of the frame may stand behind the old bytes.
+/// Appends the frame of a group, behind an open gate. It is the same in each format. `TooLarge` comes where its
+/// payload has more than `limit` bytes, and then nothing was appended. After `Memory` a part of the frame may
+/// stand behind the old bytes.
 pub fn append_group<R: Record, G: GrowthList<R>>(
     group: &G,
     limit: usize,

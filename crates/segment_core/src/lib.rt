@@ -1,8 +1,8 @@
 //! A segment file: the growths and changes of a vector, frame behind frame, and the vector that is found again.
 //!
-//! `write_image` makes the whole file of some growths, `scan` reads the vector of an image or names its first
-//! fault, `Scanner` does so of an image that comes in pieces, and `FrameReader` gives the fields of one frame.
-//! The format is in `docs/FORMAT.md`.
+//! `write_image` makes the whole file of some growths, `append_group` the frame of one group, `scan` reads the
+//! vector of an image or names its first fault, `Scanner` does so of an image that comes in pieces, and
+//! `FrameReader` gives the fields of one frame. The format is in `docs/FORMAT.md`.
 #![tactic(auto)]
 
 mod fault;
