@@ -248,13 +248,13 @@ goes_on_behind_header {R} form image bytes format width scanner is long wide fou
     let text_is : text scanner.walk.shape [] ≡ header (record { format = format; width = width }) = append-nil (header scanner.walk.shape) ∙ ap header shape in
     record {
       sound = record {
-          no_fault = ap (λ w. header_fault w image) (sym wide) ∙ ap (header_fault width) (sym is) ∙ found.no_fault;
-          names = ap format_in (sym is) ∙ found.names ∙ sym format_is;
-        };
+        no_fault = ap (λ w. header_fault w image) (sym wide) ∙ ap (header_fault width) (sym is) ∙ found.no_fault;
+        names = ap format_in (sym is) ∙ found.names ∙ sym format_is;
+      };
       stands = record {
-          frames = [];
-          behind = behind;
-          left = sym is ∙ found.written ∙ ap (λ (bs : List ℕ). bs ++ drop 11 bytes) (sym text_is) ∙ ap (λ (bs : List ℕ). text scanner.walk.shape [] ++ bs) (none ∙ sym pending);
-        };
+        frames = [];
+        behind = behind;
+        left = sym is ∙ found.written ∙ ap (λ (bs : List ℕ). bs ++ drop 11 bytes) (sym text_is) ∙ ap (λ (bs : List ℕ). text scanner.walk.shape [] ++ bs) (none ∙ sym pending);
+      };
       short = finds_no_gate scanner.walk.shape scanner.walk.at scanner.pending.items (ap length pending);
     }

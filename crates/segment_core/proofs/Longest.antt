@@ -63,4 +63,3 @@ is_longest shape frames image rest legal is none = record {
       let b = length-append (header shape) (flat_map (frame_text shape.format) others) in
       omega arith);
 }
-

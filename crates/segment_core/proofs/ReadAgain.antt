@@ -58,9 +58,9 @@ reads_groups : {R : Type 0} (format : Format) (form : Encoding R) (image rest : 
     → AreLegal (shape_of format form) frames → IsVectorOf format form image frames records → image ≡ text (shape_of format form) frames ++ (flat_map (frame_text format) (map (group_frame form) groups) ++ rest)
     → AreLegal (shape_of format form) (frames ++ map (group_frame form) groups) × IsVectorOf format form image (frames ++ map (group_frame form) groups) (records ++ all_records groups)
 reads_groups {R} format form image rest frames records [] wide bytes filled fit again small legal read is = (
-      subst (λ fs. AreLegal (shape_of format form) fs) (sym (append-nil frames)) legal,
-      subst (λ fs. IsVectorOf format form image fs (records ++ [])) (sym (append-nil frames)) (subst (λ (rs : List R). IsVectorOf format form image frames rs) (sym (append-nil records)) read),
-    )
+  subst (λ fs. AreLegal (shape_of format form) fs) (sym (append-nil frames)) legal,
+  subst (λ fs. IsVectorOf format form image fs (records ++ [])) (sym (append-nil frames)) (subst (λ (rs : List R). IsVectorOf format form image frames rs) (sym (append-nil records)) read),
+)
 reads_groups {R} format form image rest frames records (group ∷ groups) wide bytes filled fit again small legal read is =
     let shape : Shape = shape_of format form in
     let frame : Frame = group_frame form group in
@@ -78,7 +78,7 @@ reads_groups {R} format form image rest frames records (group ∷ groups) wide b
     let one_by_one = append_assoc frames (frame ∷ []) others in (
       subst (λ fs. AreLegal shape fs) one_by_one more.0,
       subst (λ fs. IsVectorOf format form image fs (records ++ all_records (group ∷ groups))) one_by_one
-      (subst (λ (rs : List R). IsVectorOf format form image ((frames ++ frame ∷ []) ++ others) rs) (append_assoc records (joined group) (all_records groups)) more.1),
+          (subst (λ (rs : List R). IsVectorOf format form image ((frames ++ frame ∷ []) ++ others) rs) (append_assoc records (joined group) (all_records groups)) more.1),
     )
 
 pub has_vector : {R : Type 0} (form : Encoding R) (file : List ℕ) (groups : List (List (List R))) → 1 ≤ form.width → ((r : R) → length (form.bytes_of r) ≡ form.width) → AreFilled groups → AllFit form.width groups

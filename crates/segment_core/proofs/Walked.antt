@@ -159,8 +159,8 @@ refused_by_lines form image bytes walk fault stands faulty =
 pub refused_by_order : {R : Type 0} (form : Encoding R) (image bytes : List ℕ) (walk : Walk R) (frame : Frame) (fault : ScanFault) → StandsBefore form image bytes walk → BeginsWith walk.shape bytes frame → first_line (order_lines walk.at walk.tally frame) ≡ Some fault → IsFaultOf walk.shape image fault
 refused_by_order form image bytes walk frame fault stands begins some =
     ends_at form image bytes walk fault stands (λ more frames e tally t. (
-      let split : bytes ++ more ≡ frame_text walk.shape.format frame ++ (begins.text.0 ++ more) = ap (λ (bs : List ℕ). bs ++ more) begins.text.1 ∙ append_assoc (frame_text walk.shape.format frame) begins.text.0 more in
-      ap (frame_fault walk.shape walk.at tally) split ∙ frame_fault_from_order walk.shape walk.at tally frame (begins.text.0 ++ more) fault begins.whole (ap (λ k. first_line (order_lines walk.at k frame)) t ∙ some)))
+    let split : bytes ++ more ≡ frame_text walk.shape.format frame ++ (begins.text.0 ++ more) = ap (λ (bs : List ℕ). bs ++ more) begins.text.1 ∙ append_assoc (frame_text walk.shape.format frame) begins.text.0 more in
+    ap (frame_fault walk.shape walk.at tally) split ∙ frame_fault_from_order walk.shape walk.at tally frame (begins.text.0 ++ more) fault begins.whole (ap (λ k. first_line (order_lines walk.at k frame)) t ∙ some)))
 
 -- the frames come nearer to the end
 pub nearer : (shape : Shape) (bytes : List ℕ) (frame : Frame) (used n : ℕ) → BeginsWith shape (drop used bytes) frame → n ≡ length (frame_text shape.format frame) → (used + n ≤ length bytes) × (0 < n)

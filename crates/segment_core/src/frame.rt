@@ -443,8 +443,8 @@ fn counts(payload: &[u8], kind: FrameKind, shape: Shape) -> Option<(usize, usize
     ensures { MatchOption result
         (is_layout shape (kind_byte kind) payload.now ≡ false)
         (λ counts. (is_layout shape (kind_byte kind) payload.now ≡ true)
-            × (counts.0 ≡ length (lengths_of (frame_in shape (kind_byte kind) payload.now)) + length (runs_of (frame_in shape (kind_byte kind) payload.now)))
-            × (counts.1 ≡ record_count (frame_in shape (kind_byte kind) payload.now))) }
+        × (counts.0 ≡ length (lengths_of (frame_in shape (kind_byte kind) payload.now)) + length (runs_of (frame_in shape (kind_byte kind) payload.now)))
+        × (counts.1 ≡ record_count (frame_in shape (kind_byte kind) payload.now))) }
 {
     match kind {
         FrameKind::Group => group_counts(payload, shape.width),

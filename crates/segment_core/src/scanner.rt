@@ -76,7 +76,8 @@ fn wanted(pending: &[u8]) -> usize
     let whole = if pending.len() < FRAME_HEAD_LEN {
         FRAME_HEAD_LEN
     } else {
-        FRAME_HEAD_LEN + u32::from_le_bytes([pending[2], pending[3], pending[4], pending[5]]) as usize
+        FRAME_HEAD_LEN
+            + u32::from_le_bytes([pending[2], pending[3], pending[4], pending[5]]) as usize
     };
     whole.saturating_sub(pending.len()).max(1)
 }

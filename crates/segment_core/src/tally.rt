@@ -77,7 +77,8 @@ impl Tally {
         ensures { result ≡ is_miscounted self.now frame.now.frame }
     {
         match frame.kind() {
-            FrameKind::Fold => frame.fold_count() < self.folded || self.changes < frame.fold_count(),
+            FrameKind::Fold => frame.fold_count() < self.folded
+                || self.changes < frame.fold_count(),
             _ => false,
         }
     }

@@ -118,12 +118,16 @@ fn fault_with(rt: &HostRuntime, at: usize, byte: u8) -> Option<ScanFault>
 /// The vector of 5 whose only record a change makes 7.
 const CHANGED: [u8; 56] = [
     1, 0x43, 0x56, 0x45, 0x43, 0x53, 0x45, 0x47, 1, 8, 0, 1, 1, 0x10, 0, 0, 0, 1, 0, 0, 0, 1, 0, 0,
-    0, 5, 0, 0, 0, 0, 0, 0, 0, 1, 2, 0x10, 0, 0, 0, 0, 0, 0, 0, 0, 0, 0, 0, 7, 0, 0, 0, 0, 0, 0, 0, 0,
+    0, 5, 0, 0, 0, 0, 0, 0, 0, 1, 2, 0x10, 0, 0, 0, 0, 0, 0, 0, 0, 0, 0, 0, 7, 0, 0, 0, 0, 0, 0, 0,
+    0,
 ];
 
 /// What is answered of an image that is fed in pieces of this length.
-fn in_pieces<R: Record>(rt: &(impl AllocGlobal + Abort), image: &[u8], piece: usize) -> Result<Scanned<R>, ScanFault>
-{
+fn in_pieces<R: Record>(
+    rt: &(impl AllocGlobal + Abort),
+    image: &[u8],
+    piece: usize,
+) -> Result<Scanned<R>, ScanFault> {
     let mut scanner = Scanner::new(rt.alloc());
     for part in image.chunks(piece) {
         scanner.feed(part)?;
@@ -133,21 +137,31 @@ fn in_pieces<R: Record>(rt: &(impl AllocGlobal + Abort), image: &[u8], piece: us
 }
 
 /// The same answer comes of the whole image and of pieces of it, and it is this vector.
-fn holds<R: Record + Debug>(rt: &(impl AllocGlobal + Abort), image: &[u8], records: &[R]) -> Result<(), Fail>
-{
+fn holds<R: Record + Debug>(
+    rt: &(impl AllocGlobal + Abort),
+    image: &[u8],
+    records: &[R],
+) -> Result<(), Fail> {
     let whole = scan::<R>(rt.alloc(), image)?;
     assert_eq!(rt; whole.records.as_slice(), records);
     for piece in [1, 2, 7, 4096] {
         let scanned = in_pieces::<R>(rt, image, piece)?;
         assert_eq!(rt; scanned.records.as_slice(), records);
-        assert_eq!(rt; (scanned.frames, scanned.changes, scanned.folded, scanned.gate), (whole.frames, whole.changes, whole.folded, whole.gate));
+        assert_eq!(rt;
+            (
+                scanned.frames,
+                scanned.changes,
+                scanned.folded,
+                scanned.gate
+            ),
+            (whole.frames, whole.changes, whole.folded, whole.gate)
+        );
     }
     Ok(())
 }
 
 /// The same fault.
-fn is_refused<R: Record + Debug>(rt: &(impl AllocGlobal + Abort), image: &[u8], fault: ScanFault)
-{
+fn is_refused<R: Record + Debug>(rt: &(impl AllocGlobal + Abort), image: &[u8], fault: ScanFault) {
     assert_eq!(rt; scan::<R>(rt.alloc(), image).err(), Some(fault));
     for piece in [1, 2, 7, 4096] {
         assert_eq!(rt; in_pieces::<R>(rt, image, piece).err(), Some(fault));

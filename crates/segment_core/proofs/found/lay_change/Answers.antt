@@ -10,7 +10,7 @@ use Rattle.segment_core.proofs.found.lay_change.Goals as goal
 pub overflow_add-end : goal.overflow_add-end
 overflow_add-end g c =
     let fits = run_fits g.R.Record.form.width (length c.args.records.now) c.loop-k.k c.loop-k.at c.width_of-width.result c.record_area-area.result.now c.args.change.now _
-        c.width_of-width.ensures.is c.requires.wide c.record_area-area.ensures.filled c.requires.inside c.run-start.ensures.run c.loop-k.invariant.here in
+    c.width_of-width.ensures.is c.requires.wide c.record_area-area.ensures.filled c.requires.inside c.run-start.ensures.run c.loop-k.invariant.here in
     let within = fits.within in
     let placed = c.first_record-place.ensures.placed in
     let same = ap length c.record_area-area.ensures.bytes in
@@ -19,13 +19,13 @@ overflow_add-end g c =
 pub slice_bounds-lay-end : goal.slice_bounds-lay-end
 slice_bounds-lay-end g c =
     let fits = run_fits g.R.Record.form.width (length c.args.records.now) c.loop-k.k c.loop-k.at c.width_of-width.result c.record_area-area.result.now c.args.change.now _
-        c.width_of-width.ensures.is c.requires.wide c.record_area-area.ensures.filled c.requires.inside c.run-start.ensures.run c.loop-k.invariant.here in
+    c.width_of-width.ensures.is c.requires.wide c.record_area-area.ensures.filled c.requires.inside c.run-start.ensures.run c.loop-k.invariant.here in
     search (rules, fits.within)
 
 pub overflow_add-place : goal.overflow_add-place
 overflow_add-place g c =
     let fits = run_fits g.R.Record.form.width (length c.args.records.now) c.loop-k.k c.loop-k.at c.width_of-width.result c.record_area-area.result.now c.args.change.now _
-        c.width_of-width.ensures.is c.requires.wide c.record_area-area.ensures.filled c.requires.inside c.run-start.ensures.run c.loop-k.invariant.here in
+    c.width_of-width.ensures.is c.requires.wide c.record_area-area.ensures.filled c.requires.inside c.run-start.ensures.run c.loop-k.invariant.here in
     let within = fits.within in
     let placed = c.first_record-place.ensures.placed in
     let same = ap length c.record_area-area.ensures.bytes in
@@ -34,13 +34,13 @@ overflow_add-place g c =
 pub lay-requires-clause-filled : goal.lay-requires-clause-filled
 lay-requires-clause-filled g c κs bounds =
     let fits = run_fits g.R.Record.form.width (length c.args.records.now) c.loop-k.k c.loop-k.at c.width_of-width.result c.record_area-area.result.now c.args.change.now _
-        c.width_of-width.ensures.is c.requires.wide c.record_area-area.ensures.filled c.requires.inside c.run-start.ensures.run c.loop-k.invariant.here in
+    c.width_of-width.ensures.is c.requires.wide c.record_area-area.ensures.filled c.requires.inside c.run-start.ensures.run c.loop-k.invariant.here in
     fits.filled
 
 pub lay-requires-clause-placed : goal.lay-requires-clause-placed
 lay-requires-clause-placed g c κs bounds =
     let fits = run_fits g.R.Record.form.width (length c.args.records.now) c.loop-k.k c.loop-k.at c.width_of-width.result c.record_area-area.result.now c.args.change.now _
-        c.width_of-width.ensures.is c.requires.wide c.record_area-area.ensures.filled c.requires.inside c.run-start.ensures.run c.loop-k.invariant.here in
+    c.width_of-width.ensures.is c.requires.wide c.record_area-area.ensures.filled c.requires.inside c.run-start.ensures.run c.loop-k.invariant.here in
     let within = fits.within in
     let filled = fits.filled in
     let product = ap (λ n. c.run-start.result.1 * n) c.width_of-width.ensures.is in
@@ -51,7 +51,7 @@ lay-requires-clause-placed g c κs bounds =
 pub lay-requires-clause-inside : goal.lay-requires-clause-inside
 lay-requires-clause-inside g c κs bounds =
     let fits = run_fits g.R.Record.form.width (length c.args.records.now) c.loop-k.k c.loop-k.at c.width_of-width.result c.record_area-area.result.now c.args.change.now _
-        c.width_of-width.ensures.is c.requires.wide c.record_area-area.ensures.filled c.requires.inside c.run-start.ensures.run c.loop-k.invariant.here in
+    c.width_of-width.ensures.is c.requires.wide c.record_area-area.ensures.filled c.requires.inside c.run-start.ensures.run c.loop-k.invariant.here in
     omega (arith, c.loop-k.auto.records, fits.inside)
 
 pub loop-k-init : goal.loop-k-init
@@ -68,7 +68,7 @@ loop-k-preserved g c =
     let at : ℕ = c.loop-k.at in
     let k : ℕ = c.loop-k.k in
     let fits = run_fits g.R.Record.form.width (length c.args.records.now) c.loop-k.k c.loop-k.at c.width_of-width.result c.record_area-area.result.now c.args.change.now _
-        c.width_of-width.ensures.is c.requires.wide c.record_area-area.ensures.filled c.requires.inside c.run-start.ensures.run c.loop-k.invariant.here in
+    c.width_of-width.ensures.is c.requires.wide c.record_area-area.ensures.filled c.requires.inside c.run-start.ensures.run c.loop-k.invariant.here in
     let place : ℕ = c.first_record-place.result in
     let start : ℕ = c.run-start.result.0 in
     let count : ℕ = c.run-start.result.1 in
@@ -80,8 +80,8 @@ loop-k-preserved g c =
           let here : StandsAt image place area = subst (λ (bs : List ℕ). StandsAt image place bs) (sym c.record_area-area.ensures.bytes) (subst (λ (p : ℕ). StandsAt image p (record_bytes_of frame)) (sym c.first_record-place.ensures.is) stands) in
           let one = c.in_ok-lay.ensures image (stands_part image place area at size here (omega arith)) in
           laid_run form image (first_record_of c.args.change.now) at k start count (runs_of frame) c.args.records.now c.args.notes.now c.loop-k.records c.loop-k.notes c.lay.new.records c.lay.new.notes
-              c.loop-k.invariant.here fits.more c.lay.auto.records (c.loop-k.invariant.laid image stands)
-              (subst (λ (p : ℕ). IsLaid form image (place_among form.width (p + at) start count) c.loop-k.records c.loop-k.notes c.lay.new.records c.lay.new.notes) c.first_record-place.ensures.is one));
+          c.loop-k.invariant.here fits.more c.lay.auto.records (c.loop-k.invariant.laid image stands)
+          (subst (λ (p : ℕ). IsLaid form image (place_among form.width (p + at) start count) c.loop-k.records c.loop-k.notes c.lay.new.records c.lay.new.notes) c.first_record-place.ensures.is one));
     }
 
 pub returns : goal.returns
@@ -89,4 +89,4 @@ returns g c = λ image stands. (
     let runs : List Run = runs_of c.args.change.now.frame in
     let all : take c.loop-k.k runs ≡ runs = take_all c.loop-k.k runs (omega (arith, c.loop-k-test.false, c.runs-k-end.ensures)) in
     subst (λ (rs : List Run). IsLaid g.R.Record.form image (λ i. place_in_runs g.R.Record.form.width i (first_record_of c.args.change.now) rs) c.args.records.now c.args.notes.now c.loop-k.records c.loop-k.notes) all
-        (c.loop-k.invariant.laid image stands))
+    (c.loop-k.invariant.laid image stands))

@@ -65,7 +65,14 @@ returns-in_default-counts c =
 whole_is : (shape : Shape) (bytes : List ℕ) (kind : FrameKind) (n : ℕ) → n ≡ payload_len_in bytes → 0 < shape.width → IsBytes bytes → IsOpen bytes → 6 ≤ length bytes → kind_byte kind ≡ kind_in bytes → n ≤ limit_of shape.format → 6 + n ≤ length bytes → is_layout shape (kind_byte kind) (take (6 + n - 6) (drop 6 bytes)) ≡ true
     → IsWhole shape bytes (kind_byte kind)
 whole_is shape bytes kind n is wide fits gate long kind_is small whole formed = record {
-  wide = wide; fits = fits; gate = gate; long = long; known = kind_is; one = one_of kind; small = omega arith; whole = omega arith;
+  wide = wide;
+  fits = fits;
+  gate = gate;
+  long = long;
+  known = kind_is;
+  one = one_of kind;
+  small = omega arith;
+  whole = omega arith;
   formed = ap (is_layout shape (kind_byte kind)) (sym (payload_cut bytes n is)) ∙ formed;
 }
 

@@ -8,9 +8,9 @@ pub returns-in_err-records-clause-answer : goal.returns-in_err-records-clause-an
 returns-in_err-records-clause-answer g c =
     let p = err_from_is_err_and c.from_residual-in_err-records.result c.from_residual-in_err-records.ensures.1 in
     rw (p.1, p.2) (λ image fed. (
-      let ended = c.in_ok-check_end.ensures.answer image fed in
-      let whole = is_whole g.R.Record.form image c.args.self ended in
-      refused_at_end g.R.Record.form image c.args.self.walk ended.frames c.in_err-records.field-0.0 whole (c.in_err-records.ensures c.args.self.walk.shape.format ended.frames image ended.behind.found whole.begins)))
+    let ended = c.in_ok-check_end.ensures.answer image fed in
+    let whole = is_whole g.R.Record.form image c.args.self ended in
+    refused_at_end g.R.Record.form image c.args.self.walk ended.frames c.in_err-records.field-0.0 whole (c.in_err-records.ensures c.args.self.walk.shape.format ended.frames image ended.behind.found whole.begins)))
 
 pub returns-clause-answer : goal.returns-clause-answer
 returns-clause-answer g c = λ image fed. (

@@ -23,8 +23,8 @@ returns-in_err-used-clause-err g c =
     let p = err_from_is_err_and c.from_residual.result c.from_residual.ensures.1 in
     let grown : c.extend_from_slice.new.self.items ≡ c.args.self.now.pending.items ++ c.args.bytes.now = c.in-Ok.ensures.items in
     rw (p.1, p.2) (λ image on. (
-      let stands = stands_behind_pending g.R.Record.form image c.args.self.now.pending.items c.args.bytes.now c.deref.result.now c.args.self.now.walk on.stands (c.deref.ensures.value ∙ grown) in
-      refused_by_walk g.R.Record.form (image ++ c.args.bytes.now) c.args.self.now.walk c.in_err-used.field-0.0 (sound_more g.R.Record.form.width c.args.self.now.walk.shape.format image c.args.bytes.now on.sound) on.stands.behind.width_is (c.in_err-used.ensures.err (image ++ c.args.bytes.now) stands)))
+    let stands = stands_behind_pending g.R.Record.form image c.args.self.now.pending.items c.args.bytes.now c.deref.result.now c.args.self.now.walk on.stands (c.deref.ensures.value ∙ grown) in
+    refused_by_walk g.R.Record.form (image ++ c.args.bytes.now) c.args.self.now.walk c.in_err-used.field-0.0 (sound_more g.R.Record.form.width c.args.self.now.walk.shape.format image c.args.bytes.now on.sound) on.stands.behind.width_is (c.in_err-used.ensures.err (image ++ c.args.bytes.now) stands)))
 
 pub returns-in_err-cut_front-in-Short-clause-err : goal.returns-in_err-cut_front-in-Short-clause-err
 returns-in_err-cut_front-in-Short-clause-err g c =
