@@ -94,3 +94,7 @@ LeavesOnly-now old new P leaves = leaves.newest
 -- What is known up to one moment stays known, whatever the calls after it did: also where the disk has not kept the model since.
 pub LeavesOnly-stays_known : (old mid new : List State) (P : List ℕ → Type 0) → LeavesOnly old mid P → Follows mid new → (image : List ℕ) → LeftBetween new (clock old) (clock mid) image → P image
 LeavesOnly-stays_known old mid new P leaves follows image left = leaves.each image (subst (λ states. LeftSince states (clock old) image) (states_at-Follows mid new follows) left)
+
+-- one call more, of which nothing is known: what is known of the moments before it stays known
+pub LeavesOnly-but_newest : (old mid new : List State) (P : List ℕ → Type 0) → LeavesOnly old mid P → AddsMoment mid new → LeavesOnly old (drop 1 new) P
+LeavesOnly-but_newest old mid new P leaves adds = subst (λ states. LeavesOnly old (drop 1 states) P) (sym adds) leaves

@@ -23,6 +23,10 @@ use std::rt::Files;
 /// opened, and those that a failed write left. The contracts of `Disk` hold whatever these are; clauses on bytes, as
 /// long as the answers agree with them. Before the first sync nothing of the file is known to be on the disk.
 ///
+/// What is to hold of files is stated on a function that takes a disk by value, or an open file and a truth, and calls
+/// `over`. Inside the proofs of `open` and `make` the truth is that the file held nothing, so what is stated on a
+/// function that itself calls them is empty for any other file.
+///
 /// **Its user's premise**, which no proof shows, is that the file keeps the model. Nobody else writes, shortens or
 /// replaces it while the disk is in use, or shortened it before without a sync. A read gives what was written last,
 /// and the length is what the writes made it; a write that fails changes nothing outside its range, and leaves a

@@ -1,5 +1,5 @@
 //! Disks over real files, and over files that do a part of what they are asked.
-ghost use Rattle.std.specs.Prelude.{◌≡◌, ◌≤◌, [], ◌∷◌, IfOk};
+ghost use Rattle.std.specs.Prelude.{◌≡◌, ◌≤◌, [], ◌∷◌, IfOk, IsErr};
 ghost use Rattle.disk_core.specs.File.{opened};
 ghost use Rattle.disk_core.specs.FileDisk.{states_of};
 
@@ -172,7 +172,9 @@ struct Watched<'a> {
     syncs: &'a AtomicU64,
 }
 
-fn unsupported<T>() -> io::Result<T> {
+fn unsupported<T>() -> io::Result<T>
+    ensures { IsErr result }
+{
     Err(io::ErrorKind::Unsupported.into())
 }
 

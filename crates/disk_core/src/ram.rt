@@ -2,7 +2,7 @@
 ghost use Rattle.std.specs.Prelude.{◌≡◌, ◌+◌, [], List, ◌∷◌, IfOk};
 ghost use Rattle.disk_core.specs.State.{now, settled, IsImage};
 ghost use Rattle.disk_core.specs.History.{alone, logged_states};
-ghost use Rattle.disk_core.specs.Choice.{IsChosen};
+ghost use Rattle.disk_core.specs.Choice.{IsChosen, pending_count};
 
 use crate::contents::Contents;
 use crate::event::Event;
@@ -56,6 +56,14 @@ impl RamDisk {
         ensures crash_image { IfOk result (λ image. IsImage (now (states_of self.now)) image.items) }
     {
         self.contents.image(self.alloc, *choice)
+    }
+
+    /// How many places a crash now may leave as anything, up to the greatest length since the last sync. Takes no
+    /// memory.
+    pub fn pending(&self) -> u64
+        ensures { result ≡ pending_count (now (states_of self.now)) }
+    {
+        self.contents.pending()
     }
 }
 
