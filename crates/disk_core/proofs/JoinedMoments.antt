@@ -1,6 +1,6 @@
 -- How what calls in a row may leave is joined.
-use Rattle.std.proofs.Common.{◌≡◌, ℕ, ◌≤◌, suc, ◌⊎◌, inl, inr, List, [], ◌∷◌, ◌++◌, length, ◌-◌, drop, length-append, append_assoc, refl, arith, ap, ◌∙◌, subst, sym}
-use Rattle.std.proofs.lemmas.List.{drop_at}
+use Rattle.std.proofs.Common.{◌≡◌, ℕ, ◌≤◌, suc, ◌⊎◌, inl, inr, List, [], ◌∷◌, ◌++◌, length, ◌-◌, take, drop, length-append, append_assoc, refl, arith, ap, ◌∙◌, subst, sym}
+use Rattle.std.proofs.lemmas.List.{drop_at, length-drop, take-append-drop}
 use Rattle.disk_core.specs.State.{State, IsImage, now}
 use Rattle.disk_core.specs.Calls.{AddsMoment}
 use Rattle.disk_core.specs.Moments.{clock, LeftSince, Follows, states_at, LeftBetween, LeavesOnly}
@@ -18,6 +18,18 @@ LeftSince-split (s ∷ fresh) old t image le left =
     elim left.1 [
       | inl newest ↦ inr (passed, inl newest)
       | inr before ↦ elim (LeftSince-split fresh old t image le before) [ inl earlier ↦ inl earlier | inr since ↦ inr (passed, inr since) ]
+    ]
+
+-- the same of any moment in between
+pub LeftSince-between : (states : List State) (t m : ℕ) (image : List ℕ) → t ≤ m → m ≤ clock states → LeftSince states t image → LeftBetween states t m image ⊎ LeftSince states m image
+LeftSince-between states t m image le inside left =
+    let k : ℕ = clock states - m in
+    let old : List State = drop k states in
+    let whole : take k states ++ old ≡ states = take-append-drop k states in
+    let long : clock old ≡ m = omega (arith, inside, length-drop k states) in
+    elim (LeftSince-split (take k states) old t image (omega (arith, le, long)) (subst (λ all. LeftSince all t image) (sym whole) left)) [
+      | inl earlier ↦ inl earlier
+      | inr since ↦ inr (subst (λ n. LeftSince states n image) long (subst (λ all. LeftSince all (clock old) image) whole since))
     ]
 
 -- since the newest moment there is the newest state alone

@@ -1,8 +1,8 @@
 use Rattle.std.proofs.Common.{◌≡◌, ◌⊎◌, inl, inr, List, [], ◌∷◌, Result, Ok, Err, OnOk, OnErr, ◌∙◌, ap, drop, ℕ, refl, sym, subst}
 use Rattle.disk_core.specs.State.{State, now, settled, written}
 use Rattle.disk_core.specs.Calls.{TearsWrite}
-use Rattle.disk_core.specs.Commit.{IsBeforeOrAfter, body_written, body_synced, gate_written, body_failed, body_not_synced, gate_failed, gate_not_synced, all_done}
-use Rattle.disk_core.specs.Moments.{Follows, LeavesOnly}
+use Rattle.disk_core.specs.Commit.{body_synced, gate_written, body_failed, body_not_synced, gate_failed, gate_not_synced, all_done}
+use Rattle.disk_core.specs.Moments.{LeavesOnly}
 use Rattle.disk_core.proofs.JoinedMoments.{Follows-call, Follows-join, LeavesOnly-but_newest}
 use Rattle.disk_core.proofs.CommitLemmas.{commit_leaves, begun, wrote, based, gated}
 use Rattle.disk_core.proofs.commit.commit.Goals as goal
