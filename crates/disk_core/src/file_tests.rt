@@ -4,7 +4,7 @@ ghost use Rattle.disk_core.specs.File.{opened};
 ghost use Rattle.disk_core.specs.FileDisk.{states_of};
 
 use crate::{Disk, DiskFault, FileDisk};
-use std::alloc::Allocator;
+use std::alloc::{Allocator, Global};
 use std::fs::{self, File, Metadata, OpenFile, OpenOptions, Permissions};
 use std::io::{self, Read, Seek, SeekFrom, Write};
 use std::mem::size_of;
@@ -91,7 +91,7 @@ fn places_past_4_gib_are_places_of_their_own(rt: HostRuntime) -> Result<(), Fail
 }
 
 /// Why no disk was opened.
-fn kind_of(answer: io::Result<FileDisk>) -> Option<io::ErrorKind> {
+fn kind_of<F: FileExt + OpenFile + Drop>(answer: io::Result<FileDisk<F>>) -> Option<io::ErrorKind> {
     answer.err().map(|error| error.kind())
 }
 
@@ -159,16 +159,18 @@ fn a_file_is_made_where_a_link_leads(rt: HostRuntime) -> Result<(), Fail> {
 }
 
 /// Files that hold nothing. The path `links/link` is a link to `/deep/target`. How often one folder is synced is
-/// counted.
+/// counted; it may fail each time.
 #[derive(Drop)]
 struct Watch<'a> {
     folder: &'a str,
+    fails: bool,
     syncs: &'a AtomicU64,
 }
 
 #[derive(Drop)]
 struct Watched<'a> {
     is_folder: bool,
+    fails: bool,
     syncs: &'a AtomicU64,
 }
 
@@ -186,6 +188,7 @@ impl<'a> Files for Watch<'a> {
     fn open_file(&self, _how: &OpenOptions, path: &str) -> io::Result<Watched<'a>> {
         Ok(Watched {
             is_folder: path == self.folder,
+            fails: self.fails,
             syncs: self.syncs,
         })
     }
@@ -247,6 +250,9 @@ impl OpenFile for Watched<'_> {
     fn sync_all(&self) -> io::Result<()> {
         if self.is_folder {
             self.syncs.fetch_add(1, Ordering::SeqCst);
+            if self.fails {
+                return Err(io::ErrorKind::StorageFull.into());
+            }
         }
         Ok(())
     }
@@ -288,8 +294,25 @@ impl Seek for Watched<'_> {
     }
 }
 
+/// How often the making of a file syncs this folder, and why no disk was opened.
+fn make_watched(
+    alloc: Global,
+    path: &str,
+    folder: &str,
+    fails: bool,
+) -> (u64, Option<io::ErrorKind>) {
+    let syncs = AtomicU64::new(0);
+    let watch = Watch {
+        folder,
+        fails,
+        syncs: &syncs,
+    };
+    let refused = kind_of(FileDisk::make(&(watch, alloc), path));
+    (syncs.load(Ordering::SeqCst), refused)
+}
+
 #[test]
-fn the_folder_of_a_made_file_is_synced_once(rt: HostRuntime) -> Result<(), Fail> {
+fn the_folder_of_a_made_file_is_synced_or_why_not_is_told(rt: HostRuntime) {
     let cases = [
         ("new", "."),
         ("folder/new", "folder"),
@@ -298,15 +321,10 @@ fn the_folder_of_a_made_file_is_synced_once(rt: HostRuntime) -> Result<(), Fail>
         ("links/link", "/deep"),
     ];
     for (path, folder) in cases {
-        let syncs = AtomicU64::new(0);
-        let watch = Watch {
-            folder,
-            syncs: &syncs,
-        };
-        FileDisk::make(&(watch, rt.alloc()), path)?;
-        assert_eq!(rt; syncs.load(Ordering::SeqCst), 1);
+        assert_eq!(rt; make_watched(rt.alloc(), path, folder, false), (1, None));
+        let full = Some(io::ErrorKind::StorageFull);
+        assert_eq!(rt; make_watched(rt.alloc(), path, folder, true), (1, full));
     }
-    Ok(())
 }
 
 #[test]
