@@ -1,9 +1,11 @@
 -- What each call adds to the places that a crash may leave as anything, and what it takes away.
-use Rattle.std.proofs.Common.{◌≡◌, ℕ, zero, suc, ◌≤◌, ◌<◌, List, [], ◌∷◌, ◌++◌, length, true, false, ◌||◌, Bool, refl, ap, ◌∙◌, arith}
+use Rattle.std.proofs.Common.{◌≡◌, ℕ, zero, suc, ◌≤◌, ◌<◌, List, [], ◌∷◌, ◌++◌, length, true, false, ◌||◌, Bool, Result, Ok, Err, OnOk, OnErr, refl, sym, subst, ap, ◌∙◌, arith}
 use Rattle.std.specs.Prelude.{nat_le, slice_index}
 use Rattle.std.proofs.lemmas.Bool.Decides.{nat_tests}
 use Rattle.disk_core.specs.declared.extent.Extent.{Extent}
-use Rattle.disk_core.specs.State.{State, covers, is_within, settled, touched, IsImage, IsTornWrite}
+use Rattle.disk_core.specs.State.{State, now, covers, is_within, overlay, settled, touched, IsImage, IsTornWrite}
+use Rattle.disk_core.specs.declared.fault.DiskFault.{DiskFault}
+use Rattle.disk_core.specs.Calls.{bytes_of, Stays, Writes, TearsWrite, Settles}
 use Rattle.disk_core.specs.Choice.{is_pending, pending_below, pending_count}
 use Rattle.disk_core.proofs.ImageLemmas.{neither, both}
 
@@ -51,9 +53,29 @@ torn-is_pending at len before after i torn out =
     let parts = neither _ _ out in
     both _ _ (rw (← torn.synced) parts.0) (torn.still_pending i parts.1)
 
+below_synced : (s : State) (i : ℕ) → is_pending s i ≡ false → i < length s.synced
+below_synced s i out =
+    let past : nat_le (length s.synced) i ≡ false = (neither _ _ out).0 in
+    grind (arith, nat_tests)
+
 -- a place that is not pending has the synced byte in each image
 pub unpending_byte : (s : State) (image : List ℕ) (i : ℕ) → IsImage s image → is_pending s i ≡ false → slice_index image i ≡ slice_index s.synced i
-unpending_byte s image i is out =
-    let parts = neither _ _ out in
-    let below : nat_le (length s.synced) i ≡ false = parts.0 in
-    is.each i (grind (arith, nat_tests)) parts.1
+unpending_byte s image i is out = is.each i (below_synced s i out) ((neither _ _ out).1)
+
+-- a place that was not pending is pending after a call only where that call was to write it, whether it failed or not
+module _ (old new : List State) (i : ℕ) (out : is_pending (now old) i ≡ false) where
+  -- a read, or the length
+  pub unpending-stays : Stays old new → is_pending (now new) i ≡ false
+  unpending-stays stays = subst (λ states. is_pending (now states) i ≡ false) (sym stays) out
+
+  pub unpending-write : {T : Type 0} (r : Result T DiskFault) (at : ℕ) (bytes : List ℕ) → OnOk r (Writes at bytes old new) → OnErr r (TearsWrite at (length bytes) old new)
+      → covers (record { at = at; len = length bytes }) i ≡ false → is_pending (now new) i ≡ false
+  unpending-write (Ok value) at bytes done torn past =
+      subst (λ states. is_pending (now states) i ≡ false) (sym done) (is_pending-touched (now old) at (length bytes) (overlay (bytes_of old) at bytes) i ∙ both _ _ out past)
+  unpending-write (Err fault) at bytes done torn past =
+      subst (λ states. is_pending (now states) i ≡ false) (sym torn.1) (is_pending-torn at (length bytes) (now old) torn.0 i torn.2 out past)
+
+  pub unpending-sync : {T : Type 0} (r : Result T DiskFault) → OnOk r (Settles old new) → OnErr r (Stays old new) → IsImage (now old) (bytes_of old) → is_pending (now new) i ≡ false
+  unpending-sync (Ok value) done same readable =
+      subst (λ states. is_pending (now states) i ≡ false) (sym done) (is_pending-settled (bytes_of old) i (omega (arith, below_synced (now old) i out, readable.no_shorter)))
+  unpending-sync (Err fault) done same readable = unpending-stays same
