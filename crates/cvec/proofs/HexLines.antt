@@ -1,9 +1,9 @@
 -- What is no hex line.
-use Rattle.std.proofs.Common.{◌≡◌, ℕ, List, [], ◌∷◌, ◌++◌, Ok, Err, true, sym, ap, ◌∙◌, inl, inr}
-use Rattle.std.specs.Prelude.{All}
+use Rattle.std.proofs.Common.{◌≡◌, ℕ, List, [], ◌∷◌, ◌++◌, Ok, Err, true, refl, sym, ap, ◌∙◌, inl, inr}
+use Rattle.std.specs.Prelude.{All, slice_index, ◌/◌, ◌%◌}
 use Rattle.std.proofs.lemmas.List.{append_cancel_right}
 use Rattle.std.proofs.lemmas.List.Elements.{All-head, All-tail}
-use Rattle.hex.specs.Hex.{decode_of, is_hex_digit}
+use Rattle.hex.specs.Hex.{decode_of, is_hex_digit, encode_with, encode_lower, lower_digits}
 use Rattle.hex.specs.declared.error.FromHexError.{FromHexError}
 use Rattle.hex.proofs.HexLemmas.{decode_of-ok}
 use Rattle.cvec.specs.HexLine.{IsHexLine, IsWithoutLf}
@@ -30,3 +30,17 @@ no_hex_line input front fault bytes (inr whole) refused line = elim line.line [
   | inl is ↦ read_and_refused front bytes fault (ap decode_of (sym whole.0 ∙ is) ∙ line.spelled) refused
   | inr is ↦ whole.1 line.digits is
 ]
+
+-- ---- hex piece by piece
+
+encode_with-append : (digits xs ys : List ℕ) → encode_with digits (xs ++ ys) ≡ encode_with digits xs ++ encode_with digits ys
+unfolding encode_with
+encode_with-append digits [] ys = refl
+encode_with-append digits (b ∷ xs) ys = ap (λ (text : List ℕ). slice_index digits (b / 16) ∷ slice_index digits (b % 16) ∷ text) (encode_with-append digits xs ys)
+
+pub encode_lower-append : (xs ys : List ℕ) → encode_lower (xs ++ ys) ≡ encode_lower xs ++ encode_lower ys
+encode_lower-append xs ys = encode_with-append lower_digits xs ys
+
+pub encode_lower-nil : encode_lower [] ≡ []
+unfolding encode_with
+encode_lower-nil = refl

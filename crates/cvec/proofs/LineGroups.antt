@@ -3,52 +3,53 @@ use Rattle.std.proofs.Common.{◌≡◌, ℕ, ◌+◌, ◌<◌, ◌≤◌, List,
 use Rattle.std.specs.Prelude.{MatchOption}
 use Rattle.std.specs.List.{AllByRecursion}
 use Rattle.std.proofs.lemmas.List.{append_assoc, append-nil, length-append, map-append, length-map}
+use Rattle.cvec.specs.Text.{Spelling}
 use Rattle.cvec.specs.Lines.{HasNoLf, AreLines}
 use Rattle.cvec.specs.GroupLine.{group_line, IsGroup, IsGroupLineOf, IsGroupLine, AreGroupLines, IsFirstBadLine}
 use Rattle.cvec.proofs.LineLemmas.{Continues, Continues_start, Continues_cut, after_cut, no_lines, lines_in}
 
 -- these groups are read, and the rest is left
-pub record HasGroups {R : Type 0} (is_value : R → Type 0) (text_of : R → List ℕ) (input : List ℕ) (groups : List (List (List R))) (rest : List ℕ) : Type 0 where
-  pub each : AllByRecursion (IsGroup is_value) groups
-  pub lines : Continues input (map (group_line text_of) groups) rest
+pub record HasGroups {R : Type 0} (spelling : Spelling R) (input : List ℕ) (groups : List (List (List R))) (rest : List ℕ) : Type 0 where
+  pub each : AllByRecursion (IsGroup spelling.is_value) groups
+  pub lines : Continues input (map (group_line spelling.text_of) groups) rest
   pub shorter : length groups + length rest ≤ length input
 
-pub HasGroups_start : {R : Type 0} (is_value : R → Type 0) (text_of : R → List ℕ) (input : List ℕ) → HasGroups is_value text_of input [] input
-HasGroups_start is_value text_of input = record { each = tt; lines = Continues_start input; shorter = omega arith }
+pub HasGroups_start : {R : Type 0} (spelling : Spelling R) (input : List ℕ) → HasGroups spelling input [] input
+HasGroups_start spelling input = record { each = tt; lines = Continues_start input; shorter = omega arith }
 
 push_all : {X : Type 0} (P : X → Type 0) (xs : List X) (x : X) → AllByRecursion P xs → P x → AllByRecursion P (xs ++ x ∷ [])
 push_all P [] x all one = (one, tt)
 push_all P (y ∷ xs) x all one = (all.0, push_all P xs x all.1 one)
 
-pub HasGroups_more : {R : Type 0} (is_value : R → Type 0) (text_of : R → List ℕ) (input : List ℕ) (groups : List (List (List R))) (group : List (List R)) (text line : List ℕ) (rest : Option (List ℕ)) → 0 < length text → MatchOption rest (text ≡ line) (λ after. text ≡ line ++ 10 ∷ after) → HasNoLf line
-    → length (after_cut rest) < length text → IsGroupLineOf is_value text_of line group → HasGroups is_value text_of input groups text → HasGroups is_value text_of input (groups ++ group ∷ []) (after_cut rest)
-HasGroups_more is_value text_of input groups group text line rest some whole plain less read before = record {
-  each = push_all (IsGroup is_value) groups group before.each read.group;
-  lines = subst (λ (ls : List (List ℕ)). Continues input ls (after_cut rest)) (ap (λ (l : List ℕ). map (group_line text_of) groups ++ l ∷ []) read.text ∙ sym (map-append (group_line text_of) groups (group ∷ []))) (Continues_cut input (map (group_line text_of) groups) text line rest some whole plain before.lines);
+pub HasGroups_more : {R : Type 0} (spelling : Spelling R) (input : List ℕ) (groups : List (List (List R))) (group : List (List R)) (text line : List ℕ) (rest : Option (List ℕ)) → 0 < length text → MatchOption rest (text ≡ line) (λ after. text ≡ line ++ 10 ∷ after) → HasNoLf line
+    → length (after_cut rest) < length text → IsGroupLineOf spelling line group → HasGroups spelling input groups text → HasGroups spelling input (groups ++ group ∷ []) (after_cut rest)
+HasGroups_more spelling input groups group text line rest some whole plain less read before = record {
+  each = push_all (IsGroup spelling.is_value) groups group before.each read.group;
+  lines = subst (λ (ls : List (List ℕ)). Continues input ls (after_cut rest)) (ap (λ (l : List ℕ). map (group_line spelling.text_of) groups ++ l ∷ []) read.text ∙ sym (map-append (group_line spelling.text_of) groups (group ∷ []))) (Continues_cut input (map (group_line spelling.text_of) groups) text line rest some whole plain before.lines);
   shorter = let len = length-append groups (group ∷ []) in let past = before.shorter in omega (arith, len, past, less);
 }
 
-pub HasGroups_all : {R : Type 0} (is_value : R → Type 0) (text_of : R → List ℕ) (input : List ℕ) (groups : List (List (List R))) (rest : List ℕ) → rest ≡ [] → HasGroups is_value text_of input groups rest → AreGroupLines is_value text_of input groups
-HasGroups_all is_value text_of input groups rest none so = record {
+pub HasGroups_all : {R : Type 0} (spelling : Spelling R) (input : List ℕ) (groups : List (List (List R))) (rest : List ℕ) → rest ≡ [] → HasGroups spelling input groups rest → AreGroupLines spelling input groups
+HasGroups_all spelling input groups rest none so = record {
   each = so.each;
-  lines = subst (AreLines input) (append-nil (map (group_line text_of) groups)) (so.lines [] (rw none no_lines));
+  lines = subst (AreLines input) (append-nil (map (group_line spelling.text_of) groups)) (so.lines [] (rw none no_lines));
 }
 
-are_group_lines : {R : Type 0} (is_value : R → Type 0) (text_of : R → List ℕ) (groups : List (List (List R))) → AllByRecursion (IsGroup is_value) groups → AllByRecursion (IsGroupLine is_value text_of) (map (group_line text_of) groups)
-are_group_lines is_value text_of [] all = tt
-are_group_lines is_value text_of (group ∷ groups) all = ((group, record { group = all.0; text = refl }), are_group_lines is_value text_of groups all.1)
+are_group_lines : {R : Type 0} (spelling : Spelling R) (groups : List (List (List R))) → AllByRecursion (IsGroup spelling.is_value) groups → AllByRecursion (IsGroupLine spelling) (map (group_line spelling.text_of) groups)
+are_group_lines spelling [] all = tt
+are_group_lines spelling (group ∷ groups) all = ((group, record { group = all.0; text = refl }), are_group_lines spelling groups all.1)
 
-pub first_bad : {R : Type 0} (is_value : R → Type 0) (text_of : R → List ℕ) (input : List ℕ) (groups : List (List (List R))) (text line : List ℕ) (rest : Option (List ℕ)) (n : ℕ) → 0 < length text → MatchOption rest (text ≡ line) (λ after. text ≡ line ++ 10 ∷ after) → HasNoLf line
-    → (IsGroupLine is_value text_of line → ⊥) → n ≡ length groups + 1 → HasGroups is_value text_of input groups text → IsFirstBadLine is_value text_of input n
-first_bad is_value text_of input groups text line rest n some whole plain bad place so =
-    let front = map (group_line text_of) groups in
+pub first_bad : {R : Type 0} (spelling : Spelling R) (input : List ℕ) (groups : List (List (List R))) (text line : List ℕ) (rest : Option (List ℕ)) (n : ℕ) → 0 < length text → MatchOption rest (text ≡ line) (λ after. text ≡ line ++ 10 ∷ after) → HasNoLf line
+    → (IsGroupLine spelling line → ⊥) → n ≡ length groups + 1 → HasGroups spelling input groups text → IsFirstBadLine spelling input n
+first_bad spelling input groups text line rest n some whole plain bad place so =
+    let front = map (group_line spelling.text_of) groups in
     let left = lines_in (after_cut rest) in
     record {
       front = front;
       line = line;
       more = left.0;
       lines = subst (AreLines input) (append_assoc front (line ∷ []) left.0) (Continues_cut input front text line rest some whole plain so.lines left.0 left.1);
-      place = place ∙ ap (λ n. n + 1) (sym (length-map groups (group_line text_of)));
-      before = are_group_lines is_value text_of groups so.each;
+      place = place ∙ ap (λ n. n + 1) (sym (length-map groups (group_line spelling.text_of)));
+      before = are_group_lines spelling groups so.each;
       bad = bad;
     }

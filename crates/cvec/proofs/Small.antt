@@ -1,6 +1,6 @@
 -- Small facts on results and lists.
-use Rattle.std.proofs.Common.{◌≡◌, Bool, true, cond, List, [], ◌∷◌, ◌++◌, length, Option, Some, None, Result, Ok, Err, refl, sym, ap, ◌∙◌, arith}
-use Rattle.std.specs.Prelude.{is_ok, OnOk, IfNone, IsErrAnd}
+use Rattle.std.proofs.Common.{◌≡◌, ◌≢◌, ◌<◌, Bool, true, false, List, [], ◌∷◌, length, Option, Some, None, Result, Ok, Err, refl, sym, ◌∙◌, arith}
+use Rattle.std.specs.Prelude.{is_ok, OnOk, IfSome, IfNone, IsErrAnd, IsTrue}
 
 pub OnOk_from : {T E : Type 0} (r : Result T E) (P : Type 0) → (is_ok r ≡ true → P) → OnOk r P
 OnOk_from (Ok t) P f = f refl
@@ -15,9 +15,26 @@ pub nil_from_length : {X : Type 0} (xs : List X) → length xs ≡ 0 → xs ≡ 
 nil_from_length [] none = refl
 nil_from_length (x ∷ xs) none = absurd (omega arith)
 
-pub pushed_items : {X T E : Type 0} (r : Result T E) (xs ys : List X) (x : X) → ys ≡ cond (is_ok r) (xs ++ x ∷ []) xs → is_ok r ≡ true → ys ≡ xs ++ x ∷ []
-pushed_items r xs ys x is ok = is ∙ ap (λ (b : Bool). cond b (xs ++ x ∷ []) xs) ok
-
 pub IfNone_from : {T : Type 0} (o : Option T) (P : Type 0) → P → IfNone o P
 IfNone_from None P so = so
 IfNone_from (Some t) P so = tt
+
+pub OnOk_at : {T E : Type 0} (r : Result T E) (P : Type 0) → OnOk r P → is_ok r ≡ true → P
+OnOk_at (Ok t) P so ok = so
+OnOk_at (Err e) P so ok = absurd cc
+
+pub IfSome_weaker : {T : Type 0} (o : Option T) (P Q : T → Type 0) → ((t : T) → P t → Q t) → IfSome o P → IfSome o Q
+IfSome_weaker None P Q f so = tt
+IfSome_weaker (Some t) P Q f so = f t so
+
+not_nil : {X : Type 0} (x : X) (xs : List X) → x ∷ xs ≢ []
+not_nil x xs is = cc is
+
+-- a list of which a test says that something stands in it, or nothing
+pub nil_from_test : {X : Type 0} (xs : List X) (b : Bool) → b ≡ false → (xs ≢ [] → IsTrue b) → xs ≡ []
+nil_from_test [] b none some = refl
+nil_from_test (x ∷ xs) b none some = let is : false ≡ true = sym none ∙ some (not_nil x xs) in absurd cc
+
+pub some_from_test : {X : Type 0} (xs : List X) (b : Bool) → b ≡ true → (IsTrue b → xs ≢ []) → 0 < length xs
+some_from_test [] b is some = absurd (some is refl)
+some_from_test (x ∷ xs) b is some = omega arith

@@ -1,7 +1,7 @@
 -- Group lines: growths with a bar between each two, a growth's records with a space between each two.
 use Rattle.std.specs.Prelude.{◌≡◌, ℕ, ◌+◌, ◌<◌, List, ◌∷◌, ◌++◌, length, map, codes}
 use Rattle.std.specs.List.{AllByRecursion}
-use Rattle.cvec.specs.Text.{joined_by}
+use Rattle.cvec.specs.Text.{Spelling, joined_by}
 use Rattle.cvec.specs.Lines.{AreLines}
 
 abbrev pub growth_text : {R : Type 0} → (R → List ℕ) → List R → List ℕ
@@ -17,24 +17,24 @@ pub record IsGroup {R : Type 0} (is_value : R → Type 0) (growths : List (List 
   pub values : AllByRecursion (AllByRecursion is_value) growths
 
 -- the line is the text of these growths
-pub record IsGroupLineOf {R : Type 0} (is_value : R → Type 0) (text_of : R → List ℕ) (line : List ℕ) (growths : List (List R)) : Type 0 where
-  pub group : IsGroup is_value growths
-  pub text : line ≡ group_line text_of growths
+pub record IsGroupLineOf {R : Type 0} (spelling : Spelling R) (line : List ℕ) (growths : List (List R)) : Type 0 where
+  pub group : IsGroup spelling.is_value growths
+  pub text : line ≡ group_line spelling.text_of growths
 
-abbrev pub IsGroupLine : {R : Type 0} → (R → Type 0) → (R → List ℕ) → List ℕ → Type 0
-IsGroupLine {R} is_value text_of line = (growths : List (List R)) × IsGroupLineOf is_value text_of line growths
+abbrev pub IsGroupLine : {R : Type 0} → Spelling R → List ℕ → Type 0
+IsGroupLine {R} spelling line = (growths : List (List R)) × IsGroupLineOf spelling line growths
 
 -- the lines of the input are the texts of these groups, one each
-pub record AreGroupLines {R : Type 0} (is_value : R → Type 0) (text_of : R → List ℕ) (input : List ℕ) (groups : List (List (List R))) : Type 0 where
-  pub each : AllByRecursion (IsGroup is_value) groups
-  pub lines : AreLines input (map (group_line text_of) groups)
+pub record AreGroupLines {R : Type 0} (spelling : Spelling R) (input : List ℕ) (groups : List (List (List R))) : Type 0 where
+  pub each : AllByRecursion (IsGroup spelling.is_value) groups
+  pub lines : AreLines input (map (group_line spelling.text_of) groups)
 
 -- line n, counted from 1, is the first that is no group line
-pub record IsFirstBadLine {R : Type 0} (is_value : R → Type 0) (text_of : R → List ℕ) (input : List ℕ) (n : ℕ) : Type 0 where
+pub record IsFirstBadLine {R : Type 0} (spelling : Spelling R) (input : List ℕ) (n : ℕ) : Type 0 where
   pub front : List (List ℕ)
   pub line : List ℕ
   pub more : List (List ℕ)
   pub lines : AreLines input (front ++ line ∷ more)
   pub place : n ≡ length front + 1
-  pub before : AllByRecursion (IsGroupLine is_value text_of) front
-  pub bad : ¬ (IsGroupLine is_value text_of line)
+  pub before : AllByRecursion (IsGroupLine spelling) front
+  pub bad : ¬ (IsGroupLine spelling line)

@@ -6,7 +6,7 @@ use Rattle.std.proofs.Common.{sym, ap, ◌∙◌, lit≤}
 use Rattle.record_core.specs.Bytes.{Parts, pair_parts, flagged_parts}
 use Rattle.record_core.specs.declared.key_value.Pair.{Pair}
 use Rattle.record_core.specs.declared.key_flag.Flagged.{Flagged}
-use Rattle.cvec.specs.Text.{IsWord}
+use Rattle.cvec.specs.Text.{Spelling, AreWords, HasOneValue, IsWord}
 use Rattle.cvec.specs.Numbers.{IsWord-decimal, one_decimal}
 use Rattle.cvec.specs.SignedNumbers.{IsWord-signed, one_signed}
 use Rattle.cvec.specs.Flags.{flag_text, IsWord-flag, one_flag}
@@ -41,10 +41,13 @@ IsPair pair = (pair.key < 2 ^ 64) × FitsSigned w64 pair.value
 abbrev pub pair_text : Pair → List ℕ
 pair_text pair = keyed_text pair.key (signed_decimal pair.value)
 
-pub IsWord-pair : (pair : Pair) → IsPair pair → IsWord (pair_text pair)
+abbrev pub pair_spelling : Spelling Pair
+pair_spelling = record { is_value = IsPair; text_of = pair_text }
+
+pub IsWord-pair : AreWords pair_spelling
 IsWord-pair pair so = IsWord-keyed pair.key (signed_decimal pair.value) so.0 (IsWord-signed pair.value so.1)
 
-pub one_pair : (p q : Pair) → IsPair p → IsPair q → pair_text p ≡ pair_text q → p ≡ q
+pub one_pair : HasOneValue pair_spelling
 one_pair p q so other same =
     let key = one_key p.key q.key (signed_decimal p.value) (signed_decimal q.value) so.0 other.0 same in
     let value = one_signed p.value q.value so.1 other.1 (one_behind p.key q.key (signed_decimal p.value) (signed_decimal q.value) so.0 other.0 same) in
@@ -58,10 +61,13 @@ IsFlagged flagged = flagged.key < 2 ^ 64
 abbrev pub flagged_text : Flagged → List ℕ
 flagged_text flagged = keyed_text flagged.key (flag_text flagged.flag)
 
-pub IsWord-flagged : (flagged : Flagged) → IsFlagged flagged → IsWord (flagged_text flagged)
+abbrev pub flagged_spelling : Spelling Flagged
+flagged_spelling = record { is_value = IsFlagged; text_of = flagged_text }
+
+pub IsWord-flagged : AreWords flagged_spelling
 IsWord-flagged flagged small = IsWord-keyed flagged.key (flag_text flagged.flag) small (IsWord-flag flagged.flag)
 
-pub one_flagged : (f g : Flagged) → IsFlagged f → IsFlagged g → flagged_text f ≡ flagged_text g → f ≡ g
+pub one_flagged : HasOneValue flagged_spelling
 one_flagged f g small other same =
     let key = one_key f.key g.key (flag_text f.flag) (flag_text g.flag) small other same in
     let flag = one_flag f.flag g.flag (one_behind f.key g.key (flag_text f.flag) (flag_text g.flag) small other same) in

@@ -9,7 +9,9 @@ pub mod GroupLine
 pub mod Words
 pub mod HexLine
 pub mod Refusals
+pub mod Drafts
 pub mod Engines
 pub mod Request
 pub mod Runs
 pub mod Status
+pub mod Usage

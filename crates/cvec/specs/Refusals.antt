@@ -1,5 +1,6 @@
 -- The names of refusals, and when each of them is right.
-use Rattle.std.specs.Prelude.{◌≡◌, ℕ, ◌+◌, ◌<◌, List, ◌++◌, length, codes, decimal, Option}
+use Rattle.std.specs.Prelude.{◌≡◌, ℕ, ◌+◌, ◌<◌, List, ◌++◌, length, codes, decimal}
+use Rattle.record_core.specs.Bytes.{Encoding}
 use Rattle.segment_core.specs.declared.fault.Cause.{Cause}
 use Rattle.segment_core.specs.declared.fault.Cause.TheVariants.{NoGate, ShortFrame, Kind, TooLarge, Layout, Range, Unfolded, FoldCount, TooLong, BadRecord}
 use Rattle.segment_core.specs.declared.fault.ScanFault.{ScanFault}
@@ -11,7 +12,7 @@ use Rattle.cvec.specs.declared.refusal.Refusal.{Refusal}
 use Rattle.cvec.specs.declared.refusal.Refusal.TheVariants as refusals
 use Rattle.cvec.specs.GroupLine.{AreGroupLines, IsFirstBadLine}
 use Rattle.cvec.specs.HexLine.{IsHexLine}
-use Rattle.cvec.specs.Text.{ended_line}
+use Rattle.cvec.specs.Text.{Spelling, ended_line}
 
 abbrev pub cause_name : Cause → List ℕ
 cause_name NoGate = codes "no gate"
@@ -60,26 +61,16 @@ IsInputRefusal input (refusals.Line n) = ⊥
 IsInputRefusal input (refusals.TooLargeAtLine n) = ⊥
 IsInputRefusal input refusals.NotHex = ⊥
 
--- lines were refused
-abbrev pub IsLineRefusal : {R : Type 0} → (R → Type 0) → (R → List ℕ) → List ℕ → Refusal → Type 0
-IsLineRefusal is_value text_of input (refusals.Line n) = IsFirstBadLine is_value text_of input n
-IsLineRefusal is_value text_of input refusals.Memory = Unit {0}
-IsLineRefusal is_value text_of input refusals.InputTooLong = ⊥
-IsLineRefusal is_value text_of input refusals.Input = ⊥
-IsLineRefusal is_value text_of input (refusals.Scan fault) = ⊥
-IsLineRefusal is_value text_of input (refusals.TooLargeAtLine n) = ⊥
-IsLineRefusal is_value text_of input refusals.NotHex = ⊥
-
 -- an input of group lines was refused
-abbrev pub IsImageRefusal : {R : Type 0} → ℕ → (R → Type 0) → (R → List ℕ) → List ℕ → Refusal → Type 0
-IsImageRefusal width is_value text_of input (refusals.Line n) = IsFirstBadLine is_value text_of input n
-IsImageRefusal {R} width is_value text_of input (refusals.TooLargeAtLine n) =
-    (groups : List (List (List R))) × (k : ℕ) × AreGroupLines is_value text_of input groups × IsImageRefused width groups (image_faults.TooLarge k) × (n ≡ k + 1)
-IsImageRefusal width is_value text_of input refusals.InputTooLong = input_limit < length input
-IsImageRefusal width is_value text_of input refusals.Input = Unit {0}
-IsImageRefusal width is_value text_of input refusals.Memory = Unit {0}
-IsImageRefusal width is_value text_of input (refusals.Scan fault) = ⊥
-IsImageRefusal width is_value text_of input refusals.NotHex = ⊥
+abbrev pub IsImageRefusal : {R : Type 0} → Encoding R → Spelling R → List ℕ → Refusal → Type 0
+IsImageRefusal form spelling input (refusals.Line n) = IsFirstBadLine spelling input n
+IsImageRefusal {R} form spelling input (refusals.TooLargeAtLine n) =
+    (groups : List (List (List R))) × (k : ℕ) × AreGroupLines spelling input groups × IsImageRefused form.width groups (image_faults.TooLarge k) × (n ≡ k + 1)
+IsImageRefusal form spelling input refusals.InputTooLong = input_limit < length input
+IsImageRefusal form spelling input refusals.Input = Unit {0}
+IsImageRefusal form spelling input refusals.Memory = Unit {0}
+IsImageRefusal form spelling input (refusals.Scan fault) = ⊥
+IsImageRefusal form spelling input refusals.NotHex = ⊥
 
 -- a hex line was refused
 abbrev pub IsHexRefusal : List ℕ → Refusal → Type 0
@@ -92,11 +83,11 @@ IsHexRefusal input (refusals.TooLargeAtLine n) = ⊥
 IsHexRefusal input (refusals.Scan fault) = ⊥
 
 -- an input of hex was refused
-abbrev pub IsShowRefusal : {R : Type 0} → ℕ → (List ℕ → Option R) → List ℕ → Refusal → Type 0
-IsShowRefusal width value_of input (refusals.Scan fault) = (bytes : List ℕ) × IsHexLine input bytes × IsRefused width value_of bytes fault
-IsShowRefusal width value_of input refusals.NotHex = (bytes : List ℕ) → ¬ (IsHexLine input bytes)
-IsShowRefusal width value_of input refusals.InputTooLong = input_limit < length input
-IsShowRefusal width value_of input refusals.Input = Unit {0}
-IsShowRefusal width value_of input refusals.Memory = Unit {0}
-IsShowRefusal width value_of input (refusals.Line n) = ⊥
-IsShowRefusal width value_of input (refusals.TooLargeAtLine n) = ⊥
+abbrev pub IsShowRefusal : {R : Type 0} → Encoding R → List ℕ → Refusal → Type 0
+IsShowRefusal form input (refusals.Scan fault) = (bytes : List ℕ) × IsHexLine input bytes × IsRefused form bytes fault
+IsShowRefusal form input refusals.NotHex = (bytes : List ℕ) → ¬ (IsHexLine input bytes)
+IsShowRefusal form input refusals.InputTooLong = input_limit < length input
+IsShowRefusal form input refusals.Input = Unit {0}
+IsShowRefusal form input refusals.Memory = Unit {0}
+IsShowRefusal form input (refusals.Line n) = ⊥
+IsShowRefusal form input (refusals.TooLargeAtLine n) = ⊥

@@ -1,5 +1,6 @@
 -- Group lines word by word.
 use Rattle.std.specs.Prelude.{◌≡◌, ◌≢◌, ℕ, ◌<◌, List, [], ◌∷◌, ◌++◌, length, codes, ◌⊎◌}
+use Rattle.cvec.specs.Text.{Spelling}
 
 -- a bar behind a record ends the growth
 pub record EndsGrowth {R : Type 0} (word : List ℕ) (growths : List (List R)) (growth : List R) (new_growths : List (List R)) (new_growth : List R) : Type 0 where
@@ -9,18 +10,18 @@ pub record EndsGrowth {R : Type 0} (word : List ℕ) (growths : List (List R)) (
   pub fresh : new_growth ≡ []
 
 -- the text of a record brings it into the growth
-pub record BringsRecord {R : Type 0} (is_value : R → Type 0) (text_of : R → List ℕ) (word : List ℕ) (growths : List (List R)) (growth : List R) (new_growths : List (List R)) (new_growth : List R) : Type 0 where
+pub record BringsRecord {R : Type 0} (spelling : Spelling R) (word : List ℕ) (growths : List (List R)) (growth : List R) (new_growths : List (List R)) (new_growth : List R) : Type 0 where
   pub record_read : R
-  pub value : is_value record_read
-  pub text : text_of record_read ≡ word
+  pub value : spelling.is_value record_read
+  pub text : spelling.text_of record_read ≡ word
   pub same : new_growths ≡ growths
   pub brought : new_growth ≡ growth ++ record_read ∷ []
 
-abbrev pub TakesWord : {R : Type 0} → (R → Type 0) → (R → List ℕ) → List ℕ → List (List R) → List R → List (List R) → List R → Type 0
-TakesWord is_value text_of word growths growth new_growths new_growth =
-    EndsGrowth word growths growth new_growths new_growth ⊎ BringsRecord is_value text_of word growths growth new_growths new_growth
+abbrev pub TakesWord : {R : Type 0} → Spelling R → List ℕ → List (List R) → List R → List (List R) → List R → Type 0
+TakesWord spelling word growths growth new_growths new_growth =
+    EndsGrowth word growths growth new_growths new_growth ⊎ BringsRecord spelling word growths growth new_growths new_growth
 
 -- a bar that ends no growth, or the text of no record
-abbrev pub IsStrayWord : {R : Type 0} → (R → Type 0) → (R → List ℕ) → List ℕ → List R → Type 0
-IsStrayWord {R} is_value text_of word growth =
-    ((word ≡ codes "|") × (growth ≡ [])) ⊎ ((word ≢ codes "|") × ((r : R) → is_value r → text_of r ≢ word))
+abbrev pub IsStrayWord : {R : Type 0} → Spelling R → List ℕ → List R → Type 0
+IsStrayWord {R} spelling word growth =
+    ((word ≡ codes "|") × (growth ≡ [])) ⊎ ((word ≢ codes "|") × ((r : R) → spelling.is_value r → spelling.text_of r ≢ word))

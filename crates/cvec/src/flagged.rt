@@ -2,7 +2,7 @@
 
 ghost use Rattle.std.specs.Prelude.{◌≡◌, ◌≢◌, Bool, IfSome, IfNone};
 ghost use Rattle.cvec.specs.Flags.{flag_text};
-ghost use Rattle.cvec.specs.Keyed.{IsFlagged, flagged_text, IsWord-flagged, one_flagged};
+ghost use Rattle.cvec.specs.Keyed.{flagged_spelling, IsWord-flagged, one_flagged};
 
 use crate::halves::halves_of;
 use crate::text::TextRecord;
@@ -23,9 +23,7 @@ fn flag_of_text(text: &[u8]) -> Option<bool>
 }
 
 impl TextRecord for Flagged {
-    ghost is_value = { IsFlagged };
-
-    ghost text_of = { flagged_text };
+    ghost spelling = { flagged_spelling };
 
     fn parse(text: &[u8]) -> Option<Flagged> {
         let (key_text, flag_text) = halves_of(text)?;

@@ -1,13 +1,11 @@
 //! One group line: growths with a bar between each two, a growth's records with a space between each two.
 
-ghost use Rattle.std.specs.Prelude.{◌≡◌, ◌≢◌, ◌∷◌, ◌++◌, ℕ, List, All, MatchOption, OnOk, IfOk};
-ghost use Rattle.segment_core.specs.Written.{growths_of};
+ghost use Rattle.std.specs.Prelude.{◌≡◌, ◌≢◌, ◌∷◌, ◌++◌, All, MatchOption, OnOk};
 ghost use Rattle.cvec.specs.GroupLine.{IsGroupLine, IsGroupLineOf};
 ghost use Rattle.cvec.specs.Words.{TakesWord, IsStrayWord};
 
 use crate::text::TextRecord;
-use std::alloc::{AllocError, Global};
-use std::mem;
+use segment_core::Growths;
 
 const BAR: &[u8] = b"|";
 
@@ -32,42 +30,34 @@ pub fn cut(text: &[u8], separator: u8) -> (&[u8], Option<&[u8]>)
 }
 
 /// Takes in one word of a group line: a bar ends the growth, and any other word is a record of it.
-fn take_word<R: TextRecord>(
-    alloc: Global,
-    word: &[u8],
-    growths: &mut Vec<Vec<R>>,
-    growth: &mut Vec<R>,
-) -> Result<(), LineFault>
-    ensures ok { OnOk result (TakesWord R.is_value R.text_of word.now (growths_of growths.old.items) growth.old.items (growths_of growths.new.items) growth.new.items) }
-    ensures bad { result ≡ Err LineFault.Bad → IsStrayWord R.is_value R.text_of word.now growth.old.items }
+fn take_word<R: TextRecord>(word: &[u8], group: &mut Growths<R>) -> Result<(), LineFault>
+    ensures ok { OnOk result (TakesWord R.spelling word.now group.old.0 group.old.1 group.new.0 group.new.1) }
+    ensures bad { result ≡ Err LineFault.Bad → IsStrayWord R.spelling word.now group.old.1 }
 {
     if word != BAR {
         let record = R::parse(word).ok_or(LineFault::Bad)?;
-        return growth.push(record).map_err(|_| LineFault::Memory);
+        return group.push(record).map_err(|_| LineFault::Memory);
     }
-    if growth.is_empty() {
+    if !group.is_begun() {
         return Err(LineFault::Bad);
     }
-    let whole = mem::replace(growth, Vec::new(alloc));
-    growths.push(whole).map_err(|_| LineFault::Memory)
+    group.end().map_err(|_| LineFault::Memory)
 }
 
-/// The growths that a group line spells.
-pub fn group_of_line<R: TextRecord>(alloc: Global, line: &[u8]) -> Result<Vec<Vec<R>>, LineFault>
-    ensures read { IfOk result (λ growths. IsGroupLineOf R.is_value R.text_of line.now (growths_of growths.items)) }
-    ensures bad { result ≡ Err LineFault.Bad → ¬ (IsGroupLine R.is_value R.text_of line.now) }
+/// Reads the growths that a group line spells, in place of those that stood there.
+pub fn read_group<R: TextRecord>(line: &[u8], group: &mut Growths<R>) -> Result<(), LineFault>
+    ensures read { OnOk result (IsGroupLineOf R.spelling line.now group.new.0) }
+    ensures bad { result ≡ Err LineFault.Bad → ¬ (IsGroupLine R.spelling line.now) }
 {
-    let mut growths = Vec::new(alloc);
-    let mut last = Vec::new(alloc);
+    group.clear();
     let mut rest = Some(line);
     while let Some(text) = rest {
         let (word, after) = cut(text, b' ');
-        take_word(alloc, word, &mut growths, &mut last)?;
+        take_word(word, group)?;
         rest = after;
     }
-    if last.is_empty() {
+    if !group.is_begun() {
         return Err(LineFault::Bad);
     }
-    growths.push(last).map_err(|_| LineFault::Memory)?;
-    Ok(growths)
+    group.end().map_err(|_| LineFault::Memory)
 }

@@ -1,13 +1,14 @@
 //! `cvec`: from lines of records to segment files in hex, and back.
 #![tactic(auto)]
 
+mod file_of_lines;
 mod flagged;
 mod group_line;
-mod groups;
 mod halves;
 mod hex_line;
 mod image;
 mod input;
+mod noting;
 mod number;
 mod output;
 mod pair;
@@ -20,11 +21,15 @@ mod status;
 #[cfg(test)]
 mod tests;
 mod text;
+mod usage;
 mod words;
 
+use crate::noting::Noting;
 use crate::program::run;
 use crate::refusal::{Refusal, refuse};
 use crate::status::Status;
+use crate::usage::write_usage;
+use crate::words::fault_of_words;
 use std::alloc::Global;
 use std::env;
 use std::io::{self, BufWriter, ErrorKind};
@@ -33,22 +38,58 @@ use std::process::ExitCode;
 const OUTPUT_BUFFER_LEN: usize = 65_536;
 
 fn main(rt: HostRuntime) -> ExitCode {
-    let status = match run_here(&rt) {
-        Ok(status) => status,
-        Err(error) if error.kind() == ErrorKind::InvalidData => Status::Usage,
-        Err(_) => refuse(&mut io::writer(&rt), Refusal::Memory),
+    let status = match words_of(&rt) {
+        Ok(words) => run_words(&rt, words.as_slice()),
+        Err(error) if error.kind() == ErrorKind::InvalidData => {
+            let _ = write_usage(&mut rt.stderr(), Some("error: a word is no UTF-8"));
+            Status::Usage
+        }
+        Err(_) => refuse_memory(&rt),
     };
-    if status == Status::Usage {
-        let _ = eprintln!(rt; "usage: cvec COMMAND TYPE ..");
-    }
     ExitCode::from(status.code())
 }
 
-/// Runs the words that the program was started with over standard input and output. An error comes before
-/// anything was read: a word is no UTF-8 (`InvalidData`), or memory was refused.
-fn run_here(rt: &HostRuntime) -> io::Result<Status> {
+/// The words that the program was started with, behind its name. An error: one of them is no UTF-8
+/// (`InvalidData`), or memory was refused.
+fn words_of(rt: &HostRuntime) -> io::Result<Vec<String>> {
+    Ok(env::args(rt)?.skip(1).collect(rt.alloc())?)
+}
+
+/// Runs the words over standard input and output, and tells on standard error what neither of them has.
+fn run_words(rt: &HostRuntime, words: &[String]) -> Status {
     let alloc = rt.alloc();
-    let words: Vec<String> = env::args(rt)?.skip(1).collect(alloc)?;
-    let mut output = BufWriter::with_capacity(alloc, OUTPUT_BUFFER_LEN, io::writer(rt))?;
-    Ok(run(alloc, words.as_slice(), &mut rt.stdin(), &mut output))
+    let Ok(buffer) = BufWriter::with_capacity(alloc, OUTPUT_BUFFER_LEN, io::writer(rt)) else {
+        return refuse_memory(rt);
+    };
+    let mut output = Noting::new(buffer);
+    let status = run(alloc, words, &mut rt.stdin(), &mut output);
+    match status {
+        Status::OutputFailed => tell_failed_write(rt, output.error()),
+        Status::Usage => tell_usage(rt, words),
+        Status::Done | Status::Refused => {}
+    }
+    status
+}
+
+/// Answers want of memory.
+fn refuse_memory(rt: &HostRuntime) -> Status {
+    let mut output = Noting::new(io::writer(rt));
+    let status = refuse(&mut output, Refusal::Memory);
+    if status == Status::OutputFailed {
+        tell_failed_write(rt, output.error());
+    }
+    status
+}
+
+/// Tells how the program is used, and what is wrong with the words. Where memory is refused for that, only the former.
+fn tell_usage(rt: &HostRuntime, words: &[String]) {
+    let fault = fault_of_words(rt.alloc(), words).unwrap_or(None);
+    let _ = write_usage(&mut rt.stderr(), fault.as_ref().map(|text| text.as_str()));
+}
+
+/// Tells why standard output can't be written.
+fn tell_failed_write(rt: &HostRuntime, error: Option<io::Error>) {
+    if let Some(error) = error {
+        let _ = eprintln!(rt; "cvec: standard output: {error}");
+    }
 }

@@ -3,7 +3,7 @@
 ghost use Rattle.std.specs.Prelude.{◌<◌, ◌^◌, ◌↔◌, decimal, OnOk, IsTrue};
 ghost use Rattle.std.specs.Io.KnownBytes.{Appends};
 ghost use Rattle.std.proofs.Common.{lit≤};
-ghost use Rattle.cvec.specs.Numbers.{BeginsAsNumber, IsWord-decimal, one_decimal};
+ghost use Rattle.cvec.specs.Numbers.{BeginsAsNumber, number_spelling, IsWord-decimal, one_decimal};
 
 use crate::text::TextRecord;
 use itoa::Integer;
@@ -27,9 +27,7 @@ fn begins_as_number(text: &[u8]) -> bool
 }
 
 impl TextRecord for u64 {
-    ghost is_value = { λ n. n < 2 ^ 64 };
-
-    ghost text_of = { decimal };
+    ghost spelling = { number_spelling 64 };
 
     fn parse(text: &[u8]) -> Option<u64> {
         if !begins_as_number(text) {
@@ -51,9 +49,7 @@ impl TextRecord for u64 {
 }
 
 impl TextRecord for u32 {
-    ghost is_value = { λ n. n < 2 ^ 32 };
-
-    ghost text_of = { decimal };
+    ghost spelling = { number_spelling 32 };
 
     fn parse(text: &[u8]) -> Option<u32> {
         u32::try_from(u64::parse(text)?).ok()

@@ -10,7 +10,7 @@ use std::io::Write;
 
 /// Writes each record and an LF. No memory is taken on the way.
 pub fn write_records<R: TextRecord, W: Write>(records: &[R], writer: &mut W) -> io::Result<()>
-    ensures { OnOk result (Appends (W.contents writer.old) (W.contents writer.new) (record_lines R.text_of records.now)) }
+    ensures { OnOk result (Appends (W.contents writer.old) (W.contents writer.new) (record_lines R.spelling.text_of records.now)) }
 {
     for record in records {
         record.write_text(writer)?;

@@ -1,6 +1,6 @@
 //! Pairs as text: the key, a colon, the value.
 
-ghost use Rattle.cvec.specs.Keyed.{IsPair, pair_text, IsWord-pair, one_pair};
+ghost use Rattle.cvec.specs.Keyed.{pair_spelling, IsWord-pair, one_pair};
 
 use crate::halves::halves_of;
 use crate::text::TextRecord;
@@ -9,9 +9,7 @@ use std::io;
 use std::io::Write;
 
 impl TextRecord for Pair {
-    ghost is_value = { IsPair };
-
-    ghost text_of = { pair_text };
+    ghost spelling = { pair_spelling };
 
     fn parse(text: &[u8]) -> Option<Pair> {
         let (key_text, value_text) = halves_of(text)?;

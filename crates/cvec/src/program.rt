@@ -25,7 +25,7 @@ fn run_of<R: TextRecord, I: Read, W: Write>(
     writer: &mut W,
 ) -> Status
     ensures ends { IfSome (I.remaining reader.old) (λ input.
-        IsTaskRun task R.WIDTH R.bytes_of R.value_of R.is_value R.text_of input (W.contents writer.old) (W.contents writer.new) result) }
+        IsTaskRun task R.form R.spelling input (W.contents writer.old) (W.contents writer.new) result) }
     ensures no_usage { result ≢ Status.Usage }
 {
     match task {

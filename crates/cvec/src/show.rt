@@ -16,8 +16,8 @@ use std::io::{Read, Write};
 
 /// The vector of the image whose hex the input is.
 fn records_of_hex<R: TextRecord>(alloc: Global, input: &[u8]) -> Result<Vec<R>, Refusal>
-    ensures found { IfOk result (λ records. IsVectorOfHex R.WIDTH R.value_of input.now records.items) }
-    ensures refused { IfErr result (IsShowRefusal R.WIDTH R.value_of input.now) }
+    ensures found { IfOk result (λ records. IsVectorOfHex R.form input.now records.items) }
+    ensures refused { IfErr result (IsShowRefusal R.form input.now) }
 {
     let bytes = bytes_of_hex_line(alloc, input)?;
     match scan::<R>(alloc, bytes.as_slice()) {
@@ -34,9 +34,9 @@ pub fn show<R: TextRecord, I: Read, W: Write>(
     writer: &mut W,
 ) -> Status
     ensures done { result ≡ Status.Done → IfSome (I.remaining reader.old) (λ input.
-        WritesVector R.WIDTH R.value_of R.text_of input (W.contents writer.old) (W.contents writer.new)) }
+        WritesVector R.form R.spelling input (W.contents writer.old) (W.contents writer.new)) }
     ensures refused { result ≡ Status.Refused → IfSome (I.remaining reader.old) (λ input.
-        WritesShowRefusal R.WIDTH R.value_of input (W.contents writer.old) (W.contents writer.new)) }
+        WritesShowRefusal R.form input (W.contents writer.old) (W.contents writer.new)) }
     ensures no_usage { result ≢ Status.Usage }
 {
     let answer = match read_input(alloc, reader) {

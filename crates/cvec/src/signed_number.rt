@@ -5,7 +5,7 @@ ghost use Rattle.std.specs.Fmt.{signed_decimal};
 ghost use Rattle.std.specs.Int.{w64};
 ghost use Rattle.std.specs.Option.{SomeIff};
 ghost use Rattle.std.proofs.Common.{neg_ℤ};
-ghost use Rattle.cvec.specs.SignedNumbers.{IsWord-signed, one_signed};
+ghost use Rattle.cvec.specs.SignedNumbers.{signed_spelling, IsWord-signed, one_signed};
 
 use crate::number::write_number;
 use crate::text::TextRecord;
@@ -33,9 +33,7 @@ fn number_below_zero(distance: u64) -> Option<i64>
 }
 
 impl TextRecord for i64 {
-    ghost is_value = { FitsSigned w64 };
-
-    ghost text_of = { signed_decimal };
+    ghost spelling = { signed_spelling };
 
     fn parse(text: &[u8]) -> Option<i64> {
         match behind_minus(text) {

@@ -4,10 +4,13 @@ mod record_types;
 
 use crate::image::image;
 use crate::input::INPUT_LIMIT;
+use crate::noting::Noting;
 use crate::program::run;
 use crate::refusal::{Refusal, refuse};
 use crate::show::show;
 use crate::status::Status;
+use crate::usage::write_usage;
+use crate::words::fault_of_words;
 use segment_core::{Cause, ScanFault};
 use std::alloc::{AllocError, Global};
 use std::io::{self, ErrorKind, Read, Write};
@@ -335,6 +338,146 @@ fn a_write_that_fails_ends_the_run(rt: HostRuntime) -> Result<(), Fail> {
     let mut reader: &[u8] = THREE;
     let status = show::<u64, &[u8], Room>(alloc, &mut reader, &mut Room { left: 6 });
     assert_eq!(rt; (status, status.code()), (Status::Done, 0));
+    Ok(())
+}
+
+/// A writer that takes all, as one with a buffer does, and fails when that has to go further.
+#[derive(Drop)]
+struct FullDevice;
+
+impl Write for FullDevice {
+    fn write(&mut self, buf: &[u8]) -> io::Result<usize> {
+        Ok(buf.len())
+    }
+
+    fn flush(&mut self) -> io::Result<()> {
+        Err(io::Error::from(ErrorKind::StorageFull))
+    }
+}
+
+#[test]
+fn a_flush_that_fails_ends_the_run(rt: HostRuntime) -> Result<(), Fail> {
+    let alloc = rt.alloc();
+    for input in [b"1 2 | 3\n".as_slice(), b"", b"05"] {
+        let mut reader = input;
+        let status = image::<u64, &[u8], FullDevice>(alloc, &mut reader, &mut FullDevice);
+        assert_eq!(rt; status, Status::OutputFailed);
+    }
+    for input in [THREE, EMPTY, b"01"] {
+        let mut reader = input;
+        let status = show::<u64, &[u8], FullDevice>(alloc, &mut reader, &mut FullDevice);
+        assert_eq!(rt; status, Status::OutputFailed);
+    }
+    let status = refuse(&mut FullDevice, Refusal::Memory);
+    assert_eq!(rt; status, Status::OutputFailed);
+    Ok(())
+}
+
+#[test]
+fn why_a_write_failed_is_kept(rt: HostRuntime) -> Result<(), Fail> {
+    let alloc = rt.alloc();
+    let mut reader: &[u8] = THREE;
+    let mut output = Noting::new(FullDevice);
+    show::<u64, &[u8], Noting<FullDevice>>(alloc, &mut reader, &mut output);
+    let error = output.error().ok_or("the flush failed")?;
+    assert_eq!(rt; error.kind(), ErrorKind::StorageFull);
+    let mut reader: &[u8] = THREE;
+    let mut output = Noting::new(Room { left: 5 });
+    show::<u64, &[u8], Noting<Room>>(alloc, &mut reader, &mut output);
+    let error = output.error().ok_or("a write failed")?;
+    assert_eq!(rt; error.kind(), ErrorKind::Other);
+    let mut reader: &[u8] = THREE;
+    let mut output = Noting::new(Room { left: 6 });
+    show::<u64, &[u8], Noting<Room>>(alloc, &mut reader, &mut output);
+    assert!(rt; output.error().is_none());
+    Ok(())
+}
+
+#[test]
+fn what_is_wrong_with_words_is_told_in_a_sentence(rt: HostRuntime) -> Result<(), Fail> {
+    let alloc = rt.alloc();
+    let faults: [(&[&str], &str); 6] = [
+        (&["list", "u64"], "error: unrecognized subcommand 'list'"),
+        (
+            &["show"],
+            "error: the following required arguments were not provided:\n  <TYPE>",
+        ),
+        (
+            &["image", "u16"],
+            "error: invalid value 'u16' for '<TYPE>'\n  [possible values: u32, u64, i64, pair, flagged]",
+        ),
+        (
+            &["show", "u64", "u64"],
+            "error: unexpected argument 'u64' found",
+        ),
+        (&["--type=u64"], "error: unexpected argument '--type' found"),
+        (
+            &["show", "--", "u64", "--help"],
+            "error: unexpected argument '--help' found",
+        ),
+    ];
+    for (words, sentence) in faults {
+        let fault = fault_of_words(alloc, words)?.ok_or("something is wrong")?;
+        assert_eq!(rt; fault.as_str(), sentence);
+    }
+    let well: [&[&str]; 5] = [
+        &["--help"],
+        &["-h"],
+        &["help"],
+        &["show", "--help"],
+        &["show", "u64"],
+    ];
+    for words in well {
+        assert!(rt; fault_of_words(alloc, words)?.is_none());
+    }
+    Ok(())
+}
+
+/// Whether the usage, told with this fault, begins with the one text and has the others.
+fn usage_has(
+    alloc: Global,
+    fault: Option<&str>,
+    start: &str,
+    words: &[&str],
+) -> Result<bool, Fail> {
+    let mut told = Vec::new(alloc);
+    write_usage(&mut told, fault)?;
+    let Ok(text) = str::from_utf8(told.as_slice()) else {
+        return Ok(false);
+    };
+    for word in words {
+        if !text.contains(*word) {
+            return Ok(false);
+        }
+    }
+    Ok(text.starts_with(start))
+}
+
+#[test]
+fn usage_is_told_with_the_commands_the_types_and_an_example(rt: HostRuntime) -> Result<(), Fail> {
+    let alloc = rt.alloc();
+    let words = [
+        "\nimage TYPE ",
+        "\nshow TYPE ",
+        "u32",
+        "u64",
+        "i64",
+        "pair",
+        "flagged",
+        "| cvec image u64\n",
+    ];
+    let fault = Some("error: a word is no UTF-8");
+    let start = "usage: cvec COMMAND TYPE ..\nerror: a word is no UTF-8\n\n";
+    assert!(rt; usage_has(alloc, fault, start, words.as_slice())?);
+    assert!(rt;
+        usage_has(
+            alloc,
+            None,
+            "usage: cvec COMMAND TYPE ..\n\n",
+            words.as_slice()
+        )?
+    );
+    assert!(rt; write_usage(&mut FullDevice, None).is_err());
     Ok(())
 }
 

@@ -8,7 +8,7 @@ ghost use Rattle.cvec.specs.Request.{task_word, type_word};
 
 use crate::request::{RecordType, Task};
 use clap::error::ErrorKind;
-use clap::{Arg, ArgAction, Command, Error};
+use clap::{Arg, ArgAction, ArgMatches, Command, Error};
 use std::alloc::{AllocError, Global};
 use std::convert::AsStr;
 
@@ -80,20 +80,45 @@ fn record_type_of(word: &str) -> Option<RecordType>
     }
 }
 
-/// What the words ask for.
-pub fn read_words<'a, S: AsStr>(
-    alloc: Global,
-    words: &'a [S],
-) -> Result<(Task, RecordType), WordsFault> {
+/// What `clap` makes of the words.
+fn matches_of<'a, S: AsStr>(alloc: Global, words: &'a [S]) -> Result<ArgMatches<'a>, Error> {
     let command = Command::new(alloc, "cvec")
         .no_binary_name(true)
         .subcommand_required(true)
         .subcommand(typed(alloc, "image")?)?
         .subcommand(typed(alloc, "show")?)?;
-    let matches = command.try_get_matches_from(words)?;
+    command.try_get_matches_from(words)
+}
+
+/// What the words ask for.
+pub fn read_words<'a, S: AsStr>(
+    alloc: Global,
+    words: &'a [S],
+) -> Result<(Task, RecordType), WordsFault> {
+    let matches = matches_of(alloc, words)?;
     let (name, of_command) = matches.subcommand().ok_or(WordsFault::Usage)?;
     let word = of_command.get_str("TYPE").ok_or(WordsFault::Usage)?;
     let task = task_of(name).ok_or(WordsFault::Usage)?;
     let record_type = record_type_of(word).ok_or(WordsFault::Usage)?;
     Ok((task, record_type))
+}
+
+/// The error's own words, without the usage behind them. `None`: it is a request for help.
+fn sentence_of(alloc: Global, error: &Error) -> Result<Option<String>, AllocError> {
+    if !error.use_stderr() {
+        return Ok(None);
+    }
+    let text = format!(in alloc; "{error}")?;
+    match text.as_str().split_once("\n\n") {
+        Some((sentence, _)) => Ok(Some(String::from_str(alloc, sentence)?)),
+        None => Ok(Some(text)),
+    }
+}
+
+/// What `clap` says is wrong with the words. `None`: nothing is wrong, or they ask for help.
+pub fn fault_of_words<S: AsStr>(alloc: Global, words: &[S]) -> Result<Option<String>, AllocError> {
+    match matches_of(alloc, words) {
+        Ok(_matches) => Ok(None),
+        Err(error) => sentence_of(alloc, &error),
+    }
 }

@@ -10,4 +10,5 @@ pub mod Header
 pub mod Refusals
 pub mod OneVector
 pub mod Written
+pub mod GrowthRows
 pub mod ReadAgain

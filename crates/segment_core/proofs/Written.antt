@@ -1,15 +1,16 @@
 -- Growths as frames: their sizes, their text one by one, and the vector that is read from them.
-use Rattle.std.proofs.Common.{◌≡◌, ℕ, zero, suc, ◌+◌, ◌*◌, ◌≤◌, ◌<◌, List, [], ◌∷◌, ◌++◌, length, take, drop, get_or, map, sum, Option, Some, refl, sym, ap, subst, ◌∙◌, append_assoc, arith}
+use Rattle.std.proofs.Common.{◌≡◌, ℕ, zero, suc, ◌+◌, ◌*◌, ◌≤◌, ◌<◌, List, [], ◌∷◌, ◌++◌, length, take, drop, get_or, map, sum, Some, refl, sym, ap, subst, ◌∙◌, append_assoc, arith}
 use Rattle.std.specs.Prelude.{slice_get}
 use Rattle.std.specs.Global.{Vec}
 use Rattle.std.specs.List.{flat_map}
 use Rattle.std.specs.Int.{w32, to_le_bytes}
-use Rattle.std.proofs.lemmas.List.{append-nil, length-append, length-map, map_more, map_push, map-append, take-append-drop}
+use Rattle.std.proofs.lemmas.List.{append-nil, length-append, length-map, map_more, map_push, take-append-drop}
 use Rattle.std.proofs.lemmas.List.Concat.{flat_map-append, length-flat_map}
 use Rattle.std.proofs.lemmas.List.Sums.{sum-map}
 use Rattle.record_core.specs.Cells.{AreReadAgain}
 use Rattle.record_core.proofs.Cells.{length-flat_map_bytes}
 use Rattle.record_core.specs.Limits.{payload_limit}
+use Rattle.record_core.specs.Bytes.{Encoding}
 use Rattle.segment_core.specs.Frame.{payload_of, frame_text, text}
 use Rattle.segment_core.specs.Written.{growths_of, groups_of, joined, all_records, group_frame, payload_len, AllFit}
 use Rattle.segment_core.proofs.Payload.{length-group_payload}
@@ -37,20 +38,29 @@ payload_len-append width a b =
     let product : length (joined (a ++ b)) * width ≡ (length (joined a) + length (joined b)) * width = ap (λ n. n * width) records in
     omega arith
 
-pub growths_more : {R : Type 0} (group : List (Vec R)) (k : ℕ) (growth : Vec R) → k < length group → growth ≡ get_or group k growth → growths_of (take (k + 1) group) ≡ growths_of (take k group) ++ growth.items ∷ []
-growths_more {R} group k growth lt is = map_more (λ (v : Vec R). v.items) group k growth lt ∙ ap (λ (v : Vec R). growths_of (take k group) ++ v.items ∷ []) (sym is)
+inside_Some : {X : Type 0} (x y : X) → Some x ≡ Some y → x ≡ y
+inside_Some x y is = cc
 
-pub payload_len_more : {R : Type 0} (width : ℕ) (group : List (Vec R)) (k : ℕ) (growth : Vec R) → k < length group → growth ≡ get_or group k growth → payload_len width (growths_of (take (k + 1) group)) ≡ payload_len width (growths_of (take k group)) + (4 + length growth.items * width)
-payload_len_more width group k growth lt is = ap (payload_len width) (growths_more group k growth lt is) ∙ payload_len_push width (growths_of (take k group)) growth.items
+pub take_more : {X : Type 0} (xs : List X) (k : ℕ) (x : X) → slice_get xs k ≡ Some x → take (k + 1) xs ≡ take k xs ++ x ∷ []
+take_more [] k x is = absurd cc
+take_more (y ∷ xs) zero x is = ap (λ (z : _). z ∷ []) (inside_Some y x is)
+take_more (y ∷ xs) (suc k) x is = let n : suc k + 1 ≡ suc (k + 1) = omega arith in rw n (ap (λ (l : List _). y ∷ l) (take_more xs k x is))
 
-pub payload_len_within : {R : Type 0} (width : ℕ) (group : List (Vec R)) (k : ℕ) → payload_len width (growths_of (take k group)) ≤ payload_len width (growths_of group)
-payload_len_within {R} width group k =
-    let whole : growths_of (take k group) ++ growths_of (drop k group) ≡ growths_of group = sym (map-append (λ (v : Vec R). v.items) (take k group) (drop k group)) ∙ ap growths_of (take-append-drop k group) in
-    subst (λ (gs : List (List R)). payload_len width (growths_of (take k group)) ≤ payload_len width gs) whole (payload_len-append width (growths_of (take k group)) (growths_of (drop k group)))
+-- the lengths of the growths, and of one more
+pub lengths_push : {R : Type 0} (growths : List (List R)) (growth : List R) → flat_map (to_le_bytes w32) (map length (growths ++ growth ∷ [])) ≡ flat_map (to_le_bytes w32) (map length growths) ++ to_le_bytes w32 (length growth)
+lengths_push growths growth =
+    ap (flat_map (to_le_bytes w32)) (map_push length growths growth) ∙ flat_map-append (to_le_bytes w32) (map length growths) (length growth ∷ [])
+
+pub payload_len_more : {R : Type 0} (width : ℕ) (growths : List (List R)) (k : ℕ) (growth : List R) → slice_get growths k ≡ Some growth → payload_len width (take (k + 1) growths) ≡ payload_len width (take k growths) + (4 + length growth * width)
+payload_len_more width growths k growth is = ap (payload_len width) (take_more growths k growth is) ∙ payload_len_push width (take k growths) growth
+
+pub payload_len_within : {R : Type 0} (width : ℕ) (growths : List (List R)) (k : ℕ) → payload_len width (take k growths) ≤ payload_len width growths
+payload_len_within {R} width growths k =
+    subst (λ (gs : List (List R)). payload_len width (take k growths) ≤ payload_len width gs) (take-append-drop k growths) (payload_len-append width (take k growths) (drop k growths))
 
 -- a growth takes part of its group's payload
-pub growth_within : {R : Type 0} (width : ℕ) (group : List (Vec R)) (k : ℕ) (growth : Vec R) → k < length group → growth ≡ get_or group k growth → payload_len width (growths_of (take k group)) + (4 + length growth.items * width) ≤ payload_len width (growths_of group)
-growth_within width group k growth lt is = let more = payload_len_more width group k growth lt is in let within = payload_len_within width group (k + 1) in omega arith
+pub growth_within : {R : Type 0} (width : ℕ) (growths : List (List R)) (k : ℕ) (growth : List R) → slice_get growths k ≡ Some growth → payload_len width (take k growths) + (4 + length growth * width) ≤ payload_len width growths
+growth_within width growths k growth is = let more = payload_len_more width growths k growth is in let within = payload_len_within width growths (k + 1) in omega arith
 
 pub payload_len_nothing : {R : Type 0} (width : ℕ) (growths : List (List R)) → growths ≡ [] → payload_len width growths ≡ 4
 payload_len_nothing width growths none = ap (payload_len width) none ∙ (let nothing : 4 + 0 * 4 + 0 * width ≡ 4 = omega arith in nothing)
@@ -63,18 +73,18 @@ long_growth width (suc n) wide = let more = long_growth width n wide in omega ar
 pub sum-lengths : {R : Type 0} (growths : List (List R)) → length (joined growths) ≡ sum (map length growths)
 sum-lengths growths = length-flat_map (λ growth. growth) growths ∙ sym (sum-map length growths)
 
-pub length-group_frame : {R : Type 0} (width : ℕ) (bytes_of : R → List ℕ) (growths : List (List R)) → ((r : R) → length (bytes_of r) ≡ width) → length (payload_of (group_frame bytes_of growths)) ≡ payload_len width growths
-length-group_frame width bytes_of growths wide =
-    let a = length-group_payload (map length growths) (flat_map bytes_of (joined growths)) in
+pub length-group_frame : {R : Type 0} (form : Encoding R) (growths : List (List R)) → ((r : R) → length (form.bytes_of r) ≡ form.width) → length (payload_of (group_frame form growths)) ≡ payload_len form.width growths
+length-group_frame form growths wide =
+    let a = length-group_payload (map length growths) (flat_map form.bytes_of (joined growths)) in
     let b = length-map growths length in
-    let d = length-flat_map_bytes width bytes_of (joined growths) wide in
+    let d = length-flat_map_bytes form (joined growths) wide in
     omega arith
 
 -- ---- what is read again
 
-pub AreReadAgain-append : {R : Type 0} (bytes_of : R → List ℕ) (value_of : List ℕ → Option R) (a b : List R) → AreReadAgain bytes_of value_of a → AreReadAgain bytes_of value_of b → AreReadAgain bytes_of value_of (a ++ b)
-AreReadAgain-append bytes_of value_of [] b each more = more
-AreReadAgain-append bytes_of value_of (r ∷ a) b each more = (each.0, AreReadAgain-append bytes_of value_of a b each.1 more)
+pub AreReadAgain-append : {R : Type 0} (form : Encoding R) (a b : List R) → AreReadAgain form a → AreReadAgain form b → AreReadAgain form (a ++ b)
+AreReadAgain-append form [] b each more = more
+AreReadAgain-append form (r ∷ a) b each more = (each.0, AreReadAgain-append form a b each.1 more)
 
 -- ---- text
 
@@ -82,19 +92,19 @@ regroup : (file head lengths bytes : List ℕ) → ((file ++ head) ++ lengths) +
 regroup file head lengths bytes = simp append_assoc
 
 -- a frame that was appended piece by piece
-pub group_appended : {R : Type 0} (width : ℕ) (bytes_of : R → List ℕ) (growths : List (List R)) (len n : ℕ) (file headed counted done : List ℕ) → ((r : R) → length (bytes_of r) ≡ width) → len ≡ payload_len width growths → n ≡ length growths
-    → headed ≡ file ++ ((1 ∷ 1 ∷ to_le_bytes w32 len) ++ to_le_bytes w32 n) → counted ≡ headed ++ flat_map (to_le_bytes w32) (map length growths) → done ≡ counted ++ flat_map bytes_of (joined growths) → done ≡ file ++ frame_text (group_frame bytes_of growths)
-group_appended width bytes_of growths len n file headed counted done wide size count a b c =
-    let payload_is : len ≡ length (payload_of (group_frame bytes_of growths)) = size ∙ sym (length-group_frame width bytes_of growths wide) in
+pub group_appended : {R : Type 0} (form : Encoding R) (growths : List (List R)) (len n : ℕ) (file headed counted done : List ℕ) → ((r : R) → length (form.bytes_of r) ≡ form.width) → len ≡ payload_len form.width growths → n ≡ length growths
+    → headed ≡ file ++ ((1 ∷ 1 ∷ to_le_bytes w32 len) ++ to_le_bytes w32 n) → counted ≡ headed ++ flat_map (to_le_bytes w32) (map length growths) → done ≡ counted ++ flat_map form.bytes_of (joined growths) → done ≡ file ++ frame_text (group_frame form growths)
+group_appended form growths len n file headed counted done wide size count a b c =
+    let payload_is : len ≡ length (payload_of (group_frame form growths)) = size ∙ sym (length-group_frame form growths wide) in
     let count_is : n ≡ length (map length growths) = count ∙ sym (length-map growths length) in
     let lengths : List ℕ = flat_map (to_le_bytes w32) (map length growths) in
-    let bytes : List ℕ = flat_map bytes_of (joined growths) in
+    let bytes : List ℕ = flat_map form.bytes_of (joined growths) in
     let head : List ℕ = (1 ∷ 1 ∷ to_le_bytes w32 len) ++ to_le_bytes w32 n in
     c ∙ ap (λ (bs : List ℕ). bs ++ bytes) (b ∙ ap (λ (bs : List ℕ). bs ++ lengths) a)
     ∙ regroup file head lengths bytes
     ∙ ap (λ (bs : List ℕ). file ++ bs) (append_assoc (1 ∷ 1 ∷ to_le_bytes w32 len) (to_le_bytes w32 n) (lengths ++ bytes))
     ∙ ap (λ k. file ++ ((1 ∷ 1 ∷ to_le_bytes w32 k) ++ (to_le_bytes w32 n ++ (lengths ++ bytes)))) payload_is
-    ∙ ap (λ k. file ++ ((1 ∷ 1 ∷ to_le_bytes w32 (length (payload_of (group_frame bytes_of growths)))) ++ (to_le_bytes w32 k ++ (lengths ++ bytes)))) count_is
+    ∙ ap (λ k. file ++ ((1 ∷ 1 ∷ to_le_bytes w32 (length (payload_of (group_frame form growths)))) ++ (to_le_bytes w32 k ++ (lengths ++ bytes)))) count_is
 
 -- ---- one group more
 
@@ -104,17 +114,12 @@ groups_more {R} groups k group lt is = map_more (λ (g : Vec (Vec R)). growths_o
 pub all_records_push : {R : Type 0} (groups : List (List (List R))) (group : List (List R)) → all_records (groups ++ group ∷ []) ≡ all_records groups ++ joined group
 all_records_push groups group = ap joined (map_push joined groups group) ∙ joined_push (map joined groups) (joined group)
 
-pub text_more : {R : Type 0} (width : ℕ) (bytes_of : R → List ℕ) (groups : List (List (List R))) (group : List (List R)) → text width (map (group_frame bytes_of) (groups ++ group ∷ [])) ≡ text width (map (group_frame bytes_of) groups) ++ frame_text (group_frame bytes_of group)
-text_more width bytes_of groups group = ap (text width) (map_push (group_frame bytes_of) groups group) ∙ text_push width (map (group_frame bytes_of) groups) (group_frame bytes_of group)
+pub text_more : {R : Type 0} (form : Encoding R) (groups : List (List (List R))) (group : List (List R)) → text form.width (map (group_frame form) (groups ++ group ∷ [])) ≡ text form.width (map (group_frame form) groups) ++ frame_text (group_frame form group)
+text_more form groups group = ap (text form.width) (map_push (group_frame form) groups group) ∙ text_push form.width (map (group_frame form) groups) (group_frame form group)
 
 pub AllFit_push : {R : Type 0} (width : ℕ) (groups : List (List (List R))) (group : List (List R)) → AllFit width groups → payload_len width group ≤ payload_limit → AllFit width (groups ++ group ∷ [])
 AllFit_push width [] group fit small = (small, tt)
 AllFit_push width (first ∷ groups) group fit small = (fit.0, AllFit_push width groups group fit.1 small)
-
-pub fits_at : {R : Type 0} (width : ℕ) (groups : List (Vec (Vec R))) (k : ℕ) (d : Vec (Vec R)) → AllFit width (groups_of groups) → k < length groups → payload_len width (growths_of (get_or groups k d).items) ≤ payload_limit
-fits_at width [] k d fit lt = absurd (omega arith)
-fits_at width (group ∷ groups) zero d fit lt = fit.0
-fits_at width (group ∷ groups) (suc k) d fit lt = fits_at width groups k d fit.1 (omega arith)
 
 pub group_at : {R : Type 0} (groups : List (Vec (Vec R))) (k : ℕ) (d : Vec (Vec R)) → k < length groups → slice_get (groups_of groups) k ≡ Some (growths_of (get_or groups k d).items)
 group_at [] k d lt = absurd (omega arith)

@@ -9,4 +9,5 @@ pub mod Image
 pub mod Vector
 pub mod Fault
 pub mod Walk
+pub mod Growths
 pub mod Written

@@ -2,6 +2,9 @@
 use Rattle.std.specs.Prelude.{◌≡◌, ℕ, ◌+◌, ◌*◌, ◌<◌, List, [], ◌∷◌, ◌++◌, ◌≤◌, length, map, take, slice_get, Some}
 use Rattle.std.specs.Global.{Vec}
 use Rattle.std.specs.List.{flat_map, AllByRecursion}
+use Rattle.record_core.specs.Bytes.{Encoding}
+use Rattle.segment_core.specs.declared.fault.GroupFault.{GroupFault}
+use Rattle.segment_core.specs.declared.fault.GroupFault.TheVariants as group_faults
 use Rattle.segment_core.specs.declared.fault.ImageFault.{ImageFault}
 use Rattle.segment_core.specs.declared.fault.ImageFault.TheVariants.{TooLarge, Memory}
 use Rattle.record_core.specs.Limits.{payload_limit}
@@ -19,12 +22,12 @@ abbrev pub joined : {R : Type 0} → List (List R) → List R
 joined growths = flat_map (λ growth. growth) growths
 
 -- the frame of one group
-abbrev pub group_frame : {R : Type 0} → (R → List ℕ) → List (List R) → Frame
-group_frame bytes_of growths = Group (map length growths) (flat_map bytes_of (joined growths))
+abbrev pub group_frame : {R : Type 0} → Encoding R → List (List R) → Frame
+group_frame form growths = Group (map length growths) (flat_map form.bytes_of (joined growths))
 
 -- the file: the Groups, and a closed gate
-abbrev pub file_of : {R : Type 0} → ℕ → (R → List ℕ) → List (List (List R)) → List ℕ
-file_of width bytes_of groups = text width (map (group_frame bytes_of) groups) ++ 0 ∷ []
+abbrev pub file_of : {R : Type 0} → Encoding R → List (List (List R)) → List ℕ
+file_of form groups = text form.width (map (group_frame form) groups) ++ 0 ∷ []
 
 -- the bytes of a group's payload
 abbrev pub payload_len : {R : Type 0} → ℕ → List (List R) → ℕ
@@ -41,6 +44,11 @@ all_records groups = joined (map joined groups)
 -- every payload is within the limit
 abbrev pub AllFit : {R : Type 0} → ℕ → List (List (List R)) → Type 0
 AllFit width groups = AllByRecursion (λ group. payload_len width group ≤ payload_limit) groups
+
+-- why a group gets no frame: its payload is past the limit; for want of memory alone, it is not
+abbrev pub IsGroupRefused : {R : Type 0} → ℕ → ℕ → List (List R) → GroupFault → Type 0
+IsGroupRefused width limit growths group_faults.TooLarge = limit < payload_len width growths
+IsGroupRefused width limit growths group_faults.Memory = payload_len width growths ≤ limit
 
 -- the first group past the limit is k; for want of memory alone, none is
 abbrev pub IsImageRefused : {R : Type 0} → ℕ → List (List (List R)) → ImageFault → Type 0

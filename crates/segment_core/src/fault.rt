@@ -70,3 +70,14 @@ pub enum ImageFault {
     #[error("memory")]
     Memory,
 }
+
+/// Why a group gets no frame.
+#[derive(Clone, Copy, Debug, PartialEq, Eq, Error)]
+pub enum GroupFault {
+    /// Its payload would pass the limit.
+    #[error("the group is too large")]
+    TooLarge,
+    /// A growth of memory was refused.
+    #[error("memory")]
+    Memory,
+}

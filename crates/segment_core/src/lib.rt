@@ -7,14 +7,20 @@
 mod fault;
 mod format;
 mod frame;
+mod group;
+mod growth_list;
+mod growth_row;
 mod image;
 mod vector;
 mod walk;
 
-pub use fault::{Cause, ImageFault, ScanFault};
+pub use fault::{Cause, GroupFault, ImageFault, ScanFault};
 pub use format::{FrameKind, RECORD_LIMIT, VERSION};
 pub use frame::FrameReader;
-pub use image::write_image;
+pub use group::append_group;
+pub use growth_list::GrowthList;
+pub use growth_row::Growths;
+pub use image::{append_header, append_last_gate, write_image};
 pub use vector::{Scanned, scan};
 
 #[cfg(test)]

@@ -1,0 +1,10 @@
+-- What standard error tells of usage: the usage in one line, and what is wrong with the words.
+use Rattle.std.specs.Prelude.{ℕ, List, [], ◌++◌, Option, Some, None, codes}
+use Rattle.cvec.specs.Text.{ended_line}
+
+abbrev pub fault_line : Option (List ℕ) → List ℕ
+fault_line None = []
+fault_line (Some fault) = ended_line fault
+
+abbrev pub usage_text : Option (List ℕ) → List ℕ
+usage_text fault = ended_line (codes "usage: cvec COMMAND TYPE ..") ++ fault_line fault

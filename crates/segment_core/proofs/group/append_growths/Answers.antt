@@ -1,0 +1,33 @@
+use Rattle.std.proofs.Common.{◌≡◌, ◌+◌, ◌++◌, List, ℕ, take, sym, ap, subst, ◌∙◌, append_assoc, arith}
+use Rattle.std.specs.List.{flat_map}
+use Rattle.std.proofs.lemmas.List.Concat.{flat_map-append}
+use Rattle.record_core.specs.Cells.{AreReadAgain}
+use Rattle.segment_core.specs.Written.{joined}
+use Rattle.segment_core.proofs.Written.{take_more, growth_within, joined_push, AreReadAgain-append}
+use Rattle.segment_core.proofs.group.append_growths.Goals as goal
+
+pub append_records-requires-after_bounds : goal.append_records-requires-after_bounds
+append_records-requires-after_bounds g c κs within =
+    let part = growth_within g.R.Record.form.width (g.G.GrowthList.growths c.args.group.now) c.loop-k.k c.growth.result.now c.growth.ensures in
+    let fits = c.requires in
+    let small = c.loop-k.file.small in
+    omega arith
+
+pub loop-k-preserved : goal.loop-k-preserved
+loop-k-preserved g c =
+    let so_far = c.loop-k.invariant in
+    let wrote = c.in_ok-append_records.ensures in
+    let growths = g.G.GrowthList.growths c.args.group.now in
+    let before = joined (take c.loop-k.k growths) in
+    let growth = c.growth.result.now in
+    let more : joined (take (c.loop-k.k + 1) growths) ≡ before ++ growth
+    = ap joined (take_more growths c.loop-k.k growth c.growth.ensures) ∙ joined_push (take c.loop-k.k growths) growth in
+    let bytes : c.append_records.new.out.items ≡ c.args.file.now.items ++ flat_map g.R.Record.form.bytes_of (before ++ growth)
+    = wrote.bytes ∙ ap (λ (bs : List ℕ). bs ++ flat_map g.R.Record.form.bytes_of growth) so_far.bytes
+    ∙ append_assoc c.args.file.now.items (flat_map g.R.Record.form.bytes_of before) (flat_map g.R.Record.form.bytes_of growth) ∙ ap (λ (bs : List ℕ). c.args.file.now.items ++ bs) (sym (flat_map-append g.R.Record.form.bytes_of before growth)) in
+    let again : AreReadAgain g.R.Record.form (before ++ growth)
+    = AreReadAgain-append g.R.Record.form before growth so_far.read_again wrote.read_again in
+    record {
+      bytes = bytes ∙ ap (λ (rs : List g.row.R.Denot). c.args.file.now.items ++ flat_map g.R.Record.form.bytes_of rs) (sym more);
+      read_again = subst (λ (rs : List g.row.R.Denot). AreReadAgain g.R.Record.form rs) (sym more) again;
+    }

@@ -1,0 +1,123 @@
+//! The frame of a group.
+
+ghost use Rattle.std.specs.Prelude.{◌≡◌, ◌≤◌, ◌<◌, ◌^◌, ◌++◌, ◌∷◌, length, map, Some, slice_get, OnOk, MatchResult, MatchOption};
+ghost use Rattle.std.specs.List.{flat_map};
+ghost use Rattle.std.specs.Int.{w32, to_le_bytes};
+ghost use Rattle.record_core.specs.Cells.{AreReadAgain};
+ghost use Rattle.segment_core.specs.Frame.{frame_text};
+ghost use Rattle.segment_core.specs.Written.{group_frame, joined, payload_len, IsGroupRefused};
+
+use crate::fault::GroupFault;
+use crate::format::{FrameKind, OPEN};
+use crate::growth_list::GrowthList;
+use record_core::{Record, append_records, width_of};
+use std::alloc::AllocError;
+
+#[cfg(test)]
+mod tests;
+
+/// The bytes of the group's payload, if they are at most `limit`.
+pub(crate) fn payload_size<R: Record, G: GrowthList<R>>(group: &G, limit: usize) -> Option<usize>
+    requires room { 4 ≤ limit }
+    requires small { limit < 2 ^ 32 }
+    ensures { MatchOption result
+        (limit < payload_len R.form.width (G.growths group.now))
+        (λ len. (len ≡ payload_len R.form.width (G.growths group.now)) × (len ≤ limit)) }
+{
+    let width = width_of::<R>();
+    let mut len = 4;
+    for k in 0..group.count() {
+        let records = group.growth(k).len();
+        // Past the limit already, and the product below might not fit.
+        if records > limit {
+            return None;
+        }
+        len += 4 + records * width;
+        if len > limit {
+            return None;
+        }
+    }
+    Some(len)
+}
+
+/// Appends the head of a group's frame: an open gate, the kind, the payload's length and the number of growths.
+fn append_head(payload_len: usize, growths: usize, file: &mut Vec<u8>) -> Result<(), AllocError>
+    requires payload { payload_len < 2 ^ 32 }
+    requires growths { growths < 2 ^ 32 }
+    ensures { OnOk result (file.new.items ≡ file.old.items ++ ((1 ∷ 1 ∷ to_le_bytes w32 payload_len) ++ to_le_bytes w32 growths)) }
+{
+    file.push(OPEN)?;
+    file.push(FrameKind::Group as u8)?;
+    file.extend_from_slice(&(payload_len as u32).to_le_bytes())?;
+    file.extend_from_slice(&(growths as u32).to_le_bytes())
+}
+
+/// Appends the lengths of the growths.
+fn append_lengths<R: Record, G: GrowthList<R>>(
+    group: &G,
+    file: &mut Vec<u8>,
+) -> Result<(), AllocError>
+    requires { payload_len R.form.width (G.growths group.now) < 2 ^ 32 }
+    ensures { OnOk result (file.new.items ≡ file.old.items ++ flat_map (to_le_bytes w32) (map length (G.growths group.now))) }
+{
+    for k in 0..group.count() {
+        file.extend_from_slice(&(group.growth(k).len() as u32).to_le_bytes())?;
+    }
+    Ok(())
+}
+
+/// Appends the records of the growths.
+fn append_growths<R: Record, G: GrowthList<R>>(
+    group: &G,
+    file: &mut Vec<u8>,
+) -> Result<(), AllocError>
+    requires { payload_len R.form.width (G.growths group.now) < 2 ^ 32 }
+    ensures bytes { OnOk result (file.new.items ≡ file.old.items ++ flat_map R.form.bytes_of (joined (G.growths group.now))) }
+    ensures read_again { OnOk result (AreReadAgain R.form (joined (G.growths group.now))) }
+{
+    for k in 0..group.count() {
+        append_records(group.growth(k), file)?;
+    }
+    Ok(())
+}
+
+/// Appends the frame whose payload has this length.
+fn append_frame<R: Record, G: GrowthList<R>>(
+    group: &G,
+    len: usize,
+    file: &mut Vec<u8>,
+) -> Result<(), AllocError>
+    requires len { len ≡ payload_len R.form.width (G.growths group.now) }
+    requires small { len < 2 ^ 32 }
+    ensures text { OnOk result (file.new.items ≡ file.old.items ++ frame_text (group_frame R.form (G.growths group.now))) }
+    ensures read_again { OnOk result (AreReadAgain R.form (joined (G.growths group.now))) }
+{
+    append_head(len, group.count(), file)?;
+    append_lengths::<R, G>(group, file)?;
+    append_growths::<R, G>(group, file)
+}
+
+/// Appends the frame of a group, behind an open gate. `TooLarge` comes where its payload has more than `limit`
+/// bytes, and then nothing was appended. After `Memory` a part of the frame may stand behind the old bytes.
+pub fn append_group<R: Record, G: GrowthList<R>>(
+    group: &G,
+    limit: usize,
+    file: &mut Vec<u8>,
+) -> Result<(), GroupFault>
+    requires room { 4 ≤ limit }
+    requires small { limit < 2 ^ 32 }
+    ensures text { OnOk result (file.new.items ≡ file.old.items ++ frame_text (group_frame R.form (G.growths group.now))) }
+    ensures read_again { OnOk result (AreReadAgain R.form (joined (G.growths group.now))) }
+    ensures fits { MatchResult result
+        (λ _. payload_len R.form.width (G.growths group.now) ≤ limit)
+        (IsGroupRefused R.form.width limit (G.growths group.now)) }
+    ensures too_large { result ≡ Err GroupFault.TooLarge → file.new.items ≡ file.old.items }
+{
+    let Some(len) = payload_size::<R, G>(group, limit) else {
+        return Err(GroupFault::TooLarge);
+    };
+    match append_frame::<R, G>(group, len, file) {
+        Ok(()) => Ok(()),
+        Err(_) => Err(GroupFault::Memory),
+    }
+}
