@@ -4,7 +4,7 @@ ghost use Rattle.std.specs.Prelude.{◌≡◌, ◌≤◌, ◌<◌, ◌++◌, len
 
 use crate::entry::{Entry, Label};
 use crate::fault::FreshFault;
-use crate::filling::fill_parts;
+use crate::filling::touch_parts;
 use crate::touching::Touch;
 use record_core::{PAYLOAD_LIMIT, Record};
 use std::alloc::Global;
@@ -147,14 +147,12 @@ impl<R: Record> Fresh<R> {
         self.records_mut().split_at_mut(at)
     }
 
-    /// Touches every record, the first of which stands at the place 0, in parts of `part` records, and in several
-    /// threads at once. However the parts are cut, each record becomes what the touch makes of it alone. Few records,
-    /// and records of one part, are touched by the calling thread.
+    /// Touches every record, the first of which stands at the place 0, as `touch_parts` does.
     pub fn fill<E: Threads + Sync, T: Touch<R>>(&mut self, rt: &E, part: usize, touch: &T)
         requires { 0 < part }
         ensures { TouchedFrom (T.one touch.now) 0 self.old self.new }
     {
-        fill_parts(rt, self.entry.records_mut(), part, touch);
+        touch_parts(rt, 0, self.entry.records_mut(), part, touch);
     }
 
     /// The growth that is to be published under this label.
