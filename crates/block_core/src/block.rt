@@ -2,6 +2,7 @@
 
 ghost use Rattle.std.specs.Prelude.{◌≡◌, ◌≤◌, ◌<◌, ◌++◌, length, replicate, MatchResult};
 
+use crate::entry::{Entry, Label};
 use crate::fault::FreshFault;
 use crate::filling::fill_parts;
 use crate::touching::Touch;
@@ -14,17 +15,6 @@ use std::thread::Threads;
 /// The bytes that stand in a frame before the records of its one growth: the count of growths, and one length.
 const HEAD: u64 = 8;
 
-/// A growth as it will stand among others. Its four numbers mean nothing before it is published; they are here
-/// so that publishing writes them through the box and takes no memory.
-#[derive(Drop)]
-struct Entry<R> {
-    number: u64,
-    start: u64,
-    seat: u16,
-    serial: u64,
-    records: Vec<R>,
-}
-
 /// At least one record, and few enough for one frame of the segment file, in the buffer and the box in which
 /// they will be published. Until then nobody else sees them.
 #[derive(Drop)]
@@ -33,19 +23,17 @@ pub struct Fresh<R: Record> {
 }
 
 impl<R: Record> Model for Fresh<R> {
-    ghost use Rattle.std.specs.Prelude.{List, length};
-    ghost use Rattle.block_core.specs.Length.{IsBlockLength};
+    ghost use Rattle.std.specs.Prelude.{List};
 
     ghost Value = { List R };
 
-    ghost view = { λ fresh. fresh.entry.value.records.items };
-
-    ghost invariant = { λ fresh. IsBlockLength R.WIDTH (length fresh.entry.value.records.items) };
+    ghost view = { λ fresh. fresh.entry.value.records };
 }
 
 impl<R: Record> Fresh<R> {
     ghost use Rattle.std.specs.Borrow.{sem};
     ghost use Rattle.std.specs.Slice.Iter.{chunks_mut_rest, chunks_mut_size};
+    ghost use Rattle.block_core.specs.Growth.{labelled};
     ghost use Rattle.block_core.specs.Length.{IsBlockLength, IsLengthFault, IsRefusal};
     ghost use Rattle.block_core.specs.Lent.{LendsRecords, LendsHalves};
     ghost use Rattle.block_core.specs.Touched.{TouchedFrom};
@@ -104,14 +92,13 @@ impl<R: Record> Fresh<R> {
             (λ fresh. fresh ≡ records.items)
             (λ fault. fault ≡ FreshFault.Memory) }
     {
-        let entry = Entry {
+        let label = Label {
             number: 0,
             start: 0,
             seat: 0,
             serial: 0,
-            records,
         };
-        match Box::new(alloc, entry) {
+        match Box::new(alloc, Entry { label, records }) {
             Ok(entry) => Ok(Fresh { entry }),
             Err(_) => Err(FreshFault::Memory),
         }
@@ -122,7 +109,7 @@ impl<R: Record> Fresh<R> {
         ensures len { result ≡ length self.now }
         ensures in_a_frame { IsBlockLength R.WIDTH result }
     {
-        self.entry.records.len() as u64
+        self.entry.records().len() as u64
     }
 
     /// The records in order.
@@ -130,7 +117,7 @@ impl<R: Record> Fresh<R> {
         ensures value { result.now ≡ self.now }
         ensures in_a_frame { IsBlockLength R.WIDTH (length self.now) }
     {
-        self.entry.records.as_slice()
+        self.entry.records()
     }
 
     /// The records in order, to be written over. The block has what is left in them.
@@ -138,7 +125,7 @@ impl<R: Record> Fresh<R> {
         ensures value { result.now ≡ self.old }
         ensures* writes_back { sem 𝓛 (LendsRecords R.row R.Record.own R.PartialEq self.entry result) }
     {
-        self.entry.records.as_mut_slice()
+        self.entry.records_mut()
     }
 
     /// The records in order as disjoint parts of `len` records, the last of which may have fewer.
@@ -147,7 +134,7 @@ impl<R: Record> Fresh<R> {
         ensures joined { chunks_mut_rest result ≡ self.old }
         ensures each { chunks_mut_size result ≡ len }
     {
-        self.entry.records.chunks_mut(len)
+        self.records_mut().chunks_mut(len)
     }
 
     /// Two halves, the first of which has `at` records. The block has what is left in them.
@@ -167,7 +154,23 @@ impl<R: Record> Fresh<R> {
         requires { 0 < part }
         ensures { TouchedFrom (T.one touch.now) 0 self.old self.new }
     {
-        fill_parts(rt, &mut self.entry.records, part, touch);
+        fill_parts(rt, self.entry.records_mut(), part, touch);
+    }
+
+    /// The growth that is to be published under this label.
+    pub fn seal(self, label: Label) -> Box<Entry<R>>
+        ensures { result.value ≡ labelled label self }
+    {
+        let mut entry = self.entry;
+        entry.label = label;
+        entry
+    }
+
+    /// The block of a growth that was not published. Its label is forgotten.
+    pub fn unseal(entry: Box<Entry<R>>) -> Fresh<R>
+        ensures { result ≡ entry.value.records }
+    {
+        Fresh { entry }
     }
 }
 

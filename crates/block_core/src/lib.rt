@@ -6,10 +6,12 @@
 #![tactic(auto)]
 
 mod block;
+mod entry;
 mod fault;
 mod filling;
 mod touching;
 
 pub use block::Fresh;
+pub use entry::{Entry, Label};
 pub use fault::FreshFault;
 pub use touching::Touch;

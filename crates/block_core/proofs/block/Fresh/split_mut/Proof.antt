@@ -41,7 +41,7 @@ use denote.Triple.Table.{framed}
 use denote.Triple.Walked.{Stays, walk_of, stay_dropped, Goes-dropped, Goes-spent_ref}
 use Rattle.std.specs.List.{SameBelow, TailFrom}
 use denote.Struct.Tuple.{Tuple, tuple_type}
-use Rattle.block_core.specs.Lent.{left_in}
+use Rattle.block_core.specs.Left.{left_in}
 use Rattle.block_core.specs.contracts.block.Fresh.{the_row}
 use Rattle.block_core.specs.contracts.block.Fresh.split_mut.{ended, clauses}
 use Rattle.block_core.specs.contracts.block.Fresh.split_mut.Key.{name as #self}
