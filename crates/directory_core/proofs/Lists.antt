@@ -6,7 +6,7 @@ use Rattle.std.proofs.lemmas.List.Elements.{All-push, All-get_or}
 use Rattle.std.proofs.lemmas.List.Sums.{sum_by_push}
 use Rattle.std.proofs.lemmas.Option.{get_or_from_slice_get, slice_get_within, slice_get_cases}
 use Rattle.block_core.specs.Length.{IsBlockLength}
-use Rattle.directory_core.specs.Growth.{Growth}
+use Rattle.block_core.specs.Growth.{Growth}
 use Rattle.directory_core.specs.Chain.{total, IsChained}
 use Rattle.directory_core.specs.Finding.{IsPlaceOf}
 use Rattle.directory_core.specs.Notes.{Follows, ListHolds}

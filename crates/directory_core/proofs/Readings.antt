@@ -5,7 +5,7 @@ use Rattle.std.proofs.lemmas.List.{drop-append-le, take_at, take_rest, drop_at, 
 use Rattle.std.proofs.lemmas.List.Sums.{sum_by-cons}
 use Rattle.once_cell.specs.Once.{Agrees}
 use Rattle.once_cell.specs.declared.race.note.Note.{Note}
-use Rattle.directory_core.specs.Growth.{Growth}
+use Rattle.block_core.specs.Growth.{Growth}
 use Rattle.directory_core.specs.Chain.{total, joined}
 use Rattle.directory_core.specs.Finding.{IsPlaceOf, IsPieceAt}
 use Rattle.directory_core.specs.Notes.{cell_in, cells_of}

@@ -1,7 +1,7 @@
 -- Growths one after another.
-use Rattle.std.specs.Prelude.{◌≡◌, ℕ, ◌+◌, ◌≤◌, ◌⊎◌, List, length, take, sum_by, flat_map, slice_get, All, Some}
+use Rattle.std.specs.Prelude.{◌≡◌, ℕ, ◌+◌, ◌<◌, ◌⊎◌, List, length, take, sum_by, flat_map, slice_get, All, Some}
 use Rattle.block_core.specs.Length.{IsBlockLength}
-use Rattle.directory_core.specs.Growth.{Growth}
+use Rattle.block_core.specs.Growth.{Growth}
 
 -- how many records they have together
 abbrev pub total : {R : Type 0} → List (Growth R) → ℕ
@@ -27,6 +27,10 @@ AreBlocks width entries = All (λ e. IsBlockLength width (length e.records)) ent
 -- the first list begins the second
 abbrev pub Begins : {X : Type 0} → List X → List X → Type 0
 Begins xs ys = take (length xs) ys ≡ xs
+
+-- at each number that both have, the two lists have the same growth
+abbrev pub Agree : {X : Type 0} → List X → List X → Type 0
+Agree xs ys = (g : ℕ) → g < length xs → g < length ys → slice_get xs g ≡ slice_get ys g
 
 -- what two lists give together where they agree: it is one of them, and both begin it
 pub record Meets {X : Type 0} (mine theirs both : List X) : Type 0 where

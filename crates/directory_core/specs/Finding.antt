@@ -1,7 +1,7 @@
 -- Where a position stands.
 use Rattle.std.specs.Prelude.{◌≡◌, ℕ, ◌+◌, ◌<◌, ◌≤◌, List, length, take, drop, get_or, slice_get, Some}
 use Rattle.std.specs.Borrow.{Bor}
-use Rattle.directory_core.specs.Growth.{Growth}
+use Rattle.block_core.specs.Growth.{Growth}
 use Rattle.directory_core.specs.Chain.{total}
 
 -- position i of the records joined is that place of growth g

@@ -1,6 +1,6 @@
 -- What a pass knows of a directory.
 use Rattle.std.specs.Prelude.{ℕ, List, Option}
-use Rattle.directory_core.specs.Growth.{Growth}
+use Rattle.block_core.specs.Growth.{Growth}
 use Rattle.directory_core.specs.Identity.{Identity}
 
 -- how a pass knows it: of each bucket that it has met the names of the bucket's cells, and the names of the

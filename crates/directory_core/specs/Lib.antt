@@ -1,4 +1,3 @@
-pub mod Growth
 pub mod Limits
 pub mod Spot
 pub mod Chain

@@ -2,7 +2,7 @@
 use Rattle.std.specs.Prelude.{◌≡◌, ℕ, ◌+◌, ◌<◌, ◌≤◌, List, [], ◌∷◌, length, map, get_or, slice_get, Option, Some, None}
 use Rattle.once_cell.specs.declared.race.note.Note.{Note}
 use Rattle.block_core.specs.Length.{IsBlockLength}
-use Rattle.directory_core.specs.Growth.{Growth}
+use Rattle.block_core.specs.Growth.{Growth}
 use Rattle.directory_core.specs.Limits.{growth_limit, record_limit}
 use Rattle.directory_core.specs.Spot.{IsSpot}
 use Rattle.directory_core.specs.Chain.{total, IsNext, IsChained, AreBlocks}

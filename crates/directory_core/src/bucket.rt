@@ -3,7 +3,7 @@
 ghost use Rattle.std.specs.Prelude.{◌≡◌, ◌≤◌, length, slice_get, Some, IfOk, MatchOption};
 ghost use Rattle.once_cell.specs.Once.{cell_name};
 
-use crate::entry::Entry;
+use block_core::Entry;
 use once_cell::race::OnceBox;
 use record_core::Record;
 use std::alloc::{AllocError, Global};

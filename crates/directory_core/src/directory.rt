@@ -8,9 +8,9 @@ ghost use Rattle.directory_core.specs.Finding.{IsPieceAt};
 
 use crate::address::{BUCKETS, bucket_len, spot};
 use crate::bucket::Bucket;
-use crate::entry::Entry;
 use crate::fault::DirFault;
 use crate::pass::Pass;
+use block_core::Entry;
 use once_cell::race::OnceBox;
 use record_core::Record;
 use std::alloc::Global;
@@ -125,7 +125,7 @@ impl<R: Record> Directory<R> {
         if number >= self.room {
             return Err((entry, DirFault::Full));
         }
-        let len = entry.len();
+        let len = entry.records().len() as u64;
         if len > self.limit - pass.size() {
             return Err((entry, DirFault::Strayed(number)));
         }
@@ -177,7 +177,7 @@ impl<R: Record> Directory<R> {
         let Some(entry) = cell.get_as(&mut note) else {
             return Ok(false);
         };
-        let len = entry.len();
+        let len = entry.records().len() as u64;
         if entry.number() != number
             || entry.start() != pass.size()
             || len > self.limit - pass.size()
@@ -262,3 +262,6 @@ impl<R: Record> Directory<R> {
         }
     }
 }
+
+#[cfg(test)]
+mod tests;

@@ -12,16 +12,11 @@
 mod address;
 mod bucket;
 mod directory;
-mod entry;
 mod fault;
 mod finding;
 mod pass;
 
 pub use address::{GROWTH_LIMIT, spot};
 pub use directory::{Directory, RECORD_LIMIT};
-pub use entry::Entry;
 pub use fault::DirFault;
 pub use pass::Pass;
-
-#[cfg(test)]
-mod tests;

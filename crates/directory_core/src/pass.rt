@@ -2,14 +2,14 @@
 
 ghost use Rattle.std.specs.Prelude.{[], vec_capacity, ◌≡◌, ◌+◌, ◌<◌, ◌≤◌, ◌++◌, length, take, slice_get, slice_index, slice_index_or, option_to_list, Some, None, MatchOption, IfSome};
 ghost use Rattle.directory_core.specs.Limits.{growth_limit, record_limit};
-ghost use Rattle.directory_core.specs.Chain.{total, IsChained, AreBlocks, Meets};
+ghost use Rattle.directory_core.specs.Chain.{total, IsChained, AreBlocks, Agree, Meets};
 ghost use Rattle.directory_core.specs.Finding.{IsPlaceOf};
 ghost use Rattle.directory_core.specs.Notes.{cells_of, IsFiled, StandsIn, Follows};
 
 use crate::address::spot;
 use crate::bucket::Bucket;
-use crate::entry::Entry;
 use crate::finding::{guess_of, narrow, search};
+use block_core::Entry;
 use once_cell::race::Note;
 use record_core::Record;
 use std::marker::Model;
@@ -190,6 +190,7 @@ impl<R: Record> Pass<R> {
         requires of { self.old.of ≡ other.old.of }
         ensures of { self.new.of ≡ self.old.of }
         ensures same { other.new ≡ other.old }
+        ensures agree { Agree self.old.entries other.old.entries }
         ensures meets { Meets self.old.entries other.old.entries self.new.entries }
     {
         let mine = self.known() as usize;
