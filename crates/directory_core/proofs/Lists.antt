@@ -1,5 +1,5 @@
 -- What follows from what a pass keeps true of its list.
-use Rattle.std.proofs.Common.{◌≡◌, ℕ, zero, suc, ◌+◌, ◌-◌, ◌<◌, ◌≤◌, List, [], ◌∷◌, ◌++◌, map, length, get_or, take, slice_get, Some, refl, ap, sym, subst, ◌∙◌, arith, MatchOption, lt_of_not-le, inl, inr, le_of_lt}
+use Rattle.std.proofs.Common.{◌≡◌, ℕ, ◌+◌, ◌-◌, ◌<◌, ◌≤◌, List, [], ◌∷◌, ◌++◌, map, length, get_or, take, slice_get, Some, refl, ap, sym, subst, ◌∙◌, arith, MatchOption, lt_of_not-le, inl, inr}
 use Rattle.std.proofs.lemmas.Bool.{cases_eq}
 use Rattle.std.proofs.lemmas.List.{length-map, get_or-map, map-append, length_push, take_all, nil_from_length}
 use Rattle.std.proofs.lemmas.List.Elements.{All-push, All-get_or}
@@ -7,7 +7,7 @@ use Rattle.std.proofs.lemmas.List.Sums.{sum_by_push}
 use Rattle.std.proofs.lemmas.Option.{get_or_from_slice_get, slice_get_within, slice_get_cases}
 use Rattle.block_core.specs.Length.{IsBlockLength}
 use Rattle.block_core.specs.Growth.{Growth}
-use Rattle.directory_core.specs.Chain.{total, IsChained}
+use Rattle.directory_core.specs.Chain.{total}
 use Rattle.directory_core.specs.Finding.{IsPlaceOf}
 use Rattle.directory_core.specs.Notes.{Follows, ListHolds}
 use Rattle.directory_core.proofs.Chains.{chained_at, chained_push}

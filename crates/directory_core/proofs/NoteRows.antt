@@ -1,10 +1,10 @@
 -- What follows from what a pass keeps true of its notes.
-use Rattle.std.proofs.Common.{◌≡◌, ℕ, zero, suc, ◌+◌, ◌<◌, ◌≤◌, List, [], ◌∷◌, ◌++◌, length, get_or, take, set, slice_get, Some, None, Option, refl, ap, sym, subst, ◌∙◌, arith, IfSome, MatchOption, inl, inr, add-one, option_to_list}
+use Rattle.std.proofs.Common.{◌≡◌, ℕ, zero, suc, ◌+◌, ◌<◌, List, [], ◌∷◌, ◌++◌, length, get_or, take, set, slice_get, Some, None, Option, refl, ap, sym, subst, ◌∙◌, arith, IfSome, MatchOption, inl, inr, add-one, option_to_list}
 use Rattle.std.proofs.lemmas.Bool.{cases_eq}
 use Rattle.std.proofs.lemmas.List.{length-set, get_or_append_left, get_or_push, get_or-set_same, get_or-set_other, length_push}
 use Rattle.block_core.specs.Growth.{Growth}
 use Rattle.directory_core.specs.Spot.{IsSpot}
-use Rattle.directory_core.specs.Notes.{somes, cell_in, StandsIn, IsFiled, Follows, NotesHold, ListHolds, Holds}
+use Rattle.directory_core.specs.Notes.{somes, cell_in, StandsIn, IsFiled, Follows, NotesHold, Holds}
 use Rattle.directory_core.proofs.Spots.{one_bucket, one_place}
 use Rattle.directory_core.proofs.Somes.{as_many, known_push, somes-append}
 use Rattle.directory_core.proofs.Lists.{list_added}

@@ -1,5 +1,5 @@
 -- Growths one after another.
-use Rattle.std.specs.Prelude.{◌≡◌, ℕ, ◌+◌, ◌<◌, ◌⊎◌, List, length, take, sum_by, flat_map, slice_get, All, Some}
+use Rattle.std.specs.Prelude.{◌≡◌, ℕ, ◌<◌, ◌⊎◌, List, length, take, sum_by, flat_map, slice_get, All, Some}
 use Rattle.block_core.specs.Length.{IsBlockLength}
 use Rattle.block_core.specs.Growth.{Growth}
 

@@ -1,5 +1,5 @@
 -- Why a growth isn't published.
-use Rattle.std.specs.Prelude.{◌≡◌, ℕ, ◌+◌, ◌<◌, ◌≤◌}
+use Rattle.std.specs.Prelude.{◌≡◌, ℕ, ◌<◌, ◌≤◌}
 use Rattle.directory_core.specs.declared.fault.DirFault.{DirFault}
 use Rattle.directory_core.specs.declared.fault.DirFault.TheVariants.{Taken, Full, Strayed, Memory}
 

@@ -1,6 +1,5 @@
 -- Where a position stands.
 use Rattle.std.specs.Prelude.{◌≡◌, ℕ, ◌+◌, ◌<◌, ◌≤◌, List, length, take, drop, get_or, slice_get, Some}
-use Rattle.std.specs.Borrow.{Bor}
 use Rattle.block_core.specs.Growth.{Growth}
 use Rattle.directory_core.specs.Chain.{total}
 

@@ -10,5 +10,6 @@ abbrev pub places_before : ℕ → ℕ
 places_before bucket = 8 * (2 ^ bucket - 1)
 
 -- growth g stands in that bucket at that place
-abbrev pub IsSpot : ℕ → ℕ → ℕ → Type 0
-IsSpot g bucket place = (bucket < 17) × (place < span bucket) × (places_before bucket + place ≡ g)
+pub record IsSpot (g bucket place : ℕ) : Type 0 where
+  pub inside : place < span bucket
+  pub at : places_before bucket + place ≡ g

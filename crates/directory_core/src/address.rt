@@ -21,12 +21,13 @@ pub(crate) fn bucket_len(bucket: usize) -> usize
     FIRST << bucket
 }
 
-/// The bucket of growth `g`, and its place there: buckets of 8, 16, 32, .. places are filled in order.
+/// The bucket of growth `g`, and its place there: buckets of 8, 16, 32, .. places are filled in order. The growths
+/// of one directory have the first 17 of them.
 pub fn spot(g: u64) -> (usize, usize)
-    requires { g < growth_limit }
-    ensures { IsSpot g result.0 result.1 }
+    ensures spot { IsSpot g result.0 result.1 }
+    ensures in_directory { g < growth_limit → result.0 < 17 }
 {
-    let skewed = g as usize + FIRST;
-    let bucket = skewed.ilog2() as usize - 3;
-    (bucket, skewed - bucket_len(bucket))
+    let bucket = (g / 8 + 1).ilog2();
+    let before = ((1 << bucket) - 1) * 8;
+    (bucket as usize, (g - before) as usize)
 }

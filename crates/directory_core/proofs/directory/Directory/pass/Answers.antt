@@ -1,8 +1,5 @@
-use Rattle.std.proofs.Common.{◌≡◌, ◌+◌, ◌++◌, ◌<◌, ◌∷◌, [], map, length, take, arith, ap, ap₂, sym, ◌∙◌, refl, get_or}
-use Rattle.std.proofs.lemmas.List.{map-append, map_more, take-map}
+use Rattle.std.proofs.Common.{◌<◌, length, arith, ap, ◌∙◌, get_or}
 use Rattle.once_cell.specs.Once.{cell_name}
-use Rattle.once_cell.specs.declared.race.note.Note.{Note}
-use Rattle.directory_core.specs.Notes.{cells_of}
 use Rattle.directory_core.proofs.Readings.{cells_more}
 use Rattle.directory_core.proofs.directory.Directory.pass.Goals as goal
 

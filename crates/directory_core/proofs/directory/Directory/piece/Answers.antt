@@ -1,4 +1,4 @@
-use Rattle.std.proofs.Common.{◌≡◌, ℕ, ◌<◌, ◌≤◌, arith}
+use Rattle.std.proofs.Common.{arith}
 use Rattle.std.proofs.lemmas.Option.{slice_get_within}
 use Rattle.directory_core.proofs.Readings.{piece_is}
 use Rattle.directory_core.proofs.directory.Directory.piece.Goals as goal

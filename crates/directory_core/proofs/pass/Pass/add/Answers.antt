@@ -1,4 +1,4 @@
-use Rattle.std.proofs.Common.{◌≡◌, ℕ, ◌<◌, ◌++◌, [], ◌∷◌, arith, sym, refl, ◌∙◌, ap, subst, Some, None, IfSome, MatchOption, length, get_or, option_to_list}
+use Rattle.std.proofs.Common.{◌≡◌, ◌<◌, ◌++◌, [], ◌∷◌, arith, sym, refl, ◌∙◌, ap, subst, Some, None, IfSome, MatchOption, length, get_or}
 use Rattle.std.proofs.lemmas.List.{map-set, map-append, length-map, get_or-map}
 use Rattle.std.proofs.Math.Seq.{map-set_same}
 use Rattle.once_cell.specs.declared.race.note.Note.{Note}

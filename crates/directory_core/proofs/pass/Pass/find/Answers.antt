@@ -1,4 +1,4 @@
-use Rattle.std.proofs.Common.{◌≡◌, ℕ, ◌<◌, ◌≤◌, ◌+◌, arith, sym, ◌∙◌, ap, length}
+use Rattle.std.proofs.Common.{arith, ap, length}
 use Rattle.directory_core.proofs.Lists.{first_start, finds}
 use Rattle.directory_core.proofs.pass.Pass.find.Goals as goal
 

@@ -1,6 +1,5 @@
-use Rattle.std.proofs.Common.{◌≡◌, ℕ, ◌<◌, ◌≤◌, ◌+◌, ◌-◌, arith, sym, refl, ◌∙◌, ap, subst, length, get_or, slice_get, Some, List}
+use Rattle.std.proofs.Common.{◌<◌, ◌≤◌, ◌+◌, arith, ap, length}
 use Rattle.std.proofs.lemmas.List.{get_or_read}
-use Rattle.block_core.specs.Growth.{Growth}
 use Rattle.directory_core.specs.Notes.{known_of, somes}
 use Rattle.directory_core.proofs.Lists.{entry_at, ends_at, follows_there, as_many_starts}
 use Rattle.directory_core.proofs.pass.Pass.len_at.Goals as goal

@@ -1,6 +1,4 @@
-use Rattle.std.proofs.Common.{◌≡◌, ℕ, suc, ◌<◌, ◌+◌, ◌≤◌, ◌++◌, rules, arith, sym, refl, ◌∙◌, ap, ap₂, subst, Some, None, Option, List, length, slice_get, get_or, IfSome, take, min, inl, inr, le_of_lt}
-use Rattle.std.proofs.lemmas.List.{take_all}
-use Rattle.directory_core.specs.Known.{Known}
+use Rattle.std.proofs.Common.{◌≡◌, ◌∙◌, slice_get}
 use Rattle.directory_core.proofs.NoteRows.{same_take_more}
 use Rattle.directory_core.proofs.pass.Pass.meet.Goals as goal
 

@@ -1,4 +1,4 @@
-use Rattle.std.proofs.Common.{◌≡◌, ◌≤◌, ◌<◌, ◌+◌, take, min, length}
+use Rattle.std.proofs.Common.{◌≡◌, take, length}
 use Rattle.directory_core.proofs.pass.Pass.meet.Given as goal
 
 abbrev pub invariant-loop-number : goal.invariant-loop-number

@@ -1,6 +1,6 @@
-use Rattle.std.proofs.Common.{◌≡◌, ℕ, ◌<◌, length, get_or, rules, arith, sym, ◌∙◌, ap, subst, None}
+use Rattle.std.proofs.Common.{◌≡◌, ◌<◌, length, get_or, arith, ◌∙◌, ap}
 use Rattle.std.proofs.lemmas.List.{length-map}
-use Rattle.directory_core.specs.Notes.{known_of, cells_of, somes, IsFiled}
+use Rattle.directory_core.specs.Notes.{cells_of}
 use Rattle.directory_core.proofs.Somes.{note_known, note_cell, note_inside, known_at}
 use Rattle.directory_core.proofs.pass.Pass.note.Goals as goal
 

@@ -1,6 +1,6 @@
-use Rattle.std.proofs.Common.{◌≡◌, ℕ, suc, ◌<◌, ◌+◌, ◌++◌, rules, arith, sym, ◌∙◌, ap, ap₂, subst, Some, None, Option, List, length, slice_get, get_or, IfSome, option_to_list, take, add-one}
+use Rattle.std.proofs.Common.{◌≡◌, ◌++◌, sym, ◌∙◌, ap, ap₂, subst, None, slice_get, get_or, option_to_list, take, add-one}
 use Rattle.directory_core.specs.Known.{Known}
-use Rattle.directory_core.specs.Notes.{IsFiled, cell_in}
+use Rattle.directory_core.specs.Notes.{IsFiled}
 use Rattle.directory_core.proofs.NoteRows.{filed_here, keeps_from, take_more_get}
 use Rattle.directory_core.proofs.pass.Pass.take_next.Goals as goal
 
@@ -9,15 +9,15 @@ add-requires-clause-keeps g c κs held =
     let known : c.again.result.known ≡ get_or c.args.other.now.held.buckets c.spot-at.result.0 None = ap (λ n. n.known) c.again.ensures.1 ∙ c.bucket_note-bucket.ensures.known in
     let known' : c.again.new.self.known ≡ get_or c.args.other.now.held.buckets c.spot-at.result.0 None = ap (λ n. n.known) c.again.ensures.0 ∙ c.bucket_note-bucket.ensures.known in
     let filed = subst (λ (v : Known g.row.R.Denot). IsFiled v.held.buckets c.args.number c.note-note.result.cell) c.bucket_note-bucket.ensures.same c.note-note.ensures.filed in
-    let here = filed_here c.args.number c.spot-at.result.0 c.spot-at.result.1 c.spot-at.ensures c.args.other.now.held.buckets c.note-note.result.cell filed in
+    let here = filed_here c.args.number c.spot-at.result.0 c.spot-at.result.1 c.spot-at.ensures.spot c.args.other.now.held.buckets c.note-note.result.cell filed in
     rw (c.bucket_note-mine.ensures.same, ← c.bucket_note-mine.ensures.known) (keeps_from c.bucket_note-mine.result.known c.again.new.self.known c.spot-at.result.1 c.note-note.result.cell (rw known' here) (rw (known' ∙ sym known) c.compare.ensures.1))
 
 pub add-requires-clause-stands : goal.add-requires-clause-stands
 add-requires-clause-stands g c κs held =
     let known' : c.again.new.self.known ≡ get_or c.args.other.now.held.buckets c.spot-at.result.0 None = ap (λ n. n.known) c.again.ensures.0 ∙ c.bucket_note-bucket.ensures.known in
     let filed = subst (λ (v : Known g.row.R.Denot). IsFiled v.held.buckets c.args.number c.note-note.result.cell) c.bucket_note-bucket.ensures.same c.note-note.ensures.filed in
-    let here = filed_here c.args.number c.spot-at.result.0 c.spot-at.result.1 c.spot-at.ensures c.args.other.now.held.buckets c.note-note.result.cell filed in
-    rw (c.bucket_note-mine.ensures.same, ← c.requires.number, known') (c.spot-at.ensures, here)
+    let here = filed_here c.args.number c.spot-at.result.0 c.spot-at.result.1 c.spot-at.ensures.spot c.args.other.now.held.buckets c.note-note.result.cell filed in
+    rw (c.bucket_note-mine.ensures.same, ← c.requires.number, known') (c.spot-at.ensures.spot, here)
 
 pub returns-clause-next : goal.returns-clause-next
 returns-clause-next g c =
