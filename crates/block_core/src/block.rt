@@ -4,9 +4,9 @@ ghost use Rattle.std.specs.Prelude.{◌≡◌, ◌≤◌, ◌<◌, ◌++◌, len
 
 use crate::entry::{Entry, Label};
 use crate::fault::FreshFault;
-use crate::filling::fill_parts;
+use crate::filling::touch_parts;
 use crate::touching::Touch;
-use record_core::{PAYLOAD_LIMIT, Record};
+use record_core::{PAYLOAD_LIMIT, Record, width_of};
 use std::alloc::Global;
 use std::marker::Model;
 use std::slice::ChunksMut;
@@ -41,12 +41,12 @@ impl<R: Record> Fresh<R> {
     /// Whether a block may have `n` records: none is `Empty`, more than fit one frame is `TooLarge`. It takes no
     /// memory and never answers `Memory`.
     pub fn check_len(n: u64) -> Result<(), FreshFault>
-        ensures { MatchResult result (λ _. IsBlockLength R.WIDTH n) (IsLengthFault R.WIDTH n) }
+        ensures { MatchResult result (λ _. IsBlockLength R.form.width n) (IsLengthFault R.form.width n) }
     {
         if n == 0 {
             return Err(FreshFault::Empty);
         }
-        match n.checked_mul(R::WIDTH as u64) {
+        match n.checked_mul(width_of::<R>() as u64) {
             Some(bytes) if bytes <= PAYLOAD_LIMIT as u64 - HEAD => Ok(()),
             _ => Err(FreshFault::TooLarge),
         }
@@ -55,8 +55,8 @@ impl<R: Record> Fresh<R> {
     /// A block of `n` blank records.
     pub fn new(alloc: Global, n: u64) -> Result<Fresh<R>, FreshFault>
         ensures { MatchResult result
-            (λ fresh. (fresh ≡ replicate n R.blank_value) × IsBlockLength R.WIDTH n)
-            (IsRefusal R.WIDTH n) }
+            (λ fresh. (fresh ≡ replicate n R.blank_value) × IsBlockLength R.form.width n)
+            (IsRefusal R.form.width n) }
     {
         Fresh::filled(alloc, n, R::blank())
     }
@@ -64,8 +64,8 @@ impl<R: Record> Fresh<R> {
     /// A block of copies of these records.
     pub fn from_slice(alloc: Global, records: &[R]) -> Result<Fresh<R>, FreshFault>
         ensures { MatchResult result
-            (λ fresh. (fresh ≡ records.now) × IsBlockLength R.WIDTH (length records.now))
-            (IsRefusal R.WIDTH (length records.now)) }
+            (λ fresh. (fresh ≡ records.now) × IsBlockLength R.form.width (length records.now))
+            (IsRefusal R.form.width (length records.now)) }
     {
         Fresh::<R>::check_len(records.len() as u64)?;
         let copies = Vec::from_slice(alloc, records).map_err(|_| FreshFault::Memory)?;
@@ -75,8 +75,8 @@ impl<R: Record> Fresh<R> {
     /// A block of `n` copies of `v`.
     pub fn filled(alloc: Global, n: u64, v: R) -> Result<Fresh<R>, FreshFault>
         ensures { MatchResult result
-            (λ fresh. (fresh ≡ replicate n v) × IsBlockLength R.WIDTH n)
-            (IsRefusal R.WIDTH n) }
+            (λ fresh. (fresh ≡ replicate n v) × IsBlockLength R.form.width n)
+            (IsRefusal R.form.width n) }
     {
         Fresh::<R>::check_len(n)?;
         let len = n as usize;
@@ -87,7 +87,7 @@ impl<R: Record> Fresh<R> {
 
     /// The block of these records, in its box.
     fn boxed(alloc: Global, records: Vec<R>) -> Result<Fresh<R>, FreshFault>
-        requires { IsBlockLength R.WIDTH (length records.items) }
+        requires { IsBlockLength R.form.width (length records.items) }
         ensures { MatchResult result
             (λ fresh. fresh ≡ records.items)
             (λ fault. fault ≡ FreshFault.Memory) }
@@ -107,7 +107,7 @@ impl<R: Record> Fresh<R> {
     /// How many records it has.
     pub fn len(&self) -> u64
         ensures len { result ≡ length self.now }
-        ensures in_a_frame { IsBlockLength R.WIDTH result }
+        ensures in_a_frame { IsBlockLength R.form.width result }
     {
         self.entry.records().len() as u64
     }
@@ -115,7 +115,7 @@ impl<R: Record> Fresh<R> {
     /// The records in order.
     pub fn records(&self) -> &[R]
         ensures value { result.now ≡ self.now }
-        ensures in_a_frame { IsBlockLength R.WIDTH (length self.now) }
+        ensures in_a_frame { IsBlockLength R.form.width (length self.now) }
     {
         self.entry.records()
     }
@@ -147,14 +147,12 @@ impl<R: Record> Fresh<R> {
         self.records_mut().split_at_mut(at)
     }
 
-    /// Touches every record, the first of which stands at the place 0, in parts of `part` records, and in several
-    /// threads at once. However the parts are cut, each record becomes what the touch makes of it alone. Few records,
-    /// and records of one part, are touched by the calling thread.
+    /// Touches every record, the first of which stands at the place 0, as `touch_parts` does.
     pub fn fill<E: Threads + Sync, T: Touch<R>>(&mut self, rt: &E, part: usize, touch: &T)
         requires { 0 < part }
         ensures { TouchedFrom (T.one touch.now) 0 self.old self.new }
     {
-        fill_parts(rt, self.entry.records_mut(), part, touch);
+        touch_parts(rt, 0, self.entry.records_mut(), part, touch);
     }
 
     /// The growth that is to be published under this label.

@@ -36,7 +36,7 @@ impl<R: Record> Model for Entry<R> {
 
     ghost view = { λ entry. labelled entry.label entry.records.items };
 
-    ghost invariant = { λ entry. IsBlockLength R.WIDTH (length entry.records.items) };
+    ghost invariant = { λ entry. IsBlockLength R.form.width (length entry.records.items) };
 }
 
 impl<R: Record> Entry<R> {
@@ -74,7 +74,7 @@ impl<R: Record> Entry<R> {
     /// The records in order.
     pub fn records(&self) -> &[R]
         ensures value { result.now ≡ self.now.records }
-        ensures in_a_frame { IsBlockLength R.WIDTH (length self.now.records) }
+        ensures in_a_frame { IsBlockLength R.form.width (length self.now.records) }
     {
         self.records.as_slice()
     }
@@ -82,7 +82,7 @@ impl<R: Record> Entry<R> {
     /// The records in order, to be written over before the growth is published. It has what is left in them.
     pub(crate) fn records_mut(&mut self) -> &mut [R]
         ensures value { result.now ≡ self.old.records }
-        ensures in_a_frame { IsBlockLength R.WIDTH (length self.old.records) }
+        ensures in_a_frame { IsBlockLength R.form.width (length self.old.records) }
         ensures* writes_back { sem 𝓛 (LendsEntry R.row R.Record.own R.PartialEq self.entry result) }
     {
         self.records.as_mut_slice()

@@ -9,9 +9,12 @@ mod block;
 mod entry;
 mod fault;
 mod filling;
+#[cfg(test)]
+mod squares;
 mod touching;
 
 pub use block::Fresh;
 pub use entry::{Entry, Label};
 pub use fault::FreshFault;
+pub use filling::touch_parts;
 pub use touching::Touch;

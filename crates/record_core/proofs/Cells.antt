@@ -7,6 +7,7 @@ use Rattle.std.proofs.lemmas.List.{take_at, drop_at, drop-drop, take_more, lengt
 use Rattle.std.proofs.lemmas.Nat.{mul-le}
 use Rattle.std.proofs.lemmas.Slice.{take-put_mid}
 use borrow.Rule.Slice.PartMut.{put_mid}
+use Rattle.record_core.specs.Bytes.{Encoding}
 use Rattle.record_core.specs.Cells.{cell, AreRecords, AreReadAgain, HasRead, IsFirstBad}
 
 -- ---- cells
@@ -46,44 +47,44 @@ slice_get_push (y ∷ xs) x = slice_get_push xs x
 
 -- ---- what is written
 
-pub AreReadAgain_push : {R : Type 0} (bytes_of : R → List ℕ) (value_of : List ℕ → Option R) (rs : List R) (r : R) → AreReadAgain bytes_of value_of rs → value_of (bytes_of r) ≡ Some r → AreReadAgain bytes_of value_of (rs ++ r ∷ [])
-AreReadAgain_push bytes_of value_of [] r each one = (one, tt)
-AreReadAgain_push bytes_of value_of (s ∷ rs) r each one = (each.0, AreReadAgain_push bytes_of value_of rs r each.1 one)
+pub AreReadAgain_push : {R : Type 0} (form : Encoding R) (rs : List R) (r : R) → AreReadAgain form rs → form.value_of (form.bytes_of r) ≡ Some r → AreReadAgain form (rs ++ r ∷ [])
+AreReadAgain_push form [] r each one = (one, tt)
+AreReadAgain_push form (s ∷ rs) r each one = (each.0, AreReadAgain_push form rs r each.1 one)
 
-pub length-flat_map_bytes : {R : Type 0} (width : ℕ) (bytes_of : R → List ℕ) (rs : List R) → ((r : R) → length (bytes_of r) ≡ width) → length (flat_map bytes_of rs) ≡ length rs * width
-length-flat_map_bytes width bytes_of [] wide = omega arith
-length-flat_map_bytes width bytes_of (r ∷ rs) wide =
-    let more = length-flat_map_bytes width bytes_of rs wide in
+pub length-flat_map_bytes : {R : Type 0} (form : Encoding R) (rs : List R) → ((r : R) → length (form.bytes_of r) ≡ form.width) → length (flat_map form.bytes_of rs) ≡ length rs * form.width
+length-flat_map_bytes form [] wide = omega arith
+length-flat_map_bytes form (r ∷ rs) wide =
+    let more = length-flat_map_bytes form rs wide in
     let one = wide r in
-    length-append (bytes_of r) (flat_map bytes_of rs) ∙ omega arith
+    length-append (form.bytes_of r) (flat_map form.bytes_of rs) ∙ omega arith
 
-cells_read : {R : Type 0} (width : ℕ) (bytes_of : R → List ℕ) (value_of : List ℕ → Option R) (rs : List R) → ((r : R) → length (bytes_of r) ≡ width) → AreReadAgain bytes_of value_of rs → (i : ℕ) → i < length rs → value_of (cell width (flat_map bytes_of rs) i) ≡ slice_get rs i
-cells_read width bytes_of value_of [] wide each i lt = absurd (omega arith)
-cells_read width bytes_of value_of (r ∷ rs) wide each zero lt = ap value_of (cell_first width (bytes_of r) (flat_map bytes_of rs) (wide r)) ∙ each.0
-cells_read width bytes_of value_of (r ∷ rs) wide each (suc i) lt = ap value_of (cell_next width (bytes_of r) (flat_map bytes_of rs) i (wide r)) ∙ cells_read width bytes_of value_of rs wide each.1 i (omega arith)
+cells_read : {R : Type 0} (form : Encoding R) (rs : List R) → ((r : R) → length (form.bytes_of r) ≡ form.width) → AreReadAgain form rs → (i : ℕ) → i < length rs → form.value_of (cell form.width (flat_map form.bytes_of rs) i) ≡ slice_get rs i
+cells_read form [] wide each i lt = absurd (omega arith)
+cells_read form (r ∷ rs) wide each zero lt = ap form.value_of (cell_first form.width (form.bytes_of r) (flat_map form.bytes_of rs) (wide r)) ∙ each.0
+cells_read form (r ∷ rs) wide each (suc i) lt = ap form.value_of (cell_next form.width (form.bytes_of r) (flat_map form.bytes_of rs) i (wide r)) ∙ cells_read form rs wide each.1 i (omega arith)
 
-pub AreRecords_written : {R : Type 0} (width : ℕ) (bytes_of : R → List ℕ) (value_of : List ℕ → Option R) (rs : List R) → ((r : R) → length (bytes_of r) ≡ width) → AreReadAgain bytes_of value_of rs → AreRecords width value_of (flat_map bytes_of rs) rs
-AreRecords_written width bytes_of value_of rs wide each = record {
-  filled = length-flat_map_bytes width bytes_of rs wide;
-  each = cells_read width bytes_of value_of rs wide each;
+pub AreRecords_written : {R : Type 0} (form : Encoding R) (rs : List R) → ((r : R) → length (form.bytes_of r) ≡ form.width) → AreReadAgain form rs → AreRecords form (flat_map form.bytes_of rs) rs
+AreRecords_written form rs wide each = record {
+  filled = length-flat_map_bytes form rs wide;
+  each = cells_read form rs wide each;
 }
 
 -- ---- what is read
 
-pub HasRead_more : {R : Type 0} (width : ℕ) (value_of : List ℕ → Option R) (bytes : List ℕ) (count : ℕ) (records : List R) (r : R) → HasRead width value_of bytes count records → value_of (cell width bytes count) ≡ Some r → HasRead width value_of bytes (count + 1) (records ++ r ∷ [])
-HasRead_more width value_of bytes count records r read one = record {
+pub HasRead_more : {R : Type 0} (form : Encoding R) (bytes : List ℕ) (count : ℕ) (records : List R) (r : R) → HasRead form bytes count records → form.value_of (cell form.width bytes count) ≡ Some r → HasRead form bytes (count + 1) (records ++ r ∷ [])
+HasRead_more form bytes count records r read one = record {
   so_far = length_push records r ∙ ap (λ n. n + 1) read.so_far;
   each = λ i lt. elim (cases_lt i count) [
     | inl below ↦ read.each i below ∙ sym (slice_get-append_left records (r ∷ []) i (omega (arith, read.so_far)))
     | inr past ↦ (
         let here : i ≡ length records = omega (arith, read.so_far) in
         let at : i ≡ count = omega arith in
-        ap (λ n. value_of (cell width bytes n)) at ∙ one ∙ sym (ap (slice_get (records ++ r ∷ [])) here ∙ slice_get_push records r))
+        ap (λ n. form.value_of (cell form.width bytes n)) at ∙ one ∙ sym (ap (slice_get (records ++ r ∷ [])) here ∙ slice_get_push records r))
   ];
 }
 
-pub HasRead_all : {R : Type 0} (width : ℕ) (value_of : List ℕ → Option R) (bytes : List ℕ) (count : ℕ) (records : List R) → HasRead width value_of bytes count records → HasRead width value_of bytes (length records) records
-HasRead_all width value_of bytes count records read = record { so_far = refl; each = λ i lt. read.each i (omega (arith, read.so_far)) }
+pub HasRead_all : {R : Type 0} (form : Encoding R) (bytes : List ℕ) (count : ℕ) (records : List R) → HasRead form bytes count records → HasRead form bytes (length records) records
+HasRead_all form bytes count records read = record { so_far = refl; each = λ i lt. read.each i (omega (arith, read.so_far)) }
 
 pub IsSome_from_is : {X : Type 0} (o : Option X) (x : X) → o ≡ Some x → IsSome o
 IsSome_from_is o x e = rw e refl
@@ -93,32 +94,32 @@ IsSome_within [] i lt = absurd (omega arith)
 IsSome_within (x ∷ xs) zero lt = refl
 IsSome_within (x ∷ xs) (suc i) lt = IsSome_within xs i (omega arith)
 
-pub IsFirstBad_after : {R : Type 0} (width : ℕ) (value_of : List ℕ → Option R) (bytes : List ℕ) (count i : ℕ) (records : List R) → HasRead width value_of bytes i records → i < count → value_of (cell width bytes i) ≡ None → IsFirstBad width value_of bytes count i
-IsFirstBad_after width value_of bytes count i records read lt none = record {
+pub IsFirstBad_after : {R : Type 0} (form : Encoding R) (bytes : List ℕ) (count i : ℕ) (records : List R) → HasRead form bytes i records → i < count → form.value_of (cell form.width bytes i) ≡ None → IsFirstBad form bytes count i
+IsFirstBad_after form bytes count i records read lt none = record {
   inside = lt;
   bad = none;
   before = λ k below. rw (read.each k below) (IsSome_within records k (omega (arith, read.so_far)));
 }
 
 -- one more record's bytes behind those of the records before it
-pub written_more : {R : Type 0} (width : ℕ) (bytes_of : R → List ℕ) (records : List R) (out new : List ℕ) (i at end : ℕ) (r : R) → i < length records → r ≡ get_or records i r → length out ≡ length records * width → at ≡ i * width → end ≡ at + width
-    → new ≡ bytes_of r → length new ≡ width → take (i * width) out ≡ flat_map bytes_of (take i records) → take ((i + 1) * width) (put_mid at (end - at) out new) ≡ flat_map bytes_of (take (i + 1) records)
-written_more width bytes_of records out new i at end r lt is filled begins ends put wide so_far =
-    let inside : at ≤ length out = let rows : i * width ≤ length records * width = mul-le i width (length records) width (omega arith) (omega arith) in omega arith in
-    let upto : (i + 1) * width ≡ at + length new = omega arith in
-    let front : take at out ≡ flat_map bytes_of (take i records) = rw begins so_far in
-    take-put_mid at (end - at) out new ((i + 1) * width) upto inside
+pub written_more : {R : Type 0} (form : Encoding R) (records : List R) (out new : List ℕ) (i at end : ℕ) (r : R) → i < length records → r ≡ get_or records i r → length out ≡ length records * form.width → at ≡ i * form.width → end ≡ at + form.width
+    → new ≡ form.bytes_of r → length new ≡ form.width → take (i * form.width) out ≡ flat_map form.bytes_of (take i records) → take ((i + 1) * form.width) (put_mid at (end - at) out new) ≡ flat_map form.bytes_of (take (i + 1) records)
+written_more form records out new i at end r lt is filled begins ends put wide so_far =
+    let inside : at ≤ length out = let rows : i * form.width ≤ length records * form.width = mul-le i form.width (length records) form.width (omega arith) (omega arith) in omega arith in
+    let upto : (i + 1) * form.width ≡ at + length new = omega arith in
+    let front : take at out ≡ flat_map form.bytes_of (take i records) = rw begins so_far in
+    take-put_mid at (end - at) out new ((i + 1) * form.width) upto inside
     ∙ ap (λ (bs : List ℕ). bs ++ new) front
-    ∙ ap (λ (bs : List ℕ). flat_map bytes_of (take i records) ++ bs) put
-    ∙ flat_map_more bytes_of [] (take i records) r
-    ∙ ap (flat_map bytes_of) (ap (λ x. take i records ++ x ∷ []) is ∙ sym (take_more records i r lt))
+    ∙ ap (λ (bs : List ℕ). flat_map form.bytes_of (take i records) ++ bs) put
+    ∙ flat_map_more form.bytes_of [] (take i records) r
+    ∙ ap (flat_map form.bytes_of) (ap (λ x. take i records ++ x ∷ []) is ∙ sym (take_more records i r lt))
 
-pub AreReadAgain_more : {R : Type 0} (bytes_of : R → List ℕ) (value_of : List ℕ → Option R) (records : List R) (i : ℕ) (r : R) → i < length records → r ≡ get_or records i r → AreReadAgain bytes_of value_of (take i records) → value_of (bytes_of r) ≡ Some r → AreReadAgain bytes_of value_of (take (i + 1) records)
-AreReadAgain_more {R} bytes_of value_of records i r lt is each one =
-    subst (λ (rs : List R). AreReadAgain bytes_of value_of rs) (ap (λ x. take i records ++ x ∷ []) is ∙ sym (take_more records i r lt)) (AreReadAgain_push bytes_of value_of (take i records) r each one)
+pub AreReadAgain_more : {R : Type 0} (form : Encoding R) (records : List R) (i : ℕ) (r : R) → i < length records → r ≡ get_or records i r → AreReadAgain form (take i records) → form.value_of (form.bytes_of r) ≡ Some r → AreReadAgain form (take (i + 1) records)
+AreReadAgain_more {R} form records i r lt is each one =
+    subst (λ (rs : List R). AreReadAgain form rs) (ap (λ x. take i records ++ x ∷ []) is ∙ sym (take_more records i r lt)) (AreReadAgain_push form (take i records) r each one)
 
-pub AreRecords_read : {R : Type 0} (width : ℕ) (value_of : List ℕ → Option R) (bytes : List ℕ) (count i : ℕ) (records : List R) → length bytes ≡ count * width → i ≡ count → HasRead width value_of bytes i records → AreRecords width value_of bytes records
-AreRecords_read width value_of bytes count i records filled all read = record {
-  filled = filled ∙ ap (λ n. n * width) (sym all ∙ sym read.so_far);
+pub AreRecords_read : {R : Type 0} (form : Encoding R) (bytes : List ℕ) (count i : ℕ) (records : List R) → length bytes ≡ count * form.width → i ≡ count → HasRead form bytes i records → AreRecords form bytes records
+AreRecords_read form bytes count i records filled all read = record {
+  filled = filled ∙ ap (λ n. n * form.width) (sym all ∙ sym read.so_far);
   each = λ k lt. read.each k (omega (arith, read.so_far));
 }

@@ -24,9 +24,7 @@ impl Record for Flagged {
 
     ghost WIDTH = { 9 };
 
-    ghost bytes_of = { flagged.bytes_of };
-
-    ghost value_of = { flagged.value_of };
+    ghost form = { flagged };
 
     ghost blank_value = { record { key = 0; flag = false } };
 
@@ -51,6 +49,8 @@ impl Record for Flagged {
             flag: false,
         }
     }
+
+    ghost width_is = { refl };
 
     ghost width_in_range = { Prim.search rules };
 

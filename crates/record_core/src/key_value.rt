@@ -24,9 +24,7 @@ impl Record for Pair {
 
     ghost WIDTH = { 16 };
 
-    ghost bytes_of = { pair.bytes_of };
-
-    ghost value_of = { pair.value_of };
+    ghost form = { pair };
 
     ghost blank_value = { record { key = 0; value = pos 0 } };
 
@@ -44,6 +42,8 @@ impl Record for Pair {
     fn blank() -> Pair {
         Pair { key: 0, value: 0 }
     }
+
+    ghost width_is = { refl };
 
     ghost width_in_range = { Prim.search rules };
 

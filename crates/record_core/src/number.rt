@@ -16,9 +16,7 @@ impl Record for u32 {
 
     ghost WIDTH = { 4 };
 
-    ghost bytes_of = { (unsigned w32).bytes_of };
-
-    ghost value_of = { (unsigned w32).value_of };
+    ghost form = { unsigned w32 };
 
     ghost blank_value = { 0 };
 
@@ -36,6 +34,8 @@ impl Record for u32 {
         0u32
     }
 
+    ghost width_is = { refl };
+
     ghost width_in_range = { Prim.search rules };
 
     ghost width_of_bytes = { λ _. refl };
@@ -50,9 +50,7 @@ impl Record for u64 {
 
     ghost WIDTH = { 8 };
 
-    ghost bytes_of = { (unsigned w64).bytes_of };
-
-    ghost value_of = { (unsigned w64).value_of };
+    ghost form = { unsigned w64 };
 
     ghost blank_value = { 0 };
 
@@ -70,6 +68,8 @@ impl Record for u64 {
         0u64
     }
 
+    ghost width_is = { refl };
+
     ghost width_in_range = { Prim.search rules };
 
     ghost width_of_bytes = { λ _. refl };
@@ -85,9 +85,7 @@ impl Record for i64 {
 
     ghost WIDTH = { 8 };
 
-    ghost bytes_of = { (signed w64).bytes_of };
-
-    ghost value_of = { (signed w64).value_of };
+    ghost form = { signed w64 };
 
     ghost blank_value = { pos 0 };
 
@@ -104,6 +102,8 @@ impl Record for i64 {
     fn blank() -> i64 {
         0i64
     }
+
+    ghost width_is = { refl };
 
     ghost width_in_range = { Prim.search rules };
 

@@ -13,7 +13,7 @@ fn stand_as<R: Record + Debug>(
     records: &[R],
     bytes: &[u8],
 ) -> Result<(), Fail>
-    requires { length bytes.now ≡ length records.now * R.WIDTH }
+    requires { length bytes.now ≡ length records.now * R.form.width }
 {
     let mut written = Vec::new(rt.alloc());
     append_records(records, &mut written)?;

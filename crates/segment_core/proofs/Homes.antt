@@ -8,6 +8,7 @@ use Rattle.std.proofs.lemmas.List.{length-append, drop-take, take-take, drop-dro
 use Rattle.record_core.specs.Cells.{cell, AreRecords}
 use Rattle.record_core.specs.Cells as cells
 use Rattle.record_core.proofs.Cells.{slice_get-append_left}
+use Rattle.record_core.specs.Bytes.{Encoding}
 use Rattle.segment_core.specs.declared.walk.Home.{Home}
 use Rattle.segment_core.specs.Frame.{Frame, Group, Change, Shrink, Fold, header, frame_text, text}
 use Rattle.segment_core.specs.Tally.{Tally, nothing, after, tally_from, tally_of, AreLegalFrom}
@@ -101,19 +102,19 @@ homes_tell width image frames has =
 -- ---- records that are read home by home
 
 -- the first n positions have been read
-pub record ReadsUpTo {R : Type 0} (width : ℕ) (value_of : List ℕ → Option R) (image : List ℕ) (frames : List Frame) (records : List R) : Type 0 where
-  pub each : (i : ℕ) → i < length records → record_at width value_of image frames i ≡ slice_get records i
+pub record ReadsUpTo {R : Type 0} (form : Encoding R) (image : List ℕ) (frames : List Frame) (records : List R) : Type 0 where
+  pub each : (i : ℕ) → i < length records → record_at form image frames i ≡ slice_get records i
 
 slice_get-append_right : {X : Type 0} (xs ys : List X) (j : ℕ) → slice_get (xs ++ ys) (length xs + j) ≡ slice_get ys j
 slice_get-append_right [] ys j = let none : 0 + j ≡ j = omega arith in ap (slice_get ys) none
 slice_get-append_right (x ∷ xs) ys j = let more : length (x ∷ xs) + j ≡ suc (length xs + j) = omega arith in ap (slice_get (x ∷ (xs ++ ys))) more ∙ slice_get-append_right xs ys j
 
-record_at_home : {R : Type 0} (width : ℕ) (value_of : List ℕ → Option R) (image : List ℕ) (frames : List Frame) (home : Home) (i j : ℕ) → place_of width frames i ≡ Some (home.place + j * width) → record_at width value_of image frames i ≡ value_of (bytes_at width image home j)
-record_at_home width value_of image frames home i j place = ap (option_and_then (λ p. value_of (take width (drop p image)))) place
+record_at_home : {R : Type 0} (form : Encoding R) (image : List ℕ) (frames : List Frame) (home : Home) (i j : ℕ) → place_of form.width frames i ≡ Some (home.place + j * form.width) → record_at form image frames i ≡ form.value_of (bytes_at form.width image home j)
+record_at_home form image frames home i j place = ap (option_and_then (λ p. form.value_of (take form.width (drop p image)))) place
 
-pub reads_home : {R : Type 0} (width : ℕ) (value_of : List ℕ → Option R) (image : List ℕ) (frames : List Frame) (records read : List R) (home : Home) → ReadsUpTo width value_of image frames records
-    → ((j : ℕ) → j < home.count → place_of width frames (length records + j) ≡ Some (home.place + j * width)) → HoldsAt width value_of image home read → ReadsUpTo width value_of image frames (records ++ read)
-reads_home width value_of image frames records read home so_far tells holds = record {
+pub reads_home : {R : Type 0} (form : Encoding R) (image : List ℕ) (frames : List Frame) (records read : List R) (home : Home) → ReadsUpTo form image frames records
+    → ((j : ℕ) → j < home.count → place_of form.width frames (length records + j) ≡ Some (home.place + j * form.width)) → HoldsAt form image home read → ReadsUpTo form image frames (records ++ read)
+reads_home form image frames records read home so_far tells holds = record {
   each = λ i lt. elim (cases_lt i (length records)) [
     | inl below ↦ so_far.each i below ∙ sym (slice_get-append_left records read i below)
     | inr past ↦ (
@@ -122,8 +123,8 @@ reads_home width value_of image frames records read home so_far tells holds = re
         let j : ℕ = i - length records in
         let here : i ≡ length records + j = omega arith in
         let inside : j < home.count = omega arith in
-        ap (record_at width value_of image frames) here
-        ∙ record_at_home width value_of image frames home (length records + j) j (tells j inside)
+        ap (record_at form image frames) here
+        ∙ record_at_home form image frames home (length records + j) j (tells j inside)
         ∙ holds.each j inside
         ∙ sym (ap (slice_get (records ++ read)) here ∙ slice_get-append_right records read j))
   ];
@@ -134,21 +135,21 @@ IsSome_within [] i lt = absurd (omega arith)
 IsSome_within (x ∷ xs) zero lt = refl
 IsSome_within (x ∷ xs) (suc i) lt = IsSome_within xs i (omega arith)
 
-pub first_bad : {R : Type 0} (width : ℕ) (value_of : List ℕ → Option R) (image : List ℕ) (frames : List Frame) (records : List R) (home : Home) (j : ℕ) → ReadsUpTo width value_of image frames records
-    → ((k : ℕ) → k < home.count → place_of width frames (length records + k) ≡ Some (home.place + k * width)) → length records + home.count ≤ (tally_of frames).size → IsBadAt width value_of image home j
-    → IsFirstBad width value_of image frames (length records + j)
-first_bad width value_of image frames records home j so_far tells within bad =
+pub first_bad : {R : Type 0} (form : Encoding R) (image : List ℕ) (frames : List Frame) (records : List R) (home : Home) (j : ℕ) → ReadsUpTo form image frames records
+    → ((k : ℕ) → k < home.count → place_of form.width frames (length records + k) ≡ Some (home.place + k * form.width)) → length records + home.count ≤ (tally_of frames).size → IsBadAt form image home j
+    → IsFirstBad form image frames (length records + j)
+first_bad form image frames records home j so_far tells within bad =
     let at = bad.inside in
     record {
       inside = omega arith;
-      bad = record_at_home width value_of image frames home (length records + j) j (tells j at) ∙ bad.bad;
+      bad = record_at_home form image frames home (length records + j) j (tells j at) ∙ bad.bad;
       before = λ i lt. elim (cases_lt i (length records)) [
         | inl below ↦ rw (so_far.each i below) (IsSome_within records i below)
         | inr past ↦ (
             let k : ℕ = i - length records in
             let here : i ≡ length records + k = omega arith in
             let inside : k < home.count = omega arith in
-            subst IsSome (sym (ap (record_at width value_of image frames) here ∙ record_at_home width value_of image frames home (length records + k) k (tells k inside))) (bad.before k (omega arith)))
+            subst IsSome (sym (ap (record_at form image frames) here ∙ record_at_home form image frames home (length records + k) k (tells k inside))) (bad.before k (omega arith)))
       ];
     }
 
@@ -166,20 +167,20 @@ cell_of_part width place count size image j is lt =
 part_size : (place count w width : ℕ) → w ≡ width → place + count * w - place ≡ count * width
 part_size place count w width is = let product : count * w ≡ count * width = ap (λ n. count * n) is in omega arith
 
-pub holds_part : {R : Type 0} (width w : ℕ) (value_of : List ℕ → Option R) (image : List ℕ) (home : Home) (read : List R) → w ≡ width → length read ≡ home.count → AreRecords width value_of (take (home.place + home.count * w - home.place) (drop home.place image)) read → HoldsAt width value_of image home read
-holds_part width w value_of image home read is all records = record {
+pub holds_part : {R : Type 0} (form : Encoding R) (w : ℕ) (image : List ℕ) (home : Home) (read : List R) → w ≡ form.width → length read ≡ home.count → AreRecords form (take (home.place + home.count * w - home.place) (drop home.place image)) read → HoldsAt form image home read
+holds_part form w image home read is all records = record {
   all = all;
-  each = λ i lt. ap value_of (sym (cell_of_part width home.place home.count (home.place + home.count * w - home.place) image i (part_size home.place home.count w width is) lt)) ∙ records.each i (omega arith);
+  each = λ i lt. ap form.value_of (sym (cell_of_part form.width home.place home.count (home.place + home.count * w - home.place) image i (part_size home.place home.count w form.width is) lt)) ∙ records.each i (omega arith);
 }
 
-pub bad_part : {R : Type 0} (width w : ℕ) (value_of : List ℕ → Option R) (image : List ℕ) (home : Home) (i : ℕ) → w ≡ width → cells.IsFirstBad width value_of (take (home.place + home.count * w - home.place) (drop home.place image)) home.count i → IsBadAt width value_of image home i
-bad_part width w value_of image home i is first =
-    let size = part_size home.place home.count w width is in
+pub bad_part : {R : Type 0} (form : Encoding R) (w : ℕ) (image : List ℕ) (home : Home) (i : ℕ) → w ≡ form.width → cells.IsFirstBad form (take (home.place + home.count * w - home.place) (drop home.place image)) home.count i → IsBadAt form image home i
+bad_part form w image home i is first =
+    let size = part_size home.place home.count w form.width is in
     let at = first.inside in
     record {
       inside = at;
-      bad = ap value_of (sym (cell_of_part width home.place home.count _ image i size at)) ∙ first.bad;
-      before = λ k lt. subst (λ bs. IsSome (value_of bs)) (cell_of_part width home.place home.count _ image k size (omega arith)) (first.before k lt);
+      bad = ap form.value_of (sym (cell_of_part form.width home.place home.count _ image i size at)) ∙ first.bad;
+      before = λ k lt. subst (λ bs. IsSome (form.value_of bs)) (cell_of_part form.width home.place home.count _ image k size (omega arith)) (first.before k lt);
     }
 
 -- the next home, and those behind it

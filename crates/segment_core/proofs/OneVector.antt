@@ -6,6 +6,7 @@ use Rattle.std.specs.Int.{w16, to_le_bytes, from_le_bytes}
 use Rattle.std.proofs.lemmas.List.{append-nil, append_cancel_left, length-append}
 use Rattle.std.proofs.lemmas.List.Concat.{flat_map-append}
 use Rattle.std.proofs.lemmas.Nat.{from_le_bytes-to_le_bytes_2}
+use Rattle.record_core.specs.Bytes.{Encoding}
 use Rattle.segment_core.specs.declared.fault.ScanFault.{ScanFault}
 use Rattle.segment_core.specs.declared.fault.ScanFault.TheVariants.{Memory}
 use Rattle.segment_core.specs.declared.vector.Scanned.{Scanned}
@@ -65,8 +66,8 @@ same_items {R} (x ∷ a) (y ∷ b) len each =
     let head : x ≡ y = cc in
     ap (λ z. z ∷ a) head ∙ ap (λ (zs : List R). y ∷ zs) (same_items a b (omega arith) (λ i lt. each (suc i) (omega arith)))
 
-one_vector : {R : Type 0} (width : ℕ) (value_of : List ℕ → Option R) (image : List ℕ) (frames : List Frame) (a b : List R) → IsVectorOf width value_of image frames a → IsVectorOf width value_of image frames b → a ≡ b
-one_vector width value_of image frames a b p q = same_items a b (p.size ∙ sym q.size) (λ i lt. sym (p.each i lt) ∙ q.each i (let n = p.size in let m = q.size in omega arith))
+one_vector : {R : Type 0} (form : Encoding R) (image : List ℕ) (frames : List Frame) (a b : List R) → IsVectorOf form image frames a → IsVectorOf form image frames b → a ≡ b
+one_vector form image frames a b p q = same_items a b (p.size ∙ sym q.size) (λ i lt. sym (p.each i lt) ∙ q.each i (let n = p.size in let m = q.size in omega arith))
 
 -- ---- no fault
 
@@ -89,25 +90,25 @@ is_some (x ∷ a) (suc i) lt none = is_some a i (omega arith) none
 at_none : {X : Type 0} (o : Option X) (P : Type 0) (Q : X → Type 0) → o ≡ None → MatchOption o P Q → P
 at_none {X} o P Q is m = let P' : Option X → Type 0 = λ p. MatchOption p P Q in subst P' is m
 
-pub refused_for_memory : {R : Type 0} (width : ℕ) (value_of : List ℕ → Option R) (image : List ℕ) (frames : List Frame) (records : List R) (fault : ScanFault) → width < 2 ^ 16 → HasVector width value_of image frames records → IsRefused width value_of image fault → fault ≡ Memory
-refused_for_memory {R} width value_of image frames records fault small has refused = elim refused [
+pub refused_for_memory : {R : Type 0} (form : Encoding R) (image : List ℕ) (frames : List Frame) (records : List R) (fault : ScanFault) → form.width < 2 ^ 16 → HasVector form image frames records → IsRefused form image fault → fault ≡ Memory
+refused_for_memory {R} form image frames records fault small has refused = elim refused [
   | inl first ↦ (
-      let found = at_none (header_fault width image) ((fs : List Frame) × IsLongest width image fs × EndsWith width value_of image fs fault) (λ f. fault ≡ f) (no_header_fault width image frames small has.framed) first in
-      let same : frames ≡ found.0 = one_list width image frames found.0 has.framed found.1 in
-      let ends : EndsWith width value_of image frames fault = subst (λ fs. EndsWith width value_of image fs fault) (sym same) found.2 in
-      let bad = at_none (frame_fault width (length (text width frames)) (tally_of frames) (drop (length (text width frames)) image)) (IsBadRecord width value_of image frames fault) (λ f. fault ≡ f)
-      (frame_fault_closed width (length (text width frames)) (tally_of frames) (drop (length (text width frames)) image) (ends_closed width image frames has.framed)) ends in
+      let found = at_none (header_fault form.width image) ((fs : List Frame) × IsLongest form.width image fs × EndsWith form image fs fault) (λ f. fault ≡ f) (no_header_fault form.width image frames small has.framed) first in
+      let same : frames ≡ found.0 = one_list form.width image frames found.0 has.framed found.1 in
+      let ends : EndsWith form image frames fault = subst (λ fs. EndsWith form image fs fault) (sym same) found.2 in
+      let bad = at_none (frame_fault form.width (length (text form.width frames)) (tally_of frames) (drop (length (text form.width frames)) image)) (IsBadRecord form image frames fault) (λ f. fault ≡ f)
+      (frame_fault_closed form.width (length (text form.width frames)) (tally_of frames) (drop (length (text form.width frames)) image) (ends_closed form.width image frames has.framed)) ends in
       let inside : bad.0 < length records = let size = has.read.size in let at = bad.2.inside in omega arith in
       absurd (is_some records bad.0 inside (sym (has.read.each bad.0 inside) ∙ bad.2.bad)))
   | inr memory ↦ memory.0
 ]
 
-pub scanned_as : {R : Type 0} (width : ℕ) (value_of : List ℕ → Option R) (image : List ℕ) (frames others : List Frame) (records : List R) (scanned : Scanned R) → HasVector width value_of image frames records → IsScanOf width value_of image others scanned → scanned.records.items ≡ records
-scanned_as {R} width value_of image frames others records scanned has scan =
-    let same : frames ≡ others = one_list width image frames others has.framed (longest_closed width image others scan.vector.framed) in
-    one_vector width value_of image frames scanned.records.items records (subst (λ fs. IsVectorOf width value_of image fs scanned.records.items) (sym same) scan.vector.read) has.read
+pub scanned_as : {R : Type 0} (form : Encoding R) (image : List ℕ) (frames others : List Frame) (records : List R) (scanned : Scanned R) → HasVector form image frames records → IsScanOf form image others scanned → scanned.records.items ≡ records
+scanned_as {R} form image frames others records scanned has scan =
+    let same : frames ≡ others = one_list form.width image frames others has.framed (longest_closed form.width image others scan.vector.framed) in
+    one_vector form image frames scanned.records.items records (subst (λ fs. IsVectorOf form image fs scanned.records.items) (sym same) scan.vector.read) has.read
 
-pub is_scanned : {R : Type 0} (width : ℕ) (value_of : List ℕ → Option R) (image : List ℕ) (frames : List Frame) (records : List R) (answer : Result (Scanned R) ScanFault) → width < 2 ^ 16 → HasVector width value_of image frames records
-    → MatchResult answer (λ scanned. (others : List Frame) × IsScanOf width value_of image others scanned) (IsRefused width value_of image) → MatchResult answer (λ scanned. scanned.records.items ≡ records) (λ fault. fault ≡ Memory)
-is_scanned width value_of image frames records (Ok scanned) small has found = scanned_as width value_of image frames found.0 records scanned has found.1
-is_scanned width value_of image frames records (Err fault) small has refused = refused_for_memory width value_of image frames records fault small has refused
+pub is_scanned : {R : Type 0} (form : Encoding R) (image : List ℕ) (frames : List Frame) (records : List R) (answer : Result (Scanned R) ScanFault) → form.width < 2 ^ 16 → HasVector form image frames records
+    → MatchResult answer (λ scanned. (others : List Frame) × IsScanOf form image others scanned) (IsRefused form image) → MatchResult answer (λ scanned. scanned.records.items ≡ records) (λ fault. fault ≡ Memory)
+is_scanned form image frames records (Ok scanned) small has found = scanned_as form image frames found.0 records scanned has found.1
+is_scanned form image frames records (Err fault) small has refused = refused_for_memory form image frames records fault small has refused

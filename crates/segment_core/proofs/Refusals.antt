@@ -3,6 +3,7 @@ use Rattle.std.proofs.Common.{◌≡◌, ℕ, true, List, [], ◌∷◌, length,
 use Rattle.std.specs.Prelude.{MatchOption, not, nat_lt}
 use Rattle.std.proofs.lemmas.Bool.{lt-ltb, ne_eqb}
 use Rattle.std.proofs.lemmas.List.{drop_at}
+use Rattle.record_core.specs.Bytes.{Encoding}
 use Rattle.segment_core.specs.declared.fault.ScanFault.{ScanFault}
 use Rattle.segment_core.specs.Frame.{Frame, Group, Change, Shrink, Fold, text}
 use Rattle.segment_core.specs.Tally.{Tally, after, tally_from, tally_of, AreLegalFrom}
@@ -19,17 +20,17 @@ at_some {X} o x P Q is q = subst (λ (p : Option X). MatchOption p P Q) (sym is)
 at_none : {X : Type 0} (o : Option X) (P : Type 0) (Q : X → Type 0) → o ≡ None → P → MatchOption o P Q
 at_none {X} o P Q is p = subst (λ (p : Option X). MatchOption p P Q) (sym is) p
 
-pub refused_by_header : {R : Type 0} (width : ℕ) (value_of : List ℕ → Option R) (image : List ℕ) (fault : ScanFault) → header_fault width image ≡ Some fault → IsRefused width value_of image fault
-refused_by_header width value_of image fault some =
-    inl (at_some (header_fault width image) fault ((frames : List Frame) × IsLongest width image frames × EndsWith width value_of image frames fault) (λ first. fault ≡ first) some refl)
+pub refused_by_header : {R : Type 0} (form : Encoding R) (image : List ℕ) (fault : ScanFault) → header_fault form.width image ≡ Some fault → IsRefused form image fault
+refused_by_header form image fault some =
+    inl (at_some (header_fault form.width image) fault ((frames : List Frame) × IsLongest form.width image frames × EndsWith form image frames fault) (λ first. fault ≡ first) some refl)
 
-refused_at : {R : Type 0} (width : ℕ) (value_of : List ℕ → Option R) (image : List ℕ) (fault : ScanFault) (frames : List Frame) → header_fault width image ≡ None → IsLongest width image frames → EndsWith width value_of image frames fault → IsRefused width value_of image fault
-refused_at width value_of image fault frames none longest ends =
-    inl (at_none (header_fault width image) ((frames : List Frame) × IsLongest width image frames × EndsWith width value_of image frames fault) (λ first. fault ≡ first) none (frames, longest, ends))
+refused_at : {R : Type 0} (form : Encoding R) (image : List ℕ) (fault : ScanFault) (frames : List Frame) → header_fault form.width image ≡ None → IsLongest form.width image frames → EndsWith form image frames fault → IsRefused form image fault
+refused_at form image fault frames none longest ends =
+    inl (at_none (header_fault form.width image) ((frames : List Frame) × IsLongest form.width image frames × EndsWith form image frames fault) (λ first. fault ≡ first) none (frames, longest, ends))
 
-pub refused_by_walk : {R : Type 0} (width : ℕ) (value_of : List ℕ → Option R) (image : List ℕ) (fault : ScanFault) → header_fault width image ≡ None → IsWalkRefused width image fault → IsRefused width value_of image fault
-refused_by_walk width value_of image fault none refused = elim refused [
-  | inl at ↦ refused_at width value_of image fault at.0 none at.1 (at_some _ fault (IsBadRecord width value_of image at.0 fault) (λ first. fault ≡ first) at.2 refl)
+pub refused_by_walk : {R : Type 0} (form : Encoding R) (image : List ℕ) (fault : ScanFault) → header_fault form.width image ≡ None → IsWalkRefused form.width image fault → IsRefused form image fault
+refused_by_walk form image fault none refused = elim refused [
+  | inl at ↦ refused_at form image fault at.0 none at.1 (at_some _ fault (IsBadRecord form image at.0 fault) (λ first. fault ≡ first) at.2 refl)
   | inr memory ↦ inr (memory, none)
 ]
 
@@ -47,10 +48,10 @@ longest_closed width image frames has =
     let left : drop (length (text width frames)) image ≡ gate.0 ∷ gate.1 = ap (drop (length (text width frames))) gate.3 ∙ drop_at (text width frames) (gate.0 ∷ gate.1) (length (text width frames)) refl in
     is_longest width frames image (gate.0 ∷ gate.1) has.legal gate.3 (NoFrame_closed width (tally_of frames) (gate.0 ∷ gate.1) (ap is_closed (sym left) ∙ ends_closed width image frames has))
 
-pub refused_by_read : {R : Type 0} (width : ℕ) (value_of : List ℕ → Option R) (image : List ℕ) (fault : ScanFault) → header_fault width image ≡ None → IsReadRefused width value_of image fault → IsRefused width value_of image fault
-refused_by_read width value_of image fault none refused = elim refused [
-  | inl at ↦ refused_at width value_of image fault at.0 none (longest_closed width image at.0 at.1)
-      (at_none _ (IsBadRecord width value_of image at.0 fault) (λ first. fault ≡ first) (frame_fault_closed width (length (text width at.0)) (tally_of at.0) (drop (length (text width at.0)) image) (ends_closed width image at.0 at.1)) at.2)
+pub refused_by_read : {R : Type 0} (form : Encoding R) (image : List ℕ) (fault : ScanFault) → header_fault form.width image ≡ None → IsReadRefused form image fault → IsRefused form image fault
+refused_by_read form image fault none refused = elim refused [
+  | inl at ↦ refused_at form image fault at.0 none (longest_closed form.width image at.0 at.1)
+      (at_none _ (IsBadRecord form image at.0 fault) (λ first. fault ≡ first) (frame_fault_closed form.width (length (text form.width at.0)) (tally_of at.0) (drop (length (text form.width at.0)) image) (ends_closed form.width image at.0 at.1)) at.2)
   | inr memory ↦ inr (memory, none)
 ]
 

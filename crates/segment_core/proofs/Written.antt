@@ -1,5 +1,5 @@
 -- Growths as frames: their sizes, their text one by one, and the vector that is read from them.
-use Rattle.std.proofs.Common.{◌≡◌, ℕ, zero, suc, ◌+◌, ◌*◌, ◌≤◌, ◌<◌, List, [], ◌∷◌, ◌++◌, length, take, drop, get_or, map, sum, Option, Some, refl, sym, ap, subst, ◌∙◌, append_assoc, arith}
+use Rattle.std.proofs.Common.{◌≡◌, ℕ, zero, suc, ◌+◌, ◌*◌, ◌≤◌, ◌<◌, List, [], ◌∷◌, ◌++◌, length, take, drop, get_or, map, sum, Some, refl, sym, ap, subst, ◌∙◌, append_assoc, arith}
 use Rattle.std.specs.Prelude.{slice_get}
 use Rattle.std.specs.Global.{Vec}
 use Rattle.std.specs.List.{flat_map}
@@ -10,6 +10,7 @@ use Rattle.std.proofs.lemmas.List.Sums.{sum-map}
 use Rattle.record_core.specs.Cells.{AreReadAgain}
 use Rattle.record_core.proofs.Cells.{length-flat_map_bytes}
 use Rattle.record_core.specs.Limits.{payload_limit}
+use Rattle.record_core.specs.Bytes.{Encoding}
 use Rattle.segment_core.specs.Frame.{payload_of, frame_text, text}
 use Rattle.segment_core.specs.Written.{growths_of, groups_of, joined, all_records, group_frame, payload_len, AllFit}
 use Rattle.segment_core.proofs.Payload.{length-group_payload}
@@ -63,18 +64,18 @@ long_growth width (suc n) wide = let more = long_growth width n wide in omega ar
 pub sum-lengths : {R : Type 0} (growths : List (List R)) → length (joined growths) ≡ sum (map length growths)
 sum-lengths growths = length-flat_map (λ growth. growth) growths ∙ sym (sum-map length growths)
 
-pub length-group_frame : {R : Type 0} (width : ℕ) (bytes_of : R → List ℕ) (growths : List (List R)) → ((r : R) → length (bytes_of r) ≡ width) → length (payload_of (group_frame bytes_of growths)) ≡ payload_len width growths
-length-group_frame width bytes_of growths wide =
-    let a = length-group_payload (map length growths) (flat_map bytes_of (joined growths)) in
+pub length-group_frame : {R : Type 0} (form : Encoding R) (growths : List (List R)) → ((r : R) → length (form.bytes_of r) ≡ form.width) → length (payload_of (group_frame form growths)) ≡ payload_len form.width growths
+length-group_frame form growths wide =
+    let a = length-group_payload (map length growths) (flat_map form.bytes_of (joined growths)) in
     let b = length-map growths length in
-    let d = length-flat_map_bytes width bytes_of (joined growths) wide in
+    let d = length-flat_map_bytes form (joined growths) wide in
     omega arith
 
 -- ---- what is read again
 
-pub AreReadAgain-append : {R : Type 0} (bytes_of : R → List ℕ) (value_of : List ℕ → Option R) (a b : List R) → AreReadAgain bytes_of value_of a → AreReadAgain bytes_of value_of b → AreReadAgain bytes_of value_of (a ++ b)
-AreReadAgain-append bytes_of value_of [] b each more = more
-AreReadAgain-append bytes_of value_of (r ∷ a) b each more = (each.0, AreReadAgain-append bytes_of value_of a b each.1 more)
+pub AreReadAgain-append : {R : Type 0} (form : Encoding R) (a b : List R) → AreReadAgain form a → AreReadAgain form b → AreReadAgain form (a ++ b)
+AreReadAgain-append form [] b each more = more
+AreReadAgain-append form (r ∷ a) b each more = (each.0, AreReadAgain-append form a b each.1 more)
 
 -- ---- text
 
@@ -82,19 +83,19 @@ regroup : (file head lengths bytes : List ℕ) → ((file ++ head) ++ lengths) +
 regroup file head lengths bytes = simp append_assoc
 
 -- a frame that was appended piece by piece
-pub group_appended : {R : Type 0} (width : ℕ) (bytes_of : R → List ℕ) (growths : List (List R)) (len n : ℕ) (file headed counted done : List ℕ) → ((r : R) → length (bytes_of r) ≡ width) → len ≡ payload_len width growths → n ≡ length growths
-    → headed ≡ file ++ ((1 ∷ 1 ∷ to_le_bytes w32 len) ++ to_le_bytes w32 n) → counted ≡ headed ++ flat_map (to_le_bytes w32) (map length growths) → done ≡ counted ++ flat_map bytes_of (joined growths) → done ≡ file ++ frame_text (group_frame bytes_of growths)
-group_appended width bytes_of growths len n file headed counted done wide size count a b c =
-    let payload_is : len ≡ length (payload_of (group_frame bytes_of growths)) = size ∙ sym (length-group_frame width bytes_of growths wide) in
+pub group_appended : {R : Type 0} (form : Encoding R) (growths : List (List R)) (len n : ℕ) (file headed counted done : List ℕ) → ((r : R) → length (form.bytes_of r) ≡ form.width) → len ≡ payload_len form.width growths → n ≡ length growths
+    → headed ≡ file ++ ((1 ∷ 1 ∷ to_le_bytes w32 len) ++ to_le_bytes w32 n) → counted ≡ headed ++ flat_map (to_le_bytes w32) (map length growths) → done ≡ counted ++ flat_map form.bytes_of (joined growths) → done ≡ file ++ frame_text (group_frame form growths)
+group_appended form growths len n file headed counted done wide size count a b c =
+    let payload_is : len ≡ length (payload_of (group_frame form growths)) = size ∙ sym (length-group_frame form growths wide) in
     let count_is : n ≡ length (map length growths) = count ∙ sym (length-map growths length) in
     let lengths : List ℕ = flat_map (to_le_bytes w32) (map length growths) in
-    let bytes : List ℕ = flat_map bytes_of (joined growths) in
+    let bytes : List ℕ = flat_map form.bytes_of (joined growths) in
     let head : List ℕ = (1 ∷ 1 ∷ to_le_bytes w32 len) ++ to_le_bytes w32 n in
     c ∙ ap (λ (bs : List ℕ). bs ++ bytes) (b ∙ ap (λ (bs : List ℕ). bs ++ lengths) a)
     ∙ regroup file head lengths bytes
     ∙ ap (λ (bs : List ℕ). file ++ bs) (append_assoc (1 ∷ 1 ∷ to_le_bytes w32 len) (to_le_bytes w32 n) (lengths ++ bytes))
     ∙ ap (λ k. file ++ ((1 ∷ 1 ∷ to_le_bytes w32 k) ++ (to_le_bytes w32 n ++ (lengths ++ bytes)))) payload_is
-    ∙ ap (λ k. file ++ ((1 ∷ 1 ∷ to_le_bytes w32 (length (payload_of (group_frame bytes_of growths)))) ++ (to_le_bytes w32 k ++ (lengths ++ bytes)))) count_is
+    ∙ ap (λ k. file ++ ((1 ∷ 1 ∷ to_le_bytes w32 (length (payload_of (group_frame form growths)))) ++ (to_le_bytes w32 k ++ (lengths ++ bytes)))) count_is
 
 -- ---- one group more
 
@@ -104,8 +105,8 @@ groups_more {R} groups k group lt is = map_more (λ (g : Vec (Vec R)). growths_o
 pub all_records_push : {R : Type 0} (groups : List (List (List R))) (group : List (List R)) → all_records (groups ++ group ∷ []) ≡ all_records groups ++ joined group
 all_records_push groups group = ap joined (map_push joined groups group) ∙ joined_push (map joined groups) (joined group)
 
-pub text_more : {R : Type 0} (width : ℕ) (bytes_of : R → List ℕ) (groups : List (List (List R))) (group : List (List R)) → text width (map (group_frame bytes_of) (groups ++ group ∷ [])) ≡ text width (map (group_frame bytes_of) groups) ++ frame_text (group_frame bytes_of group)
-text_more width bytes_of groups group = ap (text width) (map_push (group_frame bytes_of) groups group) ∙ text_push width (map (group_frame bytes_of) groups) (group_frame bytes_of group)
+pub text_more : {R : Type 0} (form : Encoding R) (groups : List (List (List R))) (group : List (List R)) → text form.width (map (group_frame form) (groups ++ group ∷ [])) ≡ text form.width (map (group_frame form) groups) ++ frame_text (group_frame form group)
+text_more form groups group = ap (text form.width) (map_push (group_frame form) groups group) ∙ text_push form.width (map (group_frame form) groups) (group_frame form group)
 
 pub AllFit_push : {R : Type 0} (width : ℕ) (groups : List (List (List R))) (group : List (List R)) → AllFit width groups → payload_len width group ≤ payload_limit → AllFit width (groups ++ group ∷ [])
 AllFit_push width [] group fit small = (small, tt)

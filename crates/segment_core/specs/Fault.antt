@@ -3,6 +3,7 @@
 use Rattle.std.specs.Prelude.{◌≡◌, ℕ, ◌+◌, ◌<◌, Bool, List, [], ◌∷◌, ◌++◌, length, take, drop, slice_index, Option, Some, None, IsSome, MatchOption, codes, nat_le, nat_lt, not, ◌==◌, ◌&&◌, ◌||◌, if◌then◌else◌, nat_eq, ◌⊎◌}
 use Rattle.std.specs.List.{starts_with}
 use Rattle.std.specs.Int.{w16, from_le_bytes}
+use Rattle.record_core.specs.Bytes.{Encoding}
 use Rattle.segment_core.specs.declared.fault.Cause.{Cause}
 use Rattle.segment_core.specs.declared.fault.Cause.TheVariants.{NoGate, ShortFrame, Kind, TooLarge, Layout, Range, Unfolded, FoldCount, TooLong, BadRecord}
 use Rattle.segment_core.specs.declared.fault.ScanFault.{ScanFault}
@@ -74,26 +75,26 @@ frame_fault width p tally bytes =
     if is_closed bytes then None else first_line (frame_lines width p bytes ++ order_lines width p tally (frame_in (kind_in bytes) (payload_in bytes)))
 
 -- position i is the least that has no record
-pub record IsFirstBad {R : Type 0} (width : ℕ) (value_of : List ℕ → Option R) (image : List ℕ) (frames : List Frame) (i : ℕ) : Type 0 where
+pub record IsFirstBad {R : Type 0} (form : Encoding R) (image : List ℕ) (frames : List Frame) (i : ℕ) : Type 0 where
   pub inside : i < (tally_of frames).size
-  pub bad : record_at width value_of image frames i ≡ None
-  pub before : (k : ℕ) → k < i → IsSome (record_at width value_of image frames k)
+  pub bad : record_at form image frames i ≡ None
+  pub before : (k : ℕ) → k < i → IsSome (record_at form image frames k)
 
-abbrev pub IsBadRecord : {R : Type 0} → ℕ → (List ℕ → Option R) → List ℕ → List Frame → ScanFault → Type 0
-IsBadRecord width value_of image frames fault =
-    (i : ℕ) × (place : ℕ) × IsFirstBad width value_of image frames i × (place_of width frames i ≡ Some place) × (fault ≡ damaged place BadRecord)
+abbrev pub IsBadRecord : {R : Type 0} → Encoding R → List ℕ → List Frame → ScanFault → Type 0
+IsBadRecord form image frames fault =
+    (i : ℕ) × (place : ℕ) × IsFirstBad form image frames i × (place_of form.width frames i ≡ Some place) × (fault ≡ damaged place BadRecord)
 
 -- the fault at the end of these frames
-abbrev pub EndsWith : {R : Type 0} → ℕ → (List ℕ → Option R) → List ℕ → List Frame → ScanFault → Type 0
-EndsWith width value_of image frames fault =
-    let p = length (text width frames) in
-    MatchOption (frame_fault width p (tally_of frames) (drop p image)) (IsBadRecord width value_of image frames fault) (λ first. fault ≡ first)
+abbrev pub EndsWith : {R : Type 0} → Encoding R → List ℕ → List Frame → ScanFault → Type 0
+EndsWith form image frames fault =
+    let p = length (text form.width frames) in
+    MatchOption (frame_fault form.width p (tally_of frames) (drop p image)) (IsBadRecord form image frames fault) (λ first. fault ≡ first)
 
-abbrev pub IsFirstFault : {R : Type 0} → ℕ → (List ℕ → Option R) → List ℕ → ScanFault → Type 0
-IsFirstFault width value_of image fault =
-    MatchOption (header_fault width image) ((frames : List Frame) × IsLongest width image frames × EndsWith width value_of image frames fault) (λ first. fault ≡ first)
+abbrev pub IsFirstFault : {R : Type 0} → Encoding R → List ℕ → ScanFault → Type 0
+IsFirstFault form image fault =
+    MatchOption (header_fault form.width image) ((frames : List Frame) × IsLongest form.width image frames × EndsWith form image frames fault) (λ first. fault ≡ first)
 
 -- what a scan may answer in place of the image's vector: its first fault, or, once the header is read, that
 -- memory was refused
-abbrev pub IsRefused : {R : Type 0} → ℕ → (List ℕ → Option R) → List ℕ → ScanFault → Type 0
-IsRefused width value_of image fault = IsFirstFault width value_of image fault ⊎ ((fault ≡ Memory) × (header_fault width image ≡ None))
+abbrev pub IsRefused : {R : Type 0} → Encoding R → List ℕ → ScanFault → Type 0
+IsRefused form image fault = IsFirstFault form image fault ⊎ ((fault ≡ Memory) × (header_fault form.width image ≡ None))

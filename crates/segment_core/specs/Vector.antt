@@ -2,6 +2,7 @@
 -- stands in its home bytes.
 use Rattle.std.specs.Prelude.{◌≡◌, ℕ, ◌+◌, ◌-◌, ◌*◌, ◌<◌, List, [], ◌∷◌, length, take, drop, sum, slice_get, Option, Some, None, nat_le, nat_lt, ◌&&◌, if◌then◌else◌}
 use Rattle.std.specs.Option.{option_or, option_and_then}
+use Rattle.record_core.specs.Bytes.{Encoding}
 use Rattle.segment_core.specs.Frame.{Frame, Group, Change, Shrink, Fold, header, frame_text}
 use Rattle.segment_core.specs.Tally.{Tally, nothing, after, tally_of}
 use Rattle.segment_core.specs.Image.{HasFrames}
@@ -39,15 +40,15 @@ place_of width frames i =
     option_or (change_from width (tally_of frames).folded p nothing frames i) (home_from width p nothing frames i)
 
 -- the record there, if those bytes are one
-abbrev pub record_at : {R : Type 0} → ℕ → (List ℕ → Option R) → List ℕ → List Frame → ℕ → Option R
-record_at width value_of image frames i = option_and_then (λ place. value_of (take width (drop place image))) (place_of width frames i)
+abbrev pub record_at : {R : Type 0} → Encoding R → List ℕ → List Frame → ℕ → Option R
+record_at form image frames i = option_and_then (λ place. form.value_of (take form.width (drop place image))) (place_of form.width frames i)
 
 -- what the image says of each position
-pub record IsVectorOf {R : Type 0} (width : ℕ) (value_of : List ℕ → Option R) (image : List ℕ) (frames : List Frame) (records : List R) : Type 0 where
+pub record IsVectorOf {R : Type 0} (form : Encoding R) (image : List ℕ) (frames : List Frame) (records : List R) : Type 0 where
   pub size : length records ≡ (tally_of frames).size
-  pub each : (i : ℕ) → i < length records → record_at width value_of image frames i ≡ slice_get records i
+  pub each : (i : ℕ) → i < length records → record_at form image frames i ≡ slice_get records i
 
 -- the vector of an image, where it has one
-pub record HasVector {R : Type 0} (width : ℕ) (value_of : List ℕ → Option R) (image : List ℕ) (frames : List Frame) (records : List R) : Type 0 where
-  pub framed : HasFrames width image frames
-  pub read : IsVectorOf width value_of image frames records
+pub record HasVector {R : Type 0} (form : Encoding R) (image : List ℕ) (frames : List Frame) (records : List R) : Type 0 where
+  pub framed : HasFrames form.width image frames
+  pub read : IsVectorOf form image frames records

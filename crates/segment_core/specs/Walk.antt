@@ -1,5 +1,6 @@
 -- A walk over the frames of an image: where it stands, and what it has found.
-use Rattle.std.specs.Prelude.{◌≡◌, ◌<◌, ℕ, ◌+◌, ◌*◌, ◌^◌, List, [], ◌∷◌, ◌++◌, length, take, drop, slice_get, Option, Some, None, IsSome, ◌⊎◌}
+use Rattle.std.specs.Prelude.{◌≡◌, ◌<◌, ℕ, ◌+◌, ◌*◌, ◌^◌, List, [], ◌∷◌, ◌++◌, length, take, drop, slice_get, Some, None, IsSome, ◌⊎◌}
+use Rattle.record_core.specs.Bytes.{Encoding}
 use Rattle.segment_core.specs.declared.fault.Cause.TheVariants.{TooLong, BadRecord}
 use Rattle.segment_core.specs.declared.fault.ScanFault.{ScanFault}
 use Rattle.segment_core.specs.declared.fault.ScanFault.TheVariants.{Memory}
@@ -49,19 +50,19 @@ abbrev pub bytes_at : ℕ → List ℕ → Home → ℕ → List ℕ
 bytes_at width image home i = take width (drop (home.place + i * width) image)
 
 -- a home holds these records
-pub record HoldsAt {R : Type 0} (width : ℕ) (value_of : List ℕ → Option R) (image : List ℕ) (home : Home) (records : List R) : Type 0 where
+pub record HoldsAt {R : Type 0} (form : Encoding R) (image : List ℕ) (home : Home) (records : List R) : Type 0 where
   pub all : length records ≡ home.count
-  pub each : (i : ℕ) → i < home.count → value_of (bytes_at width image home i) ≡ slice_get records i
+  pub each : (i : ℕ) → i < home.count → form.value_of (bytes_at form.width image home i) ≡ slice_get records i
 
 -- record i is the first of a home whose bytes are no record
-pub record IsBadAt {R : Type 0} (width : ℕ) (value_of : List ℕ → Option R) (image : List ℕ) (home : Home) (i : ℕ) : Type 0 where
+pub record IsBadAt {R : Type 0} (form : Encoding R) (image : List ℕ) (home : Home) (i : ℕ) : Type 0 where
   pub inside : i < home.count
-  pub bad : value_of (bytes_at width image home i) ≡ None
-  pub before : (k : ℕ) → k < i → IsSome (value_of (bytes_at width image home k))
+  pub bad : form.value_of (bytes_at form.width image home i) ≡ None
+  pub before : (k : ℕ) → k < i → IsSome (form.value_of (bytes_at form.width image home k))
 
-abbrev pub IsHomeRefused : {R : Type 0} → ℕ → (List ℕ → Option R) → List ℕ → Home → ScanFault → Type 0
-IsHomeRefused width value_of image home fault = ((i : ℕ) × IsBadAt width value_of image home i × (fault ≡ damaged (home.place + i * width) BadRecord)) ⊎ (fault ≡ Memory)
+abbrev pub IsHomeRefused : {R : Type 0} → Encoding R → List ℕ → Home → ScanFault → Type 0
+IsHomeRefused form image home fault = ((i : ℕ) × IsBadAt form image home i × (fault ≡ damaged (home.place + i * form.width) BadRecord)) ⊎ (fault ≡ Memory)
 
 -- what is answered in place of the records
-abbrev pub IsReadRefused : {R : Type 0} → ℕ → (List ℕ → Option R) → List ℕ → ScanFault → Type 0
-IsReadRefused width value_of image fault = ((frames : List Frame) × HasFrames width image frames × IsBadRecord width value_of image frames fault) ⊎ (fault ≡ Memory)
+abbrev pub IsReadRefused : {R : Type 0} → Encoding R → List ℕ → ScanFault → Type 0
+IsReadRefused form image fault = ((frames : List Frame) × HasFrames form.width image frames × IsBadRecord form image frames fault) ⊎ (fault ≡ Memory)

@@ -2,6 +2,7 @@
 use Rattle.std.specs.Prelude.{◌≡◌, ℕ, ◌+◌, ◌*◌, ◌<◌, List, [], ◌∷◌, ◌++◌, ◌≤◌, length, map, take, slice_get, Some}
 use Rattle.std.specs.Global.{Vec}
 use Rattle.std.specs.List.{flat_map, AllByRecursion}
+use Rattle.record_core.specs.Bytes.{Encoding}
 use Rattle.segment_core.specs.declared.fault.ImageFault.{ImageFault}
 use Rattle.segment_core.specs.declared.fault.ImageFault.TheVariants.{TooLarge, Memory}
 use Rattle.record_core.specs.Limits.{payload_limit}
@@ -19,12 +20,12 @@ abbrev pub joined : {R : Type 0} → List (List R) → List R
 joined growths = flat_map (λ growth. growth) growths
 
 -- the frame of one group
-abbrev pub group_frame : {R : Type 0} → (R → List ℕ) → List (List R) → Frame
-group_frame bytes_of growths = Group (map length growths) (flat_map bytes_of (joined growths))
+abbrev pub group_frame : {R : Type 0} → Encoding R → List (List R) → Frame
+group_frame form growths = Group (map length growths) (flat_map form.bytes_of (joined growths))
 
 -- the file: the Groups, and a closed gate
-abbrev pub file_of : {R : Type 0} → ℕ → (R → List ℕ) → List (List (List R)) → List ℕ
-file_of width bytes_of groups = text width (map (group_frame bytes_of) groups) ++ 0 ∷ []
+abbrev pub file_of : {R : Type 0} → Encoding R → List (List (List R)) → List ℕ
+file_of form groups = text form.width (map (group_frame form) groups) ++ 0 ∷ []
 
 -- the bytes of a group's payload
 abbrev pub payload_len : {R : Type 0} → ℕ → List (List R) → ℕ

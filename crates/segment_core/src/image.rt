@@ -11,7 +11,7 @@ ghost use Rattle.segment_core.specs.Written.{AreFilled, AllFit, growths_of, grou
 
 use crate::fault::ImageFault;
 use crate::format::{CLOSED, FRAME_HEAD_LEN, FrameKind, HEADER_LEN, MAGIC, OPEN, VERSION};
-use record_core::{PAYLOAD_LIMIT, Record, append_records};
+use record_core::{PAYLOAD_LIMIT, Record, append_records, width_of};
 use std::alloc::{AllocError, Global};
 
 /// Makes the file of these growths: the header, a group frame for each group, and a closed gate. Its memory is
@@ -19,13 +19,13 @@ use std::alloc::{AllocError, Global};
 /// such group, before any memory is asked for.
 pub fn write_image<R: Record>(alloc: Global, groups: &[Vec<Vec<R>>]) -> Result<Vec<u8>, ImageFault>
     requires { AreFilled (groups_of groups.now) }
-    ensures text { IfOk result (λ file. file.items ≡ file_of R.WIDTH R.bytes_of (groups_of groups.now)) }
+    ensures text { IfOk result (λ file. file.items ≡ file_of R.form (groups_of groups.now)) }
     ensures fits { MatchResult result
-        (λ _. AllFit R.WIDTH (groups_of groups.now))
-        (IsImageRefused R.WIDTH (groups_of groups.now)) }
+        (λ _. AllFit R.form.width (groups_of groups.now))
+        (IsImageRefused R.form.width (groups_of groups.now)) }
     // The file is read as the records in their order, where they aren't too many for a vector.
     ensures read_again { IfOk result (λ file. length (all_records (groups_of groups.now)) ≤ 2 ^ 32 →
-        HasVector R.WIDTH R.value_of file.items (map (group_frame R.bytes_of) (groups_of groups.now)) (all_records (groups_of groups.now))) }
+        HasVector R.form file.items (map (group_frame R.form) (groups_of groups.now)) (all_records (groups_of groups.now))) }
 {
     let size = image_len(groups)?;
     let Ok(mut file) = Vec::with_capacity(alloc, size) else {
@@ -40,10 +40,10 @@ pub fn write_image<R: Record>(alloc: Global, groups: &[Vec<Vec<R>>]) -> Result<V
 /// The bytes of a group's payload, if they are at most `PAYLOAD_LIMIT`.
 fn payload_size<R: Record>(group: &[Vec<R>]) -> Option<usize>
     ensures { MatchOption result
-        (payload_limit < payload_len R.WIDTH (growths_of group.now))
-        (λ len. (len ≡ payload_len R.WIDTH (growths_of group.now)) × (len ≤ payload_limit)) }
+        (payload_limit < payload_len R.form.width (growths_of group.now))
+        (λ len. (len ≡ payload_len R.form.width (growths_of group.now)) × (len ≤ payload_limit)) }
 {
-    let width = R::WIDTH;
+    let width = width_of::<R>();
     let mut len = 4;
     for growth in group {
         let records = growth.len();
@@ -62,8 +62,8 @@ fn payload_size<R: Record>(group: &[Vec<R>]) -> Option<usize>
 /// The bytes of the file.
 fn image_len<R: Record>(groups: &[Vec<Vec<R>>]) -> Result<usize, ImageFault>
     ensures { MatchResult result
-        (λ _. AllFit R.WIDTH (groups_of groups.now))
-        (IsImageRefused R.WIDTH (groups_of groups.now)) }
+        (λ _. AllFit R.form.width (groups_of groups.now))
+        (IsImageRefused R.form.width (groups_of groups.now)) }
 {
     let mut size = HEADER_LEN + 1;
     for (k, group) in groups.iter().enumerate() {
@@ -77,7 +77,7 @@ fn image_len<R: Record>(groups: &[Vec<Vec<R>>]) -> Result<usize, ImageFault>
 
 /// Appends the lengths of the growths.
 fn append_lengths<R: Record>(group: &[Vec<R>], file: &mut Vec<u8>) -> Result<(), AllocError>
-    requires { payload_len R.WIDTH (growths_of group.now) ≤ payload_limit }
+    requires { payload_len R.form.width (growths_of group.now) ≤ payload_limit }
     ensures { OnOk result (file.new.items ≡ file.old.items ++ flat_map (to_le_bytes w32) (map length (growths_of group.now))) }
 {
     for growth in group {
@@ -88,9 +88,9 @@ fn append_lengths<R: Record>(group: &[Vec<R>], file: &mut Vec<u8>) -> Result<(),
 
 /// Appends the records of the growths.
 fn append_growths<R: Record>(group: &[Vec<R>], file: &mut Vec<u8>) -> Result<(), AllocError>
-    requires { payload_len R.WIDTH (growths_of group.now) ≤ payload_limit }
-    ensures bytes { OnOk result (file.new.items ≡ file.old.items ++ flat_map R.bytes_of (joined (growths_of group.now))) }
-    ensures read_again { OnOk result (AreReadAgain R.bytes_of R.value_of (joined (growths_of group.now))) }
+    requires { payload_len R.form.width (growths_of group.now) ≤ payload_limit }
+    ensures bytes { OnOk result (file.new.items ≡ file.old.items ++ flat_map R.form.bytes_of (joined (growths_of group.now))) }
+    ensures read_again { OnOk result (AreReadAgain R.form (joined (growths_of group.now))) }
 {
     for growth in group {
         append_records(growth, file)?;
@@ -112,9 +112,9 @@ fn append_head(payload_len: usize, growths: usize, file: &mut Vec<u8>) -> Result
 
 /// Appends the frame of a group, behind an open gate.
 fn append_group<R: Record>(group: &[Vec<R>], file: &mut Vec<u8>) -> Result<(), AllocError>
-    requires { payload_len R.WIDTH (growths_of group.now) ≤ payload_limit }
-    ensures text { OnOk result (file.new.items ≡ file.old.items ++ frame_text (group_frame R.bytes_of (growths_of group.now))) }
-    ensures read_again { OnOk result (AreReadAgain R.bytes_of R.value_of (joined (growths_of group.now))) }
+    requires { payload_len R.form.width (growths_of group.now) ≤ payload_limit }
+    ensures text { OnOk result (file.new.items ≡ file.old.items ++ frame_text (group_frame R.form (growths_of group.now))) }
+    ensures read_again { OnOk result (AreReadAgain R.form (joined (growths_of group.now))) }
 {
     let len = payload_size(group).unwrap();
     append_head(len, group.len(), file)?;
@@ -135,11 +135,11 @@ fn append_header(width: usize, file: &mut Vec<u8>) -> Result<(), AllocError>
 
 /// Appends the whole file.
 fn append_image<R: Record>(groups: &[Vec<Vec<R>>], file: &mut Vec<u8>) -> Result<(), AllocError>
-    requires { AllFit R.WIDTH (groups_of groups.now) }
-    ensures text { OnOk result (file.new.items ≡ file.old.items ++ file_of R.WIDTH R.bytes_of (groups_of groups.now)) }
-    ensures read_again { OnOk result (AreReadAgain R.bytes_of R.value_of (all_records (groups_of groups.now))) }
+    requires { AllFit R.form.width (groups_of groups.now) }
+    ensures text { OnOk result (file.new.items ≡ file.old.items ++ file_of R.form (groups_of groups.now)) }
+    ensures read_again { OnOk result (AreReadAgain R.form (all_records (groups_of groups.now))) }
 {
-    append_header(R::WIDTH, file)?;
+    append_header(width_of::<R>(), file)?;
     for group in groups {
         append_group(group, file)?;
     }

@@ -2,6 +2,7 @@
 
 ghost use Rattle.std.specs.Prelude.{◌≡◌, ◌<◌, ◌∷◌, ◌++◌, [], ℕ};
 ghost use Rattle.std.specs.Int.{w64, to_le_bytes};
+ghost use Rattle.record_core.specs.Bytes.{unsigned};
 ghost use Rattle.segment_core.specs.Command.{content};
 ghost use Rattle.segment_core.specs.Command as commands;
 ghost use Rattle.segment_core.specs.Frame.{Group, Change, Shrink, Fold, header};
@@ -53,14 +54,14 @@ const FLAGGED: [u8; 35] = [
 /// the first fault of that file's frame with another kind, another length, and cut.
 #[tactic(auto, using(std::proofs::lemmas::Grind::common_steps), unfolding(crate::specs::Vector::place_of, crate::specs::Fault::frame_fault, crate::specs::Fault::frame_lines, crate::specs::Fault::order_lines, crate::specs::Layout::is_group_layout, crate::specs::Layout::u32_at))]
 fn worked_definitions()
-    ensures empty { file_of 8 (to_le_bytes w64) [] ≡ header 8 ++ 0 ∷ [] }
+    ensures empty { file_of (unsigned w64) [] ≡ header 8 ++ 0 ∷ [] }
     ensures head { header 8 ≡ 1 ∷ 67 ∷ 86 ∷ 69 ∷ 67 ∷ 83 ∷ 69 ∷ 71 ∷ 1 ∷ 8 ∷ 0 ∷ [] }
-    ensures five { file_of 8 (to_le_bytes w64) (((5 ∷ []) ∷ []) ∷ []) ≡ header 8 ++
+    ensures five { file_of (unsigned w64) (((5 ∷ []) ∷ []) ∷ []) ≡ header 8 ++
         (1 ∷ 1 ∷ 16 ∷ 0 ∷ 0 ∷ 0 ∷ 1 ∷ 0 ∷ 0 ∷ 0 ∷ 1 ∷ 0 ∷ 0 ∷ 0 ∷ 5 ∷ 0 ∷ 0 ∷ 0 ∷ 0 ∷ 0 ∷ 0 ∷ 0 ∷ 0 ∷ []) }
-    ensures two_growths { file_of 8 (to_le_bytes w64) (((1 ∷ 2 ∷ []) ∷ (3 ∷ []) ∷ []) ∷ []) ≡ header 8 ++
+    ensures two_growths { file_of (unsigned w64) (((1 ∷ 2 ∷ []) ∷ (3 ∷ []) ∷ []) ∷ []) ≡ header 8 ++
         (1 ∷ 1 ∷ 36 ∷ 0 ∷ 0 ∷ 0 ∷ 2 ∷ 0 ∷ 0 ∷ 0 ∷ 2 ∷ 0 ∷ 0 ∷ 0 ∷ 1 ∷ 0 ∷ 0 ∷ 0 ∷ 1 ∷ 0 ∷ 0 ∷ 0 ∷ 0 ∷ 0 ∷ 0 ∷ 0 ∷
         2 ∷ 0 ∷ 0 ∷ 0 ∷ 0 ∷ 0 ∷ 0 ∷ 0 ∷ 3 ∷ 0 ∷ 0 ∷ 0 ∷ 0 ∷ 0 ∷ 0 ∷ 0 ∷ 0 ∷ []) }
-    ensures home { place_of 8 (group_frame (to_le_bytes w64) ((5 ∷ []) ∷ []) ∷ []) 0 ≡ Some 25 }
+    ensures home { place_of 8 (group_frame (unsigned w64) ((5 ∷ []) ∷ []) ∷ []) 0 ≡ Some 25 }
     ensures kind { frame_fault 8 11 nothing (1 ∷ 5 ∷ 16 ∷ 0 ∷ 0 ∷ 0 ∷ []) ≡ Some (ScanFault.Damaged 12 (Cause.Kind 5)) }
     ensures layout { frame_fault 8 11 nothing (1 ∷ 1 ∷ 17 ∷ 0 ∷ 0 ∷ 0 ∷ 1 ∷ 0 ∷ 0 ∷ 0 ∷ 1 ∷ 0 ∷ 0 ∷ 0 ∷ 5 ∷ 0 ∷ 0 ∷ 0 ∷ 0 ∷ 0 ∷ 0 ∷ 0 ∷ 0 ∷ []) ≡ Some (ScanFault.Damaged 17 Cause.Layout) }
     ensures short { frame_fault 8 11 nothing (1 ∷ 1 ∷ 18 ∷ 0 ∷ 0 ∷ 0 ∷ 1 ∷ 0 ∷ 0 ∷ 0 ∷ 1 ∷ 0 ∷ 0 ∷ 0 ∷ 5 ∷ 0 ∷ 0 ∷ 0 ∷ 0 ∷ 0 ∷ 0 ∷ 0 ∷ 0 ∷ []) ≡ Some (ScanFault.Damaged 11 Cause.ShortFrame) }
@@ -68,8 +69,8 @@ fn worked_definitions()
     ensures closed { frame_fault 8 11 nothing (7 ∷ []) ≡ None }
 
     // The kinds that aren't built yet: a live change tells, a folded one doesn't.
-    ensures changed { place_of 8 (group_frame (to_le_bytes w64) ((5 ∷ []) ∷ []) ∷ Change 0 (to_le_bytes w64 7) ∷ []) 0 ≡ Some 47 }
-    ensures folded { place_of 8 (group_frame (to_le_bytes w64) ((5 ∷ []) ∷ []) ∷ Change 0 (to_le_bytes w64 7) ∷ Fold 1 ∷ []) 0 ≡ Some 25 }
+    ensures changed { place_of 8 (group_frame (unsigned w64) ((5 ∷ []) ∷ []) ∷ Change 0 (to_le_bytes w64 7) ∷ []) 0 ≡ Some 47 }
+    ensures folded { place_of 8 (group_frame (unsigned w64) ((5 ∷ []) ∷ []) ∷ Change 0 (to_le_bytes w64 7) ∷ Fold 1 ∷ []) 0 ≡ Some 25 }
     ensures unfolded { first_line (order_lines 8 63 (tally_of (Group (2 ∷ []) [] ∷ Change 1 [] ∷ [])) (Shrink 1)) ≡ Some (ScanFault.Damaged 63 Cause.Unfolded) }
     ensures miscounted { first_line (order_lines 8 55 (tally_of (Group (1 ∷ []) [] ∷ Change 0 [] ∷ [])) (Fold 2)) ≡ Some (ScanFault.Damaged 61 Cause.FoldCount) }
     ensures content { content {R = ℕ} [] (commands.Grow (5 ∷ []) ∷ commands.Grow (6 ∷ 7 ∷ []) ∷ commands.Change 1 (8 ∷ 9 ∷ []) ∷ commands.Shrink 2 ∷ []) ≡ 5 ∷ 8 ∷ [] }

@@ -9,7 +9,7 @@ ghost use Rattle.segment_core.specs.Vector.{HasVector};
 use crate::fault::ScanFault;
 use crate::format::{HEADER_LEN, MAGIC, OPEN, VERSION};
 use crate::walk::Walk;
-use record_core::Record;
+use record_core::{Record, width_of};
 use std::alloc::Global;
 
 /// What an image holds.
@@ -58,10 +58,10 @@ fn check_header(bytes: &[u8], width: usize) -> Result<(), ScanFault>
 /// answer once the header is read.
 pub fn scan<R: Record>(alloc: Global, bytes: &[u8]) -> Result<Scanned<R>, ScanFault>
     ensures answer { MatchResult result
-        (λ scanned. (frames : List Frame) × IsScanOf R.WIDTH R.value_of bytes.now frames scanned)
-        (IsRefused R.WIDTH R.value_of bytes.now) }
+        (λ scanned. (frames : List Frame) × IsScanOf R.form bytes.now frames scanned)
+        (IsRefused R.form bytes.now) }
     // An image has one vector at most, and one that has a vector is refused for want of memory alone.
-    ensures only { (frames : List Frame) (records : List R) → HasVector R.WIDTH R.value_of bytes.now frames records
+    ensures only { (frames : List Frame) (records : List R) → HasVector R.form bytes.now frames records
         → MatchResult result (λ scanned. scanned.records.items ≡ records) (λ fault. fault ≡ ScanFault.Memory) }
 {
     read_vector(alloc, bytes)
@@ -69,10 +69,10 @@ pub fn scan<R: Record>(alloc: Global, bytes: &[u8]) -> Result<Scanned<R>, ScanFa
 
 fn read_vector<R: Record>(alloc: Global, bytes: &[u8]) -> Result<Scanned<R>, ScanFault>
     ensures { MatchResult result
-        (λ scanned. (frames : List Frame) × IsScanOf R.WIDTH R.value_of bytes.now frames scanned)
-        (IsRefused R.WIDTH R.value_of bytes.now) }
+        (λ scanned. (frames : List Frame) × IsScanOf R.form bytes.now frames scanned)
+        (IsRefused R.form bytes.now) }
 {
-    let width = R::WIDTH;
+    let width = width_of::<R>();
     check_header(bytes, width)?;
     let walk = Walk::over(alloc, bytes, width)?;
     let records = walk.records(alloc, bytes)?;

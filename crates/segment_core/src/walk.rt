@@ -10,7 +10,7 @@ ghost use Rattle.segment_core.specs.Walk.{IsBehind, Steps, IsStepRefused, IsWalk
 use crate::fault::{Cause, ScanFault};
 use crate::format::{HEADER_LEN, RECORD_LIMIT};
 use crate::frame::{FrameReader, damaged, read_frame};
-use record_core::{Record, RecordsFault, read_records};
+use record_core::{Record, RecordsFault, read_records, width_of};
 use std::alloc::Global;
 
 /// Where the bytes of consecutive positions stand, one record behind the other.
@@ -37,11 +37,11 @@ pub(crate) struct Walk {
 
 /// Appends the records of one home.
 fn read_home<R: Record>(home: &Home, bytes: &[u8], records: &mut Vec<R>) -> Result<(), ScanFault>
-    requires { home.now.place + home.now.count * R.WIDTH ≤ length bytes.now }
-    ensures ok { OnOk result ((read : List R) × (records.new.items ≡ records.old.items ++ read) × HoldsAt R.WIDTH R.value_of bytes.now home.now read) }
-    ensures err { IfErr result (IsHomeRefused R.WIDTH R.value_of bytes.now home.now) }
+    requires { home.now.place + home.now.count * R.form.width ≤ length bytes.now }
+    ensures ok { OnOk result ((read : List R) × (records.new.items ≡ records.old.items ++ read) × HoldsAt R.form bytes.now home.now read) }
+    ensures err { IfErr result (IsHomeRefused R.form bytes.now home.now) }
 {
-    let width = R::WIDTH;
+    let width = width_of::<R>();
     let part = &bytes[home.place..home.place + home.count * width];
     match read_records(part, home.count, records) {
         Ok(()) => Ok(()),
@@ -76,9 +76,9 @@ impl Walk {
         alloc: Global,
         bytes: &[u8],
     ) -> Result<Vec<R>, ScanFault>
-        requires { (frames : List Frame) × HasFrames R.WIDTH bytes.now frames × IsBehind R.WIDTH frames self.now }
-        ensures ok { IfOk result (λ records. (frames : List Frame) × HasFrames R.WIDTH bytes.now frames × IsBehind R.WIDTH frames self.now × IsVectorOf R.WIDTH R.value_of bytes.now frames records.items) }
-        ensures err { IfErr result (IsReadRefused R.WIDTH R.value_of bytes.now) }
+        requires { (frames : List Frame) × HasFrames R.form.width bytes.now frames × IsBehind R.form.width frames self.now }
+        ensures ok { IfOk result (λ records. (frames : List Frame) × HasFrames R.form.width bytes.now frames × IsBehind R.form.width frames self.now × IsVectorOf R.form bytes.now frames records.items) }
+        ensures err { IfErr result (IsReadRefused R.form bytes.now) }
     {
         let Ok(mut records) = Vec::with_capacity(alloc, self.size as usize) else {
             return Err(ScanFault::Memory);

@@ -5,6 +5,6 @@ use Rattle.record_core.proofs.records.put_records.Given as goal
 
 abbrev pub invariant-loop-i : goal.invariant-loop-i
 invariant-loop-i g l = record {
-  written : take (l.i * g.R.Record.WIDTH) l.out ≡ flat_map g.R.Record.bytes_of (take l.i l.records);
-  read_again : AreReadAgain g.R.Record.bytes_of g.R.Record.value_of (take l.i l.records);
+  written : take (l.i * g.R.Record.form.width) l.out ≡ flat_map g.R.Record.form.bytes_of (take l.i l.records);
+  read_again : AreReadAgain g.R.Record.form (take l.i l.records);
 }

@@ -1,4 +1,4 @@
-use Rattle.std.proofs.Common.{◌≡◌, true, cond, List, [], ◌∷◌, ◌++◌, Some, refl, sym, ap, ◌∙◌, arith}
+use Rattle.std.proofs.Common.{◌≡◌, true, cond, List, [], ◌∷◌, ◌++◌, Some, refl, sym, ap, ◌∙◌, arith, rules}
 use Rattle.std.specs.Prelude.{is_ok}
 use Rattle.std.proofs.lemmas.List.{append-nil, append_assoc}
 use Rattle.record_core.specs.Cells.{cell}
@@ -6,7 +6,7 @@ use Rattle.record_core.proofs.Cells.{cell_is, HasRead_more, HasRead_all, AreReco
 use Rattle.record_core.proofs.records.read_records.Goals as goal
 
 pub loop-i-init : goal.loop-i-init
-loop-i-init g c = ([], sym (append-nil _), record { so_far = refl; each = λ i lt. absurd (omega arith) })
+loop-i-init g c = ([], sym (append-nil _), record { so_far = refl; each = λ i lt. absurd (omega arith) }, omega arith, omega arith)
 
 pub loop-i-preserved : goal.loop-i-preserved
 loop-i-preserved g c =
@@ -14,15 +14,15 @@ loop-i-preserved g c =
     let r = c.in-Some.record in
     let ok : is_ok c.push.result ≡ true = sym c.map_err.ensures.variant ∙ ap is_ok c.in_ok-map_err.was in
     let pushed : c.push.new.self.items ≡ c.loop-i.records.items ++ r ∷ [] = c.push.ensures.items ∙ ap (λ b. cond b (c.loop-i.records.items ++ r ∷ []) c.loop-i.records.items) ok in
-    let here : g.R.Record.value_of (cell g.R.Record.WIDTH c.args.bytes.now c.loop-i.i) ≡ Some r = ap g.R.Record.value_of (cell_is g.R.Record.WIDTH c.WIDTH-width.result c.args.bytes.now c.loop-i.i c.WIDTH-width.ensures) ∙ sym c.take.ensures ∙ c.in-Some.is in
-    (before.0 ++ r ∷ [], pushed ∙ ap (λ (rs : List g.row.R.Denot). rs ++ r ∷ []) before.1 ∙ append_assoc c.args.records.now.items before.0 (r ∷ []), HasRead_more g.R.Record.WIDTH g.R.Record.value_of c.args.bytes.now c.loop-i.i before.0 r before.2 here)
+    let here : g.R.Record.form.value_of (cell g.R.Record.form.width c.args.bytes.now c.loop-i.i) ≡ Some r = ap g.R.Record.form.value_of (cell_is g.R.Record.form.width c.width_of-width.result c.args.bytes.now c.loop-i.i c.width_of-width.ensures.is) ∙ sym c.take.ensures ∙ c.in-Some.is in
+    (before.0 ++ r ∷ [], pushed ∙ ap (λ (rs : List g.row.R.Denot). rs ++ r ∷ []) before.1 ∙ append_assoc c.args.records.now.items before.0 (r ∷ []), HasRead_more g.R.Record.form c.args.bytes.now c.loop-i.i before.0 r before.2 here, search rules, search rules)
 
 pub returns-clause-ok : goal.returns-clause-ok
 returns-clause-ok g c =
     let read = c.loop-i.invariant in
-    (read.0, read.1, read.2.so_far ∙ omega arith, AreRecords_read g.R.Record.WIDTH g.R.Record.value_of c.args.bytes.now c.args.count c.loop-i.i read.0 c.requires (omega arith) read.2)
+    (read.0, read.1, read.2.so_far ∙ omega arith, AreRecords_read g.R.Record.form c.args.bytes.now c.args.count c.loop-i.i read.0 c.requires (omega arith) read.2)
 
 pub returns-clause-kept : goal.returns-clause-kept
 returns-clause-kept g c =
     let read = c.loop-i.invariant in
-    (read.0, read.1, HasRead_all g.R.Record.WIDTH g.R.Record.value_of c.args.bytes.now c.loop-i.i read.0 read.2, tt)
+    (read.0, read.1, HasRead_all g.R.Record.form c.args.bytes.now c.loop-i.i read.0 read.2, tt)

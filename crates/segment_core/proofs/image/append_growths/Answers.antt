@@ -8,10 +8,10 @@ use Rattle.segment_core.proofs.image.append_growths.Goals as goal
 
 pub append_records-requires-after_bounds : goal.append_records-requires-after_bounds
 append_records-requires-after_bounds g c κs within =
-    let part = growth_within g.R.Record.WIDTH c.args.group.now c.loop-growth.growth-index c.growth-item.result c.loop-growth-test.true c.growth-item.is in
+    let part = growth_within g.R.Record.form.width c.args.group.now c.loop-growth.growth-index c.growth-item.result c.loop-growth-test.true c.growth-item.is in
     let fits = c.requires in
     let small = c.loop-growth.file.small in
-    let product = ap (λ (rs : List g.row.R.Denot). length rs * g.R.Record.WIDTH) c.deref.ensures.value in
+    let product = ap (λ (rs : List g.row.R.Denot). length rs * g.R.Record.form.width) c.deref.ensures.value in
     omega arith
 
 pub loop-growth-preserved : goal.loop-growth-preserved
@@ -22,12 +22,12 @@ loop-growth-preserved g c =
     let growth = c.growth-item.result.items in
     let more : joined (growths_of (take (c.loop-growth.growth-index + 1) c.args.group.now)) ≡ before ++ growth
     = ap joined (growths_more c.args.group.now c.loop-growth.growth-index c.growth-item.result c.loop-growth-test.true c.growth-item.is) ∙ joined_push (growths_of (take c.loop-growth.growth-index c.args.group.now)) growth in
-    let bytes : c.append_records.new.out.items ≡ c.args.file.now.items ++ flat_map g.R.Record.bytes_of (before ++ growth)
-    = wrote.bytes ∙ ap (λ (rs : List g.row.R.Denot). c.loop-growth.file.items ++ flat_map g.R.Record.bytes_of rs) c.deref.ensures.value ∙ ap (λ (bs : List ℕ). bs ++ flat_map g.R.Record.bytes_of growth) so_far.bytes
-    ∙ append_assoc c.args.file.now.items (flat_map g.R.Record.bytes_of before) (flat_map g.R.Record.bytes_of growth) ∙ ap (λ (bs : List ℕ). c.args.file.now.items ++ bs) (sym (flat_map-append g.R.Record.bytes_of before growth)) in
-    let again : AreReadAgain g.R.Record.bytes_of g.R.Record.value_of (before ++ growth)
-    = AreReadAgain-append g.R.Record.bytes_of g.R.Record.value_of before growth so_far.read_again (subst (λ (rs : List g.row.R.Denot). AreReadAgain g.R.Record.bytes_of g.R.Record.value_of rs) c.deref.ensures.value wrote.read_again) in
+    let bytes : c.append_records.new.out.items ≡ c.args.file.now.items ++ flat_map g.R.Record.form.bytes_of (before ++ growth)
+    = wrote.bytes ∙ ap (λ (rs : List g.row.R.Denot). c.loop-growth.file.items ++ flat_map g.R.Record.form.bytes_of rs) c.deref.ensures.value ∙ ap (λ (bs : List ℕ). bs ++ flat_map g.R.Record.form.bytes_of growth) so_far.bytes
+    ∙ append_assoc c.args.file.now.items (flat_map g.R.Record.form.bytes_of before) (flat_map g.R.Record.form.bytes_of growth) ∙ ap (λ (bs : List ℕ). c.args.file.now.items ++ bs) (sym (flat_map-append g.R.Record.form.bytes_of before growth)) in
+    let again : AreReadAgain g.R.Record.form (before ++ growth)
+    = AreReadAgain-append g.R.Record.form before growth so_far.read_again (subst (λ (rs : List g.row.R.Denot). AreReadAgain g.R.Record.form rs) c.deref.ensures.value wrote.read_again) in
     record {
-      bytes = bytes ∙ ap (λ (rs : List g.row.R.Denot). c.args.file.now.items ++ flat_map g.R.Record.bytes_of rs) (sym more);
-      read_again = subst (λ (rs : List g.row.R.Denot). AreReadAgain g.R.Record.bytes_of g.R.Record.value_of rs) (sym more) again;
+      bytes = bytes ∙ ap (λ (rs : List g.row.R.Denot). c.args.file.now.items ++ flat_map g.R.Record.form.bytes_of rs) (sym more);
+      read_again = subst (λ (rs : List g.row.R.Denot). AreReadAgain g.R.Record.form rs) (sym more) again;
     }

@@ -6,6 +6,6 @@ use Rattle.segment_core.proofs.image.append_growths.Given as goal
 
 abbrev pub invariant-loop-growth : goal.invariant-loop-growth
 invariant-loop-growth g l = record {
-  bytes : l.file.items ≡ l.fn.file.items ++ flat_map g.R.Record.bytes_of (joined (growths_of (take l.growth-index l.group)));
-  read_again : AreReadAgain g.R.Record.bytes_of g.R.Record.value_of (joined (growths_of (take l.growth-index l.group)));
+  bytes : l.file.items ≡ l.fn.file.items ++ flat_map g.R.Record.form.bytes_of (joined (growths_of (take l.growth-index l.group)));
+  read_again : AreReadAgain g.R.Record.form (joined (growths_of (take l.growth-index l.group)));
 }

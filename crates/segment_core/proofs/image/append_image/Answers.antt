@@ -10,8 +10,8 @@ use Rattle.segment_core.proofs.image.append_image.Goals as goal
 
 pub append_group-requires-after_bounds : goal.append_group-requires-after_bounds
 append_group-requires-after_bounds g c κs within =
-    let fits = fits_at g.R.Record.WIDTH c.args.groups.now c.loop-group.group-index c.group-item.result c.requires c.loop-group-test.true in
-    let here = subst (λ (v : Vec (Vec g.row.R.Denot)). payload_len g.R.Record.WIDTH (growths_of v.items) ≤ payload_limit) (sym c.group-item.is) fits in
+    let fits = fits_at g.R.Record.form.width c.args.groups.now c.loop-group.group-index c.group-item.result c.requires c.loop-group-test.true in
+    let here = subst (λ (v : Vec (Vec g.row.R.Denot)). payload_len g.R.Record.form.width (growths_of v.items) ≤ payload_limit) (sym c.group-item.is) fits in
     rw c.deref.ensures.value here
 
 pub loop-group-preserved : goal.loop-group-preserved
@@ -23,17 +23,17 @@ loop-group-preserved g c =
     let wrote = rw c.deref.ensures.value at c.in_ok-append_group.ensures.text in
     let again = rw c.deref.ensures.value at c.in_ok-append_group.ensures.read_again in
     record {
-      so_far = wrote ∙ ap (λ (bs : List ℕ). bs ++ frame_text (group_frame g.R.Record.bytes_of group)) so_far.so_far
-          ∙ append_assoc c.args.file.now.items (text g.R.Record.WIDTH (map (group_frame g.R.Record.bytes_of) before)) (frame_text (group_frame g.R.Record.bytes_of group))
-          ∙ ap (λ (bs : List ℕ). c.args.file.now.items ++ bs) (sym (text_more g.R.Record.WIDTH g.R.Record.bytes_of before group))
-          ∙ ap (λ (gs : List (List (List g.row.R.Denot))). c.args.file.now.items ++ text g.R.Record.WIDTH (map (group_frame g.R.Record.bytes_of) gs)) (sym more);
-      read_again = subst (λ (rs : List g.row.R.Denot). AreReadAgain g.R.Record.bytes_of g.R.Record.value_of rs) (sym (all_records_push before group) ∙ ap all_records (sym more))
-          (AreReadAgain-append g.R.Record.bytes_of g.R.Record.value_of (all_records before) (joined group) so_far.read_again again);
+      so_far = wrote ∙ ap (λ (bs : List ℕ). bs ++ frame_text (group_frame g.R.Record.form group)) so_far.so_far
+          ∙ append_assoc c.args.file.now.items (text g.R.Record.form.width (map (group_frame g.R.Record.form) before)) (frame_text (group_frame g.R.Record.form group))
+          ∙ ap (λ (bs : List ℕ). c.args.file.now.items ++ bs) (sym (text_more g.R.Record.form before group))
+          ∙ ap (λ (gs : List (List (List g.row.R.Denot))). c.args.file.now.items ++ text g.R.Record.form.width (map (group_frame g.R.Record.form) gs)) (sym more);
+      read_again = subst (λ (rs : List g.row.R.Denot). AreReadAgain g.R.Record.form rs) (sym (all_records_push before group) ∙ ap all_records (sym more))
+          (AreReadAgain-append g.R.Record.form (all_records before) (joined group) so_far.read_again again);
     }
 
 pub returns-clause-text : goal.returns-clause-text
 returns-clause-text g c =
     let all = take_all c.loop-group.group-index c.args.groups.now c.loop-group-test.false in
     c.in_ok-push.ensures.items ∙ ap (λ (bs : List ℕ). bs ++ 0 ∷ []) c.loop-group.invariant.so_far
-    ∙ append_assoc c.args.file.now.items (text g.R.Record.WIDTH (map (group_frame g.R.Record.bytes_of) (groups_of (take c.loop-group.group-index c.args.groups.now)))) (0 ∷ [])
-    ∙ ap (λ (gs : List (Vec (Vec g.row.R.Denot))). c.args.file.now.items ++ (text g.R.Record.WIDTH (map (group_frame g.R.Record.bytes_of) (groups_of gs)) ++ 0 ∷ [])) all
+    ∙ append_assoc c.args.file.now.items (text g.R.Record.form.width (map (group_frame g.R.Record.form) (groups_of (take c.loop-group.group-index c.args.groups.now)))) (0 ∷ [])
+    ∙ ap (λ (gs : List (Vec (Vec g.row.R.Denot))). c.args.file.now.items ++ (text g.R.Record.form.width (map (group_frame g.R.Record.form) (groups_of gs)) ++ 0 ∷ [])) all

@@ -6,6 +6,6 @@ use Rattle.segment_core.proofs.image.append_image.Given as goal
 
 abbrev pub invariant-loop-group : goal.invariant-loop-group
 invariant-loop-group g l = record {
-  so_far : l.file.items ≡ l.fn.file.items ++ text g.R.Record.WIDTH (map (group_frame g.R.Record.bytes_of) (groups_of (take l.group-index l.groups)));
-  read_again : AreReadAgain g.R.Record.bytes_of g.R.Record.value_of (all_records (groups_of (take l.group-index l.groups)));
+  so_far : l.file.items ≡ l.fn.file.items ++ text g.R.Record.form.width (map (group_frame g.R.Record.form) (groups_of (take l.group-index l.groups)));
+  read_again : AreReadAgain g.R.Record.form (all_records (groups_of (take l.group-index l.groups)));
 }

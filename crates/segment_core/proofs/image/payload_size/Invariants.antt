@@ -5,6 +5,6 @@ use Rattle.segment_core.proofs.image.payload_size.Given as goal
 
 abbrev pub invariant-loop-growth : goal.invariant-loop-growth
 invariant-loop-growth g l = record {
-  so_far : l.len ≡ payload_len g.R.Record.WIDTH (growths_of (take l.growth-index l.group));
+  so_far : l.len ≡ payload_len g.R.Record.form.width (growths_of (take l.growth-index l.group));
   small : l.len ≤ payload_limit;
 }

@@ -7,9 +7,9 @@ use Rattle.segment_core.proofs.walk.read_home.Goals as goal
 pub returns-in-Ok-clause-ok : goal.returns-in-Ok-clause-ok
 returns-in-Ok-clause-ok g c =
     let read = c.in-Ok.ensures.ok in
-    (read.0, read.1, holds_part g.R.Record.WIDTH c.WIDTH-width.result g.R.Record.value_of c.args.bytes.now c.args.home.now read.0 c.WIDTH-width.ensures read.2 read.3)
+    (read.0, read.1, holds_part g.R.Record.form c.width_of-width.result c.args.bytes.now c.args.home.now read.0 c.width_of-width.ensures.is read.2 read.3)
 
 pub returns-in-Err-Bad-clause-err : goal.returns-in-Err-Bad-clause-err
 returns-in-Err-Bad-clause-err g c =
-    let first = bad_part g.R.Record.WIDTH c.WIDTH-width.result g.R.Record.value_of c.args.bytes.now c.args.home.now c.in-Err-Bad.i c.WIDTH-width.ensures (rw c.in-Err-Bad.field-0-is at c.in-Err-Bad.ensures.bad) in
-    inl (c.in-Err-Bad.i, first, c.damaged.ensures ∙ ap (λ w. damaged (c.args.home.now.place + c.in-Err-Bad.i * w) BadRecord) c.WIDTH-width.ensures)
+    let first = bad_part g.R.Record.form c.width_of-width.result c.args.bytes.now c.args.home.now c.in-Err-Bad.i c.width_of-width.ensures.is (rw c.in-Err-Bad.field-0-is at c.in-Err-Bad.ensures.bad) in
+    inl (c.in-Err-Bad.i, first, c.damaged.ensures ∙ ap (λ w. damaged (c.args.home.now.place + c.in-Err-Bad.i * w) BadRecord) c.width_of-width.ensures.is)

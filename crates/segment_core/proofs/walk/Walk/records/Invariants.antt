@@ -9,6 +9,6 @@ use Rattle.segment_core.proofs.walk.Walk.records.Given as goal
 
 -- the homes that are left tell the places of the positions that are left
 abbrev pub invariant-loop-home : goal.invariant-loop-home
-invariant-loop-home g l = (frames : List Frame) × HasFrames g.R.Record.WIDTH l.bytes frames × IsBehind g.R.Record.WIDTH frames l.self
-    × Tells g.R.Record.WIDTH (length l.bytes) (place_of g.R.Record.WIDTH frames) (tally_of frames).size (length l.records.items) (drop l.home-index l.self.homes.items)
-    × ReadsUpTo g.R.Record.WIDTH g.R.Record.value_of l.bytes frames l.records.items
+invariant-loop-home g l = (frames : List Frame) × HasFrames g.R.Record.form.width l.bytes frames × IsBehind g.R.Record.form.width frames l.self
+    × Tells g.R.Record.form.width (length l.bytes) (place_of g.R.Record.form.width frames) (tally_of frames).size (length l.records.items) (drop l.home-index l.self.homes.items)
+    × ReadsUpTo g.R.Record.form l.bytes frames l.records.items
