@@ -42,7 +42,7 @@ impl<R: Record> Model for Pass<R> {
       held = record { buckets = known_of pass.buckets.items; cells = cells_of pass.notes.items };
     } };
 
-    ghost invariant = { λ pass. Holds R.WIDTH pass.room pass.limit
+    ghost invariant = { λ pass. Holds R.form.width pass.room pass.limit
         (known_of pass.buckets.items) (cells_of pass.notes.items) (known_of pass.notes.items)
         pass.starts.items pass.size (vec_capacity pass.notes) (vec_capacity pass.starts) };
 }
@@ -77,7 +77,7 @@ impl<R: Record> Pass<R> {
     pub fn known(&self) -> u64
         ensures count { result ≡ length self.now.entries }
         ensures chained { IsChained self.now.entries }
-        ensures in_a_frame { AreBlocks R.WIDTH self.now.entries }
+        ensures in_a_frame { AreBlocks R.form.width self.now.entries }
         ensures in_room { (result ≤ self.now.of.room) × (self.now.of.room ≤ growth_limit) }
     {
         self.starts.len() as u64
@@ -125,7 +125,7 @@ impl<R: Record> Pass<R> {
         requires bucket { (bucket < 17) × (bucket_note.cell ≡ slice_index self.old.of.name.buckets bucket) }
         requires keeps { IfSome (slice_index_or self.old.held.buckets bucket None) (λ names. bucket_note.known ≡ Some names) }
         requires stands { StandsIn (length self.old.entries) bucket place bucket_note.known note.cell }
-        requires follows { MatchOption note.known ⊥ (Follows R.WIDTH self.old.of.limit self.old.entries len) }
+        requires follows { MatchOption note.known ⊥ (Follows R.form.width self.old.of.limit self.old.entries len) }
         ensures of { self.new.of ≡ self.old.of }
         ensures entries { self.new.entries ≡ self.old.entries ++ option_to_list note.known }
     {
@@ -138,7 +138,7 @@ impl<R: Record> Pass<R> {
     /// How many records a growth has.
     fn len_at(&self, number: usize) -> u64
         requires { number < length self.now.entries }
-        ensures { MatchOption (slice_get self.now.entries number) ⊥ (Follows R.WIDTH self.now.of.limit (take number self.now.entries) result) }
+        ensures { MatchOption (slice_get self.now.entries number) ⊥ (Follows R.form.width self.now.of.limit (take number self.now.entries) result) }
     {
         let start = self.starts[number] as u64;
         if number + 1 < self.starts.len() {

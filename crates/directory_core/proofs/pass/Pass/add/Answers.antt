@@ -10,7 +10,7 @@ use Rattle.directory_core.proofs.pass.Pass.add.Goals as goal
 
 pub invariant_of-self : goal.invariant_of-self
 invariant_of-self g c =
-    let asked = subst (λ (v : Known g.row.R.Denot). (length v.entries < v.of.room) × IfSome (get_or v.held.buckets c.args.bucket None) (λ names. c.args.bucket_note.known ≡ Some names) × StandsIn (length v.entries) c.args.bucket c.args.place c.args.bucket_note.known c.args.note.cell × MatchOption c.args.note.known ⊥ (Follows g.R.Record.WIDTH v.of.limit v.entries c.args.len)) (sym c.self.view_is) (c.requires.room, c.requires.keeps, c.requires.stands, c.requires.follows) in
+    let asked = subst (λ (v : Known g.row.R.Denot). (length v.entries < v.of.room) × IfSome (get_or v.held.buckets c.args.bucket None) (λ names. c.args.bucket_note.known ≡ Some names) × StandsIn (length v.entries) c.args.bucket c.args.place c.args.bucket_note.known c.args.note.cell × MatchOption c.args.note.known ⊥ (Follows g.R.Record.form.width v.of.limit v.entries c.args.len)) (sym c.self.view_is) (c.requires.room, c.requires.keeps, c.requires.stands, c.requires.follows) in
     rw (
       c.push_reserved.ensures.items,
       c.push_reserved.ensures.capacity,
