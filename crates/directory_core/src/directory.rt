@@ -45,7 +45,9 @@ impl<R: Record> Model for Directory<R> {
     } };
 
     ghost invariant = { λ directory.
-        (length directory.buckets.items ≡ 17) × (directory.room ≤ growth_limit) × (directory.limit ≤ record_limit) };
+        (length directory.buckets.items ≡ 17)
+        × (directory.room ≤ growth_limit)
+        × (directory.limit ≤ record_limit) };
 }
 
 impl<R: Record> Directory<R> {
@@ -102,11 +104,13 @@ impl<R: Record> Directory<R> {
         Ok(Pass::of(buckets, notes, starts, self.room, self.limit))
     }
 
-    /// Publishes the growth behind those that the pass knows. Where it is refused, the block comes back with its
-    /// records, the pass knows what it knew, and the next growth takes the same number:
-    /// `Full` where the pass knows as many growths as the directory has room for; `Strayed` of the number where the
-    /// growth would pass the limit of the directory's records; `Taken` where another growth has the number;
-    /// `Memory` where none was left for the bucket of the growth, which is then its first.
+    /// Publishes the growth behind those that the pass knows, which then knows it too. Where it is refused, the
+    /// growth comes back, the pass knows what it knew, and the next growth takes the same number. It is refused, in
+    /// this order,
+    /// - `Full` where the pass knows as many growths as the directory has room for;
+    /// - `Strayed` of its number where it would pass the limit of the directory's records;
+    /// - `Taken` where another growth has the number;
+    /// - `Memory` where it is the first of a bucket, and none was left to make that.
     pub fn publish(
         &self,
         pass: &mut Pass<R>,
@@ -119,7 +123,7 @@ impl<R: Record> Directory<R> {
             (λ _. pass.new.entries ≡ pass.old.entries ++ entry.value ∷ [])
             (λ refused. (refused.0.value ≡ entry.value) × (pass.new.entries ≡ pass.old.entries)) }
         ensures fault { IfErr result (λ refused.
-            IsRefusal (length pass.old.entries) self.now.room (total pass.old.entries + length entry.value.records) self.now.limit refused.1) }
+            IsRefusal self.now pass.old.entries entry.value refused.1) }
     {
         let number = pass.known();
         if number >= self.room {
@@ -158,7 +162,8 @@ impl<R: Record> Directory<R> {
         requires of { pass.old.of ≡ self.now }
         ensures of { pass.new.of ≡ self.now }
         ensures longer { Begins pass.old.entries pass.new.entries }
-        ensures more { IfOk result (λ found. length pass.new.entries ≡ length pass.old.entries + (if found then 1 else 0)) }
+        ensures more { IfOk result (λ found.
+            length pass.new.entries ≡ length pass.old.entries + (if found then 1 else 0)) }
         ensures fault { IfErr result (λ fault. fault ≡ DirFault.Strayed (length pass.new.entries)) }
     {
         let number = pass.known();

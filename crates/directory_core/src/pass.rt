@@ -60,7 +60,11 @@ impl<R: Record> Pass<R> {
         requires notes { (length notes.items ≡ 0) × (room ≤ vec_capacity notes) }
         requires starts { (length starts.items ≡ 0) × (room ≤ vec_capacity starts) }
         requires limits { (room ≤ growth_limit) × (limit ≤ record_limit) }
-        ensures of { result.of ≡ record { name = record { buckets = cells_of buckets.items }; room = room; limit = limit } }
+        ensures of { result.of ≡ record {
+          name = record { buckets = cells_of buckets.items };
+          room = room;
+          limit = limit;
+        } }
         ensures none { result.entries ≡ [] }
     {
         Pass {
@@ -123,9 +127,13 @@ impl<R: Record> Pass<R> {
     )
         requires room { length self.old.entries < self.old.of.room }
         requires bucket { (bucket < 17) × (bucket_note.cell ≡ slice_index self.old.of.name.buckets bucket) }
-        requires keeps { IfSome (slice_index_or self.old.held.buckets bucket None) (λ names. bucket_note.known ≡ Some names) }
+        requires keeps { IfSome
+            (slice_index_or self.old.held.buckets bucket None)
+            (λ names. bucket_note.known ≡ Some names) }
         requires stands { StandsIn (length self.old.entries) bucket place bucket_note.known note.cell }
-        requires follows { MatchOption note.known ⊥ (Follows R.form.width self.old.of.limit self.old.entries len) }
+        requires follows { MatchOption note.known
+            ⊥
+            (Follows R.form.width self.old.of.limit self.old.entries len) }
         ensures of { self.new.of ≡ self.old.of }
         ensures entries { self.new.entries ≡ self.old.entries ++ option_to_list note.known }
     {
@@ -138,7 +146,9 @@ impl<R: Record> Pass<R> {
     /// How many records a growth has.
     fn len_at(&self, number: usize) -> u64
         requires { number < length self.now.entries }
-        ensures { MatchOption (slice_get self.now.entries number) ⊥ (Follows R.form.width self.now.of.limit (take number self.now.entries) result) }
+        ensures { MatchOption (slice_get self.now.entries number)
+            ⊥
+            (Follows R.form.width self.now.of.limit (take number self.now.entries) result) }
     {
         let start = self.starts[number] as u64;
         if number + 1 < self.starts.len() {
