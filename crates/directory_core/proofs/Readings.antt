@@ -7,7 +7,7 @@ use Rattle.once_cell.specs.Once.{Agrees}
 use Rattle.once_cell.specs.declared.race.note.Note.{Note}
 use Rattle.block_core.specs.Growth.{Growth}
 use Rattle.directory_core.specs.Chain.{total, joined}
-use Rattle.directory_core.specs.Finding.{IsPlaceOf, IsPieceAt}
+use Rattle.directory_core.specs.Finding.{IsPlaceOf, IsPieceAt, IsRestAt}
 use Rattle.directory_core.specs.Notes.{cell_in, cells_of}
 
 pub found_cell : (known : Option (List ℕ)) (now : List ℕ) (place cell : ℕ) → cell_in known place ≡ Some cell → Agrees known now → slice_get now place ≡ Some cell
@@ -59,13 +59,18 @@ cells_more name cells i cell notes note lt is before names =
     ∙ (ap₂ (λ (xs : List ℕ) (n : ℕ). xs ++ n ∷ []) before (names ∙ ap name is)
     ∙ (ap (λ (xs : List ℕ). xs ++ name (get_or cells i cell) ∷ []) (take-map name i cells) ∙ (sym (map_more name cells i cell lt) ∙ sym (take-map name (i + 1) cells))))
 
--- the rest of a growth is a piece of the records joined
-pub piece_is : {R : Type 0} (es : List (Growth R)) (i g place : ℕ) (e : Growth R) (records : List R) → IsPlaceOf es i g place → slice_get es g ≡ Some e → records ≡ e.records → IsPieceAt (joined es) i (take (length records - place) (drop place records))
-piece_is es i g place e records found is same =
-    let one : found.growth ≡ e = let there = found.is in grind arith in
-    let r : records ≡ found.growth.records = same ∙ ap (λ (f : Growth _). f.records) (sym one) in
-    let inside = found.inside in
-    rw (r, take_rest found.growth.records place) (record {
-      some = omega (arith, length-drop place found.growth.records);
-      is = rw (← found.at) (joined_rest es g found.growth place found.is found.inside);
-    })
+-- the records that are lent are the rest of a growth, and a piece of the records joined
+module _ {R : Type 0} (es : List (Growth R)) (i g place : ℕ) (e : Growth R) (records : List R) (found : IsPlaceOf es i g place) (is : slice_get es g ≡ Some e) (same : records ≡ e.records) where
+  records_are : records ≡ found.growth.records
+  records_are = let one : found.growth ≡ e = (let there = found.is in grind arith) in same ∙ ap (λ (f : Growth _). f.records) (sym one)
+
+  pub rest_is : IsRestAt es i (take (length records - place) (drop place records))
+  rest_is = rw (records_are, take_rest found.growth.records place) (record { number = g; place = place; found = found; is = refl })
+
+  pub piece_is : IsPieceAt (joined es) i (take (length records - place) (drop place records))
+  piece_is =
+      let inside = found.inside in
+      rw (records_are, take_rest found.growth.records place) (record {
+        some = omega (arith, length-drop place found.growth.records);
+        is = rw (← found.at) (joined_rest es g found.growth place found.is found.inside);
+      })

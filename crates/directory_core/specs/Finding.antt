@@ -10,6 +10,13 @@ pub record IsPlaceOf {R : Type 0} (entries : List (Growth R)) (i g place : ℕ) 
   pub inside : place < length growth.records
   pub at : total (take g entries) + place ≡ i
 
+-- the records from position i to the end of the growth that has it
+pub record IsRestAt {R : Type 0} (entries : List (Growth R)) (i : ℕ) (piece : List R) : Type 0 where
+  pub number : ℕ
+  pub place : ℕ
+  pub found : IsPlaceOf entries i number place
+  pub is : piece ≡ drop place found.growth.records
+
 -- the records from position i on, as many as were lent, at least one
 pub record IsPieceAt {R : Type 0} (records : List R) (i : ℕ) (piece : List R) : Type 0 where
   pub some : 0 < length piece

@@ -1,10 +1,10 @@
 //! The growths that all threads share.
 
-ghost use Rattle.std.specs.Prelude.{◌≡◌, ◌+◌, ◌<◌, ◌≤◌, ◌∷◌, [], ◌++◌, if◌then◌else◌, length, slice_get, Some, MatchOption, MatchResult, IfOk, IfErr};
+ghost use Rattle.std.specs.Prelude.{◌≡◌, ◌+◌, ◌<◌, ◌≤◌, ◌∷◌, [], ◌++◌, if◌then◌else◌, length, slice_get, Some, MatchOption, MatchResult, IfOk, IfErr, IfSome};
 ghost use Rattle.directory_core.specs.Limits.{growth_limit, record_limit};
 ghost use Rattle.directory_core.specs.Chain.{total, joined, IsNext, Begins};
 ghost use Rattle.directory_core.specs.Fault.{IsRefusal};
-ghost use Rattle.directory_core.specs.Finding.{IsPieceAt};
+ghost use Rattle.directory_core.specs.Finding.{IsPieceAt, IsRestAt};
 
 use crate::address::{BUCKETS, bucket_len, spot};
 use crate::bucket::Bucket;
@@ -242,7 +242,8 @@ impl<R: Record> Directory<R> {
         ensures same { pass.new ≡ pass.old }
         ensures value { MatchOption result
             (total pass.old.entries ≤ i)
-            (λ piece. IsPieceAt (joined pass.old.entries) i piece.now) }
+            (λ piece. IsRestAt pass.old.entries i piece.now) }
+        ensures in_order { IfSome result (λ piece. IsPieceAt (joined pass.old.entries) i piece.now) }
     {
         let Some((number, place)) = pass.find(i) else {
             return None;
