@@ -3,6 +3,7 @@ use Rattle.std.specs.Prelude.{◌≡◌, ℕ, ◌≤◌, List, length, Option, �
 use Rattle.std.specs.Io.KnownBytes.{Appends, Keeps}
 use Rattle.hex.specs.Hex.{encode_lower}
 use Rattle.record_core.specs.Bytes.{Encoding}
+use Rattle.segment_core.specs.declared.format.Format.{Format}
 use Rattle.segment_core.specs.Frame.{Frame}
 use Rattle.segment_core.specs.Vector.{HasVector}
 use Rattle.segment_core.specs.Written.{file_of, AllFit}
@@ -41,10 +42,10 @@ IsImageRun form spelling input old new Refused = WritesImageRefusal form spellin
 IsImageRun form spelling input old new OutputFailed = Unit {0}
 IsImageRun form spelling input old new Usage = ⊥
 
--- the vector of the image whose hex the input is
+-- the vector of the image whose hex the input is, a file of either format
 abbrev pub IsVectorOfHex : {R : Type 0} → Encoding R → List ℕ → List R → Type 0
 IsVectorOfHex form input records =
-    (image : List ℕ) × (frames : List Frame) × IsHexLine input image × HasVector form image frames records
+    (image : List ℕ) × (format : Format) × (frames : List Frame) × IsHexLine input image × HasVector format form image frames records
 
 -- its records, one a line, of an input within the bound
 abbrev pub WritesVector : {R : Type 0} → Encoding R → Spelling R → List ℕ → Option (List ℕ) → Option (List ℕ) → Type 0

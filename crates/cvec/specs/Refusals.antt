@@ -2,7 +2,7 @@
 use Rattle.std.specs.Prelude.{◌≡◌, ℕ, ◌+◌, ◌<◌, List, ◌++◌, length, codes, decimal}
 use Rattle.record_core.specs.Bytes.{Encoding}
 use Rattle.segment_core.specs.declared.fault.Cause.{Cause}
-use Rattle.segment_core.specs.declared.fault.Cause.TheVariants.{NoGate, ShortFrame, Kind, TooLarge, Layout, Range, Unfolded, FoldCount, TooLong, BadRecord}
+use Rattle.segment_core.specs.declared.fault.Cause.TheVariants.{NoGate, ShortFrame, Kind, TooLarge, Layout, Runs, Range, Unfolded, FoldCount, TooLong, BadRecord}
 use Rattle.segment_core.specs.declared.fault.ScanFault.{ScanFault}
 use Rattle.segment_core.specs.declared.fault.ScanFault.TheVariants.{Unborn, NotSegment, Version, Width, Damaged, Memory}
 use Rattle.segment_core.specs.declared.fault.ImageFault.TheVariants as image_faults
@@ -20,6 +20,7 @@ cause_name ShortFrame = codes "short frame"
 cause_name (Kind k) = codes "kind " ++ decimal k
 cause_name TooLarge = codes "too large"
 cause_name Layout = codes "layout"
+cause_name Runs = codes "runs"
 cause_name Range = codes "range"
 cause_name Unfolded = codes "unfolded"
 cause_name FoldCount = codes "fold count"

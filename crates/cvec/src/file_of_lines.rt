@@ -9,7 +9,7 @@ use crate::group_line::{LineFault, cut, read_group};
 use crate::refusal::Refusal;
 use crate::text::TextRecord;
 use record_core::PAYLOAD_LIMIT;
-use segment_core::{GroupFault, Growths, append_group, append_header, append_last_gate};
+use segment_core::{Format, GroupFault, Growths, append_group, append_header, append_last_gate};
 use std::alloc::{AllocError, Global};
 
 /// Appends the group of this line, counted from 1, if all before it were appended, or else keeps the file. The
@@ -45,7 +45,7 @@ pub fn file_of_lines<R: TextRecord>(alloc: Global, input: &[u8]) -> Result<Vec<u
     let mut group = Growths::<R>::new(alloc);
     let mut too_large = None;
     let mut lines = 0u64;
-    append_header::<R>(&mut file).map_err(|_| Refusal::Memory)?;
+    append_header::<R>(Format::One, &mut file).map_err(|_| Refusal::Memory)?;
     let mut rest = input;
     while !rest.is_empty() {
         let (line, after) = cut(rest, b'\n');

@@ -47,6 +47,7 @@ fn write_cause<W: Write>(writer: &mut W, cause: Cause) -> io::Result<()>
         Cause::Kind(kind) => write_numbered(writer, b"kind ", u64::from(kind)),
         Cause::TooLarge => writer.write_all(b"too large"),
         Cause::Layout => writer.write_all(b"layout"),
+        Cause::Runs => writer.write_all(b"runs"),
         Cause::Range => writer.write_all(b"range"),
         Cause::Unfolded => writer.write_all(b"unfolded"),
         Cause::FoldCount => writer.write_all(b"fold count"),

@@ -187,13 +187,14 @@ fn a_damaged_file_is_refused_by_its_first_fault(rt: HostRuntime) -> Result<(), F
 #[test]
 fn refusals_have_these_names(rt: HostRuntime) -> Result<(), Fail> {
     let damaged = |cause: Cause| Refusal::Scan(ScanFault::Damaged { at: 7, cause });
-    let names: [(Refusal, &[u8]); 9] = [
+    let names: [(Refusal, &[u8]); 10] = [
         (Refusal::Scan(ScanFault::Memory), b"refused: memory\n"),
         (Refusal::Memory, b"refused: memory\n"),
         (
             damaged(Cause::TooLarge),
             b"refused: damaged at 7: too large\n",
         ),
+        (damaged(Cause::Runs), b"refused: damaged at 7: runs\n"),
         (damaged(Cause::Range), b"refused: damaged at 7: range\n"),
         (
             damaged(Cause::Unfolded),

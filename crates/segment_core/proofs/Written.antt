@@ -11,10 +11,12 @@ use Rattle.record_core.specs.Cells.{AreReadAgain}
 use Rattle.record_core.proofs.Cells.{length-flat_map_bytes}
 use Rattle.record_core.specs.Limits.{payload_limit}
 use Rattle.record_core.specs.Bytes.{Encoding}
+use Rattle.segment_core.specs.declared.format.Format.{Format}
+use Rattle.segment_core.specs.Shape.{shape_of}
 use Rattle.segment_core.specs.Frame.{payload_of, frame_text, text}
 use Rattle.segment_core.specs.Written.{growths_of, groups_of, joined, all_records, group_frame, payload_len, AllFit}
 use Rattle.segment_core.proofs.Payload.{length-group_payload}
-use Rattle.segment_core.proofs.Longest.{text_push}
+use Rattle.segment_core.proofs.Push.{text_push}
 
 -- ---- sizes
 
@@ -73,9 +75,9 @@ long_growth width (suc n) wide = let more = long_growth width n wide in omega ar
 pub sum-lengths : {R : Type 0} (growths : List (List R)) → length (joined growths) ≡ sum (map length growths)
 sum-lengths growths = length-flat_map (λ growth. growth) growths ∙ sym (sum-map length growths)
 
-pub length-group_frame : {R : Type 0} (form : Encoding R) (growths : List (List R)) → ((r : R) → length (form.bytes_of r) ≡ form.width) → length (payload_of (group_frame form growths)) ≡ payload_len form.width growths
-length-group_frame form growths wide =
-    let a = length-group_payload (map length growths) (flat_map form.bytes_of (joined growths)) in
+pub length-group_frame : {R : Type 0} (format : Format) (form : Encoding R) (growths : List (List R)) → ((r : R) → length (form.bytes_of r) ≡ form.width) → length (payload_of format (group_frame form growths)) ≡ payload_len form.width growths
+length-group_frame format form growths wide =
+    let a = length-group_payload format (map length growths) (flat_map form.bytes_of (joined growths)) in
     let b = length-map growths length in
     let d = length-flat_map_bytes form (joined growths) wide in
     omega arith
@@ -92,10 +94,10 @@ regroup : (file head lengths bytes : List ℕ) → ((file ++ head) ++ lengths) +
 regroup file head lengths bytes = simp append_assoc
 
 -- a frame that was appended piece by piece
-pub group_appended : {R : Type 0} (form : Encoding R) (growths : List (List R)) (len n : ℕ) (file headed counted done : List ℕ) → ((r : R) → length (form.bytes_of r) ≡ form.width) → len ≡ payload_len form.width growths → n ≡ length growths
-    → headed ≡ file ++ ((1 ∷ 1 ∷ to_le_bytes w32 len) ++ to_le_bytes w32 n) → counted ≡ headed ++ flat_map (to_le_bytes w32) (map length growths) → done ≡ counted ++ flat_map form.bytes_of (joined growths) → done ≡ file ++ frame_text (group_frame form growths)
-group_appended form growths len n file headed counted done wide size count a b c =
-    let payload_is : len ≡ length (payload_of (group_frame form growths)) = size ∙ sym (length-group_frame form growths wide) in
+pub group_appended : {R : Type 0} (format : Format) (form : Encoding R) (growths : List (List R)) (len n : ℕ) (file headed counted done : List ℕ) → ((r : R) → length (form.bytes_of r) ≡ form.width) → len ≡ payload_len form.width growths → n ≡ length growths
+    → headed ≡ file ++ ((1 ∷ 1 ∷ to_le_bytes w32 len) ++ to_le_bytes w32 n) → counted ≡ headed ++ flat_map (to_le_bytes w32) (map length growths) → done ≡ counted ++ flat_map form.bytes_of (joined growths) → done ≡ file ++ frame_text format (group_frame form growths)
+group_appended format form growths len n file headed counted done wide size count a b c =
+    let payload_is : len ≡ length (payload_of format (group_frame form growths)) = size ∙ sym (length-group_frame format form growths wide) in
     let count_is : n ≡ length (map length growths) = count ∙ sym (length-map growths length) in
     let lengths : List ℕ = flat_map (to_le_bytes w32) (map length growths) in
     let bytes : List ℕ = flat_map form.bytes_of (joined growths) in
@@ -104,7 +106,7 @@ group_appended form growths len n file headed counted done wide size count a b c
     ∙ regroup file head lengths bytes
     ∙ ap (λ (bs : List ℕ). file ++ bs) (append_assoc (1 ∷ 1 ∷ to_le_bytes w32 len) (to_le_bytes w32 n) (lengths ++ bytes))
     ∙ ap (λ k. file ++ ((1 ∷ 1 ∷ to_le_bytes w32 k) ++ (to_le_bytes w32 n ++ (lengths ++ bytes)))) payload_is
-    ∙ ap (λ k. file ++ ((1 ∷ 1 ∷ to_le_bytes w32 (length (payload_of (group_frame form growths)))) ++ (to_le_bytes w32 k ++ (lengths ++ bytes)))) count_is
+    ∙ ap (λ k. file ++ ((1 ∷ 1 ∷ to_le_bytes w32 (length (payload_of format (group_frame form growths)))) ++ (to_le_bytes w32 k ++ (lengths ++ bytes)))) count_is
 
 -- ---- one group more
 
@@ -114,8 +116,8 @@ groups_more {R} groups k group lt is = map_more (λ (g : Vec (Vec R)). growths_o
 pub all_records_push : {R : Type 0} (groups : List (List (List R))) (group : List (List R)) → all_records (groups ++ group ∷ []) ≡ all_records groups ++ joined group
 all_records_push groups group = ap joined (map_push joined groups group) ∙ joined_push (map joined groups) (joined group)
 
-pub text_more : {R : Type 0} (form : Encoding R) (groups : List (List (List R))) (group : List (List R)) → text form.width (map (group_frame form) (groups ++ group ∷ [])) ≡ text form.width (map (group_frame form) groups) ++ frame_text (group_frame form group)
-text_more form groups group = ap (text form.width) (map_push (group_frame form) groups group) ∙ text_push form.width (map (group_frame form) groups) (group_frame form group)
+pub text_more : {R : Type 0} (format : Format) (form : Encoding R) (groups : List (List (List R))) (group : List (List R)) → text (shape_of format form) (map (group_frame form) (groups ++ group ∷ [])) ≡ text (shape_of format form) (map (group_frame form) groups) ++ frame_text format (group_frame form group)
+text_more format form groups group = ap (text (shape_of format form)) (map_push (group_frame form) groups group) ∙ text_push (shape_of format form) (map (group_frame form) groups) (group_frame form group)
 
 pub AllFit_push : {R : Type 0} (width : ℕ) (groups : List (List (List R))) (group : List (List R)) → AllFit width groups → payload_len width group ≤ payload_limit → AllFit width (groups ++ group ∷ [])
 AllFit_push width [] group fit small = (small, tt)

@@ -1,14 +1,23 @@
 -- The text of a segment file: the header, then the frames, each behind its gate.
-use Rattle.std.specs.Prelude.{ℕ, Bool, List, ◌∷◌, ◌++◌, length, codes, ◌==◌}
+use Rattle.std.specs.Prelude.{ℕ, ◌+◌, ◌*◌, List, [], ◌∷◌, ◌++◌, length, map, sum, codes}
 use Rattle.std.specs.List.{flat_map}
 use Rattle.std.specs.Int.{w16, w32, w64, to_le_bytes}
+use Rattle.segment_core.specs.declared.format.Format.{Format}
+use Rattle.segment_core.specs.declared.format.Format.TheVariants.{One, Two}
+use Rattle.segment_core.specs.declared.format.Shape.{Shape}
+use Rattle.segment_core.specs.Shape.{version_of}
+
+-- consecutive positions
+pub record Run : Type 0 where
+  pub start : ℕ
+  pub count : ℕ
 
 -- What one commit writes. Records stand as their bytes: those under a live change needn't be records.
 pub data Frame : Type 0 where
   -- the lengths of its growths in records, and the bytes of their records
   Group : List ℕ → List ℕ → Frame
-  -- the first position, and the bytes of the records from there on
-  Change : ℕ → List ℕ → Frame
+  -- the runs that it replaces, and the bytes of their records in the order of the runs
+  Change : List Run → List ℕ → Frame
   -- the new length
   Shrink : ℕ → Frame
   -- how many changes of this file stand in their home bytes
@@ -16,27 +25,47 @@ pub data Frame : Type 0 where
 
 abbrev pub kind_of : Frame → ℕ
 kind_of (Group lengths bytes) = 1
-kind_of (Change start bytes) = 2
+kind_of (Change runs bytes) = 2
 kind_of (Shrink n) = 3
 kind_of (Fold count) = 4
 
--- the kinds of frame that are built so far: Groups alone
-abbrev pub is_built : ℕ → Bool
-is_built kind = kind == 1
+-- a number that version 1 leaves out, since it follows from the payload's length
+abbrev pub number_text : Format → ℕ → List ℕ
+number_text One n = []
+number_text Two n = to_le_bytes w32 n
 
-abbrev pub payload_of : Frame → List ℕ
-payload_of (Group lengths bytes) = to_le_bytes w32 (length lengths) ++ (flat_map (to_le_bytes w32) lengths ++ bytes)
-payload_of (Change start bytes) = to_le_bytes w64 start ++ bytes
-payload_of (Shrink n) = to_le_bytes w64 n
-payload_of (Fold count) = to_le_bytes w64 count
+-- the bytes of such a number
+abbrev pub number_len : Format → ℕ
+number_len One = 0
+number_len Two = 4
+
+abbrev pub run_text : Format → Run → List ℕ
+run_text format run = to_le_bytes w64 run.start ++ number_text format run.count
+
+-- what stands before the records of a change, and how many bytes that are
+abbrev pub runs_text : Format → List Run → List ℕ
+runs_text format runs = number_text format (length runs) ++ flat_map (run_text format) runs
+
+abbrev pub runs_len : Format → ℕ → ℕ
+runs_len format n = number_len format + n * (8 + number_len format)
+
+-- the records of runs
+abbrev pub records_of_runs : List Run → ℕ
+records_of_runs runs = sum (map (λ run. run.count) runs)
+
+abbrev pub payload_of : Format → Frame → List ℕ
+payload_of format (Group lengths bytes) = to_le_bytes w32 (length lengths) ++ (flat_map (to_le_bytes w32) lengths ++ bytes)
+payload_of format (Change runs bytes) = runs_text format runs ++ bytes
+payload_of format (Shrink n) = to_le_bytes w64 n
+payload_of format (Fold count) = to_le_bytes w64 count
 
 -- an open gate, the kind, the payload's length and the payload
-abbrev pub frame_text : Frame → List ℕ
-frame_text frame = (1 ∷ kind_of frame ∷ to_le_bytes w32 (length (payload_of frame))) ++ payload_of frame
+abbrev pub frame_text : Format → Frame → List ℕ
+frame_text format frame = (1 ∷ kind_of frame ∷ to_le_bytes w32 (length (payload_of format frame))) ++ payload_of format frame
 
 -- an open gate, the magic, the version and the width of a record
-abbrev pub header : ℕ → List ℕ
-header width = (1 ∷ codes "CVECSEG") ++ (1 ∷ to_le_bytes w16 width)
+abbrev pub header : Shape → List ℕ
+header shape = (1 ∷ codes "CVECSEG") ++ (version_of shape.format ∷ to_le_bytes w16 shape.width)
 
-abbrev pub text : ℕ → List Frame → List ℕ
-text width frames = header width ++ flat_map frame_text frames
+abbrev pub text : Shape → List Frame → List ℕ
+text shape frames = header shape ++ flat_map (frame_text shape.format) frames

@@ -1,3 +1,4 @@
+pub mod Shape
 pub mod Command
 pub mod Frame
 pub mod Kind
@@ -7,7 +8,15 @@ pub mod Layout
 pub mod Tally
 pub mod Image
 pub mod Vector
+pub mod Folding
+pub mod Blanked
+pub mod CommandFrame
+pub mod Raw
+pub mod Parsed
 pub mod Fault
+pub mod Notes
+pub mod Found
 pub mod Walk
+pub mod Scanner
 pub mod Growths
 pub mod Written

@@ -20,6 +20,9 @@ pub enum Cause {
     /// The payload doesn't have the form of its kind.
     #[error("layout")]
     Layout,
+    /// The runs of a change aren't in ascending order, or overlap.
+    #[error("runs")]
+    Runs,
     /// A change outside the vector so far, or a shrink to more than it has.
     #[error("range")]
     Range,

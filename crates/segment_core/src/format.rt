@@ -1,10 +1,62 @@
 //! The numbers of the format.
 
-ghost use Rattle.std.specs.Prelude.{◌≡◌, IfSome, IfNone, false};
-ghost use Rattle.segment_core.specs.Frame.{is_built};
+ghost use Rattle.std.specs.Prelude.{◌≡◌, ◌≤◌, ◌^◌, IfSome, IfNone, false};
 
-/// The version of the files that are written and read.
-pub const VERSION: u8 = 1;
+use record_core::PAYLOAD_LIMIT;
+
+/// A version of the file. A change has one run in the first, and any number of them in the second, whose
+/// frames may be longer too; nothing else differs.
+#[derive(Clone, Copy, Debug, PartialEq, Eq)]
+pub enum Format {
+    /// Version 1.
+    One = 1,
+    /// Version 2.
+    Two = 2,
+}
+
+/// What the header of a file says.
+#[derive(Clone, Copy, Debug, PartialEq, Eq)]
+pub struct Shape {
+    /// The version.
+    pub format: Format,
+    /// The bytes of one record.
+    pub width: usize,
+}
+
+impl Format {
+    ghost use Rattle.segment_core.specs.Shape.{version_of, limit_of};
+    ghost use Rattle.segment_core.specs.Fault.{is_version};
+
+    /// The format whose version this byte is.
+    pub fn from_version(version: u8) -> Option<Format>
+        ensures known { IfSome result (λ format. version_of format ≡ version) }
+        ensures unknown { IfNone result (is_version version ≡ false) }
+    {
+        match version {
+            1 => Some(Format::One),
+            2 => Some(Format::Two),
+            _ => None,
+        }
+    }
+
+    /// Its version byte.
+    pub fn version(self) -> u8
+        ensures { result ≡ version_of self }
+    {
+        self as u8
+    }
+
+    /// The bytes of a frame's payload at most.
+    pub fn payload_limit(self) -> usize
+        ensures is { result ≡ limit_of self }
+        ensures small { result ≤ 2 ^ 24 }
+    {
+        match self {
+            Format::One => PAYLOAD_LIMIT,
+            Format::Two => 16 * PAYLOAD_LIMIT,
+        }
+    }
+}
 
 /// The records of a vector at most.
 pub const RECORD_LIMIT: u64 = 4_294_967_296;
@@ -24,25 +76,34 @@ pub(crate) const HEADER_LEN: usize = 11;
 /// The bytes of a frame before its payload: the gate, the kind and the payload's length.
 pub(crate) const FRAME_HEAD_LEN: usize = 6;
 
-/// What a frame is. Only groups are built so far.
+/// What a frame is.
 #[derive(Clone, Copy, Debug, PartialEq, Eq)]
 pub enum FrameKind {
     /// Growths that were committed together.
     Group = 1,
+    /// Other records for positions of the vector.
+    Change = 2,
+    /// A new length, below the one before.
+    Shrink = 3,
+    /// How many changes stand in their home bytes.
+    Fold = 4,
 }
 
 impl FrameKind {
     ghost use Rattle.segment_core.specs.Kind.{kind_byte};
+    ghost use Rattle.segment_core.specs.Fault.{is_kind};
 
     /// The kind that this byte stands for.
     pub(crate) fn from_byte(byte: u8) -> Option<FrameKind>
         ensures known { IfSome result (λ kind. kind_byte kind ≡ byte) }
-        ensures unknown { IfNone result (is_built byte ≡ false) }
+        ensures unknown { IfNone result (is_kind byte ≡ false) }
     {
-        if byte == FrameKind::Group as u8 {
-            Some(FrameKind::Group)
-        } else {
-            None
+        match byte {
+            1 => Some(FrameKind::Group),
+            2 => Some(FrameKind::Change),
+            3 => Some(FrameKind::Shrink),
+            4 => Some(FrameKind::Fold),
+            _ => None,
         }
     }
 }

@@ -1,15 +1,16 @@
 //! One frame of an image, and its fields.
 
-ghost use Rattle.std.specs.Prelude.{◌≡◌, ◌≤◌, ◌<◌, ◌+◌, ◌*◌, ◌-◌, ◌^◌, ◌++◌, ℕ, List, true, false, length, take, drop, sum, slice_index, nat_lt, MatchOption};
+ghost use Rattle.std.specs.Prelude.{◌≡◌, ◌≤◌, ◌<◌, ◌+◌, ◌*◌, ◌-◌, ◌/◌, ◌^◌, ◌++◌, ℕ, List, Some, true, false, length, take, drop, sum, slice_index, slice_get, nat_lt, MatchOption, IfOk};
 ghost use Rattle.std.specs.List.{list_all};
-ghost use Rattle.record_core.specs.Limits.{payload_limit};
-ghost use Rattle.segment_core.specs.Frame.{Frame, kind_of, payload_of, frame_text};
-ghost use Rattle.segment_core.specs.Layout.{IsFrame, u32_at, numbers_in, count_in, lengths_in, is_group_layout};
-ghost use Rattle.segment_core.specs.Reading.{IsNext, BeginsWith, lengths_of, record_bytes_of, record_count};
+ghost use Rattle.segment_core.specs.Shape.{version_of, limit_of};
+ghost use Rattle.segment_core.specs.Frame.{Run, Frame, Shrink, Fold, number_len, runs_len, records_of_runs, kind_of, payload_of, frame_text};
+ghost use Rattle.segment_core.specs.Kind.{kind_byte};
+ghost use Rattle.segment_core.specs.Layout.{u32_at, u64_at, numbers_in, count_in, lengths_in, number_at, run_count_in, runs_in, frame_in, is_group_layout, is_change_layout, is_layout};
+ghost use Rattle.segment_core.specs.Reading.{IsNext, BeginsWith, lengths_of, runs_of, record_bytes_of, record_count, head_len};
 
 use crate::fault::{Cause, ScanFault};
-use crate::format::{FRAME_HEAD_LEN, FrameKind, OPEN, VERSION};
-use record_core::PAYLOAD_LIMIT;
+use crate::format::{FRAME_HEAD_LEN, Format, FrameKind, OPEN, Shape};
+use std::alloc::{AllocError, Global};
 use std::marker::Model;
 
 /// A whole open frame of an image.
@@ -18,9 +19,10 @@ pub struct FrameReader<'a> {
     at: usize,
     kind: FrameKind,
     payload: &'a [u8],
-    growths: usize,
+    /// The growths of a group, or the runs of a change.
+    heads: usize,
     records: usize,
-    width: usize,
+    shape: Shape,
 }
 
 impl<'a> Model for FrameReader<'a> {
@@ -30,27 +32,78 @@ impl<'a> Model for FrameReader<'a> {
 
     ghost Value = { Seen };
 
-    ghost view = { λ r. record { at = r.at; width = r.width; frame = frame_in (kind_byte r.kind) r.payload.now } };
+    ghost view = { λ r. record { at = r.at; shape = r.shape; frame = frame_in r.shape (kind_byte r.kind) r.payload.now } };
 
-    ghost invariant = { λ r. IsRead r.at r.width r.growths r.records r.payload.now (frame_in (kind_byte r.kind) r.payload.now) };
+    ghost invariant = { λ r. IsRead r.at r.shape r.heads r.records r.payload.now (frame_in r.shape (kind_byte r.kind) r.payload.now) };
+}
+
+/// A change that was read, with bytes of its own.
+#[derive(Drop)]
+pub(crate) struct Kept {
+    at: usize,
+    payload: Vec<u8>,
+    runs: usize,
+    records: usize,
+    shape: Shape,
+}
+
+impl Model for Kept {
+    ghost use Rattle.segment_core.specs.Reading.{Seen, IsRead};
+    ghost use Rattle.segment_core.specs.Layout.{frame_in};
+
+    ghost Value = { Seen };
+
+    ghost view = { λ k. record { at = k.at; shape = k.shape; frame = frame_in k.shape 2 k.payload.items } };
+
+    ghost invariant = { λ k. IsRead k.at k.shape k.runs k.records k.payload.items (frame_in k.shape 2 k.payload.items) };
+}
+
+impl Kept {
+    /// The frame.
+    pub(crate) fn frame(&self) -> FrameReader<'_>
+        ensures { result ≡ self.now }
+    {
+        FrameReader {
+            at: self.at,
+            kind: FrameKind::Change,
+            payload: &self.payload,
+            heads: self.runs,
+            records: self.records,
+            shape: self.shape,
+        }
+    }
+}
+
+/// Why no frame was read behind an open gate.
+#[derive(Clone, Copy, Debug)]
+pub(crate) enum Unread {
+    /// The bytes end before the frame does, and so far nothing is wrong with it.
+    Short,
+    /// The first fault that the frame has by itself.
+    Fault(ScanFault),
 }
 
 impl<'a> FrameReader<'a> {
     ghost use Rattle.std.specs.Prelude.{IfSome, IfNone};
     ghost use Rattle.record_core.specs.Cells.{cell};
-    ghost use Rattle.segment_core.specs.Kind.{kind_byte};
+    ghost use Rattle.segment_core.specs.declared.format.Format.{Format};
 
     /// The frame whose gate is at this place of an image, in a file of this version whose records have this
     /// width in bytes. `None`: no whole open frame of a known kind and the right form begins there.
     pub fn new(bytes: &'a [u8], at: u64, version: u8, width: u16) -> Option<FrameReader<'a>>
-        ensures found { IfSome result (λ frame. (version ≡ 1) × (frame.at ≡ at) × (frame.width ≡ width) × BeginsWith width (drop at bytes.now) frame.frame) }
-        ensures none { IfNone result (version ≡ 1 → (frame : Frame) → BeginsWith width (drop at bytes.now) frame → ⊥) }
+        ensures found { IfSome result (λ frame. (version_of frame.shape.format ≡ version) × (frame.at ≡ at) × (frame.shape.width ≡ width) × BeginsWith frame.shape (drop at bytes.now) frame.frame) }
+        ensures none { IfNone result ((format : Format) → version_of format ≡ version → (frame : Frame) → BeginsWith (record { format = format; width = width }) (drop at bytes.now) frame → ⊥) }
     {
-        if version != VERSION || width == 0 || bytes.len() as u64 <= at {
+        let format = Format::from_version(version)?;
+        if width == 0 || bytes.len() as u64 <= at {
             return None;
         }
         let at = at as usize;
-        match read_frame(&bytes[at..], at, width as usize) {
+        let shape = Shape {
+            format,
+            width: width as usize,
+        };
+        match read_frame(&bytes[at..], at, shape) {
             Ok(frame) => frame,
             Err(_) => None,
         }
@@ -71,16 +124,19 @@ impl<'a> FrameReader<'a> {
 
     /// The bytes of its payload.
     pub fn payload_len(&self) -> u32
-        ensures { result ≡ length (payload_of self.now.frame) }
+        ensures { result ≡ length (payload_of self.now.shape.format self.now.frame) }
     {
         self.payload.len() as u32
     }
 
-    /// How many growths it has.
+    /// How many growths it has: of a group, one at least.
     pub fn count(&self) -> u32
         ensures { result ≡ length (lengths_of self.now.frame) }
     {
-        self.growths as u32
+        match self.kind {
+            FrameKind::Group => self.heads as u32,
+            _ => 0,
+        }
     }
 
     /// The records of growth `k`, counted from 0.
@@ -91,20 +147,86 @@ impl<'a> FrameReader<'a> {
         u32_at(self.payload, 4 + k as usize * 4)
     }
 
+    /// How many runs of positions it replaces: of a change, one at least, and in version 1 one.
+    pub fn runs(&self) -> u32
+        ensures { result ≡ length (runs_of self.now.frame) }
+    {
+        match self.kind {
+            FrameKind::Change => self.heads as u32,
+            _ => 0,
+        }
+    }
+
+    /// The first position of run `k`, counted from 0, and how many positions it has.
+    pub fn run(&self, k: u32) -> (u64, u64)
+        requires { k < length (runs_of self.now.frame) }
+        ensures run { slice_get (runs_of self.now.frame) k ≡ Some (record { start = result.0; count = result.1 }) }
+        ensures small { result.1 < 2 ^ 32 }
+    {
+        let (start, count) = run_at(self.payload, self.shape, k as usize);
+        (start, count as u64)
+    }
+
+    /// The first position that a change replaces.
+    pub fn start(&self) -> u64
+        requires { 0 < length (runs_of self.now.frame) }
+        ensures { (count : ℕ) × (slice_get (runs_of self.now.frame) 0 ≡ Some (record { start = result; count = count })) }
+    {
+        let (start, _) = self.run(0);
+        start
+    }
+
+    /// The length that a shrink leaves, in records.
+    pub fn new_length(&self) -> u64
+        requires { kind_of self.now.frame ≡ 3 }
+        ensures { self.now.frame ≡ Shrink result }
+    {
+        u64_at(self.payload, 0)
+    }
+
+    /// How many changes of the file stand in their home bytes, as a fold says.
+    pub fn fold_count(&self) -> u64
+        requires { kind_of self.now.frame ≡ 4 }
+        ensures { self.now.frame ≡ Fold result }
+    {
+        u64_at(self.payload, 0)
+    }
+
     /// How many records it has.
     pub fn records(&self) -> u32
-        ensures { result ≡ record_count self.now.width self.now.frame }
+        ensures { result ≡ record_count self.now.frame }
     {
         self.records as u32
     }
 
     /// The bytes of record `k` of the frame, counted from 0.
     pub fn record_bytes(&self, k: u32) -> &'a [u8]
-        requires { k < record_count self.now.width self.now.frame }
-        ensures { result.now ≡ cell self.now.width (record_bytes_of self.now.frame) k }
+        requires { k < record_count self.now.frame }
+        ensures { result.now ≡ cell self.now.shape.width (record_bytes_of self.now.frame) k }
     {
-        let at = 4 + self.growths * 4 + k as usize * self.width;
-        &self.payload[at..at + self.width]
+        let width = self.shape.width;
+        let at = k as usize * width;
+        &self.record_area()[at..at + width]
+    }
+
+    /// The bytes of all its records.
+    pub(crate) fn record_area(&self) -> &'a [u8]
+        ensures bytes { result.now ≡ record_bytes_of self.now.frame }
+        ensures filled { length result.now ≡ record_count self.now.frame * self.now.shape.width }
+    {
+        &self.payload[self.head_len()..]
+    }
+
+    /// The bytes of its payload before those of its records.
+    fn head_len(&self) -> usize
+        ensures is { result ≡ head_len self.now.shape.format self.now.frame }
+        ensures inside { result ≤ length (payload_of self.now.shape.format self.now.frame) }
+    {
+        match self.kind {
+            FrameKind::Group => 4 + self.heads * 4,
+            FrameKind::Change => runs_len(self.shape.format, self.heads),
+            FrameKind::Shrink | FrameKind::Fold => 8,
+        }
     }
 
     /// Where its payload stands in the image.
@@ -116,16 +238,32 @@ impl<'a> FrameReader<'a> {
 
     /// Where its first record stands in the image.
     pub(crate) fn first_record(&self) -> usize
-        ensures { result ≡ self.now.at + 10 + length (lengths_of self.now.frame) * 4 }
+        ensures is { result ≡ self.now.at + 6 + head_len self.now.shape.format self.now.frame }
+        ensures placed { result + length (record_bytes_of self.now.frame) < 2 ^ 64 }
     {
-        self.at + 10 + self.growths * 4
+        self.at + FRAME_HEAD_LEN + self.head_len()
     }
 
-    /// Where the next frame's gate stands in the image.
-    pub(crate) fn end(&self) -> usize
-        ensures { result ≡ self.now.at + length (frame_text self.now.frame) }
+    /// The bytes of the frame, its gate among them.
+    pub(crate) fn len(&self) -> usize
+        ensures is { result ≡ length (frame_text self.now.shape.format self.now.frame) }
+        ensures placed { self.now.at + result < 2 ^ 64 }
     {
-        self.at + FRAME_HEAD_LEN + self.payload.len()
+        FRAME_HEAD_LEN + self.payload.len()
+    }
+
+    /// The same change, with bytes of its own.
+    pub(crate) fn keep(&self, alloc: Global) -> Result<Kept, AllocError>
+        requires { kind_of self.now.frame ≡ 2 }
+        ensures { IfOk result (λ kept. kept ≡ self.now) }
+    {
+        Ok(Kept {
+            at: self.at,
+            payload: Vec::from_slice(alloc, self.payload)?,
+            runs: self.heads,
+            records: self.records,
+            shape: self.shape,
+        })
     }
 }
 
@@ -140,10 +278,80 @@ fn u32_at(bytes: &[u8], at: usize) -> u32
     u32::from_le_bytes(word)
 }
 
+/// The number whose eight bytes begin at `at`.
+#[tactic(auto, unfolding(crate::specs::Layout::u64_at))]
+fn u64_at(bytes: &[u8], at: usize) -> u64
+    requires { at + 8 ≤ length bytes.now }
+    ensures { result ≡ u64_at bytes.now at }
+{
+    let mut word = [0u8; 8];
+    word.copy_from_slice(&bytes[at..at + 8]);
+    u64::from_le_bytes(word)
+}
+
+/// The bytes of a number that version 1 leaves out.
+fn number_len(format: Format) -> usize
+    ensures { result ≡ number_len format }
+{
+    match format {
+        Format::One => 0,
+        Format::Two => 4,
+    }
+}
+
+/// The bytes before the records of a change of so many runs.
+fn runs_len(format: Format, runs: usize) -> usize
+    requires { runs < 2 ^ 32 }
+    ensures { result ≡ runs_len format runs }
+{
+    let number = number_len(format);
+    number + runs * (8 + number)
+}
+
+/// Run `k` of a change's payload: its start, and how many positions it has.
+fn run_at(payload: &[u8], shape: Shape, k: usize) -> (u64, usize)
+    requires wide { 0 < shape.width }
+    requires counted { k < run_count_in shape.format payload.now }
+    requires inside { runs_len shape.format (run_count_in shape.format payload.now) ≤ length payload.now }
+    requires small { length payload.now ≤ 2 ^ 24 }
+    ensures run { slice_get (runs_in shape payload.now) k ≡ Some (record { start = result.0; count = result.1 }) }
+    ensures small { result.1 < 2 ^ 32 }
+{
+    let number = number_len(shape.format);
+    let at = number + k * (8 + number);
+    (u64_at(payload, at), count_at(payload, shape, at + 8))
+}
+
+/// The number of positions of a run of a change's payload. In version 1 it doesn't stand there: the one run has
+/// all records.
+fn count_at(payload: &[u8], shape: Shape, at: usize) -> usize
+    requires wide { 0 < shape.width }
+    requires inside { at + number_len shape.format ≤ length payload.now }
+    requires started { 8 ≤ length payload.now }
+    ensures { result ≡ number_at shape.format ((length payload.now - 8) / shape.width) payload.now at }
+{
+    match shape.format {
+        Format::One => (payload.len() - 8) / shape.width,
+        Format::Two => u32_at(payload, at) as usize,
+    }
+}
+
+/// How many runs a change's payload has.
+fn run_count(payload: &[u8], format: Format) -> usize
+    requires { number_len format ≤ length payload.now }
+    ensures is { result ≡ run_count_in format payload.now }
+    ensures small { result < 2 ^ 32 }
+{
+    match format {
+        Format::One => 1,
+        Format::Two => u32_at(payload, 0) as usize,
+    }
+}
+
 /// The sum of the lengths that stand behind the count of growths, if each is above 0.
 fn sum_of_lengths(payload: &[u8], growths: usize) -> Option<usize>
     requires inside { 4 + growths * 4 ≤ length payload.now }
-    requires small { length payload.now ≤ payload_limit }
+    requires small { length payload.now ≤ 2 ^ 24 }
     ensures { MatchOption result
         (list_all (nat_lt 0) (numbers_in growths (drop 4 payload.now)) ≡ false)
         (λ records. (list_all (nat_lt 0) (numbers_in growths (drop 4 payload.now)) ≡ true) × (records ≡ sum (numbers_in growths (drop 4 payload.now)))) }
@@ -161,7 +369,7 @@ fn sum_of_lengths(payload: &[u8], growths: usize) -> Option<usize>
 
 /// How many growths and how many records a group's payload has, if it has the form of one.
 fn group_counts(payload: &[u8], width: usize) -> Option<(usize, usize)>
-    requires { length payload.now ≤ payload_limit }
+    requires { length payload.now ≤ 2 ^ 24 }
     ensures { MatchOption result
         (is_group_layout width payload.now ≡ false)
         (λ counts. (is_group_layout width payload.now ≡ true) × (counts.0 ≡ count_in payload.now) × (counts.1 ≡ sum (lengths_in payload.now))) }
@@ -182,47 +390,116 @@ fn group_counts(payload: &[u8], width: usize) -> Option<(usize, usize)>
     }
 }
 
+/// The sum of the counts of the first runs, if each is above 0.
+fn sum_of_runs(payload: &[u8], shape: Shape, runs: usize) -> Option<usize>
+    requires wide { 0 < shape.width }
+    requires counted { runs ≡ run_count_in shape.format payload.now }
+    requires inside { runs_len shape.format runs ≤ length payload.now }
+    requires small { length payload.now ≤ 2 ^ 24 }
+    ensures { MatchOption result
+        (list_all (λ run. nat_lt 0 run.count) (runs_in shape payload.now) ≡ false)
+        (λ records. (list_all (λ run. nat_lt 0 run.count) (runs_in shape payload.now) ≡ true) × (records ≡ records_of_runs (runs_in shape payload.now))) }
+{
+    let mut records = 0;
+    for k in 0..runs {
+        let (_, count) = run_at(payload, shape, k);
+        if count == 0 {
+            return None;
+        }
+        records += count;
+    }
+    Some(records)
+}
+
+/// How many runs and how many records a change's payload has, if it has the form of one.
+fn change_counts(payload: &[u8], shape: Shape) -> Option<(usize, usize)>
+    requires wide { 0 < shape.width }
+    requires small { length payload.now ≤ 2 ^ 24 }
+    ensures { MatchOption result
+        (is_change_layout shape payload.now ≡ false)
+        (λ counts. (is_change_layout shape payload.now ≡ true) × (counts.0 ≡ run_count_in shape.format payload.now) × (counts.1 ≡ records_of_runs (runs_in shape payload.now))) }
+{
+    if payload.len() < number_len(shape.format) {
+        return None;
+    }
+    let runs = run_count(payload, shape.format);
+    if runs == 0 || payload.len() < runs_len(shape.format, runs) {
+        return None;
+    }
+    let records = sum_of_runs(payload, shape, runs)?;
+    let filled = records.checked_mul(shape.width)?;
+    if filled == payload.len() - runs_len(shape.format, runs) {
+        Some((runs, records))
+    } else {
+        None
+    }
+}
+
+/// How many growths or runs, and how many records, a payload of this kind has, if it has the form of one.
+#[tactic(auto, using(crate::proofs::Reader::heads_of_change))]
+fn counts(payload: &[u8], kind: FrameKind, shape: Shape) -> Option<(usize, usize)>
+    requires wide { 0 < shape.width }
+    requires small { length payload.now ≤ 2 ^ 24 }
+    ensures { MatchOption result
+        (is_layout shape (kind_byte kind) payload.now ≡ false)
+        (λ counts. (is_layout shape (kind_byte kind) payload.now ≡ true)
+            × (counts.0 ≡ length (lengths_of (frame_in shape (kind_byte kind) payload.now)) + length (runs_of (frame_in shape (kind_byte kind) payload.now)))
+            × (counts.1 ≡ record_count (frame_in shape (kind_byte kind) payload.now))) }
+{
+    match kind {
+        FrameKind::Group => group_counts(payload, shape.width),
+        FrameKind::Change => change_counts(payload, shape),
+        FrameKind::Shrink | FrameKind::Fold => {
+            if payload.len() == 8 {
+                Some((0, 0))
+            } else {
+                None
+            }
+        }
+    }
+}
+
 /// Reads the frame whose gate is the first of these bytes, which stand at `at` of an image. `None`: the gate
-/// is closed. The fault is the first that the frame has by itself.
+/// is closed.
 pub(crate) fn read_frame(
     bytes: &[u8],
     at: usize,
-    width: usize,
-) -> Result<Option<FrameReader<'_>>, ScanFault>
-    requires wide { 0 < width }
+    shape: Shape,
+) -> Result<Option<FrameReader<'_>>, Unread>
+    requires wide { 0 < shape.width }
     requires place { at + length bytes.now < 2 ^ 64 }
-    ensures { IsNext width at bytes.now result }
+    ensures { IsNext shape at bytes.now result }
 {
     if bytes.is_empty() {
-        return Err(damaged(at, Cause::NoGate));
+        return Err(Unread::Short);
     }
     if bytes[0] != OPEN {
         return Ok(None);
     }
     if bytes.len() < FRAME_HEAD_LEN {
-        return Err(damaged(at, Cause::ShortFrame));
+        return Err(Unread::Short);
     }
     let Some(kind) = FrameKind::from_byte(bytes[1]) else {
-        return Err(damaged(at + 1, Cause::Kind(bytes[1])));
+        return Err(Unread::Fault(damaged(at + 1, Cause::Kind(bytes[1]))));
     };
     let payload_len = u32_at(bytes, 2) as usize;
-    if payload_len > PAYLOAD_LIMIT {
-        return Err(damaged(at + 2, Cause::TooLarge));
+    if payload_len > shape.format.payload_limit() {
+        return Err(Unread::Fault(damaged(at + 2, Cause::TooLarge)));
     }
     if bytes.len() < FRAME_HEAD_LEN + payload_len {
-        return Err(damaged(at, Cause::ShortFrame));
+        return Err(Unread::Short);
     }
     let payload = &bytes[FRAME_HEAD_LEN..FRAME_HEAD_LEN + payload_len];
-    let Some((growths, records)) = group_counts(payload, width) else {
-        return Err(damaged(at + FRAME_HEAD_LEN, Cause::Layout));
+    let Some((heads, records)) = counts(payload, kind, shape) else {
+        return Err(Unread::Fault(damaged(at + FRAME_HEAD_LEN, Cause::Layout)));
     };
     Ok(Some(FrameReader {
         at,
         kind,
         payload,
-        growths,
+        heads,
         records,
-        width,
+        shape,
     }))
 }
 

@@ -4,6 +4,7 @@ ghost use Rattle.std.specs.Prelude.{◌≡◌, ◌≤◌, ◌<◌, ◌^◌, ◌+
 ghost use Rattle.std.specs.List.{flat_map};
 ghost use Rattle.std.specs.Int.{w32, to_le_bytes};
 ghost use Rattle.record_core.specs.Cells.{AreReadAgain};
+ghost use Rattle.segment_core.specs.declared.format.Format.{Format};
 ghost use Rattle.segment_core.specs.Frame.{frame_text};
 ghost use Rattle.segment_core.specs.Written.{group_frame, joined, payload_len, IsGroupRefused};
 
@@ -89,7 +90,7 @@ fn append_frame<R: Record, G: GrowthList<R>>(
 ) -> Result<(), AllocError>
     requires len { len ≡ payload_len R.form.width (G.growths group.now) }
     requires small { len < 2 ^ 32 }
-    ensures text { OnOk result (file.new.items ≡ file.old.items ++ frame_text (group_frame R.form (G.growths group.now))) }
+    ensures text { OnOk result ((format : Format) → file.new.items ≡ file.old.items ++ frame_text format (group_frame R.form (G.growths group.now))) }
     ensures read_again { OnOk result (AreReadAgain R.form (joined (G.growths group.now))) }
 {
     append_head(len, group.count(), file)?;
@@ -97,7 +98,7 @@ fn append_frame<R: Record, G: GrowthList<R>>(
     append_growths::<R, G>(group, file)
 }
 
-/// Appends the frame of a group, behind an open gate. `TooLarge` comes where its payload has more than `limit`
+/// Appends the frame of a group, behind an open gate: it is the same in each format. `TooLarge` comes where its payload has more than `limit`
 /// bytes, and then nothing was appended. After `Memory` a part of the frame may stand behind the old bytes.
 pub fn append_group<R: Record, G: GrowthList<R>>(
     group: &G,
@@ -106,7 +107,7 @@ pub fn append_group<R: Record, G: GrowthList<R>>(
 ) -> Result<(), GroupFault>
     requires room { 4 ≤ limit }
     requires small { limit < 2 ^ 32 }
-    ensures text { OnOk result (file.new.items ≡ file.old.items ++ frame_text (group_frame R.form (G.growths group.now))) }
+    ensures text { OnOk result ((format : Format) → file.new.items ≡ file.old.items ++ frame_text format (group_frame R.form (G.growths group.now))) }
     ensures read_again { OnOk result (AreReadAgain R.form (joined (G.growths group.now))) }
     ensures fits { MatchResult result
         (λ _. payload_len R.form.width (G.growths group.now) ≤ limit)

@@ -2,12 +2,14 @@
 
 ghost use Rattle.std.specs.Prelude.{◌≡◌, ◌≤◌, ◌^◌, ◌++◌, ◌∷◌, [], length, map, IfOk, OnOk, MatchResult};
 ghost use Rattle.record_core.specs.Cells.{AreReadAgain};
+ghost use Rattle.segment_core.specs.declared.format.Format.TheVariants.{One};
+ghost use Rattle.segment_core.specs.Shape.{shape_of};
 ghost use Rattle.segment_core.specs.Frame.{header};
 ghost use Rattle.segment_core.specs.Vector.{HasVector};
 ghost use Rattle.segment_core.specs.Written.{AreFilled, AllFit, groups_of, group_frame, file_of, all_records, IsImageRefused};
 
 use crate::fault::ImageFault;
-use crate::format::{CLOSED, FRAME_HEAD_LEN, HEADER_LEN, MAGIC, OPEN, VERSION};
+use crate::format::{CLOSED, FRAME_HEAD_LEN, Format, HEADER_LEN, MAGIC, OPEN};
 use crate::group::{append_group, payload_size};
 use record_core::{PAYLOAD_LIMIT, Record, width_of};
 use std::alloc::{AllocError, Global};
@@ -23,7 +25,7 @@ pub fn write_image<R: Record>(alloc: Global, groups: &[Vec<Vec<R>>]) -> Result<V
         (IsImageRefused R.form.width (groups_of groups.now)) }
     // The file is read as the records in their order, where they aren't too many for a vector.
     ensures read_again { IfOk result (λ file. length (all_records (groups_of groups.now)) ≤ 2 ^ 32 →
-        HasVector R.form file.items (map (group_frame R.form) (groups_of groups.now)) (all_records (groups_of groups.now))) }
+        HasVector One R.form file.items (map (group_frame R.form) (groups_of groups.now)) (all_records (groups_of groups.now))) }
 {
     let size = image_len(groups)?;
     let Ok(mut file) = Vec::with_capacity(alloc, size) else {
@@ -51,13 +53,13 @@ fn image_len<R: Record>(groups: &[Vec<Vec<R>>]) -> Result<usize, ImageFault>
     Ok(size)
 }
 
-/// Appends the header of a file of records of this type.
-pub fn append_header<R: Record>(file: &mut Vec<u8>) -> Result<(), AllocError>
-    ensures { OnOk result (file.new.items ≡ file.old.items ++ header R.form.width) }
+/// Appends the header of a file of this format, of records of this type.
+pub fn append_header<R: Record>(format: Format, file: &mut Vec<u8>) -> Result<(), AllocError>
+    ensures { OnOk result (file.new.items ≡ file.old.items ++ header (shape_of format R.form)) }
 {
     file.push(OPEN)?;
     file.extend_from_slice(MAGIC)?;
-    file.push(VERSION)?;
+    file.push(format.version())?;
     file.extend_from_slice(&(width_of::<R>() as u16).to_le_bytes())
 }
 
@@ -74,7 +76,7 @@ fn append_image<R: Record>(groups: &[Vec<Vec<R>>], file: &mut Vec<u8>) -> Result
     ensures text { OnOk result (file.new.items ≡ file.old.items ++ file_of R.form (groups_of groups.now)) }
     ensures read_again { OnOk result (AreReadAgain R.form (all_records (groups_of groups.now))) }
 {
-    append_header::<R>(file)?;
+    append_header::<R>(Format::One, file)?;
     for group in groups {
         let Ok(()) = append_group::<R, &[Vec<R>]>(&group.as_slice(), PAYLOAD_LIMIT, file) else {
             return Err(AllocError);

@@ -1,26 +1,33 @@
 //! A segment file: the growths and changes of a vector, frame behind frame, and the vector that is found again.
 //!
 //! `write_image` makes the whole file of some growths, `scan` reads the vector of an image or names its first
-//! fault, and `FrameReader` gives the fields of one frame. The format is in `docs/FORMAT.md`.
+//! fault, `Scanner` does so of an image that comes in pieces, and `FrameReader` gives the fields of one frame.
+//! The format is in `docs/FORMAT.md`.
 #![tactic(auto)]
 
 mod fault;
 mod format;
+mod found;
 mod frame;
 mod group;
 mod growth_list;
 mod growth_row;
 mod image;
+mod notes;
+mod scanner;
+mod tally;
 mod vector;
 mod walk;
 
 pub use fault::{Cause, GroupFault, ImageFault, ScanFault};
-pub use format::{FrameKind, RECORD_LIMIT, VERSION};
+pub use format::{Format, FrameKind, RECORD_LIMIT, Shape};
+pub use found::{Home, Homes};
 pub use frame::FrameReader;
 pub use group::append_group;
 pub use growth_list::GrowthList;
 pub use growth_row::Growths;
 pub use image::{append_header, append_last_gate, write_image};
+pub use scanner::Scanner;
 pub use vector::{Scanned, scan};
 
 #[cfg(test)]

@@ -1,15 +1,6 @@
-//! Worked files, byte by byte: what the definitions compute to, and what the calls answer.
+//! Worked files, byte by byte: what the calls answer.
 
-ghost use Rattle.std.specs.Prelude.{◌≡◌, ◌<◌, ◌∷◌, ◌++◌, [], ℕ};
-ghost use Rattle.std.specs.Int.{w64, to_le_bytes};
-ghost use Rattle.record_core.specs.Bytes.{unsigned};
-ghost use Rattle.segment_core.specs.Command.{content};
-ghost use Rattle.segment_core.specs.Command as commands;
-ghost use Rattle.segment_core.specs.Frame.{Group, Change, Shrink, Fold, header};
-ghost use Rattle.segment_core.specs.Tally.{nothing, tally_of};
-ghost use Rattle.segment_core.specs.Vector.{place_of};
-ghost use Rattle.segment_core.specs.Fault.{first_line, order_lines, frame_fault};
-ghost use Rattle.segment_core.specs.Written.{file_of, group_frame};
+ghost use Rattle.std.specs.Prelude.{◌≡◌, ◌<◌, ◌≤◌, length};
 
 use super::*;
 use record_core::{Flagged, Pair, Record};
@@ -49,37 +40,6 @@ const FLAGGED: [u8; 35] = [
     1, 0x43, 0x56, 0x45, 0x43, 0x53, 0x45, 0x47, 1, 9, 0, 1, 1, 0x11, 0, 0, 0, 1, 0, 0, 0, 1, 0, 0,
     0, 5, 0, 0, 0, 0, 0, 0, 0, 1, 0,
 ];
-
-/// What the definitions compute to, on the first two files: their text, where record 0 of the first has its home, and
-/// the first fault of that file's frame with another kind, another length, and cut.
-#[tactic(auto, using(std::proofs::lemmas::Grind::common_steps), unfolding(crate::specs::Vector::place_of, crate::specs::Fault::frame_fault, crate::specs::Fault::frame_lines, crate::specs::Fault::order_lines, crate::specs::Layout::is_group_layout, crate::specs::Layout::u32_at))]
-fn worked_definitions()
-    ensures empty { file_of (unsigned w64) [] ≡ header 8 ++ 0 ∷ [] }
-    ensures head { header 8 ≡ 1 ∷ 67 ∷ 86 ∷ 69 ∷ 67 ∷ 83 ∷ 69 ∷ 71 ∷ 1 ∷ 8 ∷ 0 ∷ [] }
-    ensures five { file_of (unsigned w64) (((5 ∷ []) ∷ []) ∷ []) ≡ header 8 ++
-        (1 ∷ 1 ∷ 16 ∷ 0 ∷ 0 ∷ 0 ∷ 1 ∷ 0 ∷ 0 ∷ 0 ∷ 1 ∷ 0 ∷ 0 ∷ 0 ∷ 5 ∷ 0 ∷ 0 ∷ 0 ∷ 0 ∷ 0 ∷ 0 ∷ 0 ∷ 0 ∷ []) }
-    ensures two_growths { file_of (unsigned w64) (((1 ∷ 2 ∷ []) ∷ (3 ∷ []) ∷ []) ∷ []) ≡ header 8 ++
-        (1 ∷ 1 ∷ 36 ∷ 0 ∷ 0 ∷ 0 ∷ 2 ∷ 0 ∷ 0 ∷ 0 ∷ 2 ∷ 0 ∷ 0 ∷ 0 ∷ 1 ∷ 0 ∷ 0 ∷ 0 ∷ 1 ∷ 0 ∷ 0 ∷ 0 ∷ 0 ∷ 0 ∷ 0 ∷ 0 ∷
-        2 ∷ 0 ∷ 0 ∷ 0 ∷ 0 ∷ 0 ∷ 0 ∷ 0 ∷ 3 ∷ 0 ∷ 0 ∷ 0 ∷ 0 ∷ 0 ∷ 0 ∷ 0 ∷ 0 ∷ []) }
-    ensures home { place_of 8 (group_frame (unsigned w64) ((5 ∷ []) ∷ []) ∷ []) 0 ≡ Some 25 }
-    ensures kind { frame_fault 8 11 nothing (1 ∷ 5 ∷ 16 ∷ 0 ∷ 0 ∷ 0 ∷ []) ≡ Some (ScanFault.Damaged 12 (Cause.Kind 5)) }
-    ensures layout { frame_fault 8 11 nothing (1 ∷ 1 ∷ 17 ∷ 0 ∷ 0 ∷ 0 ∷ 1 ∷ 0 ∷ 0 ∷ 0 ∷ 1 ∷ 0 ∷ 0 ∷ 0 ∷ 5 ∷ 0 ∷ 0 ∷ 0 ∷ 0 ∷ 0 ∷ 0 ∷ 0 ∷ 0 ∷ []) ≡ Some (ScanFault.Damaged 17 Cause.Layout) }
-    ensures short { frame_fault 8 11 nothing (1 ∷ 1 ∷ 18 ∷ 0 ∷ 0 ∷ 0 ∷ 1 ∷ 0 ∷ 0 ∷ 0 ∷ 1 ∷ 0 ∷ 0 ∷ 0 ∷ 5 ∷ 0 ∷ 0 ∷ 0 ∷ 0 ∷ 0 ∷ 0 ∷ 0 ∷ 0 ∷ []) ≡ Some (ScanFault.Damaged 11 Cause.ShortFrame) }
-    ensures no_gate { frame_fault 8 11 nothing [] ≡ Some (ScanFault.Damaged 11 Cause.NoGate) }
-    ensures closed { frame_fault 8 11 nothing (7 ∷ []) ≡ None }
-
-    // The kinds that aren't built yet: a live change tells, a folded one doesn't.
-    ensures changed { place_of 8 (group_frame (unsigned w64) ((5 ∷ []) ∷ []) ∷ Change 0 (to_le_bytes w64 7) ∷ []) 0 ≡ Some 47 }
-    ensures folded { place_of 8 (group_frame (unsigned w64) ((5 ∷ []) ∷ []) ∷ Change 0 (to_le_bytes w64 7) ∷ Fold 1 ∷ []) 0 ≡ Some 25 }
-    ensures unfolded { first_line (order_lines 8 63 (tally_of (Group (2 ∷ []) [] ∷ Change 1 [] ∷ [])) (Shrink 1)) ≡ Some (ScanFault.Damaged 63 Cause.Unfolded) }
-    ensures miscounted { first_line (order_lines 8 55 (tally_of (Group (1 ∷ []) [] ∷ Change 0 [] ∷ [])) (Fold 2)) ≡ Some (ScanFault.Damaged 61 Cause.FoldCount) }
-    ensures content { content {R = ℕ} [] (commands.Grow (5 ∷ []) ∷ commands.Grow (6 ∷ 7 ∷ []) ∷ commands.Change 1 (8 ∷ 9 ∷ []) ∷ commands.Shrink 2 ∷ []) ≡ 5 ∷ 8 ∷ [] }
-{}
-
-#[test]
-fn definitions_give_the_worked_files() {
-    worked_definitions();
-}
 
 /// One growth of this record is written as this file, and the file is read as that record. Memory is taken once.
 fn stands_as<R: Record + Debug>(
@@ -138,7 +98,8 @@ fn fields_of_a_frame(rt: HostRuntime) -> Result<(), Fail> {
     assert_eq!(rt; (frame.length(0), frame.length(1)), (2, 1));
     assert_eq!(rt; frame.records(), 3);
     assert_eq!(rt; frame.record_bytes(2), [3, 0, 0, 0, 0, 0, 0, 0].as_slice());
-    assert!(rt; FrameReader::new(&TWO_GROWTHS, 11, 2, 8).is_none());
+    assert_eq!(rt; frame.runs(), 0);
+    assert!(rt; FrameReader::new(&TWO_GROWTHS, 11, 3, 8).is_none());
     assert!(rt; FrameReader::new(&TWO_GROWTHS, 11, 1, 16).is_none());
     assert!(rt; FrameReader::new(&TWO_GROWTHS, 53, 1, 8).is_none());
     assert!(rt; FrameReader::new(&TWO_GROWTHS, 54, 1, 8).is_none());
@@ -154,6 +115,52 @@ fn fault_with(rt: &HostRuntime, at: usize, byte: u8) -> Option<ScanFault>
     scan::<u64>(rt.alloc(), &file).err()
 }
 
+/// The vector of 5 whose only record a change makes 7.
+const CHANGED: [u8; 56] = [
+    1, 0x43, 0x56, 0x45, 0x43, 0x53, 0x45, 0x47, 1, 8, 0, 1, 1, 0x10, 0, 0, 0, 1, 0, 0, 0, 1, 0, 0,
+    0, 5, 0, 0, 0, 0, 0, 0, 0, 1, 2, 0x10, 0, 0, 0, 0, 0, 0, 0, 0, 0, 0, 0, 7, 0, 0, 0, 0, 0, 0, 0, 0,
+];
+
+/// What is answered of an image that is fed in pieces of this length.
+fn in_pieces<R: Record>(rt: &(impl AllocGlobal + Abort), image: &[u8], piece: usize) -> Result<Scanned<R>, ScanFault>
+{
+    let mut scanner = Scanner::new(rt.alloc());
+    for part in image.chunks(piece) {
+        scanner.feed(part)?;
+        scanner.feed(&[])?;
+    }
+    scanner.end()
+}
+
+/// The same answer comes of the whole image and of pieces of it, and it is this vector.
+fn holds<R: Record + Debug>(rt: &(impl AllocGlobal + Abort), image: &[u8], records: &[R]) -> Result<(), Fail>
+{
+    let whole = scan::<R>(rt.alloc(), image)?;
+    assert_eq!(rt; whole.records.as_slice(), records);
+    for piece in [1, 2, 7, 4096] {
+        let scanned = in_pieces::<R>(rt, image, piece)?;
+        assert_eq!(rt; scanned.records.as_slice(), records);
+        assert_eq!(rt; (scanned.frames, scanned.changes, scanned.folded, scanned.gate), (whole.frames, whole.changes, whole.folded, whole.gate));
+    }
+    Ok(())
+}
+
+/// The same fault.
+fn is_refused<R: Record + Debug>(rt: &(impl AllocGlobal + Abort), image: &[u8], fault: ScanFault)
+{
+    assert_eq!(rt; scan::<R>(rt.alloc(), image).err(), Some(fault));
+    for piece in [1, 2, 7, 4096] {
+        assert_eq!(rt; in_pieces::<R>(rt, image, piece).err(), Some(fault));
+    }
+}
+
+#[test]
+fn a_live_change_tells(rt: HostRuntime) -> Result<(), Fail> {
+    holds::<u64>(&rt, &CHANGED, &[7])?;
+    holds::<u64>(&rt, &FIVE, &[5])?;
+    holds::<u64>(&rt, &TWO_GROWTHS, &[1, 2, 3])
+}
+
 #[test]
 fn first_faults(rt: HostRuntime) {
     let damaged = |at, cause| Some(ScanFault::Damaged { at, cause });
@@ -162,7 +169,7 @@ fn first_faults(rt: HostRuntime) {
     assert_eq!(rt; fault_with(&rt, 8, 3), Some(ScanFault::Version(3)));
     assert_eq!(rt; fault_with(&rt, 9, 4), Some(ScanFault::Width(4)));
     assert_eq!(rt; fault_with(&rt, 11, 7), None);
-    assert_eq!(rt; fault_with(&rt, 12, 2), damaged(12, Cause::Kind(2)));
+    assert_eq!(rt; fault_with(&rt, 12, 2), damaged(17, Cause::Range));
     assert_eq!(rt; fault_with(&rt, 12, 5), damaged(12, Cause::Kind(5)));
     assert_eq!(rt; fault_with(&rt, 13, 0x11), damaged(17, Cause::Layout));
     assert_eq!(rt; fault_with(&rt, 13, 0x12), damaged(11, Cause::ShortFrame));

@@ -1,115 +1,103 @@
-//! A walk over the frames of an image, one step a frame: what the frames leave, and where the home bytes of
-//! the positions stand. Records are read at its end, when every frame is known to be sound.
+//! A walk over the frames of an image, one step a frame.
 
-ghost use Rattle.std.specs.Prelude.{◌≡◌, ◌≤◌, ◌<◌, ◌+◌, ◌*◌, ◌-◌, ◌^◌, ◌++◌, ◌⊎◌, ℕ, List, length, OnOk, IfOk, IfErr};
-ghost use Rattle.segment_core.specs.Frame.{Frame, header};
-ghost use Rattle.segment_core.specs.Image.{HasFrames};
-ghost use Rattle.segment_core.specs.Vector.{IsVectorOf};
-ghost use Rattle.segment_core.specs.Walk.{IsBehind, Steps, IsStepRefused, IsWalkRefused, IsReadRefused, HoldsAt, IsHomeRefused};
+ghost use Rattle.std.specs.Prelude.{◌≡◌, ◌≤◌, ◌<◌, ◌+◌, ◌^◌, ◌++◌, ◌⊎◌, ◌∷◌, [], ℕ, List, Some, length, drop, OnOk, IfOk, IfErr};
+ghost use Rattle.segment_core.specs.Frame.{Frame};
+ghost use Rattle.segment_core.specs.Layout.{IsFrame};
+ghost use Rattle.segment_core.specs.Fault.{first_line, order_lines};
+ghost use Rattle.segment_core.specs.Walk.{IsBehind, StandsBefore, IsTail, IsWalkRefused};
 
-use crate::fault::{Cause, ScanFault};
-use crate::format::{HEADER_LEN, RECORD_LIMIT};
-use crate::frame::{FrameReader, damaged, read_frame};
-use record_core::{Record, RecordsFault, read_records, width_of};
+use crate::fault::ScanFault;
+use crate::format::{HEADER_LEN, Shape};
+use crate::found::Found;
+use crate::frame::{FrameReader, Unread, read_frame};
+use crate::tally::Tally;
+use record_core::Record;
 use std::alloc::Global;
 
-/// Where the bytes of consecutive positions stand, one record behind the other.
-#[derive(Clone, Copy, Debug)]
-pub(crate) struct Home {
-    /// The place of the first byte.
-    pub(crate) place: usize,
-    /// How many records stand there.
-    pub(crate) count: usize,
+/// What stands behind the frames that were read.
+#[derive(Clone, Copy, Debug, PartialEq, Eq)]
+pub(crate) enum Tail {
+    /// A closed gate: the frames end.
+    Closed,
+    /// The front of a frame, or nothing.
+    Short,
 }
 
 /// What the frames before `at` leave.
-#[derive(Debug, Drop)]
-pub(crate) struct Walk {
+#[derive(Drop)]
+pub(crate) struct Walk<R> {
+    pub(crate) shape: Shape,
     /// The place of the next gate.
     pub(crate) at: usize,
     /// The frames so far.
     pub(crate) frames: u64,
-    /// The length of the vector so far.
-    pub(crate) size: u64,
-    /// The homes of the positions, in their order.
-    pub(crate) homes: Vec<Home>,
+    pub(crate) tally: Tally,
+    /// What they say of the vector.
+    pub(crate) found: Found<R>,
 }
 
-/// Appends the records of one home.
-fn read_home<R: Record>(home: &Home, bytes: &[u8], records: &mut Vec<R>) -> Result<(), ScanFault>
-    requires { home.now.place + home.now.count * R.form.width ≤ length bytes.now }
-    ensures ok { OnOk result ((read : List R) × (records.new.items ≡ records.old.items ++ read) × HoldsAt R.form bytes.now home.now read) }
-    ensures err { IfErr result (IsHomeRefused R.form bytes.now home.now) }
-{
-    let width = width_of::<R>();
-    let part = &bytes[home.place..home.place + home.count * width];
-    match read_records(part, home.count, records) {
-        Ok(()) => Ok(()),
-        Err(RecordsFault::Bad(i)) => Err(damaged(home.place + i * width, Cause::BadRecord)),
-        Err(RecordsFault::Memory) => Err(ScanFault::Memory),
-    }
-}
-
-impl Walk {
-    /// Walks over all frames of an image whose header is sound.
-    pub(crate) fn over(alloc: Global, bytes: &[u8], width: usize) -> Result<Walk, ScanFault>
-        requires wide { 0 < width }
-        requires header { (rest : List ℕ) × (bytes.now ≡ header width ++ rest) }
-        ensures ok { IfOk result (λ walk. (frames : List Frame) × HasFrames width bytes.now frames × IsBehind width frames walk) }
-        ensures err { IfErr result (IsWalkRefused width bytes.now) }
+impl<R: Record> Walk<R> {
+    /// A walk that stands behind the header of a file of this shape. It has no memory of its own so far.
+    pub(crate) fn new(alloc: Global, shape: Shape) -> Walk<R>
+        requires { shape.width ≡ R.form.width }
+        ensures shape { result.shape ≡ shape }
+        ensures behind { IsBehind R.form [] result }
     {
-        let mut walk = Walk {
+        Walk {
+            shape,
             at: HEADER_LEN,
             frames: 0,
-            size: 0,
-            homes: Vec::new(alloc),
-        };
-        while let Some(frame) = read_frame(&bytes[walk.at..], walk.at, width)? {
-            walk.step(&frame)?;
+            tally: Tally {
+                size: 0,
+                changes: 0,
+                folded: 0,
+            },
+            found: Found::new(alloc),
         }
-        Ok(walk)
     }
 
-    /// Reads the records of all positions.
-    pub(crate) fn records<R: Record>(
-        &self,
-        alloc: Global,
-        bytes: &[u8],
-    ) -> Result<Vec<R>, ScanFault>
-        requires { (frames : List Frame) × HasFrames R.form.width bytes.now frames × IsBehind R.form.width frames self.now }
-        ensures ok { IfOk result (λ records. (frames : List Frame) × HasFrames R.form.width bytes.now frames × IsBehind R.form.width frames self.now × IsVectorOf R.form bytes.now frames records.items) }
-        ensures err { IfErr result (IsReadRefused R.form bytes.now) }
+    /// Takes in the whole frames that these bytes begin with, and answers how many bytes they are and what
+    /// stands behind them.
+    pub(crate) fn read(&mut self, bytes: &[u8]) -> Result<(usize, Tail), ScanFault>
+        requires { (image : List ℕ) × StandsBefore R.form image bytes.now self.old × (length image < 2 ^ 64) }
+        ensures shape { self.new.shape ≡ self.old.shape }
+        ensures stands { IfOk result (λ end. (image : List ℕ) → StandsBefore R.form image bytes.now self.old → StandsBefore R.form image (drop end.0 bytes.now) self.new) }
+        ensures tail { IfOk result (λ end. (end.0 ≤ length bytes.now) × IsTail self.new.shape self.new.at (drop end.0 bytes.now) end.1) }
+        ensures err { IfErr result (λ fault. (image : List ℕ) → StandsBefore R.form image bytes.now self.old → IsWalkRefused self.old.shape image fault) }
     {
-        let Ok(mut records) = Vec::with_capacity(alloc, self.size as usize) else {
-            return Err(ScanFault::Memory);
-        };
-        for home in &self.homes {
-            read_home(home, bytes, &mut records)?;
+        let mut used = 0;
+        loop {
+            match read_frame(&bytes[used..], self.at, self.shape) {
+                Ok(Some(frame)) => {
+                    self.step(&frame)?;
+                    used += frame.len();
+                }
+                Ok(None) => return Ok((used, Tail::Closed)),
+                Err(Unread::Short) => return Ok((used, Tail::Short)),
+                Err(Unread::Fault(fault)) => return Err(fault),
+            }
         }
-        Ok(records)
     }
 
-    /// Takes in the next frame. After a refusal nothing has changed.
+    /// Takes in the next frame.
     fn step(&mut self, frame: &FrameReader<'_>) -> Result<(), ScanFault>
-        requires here { frame.now.at ≡ self.old.at }
-        requires sound { self.old.size ≤ 2 ^ 32 }
-        requires counted { self.old.frames < self.old.at }
-        ensures ok { OnOk result (Steps self.old self.new frame.now.width frame.now.frame) }
-        ensures err { IfErr result (IsStepRefused self.old frame.now.width frame.now.frame) }
+        requires behind { (frames : List Frame) × IsBehind R.form frames self.old }
+        requires at { frame.now.at ≡ self.old.at }
+        requires placed { self.old.at < 2 ^ 64 }
+        requires shaped { frame.now.shape ≡ self.old.shape }
+        requires whole { IsFrame self.old.shape frame.now.frame }
+        ensures shape { self.new.shape ≡ self.old.shape }
+        ensures ok { OnOk result ((frames : List Frame) → IsBehind R.form frames self.old → IsBehind R.form (frames ++ frame.now.frame ∷ []) self.new) }
+        ensures err { IfErr result (λ fault. (first_line (order_lines self.old.at self.old.tally frame.now.frame) ≡ Some fault) ⊎ (fault ≡ ScanFault.Memory)) }
     {
-        let count = frame.records();
-        let size = self.size + u64::from(count);
-        if size > RECORD_LIMIT {
-            return Err(damaged(frame.payload_at(), Cause::TooLong));
+        self.tally.check(frame)?;
+        match self.found.take(frame) {
+            Ok(()) => {}
+            Err(_) => return Err(ScanFault::Memory),
         }
-        let home = Home {
-            place: frame.first_record(),
-            count: count as usize,
-        };
-        self.homes.push(home).map_err(|_| ScanFault::Memory)?;
-        self.at = frame.end();
+        self.tally = self.tally.after(frame);
+        self.at += frame.len();
         self.frames += 1;
-        self.size = size;
         Ok(())
     }
 }

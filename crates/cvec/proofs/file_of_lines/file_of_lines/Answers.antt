@@ -3,6 +3,8 @@ use Rattle.std.specs.Prelude.{is_ok}
 use Rattle.std.specs.Option.{option_copied}
 use Rattle.std.proofs.lemmas.Bool.{eqb-true, eqb-false}
 use Rattle.std.proofs.lemmas.List.{length-append}
+use Rattle.segment_core.specs.declared.format.Format.TheVariants.{One}
+use Rattle.segment_core.specs.Shape.{shape_of}
 use Rattle.segment_core.specs.Frame.{header}
 use Rattle.cvec.proofs.Small.{OnOk_at, nil_from_length}
 use Rattle.cvec.proofs.LineLemmas.{lent_whole, lent_rest, shorter_rest}
@@ -12,7 +14,7 @@ use Rattle.cvec.proofs.file_of_lines.file_of_lines.Goals as goal
 pub loop-rest-init : goal.loop-rest-init
 loop-rest-init g c =
     let headed = OnOk_at c.append_header.result _ c.append_header.ensures (sym c.map_err.ensures.variant ∙ ap is_ok c.in_ok-map_err.was) in
-    ([], HasGroups_start g.R.TextRecord.spelling c.args.input.now, refl, (tt, headed ∙ ap (λ (bs : List ℕ). bs ++ header g.R.Record.form.width) c.new-file.ensures.items))
+    ([], HasGroups_start g.R.TextRecord.spelling c.args.input.now, refl, (tt, headed ∙ ap (λ (bs : List ℕ). bs ++ header (shape_of One g.R.Record.form)) c.new-file.ensures.items))
 
 pub returns-in-Err-Bad-clause-refused : goal.returns-in-Err-Bad-clause-refused
 returns-in-Err-Bad-clause-refused g c =

@@ -1,0 +1,30 @@
+use Rattle.std.proofs.Common.{◌≡◌, List, length, sym, ap, subst, ◌∙◌, arith, rules, inl, inr}
+use Rattle.std.proofs.lemmas.Result.{err_from_is_err_and}
+use Rattle.segment_core.specs.Vector.{IsVectorOf}
+use Rattle.segment_core.specs.Found.{AreLaid}
+use Rattle.segment_core.proofs.FoundEnd.{vector_found, first_bad_found, live_wide, came_back}
+use Rattle.segment_core.proofs.found.Found.finish.Goals as goal
+
+pub lay_live-requires-clause-wide : goal.lay_live-requires-clause-wide
+lay_live-requires-clause-wide g c κs within = live_wide g.R.Record.form c.requires.0 c.requires.1 c.args.self c.requires.2
+
+pub returns-in_err-lay_live : goal.returns-in_err-lay_live
+returns-in_err-lay_live g c = λ format frames image is begins. (
+    let form = g.R.Record.form in
+    let p = err_from_is_err_and c.from_residual.result c.from_residual.ensures.1 in
+    let same : length c.lay_live.new.records ≡ length c.args.self.records.items = search rules in
+    rw (p.1, p.2) (elim c.in_err-lay_live.ensures [
+      | inl bad ↦ inl (first_bad_found form format frames image begins.0 c.args.self c.lay_live.new.records c.lay_live.new.notes c.in_err-lay_live.field-0.0 is begins.1 same
+          (subst (λ (rs : List g.row.R.Denot). AreLaid form c.args.self.live.items rs c.args.self.notes c.lay_live.new.records c.lay_live.new.notes) c.deref_mut.ensures.value bad.0) bad.1)
+      | inr memory ↦ inr memory
+    ]))
+
+pub returns : goal.returns
+returns g c = λ format frames image is begins. (
+    let form = g.R.Record.form in
+    let same : length c.lay_live.new.records ≡ length c.args.self.records.items = search rules in
+    let len : c.args.self.records.len ≡ length c.args.self.records.items = search rules in
+    let laid = c.in_ok-lay_live.ensures in
+    subst (λ (rs : List g.row.R.Denot). IsVectorOf format form image frames rs) (sym (came_back c.args.self.records.len c.lay_live.new.records c.args.self.records.items len same))
+    (vector_found form format frames image begins.0 c.args.self c.lay_live.new.records c.lay_live.new.notes is begins.1 same
+    (subst (λ (rs : List g.row.R.Denot). AreLaid form c.args.self.live.items rs c.args.self.notes c.lay_live.new.records c.lay_live.new.notes) c.deref_mut.ensures.value laid.0) laid.1))

@@ -1,0 +1,5 @@
+use Rattle.std.proofs.Common.{arith}
+use Rattle.segment_core.proofs.found.lay_live.Goals as goal
+
+pub returns-in-None : goal.returns-in-None
+returns-in-None g c = (c.in-Ok.ensures, c.in-None.ensures)

@@ -1,0 +1,8 @@
+use Rattle.std.proofs.Common.{◌≡◌, drop}
+use Rattle.segment_core.specs.Tally.{are_inside}
+use Rattle.segment_core.specs.Reading.{runs_of}
+use Rattle.segment_core.proofs.tally.runs_inside.Given as goal
+
+-- the runs that are left tell
+abbrev pub invariant-loop-k : goal.invariant-loop-k
+invariant-loop-k l = are_inside l.size (runs_of l.frame.frame) ≡ are_inside l.size (drop l.k (runs_of l.frame.frame))

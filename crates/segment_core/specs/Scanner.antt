@@ -1,0 +1,56 @@
+-- How far an image has been read.
+use Rattle.std.specs.Prelude.{◌≡◌, ◌<◌, ℕ, List, [], ◌++◌, length, take, ◌⊎◌}
+use Rattle.record_core.specs.Bytes.{Encoding}
+use Rattle.segment_core.specs.declared.fault.ScanFault.{ScanFault}
+use Rattle.segment_core.specs.declared.fault.ScanFault.TheVariants.{Memory}
+use Rattle.segment_core.specs.declared.scanner.Scanner.{Scanner}
+use Rattle.segment_core.specs.declared.scanner.Stage.{Stage}
+use Rattle.segment_core.specs.declared.scanner.Stage.TheVariants.{Header, Open, Closed, Refused}
+use Rattle.segment_core.specs.Frame.{Frame}
+use Rattle.segment_core.specs.Image.{HasFrames}
+use Rattle.segment_core.specs.Fault.{IsSound, IsRefused}
+use Rattle.segment_core.specs.Reading.{IsShort}
+use Rattle.segment_core.specs.Walk.{IsBehind, StandsBefore}
+
+-- the image is the front of a header
+pub record IsFront {R : Type 0} (form : Encoding R) (image : List ℕ) (scanner : Scanner R) : Type 0 where
+  pub short : length image < 11
+  pub filled : scanner.filled ≡ length image
+  pub kept : take scanner.filled scanner.header ≡ image
+  pub behind : IsBehind form [] scanner.walk
+  pub pending : scanner.pending.items ≡ []
+
+-- the image goes on behind the frames that were read
+pub record GoesOn {R : Type 0} (form : Encoding R) (image : List ℕ) (scanner : Scanner R) : Type 0 where
+  pub sound : IsSound form.width scanner.walk.shape.format image
+  pub stands : StandsBefore form image scanner.pending.items scanner.walk
+  pub short : IsShort scanner.walk.shape scanner.walk.at scanner.pending.items
+
+-- a closed gate stands behind the frames that were read
+pub record HasEnded {R : Type 0} (form : Encoding R) (image : List ℕ) (scanner : Scanner R) : Type 0 where
+  pub sound : IsSound form.width scanner.walk.shape.format image
+  pub frames : List Frame
+  pub behind : IsBehind form frames scanner.walk
+  pub framed : HasFrames scanner.walk.shape image frames
+
+-- what is answered, whatever follows
+abbrev pub IsRefusedFor : {R : Type 0} → Encoding R → List ℕ → ScanFault → Type 0
+IsRefusedFor form image fault = (more : List ℕ) → IsRefused form (image ++ more) fault
+
+abbrev pub IsFedAt : {R : Type 0} → Encoding R → List ℕ → Scanner R → Stage → Type 0
+IsFedAt form image scanner Header = IsFront form image scanner
+IsFedAt form image scanner Open = GoesOn form image scanner
+IsFedAt form image scanner Closed = HasEnded form image scanner
+IsFedAt form image scanner (Refused fault) = IsRefusedFor form image fault
+
+-- the scanner has taken in this image
+unfoldable pub IsFed : {R : Type 0} → Encoding R → List ℕ → Scanner R → Type 0
+IsFed form image scanner = IsFedAt form image scanner scanner.stage
+
+-- the frames go on, or have ended
+abbrev pub IsOn : {R : Type 0} → Encoding R → List ℕ → Scanner R → Type 0
+IsOn form image scanner = ((scanner.stage ≡ Open) × GoesOn form image scanner) ⊎ ((scanner.stage ≡ Closed) × HasEnded form image scanner)
+
+-- memory was refused
+abbrev pub IsLost : {R : Type 0} → Scanner R → Type 0
+IsLost scanner = scanner.stage ≡ Refused Memory

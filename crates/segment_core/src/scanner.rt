@@ -1,0 +1,319 @@
+//! Reading an image piece by piece.
+
+ghost use Rattle.std.specs.Prelude.{◌≡◌, ◌≤◌, ◌<◌, ◌+◌, ◌^◌, ◌++◌, ◌⊎◌, [], ℕ, List, Some, None, Err, length, take, drop, OnOk, OnErr, IfOk, IfErr, MatchResult};
+ghost use Rattle.segment_core.specs.Shape.{shape_of, format_in};
+ghost use Rattle.segment_core.specs.Fault.{header_fault, IsRefused};
+ghost use Rattle.segment_core.specs.Found.{AreHomesOf};
+ghost use Rattle.segment_core.specs.Scanned.{IsScanOf};
+ghost use Rattle.segment_core.specs.Scanner.{GoesOn, HasEnded, IsOn, IsRefusedFor, IsFedAt, IsFed, IsLost};
+
+use crate::fault::{Cause, ScanFault};
+use crate::format::{FRAME_HEAD_LEN, Format, HEADER_LEN, MAGIC, OPEN, Shape};
+use crate::found::Homes;
+use crate::frame::damaged;
+use crate::vector::Scanned;
+use crate::walk::{Tail, Walk};
+use record_core::{Record, width_of};
+use std::alloc::Global;
+
+/// How far an image has been read.
+#[derive(Clone, Copy, Debug)]
+pub(crate) enum Stage {
+    /// Its header isn't whole yet.
+    Header,
+    /// The frames go on.
+    Open,
+    /// A closed gate has ended the frames; what follows means nothing.
+    Closed,
+    /// The first fault is known, or memory was refused.
+    Refused(ScanFault),
+}
+
+/// A scan of an image that comes in pieces. Whatever the pieces are, `end` answers what `scan` does of all of
+/// them joined. It keeps the records, where they stand, the live changes, and at most one further frame.
+#[derive(Drop)]
+pub struct Scanner<R> {
+    alloc: Global,
+    header: [u8; HEADER_LEN],
+    /// The bytes of the header so far.
+    filled: usize,
+    stage: Stage,
+    /// The front of a frame whose end hasn't come yet.
+    pending: Vec<u8>,
+    walk: Walk<R>,
+}
+
+/// The format of the file, if the header is that of a file whose records have this width.
+fn check_header(bytes: &[u8], width: usize) -> Result<Format, ScanFault>
+    ensures { MatchResult result
+        (λ format. (header_fault width bytes.now ≡ None) × (format_in bytes.now ≡ format))
+        (λ fault. header_fault width bytes.now ≡ Some fault) }
+{
+    if bytes.len() <= 1 || bytes[0] != OPEN {
+        return Err(ScanFault::Unborn);
+    }
+    if bytes.len() < HEADER_LEN || !bytes[1..].starts_with(MAGIC) {
+        return Err(ScanFault::NotSegment);
+    }
+    let Some(format) = Format::from_version(bytes[8]) else {
+        return Err(ScanFault::Version(bytes[8]));
+    };
+    let file_width = u16::from_le_bytes([bytes[9], bytes[10]]);
+    if file_width as usize != width {
+        return Err(ScanFault::Width(file_width));
+    }
+    Ok(format)
+}
+
+/// How many bytes to take next: all where no frame has begun, else those of its head, or of its payload.
+fn wanted(pending: &[u8]) -> usize
+    ensures { 0 < result }
+{
+    if pending.is_empty() {
+        return usize::MAX;
+    }
+    let whole = if pending.len() < FRAME_HEAD_LEN {
+        FRAME_HEAD_LEN
+    } else {
+        FRAME_HEAD_LEN + u32::from_le_bytes([pending[2], pending[3], pending[4], pending[5]]) as usize
+    };
+    whole.saturating_sub(pending.len()).max(1)
+}
+
+impl<R: Record> Scanner<R> {
+    /// A scanner of the empty image. It takes no memory.
+    pub fn new(alloc: Global) -> Scanner<R>
+        ensures { IsFed R.form [] result }
+    {
+        let shape = Shape {
+            format: Format::One,
+            width: width_of::<R>(),
+        };
+        Scanner {
+            alloc,
+            header: [0; HEADER_LEN],
+            filled: 0,
+            stage: Stage::Header,
+            pending: Vec::new(alloc),
+            walk: Walk::new(alloc, shape),
+        }
+    }
+
+    /// Takes in the next piece of the image. Only want of memory is refused here, and again by every later
+    /// call; any other fault is told by `end`.
+    pub fn feed(&mut self, piece: &[u8]) -> Result<(), ScanFault>
+        requires { (image : List ℕ) × IsFed R.form image self.old × (length image + length piece.now < 2 ^ 64) }
+        ensures fed { (image : List ℕ) → IsFed R.form image self.old → IsFed R.form (image ++ piece.now) self.new }
+        ensures memory { IfErr result (λ fault. (fault ≡ ScanFault.Memory) × IsLost self.new) }
+        ensures lost { IsLost self.old → result ≡ Err ScanFault.Memory }
+    {
+        match self.stage {
+            Stage::Header => {
+                let used = self.feed_header(piece);
+                self.feed_rest(&piece[used..]);
+            }
+            _ => self.feed_rest(piece),
+        }
+        match self.stage {
+            Stage::Refused(ScanFault::Memory) => Err(ScanFault::Memory),
+            _ => Ok(()),
+        }
+    }
+
+    /// Takes what is left of the header out of a piece, and answers how many bytes that was: all of them where
+    /// it isn't whole even then.
+    fn feed_header(&mut self, piece: &[u8]) -> usize
+        requires { (image : List ℕ) × IsFedAt R.form image self.old Stage.Header }
+        ensures used { result ≤ length piece.now }
+        ensures fed { (image : List ℕ) → IsFedAt R.form image self.old Stage.Header → IsFed R.form (image ++ take result piece.now) self.new }
+        ensures whole { self.new.stage ≡ Stage.Header → result ≡ length piece.now }
+    {
+        let used = piece.len().min(HEADER_LEN - self.filled);
+        self.header[self.filled..self.filled + used].copy_from_slice(&piece[..used]);
+        self.filled += used;
+        if self.filled == HEADER_LEN {
+            match check_header(&self.header, width_of::<R>()) {
+                Ok(format) => {
+                    let width = width_of::<R>();
+                    self.walk = Walk::new(self.alloc, Shape { format, width });
+                    self.stage = Stage::Open;
+                }
+                Err(fault) => self.stage = Stage::Refused(fault),
+            }
+        }
+        used
+    }
+
+    /// Takes in bytes behind the header, where it is whole.
+    fn feed_rest(&mut self, piece: &[u8])
+        requires fed { (image : List ℕ) × IsFed R.form image self.old × (length image + length piece.now < 2 ^ 64) }
+        requires header { self.old.stage ≡ Stage.Header → length piece.now ≡ 0 }
+        ensures fed { (image : List ℕ) → IsFed R.form image self.old → IsFed R.form (image ++ piece.now) self.new }
+        ensures lost { IsLost self.old → IsLost self.new }
+    {
+        if let Stage::Open = self.stage {
+            if let Err(fault) = self.feed_frames(piece) {
+                self.stage = Stage::Refused(fault);
+            }
+        }
+    }
+
+    /// Takes in bytes behind the header, as long as no gate is closed.
+    fn feed_frames(&mut self, piece: &[u8]) -> Result<(), ScanFault>
+        requires open { (image : List ℕ) × GoesOn R.form image self.old × (length image + length piece.now < 2 ^ 64) }
+        requires stage { self.old.stage ≡ Stage.Open }
+        ensures ok { OnOk result ((image : List ℕ) → GoesOn R.form image self.old → IsFed R.form (image ++ piece.now) self.new) }
+        ensures err { IfErr result (λ fault. (image : List ℕ) → GoesOn R.form image self.old → IsRefusedFor R.form (image ++ piece.now) fault) }
+    {
+        let mut used = 0;
+        while used < piece.len() {
+            let Stage::Open = self.stage else {
+                return Ok(());
+            };
+            let n = wanted(&self.pending).min(piece.len() - used);
+            if self.pending.is_empty() {
+                self.take(&piece[used..used + n])?;
+            } else {
+                self.pend(&piece[used..used + n])?;
+            }
+            used += n;
+        }
+        Ok(())
+    }
+
+    /// Takes in bytes that begin a frame.
+    fn take(&mut self, bytes: &[u8]) -> Result<(), ScanFault>
+        requires open { (image : List ℕ) × GoesOn R.form image self.old × (length image + length bytes.now < 2 ^ 64) }
+        requires stage { self.old.stage ≡ Stage.Open }
+        requires none { self.old.pending.items ≡ [] }
+        ensures ok { OnOk result ((image : List ℕ) → GoesOn R.form image self.old → IsOn R.form (image ++ bytes.now) self.new) }
+        ensures err { IfErr result (λ fault. (image : List ℕ) → GoesOn R.form image self.old → IsRefusedFor R.form (image ++ bytes.now) fault) }
+    {
+        let (used, tail) = self.walk.read(bytes)?;
+        match tail {
+            Tail::Closed => self.stage = Stage::Closed,
+            Tail::Short => {
+                if self.pending.extend_from_slice(&bytes[used..]).is_err() {
+                    return Err(ScanFault::Memory);
+                }
+            }
+        }
+        Ok(())
+    }
+
+    /// Takes in bytes behind those of a frame that isn't whole yet.
+    fn pend(&mut self, bytes: &[u8]) -> Result<(), ScanFault>
+        requires open { (image : List ℕ) × GoesOn R.form image self.old × (length image + length bytes.now < 2 ^ 64) }
+        requires stage { self.old.stage ≡ Stage.Open }
+        ensures ok { OnOk result ((image : List ℕ) → GoesOn R.form image self.old → IsOn R.form (image ++ bytes.now) self.new) }
+        ensures err { IfErr result (λ fault. (image : List ℕ) → GoesOn R.form image self.old → IsRefusedFor R.form (image ++ bytes.now) fault) }
+    {
+        if self.pending.extend_from_slice(bytes).is_err() {
+            return Err(ScanFault::Memory);
+        }
+        let (used, tail) = self.walk.read(&self.pending)?;
+        match tail {
+            Tail::Closed => self.stage = Stage::Closed,
+            Tail::Short => cut_front(self.alloc, &mut self.pending, used)?,
+        }
+        Ok(())
+    }
+
+    /// Answers of all that was fed what `scan` answers of it.
+    pub fn end(self) -> Result<Scanned<R>, ScanFault>
+        requires { (image : List ℕ) × IsFed R.form image self }
+        ensures answer { (image : List ℕ) → IsFed R.form image self → MatchResult result (IsScanOf R.form image) (IsRefused R.form image) }
+        ensures lost { IsLost self → result ≡ Err ScanFault.Memory }
+    {
+        self.check_end()?;
+        let Walk {
+            shape,
+            at,
+            frames,
+            tally,
+            found,
+        } = self.walk;
+        let records = found.finish()?;
+        Ok(Scanned {
+            version: shape.format.version(),
+            width: shape.width as u16,
+            records,
+            frames,
+            changes: tally.changes,
+            folded: tally.folded,
+            gate: at as u64,
+        })
+    }
+
+    /// The same, and where the records stand.
+    pub fn end_with(self) -> Result<(Scanned<R>, Homes), ScanFault>
+        requires { (image : List ℕ) × IsFed R.form image self }
+        ensures answer { (image : List ℕ) → IsFed R.form image self → MatchResult result
+            (λ answer. (scan : IsScanOf R.form image answer.0) × AreHomesOf (shape_of scan.format R.form) scan.frames answer.1)
+            (IsRefused R.form image) }
+        ensures lost { IsLost self → result ≡ Err ScanFault.Memory }
+    {
+        self.check_end()?;
+        let Walk {
+            shape,
+            at,
+            frames,
+            tally,
+            found,
+        } = self.walk;
+        let (records, homes) = found.finish_with()?;
+        let scanned = Scanned {
+            version: shape.format.version(),
+            width: shape.width as u16,
+            records,
+            frames,
+            changes: tally.changes,
+            folded: tally.folded,
+            gate: at as u64,
+        };
+        Ok((scanned, homes))
+    }
+
+    /// Whether a closed gate has ended the frames, and no fault was found.
+    fn check_end(&self) -> Result<(), ScanFault>
+        requires { (image : List ℕ) × IsFed R.form image self.now }
+        ensures answer { (image : List ℕ) → IsFed R.form image self.now → MatchResult result (λ _. HasEnded R.form image self.now) (IsRefused R.form image) }
+        ensures lost { IsLost self.now → result ≡ Err ScanFault.Memory }
+    {
+        match self.stage {
+            Stage::Header => match check_header(&self.header[..self.filled], width_of::<R>()) {
+                Ok(_) => Err(ScanFault::NotSegment),
+                Err(fault) => Err(fault),
+            },
+            Stage::Open => {
+                let cause = if self.pending.is_empty() {
+                    Cause::NoGate
+                } else {
+                    Cause::ShortFrame
+                };
+                Err(damaged(self.walk.at, cause))
+            }
+            Stage::Closed => Ok(()),
+            Stage::Refused(fault) => Err(fault),
+        }
+    }
+}
+
+/// Lets the first bytes go.
+fn cut_front(alloc: Global, bytes: &mut Vec<u8>, n: usize) -> Result<(), ScanFault>
+    requires { n ≤ length bytes.old.items }
+    ensures ok { OnOk result (bytes.new.items ≡ drop n bytes.old.items) }
+    ensures memory { IfErr result (λ fault. fault ≡ ScanFault.Memory) }
+{
+    if n == bytes.len() {
+        bytes.clear();
+        return Ok(());
+    }
+    if n > 0 {
+        let Ok(rest) = Vec::from_slice(alloc, &bytes[n..]) else {
+            return Err(ScanFault::Memory);
+        };
+        *bytes = rest;
+    }
+    Ok(())
+}
