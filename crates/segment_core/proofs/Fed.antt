@@ -1,8 +1,8 @@
 -- What a scanner keeps from piece to piece, and what it answers in the end.
-use Rattle.std.proofs.Common.{◌≡◌, ℕ, ◌+◌, ◌^◌, ◌≤◌, ◌<◌, true, false, List, [], ◌∷◌, ◌++◌, length, take, drop, Option, Some, None, Result, Ok, Err, refl, sym, ap, subst, ◌∙◌, append_assoc, arith, inl, inr}
+use Rattle.std.proofs.Common.{take-add, ◌≡◌, ℕ, ◌+◌, ◌-◌, ◌^◌, ◌≤◌, ◌<◌, true, false, List, [], ◌∷◌, ◌++◌, length, take, drop, Option, Some, None, Result, Ok, Err, refl, sym, ap, subst, ◌∙◌, append_assoc, arith, inl, inr}
 use Rattle.std.specs.Prelude.{MatchResult, ◌⊎◌}
 use Rattle.std.proofs.lemmas.Bool.{cases_lt}
-use Rattle.std.proofs.lemmas.List.{append-nil, drop_at, length-append}
+use Rattle.std.proofs.lemmas.List.{append-nil, drop_at, length-append, take-append-drop, take_all}
 use Rattle.record_core.specs.Bytes.{Encoding}
 use Rattle.segment_core.specs.declared.fault.Cause.TheVariants.{NoGate, ShortFrame}
 use Rattle.segment_core.specs.declared.fault.ScanFault.{ScanFault}
@@ -118,7 +118,7 @@ fed_at form image scanner stage is fed = subst (IsFedAt form image scanner) is f
 
 pub fed_on : {R : Type 0} (form : Encoding R) (image : List ℕ) (scanner : Scanner R) → IsOn form image scanner → IsFed form image scanner
 fed_on form image scanner on = elim on [
-  | inl open ↦ fed_by form image scanner stages.Open open.0 open.1
+  | inl goes ↦ fed_by form image scanner stages.Open goes.0 goes.1
   | inr closed ↦ fed_by form image scanner stages.Closed closed.0 closed.1
 ]
 
@@ -145,3 +145,71 @@ refused_at_end form image walk frames fault whole refused = elim refused [
   | inl bad ↦ refused_by_record form walk.shape.format image frames fault whole.sound whole.framed bad
   | inr memory ↦ refused_for_memory form walk.shape.format image fault whole.sound memory
 ]
+
+-- ---- behind a read
+
+pub after_closed : {R : Type 0} (form : Encoding R) (image left : List ℕ) (scanner : Scanner R) (old : Walk R) → scanner.walk.shape ≡ old.shape → IsSound form.width old.shape.format image → StandsBefore form image left scanner.walk → is_closed left ≡ true → HasEnded form image scanner
+after_closed form image left scanner old same sound stands closed = ended form image left scanner (subst (λ (s : Shape). IsSound form.width s.format image) (sym same) sound) stands closed
+
+pub after_short : {R : Type 0} (form : Encoding R) (image left : List ℕ) (scanner : Scanner R) (old : Walk R) → scanner.walk.shape ≡ old.shape → IsSound form.width old.shape.format image → StandsBefore form image left scanner.walk → IsShort scanner.walk.shape scanner.walk.at left → scanner.pending.items ≡ left → GoesOn form image scanner
+after_short form image left scanner old same sound stands short pending = record {
+  sound = subst (λ (s : Shape). IsSound form.width s.format image) (sym same) sound;
+  stands = subst (λ (bs : List ℕ). StandsBefore form image bs scanner.walk) (sym pending) stands;
+  short = subst (IsShort scanner.walk.shape scanner.walk.at) (sym pending) short;
+}
+
+-- the bytes that are fed stand behind those that are pending
+pub stands_behind_pending : {R : Type 0} (form : Encoding R) (image pending bytes all : List ℕ) (walk : Walk R) → StandsBefore form image pending walk → all ≡ pending ++ bytes → StandsBefore form (image ++ bytes) all walk
+stands_behind_pending form image pending bytes all walk stands is = subst (λ (bs : List ℕ). StandsBefore form (image ++ bytes) bs walk) (sym is) (stands_more form image pending bytes walk stands)
+
+-- ---- what is left at the end of an image that is the front of a header
+
+pub front_fault : {R : Type 0} (form : Encoding R) (image : List ℕ) (scanner : Scanner R) (width : ℕ) (answer : Option ScanFault) → IsFront form image scanner → width ≡ form.width → header_fault width (take scanner.filled scanner.header) ≡ answer → header_fault form.width image ≡ answer
+front_fault form image scanner width answer front is told = ap (λ w. header_fault w image) (sym is) ∙ ap (header_fault width) (sym front.kept) ∙ told
+
+-- ---- piece by piece
+
+pub on_open : {R : Type 0} (form : Encoding R) (image : List ℕ) (scanner : Scanner R) → IsOn form image scanner → scanner.stage ≡ stages.Open → GoesOn form image scanner
+on_open form image scanner on stage = elim on [
+  | inl goes ↦ goes.1
+  | inr closed ↦ (let clash : stages.Open ≡ stages.Closed = sym stage ∙ closed.0 in absurd cc)
+]
+
+-- the front of a piece and what is left of it
+whole_piece : (image piece : List ℕ) (n : ℕ) → (image ++ take n piece) ++ drop n piece ≡ image ++ piece
+whole_piece image piece n = append_assoc image (take n piece) (drop n piece) ∙ ap (λ (bs : List ℕ). image ++ bs) (take-append-drop n piece)
+
+pub next_part : (image piece : List ℕ) (used n : ℕ) → (image ++ take used piece) ++ take (used + n - used) (drop used piece) ≡ image ++ take (used + n) piece
+next_part image piece used n =
+    let size : used + n - used ≡ n = omega arith in
+    append_assoc image (take used piece) (take (used + n - used) (drop used piece))
+    ∙ ap (λ (bs : List ℕ). image ++ bs) (ap (λ k. take used piece ++ take k (drop used piece)) size ∙ sym (take-add used n piece))
+
+-- a scanner whose frames have ended, or whose piece is used up
+pub on_ended : {R : Type 0} (form : Encoding R) (image piece : List ℕ) (n : ℕ) (scanner : Scanner R) → IsOn form (image ++ take n piece) scanner → (scanner.stage ≡ stages.Open → ⊥) → IsFed form (image ++ piece) scanner
+on_ended form image piece n scanner on other = elim on [
+  | inl goes ↦ absurd (other goes.0)
+  | inr closed ↦ fed_by form (image ++ piece) scanner stages.Closed closed.0 (subst (λ (bs : List ℕ). HasEnded form bs scanner) (whole_piece image piece n) (ended_more form (image ++ take n piece) (drop n piece) scanner closed.1))
+]
+
+pub on_used : {R : Type 0} (form : Encoding R) (image piece : List ℕ) (n : ℕ) (scanner : Scanner R) → IsOn form (image ++ take n piece) scanner → length piece ≤ n → IsFed form (image ++ piece) scanner
+on_used form image piece n scanner on all = subst (λ (bs : List ℕ). IsFed form (image ++ bs) scanner) (take_all n piece all) (fed_on form (image ++ take n piece) scanner on)
+
+pub on_nothing : {R : Type 0} (form : Encoding R) (image piece : List ℕ) (scanner : Scanner R) → scanner.stage ≡ stages.Open → GoesOn form image scanner → IsOn form (image ++ take 0 piece) scanner
+on_nothing form image piece scanner stage goes = inl (stage, subst (λ (bs : List ℕ). GoesOn form bs scanner) (sym (append-nil image)) goes)
+
+pub refused_part : {R : Type 0} (form : Encoding R) (image piece : List ℕ) (used n : ℕ) (fault : ScanFault) → IsRefusedFor form ((image ++ take used piece) ++ take (used + n - used) (drop used piece)) fault → IsRefusedFor form (image ++ piece) fault
+refused_part form image piece used n fault refused =
+    subst (λ (bs : List ℕ). IsRefusedFor form bs fault) (whole_piece image piece (used + n))
+    (refused_more form (image ++ take (used + n) piece) (drop (used + n) piece) fault (subst (λ (bs : List ℕ). IsRefusedFor form bs fault) (next_part image piece used n) refused))
+
+nothing_more : (image piece : List ℕ) → length piece ≡ 0 → image ≡ image ++ piece
+nothing_more image [] none = sym (append-nil image)
+nothing_more image (b ∷ piece) none = absurd (omega arith)
+
+-- bytes that mean nothing
+pub fed_more : {R : Type 0} (form : Encoding R) (image piece : List ℕ) (scanner : Scanner R) (stage : Stage) → scanner.stage ≡ stage → (stage ≡ stages.Open → ⊥) → (stage ≡ stages.Header → length piece ≡ 0) → IsFed form image scanner → IsFed form (image ++ piece) scanner
+fed_more form image piece scanner stages.Header is other none fed = subst (λ (bs : List ℕ). IsFed form bs scanner) (nothing_more image piece (none refl)) fed
+fed_more form image piece scanner stages.Open is other none fed = absurd (other refl)
+fed_more form image piece scanner stages.Closed is other none fed = fed_by form (image ++ piece) scanner stages.Closed is (ended_more form image piece scanner (fed_at form image scanner stages.Closed is fed))
+fed_more form image piece scanner (stages.Refused fault) is other none fed = fed_by form (image ++ piece) scanner (stages.Refused fault) is (refused_more form image piece fault (fed_at form image scanner (stages.Refused fault) is fed))

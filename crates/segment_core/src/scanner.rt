@@ -193,8 +193,9 @@ impl<R: Record> Scanner<R> {
         match tail {
             Tail::Closed => self.stage = Stage::Closed,
             Tail::Short => {
-                if self.pending.extend_from_slice(&bytes[used..]).is_err() {
-                    return Err(ScanFault::Memory);
+                match self.pending.extend_from_slice(&bytes[used..]) {
+                    Ok(()) => {}
+                    Err(_) => return Err(ScanFault::Memory),
                 }
             }
         }
@@ -208,8 +209,9 @@ impl<R: Record> Scanner<R> {
         ensures ok { OnOk result ((image : List ℕ) → GoesOn R.form image self.old → IsOn R.form (image ++ bytes.now) self.new) }
         ensures err { IfErr result (λ fault. (image : List ℕ) → GoesOn R.form image self.old → IsRefusedFor R.form (image ++ bytes.now) fault) }
     {
-        if self.pending.extend_from_slice(bytes).is_err() {
-            return Err(ScanFault::Memory);
+        match self.pending.extend_from_slice(bytes) {
+            Ok(()) => {}
+            Err(_) => return Err(ScanFault::Memory),
         }
         let (used, tail) = self.walk.read(&self.pending)?;
         match tail {
