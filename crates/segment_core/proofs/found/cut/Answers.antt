@@ -1,4 +1,4 @@
-use Rattle.std.proofs.Common.{◌≡◌, ◌≤◌, ◌+◌, ◌-◌, ◌∷◌, [], ◌++◌, List, refl, sym, ap, subst, ◌∙◌, arith}
+use Rattle.std.proofs.Common.{◌-◌, List, refl, sym, ap, subst, ◌∙◌, arith}
 use Rattle.segment_core.specs.declared.found.Home.{Home}
 use Rattle.segment_core.specs.Found.{home_among, AreInTurn}
 use Rattle.segment_core.proofs.FoundHomes.{in_turn_push, in_turn_pop, home_among_popped, home_among_cut}

@@ -1,4 +1,4 @@
-use Rattle.std.proofs.Common.{◌≡◌, ◌+◌, ◌-◌, ◌*◌, List, length, ℕ, refl, sym, ap, subst, ◌∙◌, arith}
+use Rattle.std.proofs.Common.{◌+◌, ◌-◌, ◌*◌, length, ℕ, refl, arith}
 use Rattle.segment_core.specs.Vector.{place_among}
 use Rattle.segment_core.proofs.FoundLaid.{laid_nothing, laid_set, place_among_none, stands_part, cell_within}
 use Rattle.segment_core.proofs.found.lay.Goals as goal

@@ -1,4 +1,4 @@
-use Rattle.std.proofs.Common.{◌≡◌, ◌+◌, List, length, ℕ}
+use Rattle.std.proofs.Common.{List, ℕ}
 use Rattle.segment_core.specs.Vector.{place_among}
 use Rattle.segment_core.specs.Found.{StandsAt, IsLaid}
 use Rattle.segment_core.proofs.found.lay.Given as goal

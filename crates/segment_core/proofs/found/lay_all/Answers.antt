@@ -1,4 +1,4 @@
-use Rattle.std.proofs.Common.{◌≡◌, ◌≤◌, ◌<◌, List, length, take, ℕ, sym, subst, arith, rules}
+use Rattle.std.proofs.Common.{◌≤◌, ◌<◌, List, length, sym, subst, rules}
 use Rattle.std.proofs.lemmas.List.{take_all}
 use Rattle.segment_core.specs.Reading.{Seen, record_bytes_of}
 use Rattle.segment_core.specs.Found.{StandsAt, first_record_of, IsLaid, live_among}

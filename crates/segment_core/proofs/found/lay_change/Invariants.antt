@@ -1,4 +1,4 @@
-use Rattle.std.proofs.Common.{◌≡◌, ◌+◌, ◌*◌, List, length, take, ℕ}
+use Rattle.std.proofs.Common.{◌≡◌, ◌*◌, List, take, ℕ}
 use Rattle.segment_core.specs.Frame.{records_of_runs}
 use Rattle.segment_core.specs.Reading.{runs_of, record_bytes_of}
 use Rattle.segment_core.specs.Vector.{place_in_runs}

@@ -1,4 +1,3 @@
-use Rattle.std.proofs.Common.{arith}
 use Rattle.segment_core.proofs.found.lay_live.Goals as goal
 
 pub returns-in-None : goal.returns-in-None
