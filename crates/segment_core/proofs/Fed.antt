@@ -2,7 +2,9 @@
 use Rattle.std.proofs.Common.{take-add, ◌≡◌, ℕ, ◌+◌, ◌-◌, ◌^◌, ◌≤◌, ◌<◌, true, false, List, [], ◌∷◌, ◌++◌, length, take, drop, Option, Some, None, Result, Ok, Err, refl, sym, ap, subst, ◌∙◌, append_assoc, arith, inl, inr}
 use Rattle.std.specs.Prelude.{MatchResult, ◌⊎◌}
 use Rattle.std.proofs.lemmas.Bool.{cases_lt}
-use Rattle.std.proofs.lemmas.List.{append-nil, drop_at, length-append, take-append-drop, take_all}
+use Rattle.std.proofs.lemmas.List.{append-nil, drop_at, drop_all, length-append, length-take, length-take-le, take-append-drop, take_all}
+use Rattle.std.proofs.lemmas.Slice.{take-put_mid}
+use borrow.Rule.Slice.PartMut.{put_mid}
 use Rattle.record_core.specs.Bytes.{Encoding}
 use Rattle.segment_core.specs.declared.fault.Cause.TheVariants.{NoGate, ShortFrame}
 use Rattle.segment_core.specs.declared.fault.ScanFault.{ScanFault}
@@ -15,7 +17,7 @@ use Rattle.segment_core.specs.declared.scanner.Stage.TheVariants as stages
 use Rattle.segment_core.specs.declared.vector.Scanned.{Scanned}
 use Rattle.segment_core.specs.declared.walk.Walk.{Walk}
 use Rattle.segment_core.specs.Shape.{version_of, shape_of, format_in}
-use Rattle.segment_core.specs.Frame.{Frame, text}
+use Rattle.segment_core.specs.Frame.{Frame, header, text}
 use Rattle.segment_core.specs.Tally.{tally_of}
 use Rattle.segment_core.specs.Image.{HasFrames, IsLongest}
 use Rattle.segment_core.specs.Vector.{IsVectorOf}
@@ -26,6 +28,7 @@ use Rattle.segment_core.specs.Scanned.{IsScanOf}
 use Rattle.segment_core.specs.Walk.{IsBehind, StandsBefore, IsFaultOf, IsWalkRefused}
 use Rattle.segment_core.specs.Scanner.{IsFront, GoesOn, HasEnded, IsOn, IsRefusedFor, IsFedAt, IsFed}
 use Rattle.segment_core.proofs.Lines.{frame_fault_from_lines}
+use Rattle.segment_core.proofs.Head.{finds_no_gate}
 use Rattle.segment_core.proofs.Longest.{NoFrame_fault, is_longest}
 use Rattle.segment_core.proofs.Header.{header_of_none, header_fault-append, format_in-append}
 use Rattle.segment_core.proofs.Refusals.{refused_by_header, refused_by_frame, refused_for_memory, refused_by_record}
@@ -213,3 +216,45 @@ fed_more form image piece scanner stages.Header is other none fed = subst (λ (b
 fed_more form image piece scanner stages.Open is other none fed = absurd (other refl)
 fed_more form image piece scanner stages.Closed is other none fed = fed_by form (image ++ piece) scanner stages.Closed is (ended_more form image piece scanner (fed_at form image scanner stages.Closed is fed))
 fed_more form image piece scanner (stages.Refused fault) is other none fed = fed_by form (image ++ piece) scanner (stages.Refused fault) is (refused_more form image piece fault (fed_at form image scanner (stages.Refused fault) is fed))
+
+-- ---- the header byte by byte
+
+-- the bytes that were copied stand behind those of before
+pub front_more : {R : Type 0} (form : Encoding R) (image piece part : List ℕ) (used : ℕ) (scanner : Scanner R) → IsFront form image scanner → used ≤ length piece → part ≡ take used piece → take (scanner.filled + used) (put_mid scanner.filled (scanner.filled + used - scanner.filled) scanner.header part) ≡ image ++ take used piece
+front_more form image piece part used scanner front inside is =
+    let filled = front.filled in
+    let kept = sym (length-take scanner.filled scanner.header) ∙ ap length front.kept in
+    let len : length part ≡ used = ap length is ∙ length-take-le used piece inside in
+    take-put_mid scanner.filled (scanner.filled + used - scanner.filled) scanner.header part (scanner.filled + used) (omega arith) (omega arith)
+    ∙ ap (λ (bs : List ℕ). bs ++ part) front.kept ∙ ap (λ (bs : List ℕ). image ++ bs) is
+
+pub length-front : {R : Type 0} (form : Encoding R) (image piece : List ℕ) (used : ℕ) (scanner : Scanner R) → IsFront form image scanner → used ≤ length piece → length (image ++ take used piece) ≡ scanner.filled + used
+length-front form image piece used scanner front inside =
+    let a = length-append image (take used piece) in
+    let b = length-take-le used piece inside in
+    let f = front.filled in
+    omega arith
+
+-- what was found of the bytes of a whole header
+pub record IsHeader (width : ℕ) (format : Format) (bytes : List ℕ) : Type 0 where
+  pub no_fault : header_fault width bytes ≡ None
+  pub names : format_in bytes ≡ format
+  pub written : bytes ≡ header (record { format = format; width = width }) ++ drop 11 bytes
+
+pub goes_on_behind_header : {R : Type 0} (form : Encoding R) (image bytes : List ℕ) (format : Format) (width : ℕ) (scanner : Scanner R) → bytes ≡ image → length image ≡ 11 → width ≡ form.width → IsHeader width format bytes → scanner.walk.shape ≡ record { format = format; width = width } → IsBehind form [] scanner.walk → scanner.pending.items ≡ [] → GoesOn form image scanner
+goes_on_behind_header {R} form image bytes format width scanner is long wide found shape behind pending =
+    let format_is : scanner.walk.shape.format ≡ format = ap (λ (s : Shape). s.format) shape in
+    let none : drop 11 bytes ≡ [] = ap (drop 11) is ∙ drop_all 11 image (omega arith) in
+    let text_is : text scanner.walk.shape [] ≡ header (record { format = format; width = width }) = append-nil (header scanner.walk.shape) ∙ ap header shape in
+    record {
+      sound = record {
+          no_fault = ap (λ w. header_fault w image) (sym wide) ∙ ap (header_fault width) (sym is) ∙ found.no_fault;
+          names = ap format_in (sym is) ∙ found.names ∙ sym format_is;
+        };
+      stands = record {
+          frames = [];
+          behind = behind;
+          left = sym is ∙ found.written ∙ ap (λ (bs : List ℕ). bs ++ drop 11 bytes) (sym text_is) ∙ ap (λ (bs : List ℕ). text scanner.walk.shape [] ++ bs) (none ∙ sym pending);
+        };
+      short = finds_no_gate scanner.walk.shape scanner.walk.at scanner.pending.items (ap length pending);
+    }

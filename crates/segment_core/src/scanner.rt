@@ -2,6 +2,7 @@
 
 ghost use Rattle.std.specs.Prelude.{◌≡◌, ◌≤◌, ◌<◌, ◌+◌, ◌^◌, ◌++◌, ◌⊎◌, [], ℕ, List, Some, None, Err, length, take, drop, OnOk, OnErr, IfOk, IfErr, MatchResult};
 ghost use Rattle.segment_core.specs.Shape.{shape_of, format_in};
+ghost use Rattle.segment_core.specs.Frame.{header};
 ghost use Rattle.segment_core.specs.Fault.{header_fault, IsRefused};
 ghost use Rattle.segment_core.specs.Found.{AreHomesOf};
 ghost use Rattle.segment_core.specs.Scanned.{IsScanOf};
@@ -46,7 +47,7 @@ pub struct Scanner<R> {
 /// The format of the file, if the header is that of a file whose records have this width.
 fn check_header(bytes: &[u8], width: usize) -> Result<Format, ScanFault>
     ensures { MatchResult result
-        (λ format. (header_fault width bytes.now ≡ None) × (format_in bytes.now ≡ format))
+        (λ format. (header_fault width bytes.now ≡ None) × (format_in bytes.now ≡ format) × (bytes.now ≡ header (record { format = format; width = width }) ++ drop 11 bytes.now))
         (λ fault. header_fault width bytes.now ≡ Some fault) }
 {
     if bytes.len() <= 1 || bytes[0] != OPEN {
@@ -107,23 +108,41 @@ impl<R: Record> Scanner<R> {
         ensures memory { IfErr result (λ fault. (fault ≡ ScanFault.Memory) × IsLost self.new) }
         ensures lost { IsLost self.old → result ≡ Err ScanFault.Memory }
     {
-        match self.stage {
-            Stage::Header => {
-                let used = self.feed_header(piece);
-                self.feed_rest(&piece[used..]);
-            }
-            _ => self.feed_rest(piece),
-        }
+        let used = self.begin(piece);
+        self.feed_rest(&piece[used..]);
+        self.answer()
+    }
+
+    /// Whether memory was refused.
+    fn answer(&self) -> Result<(), ScanFault>
+        ensures memory { IfErr result (λ fault. (fault ≡ ScanFault.Memory) × IsLost self.now) }
+        ensures lost { IsLost self.now → result ≡ Err ScanFault.Memory }
+    {
         match self.stage {
             Stage::Refused(ScanFault::Memory) => Err(ScanFault::Memory),
             _ => Ok(()),
         }
     }
 
+    /// Takes what is left of the header out of a piece, where it isn't whole yet.
+    fn begin(&mut self, piece: &[u8]) -> usize
+        requires { (image : List ℕ) × IsFed R.form image self.old }
+        ensures used { result ≤ length piece.now }
+        ensures fed { (image : List ℕ) → IsFed R.form image self.old → IsFed R.form (image ++ take result piece.now) self.new }
+        ensures whole { self.new.stage ≡ Stage.Header → result ≡ length piece.now }
+        ensures lost { IsLost self.old → IsLost self.new }
+    {
+        match self.stage {
+            Stage::Header => self.feed_header(piece),
+            _ => 0,
+        }
+    }
+
     /// Takes what is left of the header out of a piece, and answers how many bytes that was: all of them where
     /// it isn't whole even then.
     fn feed_header(&mut self, piece: &[u8]) -> usize
-        requires { (image : List ℕ) × IsFedAt R.form image self.old Stage.Header }
+        requires fed { (image : List ℕ) × IsFedAt R.form image self.old Stage.Header }
+        requires stage { self.old.stage ≡ Stage.Header }
         ensures used { result ≤ length piece.now }
         ensures fed { (image : List ℕ) → IsFedAt R.form image self.old Stage.Header → IsFed R.form (image ++ take result piece.now) self.new }
         ensures whole { self.new.stage ≡ Stage.Header → result ≡ length piece.now }
@@ -132,7 +151,7 @@ impl<R: Record> Scanner<R> {
         self.header[self.filled..self.filled + used].copy_from_slice(&piece[..used]);
         self.filled += used;
         if self.filled == HEADER_LEN {
-            match check_header(&self.header, width_of::<R>()) {
+            match check_header(&self.header[..self.filled], width_of::<R>()) {
                 Ok(format) => {
                     let width = width_of::<R>();
                     self.walk = Walk::new(self.alloc, Shape { format, width });

@@ -1,9 +1,10 @@
-use Rattle.std.proofs.Common.{◌≡◌, ◌-◌, ℕ, List, Bool, true, false, length, take, drop, sym, ap, ◌∙◌, codes}
+use Rattle.std.proofs.Common.{◌≡◌, ◌-◌, ℕ, List, Bool, true, false, length, take, drop, sym, ap, ◌∙◌, ◌++◌, codes, arith}
 use Rattle.std.specs.Prelude.{nat_eq}
 use Rattle.std.specs.List.{starts_with}
 use Rattle.std.proofs.lemmas.List.{take_rest}
+use Rattle.segment_core.specs.Frame.{header}
 use Rattle.segment_core.specs.Fault.{is_version}
-use Rattle.segment_core.proofs.Header.{IsBorn, IsSegment, finds_unborn_short, finds_unborn_closed, finds_other_short, finds_other_magic, finds_version, finds_width, finds_none, width_read, format_known, is_version-version_of}
+use Rattle.segment_core.proofs.Header.{IsBorn, IsSegment, finds_unborn_short, finds_unborn_closed, finds_other_short, finds_other_magic, finds_version, finds_width, finds_none, width_read, format_known, is_version-version_of, header_of_none, header_written}
 use Rattle.segment_core.proofs.scanner.check_header.Goals as goal
 use Rattle.segment_core.proofs.scanner.check_header.Goals.{then-bytes-le1-via-then-bytes-le1, then-bytes-le1-via-else-bytes-le1+then-bytes-ne-OPEN, then-bytes-lt-HEADER_LEN-via-then-bytes-lt-HEADER_LEN, then-bytes-lt-HEADER_LEN-via-else-bytes-lt-HEADER_LEN+then-not-starts_with}
 
@@ -40,5 +41,7 @@ pub returns : goal.returns
 returns c =
     let segment : IsSegment c.args.bytes.now = record { born = record { some = c.if-bytes-le1.false; opened = c.if-bytes-ne-OPEN.false }; long = c.if-bytes-lt-HEADER_LEN.false; magic = magic_tested c.args.bytes.now c.starts_with.result true c.starts_with.ensures.value c.if-not-starts_with.false } in
     let known = ap is_version (sym c.in-Some.ensures.known) ∙ is_version-version_of c.in-Some.format in
-    (finds_none c.args.width c.from_le_bytes-file_width.result c.args.bytes.now segment known (c.from_le_bytes-file_width.ensures ∙ width_read c.args.bytes.now segment) c.if-file_width-width.false,
-    format_known c.args.bytes.now c.in-Some.format c.in-Some.ensures.known)
+    let none = finds_none c.args.width c.from_le_bytes-file_width.result c.args.bytes.now segment known (c.from_le_bytes-file_width.ensures ∙ width_read c.args.bytes.now segment) c.if-file_width-width.false in
+    let names = format_known c.args.bytes.now c.in-Some.format c.in-Some.ensures.known in
+    let written = header_written c.args.width c.args.bytes.now (λ i. omega (arith, c.type_inv.bytes i)) (header_of_none c.args.width c.args.bytes.now none) in
+    (none, names, written ∙ ap (λ f. header (record { format = f; width = c.args.width }) ++ drop 11 c.args.bytes.now) names)

@@ -1,0 +1,9 @@
+use Rattle.segment_core.specs.declared.scanner.Stage.TheVariants as stages
+use Rattle.segment_core.proofs.Fed.{fed_at}
+use Rattle.segment_core.proofs.scanner.Scanner.begin.Goals as goal
+
+pub feed_header-requires-clause-fed : goal.feed_header-requires-clause-fed
+feed_header-requires-clause-fed g c κs within = (c.requires.0, fed_at g.R.Record.form c.requires.0 c.args.self.now stages.Header c.in-Header.is c.requires.1)
+
+pub returns-in-Header-clause-fed : goal.returns-in-Header-clause-fed
+returns-in-Header-clause-fed g c = λ image fed. c.feed_header.ensures.fed image (fed_at g.R.Record.form image c.args.self.now stages.Header c.in-Header.is fed)
