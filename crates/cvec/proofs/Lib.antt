@@ -9,3 +9,4 @@ pub mod Reading
 pub mod LineLemmas
 pub mod LineGroups
 pub mod GroupLines
+pub mod Drafts

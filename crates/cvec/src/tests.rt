@@ -133,9 +133,11 @@ fn every_line_is_read_before_a_size_is_looked_at(rt: HostRuntime) -> Result<(), 
 fn a_file_is_shown_as_its_records(rt: HostRuntime) -> Result<(), Fail> {
     let alloc = rt.alloc();
     let closed = edited(alloc, FIVE, 11, *b"07")?;
-    let files: [(&[u8], &[u8]); 4] = [
+    let second = edited(alloc, FIVE, 8, *b"02")?;
+    let files: [(&[u8], &[u8]); 5] = [
         (EMPTY, b""),
         (FIVE, b"5\n"),
+        (second.as_slice(), b"5\n"),
         (THREE, b"1\n2\n3\n"),
         (closed.as_slice(), b""),
     ];
