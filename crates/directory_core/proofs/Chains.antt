@@ -5,7 +5,7 @@ use Rattle.std.proofs.lemmas.List.Concat.{length-flat_map}
 use Rattle.std.proofs.lemmas.List.Sums.{sum_by_more, sum_by_more_le}
 use Rattle.std.proofs.lemmas.Option.{slice_get_within, get_or_from_slice_get}
 use Rattle.block_core.specs.Growth.{Growth}
-use Rattle.directory_core.specs.Chain.{total, joined, IsNext, IsChained, Begins, Agree}
+use Rattle.directory_core.specs.Chain.{total, joined, IsNext, IsChained}
 
 pub length-joined : {R : Type 0} (es : List (Growth R)) → length (joined es) ≡ total es
 length-joined es = length-flat_map (λ (e : Growth _). e.records) es
@@ -35,16 +35,3 @@ chained_at es g e chained is =
       sum_by_more (λ (f : Growth _). length f.records) es g e inside ∙ ap (λ (f : Growth _). total (take g es) + length f.records) here,
       subst (λ (f : Growth _). total (take g es) + length f.records ≤ total es) here (sum_by_more_le (λ (f : Growth _). length f.records) es g e inside),
     )
-
-slice_get-take : {X : Type 0} (xs : List X) (n g : ℕ) → g < n → slice_get (take n xs) g ≡ slice_get xs g
-slice_get-take xs zero g lt = absurd (omega arith)
-slice_get-take [] (suc n) g lt = refl
-slice_get-take (x ∷ xs) (suc n) zero lt = refl
-slice_get-take (x ∷ xs) (suc n) (suc g) lt = slice_get-take xs n g (omega arith)
-
--- two lists that begin one list agree
-pub agree_from_begins : {X : Type 0} (mine theirs both : List X) → Begins mine both → Begins theirs both → Agree mine theirs
-agree_from_begins mine theirs both begins begins' g lt lt' =
-    sym (ap (λ (xs : List _). slice_get xs g) begins)
-    ∙ (slice_get-take both (length mine) g lt
-    ∙ (sym (slice_get-take both (length theirs) g lt') ∙ ap (λ (xs : List _). slice_get xs g) begins'))

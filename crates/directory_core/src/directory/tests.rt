@@ -175,7 +175,8 @@ fn refused_again(
     }
 }
 
-// A plain run meets no refusal. With that allocation refused by hand the growth comes back, and takes its number yet.
+// A plain run meets no refusal. The 25th and the 26th allocation are the bucket's: where one of them is refused
+// (`rt try --test --fail-alloc 25`), the growth comes back, and takes its number yet.
 #[test]
 fn a_growth_whose_bucket_was_refused_takes_its_number_yet(rt: HostRuntime) -> Result<(), Fail> {
     let directory = Directory::new(rt.alloc(), 9)?;
