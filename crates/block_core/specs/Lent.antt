@@ -1,14 +1,10 @@
 -- What is left of a block once what was lent of it is back.
-use Rattle.std.specs.Prelude.{List, ◌++◌, length, take, drop}
+use Rattle.std.specs.Prelude.{List, ◌++◌}
 use Rattle.std.specs.Borrow.{Lends, LendsBoth, MutBor, Fml, Array, RattleType}
 use Rattle.std.specs.declared.cmp.PartialEq as PartialEq
 use Rattle.record_core.specs.declared.record.Record as Record
+use Rattle.block_core.specs.Left.{left_in}
 use Rattle.block_core.specs.contracts.block.Fresh.{the_row}
-
--- the records that were left in a run of `old` ones: where `left` has the length of `old`, as what is left in
--- a slice has, they are `left`
-abbrev pub left_in : {R : Type 0} → List R → List R → List R
-left_in old left = take (length old) (left ++ drop (length left) old)
 
 module _ (R : RattleType) (record_of : Record.Ghosts R.Denot) (eq_of : PartialEq.Ghosts R.Denot) where
   -- the block has what is left in the slice

@@ -2,10 +2,11 @@
 
 ghost use Rattle.std.specs.Prelude.{◌≡◌, ◌≤◌, ◌<◌, ◌++◌, length, replicate, MatchResult};
 
+use crate::entry::{Entry, Label};
 use crate::fault::FreshFault;
-use crate::filling::fill_parts;
+use crate::filling::touch_parts;
 use crate::touching::Touch;
-use record_core::{PAYLOAD_LIMIT, Record};
+use record_core::{PAYLOAD_LIMIT, Record, width_of};
 use std::alloc::Global;
 use std::marker::Model;
 use std::slice::ChunksMut;
@@ -13,17 +14,6 @@ use std::thread::Threads;
 
 /// The bytes that stand in a frame before the records of its one growth: the count of growths, and one length.
 const HEAD: u64 = 8;
-
-/// A growth as it will stand among others. Its four numbers mean nothing before it is published; they are here
-/// so that publishing writes them through the box and takes no memory.
-#[derive(Drop)]
-struct Entry<R> {
-    number: u64,
-    start: u64,
-    seat: u16,
-    serial: u64,
-    records: Vec<R>,
-}
 
 /// At least one record, and few enough for one frame of the segment file, in the buffer and the box in which
 /// they will be published. Until then nobody else sees them.
@@ -33,19 +23,17 @@ pub struct Fresh<R: Record> {
 }
 
 impl<R: Record> Model for Fresh<R> {
-    ghost use Rattle.std.specs.Prelude.{List, length};
-    ghost use Rattle.block_core.specs.Length.{IsBlockLength};
+    ghost use Rattle.std.specs.Prelude.{List};
 
     ghost Value = { List R };
 
-    ghost view = { λ fresh. fresh.entry.value.records.items };
-
-    ghost invariant = { λ fresh. IsBlockLength R.WIDTH (length fresh.entry.value.records.items) };
+    ghost view = { λ fresh. fresh.entry.value.records };
 }
 
 impl<R: Record> Fresh<R> {
     ghost use Rattle.std.specs.Borrow.{sem};
     ghost use Rattle.std.specs.Slice.Iter.{chunks_mut_rest, chunks_mut_size};
+    ghost use Rattle.block_core.specs.Growth.{labelled};
     ghost use Rattle.block_core.specs.Length.{IsBlockLength, IsLengthFault, IsRefusal};
     ghost use Rattle.block_core.specs.Lent.{LendsRecords, LendsHalves};
     ghost use Rattle.block_core.specs.Touched.{TouchedFrom};
@@ -53,12 +41,12 @@ impl<R: Record> Fresh<R> {
     /// Whether a block may have `n` records: none is `Empty`, more than fit one frame is `TooLarge`. It takes no
     /// memory and never answers `Memory`.
     pub fn check_len(n: u64) -> Result<(), FreshFault>
-        ensures { MatchResult result (λ _. IsBlockLength R.WIDTH n) (IsLengthFault R.WIDTH n) }
+        ensures { MatchResult result (λ _. IsBlockLength R.form.width n) (IsLengthFault R.form.width n) }
     {
         if n == 0 {
             return Err(FreshFault::Empty);
         }
-        match n.checked_mul(R::WIDTH as u64) {
+        match n.checked_mul(width_of::<R>() as u64) {
             Some(bytes) if bytes <= PAYLOAD_LIMIT as u64 - HEAD => Ok(()),
             _ => Err(FreshFault::TooLarge),
         }
@@ -67,8 +55,8 @@ impl<R: Record> Fresh<R> {
     /// A block of `n` blank records.
     pub fn new(alloc: Global, n: u64) -> Result<Fresh<R>, FreshFault>
         ensures { MatchResult result
-            (λ fresh. (fresh ≡ replicate n R.blank_value) × IsBlockLength R.WIDTH n)
-            (IsRefusal R.WIDTH n) }
+            (λ fresh. (fresh ≡ replicate n R.blank_value) × IsBlockLength R.form.width n)
+            (IsRefusal R.form.width n) }
     {
         Fresh::filled(alloc, n, R::blank())
     }
@@ -76,8 +64,8 @@ impl<R: Record> Fresh<R> {
     /// A block of copies of these records.
     pub fn from_slice(alloc: Global, records: &[R]) -> Result<Fresh<R>, FreshFault>
         ensures { MatchResult result
-            (λ fresh. (fresh ≡ records.now) × IsBlockLength R.WIDTH (length records.now))
-            (IsRefusal R.WIDTH (length records.now)) }
+            (λ fresh. (fresh ≡ records.now) × IsBlockLength R.form.width (length records.now))
+            (IsRefusal R.form.width (length records.now)) }
     {
         Fresh::<R>::check_len(records.len() as u64)?;
         let copies = Vec::from_slice(alloc, records).map_err(|_| FreshFault::Memory)?;
@@ -87,8 +75,8 @@ impl<R: Record> Fresh<R> {
     /// A block of `n` copies of `v`.
     pub fn filled(alloc: Global, n: u64, v: R) -> Result<Fresh<R>, FreshFault>
         ensures { MatchResult result
-            (λ fresh. (fresh ≡ replicate n v) × IsBlockLength R.WIDTH n)
-            (IsRefusal R.WIDTH n) }
+            (λ fresh. (fresh ≡ replicate n v) × IsBlockLength R.form.width n)
+            (IsRefusal R.form.width n) }
     {
         Fresh::<R>::check_len(n)?;
         let len = n as usize;
@@ -99,19 +87,18 @@ impl<R: Record> Fresh<R> {
 
     /// The block of these records, in its box.
     fn boxed(alloc: Global, records: Vec<R>) -> Result<Fresh<R>, FreshFault>
-        requires { IsBlockLength R.WIDTH (length records.items) }
+        requires { IsBlockLength R.form.width (length records.items) }
         ensures { MatchResult result
             (λ fresh. fresh ≡ records.items)
             (λ fault. fault ≡ FreshFault.Memory) }
     {
-        let entry = Entry {
+        let label = Label {
             number: 0,
             start: 0,
             seat: 0,
             serial: 0,
-            records,
         };
-        match Box::new(alloc, entry) {
+        match Box::new(alloc, Entry { label, records }) {
             Ok(entry) => Ok(Fresh { entry }),
             Err(_) => Err(FreshFault::Memory),
         }
@@ -120,17 +107,17 @@ impl<R: Record> Fresh<R> {
     /// How many records it has.
     pub fn len(&self) -> u64
         ensures len { result ≡ length self.now }
-        ensures in_a_frame { IsBlockLength R.WIDTH result }
+        ensures in_a_frame { IsBlockLength R.form.width result }
     {
-        self.entry.records.len() as u64
+        self.entry.records().len() as u64
     }
 
     /// The records in order.
     pub fn records(&self) -> &[R]
         ensures value { result.now ≡ self.now }
-        ensures in_a_frame { IsBlockLength R.WIDTH (length self.now) }
+        ensures in_a_frame { IsBlockLength R.form.width (length self.now) }
     {
-        self.entry.records.as_slice()
+        self.entry.records()
     }
 
     /// The records in order, to be written over. The block has what is left in them.
@@ -138,7 +125,7 @@ impl<R: Record> Fresh<R> {
         ensures value { result.now ≡ self.old }
         ensures* writes_back { sem 𝓛 (LendsRecords R.row R.Record.own R.PartialEq self.entry result) }
     {
-        self.entry.records.as_mut_slice()
+        self.entry.records_mut()
     }
 
     /// The records in order as disjoint parts of `len` records, the last of which may have fewer.
@@ -147,7 +134,7 @@ impl<R: Record> Fresh<R> {
         ensures joined { chunks_mut_rest result ≡ self.old }
         ensures each { chunks_mut_size result ≡ len }
     {
-        self.entry.records.chunks_mut(len)
+        self.records_mut().chunks_mut(len)
     }
 
     /// Two halves, the first of which has `at` records. The block has what is left in them.
@@ -160,14 +147,28 @@ impl<R: Record> Fresh<R> {
         self.records_mut().split_at_mut(at)
     }
 
-    /// Touches every record, the first of which stands at the place 0, in parts of `part` records, and in several
-    /// threads at once. However the parts are cut, each record becomes what the touch makes of it alone. Few records,
-    /// and records of one part, are touched by the calling thread.
+    /// Touches every record, the first of which stands at the place 0, as `touch_parts` does.
     pub fn fill<E: Threads + Sync, T: Touch<R>>(&mut self, rt: &E, part: usize, touch: &T)
         requires { 0 < part }
         ensures { TouchedFrom (T.one touch.now) 0 self.old self.new }
     {
-        fill_parts(rt, &mut self.entry.records, part, touch);
+        touch_parts(rt, 0, self.entry.records_mut(), part, touch);
+    }
+
+    /// The growth that is to be published under this label.
+    pub fn seal(self, label: Label) -> Box<Entry<R>>
+        ensures { result.value ≡ labelled label self }
+    {
+        let mut entry = self.entry;
+        entry.label = label;
+        entry
+    }
+
+    /// The block of a growth that was not published. Its label is forgotten.
+    pub fn unseal(entry: Box<Entry<R>>) -> Fresh<R>
+        ensures { result ≡ entry.value.records }
+    {
+        Fresh { entry }
     }
 }
 

@@ -43,16 +43,16 @@ module _ (at : ℕ) (body : List ℕ) (gate byte : ℕ) (start : List State) (in
   at_end : (image : List ℕ) → IsImage (settled opened) image → P image
   at_end image is = at_gate opened image (subst (λ bytes. IsImage (touched (settled after) gate 1 opened) bytes) (sym (IsImage-settled opened image is)) (written_image (settled after) gate (byte ∷ []) (omega (arith, inside)) (settled_image after)))
 
-  begun : LeavesOnly start start P
+  pub begun : LeavesOnly start start P
   begun = LeavesOnly-start start P at_start
 
-  wrote : LeavesOnly start (body_written at body gate byte start) P
+  pub wrote : LeavesOnly start (body_written at body gate byte start) P
   wrote = LeavesOnly-more start start _ (written (now start) at body) P begun refl (at_body (overlay (now start).seen at body))
 
-  based : LeavesOnly start (body_synced at body gate byte start) P
+  pub based : LeavesOnly start (body_synced at body gate byte start) P
   based = LeavesOnly-more start (body_written at body gate byte start) _ (settled after) P wrote refl at_base
 
-  gated : LeavesOnly start (gate_written at body gate byte start) P
+  pub gated : LeavesOnly start (gate_written at body gate byte start) P
   gated = LeavesOnly-more start (body_synced at body gate byte start) _ (written (settled after) gate (byte ∷ [])) P based refl (at_gate opened)
 
   pub commit_leaves : (end : List State) → IsCommit at body gate byte start end → LeavesOnly start end P

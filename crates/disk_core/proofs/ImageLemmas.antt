@@ -19,11 +19,11 @@ settled_image bytes = record { no_shorter = omega arith; no_longer = omega arith
 pub IsImage-touched : (s : State) (at len : ℕ) (seen other image : List ℕ) → IsImage (touched s at len seen) image → IsImage (touched s at len other) image
 IsImage-touched s at len seen other image is = record { no_shorter = is.no_shorter; no_longer = is.no_longer; each = is.each }
 
-neither : (a b : Bool) → (a || b) ≡ false → (a ≡ false) × (b ≡ false)
+pub neither : (a b : Bool) → (a || b) ≡ false → (a ≡ false) × (b ≡ false)
 neither true b is = cc
 neither false b is = (refl, is)
 
-both : (a b : Bool) → a ≡ false → b ≡ false → (a || b) ≡ false
+pub both : (a b : Bool) → a ≡ false → b ≡ false → (a || b) ≡ false
 both true b first is = cc
 both false b first is = is
 

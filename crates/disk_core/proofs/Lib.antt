@@ -1,6 +1,7 @@
 mod Walks
 pub mod JoinedMoments
 pub mod ImageLemmas
+pub mod PendingLemmas
 pub mod CallLemmas
 pub mod CommitLemmas
 mod ContentsLemmas

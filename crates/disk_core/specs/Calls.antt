@@ -6,6 +6,10 @@ use Rattle.disk_core.specs.State.{State, now, settled, touched, written, IsTornW
 abbrev pub bytes_of : List State → List ℕ
 bytes_of states = (now states).seen
 
+-- One state more in front of the old ones. So it is whether the disk keeps the model or not.
+abbrev pub AddsMoment : List State → List State → Type 0
+AddsMoment old new = new ≡ now new ∷ old
+
 abbrev pub Stays : List State → List State → Type 0
 Stays old new = new ≡ now old ∷ old
 

@@ -21,6 +21,10 @@ abbrev pub pending_below : State → ℕ → ℕ
 pending_below s zero = 0
 pending_below s (suc i) = if is_pending s i then suc (pending_below s i) else pending_below s i
 
+-- how many places a crash may leave as anything, up to the greatest length
+abbrev pub pending_count : State → ℕ
+pending_count s = pending_below s s.greatest
+
 abbrev pub pending_byte : PendingBytes → ℕ → ℕ → ℕ → ℕ
 pending_byte OldBytes old new below = old
 pending_byte New old new below = new

@@ -9,3 +9,7 @@ states_of disk = logged_states alone disk.log.items
 
 abbrev pub faults_of : RamDisk → ℕ
 faults_of disk = logged_faults (λ below. 0) disk.log.items
+
+-- a disk in memory always has
+abbrev pub KeepsSoFar : RamDisk → Type 0
+KeepsSoFar disk = Unit {0}

@@ -1,9 +1,9 @@
 //! The bytes of a disk in memory at one moment, with what was synced last.
 ghost use Rattle.std.specs.Prelude.{◌≡◌, ◌+◌, ◌<◌, ◌≤◌, ◌⊎◌, ◌^◌, [], length, IfOk, OnOk, OnErr};
 ghost use Rattle.disk_core.specs.State.{settled, touched, written, overlay};
-ghost use Rattle.disk_core.specs.Choice.{IsChosen};
+ghost use Rattle.disk_core.specs.Choice.{IsChosen, pending_count};
 
-use crate::image::chosen_image;
+use crate::image::{chosen_image, count_pending};
 use crate::{Choice, Extent};
 use std::alloc::{AllocError, Global};
 use std::marker::Model;
@@ -66,6 +66,18 @@ impl Contents {
                 &self.pending,
                 self.greatest,
             )
+        }
+    }
+
+    /// How many places a crash may leave as anything.
+    #[tactic(auto, using(crate::proofs::PendingLemmas::pending_settled))]
+    pub(crate) fn pending(&self) -> u64
+        ensures { result ≡ pending_count self.now }
+    {
+        if self.pending.is_empty() {
+            0
+        } else {
+            count_pending(&self.synced, &self.pending, self.greatest)
         }
     }
 

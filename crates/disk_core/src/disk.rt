@@ -1,7 +1,7 @@
 ghost use Rattle.std.specs.Prelude.{◌≡◌, ◌+◌, ◌<◌, ◌≤◌, ◌^◌, ◌∷◌, List, ℕ, length, slice_range, IfOk, OnOk, OnErr};
 ghost use Rattle.disk_core.specs.declared.fault.DiskFault.TheVariants.{Length, Read, Write, Sync};
 ghost use Rattle.disk_core.specs.State.{State, now, IsImage};
-ghost use Rattle.disk_core.specs.Calls.{bytes_of, Stays, Writes, TearsWrite, Settles};
+ghost use Rattle.disk_core.specs.Calls.{bytes_of, AddsMoment, Stays, Writes, TearsWrite, Settles};
 ghost use Rattle.disk_core.specs.Moments.{clock};
 ghost use Rattle.disk_core.specs.Fault.{IsCounted};
 
@@ -9,10 +9,10 @@ use crate::DiskFault;
 
 /// One file of bytes that may lose what was not synced. Places and lengths are in bytes.
 ///
-/// A call may fail at any time. Whatever it did is told by its clauses: those on the clock and on faults hold of
-/// every disk, those on bytes and on what a crash may leave of one that has kept the model.
+/// A call may fail at any time. Whatever it did is told by its clauses: those on the past, the clock and faults hold
+/// of every disk, those on bytes and on what a crash may leave of one that has kept the model.
 pub trait Disk {
-    /// What the disk was at each moment so far, the newest first: each call adds one, and nothing else does.
+    /// What the disk was at each moment so far, the newest first: each call adds one, and nothing else does (`past`).
     /// The clock, and what a crash now or at some moment may leave, are read from this list.
     ghost states: { Self → List State };
 
@@ -21,13 +21,16 @@ pub trait Disk {
 
     /// The disk has kept the model so far: what its clauses say of bytes was so. Of a disk in memory that always
     /// holds. Of a real file no program can know beforehand what it will answer: there a call whose answer is not
-    /// the model's ends it, and nothing else does (`goes_on`). No later call brings it back (`model`).
+    /// the model's ends it. A length, a read, a write that succeeds and a sync end it in no other way (`goes_on`); a
+    /// write that fails may. No later call brings it back (`model`), and none takes away what was known of the
+    /// moments before it (`past`).
     ghost keeps: { Self → Type 0 };
 
     /// The length in bytes. Nothing changes.
     fn len(&mut self) -> Result<u64, DiskFault>
         ensures value { keeps self.new → IfOk result (λ n. n ≡ length (bytes_of (states self.old))) }
         ensures same { keeps self.old → Stays (states self.old) (states self.new) }
+        ensures past { AddsMoment (states self.old) (states self.new) }
         ensures time { clock (states self.new) ≡ clock (states self.old) + 1 }
         ensures cause { IsCounted Length (faults self.old) (faults self.new) result }
         ensures model { keeps self.new → keeps self.old }
@@ -40,6 +43,7 @@ pub trait Disk {
         ensures value { keeps self.new
             → OnOk result (out.new ≡ slice_range (bytes_of (states self.old)) at (at + length out.old)) }
         ensures same { keeps self.old → Stays (states self.old) (states self.new) }
+        ensures past { AddsMoment (states self.old) (states self.new) }
         ensures time { clock (states self.new) ≡ clock (states self.old) + 1 }
         ensures cause { IsCounted Read (faults self.old) (faults self.new) result }
         ensures model { keeps self.new → keeps self.old }
@@ -57,6 +61,7 @@ pub trait Disk {
             → OnOk result (Writes at bytes.now (states self.old) (states self.new)) }
         ensures torn { keeps self.new
             → OnErr result (TearsWrite at (length bytes.now) (states self.old) (states self.new)) }
+        ensures past { AddsMoment (states self.old) (states self.new) }
         ensures time { clock (states self.new) ≡ clock (states self.old) + 1 }
         ensures cause { IsCounted Write (faults self.old) (faults self.new) result }
         ensures model { keeps self.new → keeps self.old }
@@ -66,6 +71,7 @@ pub trait Disk {
     fn sync(&mut self) -> Result<(), DiskFault>
         ensures done { keeps self.old → OnOk result (Settles (states self.old) (states self.new)) }
         ensures same { keeps self.old → OnErr result (Stays (states self.old) (states self.new)) }
+        ensures past { AddsMoment (states self.old) (states self.new) }
         ensures time { clock (states self.new) ≡ clock (states self.old) + 1 }
         ensures cause { IsCounted Sync (faults self.old) (faults self.new) result }
         ensures model { keeps self.new → keeps self.old }

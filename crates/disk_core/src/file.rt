@@ -8,20 +8,24 @@ use crate::log::Log;
 use crate::snapshot::Snapshot;
 use crate::truth::Truth;
 use crate::{Disk, DiskFault, Extent};
-use std::fs::{File, OpenFile, OpenOptions};
+use std::fs::{self, File, OpenFile, OpenOptions};
 use std::io;
 use std::os::unix::fs::FileExt;
 use std::path::{AsPath, Path};
 use std::rt::Files;
 
-/// A disk over a real file, by std's `File`. Places and lengths may be up to 2^48 bytes. It has no buffer of its
-/// own: a read or a write of any length is one call of the system. Where that call is interrupted or does a part
-/// only, it goes on from there until all is done, and what can't be finished is a fault.
+/// A disk over a real file, by std's `File`. How long it may become is the file system's to say: a write past that is
+/// a fault. It has no buffer of its own: a read or a write of any length is one call of the system. Where that call is
+/// interrupted or does a part only, it goes on from there until all is done, and what can't be finished is a fault.
 ///
 /// What a file holds no program can know, so its meaning as a disk is read from two values that take no memory: the
 /// calls so far with their answers, and what no call tells (`FileTruth`): the bytes that the file held when it was
 /// opened, and those that a failed write left. The contracts of `Disk` hold whatever these are; clauses on bytes, as
 /// long as the answers agree with them. Before the first sync nothing of the file is known to be on the disk.
+///
+/// What is to hold of files is stated on a function that takes a disk by value, or an open file and a truth, and calls
+/// `over`. Inside the proofs of `open` and `make` the truth is that the file held nothing, so what is stated on a
+/// function that itself calls them is empty for any other file.
 ///
 /// **Its user's premise**, which no proof shows, is that the file keeps the model. Nobody else writes, shortens or
 /// replaces it while the disk is in use, or shortened it before without a sync. A read gives what was written last,
@@ -46,24 +50,29 @@ impl<F: FileExt + OpenFile + Drop> FileDisk<F> {
     ghost use Rattle.std.specs.Prelude.{[], ◌∷◌, IfOk};
     ghost use Rattle.disk_core.specs.File.{opened};
     ghost use Rattle.disk_core.specs.FileTruth.{FileTruth};
-    ghost use Rattle.disk_core.specs.FileDisk.{truth_of, states_of, faults_of};
+    ghost use Rattle.disk_core.specs.FileDisk.{truth_of, states_of, faults_of, KeepsSoFar};
 
     /// Opens the file at `path` for reading and writing. Its bytes stay. What the system refuses is answered as its
     /// error: a file that isn't there, a folder, a lack of permission.
     pub fn open<R: Files<File = F>, P: AsPath>(rt: &R, path: P) -> io::Result<FileDisk<F>>
         ensures states { IfOk result (λ disk. states_of disk ≡ opened (truth_of disk).held ∷ []) }
         ensures faults { IfOk result (λ disk. faults_of disk ≡ 0) }
+        ensures keeps { IfOk result (λ disk. KeepsSoFar disk) }
     {
         let file = OpenOptions::new().read(true).write(true).open(rt, path)?;
         Ok(FileDisk::over(file))
     }
 
-    /// Opens the file at `path`, and makes an empty one where there is none. Bytes that are there stay. The folder is
-    /// synced, so that a crash does not take the new name away; where that fails its error is answered, and the file
-    /// stays.
-    pub fn make<R: Files<File = F>, P: AsPath>(rt: &R, path: P) -> io::Result<FileDisk<F>>
+    /// Opens the file at `path`, and makes an empty one where there is none. Bytes that are there stay. Then its
+    /// folder is synced, so that a crash does not take the new name away; where that fails its error is answered, and
+    /// the file stays. Where `path` is a symbolic link, the folder is that of the file which it leads to.
+    pub fn make<R: Files<File = F> + AllocGlobal, P: AsPath>(
+        rt: &R,
+        path: P,
+    ) -> io::Result<FileDisk<F>>
         ensures states { IfOk result (λ disk. states_of disk ≡ opened (truth_of disk).held ∷ []) }
         ensures faults { IfOk result (λ disk. faults_of disk ≡ 0) }
+        ensures keeps { IfOk result (λ disk. KeepsSoFar disk) }
     {
         let file = OpenOptions::new()
             .read(true)
@@ -80,6 +89,7 @@ impl<F: FileExt + OpenFile + Drop> FileDisk<F> {
         ensures truth { truth_of result ≡ truth }
         ensures states { states_of result ≡ opened truth.held ∷ [] }
         ensures faults { faults_of result ≡ 0 }
+        ensures keeps { KeepsSoFar result }
     {
         FileDisk {
             file,
@@ -90,9 +100,19 @@ impl<F: FileExt + OpenFile + Drop> FileDisk<F> {
     }
 }
 
-/// Syncs the folder of `path`, by `fsync`: a new name is durable only then.
-fn sync_folder<R: Files>(rt: &R, path: &str) -> io::Result<()> {
-    let folder = match Path::new(path).parent() {
+/// Syncs the folder that has the name of the file at `path`. The folder of a link to it need not be that one.
+fn sync_folder<R: Files + AllocGlobal>(rt: &R, path: &str) -> io::Result<()> {
+    if fs::symlink_metadata(rt, path)?.is_symlink() {
+        let file = fs::canonicalize(rt, path)?;
+        sync_parent(rt, file.as_path())
+    } else {
+        sync_parent(rt, Path::new(path))
+    }
+}
+
+/// Syncs the folder that a path ends in, by `fsync`: a new name is durable only then.
+fn sync_parent<R: Files>(rt: &R, path: Path<'_>) -> io::Result<()> {
+    let folder = match path.parent() {
         Some(folder) if !folder.as_str().is_empty() => folder,
         _ => Path::new("."),
     };
@@ -101,7 +121,7 @@ fn sync_folder<R: Files>(rt: &R, path: &str) -> io::Result<()> {
 
 impl<F: FileExt + OpenFile + Drop> Disk for FileDisk<F> {
     ghost use Rattle.std.specs.Prelude.{◌+◌, ◌<◌, ◌≤◌, ◌^◌, length, OnOk, OnErr};
-    ghost use Rattle.disk_core.specs.Calls.{bytes_of, Writes, TearsWrite, LeavesPending};
+    ghost use Rattle.disk_core.specs.Calls.{bytes_of, AddsMoment, Writes, TearsWrite, LeavesPending};
     ghost use Rattle.disk_core.specs.Moments.{clock};
     ghost use Rattle.disk_core.specs.Fault.{IsCounted};
     ghost use Rattle.disk_core.specs.FileDisk.{states_of, faults_of, KeepsSoFar};
@@ -149,6 +169,7 @@ impl<F: FileExt + OpenFile + Drop> Disk for FileDisk<F> {
         ensures torn { KeepsSoFar self.new
             → OnErr result (TearsWrite at (length bytes.now) (states_of self.old) (states_of self.new)) }
         ensures pending { OnErr result (LeavesPending at (length bytes.now) (states_of self.old) (states_of self.new)) }
+        ensures past { AddsMoment (states_of self.old) (states_of self.new) }
         ensures time { clock (states_of self.new) ≡ clock (states_of self.old) + 1 }
         ensures cause { IsCounted DiskFault.Write (faults_of self.old) (faults_of self.new) result }
         ensures model { KeepsSoFar self.new → KeepsSoFar self.old }

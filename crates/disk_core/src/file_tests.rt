@@ -1,15 +1,19 @@
 //! Disks over real files, and over files that do a part of what they are asked.
-ghost use Rattle.std.specs.Prelude.{◌≡◌, ◌≤◌, [], ◌∷◌, IfOk};
+ghost use Rattle.std.specs.Prelude.{◌≡◌, ◌≤◌, [], ◌∷◌, IfOk, IsErr};
 ghost use Rattle.disk_core.specs.File.{opened};
 ghost use Rattle.disk_core.specs.FileDisk.{states_of};
 
 use crate::{Disk, DiskFault, FileDisk};
+use std::alloc::{Allocator, Global};
 use std::fs::{self, File, Metadata, OpenFile, OpenOptions, Permissions};
-use std::io;
+use std::io::{self, Read, Seek, SeekFrom, Write};
 use std::mem::size_of;
-use std::os::unix::fs::{FileExt, PermissionsExt};
+use std::os::unix::fs::{FileExt, PermissionsExt, symlink};
+use std::path::PathBuf;
+use std::rt::Files;
 use std::sync::atomic::{AtomicU64, Ordering};
 use std::test::Fail;
+use std::thread;
 
 /// Reads inside the length.
 fn read<D: Disk>(disk: &mut D, at: u64, out: &mut [u8]) -> Result<(), DiskFault> {
@@ -87,7 +91,7 @@ fn places_past_4_gib_are_places_of_their_own(rt: HostRuntime) -> Result<(), Fail
 }
 
 /// Why no disk was opened.
-fn kind_of(answer: io::Result<FileDisk>) -> Option<io::ErrorKind> {
+fn kind_of<F: FileExt + OpenFile + Drop>(answer: io::Result<FileDisk<F>>) -> Option<io::ErrorKind> {
     answer.err().map(|error| error.kind())
 }
 
@@ -136,6 +140,211 @@ fn the_folder_of_a_new_file_is_synced_or_its_error_answered(rt: HostRuntime) -> 
     fs::set_permissions(&rt, folder, Permissions::from_mode(0o700))?;
     fs::remove_dir_all(&rt, folder)?;
     Ok(())
+}
+
+#[test]
+fn a_file_is_made_where_a_link_leads(rt: HostRuntime) -> Result<(), Fail> {
+    let folder = "links_and_files";
+    let _ = fs::remove_dir_all(&rt, folder);
+    fs::create_dir_all(&rt, "links_and_files/deep")?;
+    symlink(&rt, "deep/file", "links_and_files/link")?;
+    let mut disk = FileDisk::make(&rt, "links_and_files/link")?;
+    write(&mut disk, 0, &[1, 2])?;
+    disk.sync()?;
+    let bytes = fs::read(&rt, "links_and_files/deep/file")?;
+    assert_eq!(rt; bytes.as_slice(), [1, 2].as_slice());
+    assert_eq!(rt; FileDisk::make(&rt, "links_and_files/link")?.len()?, 2);
+    fs::remove_dir_all(&rt, folder)?;
+    Ok(())
+}
+
+/// Files that hold nothing. The path `links/link` is a link to `/deep/target`. How often one folder is synced is
+/// counted; it may fail each time.
+#[derive(Drop)]
+struct Watch<'a> {
+    folder: &'a str,
+    fails: bool,
+    syncs: &'a AtomicU64,
+}
+
+#[derive(Drop)]
+struct Watched<'a> {
+    is_folder: bool,
+    fails: bool,
+    syncs: &'a AtomicU64,
+}
+
+fn unsupported<T>() -> io::Result<T>
+    ensures { IsErr result }
+{
+    Err(io::ErrorKind::Unsupported.into())
+}
+
+impl<'a> Files for Watch<'a> {
+    type File = Watched<'a>;
+
+    type Dir = Watched<'a>;
+
+    fn open_file(&self, _how: &OpenOptions, path: &str) -> io::Result<Watched<'a>> {
+        Ok(Watched {
+            is_folder: path == self.folder,
+            fails: self.fails,
+            syncs: self.syncs,
+        })
+    }
+
+    fn open_dir(&self, _path: &str) -> io::Result<Watched<'a>> {
+        unsupported()
+    }
+
+    fn metadata(&self, _path: &str) -> io::Result<Metadata> {
+        Ok(Metadata::of_file(0))
+    }
+
+    fn symlink_metadata(&self, path: &str) -> io::Result<Metadata> {
+        if path == "links/link" {
+            Ok(Metadata::of_symlink(12))
+        } else {
+            Ok(Metadata::of_file(0))
+        }
+    }
+
+    fn canonicalize<B: Allocator>(&self, alloc: B, _path: &str) -> io::Result<PathBuf<B>> {
+        Ok(PathBuf::from_str(alloc, "/deep/target")?)
+    }
+
+    fn copy(&self, _from: &str, _to: &str) -> io::Result<u64> {
+        unsupported()
+    }
+
+    fn rename(&self, _from: &str, _to: &str) -> io::Result<()> {
+        unsupported()
+    }
+
+    fn remove_file(&self, _path: &str) -> io::Result<()> {
+        unsupported()
+    }
+
+    fn create_dir(&self, _path: &str) -> io::Result<()> {
+        unsupported()
+    }
+
+    fn remove_dir(&self, _path: &str) -> io::Result<()> {
+        unsupported()
+    }
+
+    fn remove_dir_all<B: Allocator>(&self, _alloc: B, _path: &str) -> io::Result<()> {
+        unsupported()
+    }
+}
+
+impl OpenFile for Watched<'_> {
+    fn metadata(&self) -> io::Result<Metadata> {
+        Ok(Metadata::of_file(0))
+    }
+
+    fn set_len(&self, _size: u64) -> io::Result<()> {
+        unsupported()
+    }
+
+    fn sync_all(&self) -> io::Result<()> {
+        if self.is_folder {
+            self.syncs.fetch_add(1, Ordering::SeqCst);
+            if self.fails {
+                return Err(io::ErrorKind::StorageFull.into());
+            }
+        }
+        Ok(())
+    }
+
+    fn sync_data(&self) -> io::Result<()> {
+        Ok(())
+    }
+}
+
+impl FileExt for Watched<'_> {
+    fn read_at(&self, _buf: &mut [u8], _offset: u64) -> io::Result<usize> {
+        unsupported()
+    }
+
+    fn write_at(&self, _buf: &[u8], _offset: u64) -> io::Result<usize> {
+        unsupported()
+    }
+}
+
+impl Read for Watched<'_> {
+    fn read(&mut self, _buf: &mut [u8]) -> io::Result<usize> {
+        unsupported()
+    }
+}
+
+impl Write for Watched<'_> {
+    fn write(&mut self, _buf: &[u8]) -> io::Result<usize> {
+        unsupported()
+    }
+
+    fn flush(&mut self) -> io::Result<()> {
+        unsupported()
+    }
+}
+
+impl Seek for Watched<'_> {
+    fn seek(&mut self, _to: SeekFrom) -> io::Result<u64> {
+        unsupported()
+    }
+}
+
+/// How often the making of a file syncs this folder, and why no disk was opened.
+fn make_watched(
+    alloc: Global,
+    path: &str,
+    folder: &str,
+    fails: bool,
+) -> (u64, Option<io::ErrorKind>) {
+    let syncs = AtomicU64::new(0);
+    let watch = Watch {
+        folder,
+        fails,
+        syncs: &syncs,
+    };
+    let refused = kind_of(FileDisk::make(&(watch, alloc), path));
+    (syncs.load(Ordering::SeqCst), refused)
+}
+
+#[test]
+fn the_folder_of_a_made_file_is_synced_or_why_not_is_told(rt: HostRuntime) {
+    let cases = [
+        ("new", "."),
+        ("folder/new", "folder"),
+        ("/new", "/"),
+        ("a/b/new", "a/b"),
+        ("links/link", "/deep"),
+    ];
+    for (path, folder) in cases {
+        assert_eq!(rt; make_watched(rt.alloc(), path, folder, false), (1, None));
+        let full = Some(io::ErrorKind::StorageFull);
+        assert_eq!(rt; make_watched(rt.alloc(), path, folder, true), (1, full));
+    }
+}
+
+#[test]
+fn a_disk_over_a_file_goes_to_another_thread(rt: HostRuntime) -> Result<(), Fail> {
+    let path = "to_another_thread";
+    let _ = fs::remove_file(&rt, path);
+    let mut disk = FileDisk::make(&rt, path)?;
+    write(&mut disk, 0, &[1, 2])?;
+    let thread = thread::spawn(&rt, move || append(disk, &[3]))?;
+    thread.join(&rt)?;
+    assert_eq!(rt; fs::read(&rt, path)?.as_slice(), [1, 2, 3].as_slice());
+    fs::remove_file(&rt, path)?;
+    Ok(())
+}
+
+/// Writes at the end, and syncs.
+fn append(mut disk: FileDisk, bytes: &[u8]) -> Result<(), DiskFault> {
+    let end = disk.len()?;
+    write(&mut disk, end, bytes)?;
+    disk.sync()
 }
 
 #[test]

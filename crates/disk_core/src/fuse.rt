@@ -25,6 +25,7 @@ impl<D: Disk> FuseDisk<D> {
     pub fn new(inner: D, calls: u64, blow: Blow) -> FuseDisk<D>
         ensures states { states_of result ≡ D.states inner }
         ensures faults { faults_of result ≡ D.faults inner }
+        ensures keeps { D.keeps inner → D.keeps (below result) }
         ensures below { below result ≡ inner }
         ensures fuse { fuse_of result ≡ Fuse.Whole calls blow }
     {
@@ -54,7 +55,7 @@ impl<D: Disk> Disk for FuseDisk<D> {
     ghost use Rattle.std.proofs.Common.{subst, sym};
     ghost use Rattle.std.specs.Prelude.{◌+◌, ◌<◌, ◌≤◌, ◌^◌, ◌∷◌, length, take, slice_range, IfOk, OnOk, OnErr};
     ghost use Rattle.disk_core.specs.State.{IsImage};
-    ghost use Rattle.disk_core.specs.Calls.{bytes_of, Stays, Writes, TearsWrite, Settles};
+    ghost use Rattle.disk_core.specs.Calls.{bytes_of, AddsMoment, Stays, Writes, TearsWrite, Settles};
     ghost use Rattle.disk_core.specs.Moments.{clock};
     ghost use Rattle.disk_core.specs.Fault.{IsCounted};
     ghost use Rattle.disk_core.specs.Fuse.{burnt, fate_of, MatchFate, HasPassed, HasFailed, HasBroken};
@@ -73,6 +74,7 @@ impl<D: Disk> Disk for FuseDisk<D> {
         ensures value { D.keeps (below self.new)
             → IfOk result (λ n. n ≡ length (bytes_of (states_of self.old))) }
         ensures same { D.keeps (below self.old) → Stays (states_of self.old) (states_of self.new) }
+        ensures past { AddsMoment (states_of self.old) (states_of self.new) }
         ensures time { clock (states_of self.new) ≡ clock (states_of self.old) + 1 }
         ensures cause { IsCounted DiskFault.Length (faults_of self.old) (faults_of self.new) result }
         ensures model { D.keeps (below self.new) → D.keeps (below self.old) }
@@ -99,6 +101,7 @@ impl<D: Disk> Disk for FuseDisk<D> {
         ensures value { D.keeps (below self.new)
             → OnOk result (out.new ≡ slice_range (bytes_of (states_of self.old)) at (at + length out.old)) }
         ensures same { D.keeps (below self.old) → Stays (states_of self.old) (states_of self.new) }
+        ensures past { AddsMoment (states_of self.old) (states_of self.new) }
         ensures time { clock (states_of self.new) ≡ clock (states_of self.old) + 1 }
         ensures cause { IsCounted DiskFault.Read (faults_of self.old) (faults_of self.new) result }
         ensures model { D.keeps (below self.new) → D.keeps (below self.old) }
@@ -127,6 +130,7 @@ impl<D: Disk> Disk for FuseDisk<D> {
             → OnOk result (Writes at bytes.now (states_of self.old) (states_of self.new)) }
         ensures torn { D.keeps (below self.new)
             → OnErr result (TearsWrite at (length bytes.now) (states_of self.old) (states_of self.new)) }
+        ensures past { AddsMoment (states_of self.old) (states_of self.new) }
         ensures time { clock (states_of self.new) ≡ clock (states_of self.old) + 1 }
         ensures cause { IsCounted DiskFault.Write (faults_of self.old) (faults_of self.new) result }
         ensures model { D.keeps (below self.new) → D.keeps (below self.old) }
@@ -157,6 +161,7 @@ impl<D: Disk> Disk for FuseDisk<D> {
             → OnOk result (Settles (states_of self.old) (states_of self.new)) }
         ensures same { D.keeps (below self.old)
             → OnErr result (Stays (states_of self.old) (states_of self.new)) }
+        ensures past { AddsMoment (states_of self.old) (states_of self.new) }
         ensures time { clock (states_of self.new) ≡ clock (states_of self.old) + 1 }
         ensures cause { IsCounted DiskFault.Sync (faults_of self.old) (faults_of self.new) result }
         ensures model { D.keeps (below self.new) → D.keeps (below self.old) }

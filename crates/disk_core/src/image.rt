@@ -1,7 +1,7 @@
 //! Images that a crash may leave, made and recognized.
 ghost use Rattle.std.specs.Prelude.{◌≡◌, ◌||◌, length, nat_le, slice_index, false, IfOk, IsTrue, ◌↔◌, List, ℕ};
 ghost use Rattle.disk_core.specs.State.{is_within, made_of, IsImage};
-ghost use Rattle.disk_core.specs.Choice.{IsChosen, pending_byte};
+ghost use Rattle.disk_core.specs.Choice.{IsChosen, pending_byte, pending_count};
 
 use crate::{Choice, Extent, PendingBytes};
 use std::alloc::{AllocError, Global};
@@ -30,6 +30,20 @@ pub(crate) fn chosen_image(
         }
     }
     Ok(image)
+}
+
+/// How many places a crash may leave as anything, of a disk that had `synced` on it at the last sync, was written at
+/// `pending` since, and was at most `greatest` bytes long.
+pub(crate) fn count_pending(synced: &[u8], pending: &[Extent], greatest: u64) -> u64
+    ensures { (seen : List ℕ) → result ≡ pending_count (made_of seen synced.now pending.now greatest) }
+{
+    let mut count = 0;
+    for place in 0..greatest {
+        if is_free(synced, pending, place as usize) {
+            count += 1;
+        }
+    }
+    count
 }
 
 /// Whether a crash may leave `image` of a disk that had `synced` on it at the last sync, was written at `pending`

@@ -2,7 +2,7 @@
 ghost use Rattle.std.specs.Prelude.{◌≡◌, ◌+◌, [], List, ◌∷◌, IfOk};
 ghost use Rattle.disk_core.specs.State.{now, settled, IsImage};
 ghost use Rattle.disk_core.specs.History.{alone, logged_states};
-ghost use Rattle.disk_core.specs.Choice.{IsChosen};
+ghost use Rattle.disk_core.specs.Choice.{IsChosen, pending_count};
 
 use crate::contents::Contents;
 use crate::event::Event;
@@ -23,12 +23,13 @@ pub struct RamDisk {
 }
 
 impl RamDisk {
-    ghost use Rattle.disk_core.specs.RamDisk.{states_of, faults_of};
+    ghost use Rattle.disk_core.specs.RamDisk.{states_of, faults_of, KeepsSoFar};
 
     /// An empty disk.
     pub fn new(alloc: Global) -> RamDisk
         ensures states { states_of result ≡ settled [] ∷ [] }
         ensures faults { faults_of result ≡ 0 }
+        ensures keeps { KeepsSoFar result }
     {
         RamDisk::from_bytes(alloc, Vec::new(alloc))
     }
@@ -37,6 +38,7 @@ impl RamDisk {
     pub fn from_bytes(alloc: Global, bytes: Vec<u8>) -> RamDisk
         ensures states { states_of result ≡ settled bytes.items ∷ [] }
         ensures faults { faults_of result ≡ 0 }
+        ensures keeps { KeepsSoFar result }
     {
         let contents = Contents::settled(alloc, bytes);
         let log = Log::new().and(&contents, &Event::Began);
@@ -55,21 +57,29 @@ impl RamDisk {
     {
         self.contents.image(self.alloc, *choice)
     }
+
+    /// How many places a crash now may leave as anything, up to the greatest length since the last sync. Takes no
+    /// memory.
+    pub fn pending(&self) -> u64
+        ensures { result ≡ pending_count (now (states_of self.now)) }
+    {
+        self.contents.pending()
+    }
 }
 
 impl Disk for RamDisk {
     ghost use Rattle.std.proofs.Common.{subst, sym};
     ghost use Rattle.std.specs.Prelude.{◌<◌, ◌≤◌, ◌^◌, length, slice_range, IsOk, OnOk, OnErr};
-    ghost use Rattle.disk_core.specs.Calls.{bytes_of, Stays, Writes, TearsWrite, Settles};
+    ghost use Rattle.disk_core.specs.Calls.{bytes_of, AddsMoment, Stays, Writes, TearsWrite, Settles};
     ghost use Rattle.disk_core.specs.Moments.{clock};
     ghost use Rattle.disk_core.specs.Fault.{IsCounted};
-    ghost use Rattle.disk_core.specs.RamDisk.{states_of, faults_of};
+    ghost use Rattle.disk_core.specs.RamDisk.{states_of, faults_of, KeepsSoFar};
 
     ghost states = { states_of };
 
     ghost faults = { faults_of };
 
-    ghost keeps = { λ _. Unit {0} };
+    ghost keeps = { KeepsSoFar };
 
     ghost reads_an_image = { λ disk _. subst (λ s. IsImage s s.seen) (sym disk.latest) disk.readable };
 
@@ -77,6 +87,7 @@ impl Disk for RamDisk {
         ensures succeeds { IsOk result }
         ensures value { IfOk result (λ n. n ≡ length (bytes_of (states_of self.old))) }
         ensures same { Stays (states_of self.old) (states_of self.new) }
+        ensures past { AddsMoment (states_of self.old) (states_of self.new) }
         ensures time { clock (states_of self.new) ≡ clock (states_of self.old) + 1 }
         ensures cause { IsCounted DiskFault.Length (faults_of self.old) (faults_of self.new) result }
     {
@@ -89,6 +100,7 @@ impl Disk for RamDisk {
         ensures succeeds { IsOk result }
         ensures value { out.new ≡ slice_range (bytes_of (states_of self.old)) at (at + length out.old) }
         ensures same { Stays (states_of self.old) (states_of self.new) }
+        ensures past { AddsMoment (states_of self.old) (states_of self.new) }
         ensures time { clock (states_of self.new) ≡ clock (states_of self.old) + 1 }
         ensures cause { IsCounted DiskFault.Read (faults_of self.old) (faults_of self.new) result }
     {
@@ -106,6 +118,7 @@ impl Disk for RamDisk {
             TearsWrite at (length bytes.now) (states_of self.old) (states_of self.new)) }
         ensures bytes_stay { OnErr result (
             bytes_of (states_of self.new) ≡ bytes_of (states_of self.old)) }
+        ensures past { AddsMoment (states_of self.old) (states_of self.new) }
         ensures time { clock (states_of self.new) ≡ clock (states_of self.old) + 1 }
         ensures cause { IsCounted DiskFault.Write (faults_of self.old) (faults_of self.new) result }
     {
@@ -124,6 +137,7 @@ impl Disk for RamDisk {
     fn sync(&mut self) -> Result<(), DiskFault>
         ensures succeeds { IsOk result }
         ensures done { Settles (states_of self.old) (states_of self.new) }
+        ensures past { AddsMoment (states_of self.old) (states_of self.new) }
         ensures time { clock (states_of self.new) ≡ clock (states_of self.old) + 1 }
         ensures cause { IsCounted DiskFault.Sync (faults_of self.old) (faults_of self.new) result }
     {

@@ -137,6 +137,29 @@ fn a_sync_settles_what_was_pending(rt: HostRuntime) -> Result<(), Fail> {
 }
 
 #[test]
+fn a_disk_counts_the_places_that_a_crash_may_leave_as_anything(
+    rt: HostRuntime,
+) -> Result<(), Fail> {
+    let mut disk = RamDisk::from_bytes(rt.alloc(), [1, 2, 3, 4].to_vec(rt.alloc())?);
+    assert_eq!(rt; disk.pending(), 0);
+    disk.write_at(1, &[8, 9])?;
+    assert_eq!(rt; disk.pending(), 2);
+    disk.write_at(2, &[7, 7, 7, 7])?;
+    assert_eq!(rt; disk.pending(), 5);
+    disk.write_at(4, &[6])?;
+    assert_eq!(rt; disk.pending(), 5);
+    let all_new = Choice {
+        length: ImageLength::Greatest,
+        pending: PendingBytes::Front(disk.pending(), 5),
+    };
+    let image = disk.image(&all_new)?;
+    assert_eq!(rt; image.as_slice(), [1, 8, 7, 7, 6, 7].as_slice());
+    disk.sync()?;
+    assert_eq!(rt; disk.pending(), 0);
+    Ok(())
+}
+
+#[test]
 fn a_blown_fuse_lets_nothing_through(rt: HostRuntime) -> Result<(), Fail> {
     let mut disk = FuseDisk::new(written_disk(&rt)?, 1, Blow::Stop);
     assert_eq!(rt; disk.len()?, 6);

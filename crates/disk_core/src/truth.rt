@@ -16,6 +16,9 @@ impl Model for Truth {
     ghost also_owns = { λ _. ftrue };
 }
 
+// It owns nothing.
+unsafe impl Send for Truth {}
+
 impl Truth {
     /// Whatever it is.
     pub(crate) fn any() -> Truth

@@ -1,11 +1,10 @@
 -- The changes of frames: one frame more, those that no fold covers, and where their records stand.
-use Rattle.std.proofs.Common.{◌≡◌, ℕ, zero, suc, ◌+◌, ◌-◌, ◌*◌, ◌≤◌, ◌<◌, true, false, cond, List, [], ◌∷◌, ◌++◌, length, map, take, drop, get_or, Option, Some, None, refl, sym, ap, subst, ◌∙◌, append_assoc, arith, inl, inr}
-use Rattle.std.specs.Prelude.{nat_le, slice_get}
+use Rattle.std.proofs.Common.{◌≡◌, ℕ, zero, suc, ◌+◌, ◌-◌, ◌*◌, ◌<◌, cond, List, [], ◌∷◌, ◌++◌, length, map, take, drop, get_or, Option, None, refl, sym, ap, subst, ◌∙◌, append_assoc, arith, inl, inr}
 use Rattle.std.specs.List.{flat_map, AllByRecursion}
 use Rattle.std.specs.Int.{w32, w64, to_le_bytes}
 use Rattle.std.specs.Option.{option_or}
 use Rattle.std.proofs.lemmas.Bool.{cases_lt, le-leb, lt-leb}
-use Rattle.std.proofs.lemmas.List.{append-nil, length-append, take_at, drop_at, take_more, drop-drop}
+use Rattle.std.proofs.lemmas.List.{append-nil, length-append, take_at, drop_at, take_more}
 use Rattle.record_core.specs.Bytes.{Encoding}
 use Rattle.segment_core.specs.declared.format.Format.{Format}
 use Rattle.segment_core.specs.declared.format.Format.TheVariants.{One, Two}
@@ -16,7 +15,7 @@ use Rattle.segment_core.specs.Frame.{Run, Frame, Group, Change, Shrink, Fold, ki
 use Rattle.segment_core.specs.Tally.{nothing, after, tally_from, tally_of}
 use Rattle.segment_core.specs.Vector.{place_in_runs, last_from, change_in, change_of}
 use Rattle.segment_core.specs.Reading.{Seen, runs_of, record_bytes_of, head_len}
-use Rattle.segment_core.specs.Found.{StandsAt, first_record_of, IsLaid, changes_in, changes_from, changes_of, live_among, pairs_of}
+use Rattle.segment_core.specs.Found.{StandsAt, first_record_of, IsLaid, changes_in, changes_from, changes_of, live_among}
 use Rattle.segment_core.proofs.RunRows.{length-runs_text}
 use Rattle.segment_core.proofs.LastFrom.{option_or_assoc, option_or_none, gate_is}
 use Rattle.segment_core.proofs.FoundLaid.{laid_as, laid_then}

@@ -1,5 +1,5 @@
 -- The live changes laid over: the vector that the frames say, or its first bad record.
-use Rattle.std.proofs.Common.{◌≡◌, ℕ, ◌+◌, ◌≤◌, ◌<◌, List, [], ◌∷◌, ◌++◌, length, take, drop, Option, Some, None, refl, sym, ap, subst, ◌∙◌, arith}
+use Rattle.std.proofs.Common.{◌≡◌, ℕ, ◌<◌, List, [], ◌++◌, length, take, drop, Option, Some, None, refl, sym, ap, subst, ◌∙◌, arith}
 use Rattle.std.specs.Prelude.{slice_get, MatchOption, IsSome}
 use Rattle.std.specs.List.{AllByRecursion}
 use Rattle.std.specs.Option.{option_or, option_and_then}
@@ -13,8 +13,8 @@ use Rattle.segment_core.specs.declared.notes.Notes.{Notes}
 use Rattle.segment_core.specs.Shape.{shape_of}
 use Rattle.segment_core.specs.Frame.{Frame, text}
 use Rattle.segment_core.specs.Tally.{tally_of}
-use Rattle.segment_core.specs.Vector.{record_in, record_at, place_of, home_of, change_of, IsVectorOf}
-use Rattle.segment_core.specs.Fault.{IsFirstBad, IsBadRecord}
+use Rattle.segment_core.specs.Vector.{record_in, place_of, home_of, IsVectorOf}
+use Rattle.segment_core.specs.Fault.{IsBadRecord}
 use Rattle.segment_core.specs.Reading.{Seen}
 use Rattle.segment_core.specs.Notes.{noted}
 use Rattle.segment_core.specs.Found.{IsDecoded, IsLaidAt, AreLaid, live_among, live_of, changes_of, IsInside, HasHome, IsFound, IsLeastNoted}

@@ -1,10 +1,10 @@
 -- One frame more, of each kind: what was found is then what the frames say.
 use Rattle.std.proofs.Common.{◌≡◌, ℕ, zero, suc, ◌+◌, ◌-◌, ◌*◌, ◌^◌, ◌≤◌, ◌<◌, Bool, true, false, ◌||◌, not, List, [], ◌∷◌, ◌++◌, length, take, drop, Option, Some, None, refl, sym, ap, subst, ◌∙◌, arith, inl, inr}
 use Rattle.std.specs.Prelude.{nat_lt, slice_get, MatchOption}
-use Rattle.std.specs.List.{AllByRecursion, list_all}
+use Rattle.std.specs.List.{AllByRecursion}
 use Rattle.std.specs.Option.{option_or}
 use Rattle.std.proofs.lemmas.Bool.{cases_lt, ltb-false, leb-true, le-leb, and_parts}
-use Rattle.std.proofs.lemmas.List.{append-nil, length-append, length_push, length-take-le, drop_all, drop-drop, flat_map_more}
+use Rattle.std.proofs.lemmas.List.{append-nil, length-append, length-take-le, drop_all, drop-drop}
 use Rattle.std.proofs.lemmas.Nat.{mul-le}
 use Rattle.record_core.specs.Bytes.{Encoding}
 use Rattle.segment_core.specs.declared.format.Format.{Format}
@@ -13,10 +13,10 @@ use Rattle.segment_core.specs.declared.found.Found.{Found}
 use Rattle.segment_core.specs.declared.found.Home.{Home}
 use Rattle.segment_core.specs.declared.tally.Tally.{Tally}
 use Rattle.segment_core.specs.Shape.{shape_of}
-use Rattle.segment_core.specs.Frame.{Run, Frame, Group, Change, Shrink, Fold, kind_of, header, frame_text, text}
+use Rattle.segment_core.specs.Frame.{Run, Frame, Group, Change, Shrink, Fold, kind_of, frame_text, text}
 use Rattle.segment_core.specs.Layout.{HasLayout}
 use Rattle.segment_core.specs.Tally.{nothing, after, tally_of, are_inside, is_outside, is_unfolded, is_miscounted, is_too_long}
-use Rattle.segment_core.specs.Vector.{place_among, record_in, home_in, home_of}
+use Rattle.segment_core.specs.Vector.{place_among, home_in, home_of}
 use Rattle.segment_core.specs.Reading.{Seen, runs_of, record_bytes_of, record_count, head_len}
 use Rattle.segment_core.specs.Notes.{noted}
 use Rattle.segment_core.specs.Found.{StandsAt, first_record_of, IsLaidAt, home_among, AreInTurn, AreHomes, changes_in, changes_of, live_of, IsInside, HasHome, IsFound, Follows, IsGrown, IsSame, IsCut}

@@ -1,6 +1,6 @@
 -- What the frames so far say of the vector: the records in the home bytes, where these stand, and the changes
 -- that no fold covers.
-use Rattle.std.specs.Prelude.{◌≡◌, ◌≤◌, ◌<◌, ◌^◌, ℕ, ◌+◌, ◌*◌, true, List, [], ◌∷◌, ◌++◌, length, map, take, drop, slice_get, Option, Some, None, MatchOption, ◌⊎◌}
+use Rattle.std.specs.Prelude.{◌≡◌, ◌≤◌, ◌<◌, ◌^◌, ℕ, ◌+◌, true, List, [], ◌∷◌, ◌++◌, length, map, take, drop, slice_get, Option, Some, None, MatchOption, ◌⊎◌}
 use Rattle.std.specs.List.{flat_map, AllByRecursion}
 use Rattle.std.specs.Option.{option_or}
 use Rattle.record_core.specs.Bytes.{Encoding}
@@ -13,7 +13,7 @@ use Rattle.segment_core.specs.declared.found.Home.{Home}
 use Rattle.segment_core.specs.declared.found.Homes.{Homes}
 use Rattle.segment_core.specs.declared.notes.Notes.{Notes}
 use Rattle.segment_core.specs.Shape.{shape_of}
-use Rattle.segment_core.specs.Frame.{Run, Frame, Group, Change, Shrink, Fold, header, frame_text, text}
+use Rattle.segment_core.specs.Frame.{Frame, Group, Change, Shrink, Fold, header, frame_text, text}
 use Rattle.segment_core.specs.Layout.{IsFrame}
 use Rattle.segment_core.specs.Tally.{tally_of, are_inside, MayFollow}
 use Rattle.segment_core.specs.Vector.{place_among, place_in_runs, record_in, home_of}

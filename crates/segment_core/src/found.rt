@@ -1,16 +1,15 @@
 //! What the frames so far say of the vector. Records are decoded as their home bytes come by, and live changes
 //! are laid over them at the end.
 
-ghost use Rattle.std.specs.Prelude.{◌≡◌, ◌≢◌, ◌≤◌, ◌<◌, ◌+◌, ◌*◌, ◌-◌, ◌^◌, ◌++◌, ◌∷◌, ◌⊎◌, [], ℕ, List, Some, None, Err, length, take, drop, OnOk, IfOk, IfErr, MatchResult, vec_len, vec_capacity};
+ghost use Rattle.std.specs.Prelude.{◌≡◌, ◌≢◌, ◌≤◌, ◌<◌, ◌+◌, ◌*◌, ◌-◌, ◌^◌, ◌++◌, ◌∷◌, ◌⊎◌, [], ℕ, List, Some, None, length, drop, OnOk, IfOk, MatchResult, vec_len, vec_capacity};
 ghost use Rattle.std.specs.List.{flat_map, AllByRecursion};
 ghost use Rattle.segment_core.specs.declared.format.Format.{Format};
 ghost use Rattle.segment_core.specs.Shape.{shape_of};
-ghost use Rattle.segment_core.specs.Frame.{Frame, Group, Change, kind_of};
-ghost use Rattle.segment_core.specs.Tally.{are_inside};
+ghost use Rattle.segment_core.specs.Frame.{Frame};
 ghost use Rattle.segment_core.specs.Vector.{place_among, place_in_runs, IsVectorOf};
 ghost use Rattle.segment_core.specs.Reading.{runs_of, record_bytes_of, record_count};
 ghost use Rattle.segment_core.specs.Notes.{noted};
-ghost use Rattle.segment_core.specs.Found.{StandsAt, first_record_of, IsDecoded, IsLaid, home_among, AreInTurn, AreHomes, AreHomesOf, IsInside, IsFound, Follows, AreLaid, IsGrown, IsSame, IsCut, BeginsWithText, IsNoVector, IsLeastNoted, pairs_of};
+ghost use Rattle.segment_core.specs.Found.{StandsAt, first_record_of, IsDecoded, IsLaid, home_among, AreInTurn, AreHomesOf, IsInside, IsFound, Follows, AreLaid, IsGrown, IsSame, IsCut, BeginsWithText, IsNoVector, IsLeastNoted, pairs_of};
 
 use crate::fault::{Cause, ScanFault};
 use crate::format::FrameKind;

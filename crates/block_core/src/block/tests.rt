@@ -1,20 +1,9 @@
 ghost use Rattle.std.specs.Prelude.{◌≡◌, ◌+◌, ◌*◌, ◌%◌, ◌^◌, ◌<◌, length, slice_set};
 
 use super::*;
+use crate::squares::Squares;
 use record_core::{Flagged, Pair};
-use std::sync::atomic::{AtomicU64, Ordering};
 use std::test::Fail;
-
-/// The square of the place, whatever stood there.
-struct Squares;
-
-impl Touch<u64> for Squares {
-    ghost one = { λ _ at _. at * at };
-
-    fn one(&self, at: u64, _r: u64) -> u64 {
-        at * at
-    }
-}
 
 /// Three times the record and its place, which wrap.
 struct Tripled;
@@ -24,25 +13,6 @@ impl Touch<u64> for Tripled {
 
     fn one(&self, at: u64, r: u64) -> u64 {
         r.wrapping_mul(3).wrapping_add(at)
-    }
-}
-
-/// Squares that count how often they touch.
-#[derive(Drop)]
-struct Counted {
-    touches: AtomicU64,
-}
-
-impl Touch<u64> for Counted {
-    ghost one = { λ _ at _. at * at };
-
-    fn one(&self, at: u64, _r: u64) -> u64 {
-        at * at
-    }
-
-    fn touch(&self, at: u64, part: &mut [u64]) {
-        self.touches.fetch_add(1, Ordering::SeqCst);
-        Squares.touch(at, part);
     }
 }
 
@@ -194,33 +164,6 @@ fn many_records_are_filled_alike_however_they_are_cut(rt: HostRuntime) -> Result
     assert!(rt; fills_many(&rt, 65_536)?);
     assert!(rt; fills_many(&rt, 100_000)?);
     assert!(rt; fills_many(&rt, 1_000_000)?);
-    Ok(())
-}
-
-/// How many parts so many records are touched in.
-fn touches_of<E: Threads + AllocGlobal + Sync>(
-    rt: &E,
-    n: u64,
-    part: usize,
-) -> Result<u64, FreshFault>
-    requires { 0 < part }
-{
-    let counted = Counted {
-        touches: AtomicU64::new(0),
-    };
-    let mut fresh = Fresh::<u64>::new(rt.alloc(), n)?;
-    fresh.fill(rt, part, &counted);
-    Ok(counted.touches.load(Ordering::SeqCst))
-}
-
-#[test]
-fn a_block_is_touched_in_the_parts_that_were_asked_for(rt: HostRuntime) -> Result<(), Fail> {
-    assert_eq!(rt; touches_of(&rt, 10, 1)?, 10);
-    assert_eq!(rt; touches_of(&rt, 10, 3)?, 4);
-    assert_eq!(rt; touches_of(&rt, 10, 10)?, 1);
-    assert_eq!(rt; touches_of(&rt, 10, 11)?, 1);
-    assert_eq!(rt; touches_of(&rt, 100_000, 1000)?, 100);
-    assert_eq!(rt; touches_of(&rt, 100_000, 65_536)?, 2);
     Ok(())
 }
 

@@ -41,7 +41,7 @@ use denote.Triple.Table.{framed}
 use denote.Triple.Walked.{Stays, walk_of, stay_dropped, Goes-dropped, Goes-spent_ref}
 use Rattle.std.specs.List.{SameBelow, TailFrom}
 use denote.Struct.Tuple.{Tuple, tuple_type}
-use Rattle.block_core.specs.Lent.{left_in}
+use Rattle.block_core.specs.Left.{left_in}
 use Rattle.block_core.specs.contracts.block.Fresh.{the_row}
 use Rattle.block_core.specs.contracts.block.Fresh.split_mut.{ended, clauses}
 use Rattle.block_core.specs.contracts.block.Fresh.split_mut.Key.{name as #self}
@@ -88,7 +88,7 @@ split_mut_spec 𝓤 𝓛 𝓜 𝓡 wired X L C gR dR gC dC gE dE gP dP mR mC mE 
     nothing ! $ use0 𝓛 (raw (fact 𝓤 (IsSync R))) (fact_i 𝓤 (IsSync R) (emp 𝓤) syncs) $ join ! $ use0 𝓛 (raw (fact 𝓤 (IsSend R))) (fact_i 𝓤 (IsSend R) (emp 𝓤) sends) $ join ! $ use0 𝓛 (raw (fact 𝓤 Lives)) (fact_i 𝓤 Lives (emp 𝓤) lives) $ join ! $
     nothing ! $ move ! (2 ∷ 0 ∷ []) $ fjoin ! $ move ! (2 ∷ 3 ∷ []) $ join ! $ join ! $ join ! $ use1 𝓛 (raw (G.pre z)) (id⊢ 𝓤 _) $
     calls_at ! (framed 𝓤 𝓛.H 𝓜 𝓣) G (lent_met.met 𝓤 𝓛 𝓜 𝓡 (code.calls-block_core::block::Fresh::records_mut 𝓡.env wired) Y LY CY gR dR gC dC gE dE gP dP
-    (λ 𝓛' 𝓜' 𝓡' like. let at_fork = (onward₂ 𝓛 𝓜 𝓡 𝓛' 𝓜' 𝓡' like mR 𝓛' 𝓜' (within_run 𝓤 𝓛'.H 𝓜' 𝓡' 𝓡.env) ((λ s x. x), (λ x. x), (λ x. x), λ x. x)) in record { width_in_range = at_fork.width_in_range; width_of_bytes = at_fork.width_of_bytes; writes_back = at_fork.writes_back; exact = at_fork.exact; WIDTH = at_fork.WIDTH; put = at_fork.put; take = at_fork.take; blank = at_fork.blank })
+    (λ 𝓛' 𝓜' 𝓡' like. let at_fork = (onward₂ 𝓛 𝓜 𝓡 𝓛' 𝓜' 𝓡' like mR 𝓛' 𝓜' (within_run 𝓤 𝓛'.H 𝓜' 𝓡' 𝓡.env) ((λ s x. x), (λ x. x), (λ x. x), λ x. x)) in record { width_is = at_fork.width_is; width_in_range = at_fork.width_in_range; width_of_bytes = at_fork.width_of_bytes; writes_back = at_fork.writes_back; exact = at_fork.exact; WIDTH = at_fork.WIDTH; put = at_fork.put; take = at_fork.take; blank = at_fork.blank })
     (λ 𝓛' 𝓜' 𝓡' like. let at_fork = (onward₂ 𝓛 𝓜 𝓡 𝓛' 𝓜' 𝓡' like mC 𝓛' 𝓜' (within_run 𝓤 𝓛'.H 𝓜' 𝓡' 𝓡.env) ((λ s x. x), (λ x. x), (λ x. x), λ x. x)) in record { clone = at_fork.clone })
     (λ 𝓛' 𝓜' 𝓡' like. let at_fork = (onward₂ 𝓛 𝓜 𝓡 𝓛' 𝓜' 𝓡' like mE 𝓛' 𝓜' (within_run 𝓤 𝓛'.H 𝓜' 𝓡' 𝓡.env) ((λ s x. x), (λ x. x), (λ x. x), λ x. x)) in record { laws = at_fork.laws })
     (λ 𝓛' 𝓜' 𝓡' like. let at_fork = (onward₂ 𝓛 𝓜 𝓡 𝓛' 𝓜' 𝓡' like mP 𝓛' 𝓜' (within_run 𝓤 𝓛'.H 𝓜' 𝓡' 𝓡.env) ((λ s x. x), (λ x. x), (λ x. x), λ x. x)) in record { laws = at_fork.laws; eq = at_fork.eq })) z (and_then ! (get ! refl) (no_more !)) (λ v.

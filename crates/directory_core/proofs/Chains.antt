@@ -1,0 +1,37 @@
+-- Growths one after another.
+use Rattle.std.proofs.Common.{◌≡◌, ℕ, zero, suc, ◌+◌, ◌<◌, ◌≤◌, ◌⊎◌, List, [], ◌∷◌, ◌++◌, length, get_or, take, slice_get, Some, refl, ap, sym, subst, ◌∙◌, arith, inl, inr, le_of_lt}
+use Rattle.std.proofs.lemmas.List.{length-take-le, take-append-le, take_at}
+use Rattle.std.proofs.lemmas.List.Concat.{length-flat_map}
+use Rattle.std.proofs.lemmas.List.Sums.{sum_by_more, sum_by_more_le}
+use Rattle.std.proofs.lemmas.Option.{slice_get_within, get_or_from_slice_get}
+use Rattle.block_core.specs.Growth.{Growth}
+use Rattle.directory_core.specs.Chain.{total, joined, IsNext, IsChained}
+
+pub length-joined : {R : Type 0} (es : List (Growth R)) → length (joined es) ≡ total es
+length-joined es = length-flat_map (λ (e : Growth _). e.records) es
+
+-- what stands in a list that grew by one
+push_get : {X : Type 0} (xs : List X) (x : X) (g : ℕ) (y : X) → slice_get (xs ++ x ∷ []) g ≡ Some y → (slice_get xs g ≡ Some y) ⊎ ((g ≡ length xs) × (x ≡ y))
+push_get [] x zero y is = inr (refl, grind arith)
+push_get [] x (suc g) y is = grind arith
+push_get (z ∷ xs) x zero y is = inl is
+push_get (z ∷ xs) x (suc g) y is = elim (push_get xs x g y is) [ inl before ↦ inl before | inr last ↦ let at = last.0 in inr (omega arith, last.1) ]
+
+pub chained_push : {R : Type 0} (es : List (Growth R)) (e : Growth R) → IsChained es → IsNext es e → IsChained (es ++ e ∷ [])
+chained_push es e chained next g f is =
+    elim (push_get es e g f is) [
+      | inl before ↦ rw (take-append-le g es (e ∷ []) (le_of_lt (slice_get_within es g f before))) (chained g f before)
+      | inr last ↦ rw (take_at es (e ∷ []) g (sym last.0), ← last.1) next
+    ]
+
+-- what stands at a place of the chain
+pub chained_at : {R : Type 0} (es : List (Growth R)) (g : ℕ) (e : Growth R) → IsChained es → slice_get es g ≡ Some e → (e.number ≡ g) × (e.start ≡ total (take g es)) × (total (take (g + 1) es) ≡ total (take g es) + length e.records) × (total (take g es) + length e.records ≤ total es)
+chained_at es g e chained is =
+    let inside : g < length es = slice_get_within es g e is in
+    let here : get_or es g e ≡ e = get_or_from_slice_get es g e e is in
+    let next = chained g e is in (
+      next.number ∙ length-take-le g es (le_of_lt inside),
+      next.start,
+      sum_by_more (λ (f : Growth _). length f.records) es g e inside ∙ ap (λ (f : Growth _). total (take g es) + length f.records) here,
+      subst (λ (f : Growth _). total (take g es) + length f.records ≤ total es) here (sum_by_more_le (λ (f : Growth _). length f.records) es g e inside),
+    )

@@ -1,0 +1,6 @@
+pub mod Chains
+pub mod Lists
+pub mod NoteRows
+pub mod Readings
+pub mod Somes
+pub mod Spots

@@ -1,0 +1,273 @@
+//! The growths that all threads share.
+
+ghost use Rattle.std.specs.Prelude.{◌≡◌, ◌+◌, ◌<◌, ◌≤◌, ◌∷◌, [], ◌++◌, if◌then◌else◌, length, slice_get, Some, MatchOption, MatchResult, IfOk, IfErr, IfSome};
+ghost use Rattle.directory_core.specs.Limits.{growth_limit, record_limit};
+ghost use Rattle.directory_core.specs.Chain.{total, joined, IsNext, Begins};
+ghost use Rattle.directory_core.specs.Fault.{IsRefusal};
+ghost use Rattle.directory_core.specs.Finding.{IsPieceAt, IsRestAt};
+
+use crate::address::{BUCKETS, bucket_len, spot};
+use crate::bucket::Bucket;
+use crate::fault::DirFault;
+use crate::pass::Pass;
+use block_core::Entry;
+use once_cell::race::OnceBox;
+use record_core::Record;
+use std::alloc::Global;
+use std::marker::Model;
+
+/// The records of one directory at most.
+pub const RECORD_LIMIT: u64 = 4_294_967_296;
+
+/// The growths that many threads publish and find, each in a cell that is set once. The cells stand in buckets of
+/// 8, 16, 32, .. places; a bucket is made when its first growth is published, and set once too. Contracts see which
+/// directory it is, and its bounds.
+#[derive(Drop)]
+pub struct Directory<R: Record> {
+    buckets: Vec<OnceBox<Bucket<R>>>,
+    room: u64,
+    limit: u64,
+    alloc: Global,
+}
+
+impl<R: Record> Model for Directory<R> {
+    ghost use Rattle.std.specs.Prelude.{◌≤◌, ◌≡◌, length, map};
+    ghost use Rattle.once_cell.specs.Once.{cell_name};
+    ghost use Rattle.directory_core.specs.Identity.{Identity};
+    ghost use Rattle.directory_core.specs.Limits.{growth_limit, record_limit};
+
+    ghost Value = { Identity };
+
+    ghost view = { λ directory. record {
+      name = record { buckets = map cell_name directory.buckets.items };
+      room = directory.room;
+      limit = directory.limit;
+    } };
+
+    ghost invariant = { λ directory.
+        (length directory.buckets.items ≡ 17)
+        × (directory.room ≤ growth_limit)
+        × (directory.limit ≤ record_limit) };
+}
+
+impl<R: Record> Directory<R> {
+    /// An empty directory with room for so many growths, of 2^32 records together at most.
+    pub fn new(alloc: Global, room: u64) -> Result<Directory<R>, DirFault>
+        requires { room ≤ growth_limit }
+        ensures { MatchResult result
+            (λ directory. (directory.room ≡ room) × (directory.limit ≡ record_limit))
+            (λ fault. fault ≡ DirFault.Memory) }
+    {
+        Directory::with_limit(alloc, room, RECORD_LIMIT)
+    }
+
+    /// An empty directory with room for so many growths, of so many records together at most.
+    pub fn with_limit(alloc: Global, room: u64, limit: u64) -> Result<Directory<R>, DirFault>
+        requires { (room ≤ growth_limit) × (limit ≤ record_limit) }
+        ensures { MatchResult result
+            (λ directory. (directory.room ≡ room) × (directory.limit ≡ limit))
+            (λ fault. fault ≡ DirFault.Memory) }
+    {
+        let Ok(mut buckets) = Vec::with_capacity(alloc, BUCKETS) else {
+            return Err(DirFault::Memory);
+        };
+        for _ in 0..BUCKETS {
+            buckets.push_reserved(OnceBox::new(alloc));
+        }
+        Ok(Directory {
+            buckets,
+            room,
+            limit,
+            alloc,
+        })
+    }
+
+    /// A pass that knows nothing. Its memory for all growths that the directory has room for is taken here: 4 bytes
+    /// each, which are touched only as far as it knows growths.
+    pub fn pass(&self) -> Result<Pass<R>, DirFault>
+        ensures { MatchResult result
+            (λ pass. (pass.of ≡ self.now) × (pass.entries ≡ []))
+            (λ fault. fault ≡ DirFault.Memory) }
+    {
+        let Ok(mut buckets) = Vec::with_capacity(self.alloc, BUCKETS) else {
+            return Err(DirFault::Memory);
+        };
+        for bucket in &self.buckets {
+            buckets.push_reserved(bucket.note());
+        }
+        let Ok(notes) = Vec::with_capacity(self.alloc, self.room as usize) else {
+            return Err(DirFault::Memory);
+        };
+        let Ok(starts) = Vec::with_capacity(self.alloc, self.room as usize) else {
+            return Err(DirFault::Memory);
+        };
+        Ok(Pass::of(buckets, notes, starts, self.room, self.limit))
+    }
+
+    /// Publishes the growth behind those that the pass knows, which then knows it too. Where it is refused, the
+    /// growth comes back, the pass knows what it knew, and the next growth takes the same number. It is refused, in
+    /// this order,
+    /// - `Full` where the pass knows as many growths as the directory has room for;
+    /// - `Strayed` of its number where it would pass the limit of the directory's records;
+    /// - `Taken` where another growth has the number;
+    /// - `Memory` where it is the first of a bucket, and none was left to make that.
+    pub fn publish(
+        &self,
+        pass: &mut Pass<R>,
+        entry: Box<Entry<R>>,
+    ) -> Result<(), (Box<Entry<R>>, DirFault)>
+        requires of { pass.old.of ≡ self.now }
+        requires next { IsNext pass.old.entries entry.value }
+        ensures of { pass.new.of ≡ self.now }
+        ensures list { MatchResult result
+            (λ _. pass.new.entries ≡ pass.old.entries ++ entry.value ∷ [])
+            (λ refused. (refused.0.value ≡ entry.value) × (pass.new.entries ≡ pass.old.entries)) }
+        ensures fault { IfErr result (λ refused.
+            IsRefusal self.now pass.old.entries entry.value refused.1) }
+    {
+        let number = pass.known();
+        if number >= self.room {
+            return Err((entry, DirFault::Full));
+        }
+        let len = entry.records().len() as u64;
+        if len > self.limit - pass.size() {
+            return Err((entry, DirFault::Strayed(number)));
+        }
+        let (at, place) = spot(number);
+        let alloc = self.alloc;
+        let places = bucket_len(at);
+        let mut bucket_note = pass.bucket_note(at);
+        let made = self.buckets[at].get_or_try_init_as(
+            move || Bucket::boxed(alloc, places),
+            &mut bucket_note,
+        );
+        let Ok(bucket) = made else {
+            return Err((entry, DirFault::Memory));
+        };
+        let Some(cell) = bucket.cell(place) else {
+            return Err((entry, DirFault::Strayed(number)));
+        };
+        let mut note = cell.note();
+        match cell.set_as(entry, &mut note) {
+            Ok(()) => {
+                pass.add(at, place, bucket_note, note, len);
+                Ok(())
+            }
+            Err(entry) => Err((entry, DirFault::Taken)),
+        }
+    }
+
+    /// Takes in the next growth, if it is there.
+    fn learn(&self, pass: &mut Pass<R>) -> Result<bool, DirFault>
+        requires of { pass.old.of ≡ self.now }
+        ensures of { pass.new.of ≡ self.now }
+        ensures longer { Begins pass.old.entries pass.new.entries }
+        ensures more { IfOk result (λ found.
+            length pass.new.entries ≡ length pass.old.entries + (if found then 1 else 0)) }
+        ensures fault { IfErr result (λ fault. fault ≡ DirFault.Strayed (length pass.new.entries)) }
+    {
+        let number = pass.known();
+        if number >= self.room {
+            return Ok(false);
+        }
+        let (at, place) = spot(number);
+        let mut bucket_note = pass.bucket_note(at);
+        let Some(bucket) = self.buckets[at].get_as(&mut bucket_note) else {
+            return Ok(false);
+        };
+        let Some(cell) = bucket.cell(place) else {
+            return Err(DirFault::Strayed(number));
+        };
+        let mut note = cell.note();
+        let Some(entry) = cell.get_as(&mut note) else {
+            return Ok(false);
+        };
+        let len = entry.records().len() as u64;
+        if entry.number() != number
+            || entry.start() != pass.size()
+            || len > self.limit - pass.size()
+        {
+            return Err(DirFault::Strayed(number));
+        }
+        pass.add(at, place, bucket_note, note, len);
+        Ok(true)
+    }
+
+    /// Takes in the growths that are there, one after another up to the first number that no growth has, and
+    /// answers how many the pass then knows. `Strayed` names the first number whose growth doesn't follow those
+    /// before it, which the pass then knows.
+    pub fn look(&self, pass: &mut Pass<R>) -> Result<u64, DirFault>
+        requires of { pass.old.of ≡ self.now }
+        ensures of { pass.new.of ≡ self.now }
+        ensures longer { Begins pass.old.entries pass.new.entries }
+        ensures count { MatchResult result
+            (λ known. known ≡ length pass.new.entries)
+            (λ fault. fault ≡ DirFault.Strayed (length pass.new.entries)) }
+    {
+        for _ in 0..self.room {
+            if !self.learn(pass)? {
+                break;
+            }
+        }
+        Ok(pass.known())
+    }
+
+    /// The growth of that number, lent for the life of the directory. `None` where the pass doesn't know it.
+    pub fn entry<'a>(&'a self, pass: &mut Pass<R>, number: u64) -> Option<&'a Entry<R>>
+        requires of { pass.old.of ≡ self.now }
+        ensures same { pass.new ≡ pass.old }
+        ensures value { MatchOption result
+            (length pass.old.entries ≤ number)
+            (λ entry. slice_get pass.old.entries number ≡ Some entry.now) }
+    {
+        if number >= pass.known() {
+            return None;
+        }
+        let (at, place) = spot(number);
+        let mut note = pass.note(number as usize);
+        let mut bucket_note = pass.bucket_note(at);
+        let Some(bucket) = self.buckets[at].get_as(&mut bucket_note) else {
+            unreachable!()
+        };
+        let Some(cell) = bucket.cell(place) else {
+            unreachable!()
+        };
+        cell.get_as(&mut note)
+    }
+
+    /// The records from position `i` to the end of the growth that has it, lent for the life of the directory.
+    /// `None` where the pass knows no such position.
+    pub fn piece<'a>(&'a self, pass: &mut Pass<R>, i: u64) -> Option<&'a [R]>
+        requires of { pass.old.of ≡ self.now }
+        ensures same { pass.new ≡ pass.old }
+        ensures value { MatchOption result
+            (total pass.old.entries ≤ i)
+            (λ piece. IsRestAt pass.old.entries i piece.now) }
+        ensures in_order { IfSome result (λ piece. IsPieceAt (joined pass.old.entries) i piece.now) }
+    {
+        let Some((number, place)) = pass.find(i) else {
+            return None;
+        };
+        let Some(entry) = self.entry(pass, number) else {
+            unreachable!()
+        };
+        Some(&entry.records()[place..])
+    }
+
+    /// The record at position `i`, lent for the life of the directory. `None` where the pass knows no such position.
+    pub fn get<'a>(&'a self, pass: &mut Pass<R>, i: u64) -> Option<&'a R>
+        requires of { pass.old.of ≡ self.now }
+        ensures same { pass.new ≡ pass.old }
+        ensures value { MatchOption result
+            (total pass.old.entries ≤ i)
+            (λ found. slice_get (joined pass.old.entries) i ≡ Some found.now) }
+    {
+        match self.piece(pass, i) {
+            Some(piece) => Some(&piece[0]),
+            None => None,
+        }
+    }
+}
+
+#[cfg(test)]
+mod tests;

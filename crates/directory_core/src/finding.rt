@@ -1,0 +1,54 @@
+//! A row of starts is searched for the last one at or before a position.
+
+ghost use Rattle.std.specs.Prelude.{◌≡◌, ◌+◌, ◌<◌, ◌≤◌, length, slice_index};
+ghost use Rattle.directory_core.specs.Limits.{growth_limit, record_limit};
+ghost use Rattle.directory_core.specs.Finding.{IsBetween};
+
+/// How far round the guess it is looked first.
+const NEAR: usize = 8;
+
+/// Where position `i` would stand if all growths had one length.
+pub(crate) fn guess_of(i: u64, size: u64, known: usize) -> usize
+    requires inside { (i < size) × (size ≤ record_limit) }
+    requires known { (0 < known) × (known ≤ growth_limit) }
+    ensures { result < known }
+{
+    (i * known as u64 / size) as usize
+}
+
+/// Two places near the guess between which the last start at or before `i` stands; where it isn't near, the guess
+/// and one end.
+pub(crate) fn narrow(starts: &[u32], i: u64, guess: usize) -> (usize, usize)
+    requires guess { (guess < length starts.now) × (length starts.now ≤ growth_limit) }
+    requires first { slice_index starts.now 0 ≤ i }
+    ensures { IsBetween starts.now i result.0 result.1 }
+{
+    if starts[guess] as u64 <= i {
+        if guess + NEAR < starts.len() && i < starts[guess + NEAR] as u64 {
+            return (guess, guess + NEAR);
+        }
+        return (guess, starts.len());
+    }
+    if guess >= NEAR && starts[guess - NEAR] as u64 <= i {
+        return (guess - NEAR, guess);
+    }
+    (0, guess)
+}
+
+/// The place of the last start at or before `i`.
+pub(crate) fn search(starts: &[u32], i: u64, low: usize, high: usize) -> usize
+    requires { IsBetween starts.now i low high }
+    ensures { IsBetween starts.now i result (result + 1) }
+{
+    let mut low = low;
+    let mut high = high;
+    while high - low > 1 {
+        let middle = low + (high - low) / 2;
+        if starts[middle] as u64 <= i {
+            low = middle;
+        } else {
+            high = middle;
+        }
+    }
+    low
+}

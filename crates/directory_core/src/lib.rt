@@ -1,0 +1,22 @@
+//! A directory of growths that is written once, cell by cell, and passes over it that agree.
+//!
+//! Many threads share a `Directory`. Each publishes growths in it and looks for those of others by a `Pass` of its
+//! own, which keeps the list of the growths that it knows. Nothing waits for anybody: a growth stands in a cell that
+//! is set once, so it never moves, and its records may be read beside growth. Two passes agree because a cell that
+//! is set once has one value.
+//!
+//! After the directory of "Lock-Free Dynamically Resizable Arrays" (Dechev, Pirkelbauer, Stroustrup, 2006), whose
+//! buckets double. Here the buckets hold growths and not single records.
+#![tactic(auto)]
+
+mod address;
+mod bucket;
+mod directory;
+mod fault;
+mod finding;
+mod pass;
+
+pub use address::{GROWTH_LIMIT, spot};
+pub use directory::{Directory, RECORD_LIMIT};
+pub use fault::DirFault;
+pub use pass::Pass;
