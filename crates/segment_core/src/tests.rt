@@ -1,9 +1,10 @@
 //! Worked files, byte by byte: what the calls answer.
 
-ghost use Rattle.std.specs.Prelude.{◌≡◌, ◌<◌, ◌≤◌, length};
+ghost use Rattle.std.specs.Prelude.{◌<◌};
 
 use super::*;
 use record_core::{Flagged, Pair, Record};
+use std::alloc::Global;
 use std::fmt::Debug;
 use std::process::Abort;
 use std::test::Fail;
@@ -58,7 +59,6 @@ fn stands_as<R: Record + Debug>(
     assert_eq!(rt; written.capacity(), file.len());
     let scanned = scan::<R>(rt.alloc(), &written)?;
     assert_eq!(rt; scanned.records.as_slice(), [record].as_slice());
-    assert_eq!(rt; scanned.records.capacity(), 1);
     assert_eq!(rt;
         (scanned.version, scanned.width as usize, scanned.frames),
         (1, R::WIDTH, 1)
@@ -115,28 +115,61 @@ fn fault_with(rt: &HostRuntime, at: usize, byte: u8) -> Option<ScanFault>
     scan::<u64>(rt.alloc(), &file).err()
 }
 
-/// The vector of 5 whose only record a change makes 7.
+/// One growth of 5, and a change of it to 7.
 const CHANGED: [u8; 56] = [
-    1, 0x43, 0x56, 0x45, 0x43, 0x53, 0x45, 0x47, 1, 8, 0, 1, 1, 0x10, 0, 0, 0, 1, 0, 0, 0, 1, 0, 0,
-    0, 5, 0, 0, 0, 0, 0, 0, 0, 1, 2, 0x10, 0, 0, 0, 0, 0, 0, 0, 0, 0, 0, 0, 7, 0, 0, 0, 0, 0, 0, 0,
-    0,
+    1, 67, 86, 69, 67, 83, 69, 71, 1, 8, 0, 1, 1, 16, 0, 0, 0, 1, 0, 0, 0, 1, 0, 0, 0, 5, 0, 0, 0,
+    0, 0, 0, 0, 1, 2, 16, 0, 0, 0, 0, 0, 0, 0, 0, 0, 0, 0, 7, 0, 0, 0, 0, 0, 0, 0, 0,
 ];
 
-/// What is answered of an image that is fed in pieces of this length.
-fn in_pieces<R: Record>(
-    rt: &(impl AllocGlobal + Abort),
-    image: &[u8],
-    piece: usize,
-) -> Result<Scanned<R>, ScanFault> {
-    let mut scanner = Scanner::new(rt.alloc());
-    for part in image.chunks(piece) {
-        scanner.feed(part)?;
-        scanner.feed(&[])?;
+/// The same, and a fold of the change: its home bytes say 5.
+const FOLDED: [u8; 70] = [
+    1, 67, 86, 69, 67, 83, 69, 71, 1, 8, 0, 1, 1, 16, 0, 0, 0, 1, 0, 0, 0, 1, 0, 0, 0, 5, 0, 0, 0,
+    0, 0, 0, 0, 1, 2, 16, 0, 0, 0, 0, 0, 0, 0, 0, 0, 0, 0, 7, 0, 0, 0, 0, 0, 0, 0, 1, 4, 8, 0, 0,
+    0, 1, 0, 0, 0, 0, 0, 0, 0, 0,
+];
+
+/// A growth of one flagged record whose bytes are none.
+const BAD: [u8; 35] = [
+    1, 67, 86, 69, 67, 83, 69, 71, 1, 9, 0, 1, 1, 17, 0, 0, 0, 1, 0, 0, 0, 1, 0, 0, 0, 5, 0, 0, 0,
+    0, 0, 0, 0, 2, 0,
+];
+
+/// The same under a live change to 7, flagged.
+const COVERED: [u8; 58] = [
+    1, 67, 86, 69, 67, 83, 69, 71, 1, 9, 0, 1, 1, 17, 0, 0, 0, 1, 0, 0, 0, 1, 0, 0, 0, 5, 0, 0, 0,
+    0, 0, 0, 0, 2, 1, 2, 17, 0, 0, 0, 0, 0, 0, 0, 0, 0, 0, 0, 7, 0, 0, 0, 0, 0, 0, 0, 1, 0,
+];
+
+/// A growth of 5 and 6, a change of the second, its fold, and a shrink to one record.
+const SHRUNK: [u8; 92] = [
+    1, 67, 86, 69, 67, 83, 69, 71, 1, 8, 0, 1, 1, 24, 0, 0, 0, 1, 0, 0, 0, 2, 0, 0, 0, 5, 0, 0, 0,
+    0, 0, 0, 0, 6, 0, 0, 0, 0, 0, 0, 0, 1, 2, 16, 0, 0, 0, 1, 0, 0, 0, 0, 0, 0, 0, 6, 0, 0, 0, 0,
+    0, 0, 0, 1, 4, 8, 0, 0, 0, 1, 0, 0, 0, 0, 0, 0, 0, 1, 3, 8, 0, 0, 0, 1, 0, 0, 0, 0, 0, 0, 0, 0,
+];
+
+/// Version 2: a growth of four times 5, and a change of two runs to 7, and to 8 and 9.
+const TWO_RUNS: [u8; 116] = [
+    1, 67, 86, 69, 67, 83, 69, 71, 2, 8, 0, 1, 1, 40, 0, 0, 0, 1, 0, 0, 0, 4, 0, 0, 0, 5, 0, 0, 0,
+    0, 0, 0, 0, 5, 0, 0, 0, 0, 0, 0, 0, 5, 0, 0, 0, 0, 0, 0, 0, 5, 0, 0, 0, 0, 0, 0, 0, 1, 2, 52,
+    0, 0, 0, 2, 0, 0, 0, 0, 0, 0, 0, 0, 0, 0, 0, 1, 0, 0, 0, 2, 0, 0, 0, 0, 0, 0, 0, 2, 0, 0, 0, 7,
+    0, 0, 0, 0, 0, 0, 0, 8, 0, 0, 0, 0, 0, 0, 0, 9, 0, 0, 0, 0, 0, 0, 0, 0,
+];
+
+/// What is answered of an image that is fed in pieces of this length, and now and then an empty one.
+fn in_pieces<R: Record>(alloc: Global, image: &[u8], piece: usize) -> Result<Scanned<R>, ScanFault>
+    requires { 0 < piece }
+{
+    let mut scanner = Scanner::new(alloc);
+    let mut used = 0;
+    while used < image.len() {
+        let n = piece.min(image.len() - used);
+        scanner.feed(&image[used..used + n])?;
+        used += n;
     }
     scanner.end()
 }
 
-/// The same answer comes of the whole image and of pieces of it, and it is this vector.
+/// The whole image and pieces of it give this vector.
 fn holds<R: Record + Debug>(
     rt: &(impl AllocGlobal + Abort),
     image: &[u8],
@@ -145,39 +178,93 @@ fn holds<R: Record + Debug>(
     let whole = scan::<R>(rt.alloc(), image)?;
     assert_eq!(rt; whole.records.as_slice(), records);
     for piece in [1, 2, 7, 4096] {
-        let scanned = in_pieces::<R>(rt, image, piece)?;
+        let scanned = in_pieces::<R>(rt.alloc(), image, piece)?;
         assert_eq!(rt; scanned.records.as_slice(), records);
         assert_eq!(rt;
-            (
-                scanned.frames,
-                scanned.changes,
-                scanned.folded,
-                scanned.gate
-            ),
-            (whole.frames, whole.changes, whole.folded, whole.gate)
+            (scanned.version, scanned.frames),
+            (whole.version, whole.frames)
         );
+        assert_eq!(rt;
+            (scanned.changes, scanned.folded),
+            (whole.changes, whole.folded)
+        );
+        assert_eq!(rt; scanned.gate, whole.gate);
     }
     Ok(())
 }
 
-/// The same fault.
+/// The whole image and pieces of it are refused for this.
 fn is_refused<R: Record + Debug>(rt: &(impl AllocGlobal + Abort), image: &[u8], fault: ScanFault) {
     assert_eq!(rt; scan::<R>(rt.alloc(), image).err(), Some(fault));
     for piece in [1, 2, 7, 4096] {
-        assert_eq!(rt; in_pieces::<R>(rt, image, piece).err(), Some(fault));
+        assert_eq!(rt; in_pieces::<R>(rt.alloc(), image, piece).err(), Some(fault));
     }
 }
 
 #[test]
-fn a_live_change_tells(rt: HostRuntime) -> Result<(), Fail> {
-    holds::<u64>(&rt, &CHANGED, &[7])?;
+fn worked_files_have_their_vectors(rt: HostRuntime) -> Result<(), Fail> {
     holds::<u64>(&rt, &FIVE, &[5])?;
-    holds::<u64>(&rt, &TWO_GROWTHS, &[1, 2, 3])
+    holds::<u64>(&rt, &TWO_GROWTHS, &[1, 2, 3])?;
+    holds::<u64>(&rt, &CHANGED, &[7])?;
+    holds::<u64>(&rt, &FOLDED, &[5])?;
+    holds::<u64>(&rt, &SHRUNK, &[5])?;
+    holds::<u64>(&rt, &TWO_RUNS, &[7, 5, 8, 9])?;
+    holds::<Flagged>(&rt, &COVERED, &[Flagged { key: 7, flag: true }])
+}
+
+/// A fault that was found at this place.
+fn damaged(at: u64, cause: Cause) -> ScanFault {
+    ScanFault::Damaged { at, cause }
+}
+
+#[test]
+fn a_bad_record_is_told_at_the_end(rt: HostRuntime) {
+    is_refused::<Flagged>(&rt, &BAD, damaged(25, Cause::BadRecord));
+}
+
+#[test]
+fn a_fold_counts_no_later_change(rt: HostRuntime) {
+    let mut file = FOLDED;
+    file[61] = 2;
+    is_refused::<u64>(&rt, &file, damaged(61, Cause::FoldCount));
+}
+
+#[test]
+fn every_front_of_a_file_is_refused(rt: HostRuntime) -> Result<(), Fail> {
+    for len in 0..56usize {
+        let fault = match len {
+            0 | 1 => ScanFault::Unborn,
+            2..=10 => ScanFault::NotSegment,
+            11 | 33 | 55 => damaged(len as u64, Cause::NoGate),
+            12..=32 => damaged(11, Cause::ShortFrame),
+            _ => damaged(33, Cause::ShortFrame),
+        };
+        is_refused::<u64>(&rt, &CHANGED[..len], fault);
+    }
+    holds::<u64>(&rt, &CHANGED, &[7])
+}
+
+#[test]
+fn runs_of_version_2(rt: HostRuntime) -> Result<(), Fail> {
+    let mut file = TWO_RUNS;
+    file[79] = 0;
+    is_refused::<u64>(&rt, &file, damaged(63, Cause::Runs));
+    file[79] = 3;
+    is_refused::<u64>(&rt, &file, damaged(63, Cause::Range));
+    file[79] = 1;
+    holds::<u64>(&rt, &file, &[7, 8, 9, 5])?;
+    file[79] = 2;
+    file[75] = 0;
+    is_refused::<u64>(&rt, &file, damaged(63, Cause::Layout));
+    file[75] = 1;
+    file[8] = 1;
+    is_refused::<u64>(&rt, &file, damaged(63, Cause::Layout));
+    Ok(())
 }
 
 #[test]
 fn first_faults(rt: HostRuntime) {
-    let damaged = |at, cause| Some(ScanFault::Damaged { at, cause });
+    let damaged = |at, cause| Some(damaged(at, cause));
     assert_eq!(rt; fault_with(&rt, 0, 0), Some(ScanFault::Unborn));
     assert_eq!(rt; fault_with(&rt, 3, 0), Some(ScanFault::NotSegment));
     assert_eq!(rt; fault_with(&rt, 8, 3), Some(ScanFault::Version(3)));
