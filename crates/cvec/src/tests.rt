@@ -1,6 +1,7 @@
 //! Worked inputs and outputs of the engines and of the program, and readers and writers that fail.
 
 mod record_types;
+mod worked_files;
 
 use crate::image::image;
 use crate::input::INPUT_LIMIT;

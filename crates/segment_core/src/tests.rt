@@ -155,7 +155,7 @@ const TWO_RUNS: [u8; 116] = [
     0, 0, 0, 0, 0, 0, 0, 8, 0, 0, 0, 0, 0, 0, 0, 9, 0, 0, 0, 0, 0, 0, 0, 0,
 ];
 
-/// What is answered of an image that is fed in pieces of this length, and now and then an empty one.
+/// What is answered of an image that is fed in pieces of this length.
 fn in_pieces<R: Record>(alloc: Global, image: &[u8], piece: usize) -> Result<Scanned<R>, ScanFault>
     requires { 0 < piece }
 {
