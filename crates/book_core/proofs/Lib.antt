@@ -1,0 +1,3 @@
+pub mod MarkMoves
+pub mod Owns
+pub mod Steps

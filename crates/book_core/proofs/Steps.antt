@@ -1,0 +1,61 @@
+-- What a seat does in two steps.
+use Rattle.std.proofs.Common.{◌≡◌, ℕ, ◌-◌, ◌<◌, ◌≤◌, List, [], ◌∷◌, ◌++◌, length, take, replicate, Option, Some, None, Result, Ok, Err, MatchOption, MatchResult, ap, sym, subst, ◌∙◌, arith}
+use Rattle.std.proofs.lemmas.List.{length-take, take-take}
+use Rattle.block_core.specs.Growth.{Growth}
+use Rattle.block_core.specs.Length.{IsBlockLength}
+use Rattle.directory_core.specs.Chain.{total, Begins}
+use Rattle.directory_core.specs.Limits.{record_limit}
+use Rattle.book_core.specs.declared.fault.GrowFault.{GrowFault}
+use Rattle.book_core.specs.declared.fault.GrowFault.TheVariants.{Closed, Full, TooLong, Strayed, Memory, Empty, TooLarge}
+use Rattle.book_core.specs.declared.seat.Receipt.{Receipt}
+use Rattle.book_core.specs.Lists.{Phase, Seated}
+use Rattle.book_core.specs.Growing.{Learns, growth_of, Grown, FillsUp, size_of, IsBookRefusal, IsFillRefusal}
+
+pub begins-trans : {X : Type 0} (xs ys zs : List X) → Begins xs ys → Begins ys zs → Begins xs zs
+begins-trans xs ys zs a b =
+    let long : length xs ≤ length ys = let l = ap length a in omega (arith, length-take (length xs) ys) in
+    sym (take-take (length xs) (length ys) zs long) ∙ (ap (λ (ws : List _). take (length xs) ws) b ∙ a)
+
+pub learns-trans : {R : Type 0} (a b c : Seated R) → Learns a b → Learns b c → Learns a c
+learns-trans a b c ab bc = record {
+  id = bc.id ∙ ab.id;
+  mark = bc.mark ∙ ab.mark;
+  of = bc.of ∙ ab.of;
+  made = bc.made ∙ ab.made;
+  begins = begins-trans a.pass.entries b.pass.entries c.pass.entries ab.begins bc.begins;
+}
+
+pub grown-after : {R : Type 0} (live : Phase R) (a b c : Seated R) (records : List R) (receipt : Receipt) → Learns a b → Grown live b c records receipt → Grown live a c records receipt
+grown-after live a b c records receipt ab grown =
+    let same : growth_of b grown.before records ≡ growth_of a grown.before records = λ i. record { number = length grown.before; start = total grown.before; seat = ab.id i; serial = length (ab.made i); records = records } in
+    record {
+      before = grown.before;
+      begins = begins-trans a.pass.entries b.pass.entries grown.before ab.begins grown.begins;
+      ends = grown.ends ∙ ap (λ (e : Growth _). grown.before ++ e ∷ []) same;
+      number = grown.number;
+      start = grown.start;
+      len = grown.len;
+      seat = grown.seat ∙ ab.id;
+      serial = grown.serial ∙ ap length ab.made;
+      made = grown.made ∙ (λ i. ab.made i ++ same i ∷ []);
+      just_own = grown.just_own;
+      same = (grown.same.0 ∙ ab.id, grown.same.1 ∙ ab.mark, grown.same.2 ∙ ab.of);
+    }
+
+pub fill-after : {R E : Type 0} (live : Phase R) (a b c : Seated R) (n : ℕ) (v : R) (r : Result (Option Receipt) E) → Learns a b
+    → MatchResult r (λ made. MatchOption made (Learns b c × (n ≤ size_of live c)) (FillsUp live b c n v)) (λ _. Learns b c)
+    → MatchResult r (λ made. MatchOption made (Learns a c × (n ≤ size_of live c)) (FillsUp live a c n v)) (λ _. Learns a c)
+fill-after live a b c n v (Ok None) ab told = (learns-trans a b c ab told.0, told.1)
+fill-after live a b c n v (Ok (Some receipt)) ab told = record { count = told.count; grown = grown-after live a b c (replicate told.count v) receipt ab told.grown; some = told.some; ends = told.ends }
+fill-after live a b c n v (Err e) ab told = learns-trans a b c ab told
+
+-- what the book refuses of the records that the size was short of n
+pub fill_from_book : {R : Type 0} (width : ℕ) (live : Phase R) (seat : Seated R) (n short : ℕ) (fault : GrowFault) → size_of live seat < n → short ≡ n - size_of live seat → IsBlockLength width short → n ≤ record_limit
+    → IsBookRefusal live seat short fault → IsFillRefusal width live seat n fault
+fill_from_book width live seat n short Closed less is block fits told = tt
+fill_from_book width live seat n short Full less is block fits told = (told.0, less, told.1)
+fill_from_book width live seat n short TooLong less is block fits told = let past = told.2 in absurd (omega arith)
+fill_from_book width live seat n short (Strayed k) less is block fits told = told
+fill_from_book width live seat n short Memory less is block fits told = (told.0, told.1, less, subst (λ (m : ℕ). IsBlockLength width m) is block, fits)
+fill_from_book width live seat n short Empty less is block fits told = told
+fill_from_book width live seat n short TooLarge less is block fits told = absurd told

@@ -1,0 +1,4 @@
+pub mod Marks
+pub mod Lists
+pub mod Growing
+pub mod Beginning

@@ -1,0 +1,56 @@
+-- The list that a seat reads.
+use Rattle.std.specs.Prelude.{◌≡◌, ℕ, ◌==◌, ◌≤◌, List, ◌++◌, length, take, filter, flat_map, slice_get, Some}
+use Rattle.std.specs.Global.{Vec}
+use Rattle.block_core.specs.Growth.{Growth}
+use Rattle.directory_core.specs.Chain.{joined}
+use Rattle.directory_core.specs.Identity.{Identity}
+use Rattle.directory_core.specs.Known.{Known}
+use Rattle.book_core.specs.Marks.{MarkName, MarkEnd}
+
+-- the records of the blocks, in order
+abbrev pub joined_blocks : {R : Type 0} → List (Vec R) → List R
+joined_blocks blocks = flat_map (λ b. b.items) blocks
+
+-- what contracts see of a book: its directory, its mark, and the records from before the phase
+pub record Phase (R : Type 0) : Type 0 where
+  pub directory : Identity
+  pub mark : MarkName
+  pub opening : List R
+
+-- what contracts see of a seat: its id, the growths that it made, in order, the growths that it knows, and what it
+-- was told by the mark
+pub record Seated (R : Type 0) : Type 0 where
+  pub id : ℕ
+  pub made : List (Growth R)
+  pub pass : Known R
+  pub mark : MarkEnd
+
+-- the seat is of that book
+pub record IsOf {R : Type 0} (live : Phase R) (seat : Seated R) : Type 0 where
+  pub directory : seat.pass.of ≡ live.directory
+  pub mark : seat.mark.of ≡ live.mark
+
+-- the whole list as the seat knows it: the records from before the phase, then those of the growths
+abbrev pub list_of : {R : Type 0} → Phase R → Seated R → List R
+list_of live seat = live.opening ++ joined seat.pass.entries
+
+-- the growths that bear a seat's id
+abbrev pub own_of : {R : Type 0} → ℕ → List (Growth R) → List (Growth R)
+own_of id entries = filter (λ e. e.seat == id) entries
+
+-- of its own growths the seat's list has just those that it made, each once, in order
+abbrev pub HasJustItsOwn : {R : Type 0} → Seated R → Type 0
+HasJustItsOwn seat = own_of seat.id seat.pass.entries ≡ seat.made
+
+-- growth n is the first one from there on that bears the id
+pub record IsFirstOf {R : Type 0} (id from n : ℕ) (entries : List (Growth R)) : Type 0 where
+  pub growth : Growth R
+  pub at : slice_get entries n ≡ Some growth
+  pub bears : growth.seat ≡ id
+  pub first : own_of id (take n entries) ≡ own_of id (take from entries)
+
+-- the growths that the seat made stand in its list in their order, and are those of its first ones that bear its id
+pub record StandInList {R : Type 0} (seat : Seated R) : Type 0 where
+  pub first : ℕ
+  pub inside : first ≤ length seat.pass.entries
+  pub are : seat.made ≡ own_of seat.id (take first seat.pass.entries)

@@ -1,0 +1,204 @@
+//! Growing: by one seat at a time, under the book's lock.
+
+ghost use Rattle.std.specs.Prelude.{◌≡◌, ◌+◌, ◌<◌, ◌≤◌, [], ◌∷◌, ◌++◌, length, replicate, IfOk, IfErr, IfSome, MatchOption, MatchResult};
+ghost use Rattle.directory_core.specs.Limits.{record_limit};
+ghost use Rattle.directory_core.specs.Chain.{total, IsChained};
+ghost use Rattle.book_core.specs.Lists.{IsOf, HasJustItsOwn};
+ghost use Rattle.book_core.specs.Growing.{Learns, Grown, IsBookRefusal, IsCopiesRefusal, FillsUp, IsFillRefusal, size_of};
+
+use crate::fault::GrowFault;
+use crate::live::Live;
+use crate::seat::{Receipt, Seat};
+use block_core::{Fresh, FreshFault, Label};
+use directory_core::{DirFault, RECORD_LIMIT};
+use record_core::Record;
+use std::sync::Wait;
+
+impl<R: Record> Live<R> {
+    /// Publishes the block behind all that the seat knows. For a grower that has the lock and has just caught up.
+    fn put(&self, seat: &mut Seat<R>, fresh: Fresh<R>) -> Result<Receipt, (Fresh<R>, GrowFault)>
+        requires of { IsOf self.now seat.old }
+        requires own { HasJustItsOwn seat.old }
+        ensures list { MatchResult result
+            (λ receipt. Grown self.now seat.old seat.new fresh receipt)
+            (λ refused. (refused.0 ≡ fresh) × Learns seat.old seat.new) }
+        ensures of { IsOf self.now seat.new }
+        ensures known { IfErr result (λ _. seat.new.pass.entries ≡ seat.old.pass.entries) }
+        ensures at_once { IfOk result (λ receipt. receipt.number ≡ length seat.old.pass.entries) }
+        ensures fault { IfErr result (λ refused. IsBookRefusal self.now seat.new (length fresh) refused.1) }
+    {
+        let number = seat.pass.known();
+        if number >= self.room {
+            return Err((fresh, GrowFault::Full));
+        }
+        let before = seat.pass.size();
+        let start = self.opening.len() + before;
+        let len = fresh.len();
+        if len > RECORD_LIMIT - start {
+            return Err((fresh, GrowFault::TooLong));
+        }
+        let label = Label {
+            number,
+            start: before,
+            seat: seat.id,
+            serial: seat.serial,
+        };
+        match self.directory.publish(&mut seat.pass, fresh.seal(label)) {
+            Ok(()) => {
+                let receipt = Receipt {
+                    number,
+                    start,
+                    len,
+                    seat: seat.id,
+                    serial: seat.serial,
+                };
+                seat.serial += 1;
+                seat.checked = number + 1;
+                Ok(receipt)
+            }
+            Err((entry, fault)) => {
+                let fault = match fault {
+                    DirFault::Full => GrowFault::Full,
+                    DirFault::Taken | DirFault::Strayed(_) => GrowFault::Strayed(number),
+                    DirFault::Memory => GrowFault::Memory,
+                };
+                Err((Fresh::unseal(entry), fault))
+            }
+        }
+    }
+
+    /// Publishes the block as one growth behind all growths so far, and answers where it stands. Where it is
+    /// refused the block comes back with its records, and the seat knows at least what it knew.
+    pub fn grow<E: Wait>(
+        &self,
+        rt: &E,
+        seat: &mut Seat<R>,
+        fresh: Fresh<R>,
+    ) -> Result<Receipt, (Fresh<R>, GrowFault)>
+        requires of { IsOf self.now seat.old }
+        ensures of { IsOf self.now seat.new }
+        ensures list { MatchResult result
+            (λ receipt. Grown self.now seat.old seat.new fresh receipt)
+            (λ refused. (refused.0 ≡ fresh) × Learns seat.old seat.new) }
+        ensures fault { IfErr result (λ refused. IsBookRefusal self.now seat.new (length fresh) refused.1) }
+    {
+        let _ = self.catch_up(seat);
+        let mut book = self.lock.lock(rt);
+        if book.closed {
+            return Err((fresh, GrowFault::Closed));
+        }
+        if let Err(fault) = self.catch_up(seat) {
+            return Err((fresh, fault));
+        }
+        let put = self.put(seat, fresh);
+        book.published = seat.known();
+        self.let_go(book);
+        put
+    }
+
+    /// Grows by `n` copies of the value.
+    pub fn grow_by<E: Wait>(
+        &self,
+        rt: &E,
+        seat: &mut Seat<R>,
+        n: u64,
+        v: R,
+    ) -> Result<Receipt, GrowFault>
+        requires of { IsOf self.now seat.old }
+        ensures of { IsOf self.now seat.new }
+        ensures list { MatchResult result
+            (λ receipt. Grown self.now seat.old seat.new (replicate n v) receipt)
+            (λ _. Learns seat.old seat.new) }
+        ensures fault { IfErr result (IsCopiesRefusal R.form.width self.now seat.new n) }
+    {
+        let fresh = match Fresh::filled(self.alloc, n, v) {
+            Ok(fresh) => fresh,
+            Err(FreshFault::Empty) => return Err(GrowFault::Empty),
+            Err(FreshFault::TooLarge) => return Err(GrowFault::TooLarge),
+            Err(FreshFault::Memory) => return Err(GrowFault::Memory),
+        };
+        match self.grow(rt, seat, fresh) {
+            Ok(receipt) => Ok(receipt),
+            Err((_, fault)) => Err(fault),
+        }
+    }
+
+    /// Grows by one record.
+    pub fn push_back<E: Wait>(&self, rt: &E, seat: &mut Seat<R>, v: R) -> Result<Receipt, GrowFault>
+        requires of { IsOf self.now seat.old }
+        ensures of { IsOf self.now seat.new }
+        ensures list { MatchResult result
+            (λ receipt. Grown self.now seat.old seat.new (v ∷ []) receipt)
+            (λ _. Learns seat.old seat.new) }
+        ensures fault { IfErr result (IsCopiesRefusal R.form.width self.now seat.new 1) }
+    {
+        self.grow_by(rt, seat, 1, v)
+    }
+
+    /// Grows by as many copies of the value as bring the size to `n`. `None` where it is already there.
+    pub fn grow_to_at_least<E: Wait>(
+        &self,
+        rt: &E,
+        seat: &mut Seat<R>,
+        n: u64,
+        v: R,
+    ) -> Result<Option<Receipt>, GrowFault>
+        requires of { IsOf self.now seat.old }
+        ensures of { IsOf self.now seat.new }
+        ensures list { MatchResult result
+            (λ made. MatchOption made
+            (Learns seat.old seat.new × (n ≤ size_of self.now seat.new))
+            (FillsUp self.now seat.old seat.new n v))
+            (λ _. Learns seat.old seat.new) }
+        ensures fault { IfErr result (IsFillRefusal R.form.width self.now seat.new n) }
+    {
+        let _ = self.catch_up(seat);
+        let mut book = self.lock.lock(rt);
+        if book.closed {
+            return Err(GrowFault::Closed);
+        }
+        self.catch_up(seat)?;
+        let filled = self.fill_up(seat, n, v);
+        book.published = seat.known();
+        self.let_go(book);
+        filled
+    }
+
+    /// As `grow_to_at_least`, for a grower that has the lock and has just caught up.
+    fn fill_up(&self, seat: &mut Seat<R>, n: u64, v: R) -> Result<Option<Receipt>, GrowFault>
+        requires of { IsOf self.now seat.old }
+        requires own { HasJustItsOwn seat.old }
+        ensures of { IsOf self.now seat.new }
+        ensures list { MatchResult result
+            (λ made. MatchOption made
+            (Learns seat.old seat.new × (n ≤ size_of self.now seat.new))
+            (FillsUp self.now seat.old seat.new n v))
+            (λ _. Learns seat.old seat.new) }
+        ensures fault { IfErr result (IsFillRefusal R.form.width self.now seat.new n) }
+    {
+        let size = self.size(seat);
+        if n <= size {
+            return Ok(None);
+        }
+        if seat.pass.known() >= self.room {
+            return Err(GrowFault::Full);
+        }
+        let short = n - size;
+        if Fresh::<R>::check_len(short).is_err() {
+            return Err(GrowFault::TooLarge);
+        }
+        if n > RECORD_LIMIT {
+            return Err(GrowFault::TooLong);
+        }
+        let Ok(fresh) = Fresh::filled(self.alloc, short, v) else {
+            return Err(GrowFault::Memory);
+        };
+        match self.put(seat, fresh) {
+            Ok(receipt) => Ok(Some(receipt)),
+            Err((_, fault)) => Err(fault),
+        }
+    }
+}
+
+#[cfg(test)]
+mod tests;

@@ -1,0 +1,130 @@
+//! Waiting without spinning: seats for the mark, and the flusher for growths.
+//!
+//! Why no wake-up is lost. The flusher reads the count of growths and the closed flag under the book's lock, and
+//! sets the flag that it sleeps under the same lock, which it gives up in falling asleep. A growth and a close
+//! change what it reads under that lock, take the flag there, and wake it where the flag was set: so either the
+//! flusher has read the change, or its flag is found. A seat reads the mark once more under the lock of the hall,
+//! where it counts itself as waiting, and gives that lock up in falling asleep. Who raises the mark stores first,
+//! and takes that lock then: so either the seat has read the new mark, or it is counted, and is woken.
+
+ghost use Rattle.std.specs.Prelude.{◌≡◌, ◌<◌, ◌≤◌, true};
+ghost use Rattle.book_core.specs.Lists.{IsOf};
+ghost use Rattle.book_core.specs.Growing.{IsTold, IsPast};
+
+use crate::live::{Book, Live};
+use crate::mark::MarkState;
+use crate::seat::Seat;
+use record_core::Record;
+use std::sync::{Condvar, Mutex, MutexGuard, Wait};
+
+/// What the lock of those that wait for the mark keeps: how many they are.
+#[derive(Drop)]
+struct Hall {
+    waiting: u64,
+}
+
+/// Where threads of a phase sleep.
+#[derive(Drop)]
+pub(crate) struct Waking {
+    more: Condvar,
+    hall: Mutex<Hall>,
+    raised: Condvar,
+}
+
+impl Waking {
+    pub(crate) fn new() -> Waking {
+        Waking {
+            more: Condvar::new(),
+            hall: Mutex::new(Hall { waiting: 0 }),
+            raised: Condvar::new(),
+        }
+    }
+}
+
+/// Whether the growth of that number is settled, or no more will be.
+fn is_past(number: u64, count: u64, state: MarkState) -> bool
+    ensures { result ≡ true → IsPast number count state }
+{
+    match state {
+        MarkState::Running => number < count,
+        MarkState::Ended | MarkState::Broken => true,
+    }
+}
+
+impl<R: Record> Live<R> {
+    /// Lets the book's lock go, and wakes the flusher where it sleeps: only then there is a system call.
+    pub(crate) fn let_go(&self, mut book: MutexGuard<'_, Book>) {
+        let sleeps = book.flusher_sleeps;
+        book.flusher_sleeps = false;
+        drop(book);
+        if sleeps {
+            self.waking.more.notify_one();
+        }
+    }
+
+    /// Sleeps until more than `known` growths were published, or the book is closed, and answers whether it is.
+    /// For the one flusher of a phase.
+    pub fn await_more<E: Wait>(&self, rt: &E, known: u64) -> bool {
+        let mut book = self.lock.lock(rt);
+        for _ in rt.forever() {
+            if book.published > known || book.closed {
+                break;
+            }
+            book.flusher_sleeps = true;
+            book = self.waking.more.wait(rt, book);
+        }
+        book.flusher_sleeps = false;
+        book.closed
+    }
+
+    /// Wakes those that wait for the mark, where there are any. For the flusher, after it raised or set the mark.
+    pub fn wake_settled<E: Wait>(&self, rt: &E) {
+        let hall = self.waking.hall.lock(rt);
+        let waiting = hall.waiting;
+        drop(hall);
+        if waiting != 0 {
+            self.waking.raised.notify_all();
+        }
+    }
+
+    /// How many growths are settled as the mark tells now, and whether more may be. It may lag behind the flusher
+    /// and never leads. For a seat no count falls, and no state goes back to Running.
+    pub fn settled(&self, seat: &mut Seat<R>) -> (u64, MarkState)
+        requires of { IsOf self.now seat.old }
+        ensures of { IsOf self.now seat.new }
+        ensures told { IsTold seat.old seat.new result.0 result.1 }
+    {
+        let told = seat.mark.settled(&self.mark);
+        (told.count, told.state)
+    }
+
+    /// As `settled`, once the growth of that number is settled or no more will be. It sleeps until then.
+    pub fn await_settled<E: Wait>(
+        &self,
+        rt: &E,
+        seat: &mut Seat<R>,
+        number: u64,
+    ) -> (u64, MarkState)
+        requires of { IsOf self.now seat.old }
+        ensures of { IsOf self.now seat.new }
+        ensures told { IsTold seat.old seat.new result.0 result.1 }
+        ensures past { IsPast number result.0 result.1 }
+    {
+        let (mut count, mut state) = self.settled(seat);
+        if is_past(number, count, state) {
+            return (count, state);
+        }
+        let mut hall = self.waking.hall.lock(rt);
+        hall.waiting = hall.waiting.wrapping_add(1);
+        (count, state) = self.settled(seat);
+        for _ in rt.forever() {
+            if is_past(number, count, state) {
+                break;
+            }
+            hall = self.waking.raised.wait(rt, hall);
+            (count, state) = self.settled(seat);
+        }
+        hall.waiting = hall.waiting.wrapping_sub(1);
+        (count, state)
+    }
+}
