@@ -28,6 +28,7 @@ pub use growth_list::GrowthList;
 pub use growth_row::Growths;
 pub use image::{append_header, append_last_gate, write_image};
 pub use scanner::Scanner;
+pub use tally::Tally;
 pub use vector::{Scanned, scan};
 
 #[cfg(test)]

@@ -1,0 +1,35 @@
+-- The frames that are begun, from the tests of a begin.
+use Rattle.std.proofs.Common.{◌≡◌, ℕ, ◌+◌, ◌^◌, ◌≤◌, ◌<◌, Bool, false, List, Option, Some, None, refl, sym, ◌∙◌, arith}
+use Rattle.std.specs.Prelude.{nat_le}
+use Rattle.std.specs.Option.{is_some}
+use Rattle.std.proofs.lemmas.Bool.{le-ltb, leb-false}
+use Rattle.segment_core.specs.declared.format.Format.{Format}
+use Rattle.segment_core.specs.declared.format.Format.TheVariants.{One, Two}
+use Rattle.segment_core.specs.declared.format.Shape.{Shape}
+use Rattle.segment_core.specs.declared.tally.Tally.{Tally}
+use Rattle.segment_core.specs.Shape.{limit_of}
+use Rattle.segment_core.specs.Frame.{Shrink}
+use Rattle.segment_core.specs.Layout.{IsFrame}
+use Rattle.segment_core.specs.Tally.{MayFollow}
+use Rattle.pen_core.specs.declared.step.Step.{Step}
+use Rattle.pen_core.specs.Inside.{job_of}
+
+pub no_step : (shape : Shape) (bytes : List ℕ) (o : Option Step) → is_some (job_of shape bytes o) ≡ false → o ≡ None
+no_step shape bytes None is = refl
+no_step shape bytes (Some step) is = absurd cc
+
+-- a frame that doesn't fill the file
+pub not_full : (full : Bool) (gate payload fold : ℕ) → full ≡ nat_le (2 ^ 48) (gate + (6 + payload) + fold) → full ≡ false → gate + (6 + payload) < 2 ^ 48
+not_full full gate payload fold is no_room = let below = leb-false (2 ^ 48) (gate + (6 + payload) + fold) (sym is ∙ no_room) in omega arith
+
+some_limit : (format : Format) → 8 ≤ limit_of format
+some_limit One = omega arith
+some_limit Two = omega arith
+
+-- ---- a shrink
+
+pub shrink_framed : (shape : Shape) (n : ℕ) → 1 ≤ shape.width → n < 2 ^ 64 → IsFrame shape (Shrink n)
+shrink_framed shape n wide fits = record { wide = omega arith; small = some_limit shape.format; layout = fits }
+
+pub shrink_follows : (tally : Tally) (n : ℕ) → n ≤ tally.size → tally.changes ≤ tally.folded → MayFollow tally (Shrink n)
+shrink_follows tally n inside folded = record { ordered = refl; inside = le-ltb tally.size n inside; folded = le-ltb tally.folded tally.changes folded; counted = refl; short = refl }

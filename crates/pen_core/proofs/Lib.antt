@@ -1,0 +1,13 @@
+pub mod Again
+pub mod Held
+pub mod Calls
+pub mod Parsed
+pub mod Ticks
+pub mod Pens
+pub mod Whole
+pub mod Begun
+pub mod Begins
+pub mod Growths
+pub mod Births
+pub mod NewPen
+pub mod RunsGiven

@@ -1,0 +1,23 @@
+use Rattle.std.proofs.Common.{◌≡◌, ◌-◌, length, take, drop, subst}
+use Rattle.disk_core.specs.State.{now, settled, touched, overlay, IsImage}
+use Rattle.disk_core.specs.Calls.{bytes_of}
+use Rattle.disk_core.specs.Moments.{LeavesOnly}
+use Rattle.pen_core.proofs.Births.{born_header, born_opened}
+use Rattle.pen_core.proofs.create.write_header.Goals as goal
+
+pub returns-in_err-write_synced-clause-born : goal.returns-in_err-write_synced-clause-born
+returns-in_err-write_synced-clause-born g c = λ model.
+    let old = g.D.Disk.states c.args.disk.now in
+    let mid = g.D.Disk.states c.write_synced.new.disk in
+    born_header c.args.shape old mid (c.requires.clear (c.write_synced.ensures.model model))
+    (subst (λ bs. LeavesOnly old mid (IsImage (touched (now old) 1 (length (take (length bs - 1) (drop 1 bs))) (bytes_of old)))) c.requires.spelled (c.write_synced.ensures.images model))
+
+pub returns-clause-born : goal.returns-clause-born
+returns-clause-born g c = λ model.
+    let old = g.D.Disk.states c.args.disk.now in
+    let mid = g.D.Disk.states c.write_synced.new.disk in
+    let m = c.write_synced-2.ensures.model model in
+    born_opened c.args.shape old mid (g.D.Disk.states c.write_synced-2.new.disk) (c.requires.clear (c.write_synced.ensures.model m))
+    (subst (λ bs. LeavesOnly old mid (IsImage (touched (now old) 1 (length (take (length bs - 1) (drop 1 bs))) (bytes_of old)))) c.requires.spelled (c.write_synced.ensures.images m))
+    (subst (λ bs. now mid ≡ settled (overlay (bytes_of old) 1 (take (length bs - 1) (drop 1 bs)))) c.requires.spelled (c.in_ok-write_synced.ensures.done m))
+    (c.write_synced-2.ensures.images model)

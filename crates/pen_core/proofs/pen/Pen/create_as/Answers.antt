@@ -1,0 +1,25 @@
+use Rattle.std.proofs.Common.{None, false}
+use Rattle.std.specs.Prelude.{vec_capacity}
+use Rattle.segment_core.specs.Tally.{nothing}
+use Rattle.pen_core.proofs.NewPen.{new_frames, new_vector, new_pen}
+use Rattle.pen_core.proofs.Whole.{pen_kept}
+use Rattle.pen_core.proofs.pen.Pen.create_as.Goals as goal
+
+pub invariant_of-result : goal.invariant_of-result
+invariant_of-result g c =
+    let new = c.make.new.disk in
+    new_pen (g.D.Disk.keeps new) (g.D.Disk.states new) (record { format = c.args.format; width = c.args.width }) nothing c.in-Ok.bytes.items c.in_default-make.ensures.done (c.requires, c.ranges.width.fits)
+
+pub returns-clause-file : goal.returns-clause-file
+returns-clause-file g c = λ model.
+    let new = c.make.new.disk in
+    record {
+      frames_are = new_frames (g.D.Disk.keeps new) (g.D.Disk.states new) (record { format = c.args.format; width = c.args.width }) nothing c.in-Ok.bytes.items c.in_default-make.ensures.done model;
+      vector_is = new_vector (g.D.Disk.keeps new) (g.D.Disk.states new) (record { format = c.args.format; width = c.args.width }) nothing c.in-Ok.bytes.items c.in_default-make.ensures.done model;
+    }
+
+pub returns-clause-kept : goal.returns-clause-kept
+returns-clause-kept g c = λ model.
+    let new = c.make.new.disk in
+    pen_kept (g.D.Disk.keeps new) (g.D.Disk.states new) (record { format = c.args.format; width = c.args.width }) 11 nothing nothing c.in-Ok.bytes.items None false
+    (new_pen (g.D.Disk.keeps new) (g.D.Disk.states new) (record { format = c.args.format; width = c.args.width }) nothing c.in-Ok.bytes.items c.in_default-make.ensures.done (c.requires, c.ranges.width.fits)) model new (vec_capacity c.in-Ok.bytes)

@@ -1,0 +1,9 @@
+pub mod Step
+pub mod Held
+pub mod Vectors
+pub mod PenOf
+pub mod Known
+pub mod Refusals
+pub mod Pen
+pub mod Inside
+pub mod Births

@@ -1,0 +1,175 @@
+-- What the calls of a pen promise.
+use Rattle.std.specs.Prelude.{◌≡◌, ◌⊎◌, ℕ, ◌+◌, ◌<◌, List, length, Option, Some, None, Bool, true, false, IfSome}
+use Rattle.disk_core.specs.State.{State, now, IsImage}
+use Rattle.disk_core.specs.Choice.{is_pending}
+use Rattle.segment_core.specs.declared.format.Shape.{Shape}
+use Rattle.segment_core.specs.Frame.{Frame, frame_text}
+use Rattle.segment_core.specs.Tally.{after}
+use Rattle.pen_core.specs.declared.step.Step.{Step}
+use Rattle.pen_core.specs.declared.step.Step.TheVariants as steps
+use Rattle.pen_core.specs.declared.stage.Ticked.{Ticked}
+use Rattle.pen_core.specs.declared.stage.Ticked.TheVariants as ticks
+use Rattle.pen_core.specs.declared.stage.Stage.{Stage}
+use Rattle.pen_core.specs.declared.stage.FoldStage.{FoldStage}
+use Rattle.pen_core.specs.declared.stage.FoldStage.TheVariants as folds
+use Rattle.pen_core.specs.declared.fault.PenFault.{PenFault}
+use Rattle.pen_core.specs.declared.fault.PenFault.TheVariants as faults
+use Rattle.pen_core.specs.Step.{step_after, steps_left, fault_of}
+use Rattle.pen_core.specs.Held.{Opens, IsBeingFolded, gate_of}
+use Rattle.pen_core.specs.Known.{IsBeforeOrAfter}
+use Rattle.pen_core.specs.Vectors.{frames_with}
+use Rattle.segment_core.specs.Raw.{after_frame}
+use Rattle.pen_core.specs.PenOf.{PenOf, JobOf, FoldOf}
+
+-- ---- what a crash may leave
+
+-- what an image may open to while this job is in hand
+abbrev pub OpensWith : Shape → List Frame → List (List ℕ) → Option JobOf → List ℕ → Type 0
+OpensWith shape frames vector None image = Opens shape frames vector image
+OpensWith shape frames vector (Some job) image = IsBeforeOrAfter shape frames (frames_with frames job.frame) vector (after_frame shape.width vector job.frame) image
+
+-- The image opens to the pen's vector, or to that with its job.
+abbrev pub MayOpen : {D : Type 0} → PenOf D → List ℕ → Type 0
+MayOpen pen image = OpensWith pen.shape pen.frames pen.vector pen.job image
+
+-- The gate may be pending: from its write on, which comes behind the sync of the body.
+abbrev pub MayBeOpening : Option JobOf → Type 0
+MayBeOpening None = ⊥
+MayBeOpening (Some job) = (job.step ≡ steps.Gate) ⊎ (job.step ≡ steps.GateSync)
+
+-- how many changes a fold in hand counts
+abbrev pub fold_count : Option FoldOf → ℕ
+fold_count None = 0
+fold_count (Some fold) = fold.count
+
+-- What may be pending at place j: past the closed gate; that gate, once the body is synced; a home byte that is
+-- being folded.
+abbrev pub MayBePending : {D : Type 0} → PenOf D → ℕ → Type 0
+MayBePending pen j = (pen.gate < j) ⊎ (((j ≡ pen.gate) × MayBeOpening pen.job) ⊎ IsBeingFolded pen.shape (fold_count pen.fold) pen.frames j)
+
+-- What holds of the disk between two calls, also behind a fault.
+pub record IsKept {D : Type 0} (states : List State) (pen : PenOf D) : Type 0 where
+  -- whatever a crash leaves now opens to the pen's vector, or to that with its job
+  pub images_open : (image : List ℕ) → IsImage (now states) image → MayOpen pen image
+  pub pending_is_told : (j : ℕ) → is_pending (now states) j ≡ true → MayBePending pen j
+  pub gate_is : pen.gate ≡ gate_of pen.shape pen.frames
+  pub size_is : pen.tally.size ≡ length pen.vector
+
+-- ---- ticks
+
+-- what the pen counts itself, and nothing of it has changed but the job
+pub record CountsSame {D : Type 0} (old new : PenOf D) : Type 0 where
+  pub shape_same : new.shape ≡ old.shape
+  pub fold_same : new.fold ≡ old.fold
+  pub tally_same : new.tally ≡ old.tally
+  pub gate_same : new.gate ≡ old.gate
+  pub room_same : new.room ≡ old.room
+
+abbrev pub next_job : JobOf → Option JobOf → Type 0
+next_job old new = (step : Step) × (step_after old.step ≡ Some step) × (new ≡ Some (record { frame = old.frame; step = step }))
+
+-- the last call of the job succeeded: its frame stands in the file
+pub record CountsDone {D : Type 0} (frame : Frame) (old new : PenOf D) : Type 0 where
+  pub shape_same : new.shape ≡ old.shape
+  pub fold_same : new.fold ≡ old.fold
+  pub tally_is : new.tally ≡ after old.tally frame
+  pub gate_is : new.gate ≡ old.gate + length (frame_text old.shape.format frame)
+  pub room_same : new.room ≡ old.room
+  pub job_done : new.job ≡ None
+
+-- what a tick makes of the counts, whatever the disk
+abbrev pub IsTicked : {D : Type 0} → PenOf D → PenOf D → Ticked → Type 0
+IsTicked old new ticks.Idle = (old.job ≡ None) × (new ≡ old)
+IsTicked old new ticks.Step = (job : JobOf) × (old.job ≡ Some job) × next_job job new.job × CountsSame old new
+IsTicked old new ticks.Done = (job : JobOf) × (old.job ≡ Some job) × (job.step ≡ steps.GateSync) × CountsDone job.frame old new
+
+-- and of the file, where the disk keeps the model
+pub record FileSame {D : Type 0} (old new : PenOf D) : Type 0 where
+  pub frames_same : new.frames ≡ old.frames
+  pub vector_same : new.vector ≡ old.vector
+
+pub record FileGains {D : Type 0} (frame : Frame) (old new : PenOf D) : Type 0 where
+  pub frames_more : new.frames ≡ frames_with old.frames frame
+  pub vector_is : new.vector ≡ after_frame old.shape.width old.vector frame
+
+abbrev pub FileTicked : {D : Type 0} → PenOf D → PenOf D → Ticked → Type 0
+FileTicked old new ticks.Idle = FileSame old new
+FileTicked old new ticks.Step = FileSame old new
+FileTicked old new ticks.Done = IfSome old.job (λ job. FileGains job.frame old new)
+
+-- a call of the device has failed: the job stands where it stood, and the pen is broken
+pub record IsBrokenBy {D : Type 0} (old new : PenOf D) : Type 0 where
+  pub broken : new.broken ≡ true
+  pub job_same : new.job ≡ old.job
+  pub counts_same : CountsSame old new
+
+-- why a tick was refused
+abbrev pub IsTickFault : {D : Type 0} → PenOf D → PenOf D → PenFault → Type 0
+IsTickFault old new fault =
+    ((fault ≡ faults.Broken) × (old.broken ≡ true) × (new ≡ old))
+    ⊎ ((job : JobOf) × (old.broken ≡ false) × (old.job ≡ Some job) × (fault ≡ faults.Disk (fault_of job.step)) × IsBrokenBy old new)
+
+-- how many calls of the device a tick makes
+abbrev pub calls_due : Bool → Option JobOf → ℕ
+calls_due true job = 0
+calls_due false None = 0
+calls_due false (Some job) = 1
+
+-- how many calls of the device have failed where this is answered
+abbrev pub failed_calls : PenFault → ℕ
+failed_calls faults.Broken = 0
+failed_calls faults.Busy = 0
+failed_calls faults.OldFormat = 0
+failed_calls faults.Runs = 0
+failed_calls faults.OutOfRange = 0
+failed_calls faults.TooLarge = 0
+failed_calls faults.Unfolded = 0
+failed_calls faults.FileFull = 0
+failed_calls faults.Memory = 0
+failed_calls faults.Exists = 0
+failed_calls (faults.Disk fault) = 1
+
+-- the vector once the job in hand is done
+abbrev pub vector_with : Shape → List (List ℕ) → Option JobOf → List (List ℕ)
+vector_with shape vector None = vector
+vector_with shape vector (Some job) = after_frame shape.width vector job.frame
+
+abbrev pub vector_after : {D : Type 0} → PenOf D → List (List ℕ)
+vector_after pen = vector_with pen.shape pen.vector pen.job
+
+-- ---- begins
+
+-- The same pen. Its memory may have grown, or been given back.
+pub record IsUnchanged {D : Type 0} (old new : PenOf D) : Type 0 where
+  pub disk_same : new.disk ≡ old.disk
+  pub file_same : FileSame old new
+  pub job_same : new.job ≡ old.job
+  pub broken_same : new.broken ≡ old.broken
+  pub shape_same : new.shape ≡ old.shape
+  pub fold_same : new.fold ≡ old.fold
+  pub tally_same : new.tally ≡ old.tally
+  pub gate_same : new.gate ≡ old.gate
+
+-- A job is in hand, and nothing else has changed but the memory for it.
+pub record Begins {D : Type 0} (frame : Frame) (old new : PenOf D) : Type 0 where
+  pub job_is : new.job ≡ Some (record { frame = frame; step = steps.Body })
+  pub disk_same : new.disk ≡ old.disk
+  pub file_same : FileSame old new
+  pub broken_same : new.broken ≡ old.broken
+  pub shape_same : new.shape ≡ old.shape
+  pub fold_same : new.fold ≡ old.fold
+  pub tally_same : new.tally ≡ old.tally
+  pub gate_same : new.gate ≡ old.gate
+
+-- ---- the stage
+
+abbrev pub log_left : Option JobOf → ℕ
+log_left None = 0
+log_left (Some job) = steps_left job.step
+
+abbrev pub fold_stage : Option FoldOf → FoldStage
+fold_stage None = folds.None
+fold_stage (Some fold) = fold.stage
+
+abbrev pub stage_of : {D : Type 0} → PenOf D → Stage
+stage_of pen = record { log = log_left pen.job; fold = fold_stage pen.fold }

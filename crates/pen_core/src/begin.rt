@@ -1,0 +1,75 @@
+//! The begin of a job: it tests all refusals and takes all memory, so that the ticks take none.
+
+ghost use Rattle.std.specs.Prelude.{◌≡◌, ◌<◌, ◌^◌, None, Some, false, take, OnOk, OnErr, IfErr};
+ghost use Rattle.std.specs.Option.{is_some};
+ghost use Rattle.segment_core.specs.Frame.{Shrink};
+ghost use Rattle.pen_core.specs.Pen.{Begins, IsUnchanged, vector_after};
+ghost use Rattle.pen_core.specs.Refusals as refusals;
+ghost use Rattle.pen_core.specs.Refusals.{first_refusal, IsRefusal, ready_lines, shrink_lines};
+
+use crate::fault::PenFault;
+use crate::frame_bytes::{HEAD_LEN, put_shrink};
+use crate::pen::Pen;
+use crate::step::Step;
+use disk_core::Disk;
+use segment_core::Tally;
+
+/// Gates stand below this place.
+const GATE_LIMIT: u64 = 1 << 48;
+
+impl<D: Disk> Pen<D> {
+    /// Whether a log job may be begun.
+    pub(crate) fn ready(&self) -> Result<(), PenFault>
+        ensures whole { OnOk result (self.now.broken ≡ false) }
+        ensures idle { OnOk result (is_some self.now.job ≡ false) }
+        ensures refused { IfErr result (λ fault. first_refusal (ready_lines self.now) ≡ Some fault) }
+    {
+        if self.broken {
+            return Err(PenFault::Broken);
+        }
+        if self.step.is_some() {
+            return Err(PenFault::Busy);
+        }
+        Ok(())
+    }
+
+    /// Whether a frame with this payload would bring the gate to the limit.
+    pub(crate) fn is_full(&self, payload: usize) -> bool
+        requires { payload < 2 ^ 32 }
+        ensures { result ≡ refusals.is_full self.now payload }
+    {
+        self.gate + (HEAD_LEN + payload) as u64 >= GATE_LIMIT
+    }
+
+    /// Begins to shrink the vector to its first `n` records.
+    ///
+    /// Refused, in this order: `Broken`; `Busy`; `OutOfRange`, where it has fewer; `Unfolded`, while a change is live;
+    /// `FileFull`; `Memory`.
+    pub fn begin_shrink(&mut self, n: u64) -> Result<(), PenFault>
+        ensures begun { OnOk result (Begins (Shrink n) self.old self.new) }
+        ensures vector { OnOk result (vector_after self.new ≡ take n self.old.vector) }
+        ensures allowed { OnOk result (first_refusal (shrink_lines self.old n) ≡ None) }
+        ensures refused { IfErr result (λ fault. IsRefusal (shrink_lines self.old n) fault) }
+        ensures unchanged { OnErr result (IsUnchanged self.old self.new) }
+    {
+        self.ready()?;
+        if n > self.tally.size {
+            return Err(PenFault::OutOfRange);
+        }
+        if self.tally.folded < self.tally.changes {
+            return Err(PenFault::Unfolded);
+        }
+        if self.is_full(8) {
+            return Err(PenFault::FileFull);
+        }
+        if put_shrink(n, &mut self.bytes).is_err() {
+            return Err(PenFault::Memory);
+        }
+        self.next = Tally {
+            size: n,
+            ..self.tally
+        };
+        self.step = Some(Step::Body);
+        Ok(())
+    }
+}

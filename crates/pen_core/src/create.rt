@@ -1,0 +1,257 @@
+//! A file is made: its header behind a closed first byte, a sync, that byte opened, a sync.
+
+ghost use Rattle.std.specs.Prelude.{◌≡◌, ◌⊎◌, ◌≤◌, ◌<◌, ◌+◌, ◌^◌, ◌++◌, ◌∷◌, [], length, Ok, Err, OnOk, IfOk, IfErr, MatchResult};
+ghost use Rattle.disk_core.specs.State.{now, settled, touched, overlay, IsImage};
+ghost use Rattle.disk_core.specs.Calls.{bytes_of};
+ghost use Rattle.disk_core.specs.Moments.{LeavesOnly, clock};
+ghost use Rattle.segment_core.specs.declared.format.Format.TheVariants.{One};
+ghost use Rattle.segment_core.specs.Frame.{header};
+ghost use Rattle.pen_core.specs.Births.{IsExisting, IsGround, IsClear, IsBirth, IsBornSafely, WritesNothing, IsCreateFault, IsNew, IsEmpty};
+ghost use Rattle.pen_core.specs.Pen.{IsKept, failed_calls};
+
+use crate::fault::PenFault;
+use crate::pen::Pen;
+use disk_core::{Disk, DiskFault};
+use segment_core::{Format, Shape, Tally};
+use std::alloc::{AllocError, Global};
+
+/// What a disk holds before a file is made on it.
+#[derive(Clone, Copy, Debug, PartialEq, Eq)]
+pub(crate) enum Ground {
+    /// A file.
+    File,
+    /// At most one byte.
+    Blank,
+    /// A first byte that is closed, and no more than an empty file.
+    Closed,
+}
+
+/// The bytes of an empty file.
+const EMPTY_LEN: u64 = 12;
+
+/// The place of the first gate behind the header.
+const FIRST_GATE: u64 = 11;
+
+/// An open gate.
+const OPEN: u8 = 1;
+
+/// The gate as it is written closed.
+const CLOSED: u8 = 0;
+
+/// What the disk holds.
+fn look<D: Disk>(disk: &mut D) -> Result<Ground, DiskFault>
+    ensures found { D.keeps disk.new → IfOk result (λ seen. IsGround (bytes_of (D.states disk.old)) seen) }
+    ensures same { D.keeps disk.new → now (D.states disk.new) ≡ now (D.states disk.old) }
+    ensures images { D.keeps disk.new → LeavesOnly (D.states disk.old) (D.states disk.new) (IsImage (now (D.states disk.old))) }
+    ensures time { clock (D.states disk.new) ≤ clock (D.states disk.old) + 2 }
+    ensures blank_time { result ≡ Ok Ground.Blank → clock (D.states disk.new) ≡ clock (D.states disk.old) + 1 }
+    ensures later { clock (D.states disk.old) < clock (D.states disk.new) }
+    ensures faults { MatchResult result
+        (λ _. D.faults disk.new ≡ D.faults disk.old)
+        (λ _. D.faults disk.new ≡ D.faults disk.old + 1) }
+    ensures model { D.keeps disk.new → D.keeps disk.old }
+{
+    let len = disk.len()?;
+    if len > EMPTY_LEN {
+        return Ok(Ground::File);
+    }
+    if len < 2 {
+        return Ok(Ground::Blank);
+    }
+    let mut first = [0];
+    disk.read_at(0, &mut first)?;
+    if first[0] == OPEN {
+        return Ok(Ground::File);
+    }
+    Ok(Ground::Closed)
+}
+
+/// Writes the bytes and syncs them.
+fn write_synced<D: Disk>(disk: &mut D, at: u64, bytes: &[u8]) -> Result<(), DiskFault>
+    requires inside { D.keeps disk.old → at ≤ length (bytes_of (D.states disk.old)) }
+    requires fits { at + length bytes.now < 2 ^ 64 }
+    ensures images { D.keeps disk.new → LeavesOnly (D.states disk.old) (D.states disk.new) (IsImage (touched (now (D.states disk.old)) at (length bytes.now) (bytes_of (D.states disk.old)))) }
+    ensures done { D.keeps disk.new → OnOk result (now (D.states disk.new) ≡ settled (overlay (bytes_of (D.states disk.old)) at bytes.now)) }
+    ensures time { clock (D.states disk.new) ≤ clock (D.states disk.old) + 2 }
+    ensures later { clock (D.states disk.old) < clock (D.states disk.new) }
+    ensures faults { MatchResult result
+        (λ _. D.faults disk.new ≡ D.faults disk.old)
+        (λ _. D.faults disk.new ≡ D.faults disk.old + 1) }
+    ensures model { D.keeps disk.new → D.keeps disk.old }
+{
+    disk.write_at(at, bytes)?;
+    disk.sync()
+}
+
+/// Closes the first byte of a disk that holds no file, and syncs it.
+fn clear_ground<D: Disk>(disk: &mut D) -> Result<(), PenFault>
+    requires settled { D.keeps disk.old → now (D.states disk.old) ≡ settled (bytes_of (D.states disk.old)) }
+    ensures clear { D.keeps disk.new → OnOk result (IsClear (now (D.states disk.new))) }
+    ensures born { D.keeps disk.new → (IsExisting (bytes_of (D.states disk.old)) → ⊥) → (shape : Shape)
+        → LeavesOnly (D.states disk.old) (D.states disk.new) (IsBirth shape) }
+    ensures none_existed { D.keeps disk.new → OnOk result (IsExisting (bytes_of (D.states disk.old)) → ⊥) }
+    ensures existed { D.keeps disk.new → IsExisting (bytes_of (D.states disk.old))
+        → LeavesOnly (D.states disk.old) (D.states disk.new) (IsImage (now (D.states disk.old))) × (now (D.states disk.new) ≡ now (D.states disk.old)) }
+    ensures exists { D.keeps disk.new → result ≡ Err PenFault.Exists → IsExisting (bytes_of (D.states disk.old)) }
+    ensures refused { IfErr result IsCreateFault }
+    ensures time { clock (D.states disk.new) ≤ clock (D.states disk.old) + 3 }
+    ensures later { clock (D.states disk.old) < clock (D.states disk.new) }
+    ensures faults { MatchResult result
+        (λ _. D.faults disk.new ≡ D.faults disk.old)
+        (λ fault. D.faults disk.new ≡ D.faults disk.old + failed_calls fault) }
+    ensures model { D.keeps disk.new → D.keeps disk.old }
+{
+    let ground = match look(disk) {
+        Ok(ground) => ground,
+        Err(fault) => return Err(PenFault::Disk(fault)),
+    };
+    match ground {
+        Ground::File => Err(PenFault::Exists),
+        Ground::Closed => Ok(()),
+        Ground::Blank => match write_synced(disk, 0, &[CLOSED]) {
+            Ok(()) => Ok(()),
+            Err(fault) => Err(PenFault::Disk(fault)),
+        },
+    }
+}
+
+/// Writes an empty file over a closed first byte: all behind that byte, a sync, that byte opened, a sync.
+fn write_header<D: Disk>(disk: &mut D, shape: Shape, bytes: &[u8]) -> Result<(), DiskFault>
+    requires spelled { bytes.now ≡ header shape ++ 0 ∷ [] }
+    requires clear { D.keeps disk.old → IsClear (now (D.states disk.old)) }
+    ensures born { D.keeps disk.new → LeavesOnly (D.states disk.old) (D.states disk.new) (IsBirth shape) }
+    ensures done { D.keeps disk.new → OnOk result (now (D.states disk.new) ≡ settled (header shape ++ 0 ∷ [])) }
+    ensures time { clock (D.states disk.new) ≤ clock (D.states disk.old) + 4 }
+    ensures faults { MatchResult result
+        (λ _. D.faults disk.new ≡ D.faults disk.old)
+        (λ _. D.faults disk.new ≡ D.faults disk.old + 1) }
+    ensures model { D.keeps disk.new → D.keeps disk.old }
+{
+    write_synced(disk, 1, &bytes[1..])?;
+    write_synced(disk, 0, &[OPEN])
+}
+
+/// Makes an empty file, unless there is a file.
+fn make<D: Disk>(disk: &mut D, shape: Shape, bytes: &[u8]) -> Result<(), PenFault>
+    requires spelled { bytes.now ≡ header shape ++ 0 ∷ [] }
+    ensures born { D.keeps disk.new → IsBornSafely shape (D.states disk.old) (D.states disk.new) }
+    ensures done { D.keeps disk.new → OnOk result (now (D.states disk.new) ≡ settled (header shape ++ 0 ∷ [])) }
+    ensures none_existed { D.keeps disk.new → OnOk result (IsExisting (bytes_of (D.states disk.old)) → ⊥) }
+    ensures existed { D.keeps disk.new → IsExisting (bytes_of (D.states disk.old)) → WritesNothing (D.states disk.old) (D.states disk.new) }
+    ensures exists { D.keeps disk.new → result ≡ Err PenFault.Exists → IsExisting (bytes_of (D.states disk.old)) }
+    ensures refused { IfErr result IsCreateFault }
+    ensures time { clock (D.states disk.new) ≤ clock (D.states disk.old) + 8 }
+    ensures faults { MatchResult result
+        (λ _. D.faults disk.new ≡ D.faults disk.old)
+        (λ fault. D.faults disk.new ≡ D.faults disk.old + failed_calls fault) }
+    ensures model { D.keeps disk.new → D.keeps disk.old }
+{
+    if let Err(fault) = disk.sync() {
+        return Err(PenFault::Disk(fault));
+    }
+    clear_ground(disk)?;
+    if let Err(fault) = write_header(disk, shape, bytes) {
+        return Err(PenFault::Disk(fault));
+    }
+    Ok(())
+}
+
+/// The bytes of an empty file.
+fn empty_file(alloc: Global, width: u16, format: Format) -> Result<Vec<u8>, AllocError>
+    ensures { IfOk result (λ bytes. bytes.items ≡ header (record { format = format; width = width }) ++ 0 ∷ []) }
+{
+    let mut bytes = Vec::with_capacity(alloc, EMPTY_LEN as usize)?;
+    bytes.push(OPEN)?;
+    bytes.extend_from_slice(b"CVECSEG")?;
+    bytes.push(format.version())?;
+    bytes.extend_from_slice(&width.to_le_bytes())?;
+    bytes.push(CLOSED)?;
+    Ok(bytes)
+}
+
+impl<D: Disk> Pen<D> {
+    /// Makes a file whose records have this width, in bytes: at least 1.
+    ///
+    /// It takes its memory first; then it syncs, and reads the length and the first byte. Refused: `Memory`, with no
+    /// call of the disk; `Disk`, at the call that failed; `Exists`, where there is a file already, to which nothing is
+    /// written, also where a later call fails. Every refusal hands the disk back.
+    ///
+    /// From the first sync on, where it succeeded and there was no file, each image that a crash may leave is no file
+    /// yet or the empty one; after `Ok` each is the empty one.
+    pub fn create_as(
+        alloc: Global,
+        disk: D,
+        width: u16,
+        format: Format,
+    ) -> Result<Pen<D>, (D, PenFault)>
+        requires { 1 ≤ width }
+        ensures created { IfOk result (λ pen. IsNew (record { format = format; width = width }) pen) }
+        ensures file { IfOk result (λ pen. D.keeps pen.disk → IsEmpty pen) }
+        ensures kept { IfOk result (λ pen. D.keeps pen.disk → IsKept (D.states pen.disk) pen) }
+        ensures born { MatchResult result
+            (λ pen. D.keeps pen.disk → IsBornSafely (record { format = format; width = width }) (D.states disk) (D.states pen.disk))
+            (λ r. D.keeps r.0 → IsBornSafely (record { format = format; width = width }) (D.states disk) (D.states r.0)) }
+        ensures none_existed { IfOk result (λ pen. D.keeps pen.disk → IsExisting (bytes_of (D.states disk)) → ⊥) }
+        ensures existed { IfErr result (λ r. D.keeps r.0 → IsExisting (bytes_of (D.states disk)) → (r.0 ≡ disk) ⊎ WritesNothing (D.states disk) (D.states r.0)) }
+        ensures exists { IfErr result (λ r. D.keeps r.0 → r.1 ≡ PenFault.Exists → IsExisting (bytes_of (D.states disk))) }
+        ensures refused { IfErr result (λ r. ((r.1 ≡ PenFault.Memory) × (r.0 ≡ disk)) ⊎ IsCreateFault r.1) }
+        ensures time { MatchResult result
+            (λ pen. clock (D.states pen.disk) ≤ clock (D.states disk) + 8)
+            (λ r. clock (D.states r.0) ≤ clock (D.states disk) + 8) }
+        ensures faults { MatchResult result
+            (λ pen. D.faults pen.disk ≡ D.faults disk)
+            (λ r. D.faults r.0 ≡ D.faults disk + failed_calls r.1) }
+        ensures model { MatchResult result (λ pen. D.keeps pen.disk → D.keeps disk) (λ r. D.keeps r.0 → D.keeps disk) }
+    {
+        let mut disk = disk;
+        let Ok(bytes) = empty_file(alloc, width, format) else {
+            return Err((disk, PenFault::Memory));
+        };
+        let shape = Shape {
+            format,
+            width: width as usize,
+        };
+        if let Err(fault) = make(&mut disk, shape, &bytes) {
+            return Err((disk, fault));
+        }
+        let tally = Tally {
+            size: 0,
+            changes: 0,
+            folded: 0,
+        };
+        Ok(Pen {
+            disk,
+            shape,
+            gate: FIRST_GATE,
+            tally,
+            next: tally,
+            bytes,
+            step: None,
+            broken: false,
+        })
+    }
+
+    /// Makes a file of version 1. `create_as` says more.
+    pub fn create(alloc: Global, disk: D, width: u16) -> Result<Pen<D>, (D, PenFault)>
+        requires { 1 ≤ width }
+        ensures created { IfOk result (λ pen. IsNew (record { format = One; width = width }) pen) }
+        ensures file { IfOk result (λ pen. D.keeps pen.disk → IsEmpty pen) }
+        ensures kept { IfOk result (λ pen. D.keeps pen.disk → IsKept (D.states pen.disk) pen) }
+        ensures born { MatchResult result
+            (λ pen. D.keeps pen.disk → IsBornSafely (record { format = One; width = width }) (D.states disk) (D.states pen.disk))
+            (λ r. D.keeps r.0 → IsBornSafely (record { format = One; width = width }) (D.states disk) (D.states r.0)) }
+        ensures none_existed { IfOk result (λ pen. D.keeps pen.disk → IsExisting (bytes_of (D.states disk)) → ⊥) }
+        ensures existed { IfErr result (λ r. D.keeps r.0 → IsExisting (bytes_of (D.states disk)) → (r.0 ≡ disk) ⊎ WritesNothing (D.states disk) (D.states r.0)) }
+        ensures exists { IfErr result (λ r. D.keeps r.0 → r.1 ≡ PenFault.Exists → IsExisting (bytes_of (D.states disk))) }
+        ensures refused { IfErr result (λ r. ((r.1 ≡ PenFault.Memory) × (r.0 ≡ disk)) ⊎ IsCreateFault r.1) }
+        ensures time { MatchResult result
+            (λ pen. clock (D.states pen.disk) ≤ clock (D.states disk) + 8)
+            (λ r. clock (D.states r.0) ≤ clock (D.states disk) + 8) }
+        ensures faults { MatchResult result
+            (λ pen. D.faults pen.disk ≡ D.faults disk)
+            (λ r. D.faults r.0 ≡ D.faults disk + failed_calls r.1) }
+        ensures model { MatchResult result (λ pen. D.keeps pen.disk → D.keeps disk) (λ r. D.keeps r.0 → D.keeps disk) }
+    {
+        Pen::create_as(alloc, disk, width, Format::One)
+    }
+}

@@ -1,0 +1,97 @@
+//! The begin of a group of growths.
+
+ghost use Rattle.std.specs.Prelude.{◌≡◌, ◌≤◌, ◌<◌, ◌^◌, ◌++◌, None, List, length, map, OnOk, OnErr, IfErr, MatchOption};
+ghost use Rattle.std.specs.List.{AllByRecursion};
+ghost use Rattle.segment_core.specs.Raw.{AreReadAs};
+ghost use Rattle.segment_core.specs.Written.{group_frame, joined, payload_len};
+ghost use Rattle.pen_core.specs.Pen.{Begins, IsUnchanged, vector_after};
+ghost use Rattle.pen_core.specs.Refusals.{first_refusal, IsRefusal, group_lines};
+
+use crate::fault::PenFault;
+use crate::pen::Pen;
+use crate::step::Step;
+use disk_core::Disk;
+use record_core::{Record, width_of};
+use segment_core::{GrowthList, RECORD_LIMIT, Tally, append_group};
+
+/// How many records the growths have, if no vector is too short for them.
+fn count_records<R, G: GrowthList<R>>(growths: &G) -> Option<u64>
+    ensures { MatchOption result
+        (2 ^ 32 < length (joined (G.growths growths.now)))
+        (λ n. (n ≡ length (joined (G.growths growths.now))) × (n ≤ 2 ^ 32)) }
+{
+    let mut total: u64 = 0;
+    for k in 0..growths.count() {
+        let records = growths.growth(k).len() as u64;
+        if records > RECORD_LIMIT - total {
+            return None;
+        }
+        total += records;
+    }
+    Some(total)
+}
+
+impl<D: Disk> Pen<D> {
+    /// Begins to commit growths as one group, of which each lends its records as one slice.
+    ///
+    /// Refused, in this order: `Broken`; `Busy`; `OutOfRange`, where the vector would have more than 2^32 records;
+    /// `TooLarge`, past the limit of the format's payloads; `FileFull`; `Memory`.
+    pub fn begin_growths<R: Record, G: GrowthList<R>>(
+        &mut self,
+        growths: &G,
+    ) -> Result<(), PenFault>
+        requires width { R.form.width ≡ self.old.shape.width }
+        requires some { 0 < length (G.growths growths.now) }
+        requires each { AllByRecursion (λ growth. 0 < length growth) (G.growths growths.now) }
+        ensures begun { OnOk result (Begins (group_frame R.form (G.growths growths.now)) self.old self.new) }
+        ensures next { (records : List R) → AreReadAs R.form self.old.vector records
+            → OnOk result (AreReadAs R.form (vector_after self.new) (records ++ joined (G.growths growths.now))) }
+        ensures allowed { OnOk result (first_refusal (group_lines self.old (length (joined (G.growths growths.now))) (payload_len R.form.width (G.growths growths.now))) ≡ None) }
+        ensures refused { IfErr result (λ fault. IsRefusal (group_lines self.old (length (joined (G.growths growths.now))) (payload_len R.form.width (G.growths growths.now))) fault) }
+        ensures unchanged { OnErr result (IsUnchanged self.old self.new) }
+    {
+        self.ready()?;
+        let Some(records) = count_records::<R, G>(growths) else {
+            return Err(PenFault::OutOfRange);
+        };
+        if self.tally.size + records > RECORD_LIMIT {
+            return Err(PenFault::OutOfRange);
+        }
+        let payload = 4 + growths.count() * 4 + records as usize * width_of::<R>();
+        let limit = self.shape.format.payload_limit();
+        if payload > limit {
+            return Err(PenFault::TooLarge);
+        }
+        if self.is_full(payload) {
+            return Err(PenFault::FileFull);
+        }
+        self.bytes.clear();
+        if append_group::<R, G>(growths, limit, &mut self.bytes).is_err() {
+            return Err(PenFault::Memory);
+        }
+        if self.bytes.push(0).is_err() {
+            return Err(PenFault::Memory);
+        }
+        self.next = Tally {
+            size: self.tally.size + records,
+            ..self.tally
+        };
+        self.step = Some(Step::Body);
+        Ok(())
+    }
+
+    /// Begins to commit growths as one group: at least one, and none empty. `begin_growths` says more.
+    pub fn begin_group<R: Record>(&mut self, growths: &[&[R]]) -> Result<(), PenFault>
+        requires width { R.form.width ≡ self.old.shape.width }
+        requires some { 0 < length growths.now }
+        requires each { AllByRecursion (λ growth. 0 < length growth) (map (λ growth. growth.now) growths.now) }
+        ensures begun { OnOk result (Begins (group_frame R.form (map (λ growth. growth.now) growths.now)) self.old self.new) }
+        ensures next { (records : List R) → AreReadAs R.form self.old.vector records
+            → OnOk result (AreReadAs R.form (vector_after self.new) (records ++ joined (map (λ growth. growth.now) growths.now))) }
+        ensures allowed { OnOk result (first_refusal (group_lines self.old (length (joined (map (λ growth. growth.now) growths.now))) (payload_len R.form.width (map (λ growth. growth.now) growths.now))) ≡ None) }
+        ensures refused { IfErr result (λ fault. IsRefusal (group_lines self.old (length (joined (map (λ growth. growth.now) growths.now))) (payload_len R.form.width (map (λ growth. growth.now) growths.now))) fault) }
+        ensures unchanged { OnErr result (IsUnchanged self.old self.new) }
+    {
+        self.begin_growths::<R, &[&[R]]>(&growths)
+    }
+}

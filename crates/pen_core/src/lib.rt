@@ -1,0 +1,17 @@
+//! A pen writes one segment file, frame by frame, so that a crash at any moment leaves the vector of before or after.
+#![tactic(auto)]
+
+mod begin;
+mod change;
+mod commit;
+mod create;
+mod fault;
+mod frame_bytes;
+mod group;
+mod pen;
+mod stage;
+mod step;
+
+pub use fault::{OpenFault, PenFault};
+pub use pen::Pen;
+pub use stage::{FoldStage, Stage, Ticked};

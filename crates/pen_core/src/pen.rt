@@ -1,0 +1,81 @@
+//! A pen writes one segment file.
+
+ghost use Rattle.std.specs.Prelude.{◌≡◌};
+ghost use Rattle.pen_core.specs.Pen.{IsKept, stage_of};
+
+use crate::stage::{FoldStage, Stage};
+use crate::step::Step;
+use disk_core::Disk;
+use segment_core::{Format, Shape, Tally};
+use std::marker::Model;
+
+/// A pen over one file. It commits one frame at a time, by four calls of the disk, and no crash breaks the file:
+/// whatever one leaves opens to the vector of before, or to that after the frame.
+#[derive(Drop)]
+pub struct Pen<D: Disk> {
+    pub(crate) disk: D,
+    pub(crate) shape: Shape,
+    /// The place of the closed gate behind the file's frames.
+    pub(crate) gate: u64,
+    /// What the file's frames leave.
+    pub(crate) tally: Tally,
+    /// What they leave once the job in hand is done.
+    pub(crate) next: Tally,
+    /// The job's frame with its gate open, and the next gate, closed. Its memory is used again.
+    pub(crate) bytes: Vec<u8>,
+    /// The device call that comes next, where a job is in hand.
+    pub(crate) step: Option<Step>,
+    /// A call of the disk has failed.
+    pub(crate) broken: bool,
+}
+
+impl<D: Disk> Model for Pen<D> {
+    ghost use Rattle.std.specs.Prelude.{vec_capacity};
+    ghost use Rattle.pen_core.specs.PenOf.{PenOf};
+    ghost use Rattle.pen_core.specs.Inside.{pen_of, IsPen};
+
+    ghost Value = { PenOf D };
+
+    ghost view = { λ p. pen_of (D.states p.disk) p.disk p.shape p.gate p.tally p.bytes.items (vec_capacity p.bytes) p.step p.broken };
+
+    ghost invariant = { λ p. IsPen (D.keeps p.disk) (D.states p.disk) p.shape p.gate p.tally p.next p.bytes.items p.step p.broken };
+}
+
+impl<D: Disk> Pen<D> {
+    /// The disk as it stands.
+    pub fn disk(&self) -> &D
+        ensures disk { result.now ≡ self.now.disk }
+        ensures kept { D.keeps result.now → IsKept (D.states result.now) self.now }
+    {
+        &self.disk
+    }
+
+    /// The disk as it stands, also behind a fault.
+    pub fn into_disk(self) -> D
+        ensures disk { result ≡ self.disk }
+        ensures kept { D.keeps result → IsKept (D.states result) self }
+    {
+        self.disk
+    }
+
+    /// The version of the file.
+    pub fn format(&self) -> Format
+        ensures { result ≡ self.now.shape.format }
+    {
+        self.shape.format
+    }
+
+    /// What is left of the job and of the fold.
+    pub fn stage(&self) -> Stage
+        ensures { result ≡ stage_of self.now }
+    {
+        let log = match self.step {
+            Some(step) => step.left(),
+            None => 0,
+        };
+        Stage {
+            log,
+            fold: FoldStage::None,
+        }
+    }
+}
