@@ -15,3 +15,6 @@ mod step;
 pub use fault::{OpenFault, PenFault};
 pub use pen::Pen;
 pub use stage::{FoldStage, Stage, Ticked};
+
+#[cfg(test)]
+mod tests;
