@@ -57,6 +57,7 @@ pub(crate) struct Found<R> {
 
 /// The record of a position, whose bytes stand at this place; a blank one where they are no record, which is
 /// noted.
+#[inline(always)]
 fn decode<R: Record>(
     bytes: &[u8],
     position: u64,
@@ -101,7 +102,7 @@ fn grow<R: Record>(
         let at = k * width;
         let position = (start + k) as u64;
         let record = decode(&area[at..at + width], position, place + at as u64, notes)?;
-        records.push(record)?;
+        records.push_reserved(record);
     }
     Ok(())
 }
