@@ -18,6 +18,7 @@ use crate::notes::Notes;
 use record_core::{Record, width_of};
 use std::alloc::{AllocError, Global};
 use std::collections::VecDeque;
+use std::mem::replace;
 
 /// Where the home bytes of consecutive positions stand, one record behind the other.
 #[derive(Clone, Copy, Debug, PartialEq, Eq)]
@@ -57,6 +58,7 @@ pub(crate) struct Found<R> {
 
 /// The record of a position, whose bytes stand at this place; a blank one where they are no record, which is
 /// noted.
+#[inline(always)]
 fn decode<R: Record>(
     bytes: &[u8],
     position: u64,
@@ -97,12 +99,16 @@ fn grow<R: Record>(
     let width = width_of::<R>();
     let start = records.len();
     records.reserve(count)?;
+    // Held here, so that the loop keeps its length in a register.
+    let alloc = *records.allocator();
+    let mut grown = replace(records, Vec::new(alloc));
     for k in 0..count {
         let at = k * width;
         let position = (start + k) as u64;
         let record = decode(&area[at..at + width], position, place + at as u64, notes)?;
-        records.push(record)?;
+        grown.push_reserved(record);
     }
+    *records = grown;
     Ok(())
 }
 
