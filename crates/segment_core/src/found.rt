@@ -1,7 +1,7 @@
 //! What the frames so far say of the vector. Records are decoded as their home bytes come by, and live changes
 //! are laid over them at the end.
 
-ghost use Rattle.std.specs.Prelude.{◌≡◌, ◌≢◌, ◌≤◌, ◌<◌, ◌+◌, ◌*◌, ◌-◌, ◌^◌, ◌++◌, ◌∷◌, ◌⊎◌, [], ℕ, List, Some, None, length, drop, OnOk, IfOk, MatchResult, vec_len, vec_capacity};
+ghost use Rattle.std.specs.Prelude.{◌≡◌, ◌≢◌, ◌≤◌, ◌<◌, ◌+◌, ◌*◌, ◌-◌, ◌^◌, ◌++◌, ◌∷◌, ◌⊎◌, [], ℕ, List, Some, None, length, drop, OnOk, IfOk, MatchResult};
 ghost use Rattle.std.specs.List.{flat_map, AllByRecursion};
 ghost use Rattle.segment_core.specs.declared.format.Format.{Format};
 ghost use Rattle.segment_core.specs.Shape.{shape_of};
@@ -261,14 +261,6 @@ impl<R: Record> Found<R> {
             folded: 0,
             live: VecDeque::new(alloc),
         }
-    }
-
-    /// Takes memory for so many records at once, where they are known to come. It changes nothing else.
-    pub(crate) fn reserve(&mut self, records: usize) -> Result<(), AllocError>
-        ensures found { (format : Format) (frames : List Frame) → IsFound R.form format frames self.old → IsFound R.form format frames self.new }
-        ensures room { OnOk result (vec_len self.new.records + records ≤ vec_capacity self.new.records) }
-    {
-        self.records.reserve_exact(records)
     }
 
     /// Takes in the next frame. Only memory is refused, and nothing is promised of what stands then.
