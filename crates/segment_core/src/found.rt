@@ -1,7 +1,7 @@
 //! What the frames so far say of the vector. Records are decoded as their home bytes come by, and live changes
 //! are laid over them at the end.
 
-ghost use Rattle.std.specs.Prelude.{◌≡◌, ◌≢◌, ◌≤◌, ◌<◌, ◌+◌, ◌*◌, ◌-◌, ◌^◌, ◌++◌, ◌∷◌, ◌⊎◌, [], ℕ, List, Some, None, length, drop, OnOk, IfOk, MatchResult, vec_len, vec_capacity};
+ghost use Rattle.std.specs.Prelude.{◌≡◌, ◌≢◌, ◌≤◌, ◌<◌, ◌+◌, ◌*◌, ◌-◌, ◌^◌, ◌++◌, ◌∷◌, ◌⊎◌, [], ℕ, List, Some, None, length, drop, OnOk, IfOk, MatchResult};
 ghost use Rattle.std.specs.List.{flat_map, AllByRecursion};
 ghost use Rattle.segment_core.specs.declared.format.Format.{Format};
 ghost use Rattle.segment_core.specs.Shape.{shape_of};
@@ -18,6 +18,7 @@ use crate::notes::Notes;
 use record_core::{Record, width_of};
 use std::alloc::{AllocError, Global};
 use std::collections::VecDeque;
+use std::mem::replace;
 
 /// Where the home bytes of consecutive positions stand, one record behind the other.
 #[derive(Clone, Copy, Debug, PartialEq, Eq)]
@@ -57,6 +58,7 @@ pub(crate) struct Found<R> {
 
 /// The record of a position, whose bytes stand at this place; a blank one where they are no record, which is
 /// noted.
+#[inline(always)]
 fn decode<R: Record>(
     bytes: &[u8],
     position: u64,
@@ -97,12 +99,16 @@ fn grow<R: Record>(
     let width = width_of::<R>();
     let start = records.len();
     records.reserve(count)?;
+    // Held here, so that the loop keeps its length in a register.
+    let alloc = *records.allocator();
+    let mut grown = replace(records, Vec::new(alloc));
     for k in 0..count {
         let at = k * width;
         let position = (start + k) as u64;
         let record = decode(&area[at..at + width], position, place + at as u64, notes)?;
-        records.push(record)?;
+        grown.push_reserved(record);
     }
+    *records = grown;
     Ok(())
 }
 
@@ -255,14 +261,6 @@ impl<R: Record> Found<R> {
             folded: 0,
             live: VecDeque::new(alloc),
         }
-    }
-
-    /// Takes memory for so many records at once, where they are known to come. It changes nothing else.
-    pub(crate) fn reserve(&mut self, records: usize) -> Result<(), AllocError>
-        ensures found { (format : Format) (frames : List Frame) → IsFound R.form format frames self.old → IsFound R.form format frames self.new }
-        ensures room { OnOk result (vec_len self.new.records + records ≤ vec_capacity self.new.records) }
-    {
-        self.records.reserve_exact(records)
     }
 
     /// Takes in the next frame. Only memory is refused, and nothing is promised of what stands then.

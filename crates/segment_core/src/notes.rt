@@ -23,6 +23,8 @@ impl Notes {
     }
 
     /// The bytes at this place say what is at the position, and are no record.
+    #[cold]
+    #[inline(never)]
     pub(crate) fn note(&mut self, position: u64, place: u64) -> Result<(), AllocError>
         ensures here { OnOk result (noted self.new position ≡ Some place) }
         ensures others { OnOk result ((q : ℕ) → q ≢ position → noted self.new q ≡ noted self.old q) }
@@ -31,14 +33,25 @@ impl Notes {
         Ok(())
     }
 
-    /// The position has a record.
+    /// The position has a record. It is called for each record, and in a sound file there is nothing to forget.
+    #[inline(always)]
     pub(crate) fn forget(&mut self, position: u64)
         ensures here { noted self.new position ≡ None }
         ensures others { (q : ℕ) → q ≢ position → noted self.new q ≡ noted self.old q }
     {
         if !self.places.is_empty() {
-            self.places.remove(&position);
+            self.remove(position);
         }
+    }
+
+    /// The same, where something is noted: kept out of the loops over records.
+    #[cold]
+    #[inline(never)]
+    fn remove(&mut self, position: u64)
+        ensures here { noted self.new position ≡ None }
+        ensures others { (q : ℕ) → q ≢ position → noted self.new q ≡ noted self.old q }
+    {
+        self.places.remove(&position);
     }
 
     /// Forgets all positions from `size` on.
