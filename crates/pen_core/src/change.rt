@@ -95,7 +95,7 @@ impl<D: Disk> Pen<D> {
     }
 
     /// Whether runs of positions, by start and count, may be changed: answers all refusals of such a change, and takes
-    /// its memory. A change of the same runs directly after it isn't refused.
+    /// the room that its frame needs.
     ///
     /// Refused, in this order: `Broken`; `Busy`; `OldFormat`, for more than one run in a file of version 1; `Runs`,
     /// where one is empty, or doesn't begin at or behind the end of the one before; `OutOfRange`; `TooLarge`;
