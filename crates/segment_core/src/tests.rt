@@ -204,6 +204,9 @@ fn worked_files_have_their_vectors(rt: HostRuntime) -> Result<(), Fail> {
     holds::<u64>(&rt, &FIVE, &[5])?;
     holds::<u64>(&rt, &TWO_GROWTHS, &[1, 2, 3])?;
     holds::<u64>(&rt, &CHANGED, &[7])?;
+    let mut other_home = CHANGED;
+    other_home[25..33].fill(0xff);
+    holds::<u64>(&rt, &other_home, &[7])?;
     holds::<u64>(&rt, &FOLDED, &[5])?;
     holds::<u64>(&rt, &SHRUNK, &[5])?;
     holds::<u64>(&rt, &TWO_RUNS, &[7, 5, 8, 9])?;
