@@ -12,7 +12,7 @@ use crate::frame_bytes::{HEAD_LEN, put_shrink};
 use crate::pen::Pen;
 use crate::step::Step;
 use disk_core::Disk;
-use segment_core::Tally;
+use segment_core::{SHRINK_PAYLOAD_LEN, Tally};
 
 /// Gates stand below this place.
 const GATE_LIMIT: u64 = 1 << 48;
@@ -59,7 +59,7 @@ impl<D: Disk> Pen<D> {
         if self.tally.folded < self.tally.changes {
             return Err(PenFault::Unfolded);
         }
-        if self.is_full(8) {
+        if self.is_full(SHRINK_PAYLOAD_LEN) {
             return Err(PenFault::FileFull);
         }
         if put_shrink(n, &mut self.bytes).is_err() {

@@ -2,10 +2,11 @@
 
 ghost use Rattle.std.specs.Prelude.{◌≡◌, ◌≤◌, ◌<◌, ◌^◌, ◌&&◌, None, Some, true, length, nat_lt, MatchResult, OnOk, IfOk, OnErr, IfErr};
 ghost use Rattle.std.specs.List.{list_all};
-ghost use Rattle.segment_core.specs.Frame.{runs_len, records_of_runs};
+ghost use Rattle.segment_core.specs.Frame.{records_of_runs};
+ghost use Rattle.segment_core.specs.Runs.{runs_given, change_len};
 ghost use Rattle.segment_core.specs.Tally.{are_ascending, are_inside};
 ghost use Rattle.pen_core.specs.Pen.{IsUnchanged};
-ghost use Rattle.pen_core.specs.Refusals.{first_refusal, IsRefusal, change_lines, change_len, one_run, runs_given, room_for};
+ghost use Rattle.pen_core.specs.Refusals.{first_refusal, IsRefusal, change_lines, one_run, room_for};
 
 use crate::fault::PenFault;
 use crate::frame_bytes::take_room;
@@ -60,7 +61,7 @@ impl<D: Disk> Pen<D> {
     fn change_size(&self, runs: &[(u64, u64)]) -> Result<usize, PenFault>
         requires some { 0 < length runs.now }
         requires width { self.now.shape.width < 2 ^ 16 }
-        ensures size { IfOk result (λ payload. payload ≡ change_len self.now (runs_given runs.now)) }
+        ensures size { IfOk result (λ payload. payload ≡ change_len self.now.shape (runs_given runs.now)) }
         ensures small { IfOk result (λ payload. payload < 2 ^ 32) }
         ensures allowed { OnOk result (first_refusal (change_lines self.now (runs_given runs.now)) ≡ None) }
         ensures refused { IfErr result (λ fault. first_refusal (change_lines self.now (runs_given runs.now)) ≡ Some fault) }
@@ -80,11 +81,7 @@ impl<D: Disk> Pen<D> {
         if runs.len() > limit {
             return Err(PenFault::TooLarge);
         }
-        let head = match self.shape.format {
-            Format::One => runs.len() * 8,
-            Format::Two => 4 + runs.len() * 12,
-        };
-        let payload = head + records * self.shape.width;
+        let payload = self.shape.format.runs_len(runs.len()) + records * self.shape.width;
         if payload > limit {
             return Err(PenFault::TooLarge);
         }
@@ -103,7 +100,7 @@ impl<D: Disk> Pen<D> {
     pub fn ready_runs(&mut self, runs: &[(u64, u64)]) -> Result<(), PenFault>
         requires some { 0 < length runs.now }
         ensures allowed { OnOk result (first_refusal (change_lines self.old (runs_given runs.now)) ≡ None) }
-        ensures room { OnOk result (room_for (change_len self.old (runs_given runs.now)) ≤ self.new.room) }
+        ensures room { OnOk result (room_for (change_len self.old.shape (runs_given runs.now)) ≤ self.new.room) }
         ensures refused { IfErr result (λ fault. IsRefusal (change_lines self.old (runs_given runs.now)) fault) }
         ensures unchanged { IsUnchanged self.old self.new }
     {
@@ -118,7 +115,7 @@ impl<D: Disk> Pen<D> {
     pub fn ready_change(&mut self, start: u64, count: u64) -> Result<(), PenFault>
         requires some { 0 < count }
         ensures allowed { OnOk result (first_refusal (change_lines self.old (one_run start count)) ≡ None) }
-        ensures room { OnOk result (room_for (change_len self.old (one_run start count)) ≤ self.new.room) }
+        ensures room { OnOk result (room_for (change_len self.old.shape (one_run start count)) ≤ self.new.room) }
         ensures refused { IfErr result (λ fault. IsRefusal (change_lines self.old (one_run start count)) fault) }
         ensures unchanged { IsUnchanged self.old self.new }
     {
