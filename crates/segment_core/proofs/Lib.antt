@@ -29,6 +29,7 @@ pub mod FoundLaid
 pub mod FoundHomes
 pub mod FoundChanges
 pub mod FoundSteps
+pub mod HomesPush
 pub mod FoundEnd
 pub mod Walked
 pub mod Fed

@@ -13,6 +13,7 @@ mod frame;
 mod group;
 mod growth_list;
 mod growth_row;
+mod homes;
 mod image;
 mod notes;
 mod scanner;
