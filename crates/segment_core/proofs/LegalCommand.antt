@@ -14,7 +14,7 @@ use Rattle.segment_core.specs.Shape.{limit_of, shape_of}
 use Rattle.segment_core.specs.Frame.{Run, Frame, Group, Change, Shrink, Fold, records_of_runs}
 use Rattle.segment_core.specs.Layout.{IsLength, IsRun, IsFrame}
 use Rattle.segment_core.specs.Tally.{nothing, after, tally_from, tally_of, are_ascending, are_inside, MayFollow, AreLegalFrom, AreLegal}
-use Rattle.segment_core.specs.Command.{Command, AreRuns, IsLegalCommand}
+use Rattle.segment_core.specs.Command.{Command, IsLegalCommand}
 use Rattle.segment_core.specs.Command as commands
 use Rattle.segment_core.specs.CommandFrame.{IsFrameOf}
 use Rattle.segment_core.proofs.Payload.{limit_small}
