@@ -9,6 +9,7 @@ pub mod Listed
 pub mod Begun
 pub mod Begins
 pub mod Growths
+pub mod RunsBegun
 pub mod Births
 pub mod NewPen
 pub mod RunsGiven

@@ -1,5 +1,5 @@
 -- Why a pen refuses: each test on what it is seen as, in the order in which they are made.
-use Rattle.std.specs.Prelude.{◌≡◌, ℕ, ◌+◌, ◌^◌, Bool, false, List, [], ◌∷◌, ◌++◌, length, Option, Some, None, MatchOption, nat_le, nat_lt, not, ◌&&◌, if◌then◌else◌}
+use Rattle.std.specs.Prelude.{◌≡◌, ℕ, ◌+◌, ◌≤◌, ◌^◌, Bool, false, List, [], ◌∷◌, ◌++◌, length, Option, Some, None, MatchOption, nat_le, nat_lt, not, ◌&&◌, if◌then◌else◌}
 use Rattle.std.specs.List.{list_all}
 use Rattle.std.specs.Option.{is_some}
 use Rattle.segment_core.specs.declared.format.Format.{Format}
@@ -68,3 +68,10 @@ room_for payload = 6 + payload + 1
 -- one run
 abbrev pub one_run : ℕ → ℕ → List Run
 one_run start count = record { start = start; count = count } ∷ []
+
+-- A change of these runs has been readied: none of the tests holds, and there is room for its frame and for its runs
+-- among the live ones.
+pub record IsReadied {D : Type 0} (pen : PenOf D) (runs : List Run) : Type 0 where
+  pub allowed : first_refusal (change_lines pen runs) ≡ None
+  pub room : room_for (change_len pen.shape runs) ≤ pen.room
+  pub places : length runs ≤ pen.places

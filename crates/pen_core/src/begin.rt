@@ -1,6 +1,6 @@
 //! The begin of a job: it tests all refusals and takes all memory, so that the ticks take none.
 
-ghost use Rattle.std.specs.Prelude.{◌≡◌, ◌<◌, ◌^◌, None, Some, false, take, OnOk, OnErr, IfErr};
+ghost use Rattle.std.specs.Prelude.{◌≡◌, ◌≤◌, ◌<◌, ◌^◌, None, Some, false, take, OnOk, OnErr, IfErr};
 ghost use Rattle.std.specs.Option.{is_some};
 ghost use Rattle.segment_core.specs.Frame.{Shrink};
 ghost use Rattle.pen_core.specs.Pen.{Begins, IsUnchanged, vector_after};
@@ -22,6 +22,7 @@ impl<D: Disk> Pen<D> {
     pub(crate) fn ready(&self) -> Result<(), PenFault>
         ensures whole { OnOk result (self.now.broken ≡ false) }
         ensures idle { OnOk result (is_some self.now.job ≡ false) }
+        ensures short { self.now.tally.size ≤ 2 ^ 32 }
         ensures refused { IfErr result (λ fault. first_refusal (ready_lines self.now) ≡ Some fault) }
     {
         if self.broken {
