@@ -6,6 +6,7 @@ pub mod Ticks
 pub mod Pens
 pub mod Whole
 pub mod Listed
+pub mod BeingFolded
 pub mod Begun
 pub mod Begins
 pub mod Growths
