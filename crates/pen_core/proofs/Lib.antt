@@ -3,6 +3,9 @@ pub mod Held
 pub mod Calls
 pub mod Parsed
 pub mod Ticks
+pub mod Overlaid
+pub mod HomeWrites
+pub mod HomeTicks
 pub mod Pens
 pub mod Whole
 pub mod Listed
