@@ -35,5 +35,7 @@ pub mod Walked
 pub mod Fed
 pub mod Worked
 pub mod Written
+pub mod Changes
 pub mod GrowthRows
 pub mod ReadAgain
+pub mod ReadAs
