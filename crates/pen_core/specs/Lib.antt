@@ -7,3 +7,4 @@ pub mod Refusals
 pub mod Pen
 pub mod Inside
 pub mod Births
+pub mod Covered
