@@ -6,5 +6,6 @@ pub mod Known
 pub mod Refusals
 pub mod Pen
 pub mod Inside
+pub mod Listed
 pub mod Births
 pub mod Covered
