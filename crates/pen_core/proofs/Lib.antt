@@ -16,3 +16,4 @@ pub mod Growths
 pub mod Births
 pub mod NewPen
 pub mod RunsGiven
+pub mod Covers
