@@ -7,6 +7,7 @@ pub mod Overlaid
 pub mod HomeWrites
 pub mod HomeTicks
 pub mod Pens
+pub mod Folds
 pub mod Whole
 pub mod Listed
 pub mod BeingFolded
