@@ -72,7 +72,7 @@ group_next form width vector records growths same size_of again read =
 
 -- ---- begun
 
-module _ {R : Type 0} (keeps : Type 0) (states : List State) (shape : Shape) (gate : ℕ) (tally next : Tally) (bytes bytes' : List ℕ) (o : Option Step) (broken : Bool) (form : Encoding R) (growths : List (List R)) (pen : IsPen keeps states shape gate tally next bytes o broken)
+module _ {R : Type 0} {count : ℕ} (keeps : Type 0) (states : List State) (shape : Shape) (gate : ℕ) (tally next : Tally) (bytes bytes' : List ℕ) (o : Option Step) (broken : Bool) (form : Encoding R) (growths : List (List R)) (pen : IsPen count keeps states shape gate tally next bytes o broken)
     (whole : broken ≡ false) (idle : o ≡ None) (reads : keeps → IsImage (now states) (bytes_of states)) (spelled : bytes' ≡ frame_text shape.format (group_frame form growths) ++ 0 ∷ []) (wide : 1 ≤ form.width) (width : form.width ≡ shape.width)
     (size_of : (r : R) → length (form.bytes_of r) ≡ form.width) (some : 0 < length growths) (each : AllByRecursion (λ growth. 0 < length growth) growths) (short : tally.size + length (joined growths) ≤ 2 ^ 32)
     (fits : payload_len form.width growths ≤ limit_of shape.format) (not_full : gate + (6 + payload_len form.width growths) < 2 ^ 48) where
@@ -85,13 +85,13 @@ module _ {R : Type 0} (keeps : Type 0) (states : List State) (shape : Shape) (ga
   follows : MayFollow tally frame
   follows = group_follows form shape tally growths wide width size_of some each short
 
-  no_fold : (count : ℕ) → frame ≡ Fold count → ⊥
-  no_fold count is = absurd cc
+  no_fold : (fold : ℕ) → frame ≡ Fold fold → ⊥
+  no_fold fold is = absurd cc
 
   room : gate + length (frame_text shape.format frame) < 2 ^ 48
   room = let long = length-frame_text shape.format frame ∙ ap (λ n. 6 + n) (length-group_frame shape.format form growths size_of) in omega arith
 
-  pub group_begun : (next' : Tally) → next' ≡ after tally frame → IsPen keeps states shape gate tally next' bytes' (Some Body) broken
+  pub group_begun : (next' : Tally) → next' ≡ after tally frame → IsPen count keeps states shape gate tally next' bytes' (Some Body) broken
   group_begun next' counted = begun keeps states shape gate tally next next' bytes bytes' o broken frame pen whole idle reads spelled framed follows counted no_fold room
 
   pub group_at : frame_at shape bytes' ≡ frame

@@ -3,9 +3,14 @@ pub mod Held
 pub mod Calls
 pub mod Parsed
 pub mod Ticks
+pub mod Overlaid
+pub mod HomeWrites
+pub mod HomeTicks
 pub mod Pens
+pub mod Folds
 pub mod Whole
 pub mod Listed
+pub mod BeingFolded
 pub mod Begun
 pub mod Begins
 pub mod Growths
@@ -13,3 +18,4 @@ pub mod RunsBegun
 pub mod Births
 pub mod NewPen
 pub mod RunsGiven
+pub mod Covers

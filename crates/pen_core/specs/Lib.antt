@@ -7,4 +7,6 @@ pub mod Refusals
 pub mod Pen
 pub mod Inside
 pub mod Listed
+pub mod Folds
 pub mod Births
+pub mod Covered
