@@ -12,3 +12,5 @@ pub mod Growths
 pub mod Births
 pub mod NewPen
 pub mod RunsGiven
+pub mod Pieces
+pub mod Opening

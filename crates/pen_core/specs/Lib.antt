@@ -8,3 +8,4 @@ pub mod Pen
 pub mod Inside
 pub mod Listed
 pub mod Births
+pub mod Opening
