@@ -19,3 +19,5 @@ pub mod Births
 pub mod NewPen
 pub mod RunsGiven
 pub mod Covers
+pub mod Pieces
+pub mod Opening

@@ -48,19 +48,19 @@ module _ {count : ℕ} (keeps : Type 0) (states : List State) (shape : Shape) (g
 
 -- ---- the counts behind a frame
 
-after_size : (tally : Tally) (frame : Frame) → tally.size ≤ 2 ^ 32 → MayFollow tally frame → (after tally frame).size ≤ 2 ^ 32
+pub after_size : (tally : Tally) (frame : Frame) → tally.size ≤ 2 ^ 32 → MayFollow tally frame → (after tally frame).size ≤ 2 ^ 32
 after_size tally (Group lengths bytes) le may = ltb-false (2 ^ 32) (tally.size + sum lengths) may.short
 after_size tally (Change runs bytes) le may = le
 after_size tally (Shrink n) le may = let below = ltb-false tally.size n may.inside in omega arith
 after_size tally (Fold count) le may = le
 
-after_changes : (tally : Tally) (frame : Frame) → (after tally frame).changes ≤ tally.changes + 1
+pub after_changes : (tally : Tally) (frame : Frame) → (after tally frame).changes ≤ tally.changes + 1
 after_changes tally (Group lengths bytes) = omega arith
 after_changes tally (Change runs bytes) = omega arith
 after_changes tally (Shrink n) = omega arith
 after_changes tally (Fold count) = omega arith
 
-after_folded : (tally : Tally) (frame : Frame) → tally.folded ≤ tally.changes → MayFollow tally frame → (after tally frame).folded ≤ (after tally frame).changes
+pub after_folded : (tally : Tally) (frame : Frame) → tally.folded ≤ tally.changes → MayFollow tally frame → (after tally frame).folded ≤ (after tally frame).changes
 after_folded tally (Group lengths bytes) le may = le
 after_folded tally (Change runs bytes) le may = omega arith
 after_folded tally (Shrink n) le may = le

@@ -88,7 +88,7 @@ pub record Knows (count : ℕ) (shape : Shape) (gate : ℕ) (tally : Tally) (fra
 -- The invariant.
 pub record IsPen (count : ℕ) (keeps : Type 0) (states : List State) (shape : Shape) (gate : ℕ) (tally next : Tally) (bytes : List ℕ) (step : Option Step) (broken : Bool) : Type 0 where
   pub wide : (1 ≤ shape.width) × (shape.width < 2 ^ 16)
-  pub gate_fits : gate < 2 ^ 48
+  pub gate_fits : gate < 2 ^ 64
   pub size_fits : tally.size ≤ 2 ^ 32
   pub changes_fit : tally.changes ≤ gate
   pub folded_counted : tally.folded ≤ tally.changes

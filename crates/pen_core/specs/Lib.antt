@@ -10,3 +10,4 @@ pub mod Listed
 pub mod Folds
 pub mod Births
 pub mod Covered
+pub mod Opening

@@ -9,6 +9,7 @@ mod create;
 mod fault;
 mod frame_bytes;
 mod group;
+mod open;
 mod pen;
 mod stage;
 mod step;
