@@ -1,3 +1,5 @@
+pub mod BlockEnds
 pub mod MarkMoves
 pub mod Owns
+pub mod PieceLists
 pub mod Steps

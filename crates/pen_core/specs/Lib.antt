@@ -6,4 +6,8 @@ pub mod Known
 pub mod Refusals
 pub mod Pen
 pub mod Inside
+pub mod Listed
+pub mod Folds
 pub mod Births
+pub mod Covered
+pub mod Opening

@@ -4,10 +4,12 @@
 mod begin;
 mod change;
 mod commit;
+mod covered;
 mod create;
 mod fault;
 mod frame_bytes;
 mod group;
+mod open;
 mod pen;
 mod stage;
 mod step;
