@@ -4,6 +4,7 @@
 mod begin;
 mod change;
 mod commit;
+mod covered;
 mod create;
 mod fault;
 mod frame_bytes;
