@@ -4,7 +4,7 @@ use Rattle.disk_core.specs.State.{State, now, IsImage}
 use Rattle.disk_core.specs.Choice.{is_pending}
 use Rattle.segment_core.specs.declared.format.Shape.{Shape}
 use Rattle.segment_core.specs.Frame.{Frame, frame_text}
-use Rattle.segment_core.specs.Tally.{after}
+use Rattle.segment_core.specs.Tally.{after, tally_of}
 use Rattle.pen_core.specs.declared.step.Step.{Step}
 use Rattle.pen_core.specs.declared.step.Step.TheVariants as steps
 use Rattle.pen_core.specs.declared.stage.Ticked.{Ticked}
@@ -53,6 +53,7 @@ pub record IsKept {D : Type 0} (states : List State) (pen : PenOf D) : Type 0 wh
   pub images_open : (image : List ℕ) → IsImage (now states) image → MayOpen pen image
   pub pending_is_told : (j : ℕ) → is_pending (now states) j ≡ true → MayBePending pen j
   pub gate_is : pen.gate ≡ gate_of pen.shape pen.frames
+  pub tally_is : pen.tally ≡ tally_of pen.frames
   pub size_is : pen.tally.size ≡ length pen.vector
 
 -- ---- ticks

@@ -9,6 +9,8 @@ mod create;
 mod fault;
 mod frame_bytes;
 mod group;
+#[cfg(test)]
+mod noting;
 mod open;
 mod pen;
 mod stage;
