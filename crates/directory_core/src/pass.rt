@@ -83,6 +83,7 @@ impl<R: Record> Pass<R> {
         ensures chained { IsChained self.now.entries }
         ensures in_a_frame { AreBlocks R.form.width self.now.entries }
         ensures in_room { (result ≤ self.now.of.room) × (self.now.of.room ≤ growth_limit) }
+        ensures in_limit { total self.now.entries ≤ self.now.of.limit }
     {
         self.starts.len() as u64
     }
