@@ -172,6 +172,3 @@ impl<'a, R: Record> Snapshot<'a, R> {
         Records::of(self.slices.as_slice(), self.slices.len() as usize)
     }
 }
-
-#[cfg(test)]
-mod tests;
