@@ -109,7 +109,9 @@ impl<'a, R: Record> Snapshot<'a, R> {
             length self.old.growths ≤ length seat.old.pass.entries → Shows self.old.of seat.old self.new) }
         ensures no_more { length seat.old.pass.entries ≤ length self.old.growths → self.new ≡ self.old }
         ensures of { self.new.of ≡ self.old.of }
-        ensures refused { IfErr result (λ fault. (fault ≡ GrowFault.Memory) × (self.new ≡ self.old)) }
+        ensures refused { IfErr result (λ fault. (fault ≡ GrowFault.Memory)
+            × (length self.old.growths < length seat.old.pass.entries)
+            × (self.new ≡ self.old)) }
     {
         let has = self.slices.count() - self.blocks;
         let knows = seat.known() as usize;
