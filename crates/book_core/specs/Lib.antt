@@ -2,3 +2,4 @@ pub mod Marks
 pub mod Lists
 pub mod Growing
 pub mod Beginning
+pub mod Pieces

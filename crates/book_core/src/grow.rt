@@ -199,6 +199,3 @@ impl<R: Record> Live<R> {
         }
     }
 }
-
-#[cfg(test)]
-mod tests;

@@ -19,3 +19,6 @@ pub use fault::GrowFault;
 pub use live::{Begun, Live, SEAT_LIMIT};
 pub use mark::{Mark, MarkState, Reader, Reading, Writer};
 pub use seat::{Receipt, Seat};
+
+#[cfg(test)]
+mod tests;
