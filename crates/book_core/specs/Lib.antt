@@ -3,3 +3,4 @@ pub mod Lists
 pub mod Growing
 pub mod Beginning
 pub mod Snapshots
+pub mod Pieces

@@ -21,3 +21,6 @@ pub use live::{Begun, Live, SEAT_LIMIT};
 pub use mark::{Mark, MarkState, Reader, Reading, Writer};
 pub use seat::{Receipt, Seat};
 pub use snapshot::{Records, Snapshot};
+
+#[cfg(test)]
+mod tests;

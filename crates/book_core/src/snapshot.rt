@@ -68,7 +68,7 @@ fn add_growths<'a, R: Record>(
 {
     let known = pass.known() as usize;
     for number in from..known {
-        let Some(entry) = live.directory().entry(pass, number as u64) else {
+        let Some(entry) = live.entry(pass, number as u64) else {
             unreachable!()
         };
         slices.push(entry.records());
