@@ -16,8 +16,10 @@ pub mod Begins
 pub mod Growths
 pub mod RunsBegun
 pub mod Births
+pub mod CreationCalls
 pub mod NewPen
 pub mod RunsGiven
 pub mod Covers
 pub mod Pieces
 pub mod Opening
+pub mod WorkedOpening
