@@ -10,6 +10,7 @@ pub mod Pens
 pub mod Folds
 pub mod Whole
 pub mod Listed
+pub mod InHand
 pub mod BeingFolded
 pub mod Begun
 pub mod Begins

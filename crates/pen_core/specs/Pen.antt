@@ -37,10 +37,17 @@ abbrev pub MayBeOpening : Option JobOf → Type 0
 MayBeOpening None = ⊥
 MayBeOpening (Some job) = (job.step ≡ steps.Gate) ⊎ (job.step ≡ steps.GateSync)
 
--- how many changes a fold in hand counts
+-- how many changes a fold counts whose homes may be pending: none before it begins, and none behind their sync
+abbrev pub open_count : FoldStage → ℕ → ℕ
+open_count folds.None count = 0
+open_count (folds.Home n) count = count
+open_count folds.Sync count = count
+open_count folds.Ready count = 0
+open_count folds.Filed count = 0
+
 abbrev pub fold_count : Option FoldOf → ℕ
 fold_count None = 0
-fold_count (Some fold) = fold.count
+fold_count (Some fold) = open_count fold.stage fold.count
 
 -- What may be pending at place j: past the closed gate; that gate, once the body is synced; a home byte that is
 -- being folded.

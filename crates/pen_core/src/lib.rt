@@ -7,6 +7,7 @@ mod commit;
 mod covered;
 mod create;
 mod fault;
+mod fold;
 mod frame_bytes;
 mod group;
 #[cfg(test)]
