@@ -15,6 +15,7 @@ pub mod Begun
 pub mod Begins
 pub mod Growths
 pub mod RunsBegun
+pub mod Worked
 pub mod Births
 pub mod NewPen
 pub mod RunsGiven
