@@ -3,3 +3,4 @@ pub mod MarkMoves
 pub mod Owns
 pub mod PieceLists
 pub mod Steps
+pub mod Worked
