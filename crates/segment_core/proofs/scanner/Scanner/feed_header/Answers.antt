@@ -1,4 +1,4 @@
-use Rattle.std.proofs.Common.{◌≡◌, ◌+◌, ◌-◌, ◌≤◌, ◌<◌, List, ◌++◌, ℕ, Some, length, take, refl, sym, ap, ◌∙◌, arith}
+use Rattle.std.proofs.Common.{◌≡◌, ◌≤◌, ◌++◌, ℕ, length, take, refl, sym, ap, ◌∙◌, arith}
 use Rattle.segment_core.specs.declared.scanner.Stage.TheVariants as stages
 use Rattle.segment_core.specs.Fault.{header_fault}
 use Rattle.segment_core.proofs.Fed.{fed_by, front_more, length-front, goes_on_behind_header, refused_by_front}
@@ -37,4 +37,4 @@ returns-else-self-eq-HEADER_LEN-clause-fed g c = λ image front. (
     let other = c.if-self-eq-HEADER_LEN.false in
     let filled = front.filled in
     let short = front.short in
-    fed_by form (image ++ take used c.args.piece.now) _ stages.Header c.requires.stage (record { short = omega arith; filled = sym long; kept = bytes; behind = front.behind; pending = front.pending }))
+    fed_by form (image ++ take used c.args.piece.now) _ stages.Header c.requires.stage (record { short = omega arith; filled = sym long; kept = bytes; behind = front.behind; pending = front.pending; bare = front.bare }))
