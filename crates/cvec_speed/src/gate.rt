@@ -1,0 +1,68 @@
+//! A common start of threads, and the time that they took.
+
+use crate::fault::SpeedFault;
+use std::sync::Wait;
+use std::sync::atomic::{AtomicU64, Ordering};
+use std::thread;
+use std::time::{Clock, Duration, Instant};
+
+/// Where so many threads wait until all of them are there.
+#[derive(Drop)]
+pub struct Gate {
+    there: AtomicU64,
+    threads: u64,
+}
+
+impl Gate {
+    pub fn new(threads: u64) -> Gate {
+        Gate {
+            there: AtomicU64::new(0),
+            threads,
+        }
+    }
+
+    /// Waits until all threads are there. It yields and asks again, so that all start at once. Answers when this
+    /// thread came.
+    pub fn pass<E: Wait + Clock>(&self, rt: &E) -> Result<Instant, SpeedFault> {
+        let came = Instant::now(rt);
+        self.there.fetch_add(1, Ordering::SeqCst);
+        for _ in rt.forever() {
+            if self.there.load(Ordering::SeqCst) >= self.threads {
+                break;
+            }
+            thread::yield_now();
+        }
+        Ok(came?)
+    }
+}
+
+/// When a thread came to the gate, and when it was done.
+#[derive(Clone, Copy)]
+pub struct Span {
+    pub came: Instant,
+    pub done: Instant,
+}
+
+impl Span {
+    /// The time from the coming of the last thread, which opened the gate, to the end of the last one.
+    pub fn of_all(spans: Vec<Result<Span, SpeedFault>>) -> Result<Duration, SpeedFault> {
+        let mut all: Option<Span> = None;
+        for span in spans {
+            let span = span?;
+            all = Some(match all {
+                Some(so_far) => so_far.joined(span),
+                None => span,
+            });
+        }
+        let all = all.ok_or(SpeedFault::Content)?;
+        Ok(all.done.duration_since(all.came))
+    }
+
+    /// The later coming, and the later end.
+    fn joined(self, other: Span) -> Span {
+        Span {
+            came: self.came.max(other.came),
+            done: self.done.max(other.done),
+        }
+    }
+}

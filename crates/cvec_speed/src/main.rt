@@ -1,0 +1,66 @@
+//! `cvec_speed`: measures growth, reading and memory of a growth phase. It is started as
+//! `cvec_speed WORK name=number ..` and writes one line of JSON for each figure.
+#![tactic(auto)]
+
+mod fault;
+mod figure;
+mod gate;
+mod grow;
+mod memory;
+mod mix;
+mod phase;
+mod reading;
+mod words;
+
+use crate::fault::SpeedFault;
+use crate::grow::grow;
+use crate::memory::memory;
+use crate::words::{WordsFault, Work, read_words};
+use std::process::ExitCode;
+use std::rt::Files;
+use std::sync::Wait;
+use std::thread::Threads;
+use std::time::Clock;
+use std::{env, io};
+
+const USAGE: &str = "usage: cvec_speed WORK name=number ..
+grow threads= block= n=     threads grow one vector
+memory block= n=            what memory one thread's growths take
+";
+
+fn main(rt: HostRuntime) -> io::Result<ExitCode> {
+    let words: Vec<String> = env::args(&rt)?.skip(1).collect(rt.alloc())?;
+    let status = match read_words(words.as_slice()) {
+        Ok(work) => measure(&rt, work)?,
+        Err(WordsFault::NoWork) => {
+            rt.print(USAGE)?;
+            3
+        }
+        Err(WordsFault::NoSize) => {
+            rt.eprint(USAGE)?;
+            2
+        }
+    };
+    Ok(ExitCode::from(status))
+}
+
+/// Does the work, and writes its figures, or why there are none.
+fn measure<E: Threads + Wait + Clock + Files + AllocGlobal + Print + Eprint + Sync>(
+    rt: &E,
+    work: Work,
+) -> io::Result<u8> {
+    let done = match work {
+        Work::Grow(sizes) => grow(rt, rt.alloc(), sizes),
+        Work::Memory(sizes) => memory(rt, rt.alloc(), sizes),
+    };
+    match done {
+        Ok(figure) => {
+            println!(rt; "{figure}")?;
+            Ok(0)
+        }
+        Err(fault) => {
+            eprintln!(rt; "cvec_speed: {fault}")?;
+            Ok(1)
+        }
+    }
+}
