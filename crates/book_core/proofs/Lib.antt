@@ -1,3 +1,4 @@
 pub mod MarkMoves
 pub mod Owns
+pub mod PieceLists
 pub mod Steps

@@ -10,7 +10,7 @@ use Rattle.book_core.specs.declared.fault.GrowFault.TheVariants.{Closed, Full, T
 use Rattle.book_core.specs.declared.seat.Receipt.{Receipt}
 use Rattle.book_core.specs.declared.mark.MarkState.{MarkState}
 use Rattle.book_core.specs.Marks.{Rises, IsOver}
-use Rattle.book_core.specs.Lists.{Phase, Seated, own_of, HasJustItsOwn}
+use Rattle.book_core.specs.Lists.{Phase, opening_of, Seated, own_of, HasJustItsOwn}
 
 -- the same seat, which made no growth and knows at least what it knew
 pub record Learns {R : Type 0} (old new : Seated R) : Type 0 where
@@ -32,7 +32,7 @@ pub record Grown {R : Type 0} (live : Phase R) (old new : Seated R) (records : L
   pub begins : Begins old.pass.entries before
   pub ends : new.pass.entries ≡ before ++ growth_of old before records ∷ []
   pub number : receipt.number ≡ length before
-  pub start : receipt.start ≡ length live.opening + total before
+  pub start : receipt.start ≡ length (opening_of live) + total before
   pub len : receipt.len ≡ length records
   pub seat : receipt.seat ≡ old.id
   pub serial : receipt.serial ≡ length old.made
@@ -54,7 +54,7 @@ IsStray seat n = (n ≡ length seat.pass.entries) ⊎ IsForeign seat n
 
 -- the size that the seat knows
 abbrev pub size_of : {R : Type 0} → Phase R → Seated R → ℕ
-size_of live seat = length live.opening + total seat.pass.entries
+size_of live seat = length (opening_of live) + total seat.pass.entries
 
 -- the phase has room for a growth behind those that the seat knows
 abbrev pub HasRoom : {R : Type 0} → Phase R → Seated R → Type 0

@@ -1,5 +1,5 @@
 -- The list that a seat reads.
-use Rattle.std.specs.Prelude.{◌≡◌, ℕ, ◌==◌, ◌≤◌, List, ◌++◌, length, take, filter, flat_map, slice_get, Some}
+use Rattle.std.specs.Prelude.{◌≡◌, ℕ, ◌==◌, ◌≤◌, List, ◌++◌, length, map, take, filter, flat_map, slice_get, Some}
 use Rattle.std.specs.Global.{Vec}
 use Rattle.block_core.specs.Growth.{Growth}
 use Rattle.directory_core.specs.Chain.{joined}
@@ -7,15 +7,23 @@ use Rattle.directory_core.specs.Identity.{Identity}
 use Rattle.directory_core.specs.Known.{Known}
 use Rattle.book_core.specs.Marks.{MarkName, MarkEnd}
 
--- the records of the blocks, in order
-abbrev pub joined_blocks : {R : Type 0} → List (Vec R) → List R
-joined_blocks blocks = flat_map (λ b. b.items) blocks
+-- the records of each block
+abbrev pub records_of : {R : Type 0} → List (Vec R) → List (List R)
+records_of blocks = map (λ b. b.items) blocks
 
--- what contracts see of a book: its directory, its mark, and the records from before the phase
+-- the records of the pieces, in order
+abbrev pub joined_pieces : {R : Type 0} → List (List R) → List R
+joined_pieces pieces = flat_map (λ p. p) pieces
+
+-- what contracts see of a book: its directory, its mark, and the records of each block from before the phase
 pub record Phase (R : Type 0) : Type 0 where
   pub directory : Identity
   pub mark : MarkName
-  pub opening : List R
+  pub blocks : List (List R)
+
+-- the records from before the phase
+abbrev pub opening_of : {R : Type 0} → Phase R → List R
+opening_of live = joined_pieces live.blocks
 
 -- what contracts see of a seat: its id, the growths that it made, in order, the growths that it knows, and what it
 -- was told by the mark
@@ -32,7 +40,11 @@ pub record IsOf {R : Type 0} (live : Phase R) (seat : Seated R) : Type 0 where
 
 -- the whole list as the seat knows it: the records from before the phase, then those of the growths
 abbrev pub list_of : {R : Type 0} → Phase R → Seated R → List R
-list_of live seat = live.opening ++ joined seat.pass.entries
+list_of live seat = opening_of live ++ joined seat.pass.entries
+
+-- the pieces in which it stands: the blocks from before the phase, then the growths by their numbers
+abbrev pub pieces_of : {R : Type 0} → Phase R → Seated R → List (List R)
+pieces_of live seat = live.blocks ++ map (λ e. e.records) seat.pass.entries
 
 -- the growths that bear a seat's id
 abbrev pub own_of : {R : Type 0} → ℕ → List (Growth R) → List (Growth R)

@@ -11,6 +11,7 @@ mod grow;
 mod live;
 mod mark;
 mod opening;
+mod reading;
 mod seat;
 mod waking;
 

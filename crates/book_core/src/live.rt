@@ -4,7 +4,7 @@ ghost use Rattle.std.specs.Prelude.{◌≡◌, ◌+◌, ◌<◌, ◌≤◌, [], 
 ghost use Rattle.directory_core.specs.Limits.{record_limit};
 ghost use Rattle.directory_core.specs.Chain.{total, joined, Begins, Agree, Meets, IsChained};
 ghost use Rattle.book_core.specs.Marks.{nothing};
-ghost use Rattle.book_core.specs.Lists.{joined_blocks, IsOf, own_of, HasJustItsOwn, IsFirstOf, list_of};
+ghost use Rattle.book_core.specs.Lists.{records_of, joined_pieces, opening_of, IsOf, own_of, HasJustItsOwn, IsFirstOf, list_of};
 ghost use Rattle.book_core.specs.Growing.{Learns, IsLookFault, size_of};
 ghost use Rattle.book_core.specs.Beginning.{AreNewSeats, IsBeginRefusal, MayBegin};
 
@@ -58,19 +58,19 @@ pub struct Live<R: Record> {
 impl<R: Record> Model for Live<R> {
     ghost use Rattle.std.specs.Prelude.{◌≡◌, ◌+◌, length};
     ghost use Rattle.directory_core.specs.Limits.{record_limit};
-    ghost use Rattle.book_core.specs.Lists.{Phase, joined_blocks};
+    ghost use Rattle.book_core.specs.Lists.{Phase, records_of, joined_pieces};
 
     ghost Value = { Phase R };
 
     ghost view = { λ live. record {
       directory = live.directory;
       mark = live.mark;
-      opening = joined_blocks live.opening.blocks.items;
+      blocks = records_of live.opening.blocks.items;
     } };
 
     ghost invariant = { λ live.
         (live.room ≡ live.directory.room)
-        × (live.directory.limit + length (joined_blocks live.opening.blocks.items) ≡ record_limit) };
+        × (live.directory.limit + length (joined_pieces (records_of live.opening.blocks.items)) ≡ record_limit) };
 }
 
 /// A phase that begins: what its threads share, their seats with the ids 0, 1, .., and one pass and the writing end
@@ -160,9 +160,9 @@ impl<R: Record> Live<R> {
         room: u64,
         seats: u16,
     ) -> Result<Begun<R>, (Vec<Vec<R>>, GrowFault)>
-        requires { length (joined_blocks blocks.items) ≤ record_limit }
+        requires { length (joined_pieces (records_of blocks.items)) ≤ record_limit }
         ensures live { IfOk result (λ begun.
-            (begun.live.opening ≡ joined_blocks blocks.items) × (begun.live.directory.room ≡ room)) }
+            (begun.live.blocks ≡ records_of blocks.items) × (begun.live.directory.room ≡ room)) }
         ensures seats { IfOk result (λ begun.
             (length begun.seats.items ≡ seats)
             × AreNewSeats begun.live.directory begun.live.mark begun.seats.items) }
@@ -177,7 +177,10 @@ impl<R: Record> Live<R> {
         if room == 0 || room > GROWTH_LIMIT || seats == 0 || seats > SEAT_LIMIT {
             return Err((blocks, GrowFault::TooLarge));
         }
-        let opening = Opening::of(blocks);
+        let opening = match Opening::of(alloc, blocks) {
+            Ok(opening) => opening,
+            Err(blocks) => return Err((blocks, GrowFault::Memory)),
+        };
         let Some(parts) = Parts::make(alloc, room, RECORD_LIMIT - opening.len(), seats) else {
             return Err((opening.blocks, GrowFault::Memory));
         };
@@ -214,7 +217,7 @@ impl<R: Record> Live<R> {
 
     /// How many records are from before the phase.
     pub fn opening_len(&self) -> u64
-        ensures is { result ≡ length self.now.opening }
+        ensures is { result ≡ length (opening_of self.now) }
         ensures in_limit { result + self.now.directory.limit ≡ record_limit }
     {
         self.opening.len()
@@ -222,9 +225,9 @@ impl<R: Record> Live<R> {
 
     /// Ends the phase, and gives the blocks from before it.
     pub fn into_blocks(self) -> Vec<Vec<R>>
-        ensures { joined_blocks result.items ≡ self.opening }
+        ensures { records_of result.items ≡ self.blocks }
     {
-        self.opening.blocks
+        self.opening.into_blocks()
     }
 
     /// The number of the first growth from there on that bears the id.

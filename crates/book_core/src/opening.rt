@@ -1,38 +1,56 @@
 //! The records from before a phase.
 
-ghost use Rattle.std.specs.Prelude.{◌≡◌, ◌≤◌, length};
+ghost use Rattle.std.specs.Prelude.{◌≡◌, ℕ, ◌+◌, ◌<◌, ◌≤◌, length, take, sum_by, slice_index, vec_len, MatchResult};
 ghost use Rattle.directory_core.specs.Limits.{record_limit};
-ghost use Rattle.book_core.specs.Lists.{joined_blocks};
+ghost use Rattle.book_core.specs.Lists.{records_of, joined_pieces};
 
 use record_core::Record;
+use std::alloc::Global;
 
-/// The blocks of before a phase, and how many records they have.
+/// The blocks of before a phase, with the position at which each ends, and how many records they have.
 #[derive(Drop)]
 pub(crate) struct Opening<R: Record> {
     pub(crate) blocks: Vec<Vec<R>>,
+    ends: Vec<u64>,
     size: u64,
-    ghost sized: { length (joined_blocks blocks.items) ≡ size },
+    ghost sized: { length (joined_pieces (records_of blocks.items)) ≡ size },
     ghost in_limit: { size ≤ record_limit },
+    ghost as_many: { vec_len ends ≡ vec_len blocks },
+    ghost ends_are: { (k : ℕ) → k < vec_len blocks
+        → slice_index ends.items k ≡ sum_by length (take (k + 1) (records_of blocks.items)) },
 }
 
 impl<R: Record> Opening<R> {
-    /// The records of these blocks.
-    pub(crate) fn of(blocks: Vec<Vec<R>>) -> Opening<R>
-        requires { length (joined_blocks blocks.items) ≤ record_limit }
-        ensures { result.blocks ≡ blocks }
+    /// The records of these blocks, which come back where no memory is left for the ends.
+    pub(crate) fn of(alloc: Global, blocks: Vec<Vec<R>>) -> Result<Opening<R>, Vec<Vec<R>>>
+        requires { length (joined_pieces (records_of blocks.items)) ≤ record_limit }
+        ensures { MatchResult result
+            (λ opening. opening.blocks.items ≡ blocks.items)
+            (λ back. back.items ≡ blocks.items) }
     {
+        let Ok(mut ends) = Vec::with_capacity(alloc, blocks.len()) else {
+            return Err(blocks);
+        };
         let mut size: u64 = 0;
         for block in &blocks {
             size += block.len() as u64;
+            ends.push_reserved(size);
         }
-        Opening { blocks, size }
+        Ok(Opening { blocks, ends, size })
     }
 
     /// How many records there are.
     pub(crate) fn len(&self) -> u64
-        ensures is { result ≡ length (joined_blocks self.now.blocks.items) }
+        ensures is { result ≡ length (joined_pieces (records_of self.now.blocks.items)) }
         ensures in_limit { result ≤ record_limit }
     {
         self.size
+    }
+
+    /// The blocks.
+    pub(crate) fn into_blocks(self) -> Vec<Vec<R>>
+        ensures { result.items ≡ self.blocks.items }
+    {
+        self.blocks
     }
 }

@@ -1,5 +1,5 @@
 -- How far an image has been read.
-use Rattle.std.specs.Prelude.{◌≡◌, ◌<◌, ℕ, List, [], ◌++◌, length, take, ◌⊎◌}
+use Rattle.std.specs.Prelude.{◌≡◌, ◌<◌, ℕ, List, [], ◌++◌, length, take, vec_capacity, ◌⊎◌}
 use Rattle.record_core.specs.Bytes.{Encoding}
 use Rattle.segment_core.specs.declared.fault.ScanFault.{ScanFault}
 use Rattle.segment_core.specs.declared.fault.ScanFault.TheVariants.{Memory}
@@ -12,13 +12,14 @@ use Rattle.segment_core.specs.Fault.{IsSound, IsRefused}
 use Rattle.segment_core.specs.Reading.{IsShort}
 use Rattle.segment_core.specs.Walk.{IsBehind, StandsBefore}
 
--- the image is the front of a header
+-- the image is the front of a header, and the vector has no memory yet
 pub record IsFront {R : Type 0} (form : Encoding R) (image : List ℕ) (scanner : Scanner R) : Type 0 where
   pub short : length image < 11
   pub filled : scanner.filled ≡ length image
   pub kept : take scanner.filled scanner.header ≡ image
   pub behind : IsBehind form [] scanner.walk
   pub pending : scanner.pending.items ≡ []
+  pub bare : vec_capacity scanner.walk.found.records ≡ 0
 
 -- the image goes on behind the frames that were read
 pub record GoesOn {R : Type 0} (form : Encoding R) (image : List ℕ) (scanner : Scanner R) : Type 0 where

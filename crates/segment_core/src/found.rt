@@ -1,7 +1,7 @@
 //! What the frames so far say of the vector. Records are decoded as their home bytes come by, and live changes
 //! are laid over them at the end.
 
-ghost use Rattle.std.specs.Prelude.{◌≡◌, ◌≢◌, ◌≤◌, ◌<◌, ◌+◌, ◌*◌, ◌-◌, ◌^◌, ◌++◌, ◌∷◌, ◌⊎◌, [], ℕ, List, Some, None, length, drop, OnOk, IfOk, MatchResult};
+ghost use Rattle.std.specs.Prelude.{◌≡◌, ◌≢◌, ◌≤◌, ◌<◌, ◌+◌, ◌*◌, ◌-◌, ◌^◌, ◌++◌, ◌∷◌, ◌⊎◌, [], ℕ, List, Some, None, length, drop, OnOk, IfOk, MatchResult, vec_capacity};
 ghost use Rattle.std.specs.List.{flat_map, AllByRecursion};
 ghost use Rattle.segment_core.specs.declared.format.Format.{Format};
 ghost use Rattle.segment_core.specs.Shape.{shape_of};
@@ -248,14 +248,26 @@ fn cut(homes: &mut Vec<Home>, size: u64)
     }
 }
 
+/// No records, with memory for `room` of them, where it could be had.
+fn no_records<R>(alloc: Global, room: usize) -> Vec<R>
+    ensures none { result.items ≡ [] }
+    ensures room { vec_capacity result ≤ room }
+{
+    match Vec::with_capacity(alloc, room) {
+        Ok(records) => records,
+        Err(_) => Vec::new(alloc),
+    }
+}
+
 impl<R: Record> Found<R> {
-    /// What no frames say. It takes no memory.
-    pub(crate) fn new(alloc: Global) -> Found<R>
-        ensures { (format : Format) → IsFound R.form format [] result }
+    /// What no frames say. It takes no memory but for `room` records, where that can be had.
+    pub(crate) fn new(alloc: Global, room: usize) -> Found<R>
+        ensures found { (format : Format) → IsFound R.form format [] result }
+        ensures room { vec_capacity result.records ≤ room }
     {
         Found {
             alloc,
-            records: Vec::new(alloc),
+            records: no_records(alloc, room),
             notes: Notes::new(alloc),
             homes: Vec::new(alloc),
             folded: 0,

@@ -1,6 +1,6 @@
 //! Reading an image piece by piece.
 
-ghost use Rattle.std.specs.Prelude.{◌≡◌, ◌≤◌, ◌<◌, ◌+◌, ◌^◌, ◌++◌, ◌⊎◌, [], ℕ, List, Some, None, Err, length, take, drop, OnOk, OnErr, IfOk, IfErr, MatchResult};
+ghost use Rattle.std.specs.Prelude.{◌≡◌, ◌≤◌, ◌<◌, ◌+◌, ◌^◌, ◌++◌, ◌⊎◌, [], ℕ, List, Some, None, Err, length, take, drop, OnOk, OnErr, IfOk, IfErr, MatchResult, min, vec_capacity, ◌-◌, ◌/◌};
 ghost use Rattle.segment_core.specs.Shape.{shape_of, format_in};
 ghost use Rattle.segment_core.specs.Frame.{header};
 ghost use Rattle.segment_core.specs.Fault.{header_fault, IsRefused};
@@ -9,7 +9,7 @@ ghost use Rattle.segment_core.specs.Scanned.{IsScanOf};
 ghost use Rattle.segment_core.specs.Scanner.{GoesOn, HasEnded, IsOn, IsRefusedFor, IsFedAt, IsFed, IsLost};
 
 use crate::fault::{Cause, ScanFault};
-use crate::format::{FRAME_HEAD_LEN, Format, HEADER_LEN, MAGIC, OPEN, Shape};
+use crate::format::{FRAME_HEAD_LEN, Format, HEADER_LEN, MAGIC, OPEN, RECORD_LIMIT, Shape};
 use crate::found::Homes;
 use crate::frame::damaged;
 use crate::vector::Scanned;
@@ -35,6 +35,8 @@ pub(crate) enum Stage {
 #[derive(Drop)]
 pub struct Scanner<R> {
     alloc: Global,
+    /// The bytes of the whole image, as far as they were told; 0 where they weren't.
+    told: u64,
     header: [u8; HEADER_LEN],
     /// The bytes of the header so far.
     filled: usize,
@@ -87,18 +89,37 @@ impl<R: Record> Scanner<R> {
     pub fn new(alloc: Global) -> Scanner<R>
         ensures { IsFed R.form [] result }
     {
+        Scanner::of_length(alloc, 0)
+    }
+
+    /// The same, where the whole image is known to have so many bytes: the memory of the vector is then taken
+    /// once, when the header has proved sound, for as many records as the image has bytes for. What no record
+    /// fills of it is address space alone. A length that is wrong, or too much to have memory for, changes no
+    /// answer: the vector then grows as it does without.
+    pub fn of_length(alloc: Global, bytes: u64) -> Scanner<R>
+        ensures { IsFed R.form [] result }
+    {
         let shape = Shape {
             format: Format::One,
             width: width_of::<R>(),
         };
         Scanner {
             alloc,
+            told: bytes,
             header: [0; HEADER_LEN],
             filled: 0,
             stage: Stage::Header,
             pending: Vec::new(alloc),
-            walk: Walk::new(alloc, shape),
+            walk: Walk::new(alloc, shape, 0),
         }
+    }
+
+    /// How many records an image of the length that was told holds at most.
+    fn room(&self) -> usize
+        ensures { result ≡ min ((self.now.told - 11) / R.form.width) (2 ^ 32) }
+    {
+        let behind_header = self.told.saturating_sub(HEADER_LEN as u64);
+        (behind_header / width_of::<R>() as u64).min(RECORD_LIMIT) as usize
     }
 
     /// Takes in the next piece of the image. Only want of memory is refused here, and again by every later
@@ -147,6 +168,7 @@ impl<R: Record> Scanner<R> {
         ensures used { result ≤ length piece.now }
         ensures fed { (image : List ℕ) → IsFedAt R.form image self.old Stage.Header → IsFed R.form (image ++ take result piece.now) self.new }
         ensures whole { self.new.stage ≡ Stage.Header → result ≡ length piece.now }
+        ensures bare { (fault : ScanFault) → self.new.stage ≡ Stage.Refused fault → vec_capacity self.new.walk.found.records ≡ 0 }
     {
         let used = piece.len().min(HEADER_LEN - self.filled);
         self.header[self.filled..self.filled + used].copy_from_slice(&piece[..used]);
@@ -155,7 +177,7 @@ impl<R: Record> Scanner<R> {
             match check_header(&self.header[..self.filled], width_of::<R>()) {
                 Ok(format) => {
                     let width = width_of::<R>();
-                    self.walk = Walk::new(self.alloc, Shape { format, width });
+                    self.walk = Walk::new(self.alloc, Shape { format, width }, self.room());
                     self.stage = Stage::Open;
                 }
                 Err(fault) => self.stage = Stage::Refused(fault),

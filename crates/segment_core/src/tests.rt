@@ -1,10 +1,10 @@
 //! Worked files, byte by byte: what the calls answer.
 
-ghost use Rattle.std.specs.Prelude.{◌<◌};
+ghost use Rattle.std.specs.Prelude.{◌<◌, []};
+ghost use Rattle.segment_core.specs.Scanner.{IsFed};
 
 use super::*;
 use record_core::{Flagged, Pair, Record};
-use std::alloc::Global;
 use std::fmt::Debug;
 use std::process::Abort;
 use std::test::Fail;
@@ -106,15 +106,6 @@ fn fields_of_a_frame(rt: HostRuntime) -> Result<(), Fail> {
     Ok(())
 }
 
-/// What a scan of the file of 5 answers when one byte of it is another.
-fn fault_with(rt: &HostRuntime, at: usize, byte: u8) -> Option<ScanFault>
-    requires { at < 34 }
-{
-    let mut file = FIVE;
-    file[at] = byte;
-    scan::<u64>(rt.alloc(), &file).err()
-}
-
 /// One growth of 5, and a change of it to 7.
 const CHANGED: [u8; 56] = [
     1, 67, 86, 69, 67, 83, 69, 71, 1, 8, 0, 1, 1, 16, 0, 0, 0, 1, 0, 0, 0, 1, 0, 0, 0, 5, 0, 0, 0,
@@ -155,11 +146,15 @@ const TWO_RUNS: [u8; 116] = [
     0, 0, 0, 0, 0, 0, 0, 8, 0, 0, 0, 0, 0, 0, 0, 9, 0, 0, 0, 0, 0, 0, 0, 0,
 ];
 
-/// What is answered of an image that is fed in pieces of this length.
-fn in_pieces<R: Record>(alloc: Global, image: &[u8], piece: usize) -> Result<Scanned<R>, ScanFault>
-    requires { 0 < piece }
+/// What a new scanner answers of an image that is fed in pieces of this length.
+fn in_pieces<R: Record>(
+    mut scanner: Scanner<R>,
+    image: &[u8],
+    piece: usize,
+) -> Result<Scanned<R>, ScanFault>
+    requires new { IsFed R.form [] scanner }
+    requires some { 0 < piece }
 {
-    let mut scanner = Scanner::new(alloc);
     let mut used = 0;
     while used < image.len() {
         let n = piece.min(image.len() - used);
@@ -178,7 +173,7 @@ fn holds<R: Record + Debug>(
     let whole = scan::<R>(rt.alloc(), image)?;
     assert_eq!(rt; whole.records.as_slice(), records);
     for piece in [1, 2, 7, 4096] {
-        let scanned = in_pieces::<R>(rt.alloc(), image, piece)?;
+        let scanned = in_pieces::<R>(Scanner::new(rt.alloc()), image, piece)?;
         assert_eq!(rt; scanned.records.as_slice(), records);
         assert_eq!(rt;
             (scanned.version, scanned.frames),
@@ -197,7 +192,10 @@ fn holds<R: Record + Debug>(
 fn is_refused<R: Record + Debug>(rt: &(impl AllocGlobal + Abort), image: &[u8], fault: ScanFault) {
     assert_eq!(rt; scan::<R>(rt.alloc(), image).err(), Some(fault));
     for piece in [1, 2, 7, 4096] {
-        assert_eq!(rt; in_pieces::<R>(rt.alloc(), image, piece).err(), Some(fault));
+        assert_eq!(rt;
+            in_pieces::<R>(Scanner::new(rt.alloc()), image, piece).err(),
+            Some(fault)
+        );
     }
 }
 
@@ -210,6 +208,31 @@ fn worked_files_have_their_vectors(rt: HostRuntime) -> Result<(), Fail> {
     holds::<u64>(&rt, &SHRUNK, &[5])?;
     holds::<u64>(&rt, &TWO_RUNS, &[7, 5, 8, 9])?;
     holds::<Flagged>(&rt, &COVERED, &[Flagged { key: 7, flag: true }])
+}
+
+#[test]
+fn the_vector_of_a_known_length_has_its_memory_at_once(rt: HostRuntime) -> Result<(), Fail> {
+    let scanned = scan::<u64>(rt.alloc(), &TWO_GROWTHS)?;
+    assert_eq!(rt; scanned.records.capacity(), (54 - 11) / 8);
+    let scanner = Scanner::of_length(rt.alloc(), 54);
+    let scanned = in_pieces::<u64>(scanner, &TWO_GROWTHS, 7)?;
+    assert_eq!(rt; scanned.records.capacity(), (54 - 11) / 8);
+    Ok(())
+}
+
+#[test]
+fn a_length_that_is_wrong_changes_no_answer(rt: HostRuntime) -> Result<(), Fail> {
+    for told in [1, 20, 1000, u64::MAX] {
+        for piece in [1, 4096] {
+            let scanner = Scanner::of_length(rt.alloc(), told);
+            let scanned = in_pieces::<u64>(scanner, &TWO_GROWTHS, piece)?;
+            assert_eq!(rt; scanned.records.as_slice(), [1, 2, 3].as_slice());
+            let scanner = Scanner::of_length(rt.alloc(), told);
+            let refused = in_pieces::<u64>(scanner, &FIVE[..33], piece);
+            assert_eq!(rt; refused.err(), Some(damaged(33, Cause::NoGate)));
+        }
+    }
+    Ok(())
 }
 
 /// A fault that was found at this place.
@@ -262,31 +285,45 @@ fn runs_of_version_2(rt: HostRuntime) -> Result<(), Fail> {
     Ok(())
 }
 
+/// The file of 5 with another byte at this place is refused for this, whole and in pieces.
+fn is_refused_with(rt: &(impl AllocGlobal + Abort), at: usize, byte: u8, fault: ScanFault)
+    requires { at < 34 }
+{
+    let mut file = FIVE;
+    file[at] = byte;
+    is_refused::<u64>(rt, &file, fault);
+}
+
 #[test]
-fn first_faults(rt: HostRuntime) {
-    let damaged = |at, cause| Some(damaged(at, cause));
-    assert_eq!(rt; fault_with(&rt, 0, 0), Some(ScanFault::Unborn));
-    assert_eq!(rt; fault_with(&rt, 3, 0), Some(ScanFault::NotSegment));
-    assert_eq!(rt; fault_with(&rt, 8, 3), Some(ScanFault::Version(3)));
-    assert_eq!(rt; fault_with(&rt, 9, 4), Some(ScanFault::Width(4)));
-    assert_eq!(rt; fault_with(&rt, 11, 7), None);
-    assert_eq!(rt; fault_with(&rt, 12, 2), damaged(17, Cause::Range));
-    assert_eq!(rt; fault_with(&rt, 12, 5), damaged(12, Cause::Kind(5)));
-    assert_eq!(rt; fault_with(&rt, 13, 0x11), damaged(17, Cause::Layout));
-    assert_eq!(rt; fault_with(&rt, 13, 0x12), damaged(11, Cause::ShortFrame));
-    assert_eq!(rt; fault_with(&rt, 15, 0x11), damaged(13, Cause::TooLarge));
-    assert_eq!(rt; fault_with(&rt, 21, 0), damaged(17, Cause::Layout));
-    assert_eq!(rt;
-        scan::<u64>(rt.alloc(), &FIVE[..33]).err(),
-        damaged(33, Cause::NoGate)
-    );
-    assert_eq!(rt;
-        scan::<u64>(rt.alloc(), &FIVE[..11]).err(),
-        damaged(11, Cause::NoGate)
-    );
-    assert_eq!(rt;
-        scan::<u64>(rt.alloc(), &FIVE[..16]).err(),
-        damaged(11, Cause::ShortFrame)
-    );
-    assert_eq!(rt; scan::<u64>(rt.alloc(), &[]).err(), Some(ScanFault::Unborn));
+fn faults_of_a_frame(rt: HostRuntime) {
+    is_refused_with(&rt, 12, 2, damaged(17, Cause::Range));
+    is_refused_with(&rt, 12, 5, damaged(12, Cause::Kind(5)));
+    is_refused_with(&rt, 13, 0x11, damaged(17, Cause::Layout));
+    is_refused_with(&rt, 13, 0x12, damaged(11, Cause::ShortFrame));
+    is_refused_with(&rt, 15, 0x11, damaged(13, Cause::TooLarge));
+    is_refused_with(&rt, 21, 0, damaged(17, Cause::Layout));
+}
+
+#[test]
+fn faults_of_a_header(rt: HostRuntime) -> Result<(), Fail> {
+    is_refused::<u64>(&rt, &[1, 0x43, 0x56, 0x45], ScanFault::NotSegment);
+    is_refused_with(&rt, 0, 0, ScanFault::Unborn);
+    is_refused_with(&rt, 3, 0, ScanFault::NotSegment);
+    let empty = [1, 0x43, 0x56, 0x45, 0x43, 0x53, 0x45, 0x47, 1, 8, 0, 0];
+    holds::<u64>(&rt, &empty, &[])?;
+    is_refused::<u64>(&rt, &empty[..11], damaged(11, Cause::NoGate));
+    let mut other = empty;
+    other[8] = 3;
+    is_refused::<u64>(&rt, &other, ScanFault::Version(3));
+    other = empty;
+    other[9] = 4;
+    is_refused::<u64>(&rt, &other, ScanFault::Width(4));
+    Ok(())
+}
+
+#[test]
+fn any_byte_but_1_is_a_closed_gate(rt: HostRuntime) -> Result<(), Fail> {
+    let mut file = FIVE;
+    file[11] = 7;
+    holds::<u64>(&rt, &file, &[])
 }

@@ -46,7 +46,7 @@ pub fn scan<R: Record>(alloc: Global, bytes: &[u8]) -> Result<Scanned<R>, ScanFa
 fn read_vector<R: Record>(alloc: Global, bytes: &[u8]) -> Result<Scanned<R>, ScanFault>
     ensures { MatchResult result (IsScanOf R.form bytes.now) (IsRefused R.form bytes.now) }
 {
-    let mut scanner = Scanner::new(alloc);
+    let mut scanner = Scanner::of_length(alloc, bytes.len() as u64);
     match scanner.feed(bytes) {
         Ok(()) => scanner.end(),
         Err(fault) => Err(fault),

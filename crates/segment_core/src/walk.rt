@@ -1,6 +1,6 @@
 //! A walk over the frames of an image, one step a frame.
 
-ghost use Rattle.std.specs.Prelude.{◌≡◌, ◌≤◌, ◌<◌, ◌+◌, ◌^◌, ◌++◌, ◌⊎◌, ◌∷◌, [], ℕ, List, Some, length, drop, OnOk, IfOk, IfErr};
+ghost use Rattle.std.specs.Prelude.{◌≡◌, ◌≤◌, ◌<◌, ◌+◌, ◌^◌, ◌++◌, ◌⊎◌, ◌∷◌, [], ℕ, List, Some, length, drop, OnOk, IfOk, IfErr, vec_capacity};
 ghost use Rattle.segment_core.specs.Frame.{Frame};
 ghost use Rattle.segment_core.specs.Layout.{IsFrame};
 ghost use Rattle.segment_core.specs.Fault.{first_line, order_lines};
@@ -37,11 +37,13 @@ pub(crate) struct Walk<R> {
 }
 
 impl<R: Record> Walk<R> {
-    /// A walk that stands behind the header of a file of this shape. It has no memory of its own so far.
-    pub(crate) fn new(alloc: Global, shape: Shape) -> Walk<R>
+    /// A walk that stands behind the header of a file of this shape. It has no memory of its own so far but for
+    /// `room` records, where that could be had.
+    pub(crate) fn new(alloc: Global, shape: Shape, room: usize) -> Walk<R>
         requires { shape.width ≡ R.form.width }
         ensures shape { result.shape ≡ shape }
         ensures behind { IsBehind R.form [] result }
+        ensures room { vec_capacity result.found.records ≤ room }
     {
         Walk {
             shape,
@@ -52,7 +54,7 @@ impl<R: Record> Walk<R> {
                 changes: 0,
                 folded: 0,
             },
-            found: Found::new(alloc),
+            found: Found::new(alloc, room),
         }
     }
 

@@ -9,5 +9,5 @@ use Rattle.segment_core.proofs.vector.read_vector.Goals as goal
 pub returns-in-Err : goal.returns-in-Err
 returns-in-Err g c =
     let lost = c.in-Err.ensures.memory in
-    let refused = fed_at g.R.Record.form c.args.bytes.now c.feed.new.self (stages.Refused Memory) lost.1 (c.in-Err.ensures.fed [] c.new-scanner.ensures) in
+    let refused = fed_at g.R.Record.form c.args.bytes.now c.feed.new.self (stages.Refused Memory) lost.1 (c.in-Err.ensures.fed [] c.of_length-scanner.ensures) in
     subst (λ fault. IsRefused g.R.Record.form c.args.bytes.now fault) (sym lost.0) (subst (λ (bs : List ℕ). IsRefused g.R.Record.form bs Memory) (append-nil c.args.bytes.now) (refused []))

@@ -37,4 +37,4 @@ returns-else-self-eq-HEADER_LEN-clause-fed g c = λ image front. (
     let other = c.if-self-eq-HEADER_LEN.false in
     let filled = front.filled in
     let short = front.short in
-    fed_by form (image ++ take used c.args.piece.now) _ stages.Header c.requires.stage (record { short = omega arith; filled = sym long; kept = bytes; behind = front.behind; pending = front.pending }))
+    fed_by form (image ++ take used c.args.piece.now) _ stages.Header c.requires.stage (record { short = omega arith; filled = sym long; kept = bytes; behind = front.behind; pending = front.pending; bare = front.bare }))
