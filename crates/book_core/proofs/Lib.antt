@@ -1,3 +1,4 @@
+pub mod BlockEnds
 pub mod MarkMoves
 pub mod Owns
 pub mod PieceLists

@@ -1,5 +1,5 @@
 -- The list that a seat reads.
-use Rattle.std.specs.Prelude.{◌≡◌, ℕ, ◌==◌, ◌≤◌, List, ◌++◌, length, map, take, filter, flat_map, slice_get, Some}
+use Rattle.std.specs.Prelude.{◌≡◌, ℕ, ◌==◌, ◌+◌, ◌<◌, ◌≤◌, List, ◌++◌, length, map, take, drop, filter, flat_map, sum_by, slice_get, Some}
 use Rattle.std.specs.Global.{Vec}
 use Rattle.block_core.specs.Growth.{Growth}
 use Rattle.directory_core.specs.Chain.{joined}
@@ -45,6 +45,16 @@ list_of live seat = opening_of live ++ joined seat.pass.entries
 -- the pieces in which it stands: the blocks from before the phase, then the growths by their numbers
 abbrev pub pieces_of : {R : Type 0} → Phase R → Seated R → List (List R)
 pieces_of live seat = live.blocks ++ map (λ e. e.records) seat.pass.entries
+
+-- the records from position i of the pieces joined to the end of the piece that has it
+pub record IsRestOfPiece {R : Type 0} (pieces : List (List R)) (i : ℕ) (rest : List R) : Type 0 where
+  pub number : ℕ
+  pub place : ℕ
+  pub piece : List R
+  pub at : slice_get pieces number ≡ Some piece
+  pub inside : place < length piece
+  pub before : sum_by length (take number pieces) + place ≡ i
+  pub is : rest ≡ drop place piece
 
 -- the growths that bear a seat's id
 abbrev pub own_of : {R : Type 0} → ℕ → List (Growth R) → List (Growth R)

@@ -2,7 +2,7 @@
 
 ghost use Rattle.std.specs.Prelude.{◌≡◌, ℕ, ◌+◌, ◌<◌, ◌≤◌, length, take, sum_by, slice_index, vec_len, MatchResult};
 ghost use Rattle.directory_core.specs.Limits.{record_limit};
-ghost use Rattle.book_core.specs.Lists.{records_of, joined_pieces};
+ghost use Rattle.book_core.specs.Lists.{records_of, joined_pieces, IsRestOfPiece};
 
 use record_core::Record;
 use std::alloc::Global;
@@ -45,6 +45,37 @@ impl<R: Record> Opening<R> {
         ensures in_limit { result ≤ record_limit }
     {
         self.size
+    }
+
+    /// The number of the block that has position `i`.
+    fn block_of(&self, i: u64) -> usize
+        requires { i < length (joined_pieces (records_of self.now.blocks.items)) }
+        ensures { (result < vec_len self.now.blocks)
+            × (sum_by length (take result (records_of self.now.blocks.items)) ≤ i)
+            × (i < sum_by length (take (result + 1) (records_of self.now.blocks.items))) }
+    {
+        self.ends.as_slice().partition_point(|end| *end <= i)
+    }
+
+    /// How many records stand before a block.
+    fn start_of(&self, number: usize) -> u64
+        requires { number < vec_len self.now.blocks }
+        ensures { result ≡ sum_by length (take number (records_of self.now.blocks.items)) }
+    {
+        if number == 0 {
+            return 0;
+        }
+        self.ends[number - 1]
+    }
+
+    /// The records from position `i` to the end of the block that has it.
+    pub(crate) fn rest(&self, i: u64) -> &[R]
+        requires { i < length (joined_pieces (records_of self.now.blocks.items)) }
+        ensures { IsRestOfPiece (records_of self.now.blocks.items) i result.now }
+    {
+        let number = self.block_of(i);
+        let start = self.start_of(number);
+        &self.blocks[number][(i - start) as usize..]
     }
 
     /// The blocks.

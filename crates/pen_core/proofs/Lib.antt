@@ -5,6 +5,7 @@ pub mod Parsed
 pub mod Ticks
 pub mod Pens
 pub mod Whole
+pub mod Listed
 pub mod Begun
 pub mod Begins
 pub mod Growths

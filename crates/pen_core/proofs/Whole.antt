@@ -30,7 +30,7 @@ use Rattle.pen_core.proofs.Pens.{tally_with, gate_with, held_size, knows_rest, k
 -- ---- at rest
 
 module _ (keeps : Type 0) (states : List State) (shape : Shape) (gate : ℕ) (tally next : Tally) (bytes : List ℕ) (o : Option Step) (broken : Bool) (pen : IsPen keeps states shape gate tally next bytes o broken) (model : keeps) where
-  pub pen_kept : {D : Type 0} (disk : D) (room : ℕ) → IsKept states (pen_of states disk shape gate tally bytes room o broken)
+  pub pen_kept : {D : Type 0} (disk : D) (room : ℕ) → {places : ℕ} → IsKept states (pen_of states disk shape gate tally bytes room o broken places)
   pen_kept disk room =
       let knows = pen.knows model in
       record {

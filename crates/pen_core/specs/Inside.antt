@@ -23,8 +23,8 @@ job_of shape bytes None = None
 job_of shape bytes (Some step) = Some (record { frame = frame_at shape bytes; step = step })
 
 -- The frames and the vector are those that a read gives, cut at the gate.
-abbrev pub pen_of : {D : Type 0} → List State → D → Shape → ℕ → Tally → List ℕ → ℕ → Option Step → Bool → PenOf D
-pen_of states disk shape gate tally bytes room step broken = record {
+abbrev pub pen_of : {D : Type 0} → List State → D → Shape → ℕ → Tally → List ℕ → ℕ → Option Step → Bool → ℕ → PenOf D
+pen_of states disk shape gate tally bytes room step broken places = record {
   disk = disk;
   shape = shape;
   frames = blanked_before shape gate (bytes_of states);
@@ -35,6 +35,7 @@ pen_of states disk shape gate tally bytes room step broken = record {
   tally = tally;
   gate = gate;
   room = room;
+  places = places;
 }
 
 -- ---- what the pen counts itself

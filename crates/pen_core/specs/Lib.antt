@@ -6,4 +6,5 @@ pub mod Known
 pub mod Refusals
 pub mod Pen
 pub mod Inside
+pub mod Listed
 pub mod Births

@@ -24,7 +24,8 @@ pub record FoldOf : Type 0 where
 
 -- The disk's file has frames that are these but for their home bytes, and this vector, each record as its bytes; a
 -- job in hand doesn't count. These two speak of bytes. The others are what the pen counts itself: what the frames
--- leave, where the closed gate behind them stands, and how many bytes a frame may take with no memory asked for.
+-- leave, where the closed gate behind them stands, how many bytes a frame may take, and how many runs may be entered
+-- among the live ones, with no memory asked for.
 pub record PenOf (D : Type 0) : Type 0 where
   pub disk : D
   pub shape : Shape
@@ -36,3 +37,4 @@ pub record PenOf (D : Type 0) : Type 0 where
   pub tally : Tally
   pub gate : ℕ
   pub room : ℕ
+  pub places : ℕ

@@ -95,7 +95,7 @@ impl<D: Disk> Pen<D> {
     }
 
     /// Whether runs of positions, by start and count, may be changed: answers all refusals of such a change, and takes
-    /// the room that its frame needs.
+    /// the room that its frame and its place among the live runs need.
     ///
     /// Refused, in this order: `Broken`; `Busy`; `OldFormat`, for more than one run in a file of version 1; `Runs`,
     /// where one is empty, or doesn't begin at or behind the end of the one before; `OutOfRange`; `TooLarge`;
@@ -104,11 +104,15 @@ impl<D: Disk> Pen<D> {
         requires some { 0 < length runs.now }
         ensures allowed { OnOk result (first_refusal (change_lines self.old (runs_given runs.now)) ≡ None) }
         ensures room { OnOk result (room_for (change_len self.old (runs_given runs.now)) ≤ self.new.room) }
+        ensures places { OnOk result (length runs.now ≤ self.new.places) }
         ensures refused { IfErr result (λ fault. IsRefusal (change_lines self.old (runs_given runs.now)) fault) }
         ensures unchanged { IsUnchanged self.old self.new }
     {
         let payload = self.change_size(runs)?;
         if take_room(payload, &mut self.bytes).is_err() {
+            return Err(PenFault::Memory);
+        }
+        if self.homes.live.reserve(runs.len()).is_err() {
             return Err(PenFault::Memory);
         }
         Ok(())
@@ -119,6 +123,7 @@ impl<D: Disk> Pen<D> {
         requires some { 0 < count }
         ensures allowed { OnOk result (first_refusal (change_lines self.old (one_run start count)) ≡ None) }
         ensures room { OnOk result (room_for (change_len self.old (one_run start count)) ≤ self.new.room) }
+        ensures places { OnOk result (1 ≤ self.new.places) }
         ensures refused { IfErr result (λ fault. IsRefusal (change_lines self.old (one_run start count)) fault) }
         ensures unchanged { IsUnchanged self.old self.new }
     {

@@ -73,6 +73,8 @@ impl<D: Disk> Pen<D> {
                 Ok(Ticked::Step)
             }
             None => {
+                self.homes.cut(self.next.size);
+                self.live = self.homes.live.len();
                 self.gate += self.bytes.len() as u64 - 1;
                 self.tally = self.next;
                 self.step = None;

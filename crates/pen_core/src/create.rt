@@ -12,7 +12,7 @@ ghost use Rattle.pen_core.specs.Pen.{IsKept, failed_calls};
 use crate::fault::PenFault;
 use crate::pen::Pen;
 use disk_core::{Disk, DiskFault};
-use segment_core::{Format, Shape, Tally};
+use segment_core::{Format, Homes, Shape, Tally};
 use std::alloc::{AllocError, Global};
 
 /// What a disk holds before a file is made on it.
@@ -227,6 +227,8 @@ impl<D: Disk> Pen<D> {
             next: tally,
             bytes,
             step: None,
+            homes: Homes::new(alloc),
+            live: 0,
             broken: false,
         })
     }

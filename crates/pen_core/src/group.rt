@@ -8,11 +8,12 @@ ghost use Rattle.pen_core.specs.Pen.{Begins, IsUnchanged, vector_after};
 ghost use Rattle.pen_core.specs.Refusals.{first_refusal, IsRefusal, group_lines};
 
 use crate::fault::PenFault;
+use crate::frame_bytes::HEAD_LEN;
 use crate::pen::Pen;
 use crate::step::Step;
 use disk_core::Disk;
 use record_core::{Record, width_of};
-use segment_core::{GrowthList, RECORD_LIMIT, Tally, append_group};
+use segment_core::{GrowthList, Home, RECORD_LIMIT, Tally, append_group};
 
 /// How many records the growths have, if no vector is too short for them.
 fn count_records<R, G: GrowthList<R>>(growths: &G) -> Option<u64>
@@ -65,6 +66,9 @@ impl<D: Disk> Pen<D> {
         if self.is_full(payload) {
             return Err(PenFault::FileFull);
         }
+        if self.homes.homes.reserve(1).is_err() {
+            return Err(PenFault::Memory);
+        }
         self.bytes.clear();
         if append_group::<R, G>(growths, limit, &mut self.bytes).is_err() {
             return Err(PenFault::Memory);
@@ -72,6 +76,11 @@ impl<D: Disk> Pen<D> {
         if self.bytes.push(0).is_err() {
             return Err(PenFault::Memory);
         }
+        self.homes.homes.push_reserved(Home {
+            position: self.tally.size,
+            place: self.gate + (HEAD_LEN + 4 + growths.count() * 4) as u64,
+            count: records,
+        });
         self.next = Tally {
             size: self.tally.size + records,
             ..self.tally

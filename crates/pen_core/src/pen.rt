@@ -6,7 +6,7 @@ ghost use Rattle.pen_core.specs.Pen.{IsKept, stage_of};
 use crate::stage::{FoldStage, Stage};
 use crate::step::Step;
 use disk_core::Disk;
-use segment_core::{Format, Shape, Tally};
+use segment_core::{Format, Homes, Shape, Tally};
 use std::marker::Model;
 
 /// A pen over one file. It commits one frame at a time, by four calls of the disk, and no crash breaks the file:
@@ -25,20 +25,28 @@ pub struct Pen<D: Disk> {
     pub(crate) bytes: Vec<u8>,
     /// The device call that comes next, where a job is in hand.
     pub(crate) step: Option<Step>,
+    /// Where the home bytes of the file's positions stand, and the runs of its live changes; behind them stands what
+    /// the job in hand adds.
+    pub(crate) homes: Homes,
+    /// How many of the runs are of changes in the file.
+    pub(crate) live: usize,
     /// A call of the disk has failed.
     pub(crate) broken: bool,
 }
 
 impl<D: Disk> Model for Pen<D> {
-    ghost use Rattle.std.specs.Prelude.{vec_capacity};
+    ghost use Rattle.std.specs.Prelude.{◌-◌, vec_len, vec_capacity};
     ghost use Rattle.pen_core.specs.PenOf.{PenOf};
     ghost use Rattle.pen_core.specs.Inside.{pen_of, IsPen};
+    ghost use Rattle.pen_core.specs.Listed.{IsListed};
 
     ghost Value = { PenOf D };
 
-    ghost view = { λ p. pen_of (D.states p.disk) p.disk p.shape p.gate p.tally p.bytes.items (vec_capacity p.bytes) p.step p.broken };
+    ghost view = { λ p. pen_of (D.states p.disk) p.disk p.shape p.gate p.tally p.bytes.items (vec_capacity p.bytes) p.step p.broken
+        (vec_capacity p.homes.live - vec_len p.homes.live) };
 
-    ghost invariant = { λ p. IsPen (D.keeps p.disk) (D.states p.disk) p.shape p.gate p.tally p.next p.bytes.items p.step p.broken };
+    ghost invariant = { λ p. IsPen (D.keeps p.disk) (D.states p.disk) p.shape p.gate p.tally p.next p.bytes.items p.step p.broken
+        × IsListed (D.keeps p.disk) (D.states p.disk) p.shape p.gate p.tally p.bytes.items p.step p.homes p.live };
 }
 
 impl<D: Disk> Pen<D> {

@@ -1,7 +1,5 @@
 -- What a scanner keeps from piece to piece, and what it answers in the end.
-use Rattle.std.proofs.Common.{take-add, ◌≡◌, ℕ, ◌+◌, ◌-◌, ◌^◌, ◌≤◌, ◌<◌, true, false, List, [], ◌∷◌, ◌++◌, length, take, drop, Option, Some, None, Result, Ok, Err, refl, sym, ap, subst, ◌∙◌, append_assoc, arith, inl, inr}
-use Rattle.std.specs.Prelude.{MatchResult, ◌⊎◌}
-use Rattle.std.proofs.lemmas.Bool.{cases_lt}
+use Rattle.std.proofs.Common.{take-add, ◌≡◌, ℕ, ◌+◌, ◌-◌, ◌≤◌, ◌<◌, true, false, List, [], ◌∷◌, ◌++◌, length, take, drop, Option, Some, None, refl, sym, ap, subst, ◌∙◌, append_assoc, arith, inl, inr}
 use Rattle.std.proofs.lemmas.List.{append-nil, drop_at, drop_all, length-append, length-take, length-take-le, take-append-drop, take_all}
 use Rattle.std.proofs.lemmas.Slice.{take-put_mid}
 use borrow.Rule.Slice.PartMut.{put_mid}
@@ -14,17 +12,14 @@ use Rattle.segment_core.specs.declared.format.Shape.{Shape}
 use Rattle.segment_core.specs.declared.scanner.Scanner.{Scanner}
 use Rattle.segment_core.specs.declared.scanner.Stage.{Stage}
 use Rattle.segment_core.specs.declared.scanner.Stage.TheVariants as stages
-use Rattle.segment_core.specs.declared.vector.Scanned.{Scanned}
 use Rattle.segment_core.specs.declared.walk.Walk.{Walk}
-use Rattle.segment_core.specs.Shape.{version_of, shape_of, format_in}
+use Rattle.segment_core.specs.Shape.{shape_of, format_in}
 use Rattle.segment_core.specs.Frame.{Frame, header, text}
 use Rattle.segment_core.specs.Tally.{tally_of}
 use Rattle.segment_core.specs.Image.{HasFrames, IsLongest}
-use Rattle.segment_core.specs.Vector.{IsVectorOf}
 use Rattle.segment_core.specs.Fault.{header_fault, IsSound, first_line, frame_lines, frame_fault, is_closed, damaged, IsRefused}
 use Rattle.segment_core.specs.Reading.{IsShort}
 use Rattle.segment_core.specs.Found.{BeginsWithText, IsNoVector}
-use Rattle.segment_core.specs.Scanned.{IsScanOf}
 use Rattle.segment_core.specs.Walk.{IsBehind, StandsBefore, IsFaultOf, IsWalkRefused}
 use Rattle.segment_core.specs.Scanner.{IsFront, GoesOn, HasEnded, IsOn, IsRefusedFor, IsFedAt, IsFed}
 use Rattle.segment_core.proofs.Lines.{frame_fault_from_lines}

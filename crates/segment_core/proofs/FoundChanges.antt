@@ -1,22 +1,20 @@
 -- The changes of frames: one frame more, those that no fold covers, and where their records stand.
-use Rattle.std.proofs.Common.{◌≡◌, ℕ, zero, suc, ◌+◌, ◌-◌, ◌*◌, ◌<◌, cond, List, [], ◌∷◌, ◌++◌, length, map, take, drop, get_or, Option, None, refl, sym, ap, subst, ◌∙◌, append_assoc, arith, inl, inr}
+use Rattle.std.proofs.Common.{◌≡◌, ℕ, zero, suc, ◌+◌, ◌-◌, ◌<◌, cond, List, [], ◌∷◌, ◌++◌, length, map, take, drop, get_or, Option, None, refl, sym, ap, subst, ◌∙◌, append_assoc, arith, inl, inr}
 use Rattle.std.specs.List.{flat_map, AllByRecursion}
-use Rattle.std.specs.Int.{w32, w64, to_le_bytes}
 use Rattle.std.specs.Option.{option_or}
 use Rattle.std.proofs.lemmas.Bool.{cases_lt, le-leb, lt-leb}
-use Rattle.std.proofs.lemmas.List.{append-nil, length-append, take_at, drop_at, take_more}
+use Rattle.std.proofs.lemmas.List.{append-nil, length-append, take_at, drop_at, take_more, map_push}
 use Rattle.record_core.specs.Bytes.{Encoding}
 use Rattle.segment_core.specs.declared.format.Format.{Format}
-use Rattle.segment_core.specs.declared.format.Format.TheVariants.{One, Two}
 use Rattle.segment_core.specs.declared.format.Shape.{Shape}
 use Rattle.segment_core.specs.declared.notes.Notes.{Notes}
 use Rattle.segment_core.specs.declared.tally.Tally.{Tally}
-use Rattle.segment_core.specs.Frame.{Run, Frame, Group, Change, Shrink, Fold, kind_of, number_text, number_len, run_text, runs_text, runs_len, payload_of, header, frame_text, text}
+use Rattle.segment_core.specs.Frame.{Run, Frame, Group, Change, Shrink, Fold, runs_len, header, frame_text, text}
 use Rattle.segment_core.specs.Tally.{nothing, after, tally_from, tally_of}
 use Rattle.segment_core.specs.Vector.{place_in_runs, last_from, change_in, change_of}
 use Rattle.segment_core.specs.Reading.{Seen, runs_of, record_bytes_of, head_len}
 use Rattle.segment_core.specs.Found.{StandsAt, first_record_of, IsLaid, changes_in, changes_from, changes_of, live_among}
-use Rattle.segment_core.proofs.RunRows.{length-runs_text}
+use Rattle.segment_core.proofs.FrameParts.{front_text, length-front_text, frame_parts}
 use Rattle.segment_core.proofs.LastFrom.{option_or_assoc, option_or_none, gate_is}
 use Rattle.segment_core.proofs.FoundLaid.{laid_as, laid_then}
 
@@ -45,10 +43,6 @@ drop_nothing zero = refl
 drop_nothing (suc n) = refl
 
 -- ---- pairs
-
-map_push : {X Y : Type 0} (f : X → Y) (xs : List X) (x : X) → map f (xs ++ x ∷ []) ≡ map f xs ++ f x ∷ []
-map_push f [] x = refl
-map_push f (y ∷ xs) x = ap (λ rest. f y ∷ rest) (map_push f xs x)
 
 abbrev pub pair_of : Run → ℕ × ℕ
 pair_of run = (run.start, run.count)
@@ -135,53 +129,14 @@ change_of_live shape folded frames i = let all : folded - 0 ≡ folded = omega a
 
 -- ---- where records stand
 
-length-words : (ns : List ℕ) → length (flat_map (to_le_bytes w32) ns) ≡ length ns * 4
-length-words [] = refl
-length-words (n ∷ ns) = let rest = length-words ns in length-append (to_le_bytes w32 n) (flat_map (to_le_bytes w32) ns) ∙ omega arith
-
--- a frame's text ends with its records
-pub record EndsWithRecords (format : Format) (frame : Frame) : Type 0 where
-  pub front : List ℕ
-  pub is : frame_text format frame ≡ front ++ record_bytes_of frame
-  pub front_len : length front ≡ 6 + head_len format frame
-
-abbrev pub head6 : Format → Frame → List ℕ
-head6 format frame = 1 ∷ kind_of frame ∷ to_le_bytes w32 (length (payload_of format frame))
-
-pub ends_with_records : (format : Format) (frame : Frame) → EndsWithRecords format frame
-ends_with_records format (Group lengths bytes) =
-    let f : Frame = Group lengths bytes in
-    let count : List ℕ = to_le_bytes w32 (length lengths) in
-    let words : List ℕ = flat_map (to_le_bytes w32) lengths in
-    let a = length-append (head6 format f) (count ++ words) in
-    let b = length-append count words in
-    let c = length-words lengths in
-    record {
-      front = head6 format f ++ (count ++ words);
-      is = ap (λ (bs : List ℕ). head6 format f ++ bs) (sym (append_assoc count words bytes)) ∙ sym (append_assoc (head6 format f) (count ++ words) bytes);
-      front_len = a ∙ omega arith;
-    }
-ends_with_records format (Change runs bytes) =
-    let f : Frame = Change runs bytes in
-    let a = length-append (head6 format f) (runs_text format runs) in
-    let b = length-runs_text format runs in
-    record {
-      front = head6 format f ++ runs_text format runs;
-      is = sym (append_assoc (head6 format f) (runs_text format runs) bytes);
-      front_len = a ∙ ap (λ n. 6 + n) b;
-    }
-ends_with_records format (Shrink n) = record { front = frame_text format (Shrink n); is = sym (append-nil (frame_text format (Shrink n))); front_len = length-append (head6 format (Shrink n)) (to_le_bytes w64 n) }
-ends_with_records format (Fold n) = record { front = frame_text format (Fold n); is = sym (append-nil (frame_text format (Fold n))); front_len = length-append (head6 format (Fold n)) (to_le_bytes w64 n) }
-
 pub records_stand : (format : Format) (frame : Frame) (image before rest : List ℕ) (p : ℕ) → image ≡ before ++ (frame_text format frame ++ rest) → p ≡ length before → StandsAt image (p + 6 + head_len format frame) (record_bytes_of frame)
 records_stand format frame image before rest p is here =
-    let ends = ends_with_records format frame in
-    let front : List ℕ = ends.front in
+    let front : List ℕ = front_text format frame in
     let bytes : List ℕ = record_bytes_of frame in
     let parts : image ≡ (before ++ front) ++ (bytes ++ rest) =
-    is ∙ ap (λ (bs : List ℕ). before ++ (bs ++ rest)) ends.is ∙ ap (λ (bs : List ℕ). before ++ bs) (append_assoc front bytes rest) ∙ sym (append_assoc before front (bytes ++ rest)) in
+    is ∙ ap (λ (bs : List ℕ). before ++ (bs ++ rest)) (frame_parts format frame) ∙ ap (λ (bs : List ℕ). before ++ bs) (append_assoc front bytes rest) ∙ sym (append_assoc before front (bytes ++ rest)) in
     let len = length-append before front in
-    let first = ends.front_len in
+    let first = length-front_text format frame in
     let at : p + 6 + head_len format frame ≡ length (before ++ front) = omega arith in
     let behind : drop (p + 6 + head_len format frame) image ≡ bytes ++ rest = ap (λ n. drop n image) at ∙ ap (drop (length (before ++ front))) parts ∙ drop_at (before ++ front) (bytes ++ rest) (length (before ++ front)) refl in
     ap (take (length bytes)) behind ∙ take_at bytes rest (length bytes) refl

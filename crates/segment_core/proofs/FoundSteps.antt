@@ -14,7 +14,6 @@ use Rattle.segment_core.specs.declared.found.Home.{Home}
 use Rattle.segment_core.specs.declared.tally.Tally.{Tally}
 use Rattle.segment_core.specs.Shape.{shape_of}
 use Rattle.segment_core.specs.Frame.{Run, Frame, Group, Change, Shrink, Fold, kind_of, frame_text, text}
-use Rattle.segment_core.specs.Layout.{HasLayout}
 use Rattle.segment_core.specs.Tally.{nothing, after, tally_of, are_inside, is_outside, is_unfolded, is_miscounted, is_too_long}
 use Rattle.segment_core.specs.Vector.{place_among, home_in, home_of}
 use Rattle.segment_core.specs.Reading.{Seen, runs_of, record_bytes_of, record_count, head_len}
@@ -25,7 +24,8 @@ use Rattle.segment_core.proofs.LastFrom.{home_push}
 use Rattle.segment_core.proofs.PlaceAmong.{place_among_inside, place_among_below}
 use Rattle.segment_core.proofs.Replaced.{slice_get-take}
 use Rattle.segment_core.proofs.FoundHomes.{home_among_push, in_turn_push}
-use Rattle.segment_core.proofs.FoundChanges.{all_push, all_drop, all_map, changes_push, changes_counted, ends_with_records, records_stand}
+use Rattle.segment_core.proofs.FrameParts.{length-frame_parts, records_filled}
+use Rattle.segment_core.proofs.FoundChanges.{all_push, all_drop, all_map, changes_push, changes_counted, records_stand}
 
 -- ---- bytes behind don't matter
 
@@ -81,12 +81,6 @@ group_fits t (Group lengths bytes) kind short = ltb-false (2 ^ 32) (t.size + rec
 group_fits t (Change runs bytes) kind short = absurd (omega (arith, kind))
 group_fits t (Shrink n) kind short = absurd (omega (arith, kind))
 group_fits t (Fold count) kind short = absurd (omega (arith, kind))
-
-group_filled : (shape : Shape) (f : Frame) → kind_of f ≡ 1 → HasLayout shape f → length (record_bytes_of f) ≡ record_count f * shape.width
-group_filled shape (Group lengths bytes) kind layout = layout.2
-group_filled shape (Change runs bytes) kind layout = absurd (omega (arith, kind))
-group_filled shape (Shrink n) kind layout = absurd (omega (arith, kind))
-group_filled shape (Fold count) kind layout = absurd (omega (arith, kind))
 
 -- no other kind has home bytes
 no_home : (width i p : ℕ) (t : Tally) (f : Frame) → 1 < kind_of f → home_in width i p t f ≡ None
@@ -184,13 +178,11 @@ found_group {R} form frames seen old new kind follows grown =
     let changes : (tally_of (frames ++ f ∷ [])).changes ≡ t.changes = ap (λ x. x.changes) tally in
     let at : seen.at ≡ length (text shape frames) = follows.here ∙ ap (λ s. length (text s frames)) (same_shape form seen.shape follows.wide) in
     let pushed : image ≡ text shape frames ++ frame_text format f = text_push shape frames f in
-    let ends = ends_with_records format f in
     let stands : StandsAt image p bytes = records_stand format f image (text shape frames) [] seen.at (pushed ∙ ap (λ (bs : List ℕ). text shape frames ++ bs) (sym (append-nil (frame_text format f)))) at in
-    let filled : length bytes ≡ n * width = group_filled seen.shape f kind follows.whole.layout ∙ ap (λ w. n * w) follows.wide in
+    let filled : length bytes ≡ n * width = records_filled seen.shape f follows.whole.layout ∙ ap (λ w. n * w) follows.wide in
     let reach : p + length bytes ≡ length image =
     let a = ap length pushed ∙ length-append (text shape frames) (frame_text format f) in
-    let b = ap length ends.is ∙ length-append ends.front bytes in
-    let c = ends.front_len in
+    let b = length-frame_parts format f in
     omega arith in
     let start : length old.records.items ≡ t.size = behind.size_is in
     let says : ℕ → Option ℕ = place_among width p t.size n in

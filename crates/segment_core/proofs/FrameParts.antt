@@ -7,7 +7,7 @@ use Rattle.std.proofs.lemmas.List.Sums.{sum-map, sum_by-cons}
 use Rattle.segment_core.specs.declared.format.Format.{Format}
 use Rattle.segment_core.specs.declared.format.Shape.{Shape}
 use Rattle.segment_core.specs.Frame.{Run, Frame, Group, Change, Shrink, Fold, kind_of, runs_text, records_of_runs, payload_of, frame_text}
-use Rattle.segment_core.specs.Layout.{IsFrame}
+use Rattle.segment_core.specs.Layout.{HasLayout}
 use Rattle.segment_core.specs.Reading.{record_bytes_of, record_count, head_len}
 use Rattle.segment_core.proofs.Numbers.{length-numbers_text}
 use Rattle.segment_core.proofs.RunRows.{length-runs_text}
@@ -61,11 +61,11 @@ length-frame_parts format frame =
     ap length (frame_parts format frame) ∙ omega arith
 
 -- the records fill their part exactly
-pub records_filled : (shape : Shape) (frame : Frame) → IsFrame shape frame → length (record_bytes_of frame) ≡ record_count frame * shape.width
-records_filled shape (Group lengths bytes) whole = whole.layout.2
-records_filled shape (Change runs bytes) whole = whole.layout.2
-records_filled shape (Shrink n) whole = omega arith
-records_filled shape (Fold count) whole = omega arith
+pub records_filled : (shape : Shape) (frame : Frame) → HasLayout shape frame → length (record_bytes_of frame) ≡ record_count frame * shape.width
+records_filled shape (Group lengths bytes) layout = layout.2
+records_filled shape (Change runs bytes) layout = layout.2
+records_filled shape (Shrink n) layout = omega arith
+records_filled shape (Fold count) layout = omega arith
 
 -- ---- runs
 

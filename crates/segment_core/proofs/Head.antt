@@ -1,26 +1,25 @@
 -- What a reader answers of a frame, test by test; each answer but of a frame that is cut short stays the same
 -- whatever follows the bytes.
-use Rattle.std.proofs.Common.{◌≡◌, ℕ, zero, suc, ◌+◌, ◌-◌, ◌*◌, ◌^◌, ◌≤◌, ◌<◌, true, false, List, [], ◌∷◌, ◌++◌, length, take, drop, get_or, sum, slice_index, Some, refl, sym, ap, subst, ◌∙◌, arith}
+use Rattle.std.proofs.Common.{◌≡◌, ℕ, ◌+◌, ◌-◌, ◌*◌, ◌^◌, ◌≤◌, ◌<◌, true, false, List, [], ◌∷◌, ◌++◌, length, take, drop, slice_index, Some, refl, sym, ap, subst, ◌∙◌, arith}
 use Rattle.std.specs.Prelude.{not, ◌==◌}
 use Rattle.std.specs.Int.{w32, to_le_bytes, from_le_bytes}
 use Rattle.std.proofs.lemmas.Bool.{le-ltb, lt-ltb, eq-eqb, ne_eqb}
-use Rattle.std.proofs.lemmas.List.{take-append-drop, length-take-le, length-drop, length-append, take-append-le, drop-append-le, get_or_append_left, drop_at}
+use Rattle.std.proofs.lemmas.List.{take-append-drop, length-take-le, length-drop, length-append, take-append-le, drop-append-le, get_or_append_left}
 use Rattle.record_core.specs.Bytes.{IsBytes}
-use Rattle.segment_core.specs.declared.fault.Cause.TheVariants.{NoGate, ShortFrame, Kind, TooLarge, Layout}
+use Rattle.segment_core.specs.declared.fault.Cause.TheVariants.{Kind, TooLarge, Layout}
 use Rattle.segment_core.specs.declared.fault.ScanFault.{ScanFault}
-use Rattle.segment_core.specs.declared.format.Format.{Format}
 use Rattle.segment_core.specs.declared.format.FrameKind.{FrameKind}
 use Rattle.segment_core.specs.declared.format.FrameKind.TheVariants as kinds
 use Rattle.segment_core.specs.declared.format.Shape.{Shape}
 use Rattle.segment_core.specs.Shape.{limit_of}
-use Rattle.segment_core.specs.Frame.{Run, Frame, Group, Change, Shrink, Fold, kind_of, runs_len, runs_text, run_text, number_text, payload_of, frame_text}
+use Rattle.segment_core.specs.Frame.{Frame, payload_of, frame_text}
 use Rattle.segment_core.specs.Kind.{kind_byte}
-use Rattle.segment_core.specs.Layout.{HasLayout, u32_at, frame_in, is_layout}
+use Rattle.segment_core.specs.Layout.{u32_at, frame_in, is_layout}
 use Rattle.segment_core.specs.Fault.{first_line, frame_lines, is_closed, damaged, kind_in, payload_len_in, payload_in, is_kind}
-use Rattle.segment_core.specs.Reading.{IsShort, IsFaulty, BeginsWith, IsRead, lengths_of, runs_of, record_bytes_of, record_count, head_len}
+use Rattle.segment_core.specs.Reading.{IsShort, IsFaulty, BeginsWith, IsRead, lengths_of, runs_of, record_bytes_of, record_count}
 use Rattle.segment_core.proofs.Numbers.{IsBytes-drop, IsBytes-take, u32_at-drop, u32_written, first_false, second_false}
-use Rattle.segment_core.proofs.Payload.{limit_small, OneOf, IsGroup, IsChange, IsShrink, IsFold, is_payload, length-group_payload, length-change_payload}
-use Rattle.segment_core.proofs.FrameParts.{length-payload_of}
+use Rattle.segment_core.proofs.Payload.{limit_small, OneOf, IsGroup, IsChange, IsShrink, IsFold, is_payload}
+use Rattle.segment_core.proofs.FrameParts.{length-payload_of, records_filled}
 use Rattle.segment_core.proofs.Lines.{first_line_at}
 
 -- the one answer of a fault that the frame has by itself
@@ -189,12 +188,6 @@ begins_with shape bytes kind w =
 
 -- ---- what a reader keeps
 
-pub filled_of : (shape : Shape) (frame : Frame) → HasLayout shape frame → length (record_bytes_of frame) ≡ record_count frame * shape.width
-filled_of shape (Group lengths bytes) layout = layout.2
-filled_of shape (Change runs bytes) layout = layout.2
-filled_of shape (Shrink n) layout = omega arith
-filled_of shape (Fold count) layout = omega arith
-
 pub is_read : (at : ℕ) (shape : Shape) (kind heads records : ℕ) (bytes : List ℕ) → at + length bytes < 2 ^ 64 → IsWhole shape bytes kind
     → heads ≡ length (lengths_of (frame_in shape kind (payload_in bytes))) + length (runs_of (frame_in shape kind (payload_in bytes))) → records ≡ record_count (frame_in shape kind (payload_in bytes))
     → IsRead at shape heads records (payload_in bytes) (frame_in shape kind (payload_in bytes))
@@ -207,7 +200,7 @@ is_read at shape kind heads records bytes placed w h r =
     let whole = w.whole in
     let begins = begins_with shape bytes kind w in
     let p = is_payload shape kind payload w.wide (IsBytes-take (payload_len_in bytes) (drop 6 bytes) (IsBytes-drop 6 bytes w.fits)) (omega arith) w.one w.formed in
-    let filled : length (record_bytes_of frame) ≡ records * shape.width = filled_of shape frame p.layout ∙ ap (λ n. n * shape.width) (sym r) in
+    let filled : length (record_bytes_of frame) ≡ records * shape.width = records_filled shape frame p.layout ∙ ap (λ n. n * shape.width) (sym r) in
     let parts = length-payload_of shape.format frame in
     let spelled = ap length p.spelled in
     record { placed = omega arith; small = omega arith; whole = begins.whole; spelled = p.spelled; heads_are = h; records_are = r; filled = filled; sized = omega arith }

@@ -1,6 +1,6 @@
 -- The header of a file, and the tests that find it.
 use Rattle.std.proofs.Common.{◌≡◌, ℕ, ◌≤◌, ◌<◌, Bool, true, false, cond, List, [], ◌∷◌, ◌++◌, length, take, drop, get_or, slice_index, Some, None, refl, sym, ap, ◌∙◌, arith, codes}
-use Rattle.std.specs.Prelude.{not, nat_lt, nat_le, nat_eq, ◌==◌, ◌||◌, ◌&&◌}
+use Rattle.std.specs.Prelude.{not, nat_lt, nat_le, nat_eq, ◌==◌, ◌||◌}
 use Rattle.std.specs.List.{starts_with}
 use Rattle.std.specs.Int.{w16, to_le_bytes, from_le_bytes}
 use Rattle.std.specs.Cmp.Lexicographic.{pointwise, same_text}
@@ -12,7 +12,6 @@ use Rattle.segment_core.specs.declared.fault.ScanFault.{ScanFault}
 use Rattle.segment_core.specs.declared.fault.ScanFault.TheVariants.{Unborn, NotSegment, Version, Width}
 use Rattle.segment_core.specs.declared.format.Format.{Format}
 use Rattle.segment_core.specs.declared.format.Format.TheVariants.{One, Two}
-use Rattle.segment_core.specs.declared.format.Shape.{Shape}
 use Rattle.segment_core.specs.Shape.{version_of, format_in}
 use Rattle.segment_core.specs.Frame.{header}
 use Rattle.segment_core.specs.Fault.{header_lines, header_fault, first_line, is_version}

@@ -14,7 +14,7 @@ use Rattle.segment_core.specs.Shape.{limit_of, shape_of}
 use Rattle.segment_core.specs.Frame.{Run, Frame, Group, Change, Shrink, Fold, records_of_runs}
 use Rattle.segment_core.specs.Layout.{IsLength, IsRun, IsFrame}
 use Rattle.segment_core.specs.Tally.{nothing, after, tally_from, tally_of, are_ascending, are_inside, MayFollow, AreLegalFrom, AreLegal}
-use Rattle.segment_core.specs.Command.{Command, AreRuns, IsLegalCommand}
+use Rattle.segment_core.specs.Command.{Command, IsLegalCommand}
 use Rattle.segment_core.specs.Command as commands
 use Rattle.segment_core.specs.CommandFrame.{IsFrameOf}
 use Rattle.segment_core.proofs.Payload.{limit_small}
@@ -53,7 +53,7 @@ each_counted [] each = tt
 each_counted (run ∷ runs) each = (each.0.1.0, each_counted runs each.1)
 
 -- runs that are filled by few records, inside a vector
-are_runs : (size : ℕ) (runs : List Run) → size ≤ 2 ^ 32 → records_of_runs runs < 2 ^ 32 → AllByRecursion (λ run. 0 < run.count) runs → are_inside size runs ≡ true → AllByRecursion IsRun runs
+pub are_runs : (size : ℕ) (runs : List Run) → size ≤ 2 ^ 32 → records_of_runs runs < 2 ^ 32 → AllByRecursion (λ run. 0 < run.count) runs → are_inside size runs ≡ true → AllByRecursion IsRun runs
 are_runs size [] limit few each inside = tt
 are_runs size (run ∷ runs) limit few each inside =
     let both = and_parts (nat_le (run.start + run.count) size) (are_inside size runs) inside in

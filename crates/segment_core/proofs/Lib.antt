@@ -29,10 +29,13 @@ pub mod FoundLaid
 pub mod FoundHomes
 pub mod FoundChanges
 pub mod FoundSteps
+pub mod HomesPush
 pub mod FoundEnd
 pub mod Walked
 pub mod Fed
 pub mod Worked
 pub mod Written
+pub mod Changes
 pub mod GrowthRows
 pub mod ReadAgain
+pub mod ReadAs

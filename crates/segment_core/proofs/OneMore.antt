@@ -119,7 +119,7 @@ module _ {R : Type 0} (format : Format) (form : Encoding R) (image : List ℕ) (
         ∙ record_in_row form image (text shape frames ++ front) bytes rest new j there are lt
 
     counted : (new : List R) → AreRecords form (record_bytes_of frame) new → length new ≡ record_count frame
-    counted new are = as_many form (record_bytes_of frame) new (record_count frame) whole.wide are (records_filled shape frame whole)
+    counted new are = as_many form (record_bytes_of frame) new (record_count frame) whole.wide are (records_filled shape frame whole.layout)
 
   -- a Group appends its records
   pub IsVectorOf_group : (lengths bytes : List ℕ) (new : List R) → Begins shape image (frames ++ Group lengths bytes ∷ []) → AreRecords form bytes new → IsVectorOf format form image (frames ++ Group lengths bytes ∷ []) (records ++ new)

@@ -1,9 +1,9 @@
 -- The fields of a frame, as a reader finds them in the payload.
-use Rattle.std.proofs.Common.{◌≡◌, ℕ, ◌+◌, ◌-◌, ◌*◌, ◌/◌, ◌<◌, ◌≤◌, true, false, List, [], ◌++◌, length, take, drop, get_or, Option, Some, None, Err, refl, sym, ap, subst, ◌∙◌, append_assoc, arith}
+use Rattle.std.proofs.Common.{◌≡◌, ℕ, ◌+◌, ◌-◌, ◌*◌, ◌/◌, ◌<◌, ◌≤◌, true, false, List, [], ◌++◌, length, drop, get_or, Option, Some, None, Err, refl, sym, ap, subst, ◌∙◌, append_assoc, arith}
 use Rattle.std.specs.Prelude.{slice_get, sum, MatchOption}
 use Rattle.std.specs.List.{flat_map}
-use Rattle.std.specs.Int.{w32, w64, to_le_bytes}
-use Rattle.std.proofs.lemmas.List.{append-nil, drop-drop, drop_at, length-append}
+use Rattle.std.specs.Int.{w32, to_le_bytes}
+use Rattle.std.proofs.lemmas.List.{append-nil, drop_at, length-append}
 use Rattle.segment_core.specs.declared.frame.Unread.{Unread}
 use Rattle.segment_core.specs.declared.frame.Unread.TheVariants.{Short, Fault}
 use Rattle.segment_core.specs.declared.format.Format.{Format}
@@ -13,7 +13,7 @@ use Rattle.segment_core.specs.declared.format.FrameKind.{FrameKind}
 use Rattle.segment_core.specs.declared.format.FrameKind.TheVariants as kinds
 use Rattle.segment_core.specs.declared.fault.ScanFault.{ScanFault}
 use Rattle.segment_core.specs.Shape.{version_of}
-use Rattle.segment_core.specs.Frame.{Run, Frame, Group, Change, Shrink, Fold, number_len, runs_len, runs_text, kind_of, payload_of, frame_text}
+use Rattle.segment_core.specs.Frame.{Frame, Group, Change, Shrink, Fold, number_len, runs_len, runs_text, payload_of, frame_text}
 use Rattle.segment_core.specs.Kind.{kind_byte}
 use Rattle.segment_core.specs.Layout.{u32_at, count_in, lengths_in, run_count_in, runs_in, frame_in, is_group_layout, is_layout}
 use Rattle.segment_core.specs.Fault.{first_line, frame_lines, is_closed}

@@ -1,6 +1,6 @@
 -- What is answered in place of a vector is the first fault.
-use Rattle.std.proofs.Common.{◌≡◌, ℕ, true, List, [], ◌∷◌, ◌++◌, length, drop, Option, Some, None, refl, sym, ap, subst, ◌∙◌, arith, inl, inr}
-use Rattle.std.specs.Prelude.{MatchOption, not, nat_lt, ◌⊎◌}
+use Rattle.std.proofs.Common.{◌≡◌, ℕ, true, List, ◌∷◌, length, drop, Option, Some, None, refl, sym, ap, subst, ◌∙◌, arith, inl, inr}
+use Rattle.std.specs.Prelude.{MatchOption, not, nat_lt}
 use Rattle.std.proofs.lemmas.Bool.{lt-ltb, ne_eqb}
 use Rattle.std.proofs.lemmas.List.{drop_at}
 use Rattle.record_core.specs.Bytes.{Encoding}
@@ -12,7 +12,7 @@ use Rattle.segment_core.specs.Shape.{shape_of, format_in}
 use Rattle.segment_core.specs.Frame.{Frame, text}
 use Rattle.segment_core.specs.Tally.{tally_of}
 use Rattle.segment_core.specs.Image.{HasFrames, IsLongest}
-use Rattle.segment_core.specs.Fault.{header_fault, IsSound, frame_fault, is_closed, IsBadRecord, EndsWith, IsFrameFault, IsRefused}
+use Rattle.segment_core.specs.Fault.{header_fault, IsSound, frame_fault, is_closed, IsBadRecord, IsFrameFault, IsRefused}
 use Rattle.segment_core.proofs.Numbers.{true_both}
 use Rattle.segment_core.proofs.Lines.{frame_fault_closed}
 use Rattle.segment_core.proofs.Longest.{NoFrame_closed, is_longest}

@@ -1,8 +1,8 @@
 -- The runs of a change: written, read, and counted one by one, in both versions.
-use Rattle.std.proofs.Common.{◌≡◌, ℕ, zero, suc, ◌+◌, ◌-◌, ◌*◌, ◌/◌, ◌^◌, ◌≤◌, ◌<◌, Bool, true, false, List, [], ◌∷◌, ◌++◌, length, take, drop, map, sum, Some, None, refl, sym, ap, subst, ◌∙◌, append_assoc, arith}
-use Rattle.std.specs.Prelude.{nat_lt, ◌&&◌, slice_get}
+use Rattle.std.proofs.Common.{◌≡◌, ℕ, zero, suc, ◌+◌, ◌*◌, ◌^◌, ◌≤◌, ◌<◌, Bool, true, false, List, [], ◌∷◌, ◌++◌, length, take, drop, map, sum, Some, refl, sym, ap, ◌∙◌, append_assoc, arith}
+use Rattle.std.specs.Prelude.{nat_lt, slice_get}
 use Rattle.std.specs.List.{flat_map, list_all, AllByRecursion}
-use Rattle.std.specs.Int.{w32, w64, to_le_bytes, from_le_bytes}
+use Rattle.std.specs.Int.{w64, to_le_bytes, from_le_bytes}
 use Rattle.std.proofs.lemmas.Bool.{ltb-true, lt-ltb}
 use Rattle.std.proofs.lemmas.List.Sums.{sum_by_push}
 use Rattle.std.proofs.lemmas.List.{map_push, take_at, drop_at, drop-drop, take-append-drop, length-append, length-take-le, length-drop}
@@ -11,7 +11,7 @@ use Rattle.record_core.specs.Bytes.{IsBytes}
 use Rattle.segment_core.specs.declared.format.Format.{Format}
 use Rattle.segment_core.specs.declared.format.Format.TheVariants.{One, Two}
 use Rattle.segment_core.specs.Frame.{Run, number_text, number_len, run_text, runs_text, runs_len, records_of_runs}
-use Rattle.segment_core.specs.Layout.{IsRun, u32_at, u64_at, number_at, runs_from}
+use Rattle.segment_core.specs.Layout.{IsRun, u64_at, number_at, runs_from}
 use Rattle.segment_core.proofs.Numbers.{IsBytes-drop, IsBytes-take, u32_at_first, u32_at-drop, u32_written, u32_small, both_true, true_both, first_false, second_false}
 
 -- ---- one number
@@ -179,13 +179,6 @@ pub not_all : {X : Type 0} (test : X → Bool) (xs : List X) (k : ℕ) (x : X) �
 not_all test [] k x at fails = absurd cc
 not_all test (y ∷ xs) zero x at fails = let same : y ≡ x = cc in first_false (test y) (list_all test xs) (ap test same ∙ fails)
 not_all test (y ∷ xs) (suc k) x at fails = second_false (test y) (list_all test xs) (not_all test xs k x at fails)
-
-pub take_got : {X : Type 0} (xs : List X) (k : ℕ) (x : X) → slice_get xs k ≡ Some x → take (k + 1) xs ≡ take k xs ++ x ∷ []
-take_got [] k x at = absurd cc
-take_got {X} (y ∷ xs) zero x at = let same : y ≡ x = cc in ap (λ (z : X). z ∷ []) same
-take_got {X} (y ∷ xs) (suc k) x at =
-    let more : suc k + 1 ≡ suc (k + 1) = omega arith in
-    ap (λ n. take n (y ∷ xs)) more ∙ ap (λ (zs : List X). y ∷ zs) (take_got xs k x at)
 
 pub records_of_runs_push : (runs : List Run) (run : Run) → records_of_runs (runs ++ run ∷ []) ≡ records_of_runs runs + run.count
 records_of_runs_push runs run = ap sum (map_push (λ r. r.count) runs run) ∙ sum_by_push (λ x. x) (map (λ r. r.count) runs) run.count

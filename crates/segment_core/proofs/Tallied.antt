@@ -1,10 +1,10 @@
 -- Which frame may come, test by test.
-use Rattle.std.proofs.Common.{◌≡◌, ◌≢◌, ℕ, ◌+◌, Bool, true, false, Some, refl, sym, ap, ◌∙◌, arith}
-use Rattle.std.specs.Prelude.{not, nat_lt, ◌||◌}
+use Rattle.std.proofs.Common.{◌≡◌, ◌≢◌, ℕ, ◌+◌, true, false, Some, refl, arith}
+use Rattle.std.specs.Prelude.{not, nat_lt}
 use Rattle.segment_core.specs.declared.fault.Cause.TheVariants.{Runs, Range, Unfolded, FoldCount, TooLong}
 use Rattle.segment_core.specs.declared.tally.Tally.{Tally}
 use Rattle.segment_core.specs.Frame.{Frame, Group, Change, Shrink, Fold, kind_of}
-use Rattle.segment_core.specs.Tally.{are_ascending, are_inside, is_disordered, is_outside, is_unfolded, is_miscounted, is_too_long, MayFollow}
+use Rattle.segment_core.specs.Tally.{are_ascending, are_inside, is_disordered, is_outside, is_unfolded, is_miscounted, is_too_long}
 use Rattle.segment_core.specs.Fault.{first_line, order_lines, damaged}
 use Rattle.segment_core.specs.Reading.{runs_of, record_count}
 use Rattle.segment_core.proofs.Lines.{first_line_at}

@@ -1,11 +1,10 @@
 -- What a walk over an image keeps from frame to frame, and what it knows where it ends.
-use Rattle.std.proofs.Common.{◌≡◌, ◌≢◌, ℕ, ◌+◌, ◌-◌, ◌*◌, ◌^◌, ◌≤◌, ◌<◌, true, false, List, [], ◌∷◌, ◌++◌, length, drop, Some, refl, sym, ap, subst, ◌∙◌, append_assoc, arith, inl, inr}
-use Rattle.std.specs.Prelude.{not, nat_lt, ◌==◌, ◌⊎◌}
+use Rattle.std.proofs.Common.{◌≡◌, ◌≢◌, ℕ, ◌+◌, ◌*◌, ◌^◌, ◌≤◌, ◌<◌, true, false, List, [], ◌∷◌, ◌++◌, length, drop, Some, refl, sym, ap, subst, ◌∙◌, append_assoc, arith}
+use Rattle.std.specs.Prelude.{not, nat_lt, ◌==◌}
 use Rattle.std.specs.List.{flat_map}
 use Rattle.std.proofs.lemmas.List.{append-nil, drop_at, length-append, length-drop, length_push}
 use Rattle.record_core.specs.Bytes.{Encoding}
 use Rattle.segment_core.specs.declared.fault.ScanFault.{ScanFault}
-use Rattle.segment_core.specs.declared.fault.ScanFault.TheVariants.{Memory}
 use Rattle.segment_core.specs.declared.format.Format.{Format}
 use Rattle.segment_core.specs.declared.format.Shape.{Shape}
 use Rattle.segment_core.specs.declared.tally.Tally.{Tally}
@@ -14,10 +13,10 @@ use Rattle.segment_core.specs.Frame.{Frame, Group, Change, Shrink, Fold, header,
 use Rattle.segment_core.specs.Layout.{IsFrame}
 use Rattle.segment_core.specs.Tally.{nothing, after, tally_of, MayFollow, AreLegal}
 use Rattle.segment_core.specs.Image.{HasFrames}
-use Rattle.segment_core.specs.Fault.{first_line, frame_lines, order_lines, frame_fault, is_closed}
+use Rattle.segment_core.specs.Fault.{first_line, order_lines, frame_fault, is_closed}
 use Rattle.segment_core.specs.Reading.{Seen, BeginsWith, IsFaulty}
 use Rattle.segment_core.specs.Found.{IsFound, Follows}
-use Rattle.segment_core.specs.Walk.{IsBehind, StandsBefore, IsFaultOf, IsWalkRefused}
+use Rattle.segment_core.specs.Walk.{IsBehind, StandsBefore, IsFaultOf}
 use Rattle.segment_core.proofs.Numbers.{both_true}
 use Rattle.segment_core.proofs.Payload.{length-frame_text}
 use Rattle.segment_core.proofs.Lines.{frame_fault_from_lines, frame_fault_from_order}

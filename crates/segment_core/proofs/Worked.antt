@@ -4,17 +4,15 @@ use Rattle.std.proofs.Common.{◌≡◌, ℕ, true, false, List, [], ◌∷◌, 
 use Rattle.std.specs.Int.{w64, to_le_bytes}
 use Rattle.record_core.specs.Bytes.{Encoding, unsigned, flagged}
 use Rattle.segment_core.specs.declared.fault.Cause.TheVariants.{NoGate, ShortFrame, Kind, TooLarge, Layout, Runs, Range, Unfolded, FoldCount, TooLong}
-use Rattle.segment_core.specs.declared.fault.ScanFault.{ScanFault}
 use Rattle.segment_core.specs.declared.fault.ScanFault.TheVariants.{Unborn, NotSegment, Version, Width}
-use Rattle.segment_core.specs.declared.format.Format.{Format}
 use Rattle.segment_core.specs.declared.format.Format.TheVariants.{One, Two}
 use Rattle.segment_core.specs.declared.format.Shape.{Shape}
-use Rattle.segment_core.specs.Command.{Command, content, replaced}
+use Rattle.segment_core.specs.Command.{content, replaced}
 use Rattle.segment_core.specs.Command as commands
 use Rattle.segment_core.specs.Shape.{shape_of}
-use Rattle.segment_core.specs.Frame.{Run, Frame, Group, Change, Shrink, Fold, payload_of, frame_text, text}
+use Rattle.segment_core.specs.Frame.{Run, Frame, Group, Change, Shrink, Fold, text}
 use Rattle.segment_core.specs.Layout.{u32_at, u64_at, is_group_layout, is_change_layout, is_layout, frame_in}
-use Rattle.segment_core.specs.Tally.{nothing, tally_of}
+use Rattle.segment_core.specs.Tally.{tally_of}
 use Rattle.segment_core.specs.Vector.{place_of, record_at}
 use Rattle.segment_core.specs.Fault.{header_fault, header_lines, frame_fault, frame_lines, order_lines, damaged}
 

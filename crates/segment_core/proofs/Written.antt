@@ -7,6 +7,8 @@ use Rattle.std.specs.Int.{w32, to_le_bytes}
 use Rattle.std.proofs.lemmas.List.{append-nil, length-append, length-map, map_more, map_push, take-append-drop}
 use Rattle.std.proofs.lemmas.List.Concat.{flat_map-append, length-flat_map}
 use Rattle.std.proofs.lemmas.List.Sums.{sum-map}
+use Rattle.std.proofs.lemmas.Nat.{mul-le}
+use Rattle.std.proofs.Math.Nat.{add-mul}
 use Rattle.record_core.specs.Cells.{AreReadAgain}
 use Rattle.record_core.proofs.Cells.{length-flat_map_bytes}
 use Rattle.record_core.specs.Limits.{payload_limit}
@@ -66,6 +68,22 @@ growth_within width growths k growth is = let more = payload_len_more width grow
 
 pub payload_len_nothing : {R : Type 0} (width : ℕ) (growths : List (List R)) → growths ≡ [] → payload_len width growths ≡ 4
 payload_len_nothing width growths none = ap (payload_len width) none ∙ (let nothing : 4 + 0 * 4 + 0 * width ≡ 4 = omega arith in nothing)
+
+pub records_more : {R : Type 0} (growths : List (List R)) (k : ℕ) (growth : List R) → slice_get growths k ≡ Some growth → length (joined (take (k + 1) growths)) ≡ length (joined (take k growths)) + length growth
+records_more growths k growth is = ap (λ gs. length (joined gs)) (take_more growths k growth is) ∙ ap length (joined_push (take k growths) growth) ∙ length-append (joined (take k growths)) growth
+
+pub records_within : {R : Type 0} (growths : List (List R)) (k : ℕ) → length (joined (take k growths)) ≤ length (joined growths)
+records_within growths k =
+    let parts = ap (λ gs. length (joined gs)) (sym (take-append-drop k growths)) in
+    let both = ap length (joined-append (take k growths) (drop k growths)) ∙ length-append (joined (take k growths)) (joined (drop k growths)) in
+    omega arith
+
+-- the bytes of the records up to a growth, and of this one
+pub cells_more : {R : Type 0} (width : ℕ) (growths : List (List R)) (k : ℕ) (growth : List R) → slice_get growths k ≡ Some growth → length (joined (take (k + 1) growths)) * width ≡ length (joined (take k growths)) * width + length growth * width
+cells_more width growths k growth is = ap (λ n. n * width) (records_more growths k growth is) ∙ add-mul (length (joined (take k growths))) (length growth) width
+
+pub cells_within : {R : Type 0} (width : ℕ) (growths : List (List R)) (k : ℕ) → length (joined (take k growths)) * width ≤ length (joined growths) * width
+cells_within width growths k = mul-le (length (joined (take k growths))) width (length (joined growths)) width (records_within growths k) (omega arith)
 
 -- the product below
 pub long_growth : (width n : ℕ) → 1 ≤ width → n ≤ n * width

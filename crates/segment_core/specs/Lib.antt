@@ -20,3 +20,4 @@ pub mod Walk
 pub mod Scanner
 pub mod Growths
 pub mod Written
+pub mod Runs

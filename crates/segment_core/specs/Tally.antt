@@ -1,5 +1,5 @@
 -- What the frames so far leave, and which frame may come then.
-use Rattle.std.specs.Prelude.{◌≡◌, ℕ, ◌+◌, ◌^◌, Bool, true, false, List, [], ◌∷◌, length, sum, nat_le, nat_lt, not, ◌||◌, ◌&&◌}
+use Rattle.std.specs.Prelude.{◌≡◌, ℕ, ◌+◌, ◌^◌, Bool, true, false, List, [], ◌∷◌, sum, nat_le, nat_lt, not, ◌||◌, ◌&&◌}
 use Rattle.std.specs.List.{list_all}
 use Rattle.segment_core.specs.declared.format.Shape.{Shape}
 use Rattle.segment_core.specs.declared.tally.Tally.{Tally}

@@ -3,7 +3,6 @@ use Rattle.std.specs.Prelude.{◌≡◌, ◌≤◌, ◌<◌, ℕ, true, List, �
 use Rattle.record_core.specs.Bytes.{Encoding}
 use Rattle.segment_core.specs.declared.fault.ScanFault.{ScanFault}
 use Rattle.segment_core.specs.declared.fault.ScanFault.TheVariants.{Memory}
-use Rattle.segment_core.specs.declared.format.Format.{Format}
 use Rattle.segment_core.specs.declared.format.Shape.{Shape}
 use Rattle.segment_core.specs.declared.walk.Tail.{Tail}
 use Rattle.segment_core.specs.declared.walk.Tail.TheVariants.{Closed, Short}

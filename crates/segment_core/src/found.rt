@@ -232,7 +232,7 @@ fn runs_of_all(alloc: Global, changes: &VecDeque<Kept>) -> Result<Vec<(u64, u64)
 }
 
 /// Keeps the homes of the first positions alone.
-fn cut(homes: &mut Vec<Home>, size: u64)
+pub(crate) fn cut(homes: &mut Vec<Home>, size: u64)
     requires { (old : ℕ) × (size ≤ old) × AreInTurn 0 homes.old.items old }
     ensures in_turn { AreInTurn 0 homes.new.items size }
     ensures each { (width i : ℕ) → i < size → home_among width homes.new.items i ≡ home_among width homes.old.items i }

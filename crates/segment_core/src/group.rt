@@ -1,6 +1,6 @@
 //! The frame of a group.
 
-ghost use Rattle.std.specs.Prelude.{◌≡◌, ◌≤◌, ◌<◌, ◌^◌, ◌++◌, ◌∷◌, length, map, Some, slice_get, OnOk, MatchResult, MatchOption};
+ghost use Rattle.std.specs.Prelude.{◌≡◌, ◌≤◌, ◌<◌, ◌+◌, ◌*◌, ◌^◌, ◌++◌, ◌∷◌, length, map, vec_len, vec_capacity, Some, slice_get, OnOk, IsOk, MatchResult, MatchOption};
 ghost use Rattle.std.specs.List.{flat_map};
 ghost use Rattle.std.specs.Int.{w32, to_le_bytes};
 ghost use Rattle.record_core.specs.Cells.{AreReadAgain};
@@ -67,14 +67,16 @@ fn append_lengths<R: Record, G: GrowthList<R>>(
     Ok(())
 }
 
-/// Appends the records of the growths.
-fn append_growths<R: Record, G: GrowthList<R>>(
+/// Appends the records of the growths. Where there is room for them no memory is taken, and the call succeeds.
+pub(crate) fn append_growths<R: Record, G: GrowthList<R>>(
     group: &G,
     file: &mut Vec<u8>,
 ) -> Result<(), AllocError>
-    requires { payload_len R.form.width (G.growths group.now) < 2 ^ 32 }
+    requires { length (joined (G.growths group.now)) * R.form.width < 2 ^ 32 }
     ensures bytes { OnOk result (file.new.items ≡ file.old.items ++ flat_map R.form.bytes_of (joined (G.growths group.now))) }
     ensures read_again { OnOk result (AreReadAgain R.form (joined (G.growths group.now))) }
+    ensures capacity { vec_capacity file.old ≤ vec_capacity file.new }
+    ensures room { vec_len file.old + length (joined (G.growths group.now)) * R.form.width ≤ vec_capacity file.old → IsOk result }
 {
     for k in 0..group.count() {
         append_records(group.growth(k), file)?;

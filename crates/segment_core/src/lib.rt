@@ -1,10 +1,11 @@
 //! A segment file: the growths and changes of a vector, frame behind frame, and the vector that is found again.
 //!
-//! `write_image` makes the whole file of some growths, `append_group` the frame of one group, `scan` reads the
-//! vector of an image or names its first fault, `Scanner` does so of an image that comes in pieces, and
+//! `write_image` makes the whole file of some growths, `append_group`, `append_change` and `append_shrink` one frame,
+//! `scan` reads the vector of an image or names its first fault, `Scanner` does so of an image that comes in pieces, and
 //! `FrameReader` gives the fields of one frame. The format is in `docs/FORMAT.md`.
 #![tactic(auto)]
 
+mod change;
 mod fault;
 mod format;
 mod found;
@@ -12,6 +13,7 @@ mod frame;
 mod group;
 mod growth_list;
 mod growth_row;
+mod homes;
 mod image;
 mod notes;
 mod scanner;
@@ -19,6 +21,7 @@ mod tally;
 mod vector;
 mod walk;
 
+pub use change::{SHRINK_PAYLOAD_LEN, append_change, append_shrink};
 pub use fault::{Cause, GroupFault, ImageFault, ScanFault};
 pub use format::{Format, FrameKind, RECORD_LIMIT, Shape};
 pub use found::{Home, Homes};

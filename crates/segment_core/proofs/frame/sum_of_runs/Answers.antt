@@ -6,7 +6,8 @@ use Rattle.segment_core.specs.Frame.{Run, records_of_runs}
 use Rattle.segment_core.specs.Layout.{runs_in}
 use Rattle.segment_core.proofs.Numbers.{list_all-append, true_both}
 use Rattle.std.proofs.lemmas.List.{take_all}
-use Rattle.segment_core.proofs.RunRows.{length-runs_from, not_all, take_got, records_of_runs_push}
+use Rattle.segment_core.proofs.RunRows.{length-runs_from, not_all, records_of_runs_push}
+use Rattle.segment_core.proofs.Written.{take_more}
 use Rattle.segment_core.proofs.frame.sum_of_runs.Goals as goal
 
 pub returns-then-count-eq0 : goal.returns-then-count-eq0
@@ -17,7 +18,7 @@ loop-k-preserved c =
     let runs : List Run = runs_in c.args.shape c.args.payload.now in
     let k : ℕ = c.loop-k.k in
     let run : Run = record { start = c.run_at-count.result.0; count = c.run_at-count.result.1 } in
-    let more : take (k + 1) runs ≡ take k runs ++ run ∷ [] = take_got runs k run c.run_at-count.ensures.run in
+    let more : take (k + 1) runs ≡ take k runs ++ run ∷ [] = take_more runs k run c.run_at-count.ensures.run in
     let positive : 0 < run.count = let apart = c.if-count-eq0.false in omega arith in
     let below = c.run_at-count.ensures.small in
     let so_far = c.loop-k.invariant.small in

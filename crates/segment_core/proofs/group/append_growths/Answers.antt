@@ -1,14 +1,18 @@
-use Rattle.std.proofs.Common.{◌≡◌, ◌+◌, ◌++◌, List, ℕ, take, sym, ap, subst, ◌∙◌, append_assoc, arith}
+use Rattle.std.proofs.Common.{◌≡◌, ◌+◌, ◌++◌, List, ℕ, length, take, sym, ap, subst, ◌∙◌, append_assoc, arith}
 use Rattle.std.specs.List.{flat_map}
+use Rattle.std.proofs.lemmas.List.{length-append}
 use Rattle.std.proofs.lemmas.List.Concat.{flat_map-append}
 use Rattle.record_core.specs.Cells.{AreReadAgain}
+use Rattle.record_core.proofs.Cells.{length-flat_map_bytes}
 use Rattle.segment_core.specs.Written.{joined}
-use Rattle.segment_core.proofs.Written.{take_more, growth_within, joined_push, AreReadAgain-append}
+use Rattle.segment_core.proofs.Written.{take_more, cells_more, cells_within, joined_push, AreReadAgain-append}
 use Rattle.segment_core.proofs.group.append_growths.Goals as goal
 
 pub append_records-requires-after_bounds : goal.append_records-requires-after_bounds
 append_records-requires-after_bounds g c κs within =
-    let part = growth_within g.R.Record.form.width (g.G.GrowthList.growths c.args.group.now) c.loop-k.k c.growth.result.now c.growth.ensures in
+    let growths = g.G.GrowthList.growths c.args.group.now in
+    let more = cells_more g.R.Record.form.width growths c.loop-k.k c.growth.result.now c.growth.ensures in
+    let part = cells_within g.R.Record.form.width growths (c.loop-k.k + 1) in
     let fits = c.requires in
     let small = c.loop-k.file.small in
     omega arith
@@ -30,4 +34,19 @@ loop-k-preserved g c =
     record {
       bytes = bytes ∙ ap (λ (rs : List g.row.R.Denot). c.args.file.now.items ++ flat_map g.R.Record.form.bytes_of rs) (sym more);
       read_again = subst (λ (rs : List g.row.R.Denot). AreReadAgain g.R.Record.form rs) (sym more) again;
+      capacity = omega (arith, so_far.capacity, c.append_records.ensures.capacity);
     }
+
+pub returns-in_err-append_records-clause-room : goal.returns-in_err-append_records-clause-room
+returns-in_err-append_records-clause-room g c room =
+    let growths = g.G.GrowthList.growths c.args.group.now in
+    let laws = g.met.R.Record g.world.𝓛 g.world.𝓜 g.world.𝓡 ((λ s x. x), (λ x. x), (λ x. x), λ x. x) in
+    let so_far = c.loop-k.invariant in
+    let bytes : List ℕ = flat_map g.R.Record.form.bytes_of (joined (take c.loop-k.k growths)) in
+    let len = ap length so_far.bytes ∙ length-append c.args.file.now.items bytes in
+    let here = length-flat_map_bytes g.R.Record.form (joined (take c.loop-k.k growths)) laws.width_of_bytes in
+    let more = cells_more g.R.Record.form.width growths c.loop-k.k c.growth.result.now c.growth.ensures in
+    let part = cells_within g.R.Record.form.width growths (c.loop-k.k + 1) in
+    let grown = so_far.capacity in
+    let never = c.in_err-append_records.ensures.room (omega arith) in
+    absurd cc

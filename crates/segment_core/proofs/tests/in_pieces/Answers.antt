@@ -1,4 +1,4 @@
-use Rattle.std.proofs.Common.{◌≤◌, ◌+◌, List, [], ℕ, take, subst, arith}
+use Rattle.std.proofs.Common.{List, [], ℕ, take, subst, arith}
 use Rattle.segment_core.specs.Scanner.{IsFed}
 use Rattle.segment_core.proofs.Fed.{next_part}
 use Rattle.segment_core.proofs.tests.in_pieces.Goals as goal

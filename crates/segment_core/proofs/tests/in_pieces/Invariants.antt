@@ -1,4 +1,4 @@
-use Rattle.std.proofs.Common.{◌≤◌, ◌-◌, ℕ, length, take}
+use Rattle.std.proofs.Common.{◌≤◌, ◌-◌, length, take}
 use Rattle.segment_core.specs.Scanner.{IsFed}
 use Rattle.segment_core.proofs.tests.in_pieces.Given as goal
 

@@ -1,4 +1,4 @@
-use Rattle.std.proofs.Common.{List, [], ◌++◌, ℕ, sym, subst}
+use Rattle.std.proofs.Common.{List, [], ℕ, sym, subst}
 use Rattle.std.proofs.lemmas.List.{append-nil}
 use Rattle.segment_core.specs.declared.fault.ScanFault.TheVariants.{Memory}
 use Rattle.segment_core.specs.declared.scanner.Stage.TheVariants as stages

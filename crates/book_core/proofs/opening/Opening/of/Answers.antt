@@ -1,5 +1,5 @@
 use Rattle.std.proofs.Common.{◌≡◌, ◌<◌, ◌≤◌, ◌∙◌, ap, sym, length, get_or, vec_len, arith}
-use Rattle.book_core.proofs.PieceLists.{end_more, end_more-le, ends_more, length-records_of}
+use Rattle.book_core.proofs.BlockEnds.{end_more, end_more-le, ends_more, length-records_of}
 use Rattle.book_core.proofs.opening.Opening.of.Goals as goal
 
 pub overflow_add-size : goal.overflow_add-size

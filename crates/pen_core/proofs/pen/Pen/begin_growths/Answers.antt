@@ -3,6 +3,7 @@ use Rattle.std.proofs.lemmas.Nat.{mul-le}
 use Rattle.std.specs.Option.{is_some}
 use Rattle.std.specs.Result.{is_err, is_ok}
 use Rattle.disk_core.specs.Calls.{bytes_of}
+use Rattle.segment_core.specs.declared.found.Home.{Home}
 use Rattle.segment_core.specs.Shape.{limit_of}
 use Rattle.segment_core.specs.Frame.{frame_text}
 use Rattle.segment_core.specs.Written.{group_frame, joined, payload_len}
@@ -12,6 +13,7 @@ use Rattle.pen_core.specs.declared.step.Step.TheVariants.{Body}
 use Rattle.pen_core.specs.Refusals.{is_full}
 use Rattle.pen_core.proofs.Begins.{no_step, not_full}
 use Rattle.pen_core.proofs.Growths.{few_growths, group_begun, group_at, group_tells}
+use Rattle.pen_core.proofs.Listed.{group_listed}
 use Rattle.pen_core.proofs.pen.Pen.begin_growths.Goals as goal
 
 on_ok : {A E P : Type 0} (r : Result A E) → is_err r ≡ false → OnOk r P → P
@@ -57,17 +59,26 @@ invariant_of-self-2 g c =
     let growths = g.G.GrowthList.growths c.args.growths.now in
     let laws = g.met.R.Record g.world.𝓛 g.world.𝓜 g.world.𝓡 ((λ s x. x), (λ x. x), (λ x. x), λ x. x) in
     let width : g.R.Record.form.width ≡ s.shape.width = c.requires.width ∙ sym (ap (λ v. v.shape.width) c.self.view_is) in
+    let here : Home = record { position = s.tally.size; place = s.gate + (10 + c.count-2.result * 4); count = c.in-Some.records } in
+    let more : c.push_reserved.new.self.items ≡ c.reserve.new.self.items ++ here ∷ [] = c.push_reserved.ensures.items in
     let counted : c.in-Some.records ≡ length (joined growths) = c.in-Some.ensures.0 in
     let payload : 4 + c.count.result * 4 + c.in-Some.records * c.width_of.result ≡ payload_len g.R.Record.form.width growths = ap (λ n. 4 + n * 4 + c.in-Some.records * c.width_of.result) c.count.ensures ∙ ap (λ n. 4 + length growths * 4 + n * c.width_of.result) counted ∙ ap (λ w. 4 + length growths * 4 + length (joined growths) * w) c.width_of.ensures.is in
     let short : s.tally.size + length (joined growths) ≤ 2 ^ 32 = subst (λ n. s.tally.size + n ≤ 2 ^ 32) counted c.if-self-records-gt-RECORD_LIMIT.false in
     let fits : payload_len g.R.Record.form.width growths ≤ limit_of s.shape.format = subst (λ n. n ≤ limit_of s.shape.format) payload (subst (λ n. 4 + c.count.result * 4 + c.in-Some.records * c.width_of.result ≤ n) c.payload_limit-limit.ensures.is c.if-payload-limit.false) in
     let room = subst (λ n. s.gate + (6 + n) < 2 ^ 48) payload (not_full c.is_full.result s.gate (4 + c.count.result * 4 + c.in-Some.records * c.width_of.result) 0 (c.is_full.ensures ∙ ap (λ v. is_full v (4 + c.count.result * 4 + c.in-Some.records * c.width_of.result)) (sym c.self.view_is)) c.if-is_full.false) in
-    let text = on_ok c.append_group.result (sym c.is_err.ensures.value ∙ c.if-is_err.false) c.append_group.ensures.text s.shape.format ∙ ap (λ bs. bs ++ frame_text s.shape.format (group_frame g.R.Record.form growths)) c.clear.ensures.items in
-    let spelled : c.push.new.self.items ≡ frame_text s.shape.format (group_frame g.R.Record.form growths) ++ 0 ∷ [] = c.push.ensures.items ∙ pushed c.push.result (sym c.is_err-2.ensures.value ∙ c.if-is_err-2.false) c.append_group.new.file.items (c.append_group.new.file.items ++ 0 ∷ []) ∙ ap (λ bs. bs ++ 0 ∷ []) text in
-    let after_it = ap (λ n. record { size = s.tally.size + n; changes = s.tally.changes; folded = s.tally.folded }) (counted ∙ sum-lengths growths) in
-    group_begun (g.D.Disk.keeps s.disk) (g.D.Disk.states s.disk) s.shape s.gate s.tally s.next s.bytes.items c.push.new.self.items s.step s.broken g.R.Record.form growths c.self.invariant
-    (subst (λ v. v.broken ≡ false) (sym c.self.view_is) c.in_ok-ready.ensures.whole) (no_step s.shape s.bytes.items s.step (subst (λ v. is_some v.job ≡ false) (sym c.self.view_is) c.in_ok-ready.ensures.idle)) (g.met.D.Disk.reads_an_image s.disk)
-    spelled laws.width_in_range.0 width laws.width_of_bytes c.requires.some c.requires.each short fits room (record { size = s.tally.size + c.in-Some.records; changes = s.tally.changes; folded = s.tally.folded }) after_it
+    let text = on_ok c.append_group.result (sym c.is_err-2.ensures.value ∙ c.if-is_err-2.false) c.append_group.ensures.text s.shape.format ∙ ap (λ bs. bs ++ frame_text s.shape.format (group_frame g.R.Record.form growths)) c.clear.ensures.items in
+    let spelled : c.push.new.self.items ≡ frame_text s.shape.format (group_frame g.R.Record.form growths) ++ 0 ∷ [] = c.push.ensures.items ∙ pushed c.push.result (sym c.is_err-3.ensures.value ∙ c.if-is_err-3.false) c.append_group.new.file.items (c.append_group.new.file.items ++ 0 ∷ []) ∙ ap (λ bs. bs ++ 0 ∷ []) text in
+    let after_it = ap (λ n. record { size = s.tally.size + n; changes = s.tally.changes; folded = s.tally.folded }) (counted ∙ sum-lengths growths) in (
+      group_begun (g.D.Disk.keeps s.disk) (g.D.Disk.states s.disk) s.shape s.gate s.tally s.next s.bytes.items c.push.new.self.items s.step s.broken g.R.Record.form growths c.self.invariant.0
+          (subst (λ v. v.broken ≡ false) (sym c.self.view_is) c.in_ok-ready.ensures.whole) (no_step s.shape s.bytes.items s.step (subst (λ v. is_some v.job ≡ false) (sym c.self.view_is) c.in_ok-ready.ensures.idle)) (g.met.D.Disk.reads_an_image s.disk)
+          spelled laws.width_in_range.0 width laws.width_of_bytes c.requires.some c.requires.each short fits room (record { size = s.tally.size + c.in-Some.records; changes = s.tally.changes; folded = s.tally.folded }) after_it,
+      group_listed (g.D.Disk.keeps s.disk) (g.D.Disk.states s.disk) s.shape s.gate s.tally s.bytes.items c.push.new.self.items s.step s.homes (record { homes = c.push_reserved.new.self; live = s.homes.live }) s.live g.R.Record.form growths c.self.invariant.1
+          (no_step s.shape s.bytes.items s.step (subst (λ v. is_some v.job ≡ false) (sym c.self.view_is) c.in_ok-ready.ensures.idle))
+          (group_at (g.D.Disk.keeps s.disk) (g.D.Disk.states s.disk) s.shape s.gate s.tally s.next s.bytes.items c.push.new.self.items s.step s.broken g.R.Record.form growths c.self.invariant.0
+          (subst (λ v. v.broken ≡ false) (sym c.self.view_is) c.in_ok-ready.ensures.whole) (no_step s.shape s.bytes.items s.step (subst (λ v. is_some v.job ≡ false) (sym c.self.view_is) c.in_ok-ready.ensures.idle)) (g.met.D.Disk.reads_an_image s.disk)
+          spelled laws.width_in_range.0 width laws.width_of_bytes c.requires.some c.requires.each short fits room)
+          c.count-2.result c.in-Some.records c.count-2.ensures counted {old = c.reserve.new.self.items} more c.reserve.ensures.items refl,
+    )
 
 pub returns-clause-begun : goal.returns-clause-begun
 returns-clause-begun g c = rw (← c.self.view_is) (
@@ -80,9 +91,9 @@ returns-clause-begun g c = rw (← c.self.view_is) (
     let short : s.tally.size + length (joined growths) ≤ 2 ^ 32 = subst (λ n. s.tally.size + n ≤ 2 ^ 32) counted c.if-self-records-gt-RECORD_LIMIT.false in
     let fits : payload_len g.R.Record.form.width growths ≤ limit_of s.shape.format = subst (λ n. n ≤ limit_of s.shape.format) payload (subst (λ n. 4 + c.count.result * 4 + c.in-Some.records * c.width_of.result ≤ n) c.payload_limit-limit.ensures.is c.if-payload-limit.false) in
     let room = subst (λ n. s.gate + (6 + n) < 2 ^ 48) payload (not_full c.is_full.result s.gate (4 + c.count.result * 4 + c.in-Some.records * c.width_of.result) 0 (c.is_full.ensures ∙ ap (λ v. is_full v (4 + c.count.result * 4 + c.in-Some.records * c.width_of.result)) (sym c.self.view_is)) c.if-is_full.false) in
-    let text = on_ok c.append_group.result (sym c.is_err.ensures.value ∙ c.if-is_err.false) c.append_group.ensures.text s.shape.format ∙ ap (λ bs. bs ++ frame_text s.shape.format (group_frame g.R.Record.form growths)) c.clear.ensures.items in
-    let spelled : c.push.new.self.items ≡ frame_text s.shape.format (group_frame g.R.Record.form growths) ++ 0 ∷ [] = c.push.ensures.items ∙ pushed c.push.result (sym c.is_err-2.ensures.value ∙ c.if-is_err-2.false) c.append_group.new.file.items (c.append_group.new.file.items ++ 0 ∷ []) ∙ ap (λ bs. bs ++ 0 ∷ []) text in
-    let frame = group_at (g.D.Disk.keeps s.disk) (g.D.Disk.states s.disk) s.shape s.gate s.tally s.next s.bytes.items c.push.new.self.items s.step s.broken g.R.Record.form growths c.self.invariant
+    let text = on_ok c.append_group.result (sym c.is_err-2.ensures.value ∙ c.if-is_err-2.false) c.append_group.ensures.text s.shape.format ∙ ap (λ bs. bs ++ frame_text s.shape.format (group_frame g.R.Record.form growths)) c.clear.ensures.items in
+    let spelled : c.push.new.self.items ≡ frame_text s.shape.format (group_frame g.R.Record.form growths) ++ 0 ∷ [] = c.push.ensures.items ∙ pushed c.push.result (sym c.is_err-3.ensures.value ∙ c.if-is_err-3.false) c.append_group.new.file.items (c.append_group.new.file.items ++ 0 ∷ []) ∙ ap (λ bs. bs ++ 0 ∷ []) text in
+    let frame = group_at (g.D.Disk.keeps s.disk) (g.D.Disk.states s.disk) s.shape s.gate s.tally s.next s.bytes.items c.push.new.self.items s.step s.broken g.R.Record.form growths c.self.invariant.0
     (subst (λ v. v.broken ≡ false) (sym c.self.view_is) c.in_ok-ready.ensures.whole) (no_step s.shape s.bytes.items s.step (subst (λ v. is_some v.job ≡ false) (sym c.self.view_is) c.in_ok-ready.ensures.idle)) (g.met.D.Disk.reads_an_image s.disk)
     spelled laws.width_in_range.0 width laws.width_of_bytes c.requires.some c.requires.each short fits room in
     record { job_is = ap (λ f. Some (record { frame = f; step = Body })) frame; disk_same = refl; file_same = record { frames_same = refl; vector_same = refl }; broken_same = refl; shape_same = refl; fold_same = refl; tally_same = refl; gate_same = refl })
@@ -98,8 +109,8 @@ returns-clause-next g c = rw (← c.self.view_is) (
     let short : s.tally.size + length (joined growths) ≤ 2 ^ 32 = subst (λ n. s.tally.size + n ≤ 2 ^ 32) counted c.if-self-records-gt-RECORD_LIMIT.false in
     let fits : payload_len g.R.Record.form.width growths ≤ limit_of s.shape.format = subst (λ n. n ≤ limit_of s.shape.format) payload (subst (λ n. 4 + c.count.result * 4 + c.in-Some.records * c.width_of.result ≤ n) c.payload_limit-limit.ensures.is c.if-payload-limit.false) in
     let room = subst (λ n. s.gate + (6 + n) < 2 ^ 48) payload (not_full c.is_full.result s.gate (4 + c.count.result * 4 + c.in-Some.records * c.width_of.result) 0 (c.is_full.ensures ∙ ap (λ v. is_full v (4 + c.count.result * 4 + c.in-Some.records * c.width_of.result)) (sym c.self.view_is)) c.if-is_full.false) in
-    let text = on_ok c.append_group.result (sym c.is_err.ensures.value ∙ c.if-is_err.false) c.append_group.ensures.text s.shape.format ∙ ap (λ bs. bs ++ frame_text s.shape.format (group_frame g.R.Record.form growths)) c.clear.ensures.items in
-    let spelled : c.push.new.self.items ≡ frame_text s.shape.format (group_frame g.R.Record.form growths) ++ 0 ∷ [] = c.push.ensures.items ∙ pushed c.push.result (sym c.is_err-2.ensures.value ∙ c.if-is_err-2.false) c.append_group.new.file.items (c.append_group.new.file.items ++ 0 ∷ []) ∙ ap (λ bs. bs ++ 0 ∷ []) text in
-    λ records read. group_tells (g.D.Disk.keeps s.disk) (g.D.Disk.states s.disk) s.shape s.gate s.tally s.next s.bytes.items c.push.new.self.items s.step s.broken g.R.Record.form growths c.self.invariant
+    let text = on_ok c.append_group.result (sym c.is_err-2.ensures.value ∙ c.if-is_err-2.false) c.append_group.ensures.text s.shape.format ∙ ap (λ bs. bs ++ frame_text s.shape.format (group_frame g.R.Record.form growths)) c.clear.ensures.items in
+    let spelled : c.push.new.self.items ≡ frame_text s.shape.format (group_frame g.R.Record.form growths) ++ 0 ∷ [] = c.push.ensures.items ∙ pushed c.push.result (sym c.is_err-3.ensures.value ∙ c.if-is_err-3.false) c.append_group.new.file.items (c.append_group.new.file.items ++ 0 ∷ []) ∙ ap (λ bs. bs ++ 0 ∷ []) text in
+    λ records read. group_tells (g.D.Disk.keeps s.disk) (g.D.Disk.states s.disk) s.shape s.gate s.tally s.next s.bytes.items c.push.new.self.items s.step s.broken g.R.Record.form growths c.self.invariant.0
     (subst (λ v. v.broken ≡ false) (sym c.self.view_is) c.in_ok-ready.ensures.whole) (no_step s.shape s.bytes.items s.step (subst (λ v. is_some v.job ≡ false) (sym c.self.view_is) c.in_ok-ready.ensures.idle)) (g.met.D.Disk.reads_an_image s.disk)
-    spelled laws.width_in_range.0 width laws.width_of_bytes c.requires.some c.requires.each short fits room (vector_before s.shape s.gate (bytes_of (g.D.Disk.states s.disk))) records (on_ok c.append_group.result (sym c.is_err.ensures.value ∙ c.if-is_err.false) c.append_group.ensures.read_again) read)
+    spelled laws.width_in_range.0 width laws.width_of_bytes c.requires.some c.requires.each short fits room (vector_before s.shape s.gate (bytes_of (g.D.Disk.states s.disk))) records (on_ok c.append_group.result (sym c.is_err-2.ensures.value ∙ c.if-is_err-2.false) c.append_group.ensures.read_again) read)

@@ -1,9 +1,7 @@
-use Rattle.std.proofs.Common.{◌≡◌, ◌≤◌, ◌<◌, ℕ, List, [], ◌++◌, length, take, refl, sym, ap, subst, ◌∙◌, arith, Some, None}
+use Rattle.std.proofs.Common.{ℕ, List, [], sym, subst, ◌∙◌, arith, Some, None}
 use Rattle.std.proofs.lemmas.Bool.{eqb-true, eqb-false}
 use Rattle.std.proofs.lemmas.List.{append-nil}
 use Rattle.segment_core.specs.declared.scanner.Stage.TheVariants as stages
-use Rattle.segment_core.specs.declared.fault.Cause.{Cause}
-use Rattle.segment_core.specs.declared.fault.Cause.TheVariants.{NoGate, ShortFrame}
 use Rattle.segment_core.specs.Fault.{IsRefused, damaged}
 use Rattle.segment_core.proofs.Refusals.{refused_by_header}
 use Rattle.segment_core.proofs.Fed.{fed_at, front_fault, too_short, no_gate, short_frame}

@@ -1,7 +1,7 @@
-use Rattle.std.proofs.Common.{◌≡◌, ◌+◌, ◌-◌, ◌≤◌, List, ◌++◌, ℕ, length, take, drop, refl, sym, ap, subst, ◌∙◌, arith, inl, inr}
-use Rattle.std.proofs.lemmas.List.{length-append, length-take-le, length-drop}
+use Rattle.std.proofs.Common.{◌+◌, ◌-◌, ◌≤◌, List, ◌++◌, ℕ, length, take, drop, sym, ap, subst, ◌∙◌, arith}
+use Rattle.std.proofs.lemmas.List.{length-append, length-take-le}
 use Rattle.std.proofs.lemmas.Result.{err_from_is_err_and}
-use Rattle.segment_core.specs.Scanner.{GoesOn, IsOn, IsRefusedFor, IsFed}
+use Rattle.segment_core.specs.Scanner.{IsOn}
 use Rattle.segment_core.proofs.Fed.{on_open, on_ended, on_used, refused_part, next_part}
 use Rattle.segment_core.proofs.scanner.Scanner.feed_frames.Goals as goal
 use Rattle.segment_core.proofs.scanner.Scanner.feed_frames.Goals.{then-is_empty+in_ok-take, else-is_empty+in_ok-pend}

@@ -1,4 +1,4 @@
-use Rattle.std.proofs.Common.{◌≡◌, ◌+◌, ◌-◌, ◌≤◌, ◌<◌, List, ◌++◌, ℕ, Some, length, take, refl, sym, ap, ◌∙◌, arith}
+use Rattle.std.proofs.Common.{◌≡◌, ◌≤◌, ◌++◌, ℕ, length, take, refl, sym, ap, ◌∙◌, arith}
 use Rattle.segment_core.specs.declared.scanner.Stage.TheVariants as stages
 use Rattle.segment_core.specs.Fault.{header_fault}
 use Rattle.segment_core.proofs.Fed.{fed_by, front_more, length-front, goes_on_behind_header, refused_by_front}

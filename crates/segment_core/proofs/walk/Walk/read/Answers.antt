@@ -1,12 +1,12 @@
-use Rattle.std.proofs.Common.{◌≡◌, ◌-◌, ◌+◌, ℕ, List, [], ◌∷◌, ◌++◌, Ok, Some, Err, length, take, drop, refl, sym, ap, subst, ◌∙◌, arith, inl, inr}
-use Rattle.std.proofs.lemmas.List.{take_rest, length-drop, drop-drop}
+use Rattle.std.proofs.Common.{◌≡◌, ◌+◌, ℕ, List, Ok, Some, Err, length, drop, ap, subst, ◌∙◌, arith, inl, inr}
+use Rattle.std.proofs.lemmas.List.{take_rest, drop-drop}
 use Rattle.std.proofs.lemmas.Result.{err_from_is_err_and}
 use Rattle.segment_core.specs.declared.fault.ScanFault.{ScanFault}
 use Rattle.segment_core.specs.declared.format.Shape.{Shape}
 use Rattle.segment_core.specs.declared.frame.Unread.TheVariants.{Fault}
-use Rattle.segment_core.specs.Frame.{Frame, frame_text}
+use Rattle.segment_core.specs.Frame.{frame_text}
 use Rattle.segment_core.specs.Reading.{Seen, IsNext, BeginsWith, IsFaulty}
-use Rattle.segment_core.specs.Walk.{StandsBefore, IsFaultOf, IsWalkRefused}
+use Rattle.segment_core.specs.Walk.{StandsBefore, IsWalkRefused}
 use Rattle.segment_core.proofs.Walked.{stands_behind, inside_image, nearer, refused_by_lines, refused_by_order}
 use Rattle.segment_core.proofs.walk.Walk.read.Goals as goal
 

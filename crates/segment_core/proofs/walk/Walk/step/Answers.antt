@@ -1,6 +1,6 @@
-use Rattle.std.proofs.Common.{◌≡◌, ◌<◌, ◌+◌, List, [], ◌∷◌, ◌++◌, length, refl, sym, ap, subst, ◌∙◌, arith}
+use Rattle.std.proofs.Common.{◌+◌, [], ◌∷◌, ◌++◌, length, refl, ap, subst, ◌∙◌, arith}
 use Rattle.segment_core.specs.declared.format.Shape.{Shape}
-use Rattle.segment_core.specs.Frame.{Frame, frame_text}
+use Rattle.segment_core.specs.Frame.{frame_text}
 use Rattle.segment_core.specs.Tally.{MayFollow}
 use Rattle.segment_core.specs.Found.{IsFound}
 use Rattle.segment_core.proofs.Walked.{few_frames, few_changes, follows, behind_more}

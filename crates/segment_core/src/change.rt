@@ -1,0 +1,120 @@
+//! The frames of a change and of a shrink.
+
+ghost use Rattle.std.specs.Prelude.{◌≡◌, ◌≤◌, ◌<◌, ◌+◌, ◌^◌, ◌++◌, ◌∷◌, length, vec_len, vec_capacity, OnOk, IsOk};
+ghost use Rattle.std.specs.Int.{w32, to_le_bytes};
+ghost use Rattle.record_core.specs.Cells.{AreReadAgain};
+ghost use Rattle.segment_core.specs.Kind.{kind_byte};
+ghost use Rattle.segment_core.specs.Shape.{shape_of};
+ghost use Rattle.segment_core.specs.Frame.{Shrink, number_text, number_len, run_text, runs_text, records_of_runs, frame_text};
+ghost use Rattle.segment_core.specs.Frame as frames;
+ghost use Rattle.segment_core.specs.Written.{joined};
+ghost use Rattle.segment_core.specs.Runs.{runs_given, change_len, change_frame};
+
+use crate::format::{Format, FrameKind, OPEN};
+use crate::group::append_growths;
+use crate::growth_list::GrowthList;
+use record_core::Record;
+use std::alloc::AllocError;
+
+#[cfg(test)]
+mod tests;
+
+/// The bytes of a shrink's payload.
+pub const SHRINK_PAYLOAD_LEN: usize = 8;
+
+impl Format {
+    /// The bytes of a change's payload before its records, where it has so many runs.
+    pub fn runs_len(self, runs: usize) -> usize
+        requires { runs < 2 ^ 32 }
+        ensures { result ≡ frames.runs_len self runs }
+    {
+        match self {
+            Format::One => runs * 8,
+            Format::Two => 4 + runs * 12,
+        }
+    }
+}
+
+/// Appends the head of a frame: an open gate, the kind and the payload's length.
+fn append_head(kind: FrameKind, payload_len: usize, file: &mut Vec<u8>) -> Result<(), AllocError>
+    requires { payload_len < 2 ^ 32 }
+    ensures text { OnOk result (file.new.items ≡ file.old.items ++ 1 ∷ kind_byte kind ∷ to_le_bytes w32 payload_len) }
+    ensures capacity { vec_capacity file.old ≤ vec_capacity file.new }
+    ensures room { vec_len file.old + 6 ≤ vec_capacity file.old → IsOk result }
+{
+    file.push(OPEN)?;
+    file.push(kind as u8)?;
+    file.extend_from_slice(&(payload_len as u32).to_le_bytes())
+}
+
+/// Appends a number that version 1 leaves out.
+fn append_number(format: Format, number: u32, file: &mut Vec<u8>) -> Result<(), AllocError>
+    ensures text { OnOk result (file.new.items ≡ file.old.items ++ number_text format number) }
+    ensures capacity { vec_capacity file.old ≤ vec_capacity file.new }
+    ensures room { vec_len file.old + number_len format ≤ vec_capacity file.old → IsOk result }
+{
+    match format {
+        Format::One => Ok(()),
+        Format::Two => file.extend_from_slice(&number.to_le_bytes()),
+    }
+}
+
+/// Appends a run.
+fn append_run(format: Format, start: u64, count: u32, file: &mut Vec<u8>) -> Result<(), AllocError>
+    ensures text { OnOk result (file.new.items ≡ file.old.items ++ run_text format (record { start = start; count = count })) }
+    ensures capacity { vec_capacity file.old ≤ vec_capacity file.new }
+    ensures room { vec_len file.old + (8 + number_len format) ≤ vec_capacity file.old → IsOk result }
+{
+    file.extend_from_slice(&start.to_le_bytes())?;
+    append_number(format, count, file)
+}
+
+/// Appends what stands before the records of a change.
+fn append_runs(format: Format, runs: &[(u64, u64)], file: &mut Vec<u8>) -> Result<(), AllocError>
+    requires runs { length runs.now < 2 ^ 32 }
+    requires records { records_of_runs (runs_given runs.now) < 2 ^ 32 }
+    ensures text { OnOk result (file.new.items ≡ file.old.items ++ runs_text format (runs_given runs.now)) }
+    ensures capacity { vec_capacity file.old ≤ vec_capacity file.new }
+    ensures room { vec_len file.old + frames.runs_len format (length runs.now) ≤ vec_capacity file.old → IsOk result }
+{
+    append_number(format, runs.len() as u32, file)?;
+    for k in 0..runs.len() {
+        let (start, count) = runs[k];
+        append_run(format, start, count as u32, file)?;
+    }
+    Ok(())
+}
+
+/// Appends the frame of a change whose payload has this length, behind an open gate: the records of the pieces, in
+/// order, for those of the runs. In version 1 it has one run. Where there is room for it no memory is taken, and the
+/// call succeeds; after a refusal a part of the frame may stand behind the old bytes.
+pub fn append_change<R: Record, G: GrowthList<R>>(
+    format: Format,
+    runs: &[(u64, u64)],
+    pieces: &G,
+    payload_len: usize,
+    file: &mut Vec<u8>,
+) -> Result<(), AllocError>
+    requires filled { length (joined (G.growths pieces.now)) ≡ records_of_runs (runs_given runs.now) }
+    requires len { payload_len ≡ change_len (shape_of format R.form) (runs_given runs.now) }
+    requires small { payload_len < 2 ^ 32 }
+    ensures text { OnOk result (file.new.items ≡ file.old.items ++ frame_text format (change_frame R.form (runs_given runs.now) (G.growths pieces.now))) }
+    ensures read_again { OnOk result (AreReadAgain R.form (joined (G.growths pieces.now))) }
+    ensures capacity { vec_capacity file.old ≤ vec_capacity file.new }
+    ensures room { vec_len file.old + (6 + payload_len) ≤ vec_capacity file.old → IsOk result }
+{
+    append_head(FrameKind::Change, payload_len, file)?;
+    append_runs(format, runs, file)?;
+    append_growths::<R, G>(pieces, file)
+}
+
+/// Appends the frame of a shrink to `n` records, behind an open gate. It is the same in each format. Where there is
+/// room for it no memory is taken, and the call succeeds.
+pub fn append_shrink(n: u64, file: &mut Vec<u8>) -> Result<(), AllocError>
+    ensures text { OnOk result ((format : Format) → file.new.items ≡ file.old.items ++ frame_text format (Shrink n)) }
+    ensures capacity { vec_capacity file.old ≤ vec_capacity file.new }
+    ensures room { vec_len file.old + 14 ≤ vec_capacity file.old → IsOk result }
+{
+    append_head(FrameKind::Shrink, SHRINK_PAYLOAD_LEN, file)?;
+    file.extend_from_slice(&n.to_le_bytes())
+}
