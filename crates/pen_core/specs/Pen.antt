@@ -3,8 +3,8 @@ use Rattle.std.specs.Prelude.{◌≡◌, ◌⊎◌, ℕ, ◌+◌, ◌<◌, List,
 use Rattle.disk_core.specs.State.{State, now, IsImage}
 use Rattle.disk_core.specs.Choice.{is_pending}
 use Rattle.segment_core.specs.declared.format.Shape.{Shape}
-use Rattle.segment_core.specs.Frame.{Frame, frame_text}
-use Rattle.segment_core.specs.Tally.{after}
+use Rattle.segment_core.specs.Frame.{Frame, Group, Change, Shrink, Fold, frame_text}
+use Rattle.segment_core.specs.Tally.{after, tally_of}
 use Rattle.pen_core.specs.declared.step.Step.{Step}
 use Rattle.pen_core.specs.declared.step.Step.TheVariants as steps
 use Rattle.pen_core.specs.declared.stage.Ticked.{Ticked}
@@ -37,10 +37,17 @@ abbrev pub MayBeOpening : Option JobOf → Type 0
 MayBeOpening None = ⊥
 MayBeOpening (Some job) = (job.step ≡ steps.Gate) ⊎ (job.step ≡ steps.GateSync)
 
--- how many changes a fold in hand counts
+-- how many changes a fold counts whose homes may be pending: none before it begins, and none behind their sync
+abbrev pub open_count : FoldStage → ℕ → ℕ
+open_count folds.None count = 0
+open_count (folds.Home n) count = count
+open_count folds.Sync count = count
+open_count folds.Ready count = 0
+open_count folds.Filed count = 0
+
 abbrev pub fold_count : Option FoldOf → ℕ
 fold_count None = 0
-fold_count (Some fold) = fold.count
+fold_count (Some fold) = open_count fold.stage fold.count
 
 -- What may be pending at place j: past the closed gate; that gate, once the body is synced; a home byte that is
 -- being folded.
@@ -53,6 +60,7 @@ pub record IsKept {D : Type 0} (states : List State) (pen : PenOf D) : Type 0 wh
   pub images_open : (image : List ℕ) → IsImage (now states) image → MayOpen pen image
   pub pending_is_told : (j : ℕ) → is_pending (now states) j ≡ true → MayBePending pen j
   pub gate_is : pen.gate ≡ gate_of pen.shape pen.frames
+  pub tally_is : pen.tally ≡ tally_of pen.frames
   pub size_is : pen.tally.size ≡ length pen.vector
 
 -- ---- ticks
@@ -64,6 +72,14 @@ pub record CountsSame {D : Type 0} (old new : PenOf D) : Type 0 where
   pub tally_same : new.tally ≡ old.tally
   pub gate_same : new.gate ≡ old.gate
   pub room_same : new.room ≡ old.room
+  pub places_same : new.places ≡ old.places
+
+-- the fold behind a frame that is done: it ends with its own
+abbrev pub fold_behind : Frame → Option FoldOf → Option FoldOf
+fold_behind (Group lengths bytes) fold = fold
+fold_behind (Change runs bytes) fold = fold
+fold_behind (Shrink n) fold = fold
+fold_behind (Fold count) fold = None
 
 abbrev pub next_job : JobOf → Option JobOf → Type 0
 next_job old new = (step : Step) × (step_after old.step ≡ Some step) × (new ≡ Some (record { frame = old.frame; step = step }))
@@ -71,10 +87,11 @@ next_job old new = (step : Step) × (step_after old.step ≡ Some step) × (new 
 -- the last call of the job succeeded: its frame stands in the file
 pub record CountsDone {D : Type 0} (frame : Frame) (old new : PenOf D) : Type 0 where
   pub shape_same : new.shape ≡ old.shape
-  pub fold_same : new.fold ≡ old.fold
+  pub fold_is : new.fold ≡ fold_behind frame old.fold
   pub tally_is : new.tally ≡ after old.tally frame
   pub gate_is : new.gate ≡ old.gate + length (frame_text old.shape.format frame)
   pub room_same : new.room ≡ old.room
+  pub places_same : new.places ≡ old.places
   pub job_done : new.job ≡ None
 
 -- what a tick makes of the counts, whatever the disk

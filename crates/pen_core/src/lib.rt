@@ -4,10 +4,15 @@
 mod begin;
 mod change;
 mod commit;
+mod covered;
 mod create;
 mod fault;
+mod fold;
 mod frame_bytes;
 mod group;
+#[cfg(test)]
+mod noting;
+mod open;
 mod pen;
 mod stage;
 mod step;

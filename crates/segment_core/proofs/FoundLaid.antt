@@ -1,6 +1,6 @@
 -- Records laid over records: one position more, one run more, one change more.
 use Rattle.std.proofs.Common.{◌≡◌, ◌≢◌, ℕ, zero, suc, ◌+◌, ◌-◌, ◌*◌, ◌≤◌, ◌<◌, Bool, true, List, [], ◌∷◌, ◌++◌, length, take, drop, Option, Some, None, refl, sym, ap, subst, ◌∙◌, arith, inl, inr}
-use Rattle.std.specs.Prelude.{nat_le, slice_get}
+use Rattle.std.specs.Prelude.{nat_le, slice_get, MatchOption}
 use Rattle.std.specs.List.{list_all}
 use Rattle.std.specs.Option.{option_or}
 use Rattle.std.proofs.lemmas.Bool.{cases_lt, and_parts, leb-true}
@@ -15,9 +15,10 @@ use Rattle.segment_core.specs.declared.notes.Notes.{Notes}
 use Rattle.segment_core.specs.Frame.{Run, Frame, Group, Change, Shrink, Fold, records_of_runs}
 use Rattle.segment_core.specs.Tally.{are_inside}
 use Rattle.segment_core.specs.Reading.{Seen, runs_of, record_count}
-use Rattle.segment_core.specs.Vector.{place_among, place_in_runs}
+use Rattle.segment_core.specs.Vector.{place_among, place_in_runs, record_in}
 use Rattle.segment_core.specs.Notes.{noted}
 use Rattle.segment_core.specs.Found.{StandsAt, IsDecoded, IsLaidAt, IsLaid}
+use Rattle.segment_core.proofs.RunRows.{records_of_runs_push}
 use Rattle.segment_core.proofs.FrameParts.{records_of_runs-cons}
 use Rattle.segment_core.proofs.PlaceAmong.{place_among_inside, place_among_below, place_among_past}
 use Rattle.segment_core.proofs.LastFrom.{option_or_assoc, option_or_none}
@@ -62,9 +63,6 @@ stands_part image place area a n stands within =
     ap (λ m. take m (drop (place + a) image)) len ∙ sym is
 
 -- ---- one position more
-
-some_is : {X : Type 0} (x y : X) → Some x ≡ Some y → x ≡ y
-some_is x y e = cc
 
 laid_at_same : {R : Type 0} (form : Encoding R) (image : List ℕ) (place : Option ℕ) (held later before : Option R) (seen seen_later seen_before : Option ℕ) → later ≡ held → seen_later ≡ seen
     → IsLaidAt form image place held before seen seen_before → IsLaidAt form image place later before seen_later seen_before
@@ -115,6 +113,12 @@ decoded_as {R} form image place k w position at held notes is here decoded =
 
 others_as : (old new : Notes) (position at : ℕ) → position ≡ at → ((q : ℕ) → q ≢ position → noted new q ≡ noted old q) → (q : ℕ) → q ≢ at → noted new q ≡ noted old q
 others_as old new position at here others q apart = others q (λ is. apart (is ∙ here))
+
+-- bytes that are a record, at a position of which nothing is noted
+pub decoded_whole : {R : Type 0} (form : Encoding R) (image : List ℕ) (place : ℕ) (bytes : List ℕ) (r : R) (note : Option ℕ) → length bytes ≡ form.width → form.value_of bytes ≡ Some r → StandsAt image place bytes → note ≡ None → IsDecoded form image place (Some r) note
+decoded_whole {R} form image place bytes r note wide value stands none =
+    let is : record_in form image place ≡ Some r = ap (λ n. form.value_of (take n (drop place image))) (sym wide) ∙ ap form.value_of stands ∙ value in
+    subst (λ (o : Option R). MatchOption o (note ≡ Some place) (λ held. (Some r ≡ Some held) × (note ≡ None))) (sym is) (refl, none)
 
 -- a record that was pushed
 pub laid_push : {R : Type 0} (form : Encoding R) (image : List ℕ) (place start k w position : ℕ) (old : List R) (old_notes : Notes) (mid : List R) (mid_notes : Notes) (new : List R) (new_notes : Notes) (r : R)
@@ -186,16 +190,8 @@ runs_fill (Fold count) = omega arith
 
 list_all-at : {X : Type 0} (test : X → Bool) (xs : List X) (k : ℕ) (x : X) → list_all test xs ≡ true → slice_get xs k ≡ Some x → test x ≡ true
 list_all-at test [] k x all is = absurd cc
-list_all-at test (y ∷ xs) zero x all is = let same : y ≡ x = some_is y x is in ap test (sym same) ∙ (and_parts (test y) (list_all test xs) all).0
+list_all-at test (y ∷ xs) zero x all is = let same : y ≡ x = cc in ap test (sym same) ∙ (and_parts (test y) (list_all test xs) all).0
 list_all-at test (y ∷ xs) (suc k) x all is = list_all-at test xs k x (and_parts (test y) (list_all test xs) all).1 is
-
-records_of_runs-push : (runs : List Run) (run : Run) → records_of_runs (runs ++ run ∷ []) ≡ records_of_runs runs + run.count
-records_of_runs-push [] run = omega arith
-records_of_runs-push (first ∷ runs) run =
-    let rest = records_of_runs-push runs run in
-    let a = records_of_runs-cons first (runs ++ run ∷ []) in
-    let b = records_of_runs-cons first runs in
-    omega arith
 
 -- run k of a change lies in the vector, and the bytes from at on begin with its records
 pub record RunFits (width size k at w : ℕ) (area : List ℕ) (runs : List Run) (run : Run) : Type 0 where
@@ -215,7 +211,7 @@ run_fits width size k at w area change run is wide area_len inside told here =
     let product : run.count * w ≡ run.count * width = ap (λ n. run.count * n) is in
     let lt = slice_get_within runs k run told in
     let more : take (k + 1) runs ≡ take k runs ++ run ∷ [] = take_more runs k run lt ∙ ap (λ r. take k runs ++ r ∷ []) (get_or_from_slice_get runs k run run told) in
-    let sum : records_of_runs (take (k + 1) runs) ≡ records_of_runs (take k runs) + run.count = ap records_of_runs more ∙ records_of_runs-push (take k runs) run in
+    let sum : records_of_runs (take (k + 1) runs) ≡ records_of_runs (take k runs) + run.count = ap records_of_runs more ∙ records_of_runs_push (take k runs) run in
     let split : (records_of_runs (take k runs) + run.count) * width ≡ records_of_runs (take k runs) * width + run.count * width = omega arith in
     let next : at + run.count * w ≡ records_of_runs (take (k + 1) runs) * width = ap (λ n. at + n) product ∙ ap (λ n. n + run.count * width) here ∙ sym split ∙ ap (λ n. n * width) (sym sum) in
     let some = records_of_runs-take (k + 1) runs in

@@ -1,0 +1,174 @@
+//! Growths of two threads at once, and seats that wait for the mark.
+
+ghost use Rattle.std.specs.Prelude.{◌≡◌, ◌≤◌, IfSome};
+ghost use Rattle.book_core.specs.Lists.{IsOf};
+
+use super::{Two, begin_two};
+use crate::live::Live;
+use crate::mark::{MarkState, Writer};
+use crate::seat::Seat;
+use std::sync::Wait;
+use std::test::Fail;
+use std::thread;
+use std::thread::Threads;
+
+/// Makes so many growths of one record.
+pub(super) fn put_many<E: Wait>(
+    rt: &E,
+    live: &Live<u64>,
+    mut seat: Seat<u64>,
+    count: u64,
+) -> Option<Seat<u64>>
+    requires { IsOf live.now seat }
+    ensures { IfSome result (λ seat. IsOf live.now seat) }
+{
+    for k in 0..count {
+        live.push_back(rt, &mut seat, k).ok()?;
+    }
+    Some(seat)
+}
+
+/// Two threads make so many growths each.
+fn put_by_two<E: Threads + Wait + Sync>(
+    rt: &E,
+    live: &Live<u64>,
+    first: Seat<u64>,
+    second: Seat<u64>,
+    count: u64,
+) -> Option<(Seat<u64>, Seat<u64>)>
+    requires { IsOf live.now first × IsOf live.now second }
+    ensures { IfSome result (λ seats. IsOf live.now seats.0 × IsOf live.now seats.1) }
+{
+    let (one, other) = thread::join(
+        rt,
+        move || -> Option<Seat<u64>>
+            requires { IsOf live.now first }
+            ensures { IfSome result (λ seat. IsOf live.entry.now seat) }
+        { put_many(rt, live, first, count) },
+        move || -> Option<Seat<u64>>
+            requires { IsOf live.now second }
+            ensures { IfSome result (λ seat. IsOf live.entry.now seat) }
+        { put_many(rt, live, second, count) },
+    );
+    Some((one?, other?))
+}
+
+/// Whether a look of the seat finds so many growths, each of one record, and a growth then has the next number.
+fn finds_and_puts<E: Wait>(rt: &E, live: &Live<u64>, seat: &mut Seat<u64>, known: u64) -> bool
+    requires { IsOf live.now seat.old }
+    ensures { IsOf live.now seat.new }
+{
+    if live.look(seat) != Ok(known) {
+        return false;
+    }
+    match live.push_back(rt, seat, known) {
+        Ok(receipt) => receipt.number == known,
+        Err(_) => false,
+    }
+}
+
+/// The seats make so many growths each by turns, and each finds all growths before its own.
+fn put_by_turns<E: Wait>(
+    rt: &E,
+    live: &Live<u64>,
+    first: &mut Seat<u64>,
+    second: &mut Seat<u64>,
+    count: u64,
+) -> bool
+    requires { IsOf live.now first.old × IsOf live.now second.old }
+    ensures { IsOf live.now first.new × IsOf live.now second.new }
+{
+    for turn in 0..count {
+        let known = turn.wrapping_mul(2);
+        if !finds_and_puts(rt, live, first, known) {
+            return false;
+        }
+        if !finds_and_puts(rt, live, second, known.wrapping_add(1)) {
+            return false;
+        }
+    }
+    true
+}
+
+/// What both seats find after 500 growths of each by turns and 500 more of each from two threads.
+fn grow_two_thousand<E: Threads + Wait + Sync>(rt: &E, two: Two) -> Option<[u64; 2]> {
+    let Two {
+        live,
+        mut first,
+        mut second,
+        ..
+    } = two;
+    if !put_by_turns(rt, &live, &mut first, &mut second, 500) {
+        return None;
+    }
+    let (mut first, mut second) = put_by_two(rt, &live, first, second, 500)?;
+    Some([live.look(&mut first).ok()?, live.look(&mut second).ok()?])
+}
+
+#[test]
+fn either_seat_finds_all_growths(rt: HostRuntime) -> Result<(), Fail> {
+    let found = match begin_two(rt.alloc(), 2_000) {
+        Some(two) => grow_two_thousand(&rt, two),
+        None => None,
+    };
+    assert_eq!(rt; found, Some([2_000, 2_000]));
+    Ok(())
+}
+
+/// What the mark comes to tell.
+#[derive(Clone, Copy)]
+enum Change {
+    Raised,
+    Ended,
+    Broken,
+}
+
+/// Changes the mark, and wakes those that wait for it.
+fn change_mark<E: Wait>(rt: &E, live: &Live<u64>, mut mark: Writer, change: Change)
+    requires { (mark.of ≡ live.now.mark) × (mark.told.count ≡ 0) }
+{
+    match change {
+        Change::Raised => mark.raise(live.mark(), 1),
+        Change::Ended => mark.set_ended(live.mark()),
+        Change::Broken => mark.set_broken(live.mark()),
+    }
+    live.wake_settled(rt);
+}
+
+/// What a seat is told that waits for its growth while another thread changes the mark.
+fn await_change<E: Threads + Wait + Sync>(rt: &E, two: Two, change: Change) -> (u64, MarkState) {
+    let Two {
+        live,
+        first,
+        mark,
+        ..
+    } = two;
+    let shared = &live;
+    let (told, ()) = thread::join(
+        rt,
+        move || -> (u64, MarkState)
+            requires { IsOf shared.now first }
+        {
+            let mut seat = first;
+            shared.await_settled(rt, &mut seat, 0)
+        },
+        move || -> ()
+            requires { (mark.of ≡ shared.now.mark) × (mark.told.count ≡ 0) }
+        { change_mark(rt, shared, mark, change) },
+    );
+    told
+}
+
+#[test]
+fn a_seat_that_waits_is_woken(rt: HostRuntime) -> Result<(), Fail> {
+    let cases = [
+        (Change::Raised, (1, MarkState::Running)),
+        (Change::Ended, (0, MarkState::Ended)),
+        (Change::Broken, (0, MarkState::Broken)),
+    ];
+    for (change, want) in cases {
+        let told = begin_two(rt.alloc(), 1).map(|two| await_change(&rt, two, change));
+        assert_eq!(rt; told, Some(want));
+    }
+    Ok(())
+}
