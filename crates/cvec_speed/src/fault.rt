@@ -2,13 +2,16 @@
 
 use block_core::FreshFault;
 use book_core::GrowFault;
-use std::alloc::AllocError;
+use std::alloc::{AllocError, AllocFailed};
 use std::io;
 use thiserror::Error;
 
 /// Why a work has no figure.
 #[derive(Clone, Copy, Debug, PartialEq, Eq, Error)]
 pub enum SpeedFault {
+    /// The work makes no growth, or more than one phase has room for.
+    #[error("no growth, or more than a phase has room for")]
+    Room,
     /// A growth, or the phase, was refused.
     #[error("a growth was refused: {0}")]
     Grow(GrowFault),
@@ -41,6 +44,12 @@ impl From<FreshFault> for SpeedFault {
 
 impl From<AllocError> for SpeedFault {
     fn from(_: AllocError) -> SpeedFault {
+        SpeedFault::Memory
+    }
+}
+
+impl<T: Drop> From<AllocFailed<T>> for SpeedFault {
+    fn from(_: AllocFailed<T>) -> SpeedFault {
         SpeedFault::Memory
     }
 }

@@ -44,25 +44,32 @@ pub struct Span {
 }
 
 impl Span {
-    /// The time from the coming of the last thread, which opened the gate, to the end of the last one.
-    pub fn of_all(spans: Vec<Result<Span, SpeedFault>>) -> Result<Duration, SpeedFault> {
-        let mut all: Option<Span> = None;
-        for span in spans {
-            let span = span?;
-            all = Some(match all {
-                Some(so_far) => so_far.joined(span),
-                None => span,
-            });
+    /// The later coming, and the later end.
+    pub fn joined(self, other: Option<Span>) -> Span {
+        match other {
+            None => self,
+            Some(other) => Span {
+                came: self.came.max(other.came),
+                done: self.done.max(other.done),
+            },
         }
-        let all = all.ok_or(SpeedFault::Content)?;
-        Ok(all.done.duration_since(all.came))
     }
 
-    /// The later coming, and the later end.
-    fn joined(self, other: Span) -> Span {
-        Span {
-            came: self.came.max(other.came),
-            done: self.done.max(other.done),
+    /// The time of joined spans: from the coming of the last thread, which opened the gate, to the end of the last
+    /// one.
+    pub fn time(joined: Option<Span>) -> Duration {
+        match joined {
+            None => Duration::ZERO,
+            Some(span) => span.done.duration_since(span.came),
         }
+    }
+
+    /// The time of all of these.
+    pub fn time_of_all(spans: Vec<Result<Span, SpeedFault>>) -> Result<Duration, SpeedFault> {
+        let mut joined = None;
+        for span in spans {
+            joined = Some(span?.joined(joined));
+        }
+        Ok(Span::time(joined))
     }
 }

@@ -1,6 +1,6 @@
 //! Many threads grow one vector.
 
-ghost use Rattle.std.specs.Prelude.{◌≡◌, ◌<◌};
+ghost use Rattle.std.specs.Prelude.{◌<◌, IfOk};
 ghost use Rattle.book_core.specs.Lists.{IsOf};
 ghost use Rattle.book_core.specs.Beginning.{AreNewSeats};
 
@@ -10,15 +10,15 @@ use crate::gate::{Gate, Span};
 use crate::mix::{mixed, sum_of};
 use crate::phase::{begin, put_blocks, put_records, take_seat};
 use crate::reading::{Total, total_of};
-use book_core::{Begun, Live, Seat};
+use book_core::{Live, Seat};
 use std::alloc::{AllocError, Global};
 use std::sync::Wait;
 use std::thread;
 use std::thread::Threads;
-use std::time::{Clock, Instant};
+use std::time::{Clock, Duration, Instant};
 
 /// How many threads make growths of how many records, and about how many records in all.
-#[derive(Clone, Copy, Debug, PartialEq, Eq)]
+#[derive(Clone, Copy)]
 pub struct GrowSizes {
     pub threads: u16,
     pub block: u32,
@@ -94,14 +94,43 @@ fn growers_of<'a>(
 
 /// What so many growths of each block come to.
 fn total_of_blocks(blocks: &[Vec<u64>], growths: u64) -> Total {
-    let mut total = Total { count: 0, sum: 0 };
+    let mut total = Total::NOTHING;
     for block in blocks {
-        let count = growths.wrapping_mul(block.len() as u64);
-        let sum = growths.wrapping_mul(sum_of(block.as_slice()));
-        total.count = total.count.wrapping_add(count);
-        total.sum = total.sum.wrapping_add(sum);
+        total = total.joined(Total::of_copies(block.as_slice(), growths));
     }
     total
+}
+
+/// A phase with room for the growths of all threads, a new seat for each thread, and one more.
+fn begin_empty(
+    alloc: Global,
+    threads: u16,
+    growths: u64,
+) -> Result<(Live<u64>, Vec<Seat<u64>>, Seat<u64>), SpeedFault>
+    ensures { IfOk result (λ begun.
+        AreNewSeats begun.0.directory begun.0.mark begun.1.items × IsOf begun.0 begun.2) }
+{
+    let room = growths.saturating_mul(threads as u64);
+    let (live, mut seats) = begin(alloc, room, threads.saturating_add(1))?;
+    let seat = take_seat(&live, &mut seats).ok_or(SpeedFault::Memory)?;
+    Ok((live, seats, seat))
+}
+
+/// Runs a grower for each block, and answers how long they took.
+fn run_growers<E: Threads + Wait + Clock + Sync>(
+    rt: &E,
+    alloc: Global,
+    live: &Live<u64>,
+    seats: Vec<Seat<u64>>,
+    blocks: &[Vec<u64>],
+    growths: u64,
+) -> Result<Duration, SpeedFault>
+    requires { AreNewSeats live.now.directory live.now.mark seats.items }
+{
+    let gate = Gate::new(blocks.len() as u64);
+    let growers = growers_of(alloc, live, seats, blocks, growths)?;
+    let spans = thread::map_vec(rt, growers, &|grower: Grower| grower.run(rt, alloc, &gate))?;
+    Span::time_of_all(spans)
 }
 
 /// Threads make growths by turns as they come, each by copies of a ready block of its own, and none before all are
@@ -110,30 +139,22 @@ pub fn grow<E: Threads + Wait + Clock + Sync>(
     rt: &E,
     alloc: Global,
     sizes: GrowSizes,
-) -> Result<Figure, SpeedFault> {
-    let threads = sizes.threads;
-    let growths = sizes.n / threads as u64 / sizes.block as u64;
-    let blocks = blocks_of(alloc, threads, sizes.block as usize)?;
-    let Begun {
-        live,
-        seats,
-        mut pass,
-        ..
-    } = begin(alloc, growths.saturating_mul(threads as u64), threads)?;
-    let gate = Gate::new(threads as u64);
-    let growers = growers_of(alloc, &live, seats, blocks.as_slice(), growths)?;
-    let spans = thread::map_vec(rt, growers, &|grower: Grower| grower.run(rt, alloc, &gate))?;
-    let time = Span::of_all(spans)?;
-    let want = total_of_blocks(blocks.as_slice(), growths);
-    let _ = live.directory().look(&mut pass);
-    if total_of(&live, &mut pass) != want {
+) -> Result<Vec<Figure>, SpeedFault> {
+    let growths = sizes.n / sizes.threads as u64 / sizes.block as u64;
+    let blocks = blocks_of(alloc, sizes.threads, sizes.block as usize)?;
+    let (live, seats, mut last) = begin_empty(alloc, sizes.threads, growths)?;
+    let time = run_growers(rt, alloc, &live, seats, blocks.as_slice(), growths)?;
+    live.look(&mut last)?;
+    let total = total_of(&live, &mut last);
+    if total != total_of_blocks(blocks.as_slice(), growths) {
         return Err(SpeedFault::Content);
     }
-    Ok(Figure {
+    let figure = Figure {
         work: "grow",
-        threads: threads as u64,
-        n: want.count,
+        threads: sizes.threads as u64,
+        n: total.count,
         time,
         memory: None,
-    })
+    };
+    Ok(Vec::from_array(alloc, [figure])?)
 }

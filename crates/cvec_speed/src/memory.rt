@@ -7,7 +7,6 @@ use crate::fault::SpeedFault;
 use crate::figure::{Figure, MemoryUse};
 use crate::mix::mixed;
 use crate::phase::{begin, put_blocks, put_records, take_seat};
-use book_core::Begun;
 use std::alloc::{AllocGlobal, Global};
 use std::fs;
 use std::rt::Files;
@@ -15,7 +14,7 @@ use std::sync::Wait;
 use std::time::{Clock, Instant};
 
 /// Growths of how many records are made, and about how many records in all.
-#[derive(Clone, Copy, Debug, PartialEq, Eq)]
+#[derive(Clone, Copy)]
 pub struct MemorySizes {
     pub block: u32,
     pub n: u64,
@@ -68,16 +67,12 @@ pub fn memory<E: Wait + Clock + Files + AllocGlobal>(
     rt: &E,
     alloc: Global,
     sizes: MemorySizes,
-) -> Result<Figure, SpeedFault> {
+) -> Result<Vec<Figure>, SpeedFault> {
     let growths = sizes.n / sizes.block as u64;
     let block = mixed(alloc, 0, sizes.block as usize)?;
     let before = Resident::now(rt)?;
     let start = Instant::now(rt)?;
-    let Begun {
-        live,
-        mut seats,
-        ..
-    } = begin(alloc, growths, 1)?;
+    let (live, mut seats) = begin(alloc, growths, 1)?;
     let mut seat = take_seat(&live, &mut seats).ok_or(SpeedFault::Memory)?;
     if let [record] = block.as_slice() {
         put_records(rt, &live, &mut seat, *record, growths)?;
@@ -87,7 +82,7 @@ pub fn memory<E: Wait + Clock + Files + AllocGlobal>(
     let time = start.elapsed(rt)?;
     let after = Resident::now(rt)?;
     let n = live.size(&seat);
-    Ok(Figure {
+    let figure = Figure {
         work: "memory",
         threads: 1,
         n,
@@ -96,5 +91,6 @@ pub fn memory<E: Wait + Clock + Files + AllocGlobal>(
             at_end: per_record(after.own.saturating_sub(before.own), n),
             highest: per_record(after.highest_own.saturating_sub(before.own), n),
         }),
-    })
+    };
+    Ok(Vec::from_array(alloc, [figure])?)
 }

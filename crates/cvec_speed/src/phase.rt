@@ -7,17 +7,23 @@ ghost use Rattle.book_core.specs.Beginning.{AreNewSeats};
 use crate::fault::SpeedFault;
 use block_core::Fresh;
 use book_core::{Begun, Live, Seat};
+use directory_core::GROWTH_LIMIT;
 use std::alloc::Global;
 use std::sync::Wait;
 
-/// A phase over no records, with room for so many growths and with so many seats.
-pub fn begin(alloc: Global, room: u64, seats: u16) -> Result<Begun<u64>, SpeedFault>
-    ensures seats { IfOk result (λ begun.
-        AreNewSeats begun.live.directory begun.live.mark begun.seats.items) }
-    ensures pass { IfOk result (λ begun. begun.pass.of ≡ begun.live.directory) }
+/// A phase over no records, with room for so many growths, and its seats, which are so many.
+pub fn begin(
+    alloc: Global,
+    room: u64,
+    seats: u16,
+) -> Result<(Live<u64>, Vec<Seat<u64>>), SpeedFault>
+    ensures { IfOk result (λ begun. AreNewSeats begun.0.directory begun.0.mark begun.1.items) }
 {
+    if room == 0 || room > GROWTH_LIMIT {
+        return Err(SpeedFault::Room);
+    }
     match Live::begin(alloc, Vec::new(alloc), room, seats) {
-        Ok(begun) => Ok(begun),
+        Ok(Begun { live, seats, .. }) => Ok((live, seats)),
         Err((_, fault)) => Err(SpeedFault::Grow(fault)),
     }
 }

@@ -2,13 +2,18 @@
 
 ghost use Rattle.std.specs.Prelude.{◌<◌, IfSome};
 
+use crate::beside::BesideSizes;
 use crate::grow::GrowSizes;
 use crate::memory::MemorySizes;
+use crate::read::ReadSizes;
+use std::time::Duration;
 
 /// What is to be measured.
-#[derive(Clone, Copy, Debug, PartialEq, Eq)]
+#[derive(Clone, Copy)]
 pub enum Work {
     Grow(GrowSizes),
+    Beside(BesideSizes),
+    Read(ReadSizes),
     Memory(MemorySizes),
 }
 
@@ -43,6 +48,34 @@ fn grow_sizes(words: &[String]) -> Option<GrowSizes> {
     Some(GrowSizes { threads, block, n })
 }
 
+fn beside_sizes(words: &[String]) -> Option<BesideSizes> {
+    let readers = u16::try_from(size_of(words, "threads")?).ok()?;
+    let block = u32::try_from(size_of(words, "block")?).ok()?;
+    let before = size_of(words, "preload")?;
+    let n = size_of(words, "n")?;
+    let most = Duration::from_millis(size_of(words, "cap_ms")?);
+    if block == 0 {
+        return None;
+    }
+    Some(BesideSizes {
+        readers,
+        block,
+        before,
+        n,
+        most,
+    })
+}
+
+fn read_sizes(words: &[String]) -> Option<ReadSizes> {
+    let block = u32::try_from(size_of(words, "block")?).ok()?;
+    let n = size_of(words, "n")?;
+    let draws = size_of(words, "draws")?;
+    if block == 0 {
+        return None;
+    }
+    Some(ReadSizes { block, n, draws })
+}
+
 fn memory_sizes(words: &[String]) -> Option<MemorySizes> {
     let block = u32::try_from(size_of(words, "block")?).ok()?;
     let n = size_of(words, "n")?;
@@ -59,6 +92,8 @@ pub fn read_words(words: &[String]) -> Result<Work, WordsFault> {
     };
     let work = match work.as_str() {
         "grow" => grow_sizes(sizes).map(|sizes| Work::Grow(sizes)),
+        "beside" => beside_sizes(sizes).map(|sizes| Work::Beside(sizes)),
+        "read" => read_sizes(sizes).map(|sizes| Work::Read(sizes)),
         "memory" => memory_sizes(sizes).map(|sizes| Work::Memory(sizes)),
         _ => return Err(WordsFault::NoWork),
     };
