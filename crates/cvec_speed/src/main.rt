@@ -12,6 +12,8 @@ mod mix;
 mod phase;
 mod read;
 mod reading;
+#[cfg(test)]
+mod tests;
 mod words;
 
 use crate::beside::beside;
