@@ -1,0 +1,61 @@
+//! Why a work has no figure.
+
+use block_core::FreshFault;
+use book_core::GrowFault;
+use std::alloc::{AllocError, AllocFailed};
+use std::io;
+use thiserror::Error;
+
+/// Why a work has no figure.
+#[derive(Clone, Copy, Debug, PartialEq, Eq, Error)]
+pub enum SpeedFault {
+    /// The work makes no growth, or more than one phase has room for.
+    #[error("no growth, or more than a phase has room for")]
+    Room,
+    /// A growth, or the phase, was refused.
+    #[error("a growth was refused: {0}")]
+    Grow(GrowFault),
+    /// What was read isn't what was grown.
+    #[error("wrong content")]
+    Content,
+    /// A growth of memory was refused.
+    #[error("memory")]
+    Memory,
+    /// The clock, or what the system tells of the memory, can't be read.
+    #[error("the system tells no time or no memory")]
+    System,
+}
+
+impl From<GrowFault> for SpeedFault {
+    fn from(fault: GrowFault) -> SpeedFault {
+        SpeedFault::Grow(fault)
+    }
+}
+
+impl From<FreshFault> for SpeedFault {
+    fn from(fault: FreshFault) -> SpeedFault {
+        SpeedFault::Grow(match fault {
+            FreshFault::Empty => GrowFault::Empty,
+            FreshFault::TooLarge => GrowFault::TooLarge,
+            FreshFault::Memory => GrowFault::Memory,
+        })
+    }
+}
+
+impl From<AllocError> for SpeedFault {
+    fn from(_: AllocError) -> SpeedFault {
+        SpeedFault::Memory
+    }
+}
+
+impl<T: Drop> From<AllocFailed<T>> for SpeedFault {
+    fn from(_: AllocFailed<T>) -> SpeedFault {
+        SpeedFault::Memory
+    }
+}
+
+impl From<io::Error> for SpeedFault {
+    fn from(_: io::Error) -> SpeedFault {
+        SpeedFault::System
+    }
+}

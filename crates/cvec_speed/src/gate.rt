@@ -1,0 +1,75 @@
+//! A common start of threads, and the time that they took.
+
+use crate::fault::SpeedFault;
+use std::sync::Wait;
+use std::sync::atomic::{AtomicU64, Ordering};
+use std::thread;
+use std::time::{Clock, Duration, Instant};
+
+/// Where so many threads wait until all of them are there.
+#[derive(Drop)]
+pub struct Gate {
+    there: AtomicU64,
+    threads: u64,
+}
+
+impl Gate {
+    pub fn new(threads: u64) -> Gate {
+        Gate {
+            there: AtomicU64::new(0),
+            threads,
+        }
+    }
+
+    /// Waits until all threads are there. It yields and asks again, so that all start at once. Answers when this
+    /// thread came.
+    pub fn pass<E: Wait + Clock>(&self, rt: &E) -> Result<Instant, SpeedFault> {
+        let came = Instant::now(rt);
+        self.there.fetch_add(1, Ordering::SeqCst);
+        for _ in rt.forever() {
+            if self.there.load(Ordering::SeqCst) >= self.threads {
+                break;
+            }
+            thread::yield_now();
+        }
+        Ok(came?)
+    }
+}
+
+/// When a thread came to the gate, and when it was done.
+#[derive(Clone, Copy)]
+pub struct Span {
+    pub came: Instant,
+    pub done: Instant,
+}
+
+impl Span {
+    /// The later coming, and the later end.
+    pub fn joined(self, other: Option<Span>) -> Span {
+        match other {
+            None => self,
+            Some(other) => Span {
+                came: self.came.max(other.came),
+                done: self.done.max(other.done),
+            },
+        }
+    }
+
+    /// The time of joined spans: from the coming of the last thread, which opened the gate, to the end of the last
+    /// one.
+    pub fn time(joined: Option<Span>) -> Duration {
+        match joined {
+            None => Duration::ZERO,
+            Some(span) => span.done.duration_since(span.came),
+        }
+    }
+
+    /// The time of all of these.
+    pub fn time_of_all(spans: Vec<Result<Span, SpeedFault>>) -> Result<Duration, SpeedFault> {
+        let mut joined = None;
+        for span in spans {
+            joined = Some(span?.joined(joined));
+        }
+        Ok(Span::time(joined))
+    }
+}

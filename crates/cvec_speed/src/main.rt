@@ -1,0 +1,80 @@
+//! `cvec_speed`: measures growth, reading and memory of a growth phase. It is started as
+//! `cvec_speed WORK name=number ..` and writes one line of JSON for each figure.
+#![tactic(auto)]
+
+mod beside;
+mod fault;
+mod figure;
+mod gate;
+mod grow;
+mod memory;
+mod mix;
+mod phase;
+mod read;
+mod reading;
+#[cfg(test)]
+mod tests;
+mod words;
+
+use crate::beside::beside;
+use crate::fault::SpeedFault;
+use crate::grow::grow;
+use crate::memory::memory;
+use crate::read::read;
+use crate::words::{WordsFault, Work, read_words};
+use std::process::ExitCode;
+use std::rt::Files;
+use std::sync::Wait;
+use std::thread::Threads;
+use std::time::Clock;
+use std::{env, io};
+
+const USAGE: &str = "usage: cvec_speed WORK name=number ..
+grow threads= block= n=                      threads grow one vector
+beside threads= block= preload= n= cap_ms=   threads sum a vector while one more grows it
+read block= n= draws=                        one thread, and then 1, 2 and 4, read a vector
+memory block= n=                             what memory one thread's growths take
+";
+
+fn main(rt: HostRuntime) -> io::Result<ExitCode> {
+    let words: Vec<String> = env::args(&rt)?.skip(1).collect(rt.alloc())?;
+    let status = match read_words(words.as_slice()) {
+        Ok(work) => measure(&rt, work)?,
+        Err(WordsFault::NoWork) => {
+            rt.print(USAGE)?;
+            3
+        }
+        Err(WordsFault::NoSize) => {
+            rt.eprint(USAGE)?;
+            2
+        }
+    };
+    Ok(ExitCode::from(status))
+}
+
+/// Does the work, and writes its figures, or why there are none.
+fn measure<E: Threads + Wait + Clock + Files + AllocGlobal + Print + Eprint + Sync>(
+    rt: &E,
+    work: Work,
+) -> io::Result<u8> {
+    let done = match work {
+        Work::Grow(sizes) => grow(rt, rt.alloc(), sizes),
+        Work::Beside(sizes) => beside(rt, rt.alloc(), sizes),
+        Work::Read(sizes) => read(rt, rt.alloc(), sizes),
+        Work::Memory(sizes) => memory(rt, rt.alloc(), sizes),
+    };
+    match done {
+        Ok(figures) => {
+            for figure in &figures {
+                println!(rt; "{figure}")?;
+            }
+            Ok(0)
+        }
+        // A phase can't do it, so this program has no such work.
+        Err(SpeedFault::Room) => Ok(3),
+        Err(fault) => {
+            eprintln!(rt; "cvec_speed: {fault}")?;
+            Ok(1)
+        }
+    }
+}
