@@ -11,6 +11,7 @@ use std::alloc::Global;
 use std::sync::Wait;
 use std::test::Fail;
 
+mod reading;
 mod threads;
 
 /// A book and its two seats.
@@ -209,6 +210,37 @@ fn each_fault_comes_in_its_turn(rt: HostRuntime) -> Result<(), Fail> {
         Some(GrowFault::TooLarge),
         Some(GrowFault::Full),
         Some(GrowFault::Full),
+    ];
+    assert_eq!(rt; faults, Some(want));
+    Ok(())
+}
+
+/// The faults of a closed book whose room is full: of no copies, of too many for a frame, and of one.
+fn grow_full_and_closed<E: Wait>(rt: &E, two: Two) -> Option<[Option<GrowFault>; 3]> {
+    let Two {
+        live,
+        mut first,
+        ..
+    } = two;
+    live.push_back(rt, &mut first, 1).ok()?;
+    live.close(rt);
+    Some([
+        live.grow_by(rt, &mut first, 0, 1).err(),
+        live.grow_by(rt, &mut first, 131_072, 1).err(),
+        live.push_back(rt, &mut first, 1).err(),
+    ])
+}
+
+#[test]
+fn the_length_is_refused_before_the_book(rt: HostRuntime) -> Result<(), Fail> {
+    let faults = match begin_two(rt.alloc(), 1) {
+        Some(two) => grow_full_and_closed(&rt, two),
+        None => None,
+    };
+    let want = [
+        Some(GrowFault::Empty),
+        Some(GrowFault::TooLarge),
+        Some(GrowFault::Closed),
     ];
     assert_eq!(rt; faults, Some(want));
     Ok(())

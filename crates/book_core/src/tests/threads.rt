@@ -172,3 +172,37 @@ fn a_seat_that_waits_is_woken(rt: HostRuntime) -> Result<(), Fail> {
     }
     Ok(())
 }
+
+/// Makes a growth, or closes the book.
+fn grow_or_close<E: Wait>(rt: &E, live: &Live<u64>, mut seat: Seat<u64>, closes: bool)
+    requires { IsOf live.now seat }
+{
+    if closes {
+        live.close(rt);
+    } else {
+        let _ = live.push_back(rt, &mut seat, 1);
+    }
+}
+
+/// What the flusher is told that waits for the first growth while another thread makes it or closes the book.
+fn await_first<E: Threads + Wait + Sync>(rt: &E, two: Two, closes: bool) -> bool {
+    let Two { live, first, .. } = two;
+    let shared = &live;
+    let (closed, ()) = thread::join(
+        rt,
+        move || shared.await_more(rt, 0),
+        move || -> ()
+            requires { IsOf shared.now first }
+        { grow_or_close(rt, shared, first, closes) },
+    );
+    closed
+}
+
+#[test]
+fn the_flusher_that_waits_is_woken(rt: HostRuntime) -> Result<(), Fail> {
+    for closes in [false, true] {
+        let closed = begin_two(rt.alloc(), 1).map(|two| await_first(&rt, two, closes));
+        assert_eq!(rt; closed, Some(closes));
+    }
+    Ok(())
+}
