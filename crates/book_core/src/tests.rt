@@ -11,6 +11,7 @@ use std::alloc::Global;
 use std::sync::Wait;
 use std::test::Fail;
 
+mod snapshot;
 mod threads;
 
 /// A book and its two seats.
