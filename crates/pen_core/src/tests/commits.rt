@@ -3,8 +3,9 @@
 ghost use Rattle.std.specs.Prelude.{◌≡◌};
 
 use super::*;
-use disk_core::{Blow, FuseDisk};
+use disk_core::{Blow, FileDisk, FuseDisk};
 use segment_core::Format;
+use std::fs;
 use std::process::Abort;
 
 /// A file with one growth of 5, of whose commit, behind the eight calls of creation, so many pass.
@@ -176,5 +177,37 @@ fn every_image_holds_what_is_settled(rt: HostRuntime) -> Result<(), Fail> {
             }
         }
     }
+    Ok(())
+}
+
+/// Opens the file, whose vector is that behind so many commands, and commits the next one.
+fn go_on<D: Disk + Drop>(alloc: Global, disk: D, commands: usize) -> Result<(), Fail> {
+    let Ok((mut pen, records)) = Pen::open::<u64>(alloc, disk) else {
+        return Err(Fail::from("no file"));
+    };
+    if !is_content(commands, records.as_slice()) {
+        return Err(Fail::from("another vector"));
+    }
+    begin(&mut pen, commands)?;
+    if !commit(&mut pen) {
+        return Err(Fail::from("no commit"));
+    }
+    Ok(())
+}
+
+#[test]
+fn a_real_file_is_opened_again_behind_each_commit(rt: HostRuntime) -> Result<(), Fail> {
+    let path = "opened_again_behind_each_commit";
+    let _ = fs::remove_file(&rt, path);
+    let made = Pen::create_as(rt.alloc(), FileDisk::make(&rt, path)?, 8, Format::Two);
+    assert!(rt; made.is_ok());
+    drop(made);
+    for commands in 0..COMMANDS {
+        go_on(rt.alloc(), FileDisk::open(&rt, path)?, commands)?;
+    }
+    let file = fs::read(&rt, path)?;
+    let records = scan::<u64>(rt.alloc(), file.as_slice())?.records;
+    assert_eq!(rt; records.as_slice(), CHANGED.as_slice());
+    fs::remove_file(&rt, path)?;
     Ok(())
 }
