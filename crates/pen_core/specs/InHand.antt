@@ -17,8 +17,7 @@ use Rattle.pen_core.specs.declared.stage.FoldStage.{FoldStage}
 use Rattle.pen_core.specs.declared.stage.FoldStage.TheVariants.{Home, Sync, Ready, Filed}
 use Rattle.pen_core.specs.declared.stage.FoldStage.TheVariants as stages
 use Rattle.pen_core.specs.PenOf.{FoldOf, HomeWrite}
-use Rattle.pen_core.specs.Vectors.{blanked_before}
-use Rattle.pen_core.specs.Listed.{frame_in_hand}
+use Rattle.pen_core.specs.Vectors.{frame_at, blanked_before}
 use Rattle.pen_core.specs.Folds.{IsFolding}
 
 -- ---- what a fold is seen as
@@ -118,6 +117,11 @@ pub record IsWaiting (shape : Shape) (gate : ℕ) (tally : Tally) (bytes : List 
   pub planned : ArePlanned gate fold
   pub spelled : fold.frame.items ≡ frame_text shape.format (frames.Fold fold.count) ++ 0 ∷ []
   pub room : gate_then gate bytes step + 14 < 2 ^ 48
+
+-- the frame of the job in hand
+abbrev pub frame_in_hand : Shape → List ℕ → Option Step → Option Frame
+frame_in_hand shape bytes None = None
+frame_in_hand shape bytes (Some step) = Some (frame_at shape bytes)
 
 -- a fold is in hand
 abbrev pub IsInHand : FoldStage → Type 0

@@ -17,7 +17,7 @@ returns-then-self-clause-images g c = rw (← c.self.view_is) (
 pub returns-then-self-clause-kept : goal.returns-then-self-clause-kept
 returns-then-self-clause-kept g c = rw (← c.self.view_is) (
     let s = c.self.inside in
-    λ model. pen_kept (g.D.Disk.keeps s.disk) (g.D.Disk.states s.disk) s.shape s.gate s.tally s.next s.bytes.items s.step s.broken c.self.invariant.0 model s.disk (vec_capacity s.bytes))
+    λ model. pen_kept s.fold (g.D.Disk.keeps s.disk) (g.D.Disk.states s.disk) s.shape s.gate s.tally s.next s.bytes.items s.step s.broken c.self.invariant.0 model s.disk (vec_capacity s.bytes))
 
 pub returns-in_default-clause-images : goal.returns-in_default-clause-images
 returns-in_default-clause-images g c = rw (← c.self.view_is) (
@@ -27,7 +27,7 @@ returns-in_default-clause-images g c = rw (← c.self.view_is) (
 pub returns-in_default-clause-kept : goal.returns-in_default-clause-kept
 returns-in_default-clause-kept g c = rw (← c.self.view_is) (
     let s = c.self.inside in
-    λ model. pen_kept (g.D.Disk.keeps s.disk) (g.D.Disk.states s.disk) s.shape s.gate s.tally s.next s.bytes.items s.step s.broken c.self.invariant.0 model s.disk (vec_capacity s.bytes))
+    λ model. pen_kept s.fold (g.D.Disk.keeps s.disk) (g.D.Disk.states s.disk) s.shape s.gate s.tally s.next s.bytes.items s.step s.broken c.self.invariant.0 model s.disk (vec_capacity s.bytes))
 
 pub invariant_of-self : goal.invariant_of-self
 invariant_of-self g c =
@@ -38,6 +38,7 @@ invariant_of-self g c =
       listed_stays (g.D.Disk.keeps s.disk) (g.D.Disk.states s.disk) s.shape s.gate s.tally s.bytes.items s.step s.homes s.live c.self.invariant.1
           (g.D.Disk.keeps new) (g.D.Disk.states new) s.step refl c.call.ensures.model (λ model. whole_same (g.D.Disk.keeps s.disk) (g.D.Disk.keeps new) (g.D.Disk.states s.disk) (g.D.Disk.states new) s.shape s.gate s.tally s.next s.bytes.items c.deref.result.now s.step s.broken c.in-Some.step c.self.invariant.0
           c.if-self.false c.in-Some.is c.deref.ensures.value c.call.ensures.model (g.met.D.Disk.reads_an_image s.disk) (g.met.D.Disk.reads_an_image new) model (c.in-Err.ensures.failed model)),
+      fold_broken (g.D.Disk.keeps s.disk) (g.D.Disk.keeps new) (g.D.Disk.states s.disk) (g.D.Disk.states new) s.shape s.gate s.tally s.bytes.items s.step s.broken s.fold c.self.invariant.2 c.call.ensures.model,
     )
 
 pub returns-in-Err-clause-images : goal.returns-in-Err-clause-images
@@ -51,7 +52,7 @@ pub returns-in-Err-clause-kept : goal.returns-in-Err-clause-kept
 returns-in-Err-clause-kept g c =
     let s = c.self.inside in
     let new = c.call.new.disk in
-    λ model. pen_kept (g.D.Disk.keeps new) (g.D.Disk.states new) s.shape s.gate s.tally s.next s.bytes.items s.step true
+    λ model. pen_kept s.fold (g.D.Disk.keeps new) (g.D.Disk.states new) s.shape s.gate s.tally s.next s.bytes.items s.step true
     (whole_broken (g.D.Disk.keeps s.disk) (g.D.Disk.keeps new) (g.D.Disk.states s.disk) (g.D.Disk.states new) s.shape s.gate s.tally s.next s.bytes.items c.deref.result.now s.step s.broken c.in-Some.step c.self.invariant.0
     c.if-self.false c.in-Some.is c.deref.ensures.value c.call.ensures.model (g.met.D.Disk.reads_an_image s.disk) (g.met.D.Disk.reads_an_image new) c.in-Err.ensures.failed) model new (vec_capacity s.bytes)
 
@@ -84,6 +85,9 @@ invariant_of-self-in-Some-next g c =
           (g.D.Disk.keeps new) (g.D.Disk.states new) (Some c.in-Some-next.behind) (sym (ap (frame_in_hand s.shape s.bytes.items) c.in-Some.is)) c.call.ensures.model
           (whole_stays (g.D.Disk.keeps s.disk) (g.D.Disk.keeps new) (g.D.Disk.states s.disk) (g.D.Disk.states new) s.shape s.gate s.tally s.next s.bytes.items c.deref.result.now s.step s.broken c.in-Some.step c.self.invariant.0
           c.if-self.false c.in-Some.is c.deref.ensures.value c.call.ensures.model (g.met.D.Disk.reads_an_image s.disk) (g.met.D.Disk.reads_an_image new) c.in_default-call.ensures.done c.in-Some-next.behind (sym c.next.ensures ∙ c.in-Some-next.is)),
+      fold_stays (g.D.Disk.keeps s.disk) (g.D.Disk.keeps new) (g.D.Disk.states s.disk) (g.D.Disk.states new) s.shape s.gate s.tally s.bytes.items s.step s.broken s.fold c.self.invariant.2 c.call.ensures.model c.in-Some.step c.in-Some-next.behind c.in-Some.is
+      (λ model. legal_now (g.D.Disk.keeps s.disk) (g.D.Disk.keeps new) (g.D.Disk.states s.disk) (g.D.Disk.states new) s.shape s.gate s.tally s.next s.bytes.items c.deref.result.now s.step s.broken c.in-Some.step c.self.invariant.0 c.if-self.false c.in-Some.is c.deref.ensures.value c.call.ensures.model (g.met.D.Disk.reads_an_image s.disk) (g.met.D.Disk.reads_an_image new) (c.call.ensures.model model)) (λ model. next_alike (g.D.Disk.keeps s.disk) (g.D.Disk.keeps new) (g.D.Disk.states s.disk) (g.D.Disk.states new) s.shape s.gate s.tally s.next s.bytes.items c.deref.result.now s.step s.broken c.in-Some.step c.self.invariant.0 c.if-self.false c.in-Some.is c.deref.ensures.value c.call.ensures.model (g.met.D.Disk.reads_an_image s.disk) (g.met.D.Disk.reads_an_image new) c.in_default-call.ensures.done c.in-Some-next.behind (sym c.next.ensures ∙ c.in-Some-next.is) model)
+      (λ model. (whole_stays (g.D.Disk.keeps s.disk) (g.D.Disk.keeps new) (g.D.Disk.states s.disk) (g.D.Disk.states new) s.shape s.gate s.tally s.next s.bytes.items c.deref.result.now s.step s.broken c.in-Some.step c.self.invariant.0 c.if-self.false c.in-Some.is c.deref.ensures.value c.call.ensures.model (g.met.D.Disk.reads_an_image s.disk) (g.met.D.Disk.reads_an_image new) c.in_default-call.ensures.done c.in-Some-next.behind (sym c.next.ensures ∙ c.in-Some-next.is) model).frames_same) (λ model. (whole_stays (g.D.Disk.keeps s.disk) (g.D.Disk.keeps new) (g.D.Disk.states s.disk) (g.D.Disk.states new) s.shape s.gate s.tally s.next s.bytes.items c.deref.result.now s.step s.broken c.in-Some.step c.self.invariant.0 c.if-self.false c.in-Some.is c.deref.ensures.value c.call.ensures.model (g.met.D.Disk.reads_an_image s.disk) (g.met.D.Disk.reads_an_image new) c.in_default-call.ensures.done c.in-Some-next.behind (sym c.next.ensures ∙ c.in-Some-next.is) model).vector_same),
     )
 
 pub returns-in-Some-next-clause-images : goal.returns-in-Some-next-clause-images
@@ -97,7 +101,7 @@ pub returns-in-Some-next-clause-kept : goal.returns-in-Some-next-clause-kept
 returns-in-Some-next-clause-kept g c =
     let s = c.self.inside in
     let new = c.call.new.disk in
-    λ model. pen_kept (g.D.Disk.keeps new) (g.D.Disk.states new) s.shape s.gate s.tally s.next s.bytes.items (Some c.in-Some-next.behind) s.broken
+    λ model. pen_kept s.fold (g.D.Disk.keeps new) (g.D.Disk.states new) s.shape s.gate s.tally s.next s.bytes.items (Some c.in-Some-next.behind) s.broken
     (whole_next (g.D.Disk.keeps s.disk) (g.D.Disk.keeps new) (g.D.Disk.states s.disk) (g.D.Disk.states new) s.shape s.gate s.tally s.next s.bytes.items c.deref.result.now s.step s.broken c.in-Some.step c.self.invariant.0
     c.if-self.false c.in-Some.is c.deref.ensures.value c.call.ensures.model (g.met.D.Disk.reads_an_image s.disk) (g.met.D.Disk.reads_an_image new) c.in_default-call.ensures.done c.in-Some-next.behind (sym c.next.ensures ∙ c.in-Some-next.is)) model new (vec_capacity s.bytes)
 
@@ -148,7 +152,7 @@ pub returns-in-None-clause-kept : goal.returns-in-None-clause-kept
 returns-in-None-clause-kept g c =
     let s = c.self.inside in
     let new = c.call.new.disk in
-    λ model. pen_kept (g.D.Disk.keeps new) (g.D.Disk.states new) s.shape (s.gate + (c.len.result - 1)) s.next s.next s.bytes.items None s.broken
+    λ model. pen_kept s.fold (g.D.Disk.keeps new) (g.D.Disk.states new) s.shape (s.gate + (c.len.result - 1)) s.next s.next s.bytes.items None s.broken
     (whole_done (g.D.Disk.keeps s.disk) (g.D.Disk.keeps new) (g.D.Disk.states s.disk) (g.D.Disk.states new) s.shape s.gate s.tally s.next s.bytes.items c.deref.result.now s.step s.broken c.in-Some.step c.self.invariant.0
     c.if-self.false c.in-Some.is c.deref.ensures.value c.call.ensures.model (g.met.D.Disk.reads_an_image s.disk) (g.met.D.Disk.reads_an_image new) c.in_default-call.ensures.done (s.gate + (c.len.result - 1)) (ap (λ n. s.gate + (n - 1)) (c.len.ensures ∙ sym c.deref.ensures.len)) (sym c.next.ensures ∙ c.in-None.is)) model new (vec_capacity s.bytes)
 
