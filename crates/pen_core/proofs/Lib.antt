@@ -16,9 +16,12 @@ pub mod Begun
 pub mod Begins
 pub mod Growths
 pub mod RunsBegun
+pub mod Worked
 pub mod Births
+pub mod CreationCalls
 pub mod NewPen
 pub mod RunsGiven
 pub mod Covers
 pub mod Pieces
 pub mod Opening
+pub mod WorkedOpening
