@@ -111,7 +111,7 @@ impl Fold {
     pub(crate) fn end(&mut self, live: &mut Vec<(u64, u64)>, bytes: &mut Vec<u8>)
         ensures stage { self.new.stage ≡ stage_ended self.old.stage }
         ensures live { live.new.items ≡ live_after self.old.stage self.old.runs live.old.items }
-        ensures same { (self.old.stage ≡ FoldStage.Filed → ⊥) → (self.new ≡ self.old) × (bytes.new ≡ bytes.old) }
+        ensures same { (self.old.stage ≡ FoldStage.Filed → ⊥) → (self.new ≡ self.old) × (live.new ≡ live.old) × (bytes.new ≡ bytes.old) }
     {
         if let FoldStage::Filed = self.stage {
             let runs = self.runs.min(live.len());

@@ -15,6 +15,7 @@ use Rattle.pen_core.proofs.Begins.{no_step, all_fits, not_full}
 use Rattle.pen_core.proofs.Growths.{few_growths, group_begun, group_at, group_tells}
 use Rattle.pen_core.specs.InHand.{fold_of}
 use Rattle.pen_core.proofs.InHand.{group_held}
+use Rattle.pen_core.proofs.AtRest.{at_rest}
 use Rattle.pen_core.proofs.Listed.{group_listed}
 use Rattle.pen_core.proofs.pen.Pen.begin_growths.Goals as goal
 
@@ -54,6 +55,12 @@ overflow_add-payload-2 g c =
     omega (arith, small.0, small.1)
 
 -- ---- the pen
+
+pub invariant_of-self-then-is_err-3 : goal.invariant_of-self-then-is_err-3
+invariant_of-self-then-is_err-3 g c =
+    let s = c.self.inside in
+    at_rest (g.D.Disk.keeps s.disk) (g.D.Disk.states s.disk) s.shape s.gate s.tally s.next s.bytes.items c.push.new.self.items s.step s.broken s.homes (record { homes = c.reserve.new.self; live = s.homes.live }) s.live s.fold c.self.invariant.0 c.self.invariant.1 c.self.invariant.2
+    (no_step s.shape s.bytes.items s.step (subst (λ v. is_some v.job ≡ false) (sym c.self.view_is) c.in_ok-ready.ensures.idle)) c.reserve.ensures.items refl
 
 pub invariant_of-self-2 : goal.invariant_of-self-2
 invariant_of-self-2 g c =
