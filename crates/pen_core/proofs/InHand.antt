@@ -72,7 +72,7 @@ module _ (shape : Shape) (gate gate' : ℕ) (tally tally' : Tally) (bytes bytes'
   stage_on (Home n) at same folded more further room = (waits_on at.0 folded more further (room tt (λ is. absurd cc)), at.1, at.2)
   stage_on Sync at same folded more further room = (waits_on at.0 folded more further (room tt (λ is. absurd cc)), at.1)
   stage_on Ready at same folded more further room = (waits_on at.0 folded more further (room tt (λ is. absurd cc)), at.1)
-  stage_on Filed at same folded more further room = same refl ∙ at
+  stage_on Filed at same folded more further room = (same refl ∙ at.0, at.1)
 
 -- the room that a waiting fold has
 pub room_of : (shape : Shape) (gate : ℕ) (tally : Tally) (bytes : List ℕ) (o : Option Step) (fold : Fold) (stage : FoldStage) → IsAtStage shape gate tally bytes o fold stage → IsInHand stage → (stage ≡ Filed → ⊥) → IsWaiting shape gate tally bytes o fold
@@ -83,7 +83,7 @@ room_of shape gate tally bytes o fold Ready at held unfiled = at.0
 room_of shape gate tally bytes o fold Filed at held unfiled = absurd (unfiled refl)
 
 pub filed_at : (shape : Shape) (gate : ℕ) (tally : Tally) (bytes : List ℕ) (o : Option Step) (fold : Fold) → IsAtStage shape gate tally bytes o fold fold.stage → fold.stage ≡ Filed → frame_in_hand shape bytes o ≡ Some (kinds.Fold fold.count)
-filed_at shape gate tally bytes o fold at is = subst (IsAtStage shape gate tally bytes o fold) is at
+filed_at shape gate tally bytes o fold at is = (subst (IsAtStage shape gate tally bytes o fold) is at).0
 
 -- ---- a job is begun
 

@@ -13,6 +13,8 @@ pub mod Listed
 pub mod InHand
 pub mod AtRest
 pub mod LastTick
+pub mod HomeTick
+pub mod Filed
 pub mod BeingFolded
 pub mod Begun
 pub mod Begins

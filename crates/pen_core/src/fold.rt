@@ -4,7 +4,7 @@ ghost use Rattle.std.specs.Prelude.{◌≡◌, ◌≤◌, ◌<◌, ◌+◌, ◌^
 ghost use Rattle.disk_core.specs.Calls.{bytes_of};
 ghost use Rattle.disk_core.specs.Moments.{clock};
 ghost use Rattle.disk_core.specs.Fault.{IsCounted};
-ghost use Rattle.pen_core.specs.InHand.{fold_of, left_of, HomeCalls, FailsHomeCall, home_fault, advanced, CanCall, stage_ended, live_after};
+ghost use Rattle.pen_core.specs.InHand.{fold_of, left_of, HomeCalls, FailsHomeCall, home_fault, advanced, CanCall, has_call, is_unfolded, stage_ended, live_after};
 ghost use Rattle.pen_core.specs.Refusals.{fold_len};
 
 use crate::stage::FoldStage;
@@ -68,6 +68,20 @@ impl Fold {
             FoldStage::None => 0,
             _ => FRAME_LEN,
         }
+    }
+
+    /// Whether a device call of the homes is next.
+    pub(crate) fn has_call(&self) -> bool
+        ensures { result ≡ has_call self.now.stage }
+    {
+        matches!(self.stage, FoldStage::Home(_) | FoldStage::Sync)
+    }
+
+    /// Whether none is in hand.
+    pub(crate) fn is_none(&self) -> bool
+        ensures { result ≡ is_unfolded self.now.stage }
+    {
+        matches!(self.stage, FoldStage::None)
     }
 
     /// Makes the next device call of the homes: a write, or their sync.

@@ -1,6 +1,7 @@
 //! A pen writes one segment file.
 
-ghost use Rattle.std.specs.Prelude.{◌≡◌};
+ghost use Rattle.std.specs.Prelude.{◌≡◌, length, IfSome};
+ghost use Rattle.pen_core.specs.InHand.{writes_left};
 ghost use Rattle.pen_core.specs.Pen.{IsKept, stage_of};
 
 use crate::fold::Fold;
@@ -81,7 +82,8 @@ impl<D: Disk> Pen<D> {
 
     /// What is left of the job and of the fold.
     pub fn stage(&self) -> Stage
-        ensures { result ≡ stage_of self.now }
+        ensures stage { result ≡ stage_of self.now }
+        ensures homes { IfSome self.now.fold (λ fold. length fold.left ≡ writes_left fold.stage) }
     {
         let log = match self.step {
             Some(step) => step.left(),

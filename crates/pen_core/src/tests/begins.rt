@@ -187,3 +187,11 @@ fn a_pen_whose_disk_has_failed_begins_nothing(rt: HostRuntime) -> Result<(), Fai
     assert_eq!(rt; pen.tick_log(), Err(PenFault::Broken));
     Ok(())
 }
+
+#[test]
+fn without_a_fold_a_tick_of_the_homes_is_idle(rt: HostRuntime) -> Result<(), Fail> {
+    let mut pen = grown(rt.alloc(), Format::One, &[5])?;
+    assert_eq!(rt; pen.tick_home(), Ok(HomeTicked::Idle));
+    assert_eq!(rt; pen.stage().fold, FoldStage::None);
+    Ok(())
+}

@@ -88,8 +88,8 @@ invariant_of-self-2 g c =
           spelled laws.width_in_range.0 width laws.width_of_bytes c.requires.some c.requires.each short fits room)
           c.count-2.result c.in-Some.records c.count-2.ensures counted {old = c.reserve.new.self.items} more c.reserve.ensures.items refl,
       group_held (g.D.Disk.keeps s.disk) (g.D.Disk.states s.disk) s.shape s.gate s.tally s.bytes.items c.push.new.self.items s.step s.broken s.fold g.R.Record.form growths c.self.invariant.2
-      (no_step s.shape s.bytes.items s.step (subst (λ v. is_some v.job ≡ false) (sym c.self.view_is) c.in_ok-ready.ensures.idle)) spelled laws.width_of_bytes
-      (subst (λ n. s.gate + (6 + n) + fold_len (fold_of s.fold) < 2 ^ 48) payload (all_fits c.is_full.result s.gate (4 + c.count.result * 4 + c.in-Some.records * c.width_of.result) (fold_len (fold_of s.fold)) (c.is_full.ensures ∙ ap (λ v. is_full v (4 + c.count.result * 4 + c.in-Some.records * c.width_of.result)) (sym c.self.view_is)) c.if-is_full.false)),
+          (no_step s.shape s.bytes.items s.step (subst (λ v. is_some v.job ≡ false) (sym c.self.view_is) c.in_ok-ready.ensures.idle)) spelled laws.width_of_bytes
+          (subst (λ n. s.gate + (6 + n) + fold_len (fold_of s.fold) < 2 ^ 48) payload (all_fits c.is_full.result s.gate (4 + c.count.result * 4 + c.in-Some.records * c.width_of.result) (fold_len (fold_of s.fold)) (c.is_full.ensures ∙ ap (λ v. is_full v (4 + c.count.result * 4 + c.in-Some.records * c.width_of.result)) (sym c.self.view_is)) c.if-is_full.false)),
     )
 
 pub returns-clause-begun : goal.returns-clause-begun

@@ -37,9 +37,9 @@ invariant_of-self-2 g c =
           (not_full c.is_full.result s.gate 8 (fold_len (fold_of s.fold)) (c.is_full.ensures ∙ ap (λ v. is_full v 8) (sym c.self.view_is)) c.if-is_full.false))
           (λ count. λ is. absurd cc) (sym (append-nil s.homes.homes.items)) (sym (append-nil s.homes.live.items)),
       fold_begun (g.D.Disk.keeps s.disk) (g.D.Disk.states s.disk) s.shape s.gate s.tally s.bytes.items c.put_shrink.new.bytes.items s.step s.broken s.fold (Shrink n) Body c.self.invariant.2
-      (no_step s.shape s.bytes.items s.step (subst (λ v. is_some v.job ≡ false) (sym c.self.view_is) c.in_ok-ready.ensures.idle))
-      (on_ok c.put_shrink.result (sym c.is_err.ensures.value ∙ c.if-is_err.false) c.put_shrink.ensures.text s.shape.format)
-      (all_fits c.is_full.result s.gate 8 (fold_len (fold_of s.fold)) (c.is_full.ensures ∙ ap (λ v. is_full v 8) (sym c.self.view_is)) c.if-is_full.false),
+          (no_step s.shape s.bytes.items s.step (subst (λ v. is_some v.job ≡ false) (sym c.self.view_is) c.in_ok-ready.ensures.idle))
+          (on_ok c.put_shrink.result (sym c.is_err.ensures.value ∙ c.if-is_err.false) c.put_shrink.ensures.text s.shape.format)
+          (all_fits c.is_full.result s.gate 8 (fold_len (fold_of s.fold)) (c.is_full.ensures ∙ ap (λ v. is_full v 8) (sym c.self.view_is)) c.if-is_full.false),
     )
 
 pub returns-clause-begun : goal.returns-clause-begun

@@ -11,7 +11,7 @@ pub invariant_of-result : goal.invariant_of-result
 invariant_of-result g c =
     let new = c.make.new.disk in (
       pen_unfolded (g.D.Disk.keeps new) (g.D.Disk.states new) (record { format = c.args.format; width = c.args.width }) 11 nothing nothing c.in-Ok.bytes.items None false c.none.result c.none.ensures
-      (new_pen (g.D.Disk.keeps new) (g.D.Disk.states new) (record { format = c.args.format; width = c.args.width }) nothing c.in-Ok.bytes.items c.in_default-make.ensures.done (c.requires, c.ranges.width.fits)),
+          (new_pen (g.D.Disk.keeps new) (g.D.Disk.states new) (record { format = c.args.format; width = c.args.width }) nothing c.in-Ok.bytes.items c.in_default-make.ensures.done (c.requires, c.ranges.width.fits)),
       listed_new (g.D.Disk.keeps new) (g.D.Disk.states new) (record { format = c.args.format; width = c.args.width }) c.in-Ok.bytes.items c.new.result c.none.result c.none.ensures c.new.ensures.homes c.new.ensures.live
           (new_frames (g.D.Disk.keeps new) (g.D.Disk.states new) (record { format = c.args.format; width = c.args.width }) nothing c.in-Ok.bytes.items c.in_default-make.ensures.done),
       no_fold_at (g.D.Disk.keeps new) (g.D.Disk.states new) (record { format = c.args.format; width = c.args.width }) 11 nothing c.in-Ok.bytes.items None false c.none.result c.none.ensures,

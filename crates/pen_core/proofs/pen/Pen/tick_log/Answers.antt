@@ -1,5 +1,5 @@
 -- Each answer is one lemma on the pen's fields.
-use Rattle.std.proofs.Common.{◌≡◌, ◌+◌, ◌-◌, true, Some, None, inr, refl, sym, ap, ◌∙◌}
+use Rattle.std.proofs.Common.{◌+◌, ◌-◌, true, Some, None, inr, refl, sym, ap, ◌∙◌}
 use Rattle.std.specs.Prelude.{vec_len, vec_capacity}
 use Rattle.pen_core.specs.declared.fault.PenFault.TheVariants.{Disk}
 use Rattle.pen_core.specs.Vectors.{frame_at}
@@ -88,8 +88,8 @@ invariant_of-self-in-Some-next g c =
           (whole_stays (g.D.Disk.keeps s.disk) (g.D.Disk.keeps new) (g.D.Disk.states s.disk) (g.D.Disk.states new) s.shape s.gate s.tally s.next s.bytes.items c.deref.result.now s.step s.broken c.in-Some.step c.self.invariant.0
           c.if-self.false c.in-Some.is c.deref.ensures.value c.call.ensures.model (g.met.D.Disk.reads_an_image s.disk) (g.met.D.Disk.reads_an_image new) c.in_default-call.ensures.done c.in-Some-next.behind (sym c.next.ensures ∙ c.in-Some-next.is)),
       fold_stays (g.D.Disk.keeps s.disk) (g.D.Disk.keeps new) (g.D.Disk.states s.disk) (g.D.Disk.states new) s.shape s.gate s.tally s.bytes.items s.step s.broken s.fold c.self.invariant.2 c.call.ensures.model c.in-Some.step c.in-Some-next.behind c.in-Some.is
-      (λ model. legal_now (g.D.Disk.keeps s.disk) (g.D.Disk.keeps new) (g.D.Disk.states s.disk) (g.D.Disk.states new) s.shape s.gate s.tally s.next s.bytes.items c.deref.result.now s.step s.broken c.in-Some.step c.self.invariant.0 c.if-self.false c.in-Some.is c.deref.ensures.value c.call.ensures.model (g.met.D.Disk.reads_an_image s.disk) (g.met.D.Disk.reads_an_image new) (c.call.ensures.model model)) (λ model. bytes_alike (g.D.Disk.keeps s.disk) (g.D.Disk.keeps new) (g.D.Disk.states s.disk) (g.D.Disk.states new) s.shape s.gate s.tally s.next s.bytes.items c.deref.result.now s.step s.broken c.in-Some.step c.self.invariant.0 c.if-self.false c.in-Some.is c.deref.ensures.value c.call.ensures.model (g.met.D.Disk.reads_an_image s.disk) (g.met.D.Disk.reads_an_image new) c.in_default-call.ensures.done model)
-      (λ model. (whole_stays (g.D.Disk.keeps s.disk) (g.D.Disk.keeps new) (g.D.Disk.states s.disk) (g.D.Disk.states new) s.shape s.gate s.tally s.next s.bytes.items c.deref.result.now s.step s.broken c.in-Some.step c.self.invariant.0 c.if-self.false c.in-Some.is c.deref.ensures.value c.call.ensures.model (g.met.D.Disk.reads_an_image s.disk) (g.met.D.Disk.reads_an_image new) c.in_default-call.ensures.done c.in-Some-next.behind (sym c.next.ensures ∙ c.in-Some-next.is) model).frames_same) (λ model. (whole_stays (g.D.Disk.keeps s.disk) (g.D.Disk.keeps new) (g.D.Disk.states s.disk) (g.D.Disk.states new) s.shape s.gate s.tally s.next s.bytes.items c.deref.result.now s.step s.broken c.in-Some.step c.self.invariant.0 c.if-self.false c.in-Some.is c.deref.ensures.value c.call.ensures.model (g.met.D.Disk.reads_an_image s.disk) (g.met.D.Disk.reads_an_image new) c.in_default-call.ensures.done c.in-Some-next.behind (sym c.next.ensures ∙ c.in-Some-next.is) model).vector_same),
+          (λ model. legal_now (g.D.Disk.keeps s.disk) (g.D.Disk.keeps new) (g.D.Disk.states s.disk) (g.D.Disk.states new) s.shape s.gate s.tally s.next s.bytes.items c.deref.result.now s.step s.broken c.in-Some.step c.self.invariant.0 c.if-self.false c.in-Some.is c.deref.ensures.value c.call.ensures.model (g.met.D.Disk.reads_an_image s.disk) (g.met.D.Disk.reads_an_image new) (c.call.ensures.model model)) (λ model. bytes_alike (g.D.Disk.keeps s.disk) (g.D.Disk.keeps new) (g.D.Disk.states s.disk) (g.D.Disk.states new) s.shape s.gate s.tally s.next s.bytes.items c.deref.result.now s.step s.broken c.in-Some.step c.self.invariant.0 c.if-self.false c.in-Some.is c.deref.ensures.value c.call.ensures.model (g.met.D.Disk.reads_an_image s.disk) (g.met.D.Disk.reads_an_image new) c.in_default-call.ensures.done model)
+          (λ model. (whole_stays (g.D.Disk.keeps s.disk) (g.D.Disk.keeps new) (g.D.Disk.states s.disk) (g.D.Disk.states new) s.shape s.gate s.tally s.next s.bytes.items c.deref.result.now s.step s.broken c.in-Some.step c.self.invariant.0 c.if-self.false c.in-Some.is c.deref.ensures.value c.call.ensures.model (g.met.D.Disk.reads_an_image s.disk) (g.met.D.Disk.reads_an_image new) c.in_default-call.ensures.done c.in-Some-next.behind (sym c.next.ensures ∙ c.in-Some-next.is) model).frames_same) (λ model. (whole_stays (g.D.Disk.keeps s.disk) (g.D.Disk.keeps new) (g.D.Disk.states s.disk) (g.D.Disk.states new) s.shape s.gate s.tally s.next s.bytes.items c.deref.result.now s.step s.broken c.in-Some.step c.self.invariant.0 c.if-self.false c.in-Some.is c.deref.ensures.value c.call.ensures.model (g.met.D.Disk.reads_an_image s.disk) (g.met.D.Disk.reads_an_image new) c.in_default-call.ensures.done c.in-Some-next.behind (sym c.next.ensures ∙ c.in-Some-next.is) model).vector_same),
     )
 
 pub returns-in-Some-next-clause-images : goal.returns-in-Some-next-clause-images
