@@ -4,7 +4,7 @@ use Rattle.std.specs.Prelude.{nat_lt, slice_get, MatchOption}
 use Rattle.std.specs.List.{AllByRecursion}
 use Rattle.std.specs.Option.{option_or}
 use Rattle.std.proofs.lemmas.Bool.{cases_lt, not-false, or_parts, ltb-false, leb-true, le-leb, and_parts}
-use Rattle.std.proofs.lemmas.List.{append-nil, length-append, length-take-le, drop_all, drop-drop}
+use Rattle.std.proofs.lemmas.List.{drop-append-le, append-nil, length-append, length-take-le, drop_all, drop-drop}
 use Rattle.std.proofs.lemmas.Nat.{mul-le}
 use Rattle.record_core.specs.Bytes.{Encoding}
 use Rattle.segment_core.specs.declared.format.Format.{Format}
@@ -228,11 +228,6 @@ found_group {R} form frames seen old new kind follows grown =
 
 -- ---- a change
 
-drop_push : {X : Type 0} (n : ℕ) (xs : List X) (x : X) → n ≤ length xs → drop n (xs ++ x ∷ []) ≡ drop n xs ++ x ∷ []
-drop_push zero xs x le = refl
-drop_push (suc n) [] x le = absurd (omega arith)
-drop_push (suc n) (y ∷ xs) x le = drop_push n xs x (omega arith)
-
 pub found_change : {R : Type 0} (form : Encoding R) (frames : List Frame) (seen : Seen) (old new : Found R) → kind_of seen.frame ≡ 2 → Follows form frames old seen → IsSame old new → new.folded ≡ old.folded → new.live.items ≡ old.live.items ++ seen ∷ []
     → IsFound form seen.shape.format (frames ++ seen.frame ∷ []) new
 found_change form frames seen old new kind follows same folded_same pushed =
@@ -262,7 +257,7 @@ found_change form frames seen old new kind follows same folded_same pushed =
       live_is = pushed ∙ ap (λ (cs : List Seen). cs ++ seen ∷ []) behind.live_is ∙ sym (
           ap (λ m. drop m (changes_of shape (frames ++ f ∷ []))) folded
           ∙ ap (drop t.folded) (changes_push shape frames f ∙ ap (λ (cs : List Seen). changes_of shape frames ++ cs) (changes_in_change shape (length (text shape frames)) f kind ∙ ap (λ (x : Seen). x ∷ []) one))
-          ∙ drop_push t.folded (changes_of shape frames) seen (omega arith));
+          ∙ drop-append-le t.folded (changes_of shape frames) (seen ∷ []) (omega arith));
       inside = subst (λ (cs : List Seen). AllByRecursion (IsInside (tally_of (frames ++ f ∷ [])).size) cs) (sym pushed)
           (subst (λ m. AllByRecursion (IsInside m) (old.live.items ++ seen ∷ [])) (sym size) (all_push (IsInside t.size) old.live.items seen behind.inside (change_inside t f kind follows.may.inside)));
     }

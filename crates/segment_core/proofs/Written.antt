@@ -105,7 +105,7 @@ AreReadAgain-append form (r ∷ a) b each more = (each.0, AreReadAgain-append fo
 
 -- ---- text
 
-regroup : (file head lengths bytes : List ℕ) → ((file ++ head) ++ lengths) ++ bytes ≡ file ++ (head ++ (lengths ++ bytes))
+pub regroup : (file head lengths bytes : List ℕ) → ((file ++ head) ++ lengths) ++ bytes ≡ file ++ (head ++ (lengths ++ bytes))
 regroup file head lengths bytes = simp append_assoc
 
 -- a frame that was appended piece by piece

@@ -283,6 +283,10 @@ fn runs_of_version_2(rt: HostRuntime) -> Result<(), Fail> {
     file[75] = 0;
     is_refused::<u64>(&rt, &file, damaged(63, Cause::Layout));
     file[75] = 1;
+    // The first run is outside, and the second begins before it ends.
+    file[67] = 9;
+    is_refused::<u64>(&rt, &file, damaged(63, Cause::Runs));
+    file[67] = 0;
     file[8] = 1;
     is_refused::<u64>(&rt, &file, damaged(63, Cause::Layout));
     Ok(())
