@@ -18,6 +18,10 @@ pub no_step : (shape : Shape) (bytes : List ℕ) (o : Option Step) → is_some (
 no_step shape bytes None is = refl
 no_step shape bytes (Some step) is = absurd cc
 
+-- a frame that doesn't fill the file, nor does a fold's behind it
+pub all_fits : (full : Bool) (gate payload fold : ℕ) → full ≡ nat_le (2 ^ 48) (gate + (6 + payload) + fold) → full ≡ false → gate + (6 + payload) + fold < 2 ^ 48
+all_fits full gate payload fold is no_room = leb-false (2 ^ 48) (gate + (6 + payload) + fold) (sym is ∙ no_room)
+
 -- a frame that doesn't fill the file
 pub not_full : (full : Bool) (gate payload fold : ℕ) → full ≡ nat_le (2 ^ 48) (gate + (6 + payload) + fold) → full ≡ false → gate + (6 + payload) < 2 ^ 48
 not_full full gate payload fold is no_room = let below = leb-false (2 ^ 48) (gate + (6 + payload) + fold) (sym is ∙ no_room) in omega arith

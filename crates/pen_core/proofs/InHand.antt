@@ -1,7 +1,8 @@
 -- A fold in hand, on a pen's fields: behind begins, ticks of the log, and its own calls.
-use Rattle.std.proofs.Common.{◌≡◌, ℕ, ◌+◌, ◌-◌, ◌≤◌, ◌<◌, ◌^◌, Bool, true, List, [], ◌∷◌, length, Option, Some, None, refl, sym, ap, subst, ◌∙◌, arith}
+use Rattle.std.proofs.Common.{◌≡◌, ℕ, ◌+◌, ◌-◌, ◌≤◌, ◌<◌, ◌⊎◌, ◌^◌, Bool, true, List, [], ◌∷◌, ◌++◌, length, Option, Some, None, refl, sym, ap, subst, ◌∙◌, arith, inl, inr}
 use Rattle.std.specs.List.{AllByRecursion}
 use Rattle.std.proofs.lemmas.Bool.{ltb-false}
+use Rattle.std.proofs.lemmas.List.{length-append}
 use Rattle.disk_core.specs.State.{State, now, settled}
 use Rattle.disk_core.specs.Calls.{bytes_of}
 use Rattle.segment_core.specs.declared.format.Shape.{Shape}
@@ -13,15 +14,21 @@ use Rattle.segment_core.specs.Parsed.{vector_before}
 use Rattle.segment_core.proofs.HomesHold.{Appends}
 use Rattle.pen_core.specs.declared.fold.Fold.{Fold}
 use Rattle.pen_core.specs.declared.fold.Write.{Write}
+use Rattle.record_core.specs.Bytes.{Encoding}
+use Rattle.segment_core.specs.Written.{group_frame, payload_len}
+use Rattle.segment_core.proofs.Payload.{length-frame_text}
+use Rattle.segment_core.proofs.Written.{length-group_frame}
 use Rattle.pen_core.specs.declared.step.Step.{Step}
+use Rattle.pen_core.specs.declared.step.Step.TheVariants.{Body}
 use Rattle.pen_core.specs.declared.stage.FoldStage.{FoldStage}
 use Rattle.pen_core.specs.declared.stage.FoldStage.TheVariants.{Home, Sync, Ready, Filed}
 use Rattle.pen_core.specs.declared.stage.FoldStage.TheVariants as stages
 use Rattle.pen_core.specs.Held.{Holds, gate_of}
 use Rattle.pen_core.specs.Vectors.{frame_at, blanked_before, frames_with}
 use Rattle.pen_core.specs.Refusals.{fold_len}
-use Rattle.pen_core.specs.InHand.{in_stage, fold_of, left_of, IsPlanned, gate_then, IsWaiting, IsInHand, IsAtStage, HomesAt, IsFold}
-use Rattle.pen_core.specs.Listed.{frame_in_hand}
+use Rattle.pen_core.specs.InHand.{in_stage, fold_of, left_of, IsPlanned, gate_then, IsWaiting, frame_in_hand, IsInHand, IsAtStage, HomesAt, stage_ended, live_after, IsFold}
+use Rattle.pen_core.specs.Inside.{IsPen}
+use Rattle.pen_core.specs.Pen.{open_count}
 use Rattle.pen_core.proofs.Folds.{LaidAlike, folding_alike, folding_seen, folding_more}
 
 -- ---- no fold
@@ -38,6 +45,12 @@ fold_len_at (Home n) fold held at = ap (λ st. fold_len (in_stage st (record { c
 fold_len_at Sync fold held at = ap (λ st. fold_len (in_stage st (record { count = fold.count; left = left_of fold; stage = fold.stage }))) at
 fold_len_at Ready fold held at = ap (λ st. fold_len (in_stage st (record { count = fold.count; left = left_of fold; stage = fold.stage }))) at
 fold_len_at Filed fold held at = ap (λ st. fold_len (in_stage st (record { count = fold.count; left = left_of fold; stage = fold.stage }))) at
+
+pub pen_unfolded : (keeps : Type 0) (states : List State) (shape : Shape) (gate : ℕ) (tally next : Tally) (bytes : List ℕ) (o : Option Step) (broken : Bool) (fold : Fold) → fold.stage ≡ stages.None → IsPen 0 keeps states shape gate tally next bytes o broken → IsPen (open_count fold.stage fold.count) keeps states shape gate tally next bytes o broken
+pen_unfolded keeps states shape gate tally next bytes o broken fold at pen = subst (λ st. IsPen (open_count st fold.count) keeps states shape gate tally next bytes o broken) (sym at) pen
+
+pub no_fold_seen : (fold : Fold) → fold.stage ≡ stages.None → fold_of fold ≡ None
+no_fold_seen fold at = ap (λ st. in_stage st (record { count = fold.count; left = left_of fold; stage = fold.stage })) at
 
 -- ---- waiting while others commit
 
@@ -59,7 +72,7 @@ module _ (shape : Shape) (gate gate' : ℕ) (tally tally' : Tally) (bytes bytes'
   stage_on (Home n) at same folded more further room = (waits_on at.0 folded more further (room tt (λ is. absurd cc)), at.1, at.2)
   stage_on Sync at same folded more further room = (waits_on at.0 folded more further (room tt (λ is. absurd cc)), at.1)
   stage_on Ready at same folded more further room = (waits_on at.0 folded more further (room tt (λ is. absurd cc)), at.1)
-  stage_on Filed at same folded more further room = same refl ∙ at
+  stage_on Filed at same folded more further room = (same refl ∙ at.0, at.1)
 
 -- the room that a waiting fold has
 pub room_of : (shape : Shape) (gate : ℕ) (tally : Tally) (bytes : List ℕ) (o : Option Step) (fold : Fold) (stage : FoldStage) → IsAtStage shape gate tally bytes o fold stage → IsInHand stage → (stage ≡ Filed → ⊥) → IsWaiting shape gate tally bytes o fold
@@ -69,19 +82,27 @@ room_of shape gate tally bytes o fold Sync at held unfiled = at.0
 room_of shape gate tally bytes o fold Ready at held unfiled = at.0
 room_of shape gate tally bytes o fold Filed at held unfiled = absurd (unfiled refl)
 
-filed_at : (shape : Shape) (gate : ℕ) (tally : Tally) (bytes : List ℕ) (o : Option Step) (fold : Fold) → IsAtStage shape gate tally bytes o fold fold.stage → fold.stage ≡ Filed → frame_in_hand shape bytes o ≡ Some (kinds.Fold fold.count)
-filed_at shape gate tally bytes o fold at is = subst (IsAtStage shape gate tally bytes o fold) is at
+pub filed_at : (shape : Shape) (gate : ℕ) (tally : Tally) (bytes : List ℕ) (o : Option Step) (fold : Fold) → IsAtStage shape gate tally bytes o fold fold.stage → fold.stage ≡ Filed → frame_in_hand shape bytes o ≡ Some (kinds.Fold fold.count)
+filed_at shape gate tally bytes o fold at is = (subst (IsAtStage shape gate tally bytes o fold) is at).0
 
 -- ---- a job is begun
 
-pub fold_begun : (keeps : Type 0) (states : List State) (shape : Shape) (gate : ℕ) (tally : Tally) (bytes bytes' : List ℕ) (o : Option Step) (broken : Bool) (fold : Fold) (step : Step) (payload : ℕ) → IsFold keeps states shape gate tally bytes o broken fold → o ≡ None
-    → length bytes' ≡ 6 + payload + 1 → gate + (6 + payload) + fold_len (fold_of fold) < 2 ^ 48 → IsFold keeps states shape gate tally bytes' (Some step) broken fold
-fold_begun keeps states shape gate tally bytes bytes' o broken fold step payload is idle long room =
+pub fold_begun : (keeps : Type 0) (states : List State) (shape : Shape) (gate : ℕ) (tally : Tally) (bytes bytes' : List ℕ) (o : Option Step) (broken : Bool) (fold : Fold) (f : Frame) (step : Step) → IsFold keeps states shape gate tally bytes o broken fold → o ≡ None → bytes' ≡ frame_text shape.format f ++ 0 ∷ []
+    → gate + length (frame_text shape.format f) + fold_len (fold_of fold) < 2 ^ 48 → IsFold keeps states shape gate tally bytes' (Some step) broken fold
+fold_begun keeps states shape gate tally bytes bytes' o broken fold f step is idle spelled room =
     let unfiled : fold.stage ≡ Filed → ⊥ = λ filed. (let clash : None ≡ Some (kinds.Fold fold.count) = sym (ap (frame_in_hand shape bytes) idle) ∙ filed_at shape gate tally bytes o fold is.counts filed in absurd cc) in
+    let long = ap length spelled ∙ length-append (frame_text shape.format f) (0 ∷ []) in
     record {
       counts = stage_on shape gate gate tally tally bytes bytes' o (Some step) fold fold.stage is.counts (λ filed. absurd (unfiled filed)) refl (omega arith) (omega arith) (λ held out. let len = fold_len_at fold.stage fold held refl in omega arith);
       homes = is.homes;
     }
+
+-- growths are begun
+pub group_held : {R : Type 0} (keeps : Type 0) (states : List State) (shape : Shape) (gate : ℕ) (tally : Tally) (bytes bytes' : List ℕ) (o : Option Step) (broken : Bool) (fold : Fold) (form : Encoding R) (growths : List (List R)) → IsFold keeps states shape gate tally bytes o broken fold → o ≡ None
+    → bytes' ≡ frame_text shape.format (group_frame form growths) ++ 0 ∷ [] → ((r : R) → length (form.bytes_of r) ≡ form.width) → gate + (6 + payload_len form.width growths) + fold_len (fold_of fold) < 2 ^ 48 → IsFold keeps states shape gate tally bytes' (Some Body) broken fold
+group_held keeps states shape gate tally bytes bytes' o broken fold form growths is idle spelled size_of room =
+    let long = length-frame_text shape.format (group_frame form growths) ∙ ap (λ n. 6 + n) (length-group_frame shape.format form growths size_of) in
+    fold_begun keeps states shape gate tally bytes bytes' o broken fold (group_frame form growths) Body is idle spelled (omega arith)
 
 -- no job is in hand: its bytes may be others
 pub fold_same : (keeps : Type 0) (states : List State) (shape : Shape) (gate : ℕ) (tally : Tally) (bytes bytes' : List ℕ) (o : Option Step) (broken : Bool) (fold : Fold) → IsFold keeps states shape gate tally bytes o broken fold → o ≡ None → IsFold keeps states shape gate tally bytes' o broken fold
@@ -182,3 +203,26 @@ module _ (keeps keeps' : Type 0) (states new : List State) (shape : Shape) (gate
         homes_seen shape gs v fold s t Sync seen at = folding_seen shape fold.count gs v (left_of fold) s t seen at
         homes_seen shape gs v fold s t Ready seen at = folding_seen shape fold.count gs v (left_of fold) s t seen at
         homes_seen shape gs v fold s t Filed seen at = tt
+
+-- ---- the end of a fold
+
+pub is_filed : (stage : FoldStage) → (stage ≡ Filed) ⊎ (stage ≡ Filed → ⊥)
+is_filed stages.None = inr (λ is. absurd cc)
+is_filed (Home n) = inr (λ is. absurd cc)
+is_filed Sync = inr (λ is. absurd cc)
+is_filed Ready = inr (λ is. absurd cc)
+is_filed Filed = inl refl
+
+pub live_kept : (stage : FoldStage) (runs : ℕ) (live : List (ℕ × ℕ)) → (stage ≡ Filed → ⊥) → live_after stage runs live ≡ live
+live_kept stages.None runs live unfiled = refl
+live_kept (Home n) runs live unfiled = refl
+live_kept Sync runs live unfiled = refl
+live_kept Ready runs live unfiled = refl
+live_kept Filed runs live unfiled = absurd (unfiled refl)
+
+-- nothing more is pending
+pub open_ended : (fold fold' : Fold) → fold'.stage ≡ stage_ended fold.stage → ((fold.stage ≡ Filed → ⊥) → fold' ≡ fold) → open_count fold.stage fold.count ≡ open_count fold'.stage fold'.count
+open_ended fold fold' ended same = elim (is_filed fold.stage) [
+  | inl filed ↦ ap (λ st. open_count st fold.count) filed ∙ sym (ap (λ st. open_count st fold'.count) (ended ∙ ap stage_ended filed))
+  | inr unfiled ↦ sym (ap (λ f. open_count f.stage f.count) (same unfiled))
+]

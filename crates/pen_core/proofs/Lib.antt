@@ -11,6 +11,10 @@ pub mod Folds
 pub mod Whole
 pub mod Listed
 pub mod InHand
+pub mod AtRest
+pub mod LastTick
+pub mod HomeTick
+pub mod Filed
 pub mod BeingFolded
 pub mod Begun
 pub mod Begins

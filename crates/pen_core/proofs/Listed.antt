@@ -1,8 +1,8 @@
 -- The lists that a pen keeps of its file: of a new file, with a job entered, and once the job is done.
-use Rattle.std.proofs.Common.{◌≡◌, ℕ, ◌+◌, ◌*◌, ◌≤◌, ◌<◌, List, [], ◌∷◌, ◌++◌, length, map, sum, Option, Some, None, refl, sym, ap, subst, ◌∙◌, arith}
+use Rattle.std.proofs.Common.{◌≡◌, ℕ, ◌+◌, ◌-◌, ◌*◌, ◌≤◌, ◌<◌, List, [], ◌∷◌, ◌++◌, length, map, take, drop, sum, Option, Some, None, refl, sym, ap, subst, ◌∙◌, arith}
 use Rattle.std.specs.List.{flat_map}
 use Rattle.std.proofs.lemmas.Bool.{ltb-false}
-use Rattle.std.proofs.lemmas.List.{append-nil, length-append, length-map, map_push, flat_map_more}
+use Rattle.std.proofs.lemmas.List.{append-nil, length-append, length-drop, length-map, map_push, flat_map_more, take-append-le, take-append-drop, drop_at}
 use Rattle.disk_core.specs.State.{State}
 use Rattle.disk_core.specs.Calls.{bytes_of}
 use Rattle.record_core.specs.Bytes.{Encoding}
@@ -12,19 +12,26 @@ use Rattle.segment_core.specs.declared.found.Homes.{Homes}
 use Rattle.segment_core.specs.declared.tally.Tally.{Tally}
 use Rattle.segment_core.specs.Frame.{Frame, Group, Change, Shrink, Fold, frame_text, text}
 use Rattle.segment_core.specs.Tally.{nothing, after, tally_of, MayFollow}
-use Rattle.segment_core.specs.Blanked.{blanked}
+use Rattle.segment_core.specs.Blanked.{blanked, all_blanked}
 use Rattle.segment_core.specs.Reading.{Seen}
 use Rattle.segment_core.specs.Written.{group_frame, joined}
-use Rattle.segment_core.specs.Found.{home_among, AreInTurn, pairs_of, live_of}
+use Rattle.segment_core.specs.Found.{home_among, AreInTurn, pairs_of, changes_of, live_of}
 use Rattle.segment_core.proofs.Push.{text_push, tally_from_push, AreLegalFrom_push}
 use Rattle.segment_core.proofs.FoundHomes.{in_turn_push}
-use Rattle.segment_core.proofs.HomesPush.{group_home, AreHomes_group, AreHomes_same, live_of_same, live_of_change}
+use Rattle.segment_core.proofs.FoundChanges.{changes_counted}
+use Rattle.segment_core.proofs.FoundSteps.{fold_bounds}
+use Rattle.std.proofs.lemmas.Grind.{flat_map-append}
+use Rattle.segment_core.proofs.HomesPush.{group_home, AreHomes_group, AreHomes_same, live_of_same, live_of_change, live_of_fold}
 use Rattle.pen_core.specs.declared.step.Step.{Step}
 use Rattle.pen_core.specs.declared.step.Step.TheVariants.{Body}
+use Rattle.pen_core.specs.declared.fold.Fold as folds
+use Rattle.pen_core.specs.declared.stage.FoldStage.TheVariants.{Filed}
+use Rattle.pen_core.specs.declared.stage.FoldStage.TheVariants as stages
+use Rattle.pen_core.specs.InHand.{frame_in_hand, IsInHand}
 use Rattle.pen_core.specs.Held.{gate_of}
 use Rattle.pen_core.specs.Vectors.{frame_at, blanked_before, frames_with}
 use Rattle.pen_core.specs.Inside.{IsJob, IsMaybeJob}
-use Rattle.pen_core.specs.Listed.{homes_entered, runs_entered, frame_in_hand, live_runs, Lists, IsListed}
+use Rattle.pen_core.specs.Listed.{homes_entered, runs_entered, live_runs, Lists, IsListed}
 use Rattle.segment_core.proofs.Written.{sum-lengths}
 use Rattle.pen_core.proofs.Whole.{FileStays}
 
@@ -49,12 +56,12 @@ in_turn_ahead shape frames (Fold count) homes live lists may = ((tally_of frames
 -- it is done, and positions past its length have no home
 pub lists_done : (shape : Shape) (frames : List Frame) (f : Frame) (homes homes' : Homes) (live live' : ℕ) → Lists shape frames (Some f) homes live → MayFollow (tally_of frames) f → (tally_of frames).folded ≤ (tally_of frames).changes
     → ((count : ℕ) → f ≡ Fold count → ⊥) → AreInTurn 0 homes'.homes.items (after (tally_of frames) f).size → ((width i : ℕ) → i < (after (tally_of frames) f).size → home_among width homes'.homes.items i ≡ home_among width homes.homes.items i)
-    → homes'.live ≡ homes.live → live' ≡ length homes'.live.items → Lists shape (frames ++ f ∷ []) None homes' live'
+    → homes'.live.items ≡ homes.live.items → live' ≡ length homes'.live.items → Lists shape (frames ++ f ∷ []) None homes' live'
 lists_done shape frames (Group lengths bytes) homes homes' live live' lists may few no_fold turn each same all =
     let f : Frame = Group lengths bytes in
     let has = AreHomes_group shape frames lengths bytes lists.told lists.are_homes in
     let size : (tally_of (frames ++ f ∷ [])).size ≡ (tally_of frames).size + sum lengths = ap (λ t. t.size) (tally_from_push nothing frames f) in
-    let runs : homes'.live.items ≡ live_runs shape (frames ++ f ∷ []) = ap (λ v. v.items) same ∙ lists.live_is ∙ append-nil (live_runs shape frames) ∙ ap (flat_map pairs_of) (sym (live_of_same shape frames f (λ p. refl) refl)) in
+    let runs : homes'.live.items ≡ live_runs shape (frames ++ f ∷ []) = same ∙ lists.live_is ∙ append-nil (live_runs shape frames) ∙ ap (flat_map pairs_of) (sym (live_of_same shape frames f (λ p. refl) refl)) in
     record {
       told = homes'.homes.items;
       are_homes = record { in_turn = subst (AreInTurn 0 homes'.homes.items) (sym size) turn; each = λ i lt. each shape.width i (omega arith) ∙ ap (λ hs. home_among shape.width hs i) lists.homes_are ∙ has.each i lt };
@@ -66,7 +73,7 @@ lists_done shape frames (Change runs bytes) homes homes' live live' lists may fe
     let f : Frame = Change runs bytes in
     let seen : Seen = record { at = length (text shape frames); shape = shape; frame = f } in
     let now : homes'.live.items ≡ live_runs shape (frames ++ f ∷ []) =
-    ap (λ v. v.items) same ∙ lists.live_is ∙ flat_map_more pairs_of [] (live_of shape frames) seen ∙ sym (ap (flat_map pairs_of) (live_of_change shape frames runs bytes few)) in
+    same ∙ lists.live_is ∙ flat_map_more pairs_of [] (live_of shape frames) seen ∙ sym (ap (flat_map pairs_of) (live_of_change shape frames runs bytes few)) in
     record {
       told = homes'.homes.items;
       are_homes = AreHomes_same shape frames f lists.told homes'.homes.items (λ i p t. refl) (omega arith) lists.are_homes turn (λ i lt. each shape.width i lt ∙ ap (λ hs. home_among shape.width hs i) (lists.homes_are ∙ append-nil lists.told));
@@ -77,7 +84,7 @@ lists_done shape frames (Change runs bytes) homes homes' live live' lists may fe
 lists_done shape frames (Shrink n) homes homes' live live' lists may few no_fold turn each same all =
     let f : Frame = Shrink n in
     let shorter = ltb-false (tally_of frames).size n may.inside in
-    let now : homes'.live.items ≡ live_runs shape (frames ++ f ∷ []) = ap (λ v. v.items) same ∙ lists.live_is ∙ append-nil (live_runs shape frames) ∙ ap (flat_map pairs_of) (sym (live_of_same shape frames f (λ p. refl) refl)) in
+    let now : homes'.live.items ≡ live_runs shape (frames ++ f ∷ []) = same ∙ lists.live_is ∙ append-nil (live_runs shape frames) ∙ ap (flat_map pairs_of) (sym (live_of_same shape frames f (λ p. refl) refl)) in
     record {
       told = homes'.homes.items;
       are_homes = AreHomes_same shape frames f lists.told homes'.homes.items (λ i p t. refl) (omega arith) lists.are_homes turn (λ i lt. each shape.width i lt ∙ ap (λ hs. home_among shape.width hs i) (lists.homes_are ∙ append-nil lists.told));
@@ -87,31 +94,52 @@ lists_done shape frames (Shrink n) homes homes' live live' lists may few no_fold
     }
 lists_done shape frames (Fold count) homes homes' live live' lists may few no_fold turn each same all = absurd (no_fold count refl)
 
+-- ---- a fold in hand
+
+after_unfolded : (t : Tally) (f : Frame) → ((count : ℕ) → f ≡ Fold count → ⊥) → (after t f).folded ≡ t.folded
+after_unfolded t (Group lengths bytes) no_fold = refl
+after_unfolded t (Change runs bytes) no_fold = refl
+after_unfolded t (Shrink n) no_fold = refl
+after_unfolded t (Fold count) no_fold = absurd (no_fold count refl)
+
+-- as many changes are live as aren't folded
+live_counted : (shape : Shape) (frames : List Frame) → length (live_of shape frames) ≡ (tally_of frames).changes - (tally_of frames).folded
+live_counted shape frames = length-drop (tally_of frames).folded (changes_of shape frames) ∙ ap (λ n. n - (tally_of frames).folded) (sym (changes_counted shape frames))
+
+-- the first of them stay so behind a frame that is no fold
+take_live : (shape : Shape) (frames : List Frame) (f : Frame) (n : ℕ) → (tally_of frames).folded ≤ (tally_of frames).changes → ((count : ℕ) → f ≡ Fold count → ⊥) → n ≤ length (live_of shape frames) → take n (live_of shape (frames ++ f ∷ [])) ≡ take n (live_of shape frames)
+take_live shape frames (Group lengths bytes) n few no_fold le = ap (take n) (live_of_same shape frames (Group lengths bytes) (λ p. refl) refl)
+take_live shape frames (Change runs bytes) n few no_fold le = ap (take n) (live_of_change shape frames runs bytes few) ∙ take-append-le n (live_of shape frames) (record { at = length (text shape frames); shape = shape; frame = Change runs bytes } ∷ []) le
+take_live shape frames (Shrink m) n few no_fold le = ap (take n) (live_of_same shape frames (Shrink m) (λ p. refl) refl)
+take_live shape frames (Fold count) n few no_fold le = absurd (no_fold count refl)
+
 -- ---- on a pen's fields
 
 -- no frame
-pub listed_new : (keeps : Type 0) (states : List State) (shape : Shape) (bytes : List ℕ) (homes : Homes) → homes.homes.items ≡ [] → homes.live.items ≡ [] → (keeps → blanked_before shape 11 (bytes_of states) ≡ [])
-    → IsListed keeps states shape 11 nothing bytes None homes 0
-listed_new keeps states shape bytes homes none idle empty = record {
+pub listed_new : (keeps : Type 0) (states : List State) (shape : Shape) (bytes : List ℕ) (homes : Homes) (fold : folds.Fold) → fold.stage ≡ stages.None → homes.homes.items ≡ [] → homes.live.items ≡ [] → (keeps → blanked_before shape 11 (bytes_of states) ≡ [])
+    → IsListed keeps states shape 11 nothing bytes None homes 0 fold
+listed_new keeps states shape bytes homes fold at none idle empty = record {
   frames = [];
   legal = tt;
   gate_is = refl;
   tally_is = refl;
   lists = record { told = []; are_homes = record { in_turn = refl; each = λ i lt. absurd (omega arith) }; homes_are = none; live_is = idle; counted = refl };
-  no_fold = λ count is. absurd cc;
+  filed = λ count is. absurd cc;
+  runs_are = λ in_hand. absurd (subst IsInHand at in_hand);
   same = empty;
 }
 
-module _ (keeps : Type 0) (states : List State) (shape : Shape) (gate : ℕ) (tally : Tally) (bytes : List ℕ) (o : Option Step) (homes : Homes) (live : ℕ) (listed : IsListed keeps states shape gate tally bytes o homes live) where
+module _ (keeps : Type 0) (states : List State) (shape : Shape) (gate : ℕ) (tally : Tally) (bytes : List ℕ) (o : Option Step) (homes : Homes) (live : ℕ) {fold : folds.Fold} (listed : IsListed keeps states shape gate tally bytes o homes live fold) where
   -- a call of the disk that leaves the frames, or none
-  pub listed_stays : (keeps' : Type 0) (new : List State) (o' : Option Step) → frame_in_hand shape bytes o' ≡ frame_in_hand shape bytes o → (keeps' → keeps) → (keeps' → FileStays shape gate states new) → IsListed keeps' new shape gate tally bytes o' homes live
+  pub listed_stays : (keeps' : Type 0) (new : List State) (o' : Option Step) → frame_in_hand shape bytes o' ≡ frame_in_hand shape bytes o → (keeps' → keeps) → (keeps' → FileStays shape gate states new) → IsListed keeps' new shape gate tally bytes o' homes live fold
   listed_stays keeps' new o' same back stays = record {
     frames = listed.frames;
     legal = listed.legal;
     gate_is = listed.gate_is;
     tally_is = listed.tally_is;
     lists = subst (λ f. Lists shape listed.frames f homes live) (sym same) listed.lists;
-    no_fold = λ count is. listed.no_fold count (sym same ∙ is);
+    filed = λ count is. listed.filed count (sym same ∙ is);
+    runs_are = listed.runs_are;
     same = λ model. (stays model).frames_same ∙ listed.same (back model);
   }
 
@@ -120,7 +148,7 @@ module _ (keeps : Type 0) (states : List State) (shape : Shape) (gate : ℕ) (ta
     at_rest : Lists shape listed.frames None homes live
     at_rest = subst (λ step. Lists shape listed.frames (frame_in_hand shape bytes step) homes live) idle listed.lists
 
-    pub listed_same : homes'.homes.items ≡ homes.homes.items → homes'.live.items ≡ homes.live.items → IsListed keeps states shape gate tally bytes' o homes' live
+    pub listed_same : homes'.homes.items ≡ homes.homes.items → homes'.live.items ≡ homes.live.items → IsListed keeps states shape gate tally bytes' o homes' live fold
     listed_same homes_same live_same =
         let none : frame_in_hand shape bytes' o ≡ None = ap (frame_in_hand shape bytes') idle in
         record {
@@ -129,13 +157,14 @@ module _ (keeps : Type 0) (states : List State) (shape : Shape) (gate : ℕ) (ta
           gate_is = listed.gate_is;
           tally_is = listed.tally_is;
           lists = subst (λ f. Lists shape listed.frames f homes' live) (sym none) (record { told = at_rest.told; are_homes = at_rest.are_homes; homes_are = homes_same ∙ at_rest.homes_are; live_is = live_same ∙ at_rest.live_is; counted = at_rest.counted });
-          no_fold = λ count is. let clash = sym none ∙ is in absurd cc;
+          filed = λ count is. let clash = sym none ∙ is in absurd cc;
+          runs_are = listed.runs_are;
           same = listed.same;
         }
 
     -- a job that is no fold is entered
     pub listed_begun : (f : Frame) (step : Step) → frame_at shape bytes' ≡ f → ((count : ℕ) → f ≡ Fold count → ⊥) → homes'.homes.items ≡ homes.homes.items ++ homes_entered gate tally.size f → homes'.live.items ≡ homes.live.items ++ runs_entered f
-        → IsListed keeps states shape gate tally bytes' (Some step) homes' live
+        → IsListed keeps states shape gate tally bytes' (Some step) homes' live fold
     listed_begun f step at no_fold homes_more live_more =
         let ahead : Some f ≡ frame_in_hand shape bytes' (Some step) = ap (λ g. Some g) (sym at) in
         let told = at_rest.homes_are ∙ append-nil at_rest.told in
@@ -152,7 +181,8 @@ module _ (keeps : Type 0) (states : List State) (shape : Shape) (gate : ℕ) (ta
             live_is = live_more ∙ ap (λ rs. rs ++ runs_entered f) runs;
             counted = at_rest.counted;
           });
-          no_fold = λ count is. let same : Some f ≡ Some (Fold count) = ahead ∙ is in no_fold count cc;
+          filed = λ count is. let same : Some f ≡ Some (Fold count) = ahead ∙ is in absurd (no_fold count cc);
+          runs_are = listed.runs_are;
           same = listed.same;
         }
 
@@ -177,30 +207,82 @@ module _ (keeps : Type 0) (states : List State) (shape : Shape) (gate : ℕ) (ta
     pub homes_in_turn : (all : ℕ) × (next.size ≤ all) × AreInTurn 0 homes.homes.items all
     homes_in_turn = let turn = in_turn_ahead shape listed.frames frame homes live in_hand may in (turn.0, subst (λ t. t.size ≤ turn.0) (sym next_is) turn.1, turn.2)
 
-    pub listed_done : (keeps' : Type 0) (new : List State) (gate' : ℕ) (homes' : Homes) (live' : ℕ) → tally.folded ≤ tally.changes → gate' ≡ gate + length (frame_text shape.format frame) → (keeps' → keeps) → (keeps' → blanked_before shape gate' (bytes_of new) ≡ frames_with (blanked_before shape gate (bytes_of states)) frame)
-        → AreInTurn 0 homes'.homes.items next.size → ((width i : ℕ) → i < next.size → home_among width homes'.homes.items i ≡ home_among width homes.homes.items i) → homes'.live ≡ homes.live → live' ≡ length homes'.live.items
-        → IsListed keeps' new shape gate' next bytes None homes' live'
-    listed_done keeps' new gate' homes' live' few moved back more turn each same all =
-        let fs : List Frame = listed.frames in
-        let size : next.size ≡ (after (tally_of fs) frame).size = ap (λ t. t.size) next_is in
-        record {
-          frames = fs ++ frame ∷ [];
-          legal = AreLegalFrom_push shape nothing fs frame listed.legal job_is.whole may;
-          gate_is = moved ∙ ap (λ g. g + length (frame_text shape.format frame)) listed.gate_is ∙ sym (ap length (text_push shape fs frame) ∙ length-append (text shape fs) (frame_text shape.format frame));
-          tally_is = next_is ∙ sym (tally_from_push nothing fs frame);
-          lists = lists_done shape fs frame homes homes' live live' in_hand may (subst (λ t. t.folded ≤ t.changes) listed.tally_is few) (λ count fold. listed.no_fold count (ap (frame_in_hand shape bytes) is ∙ ap (λ g. Some g) fold))
-              (subst (AreInTurn 0 homes'.homes.items) size turn) (λ width i lt. each width i (omega arith)) same all;
-          no_fold = λ count clash. absurd cc;
-          same = λ model. more model ∙ ap (λ bs. bs ++ blanked frame ∷ []) (listed.same (back model)) ∙ sym (map_push blanked fs frame);
-        }
+    module _ (keeps' : Type 0) (new : List State) (gate' : ℕ) (homes' : Homes) (live' : ℕ) (few : tally.folded ≤ tally.changes) (moved : gate' ≡ gate + length (frame_text shape.format frame)) (back : keeps' → keeps)
+        (more : keeps' → blanked_before shape gate' (bytes_of new) ≡ frames_with (blanked_before shape gate (bytes_of states)) frame) (turn : AreInTurn 0 homes'.homes.items next.size) (each : (width i : ℕ) → i < next.size → home_among width homes'.homes.items i ≡ home_among width homes.homes.items i)
+        (all : live' ≡ length homes'.live.items) where
+      after_is : tally_of (listed.frames ++ frame ∷ []) ≡ after (tally_of listed.frames) frame
+      after_is = tally_from_push nothing listed.frames frame
+
+      size : next.size ≡ (after (tally_of listed.frames) frame).size
+      size = ap (λ t. t.size) next_is
+
+      here : gate' ≡ gate_of shape (listed.frames ++ frame ∷ [])
+      here = moved ∙ ap (λ g. g + length (frame_text shape.format frame)) listed.gate_is ∙ sym (ap length (text_push shape listed.frames frame) ∙ length-append (text shape listed.frames) (frame_text shape.format frame))
+
+      then_blank : keeps' → blanked_before shape gate' (bytes_of new) ≡ all_blanked (listed.frames ++ frame ∷ [])
+      then_blank model = more model ∙ ap (λ bs. bs ++ blanked frame ∷ []) (listed.same (back model)) ∙ sym (map_push blanked listed.frames frame)
+
+      -- a frame that is no fold's: a fold in hand counts as before
+      pub listed_done : (fold.stage ≡ Filed → ⊥) → (IsInHand fold.stage → fold.count ≤ tally.changes) → homes'.live.items ≡ homes.live.items → IsListed keeps' new shape gate' next bytes None homes' live' fold
+      listed_done unfiled upto same =
+          let no_fold : (count : ℕ) → frame ≡ Fold count → ⊥ = λ count is'. unfiled (listed.filed count (ap (frame_in_hand shape bytes) is ∙ ap (λ g. Some g) is')).0 in
+          let counted = live_counted shape listed.frames in
+          record {
+            frames = listed.frames ++ frame ∷ [];
+            legal = AreLegalFrom_push shape nothing listed.frames frame listed.legal job_is.whole may;
+            gate_is = here;
+            tally_is = next_is ∙ sym after_is;
+            lists = lists_done shape listed.frames frame homes homes' live live' in_hand may (subst (λ t. t.folded ≤ t.changes) listed.tally_is few) no_fold (subst (AreInTurn 0 homes'.homes.items) size turn) (λ width i lt. each width i (subst (λ n. i < n) (sym size) lt)) same all;
+            filed = λ count clash. absurd cc;
+            runs_are = λ held. (
+                let bound : fold.count ≤ (tally_of listed.frames).changes = subst (λ t. fold.count ≤ t.changes) listed.tally_is (upto held) in
+                let folded : next.folded ≡ (tally_of listed.frames).folded = ap (λ t. t.folded) next_is ∙ after_unfolded (tally_of listed.frames) frame no_fold in
+                listed.runs_are held ∙ ap (λ t. length (flat_map pairs_of (take (fold.count - t.folded) (live_of shape listed.frames)))) listed.tally_is
+                ∙ sym (ap (λ n. length (flat_map pairs_of (take (fold.count - n) (live_of shape (listed.frames ++ frame ∷ []))))) folded ∙ ap (λ cs. length (flat_map pairs_of cs)) (take_live shape listed.frames frame (fold.count - (tally_of listed.frames).folded) (subst (λ t. t.folded ≤ t.changes) listed.tally_is few) no_fold (omega arith))));
+            same = then_blank;
+          }
+
+      -- the fold's own: its changes are live no more
+      pub listed_folded : (fold' : folds.Fold) → fold.stage ≡ Filed → frame ≡ Fold fold.count → fold'.stage ≡ stages.None → homes'.live.items ≡ drop fold.runs homes.live.items → IsListed keeps' new shape gate' next bytes None homes' live' fold'
+      listed_folded fold' at folds ended dropped =
+          let f : Frame = Fold fold.count in
+          let lists : Lists shape listed.frames (Some f) homes live = subst (λ g. Lists shape listed.frames (Some g) homes live) folds in_hand in
+          let may' : MayFollow (tally_of listed.frames) f = subst (MayFollow (tally_of listed.frames)) folds may in
+          let bounds = fold_bounds (tally_of listed.frames) f fold.count refl may'.counted in
+          let t : Tally = tally_of listed.frames in
+          let lived : List Seen = live_of shape listed.frames in
+          let n : ℕ = fold.count - t.folded in
+          let parts : flat_map pairs_of lived ≡ flat_map pairs_of (take n lived) ++ flat_map pairs_of (drop n lived) = ap (flat_map pairs_of) (sym (take-append-drop n lived)) ∙ flat_map-append pairs_of (take n lived) (drop n lived) in
+          let runs : fold.runs ≡ length (flat_map pairs_of (take n lived)) = listed.runs_are (subst IsInHand (sym at) tt) ∙ ap (λ u. length (flat_map pairs_of (take (fold.count - u.folded) lived))) listed.tally_is in
+          let left : homes'.live.items ≡ live_runs shape (listed.frames ++ f ∷ []) =
+          dropped ∙ ap (drop fold.runs) (lists.live_is ∙ append-nil (live_runs shape listed.frames) ∙ parts) ∙ drop_at (flat_map pairs_of (take n lived)) (flat_map pairs_of (drop n lived)) fold.runs (sym runs)
+          ∙ sym (ap (flat_map pairs_of) (live_of_fold shape listed.frames fold.count bounds.0)) in
+          record {
+            frames = listed.frames ++ frame ∷ [];
+            legal = AreLegalFrom_push shape nothing listed.frames frame listed.legal job_is.whole may;
+            gate_is = here;
+            tally_is = next_is ∙ sym after_is;
+            lists = subst (λ g. Lists shape (listed.frames ++ g ∷ []) None homes' live') (sym folds) (record {
+              told = homes'.homes.items;
+              are_homes = AreHomes_same shape listed.frames f lists.told homes'.homes.items (λ i p u. refl) (omega arith) lists.are_homes
+                  (subst (AreInTurn 0 homes'.homes.items) (size ∙ ap (λ g. (after t g).size) folds) turn)
+                  (λ i lt. each shape.width i (subst (λ m. i < m) (sym (size ∙ ap (λ g. (after t g).size) folds)) lt) ∙ ap (λ hs. home_among shape.width hs i) (lists.homes_are ∙ append-nil lists.told));
+              homes_are = sym (append-nil homes'.homes.items);
+              live_is = left ∙ sym (append-nil (live_runs shape (listed.frames ++ f ∷ [])));
+              counted = all ∙ ap length left;
+            });
+            filed = λ count clash. absurd cc;
+            runs_are = λ held. absurd (subst IsInHand ended held);
+            same = then_blank;
+          }
 
 -- growths are entered
-pub group_listed : {R : Type 0} (keeps : Type 0) (states : List State) (shape : Shape) (gate : ℕ) (tally : Tally) (bytes bytes' : List ℕ) (o : Option Step) (homes homes' : Homes) (live : ℕ) (form : Encoding R) (growths : List (List R)) → IsListed keeps states shape gate tally bytes o homes live
+pub group_listed : {R : Type 0} (keeps : Type 0) (states : List State) (shape : Shape) (gate : ℕ) (tally : Tally) (bytes bytes' : List ℕ) (o : Option Step) (homes homes' : Homes) (live : ℕ) {fold : folds.Fold} (form : Encoding R) (growths : List (List R)) → IsListed keeps states shape gate tally bytes o homes live fold
     → o ≡ None → frame_at shape bytes' ≡ group_frame form growths → (count records : ℕ) → count ≡ length growths → records ≡ length (joined growths)
-    → {old : List Home} → homes'.homes.items ≡ old ++ record { position = tally.size; place = gate + (10 + count * 4); count = records } ∷ [] → old ≡ homes.homes.items → homes'.live ≡ homes.live → IsListed keeps states shape gate tally bytes' (Some Body) homes' live
-group_listed keeps states shape gate tally bytes bytes' o homes homes' live form growths listed idle at count records counted told homes_more old_is live_same =
+    → {old : List Home} → homes'.homes.items ≡ old ++ record { position = tally.size; place = gate + (10 + count * 4); count = records } ∷ [] → old ≡ homes.homes.items → homes'.live ≡ homes.live → IsListed keeps states shape gate tally bytes' (Some Body) homes' live fold
+group_listed keeps states shape gate tally bytes bytes' o homes homes' live {fold} form growths listed idle at count records counted told homes_more old_is live_same =
     let place : gate + (10 + count * 4) ≡ gate + 10 + length (map length growths) * 4 = omega (arith, counted, length-map growths length) in
     let all : records ≡ sum (map length growths) = told ∙ sum-lengths growths in
-    listed_begun keeps states shape gate tally bytes o homes live listed idle bytes' homes' (group_frame form growths) Body at (λ fold is. absurd cc)
+    listed_begun keeps states shape gate tally bytes o homes live listed idle bytes' homes' (group_frame form growths) Body at (λ c is. absurd cc)
     (homes_more ∙ ap (λ hs. hs ++ record { position = tally.size; place = gate + (10 + count * 4); count = records } ∷ []) old_is ∙ ap (λ n. homes.homes.items ++ record { position = tally.size; place = n; count = records } ∷ []) place ∙ ap (λ n. homes.homes.items ++ record { position = tally.size; place = gate + 10 + length (map length growths) * 4; count = n } ∷ []) all)
     (ap (λ v. v.items) live_same ∙ sym (append-nil homes.live.items))

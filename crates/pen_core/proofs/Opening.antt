@@ -29,8 +29,12 @@ use Rattle.segment_core.proofs.Push.{length-text}
 use Rattle.segment_core.proofs.Raw.{IsVectorOf_raw}
 use Rattle.pen_core.specs.Held.{Holds, gate_of}
 use Rattle.pen_core.specs.Known.{IsFileOf, IsShut}
+use Rattle.pen_core.specs.PenOf.{FoldOf}
 use Rattle.pen_core.specs.Inside.{pen_of, Knows, IsPen}
 use Rattle.pen_core.specs.Opening.{IsOpened, IsFoundOn}
+use Rattle.pen_core.specs.declared.fold.Fold.{Fold}
+use Rattle.pen_core.specs.declared.stage.FoldStage.TheVariants as stages
+use Rattle.pen_core.specs.InHand.{IsInHand}
 use Rattle.pen_core.specs.Listed.{live_runs, Lists, IsListed}
 use Rattle.pen_core.proofs.Again.{gate_behind}
 use Rattle.pen_core.proofs.Parsed.{SeenAs, seen_as}
@@ -207,8 +211,8 @@ module _ {R : Type 0} (form : Encoding R) (keeps : Type 0) (states : List State)
             (subst (λ v. Knows 0 told scanned.gate tally (all_blanked found) v bytes None false (now states)) (sym seen.vector_is) (has_known bytes model)));
       }
 
-  pub opened_lists : (bytes : List ℕ) (live : ℕ) → live ≡ length homes.live.items → IsListed keeps states told scanned.gate tally bytes None homes live
-  opened_lists bytes live all = record {
+  pub opened_lists : (bytes : List ℕ) (live : ℕ) (fold : Fold) → fold.stage ≡ stages.None → live ≡ length homes.live.items → IsListed keeps states told scanned.gate tally bytes None homes live fold
+  opened_lists bytes live fold at all = record {
     frames = found;
     legal = subst (λ s. AreLegalFrom s nothing found) (sym shape_same) legal;
     gate_is = gate_same ∙ ap (λ s. gate_of s found) (sym shape_same);
@@ -220,12 +224,13 @@ module _ {R : Type 0} (form : Encoding R) (keeps : Type 0) (states : List State)
       live_is = on.homes_are.live_is ∙ sym (append-nil (live_runs file found));
       counted = all ∙ ap length on.homes_are.live_is;
     });
-    no_fold = λ count is. absurd cc;
+    filed = λ count is. absurd cc;
+    runs_are = λ held. absurd (subst IsInHand at held);
     same = λ model. (has_seen model).frames_are;
   }
 
-  pub opened_as : {D : Type 0} (disk : D) (bytes : List ℕ) (room places : ℕ) → keeps → IsOpened form (bytes_of states) (pen_of states disk told scanned.gate tally bytes room None false places None) records
-  opened_as disk bytes room places model =
+  pub opened_as : {D : Type 0} (disk : D) (bytes : List ℕ) (room places : ℕ) (fold : Option FoldOf) → keeps → IsOpened form (bytes_of states) (pen_of states disk told scanned.gate tally bytes room None false places fold) records
+  opened_as disk bytes room places fold model =
       let seen = has_seen model in
       let image : bytes_of states ≡ on.image = seen_same model in
       record {

@@ -17,7 +17,8 @@ use Rattle.segment_core.specs.declared.format.Format.TheVariants.{One, Two}
 use Rattle.segment_core.specs.declared.format.Shape.{Shape}
 use Rattle.segment_core.specs.declared.tally.Tally.{Tally}
 use Rattle.segment_core.specs.Shape.{limit_of}
-use Rattle.segment_core.specs.Frame.{Run, Frame, Fold, records_of_runs, frame_text, payload_of}
+use Rattle.segment_core.specs.Frame as kinds
+use Rattle.segment_core.specs.Frame.{Run, Frame, records_of_runs, frame_text, payload_of}
 use Rattle.segment_core.specs.Layout.{HasRuns, IsFrame}
 use Rattle.segment_core.specs.Tally.{after, are_ascending, are_inside, MayFollow}
 use Rattle.segment_core.specs.Raw.{after_frame, AreReadAs}
@@ -39,6 +40,9 @@ use Rattle.pen_core.specs.Inside.{IsPen, job_of}
 use Rattle.pen_core.specs.Listed.{IsListed}
 use Rattle.pen_core.proofs.Begins.{no_step}
 use Rattle.pen_core.proofs.Begun.{begun, begun_frame}
+use Rattle.pen_core.specs.declared.fold.Fold.{Fold}
+use Rattle.pen_core.specs.InHand.{fold_of, IsFold}
+use Rattle.pen_core.proofs.InHand.{fold_begun}
 use Rattle.pen_core.proofs.Listed.{listed_begun}
 
 -- ---- what the tests say
@@ -73,6 +77,11 @@ module _ {D : Type 0} (pen : PenOf D) (runs : List Run) where
   has_runs : (format : Format) → is_old pen format runs ≡ false → 0 < length runs → HasRuns format runs
   has_runs One old some = let few = ltb-false 1 (length runs) old in omega arith
   has_runs Two old some = some
+
+  pub allowed_space : first_refusal (change_lines pen runs) ≡ None → pen.gate + (6 + change_len pen.shape runs) + fold_len pen.fold < 2 ^ 48
+  allowed_space none =
+      let tests = none_holds (change_lines pen runs) none in
+      leb-false (2 ^ 48) (pen.gate + (6 + change_len pen.shape runs) + fold_len pen.fold) tests.1.1.1.1.1.1.0
 
   pub allows : first_refusal (change_lines pen runs) ≡ None → Allows pen.broken (is_some pen.job) pen.shape pen.gate pen.tally runs
   allows none =
@@ -140,6 +149,9 @@ module _ {R : Type 0} (form : Encoding R) (shape : Shape) (gate : ℕ) (tally : 
   pub change_follows : MayFollow tally frame
   change_follows = record { ordered = not_from_true (are_ascending 0 runs) allowed.ordered; inside = not_from_true (are_inside tally.size runs) allowed.inside; folded = refl; counted = refl; short = refl }
 
+  pub change_text_len : length (frame_text shape.format frame) ≡ 6 + change_len shape runs
+  change_text_len = length-frame_text shape.format frame ∙ ap (λ n. 6 + n) payload
+
   pub change_room : gate + length (frame_text shape.format frame) < 2 ^ 48
   change_room = let long = length-frame_text shape.format frame ∙ ap (λ n. 6 + n) payload in let below = allowed.not_full in omega arith
 
@@ -147,29 +159,32 @@ module _ {R : Type 0} (form : Encoding R) (shape : Shape) (gate : ℕ) (tally : 
 
 -- What stands once a change is begun: the pen's fields are sound, the job's frame is the change, and the records behind
 -- it are those with the runs replaced.
-pub record ChangeBegun {R : Type 0} (count : ℕ) (keeps : Type 0) (states : List State) (shape : Shape) (gate : ℕ) (tally : Tally) (bytes : List ℕ) (broken : Bool) (homes : Homes) (live : ℕ) (form : Encoding R) (runs : List Run) (pieces : List (List R)) : Type 0 where
+pub record ChangeBegun {R : Type 0} (count : ℕ) (keeps : Type 0) (states : List State) (shape : Shape) (gate : ℕ) (tally : Tally) (bytes : List ℕ) (broken : Bool) (homes : Homes) (live : ℕ) (fold : Fold) (form : Encoding R) (runs : List Run) (pieces : List (List R)) : Type 0 where
   pub pen : IsPen count keeps states shape gate tally (after tally (change_frame form runs pieces)) bytes (Some Body) broken
-  pub listed : IsListed keeps states shape gate tally bytes (Some Body) homes live
+  pub listed : IsListed keeps states shape gate tally bytes (Some Body) homes live fold
+  pub held : IsFold keeps states shape gate tally bytes (Some Body) broken fold
   pub frame_is : frame_at shape bytes ≡ change_frame form runs pieces
   pub tells : (vector : List (List ℕ)) (records : List R) → AreReadAs form vector records → AreReadAs form (after_frame shape.width vector (frame_at shape bytes)) (replaced records runs (joined pieces))
 
-pub change_begun : {R : Type 0} {count : ℕ} (keeps : Type 0) (states : List State) (shape : Shape) (gate : ℕ) (tally next : Tally) (bytes bytes' : List ℕ) (o : Option Step) (broken : Bool) (homes homes' : Homes) (live : ℕ) (form : Encoding R) (runs : List (ℕ × ℕ)) (pieces : List (List R))
-    → IsPen count keeps states shape gate tally next bytes o broken → IsListed keeps states shape gate tally bytes o homes live → Allows broken (is_some (job_of shape bytes o)) shape gate tally (runs_given runs) → (keeps → IsImage (now states) (bytes_of states))
+pub change_begun : {R : Type 0} {count : ℕ} (keeps : Type 0) (states : List State) (shape : Shape) (gate : ℕ) (tally next : Tally) (bytes bytes' : List ℕ) (o : Option Step) (broken : Bool) (homes homes' : Homes) (live : ℕ) {fold : Fold} (form : Encoding R) (runs : List (ℕ × ℕ)) (pieces : List (List R))
+    → IsPen count keeps states shape gate tally next bytes o broken → IsListed keeps states shape gate tally bytes o homes live fold → IsFold keeps states shape gate tally bytes o broken fold → gate + (6 + change_len shape (runs_given runs)) + fold_len (fold_of fold) < 2 ^ 48 → Allows broken (is_some (job_of shape bytes o)) shape gate tally (runs_given runs) → (keeps → IsImage (now states) (bytes_of states))
     → bytes' ≡ frame_text shape.format (change_frame form (runs_given runs) pieces) ++ 0 ∷ [] → form.width ≡ shape.width → ((r : R) → length (form.bytes_of r) ≡ form.width) → 0 < length runs → length (joined pieces) ≡ records_of_runs (runs_given runs) → AreReadAgain form (joined pieces)
-    → homes'.homes ≡ homes.homes → homes'.live.items ≡ homes.live.items ++ runs → ChangeBegun count keeps states shape gate tally bytes' broken homes' live form (runs_given runs) pieces
-change_begun keeps states shape gate tally next bytes bytes' o broken homes homes' live form runs pieces pen listed allowed reads spelled width size_of some filled again homes_same live_more =
+    → homes'.homes ≡ homes.homes → homes'.live.items ≡ homes.live.items ++ runs → ChangeBegun count keeps states shape gate tally bytes' broken homes' live fold form (runs_given runs) pieces
+change_begun {R} {count} keeps states shape gate tally next bytes bytes' o broken homes homes' live {fold} form runs pieces pen listed is_fold space allowed reads spelled width size_of some filled again homes_same live_more =
     let given : List Run = runs_given runs in
     let frame : Frame = change_frame form given pieces in
     let counted : 0 < length given = omega (arith, length-runs_given runs) in
     let idle : o ≡ None = no_step shape bytes o allowed.idle in
-    let no_fold : (count : ℕ) → frame ≡ Fold count → ⊥ = λ count is. absurd cc in
+    let no_fold : (count : ℕ) → frame ≡ kinds.Fold count → ⊥ = λ count is. absurd cc in
     let framed = change_framed form shape gate tally given pieces pen.wide.0 pen.size_fits width size_of counted filled allowed in
     let follows = change_follows form shape gate tally given pieces pen.wide.0 pen.size_fits width size_of counted filled allowed in
     let room = change_room form shape gate tally given pieces pen.wide.0 pen.size_fits width size_of counted filled allowed in
+    let all = change_text_len form shape gate tally given pieces pen.wide.0 pen.size_fits width size_of counted filled allowed in
     let at : frame_at shape bytes' ≡ frame = begun_frame keeps states shape gate tally next (after tally frame) bytes bytes' o broken frame pen allowed.whole idle reads spelled framed follows refl no_fold room in
     record {
       pen = begun keeps states shape gate tally next (after tally frame) bytes bytes' o broken frame pen allowed.whole idle reads spelled framed follows refl no_fold room;
       listed = listed_begun keeps states shape gate tally bytes o homes live listed idle bytes' homes' frame Body at no_fold (ap (λ v. v.items) homes_same ∙ sym (append-nil homes.homes.items)) (live_more ∙ ap (λ rs. homes.live.items ++ rs) (sym (runs_again runs)));
+      held = fold_begun keeps states shape gate tally bytes bytes' o broken fold frame Body is_fold idle spelled (omega arith);
       frame_is = at;
       tells = λ vector records are. subst (λ f. AreReadAs form (after_frame shape.width vector f) (replaced records given (joined pieces))) (sym at) (AreReadAs_change form shape.width vector records given pieces width size_of filled again are);
     }

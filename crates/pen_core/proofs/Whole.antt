@@ -1,42 +1,59 @@
 -- A tick of the log on a pen's fields.
-use Rattle.std.proofs.Common.{◌≡◌, ℕ, ◌+◌, ◌-◌, ◌≤◌, ◌^◌, Bool, true, false, List, [], ◌∷◌, length, sum, Option, Some, None, Result, Ok, Err, OnOk, OnErr, refl, sym, ap, subst, ◌∙◌, arith}
+use Rattle.std.proofs.Common.{◌≡◌, ℕ, ◌+◌, ◌-◌, ◌≤◌, ◌<◌, ◌⊎◌, inl, ◌^◌, Bool, true, false, List, [], ◌∷◌, length, sum, Option, Some, None, Result, Ok, Err, OnOk, OnErr, refl, sym, ap, subst, ◌∙◌, arith}
 use Rattle.std.proofs.lemmas.Bool.{ltb-false, or_parts}
 use Rattle.std.specs.Prelude.{nat_lt}
 use Rattle.std.proofs.lemmas.List.{length-append}
 use Rattle.disk_core.specs.declared.fault.DiskFault.{DiskFault}
-use Rattle.disk_core.specs.State.{State, now, IsImage}
+use Rattle.disk_core.specs.State.{State, now, overlay, settled, IsImage}
+use Rattle.disk_core.proofs.ImageLemmas.{length-overlay, get_or-overlay}
 use Rattle.disk_core.specs.Calls.{bytes_of}
 use Rattle.disk_core.specs.Moments.{LeavesOnly}
 use Rattle.disk_core.proofs.JoinedMoments.{LeavesOnly-start}
 use Rattle.segment_core.specs.declared.format.Shape.{Shape}
 use Rattle.segment_core.specs.declared.tally.Tally.{Tally}
-use Rattle.segment_core.specs.Frame.{Frame, Group, Change, Shrink, Fold, frame_text}
-use Rattle.segment_core.specs.Tally.{after, tally_of, MayFollow}
+use Rattle.segment_core.specs.Frame.{Frame, Group, Change, Shrink, frame_text}
+use Rattle.segment_core.specs.Frame as kinds
+use Rattle.segment_core.specs.Tally.{after, tally_of, MayFollow, AreLegal}
 use Rattle.segment_core.proofs.Payload.{length-frame_text}
 use Rattle.pen_core.specs.declared.step.Step.{Step}
 use Rattle.pen_core.specs.declared.step.Step.TheVariants.{Body, BodySync, Gate, GateSync}
-use Rattle.pen_core.specs.Step.{step_after, Calls, FailsCall}
-use Rattle.pen_core.specs.Held.{gate_of}
+use Rattle.pen_core.specs.Step.{step_after, body_of, Calls, FailsCall}
+use Rattle.pen_core.specs.Held.{Holds, IsBeingFolded, gate_of}
 use Rattle.pen_core.specs.Known.{IsShut}
 use Rattle.pen_core.specs.Vectors.{frame_at, blanked_before, frames_with}
 use Rattle.segment_core.specs.Raw.{after_frame}
 use Rattle.segment_core.specs.Parsed.{vector_before}
+use Rattle.pen_core.specs.declared.fold.Fold.{Fold}
+use Rattle.pen_core.specs.declared.stage.FoldStage.{FoldStage}
+use Rattle.pen_core.specs.declared.stage.FoldStage.TheVariants.{Home, Sync, Ready, Filed}
+use Rattle.pen_core.specs.declared.stage.FoldStage.TheVariants as stages
 use Rattle.pen_core.specs.PenOf.{FoldOf}
-use Rattle.pen_core.specs.Pen.{OpensWith, fold_count, IsKept}
+use Rattle.pen_core.specs.InHand.{in_stage, fold_of, left_of}
+use Rattle.pen_core.specs.Pen.{OpensWith, MayBeOpening, open_count, fold_count, IsKept}
 use Rattle.pen_core.specs.Inside.{job_of, pen_of, IsJob, IsMaybeJob, IsAtStep, Knows, IsPen}
+use Rattle.pen_core.proofs.Begun.{held_legal}
+use Rattle.pen_core.proofs.Folds.{LaidAlike}
 use Rattle.pen_core.proofs.Parsed.{SeenAs, seen_as}
 use Rattle.pen_core.proofs.Ticks.{tick_leaves, tick_next, tick_done, Failed, tick_failed}
 use Rattle.pen_core.proofs.Pens.{tally_with, gate_with, held_size, knows_rest, knows_at, knows_broken, told_pending}
 
 -- ---- at rest
 
-module _ {fold : Option FoldOf} (keeps : Type 0) (states : List State) (shape : Shape) (gate : ℕ) (tally next : Tally) (bytes : List ℕ) (o : Option Step) (broken : Bool) (pen : IsPen (fold_count fold) keeps states shape gate tally next bytes o broken) (model : keeps) where
-  pub pen_kept : {D : Type 0} (disk : D) (room : ℕ) → {places : ℕ} → IsKept states (pen_of states disk shape gate tally bytes room o broken places fold)
+-- what a fold is seen to count whose homes may be pending
+fold_count_is : (stage : FoldStage) (fold : FoldOf) → fold.stage ≡ stage → fold_count (in_stage stage fold) ≡ open_count stage fold.count
+fold_count_is stages.None fold at = refl
+fold_count_is (Home n) fold at = ap (λ st. open_count st fold.count) at
+fold_count_is Sync fold at = ap (λ st. open_count st fold.count) at
+fold_count_is Ready fold at = ap (λ st. open_count st fold.count) at
+fold_count_is Filed fold at = ap (λ st. open_count st fold.count) at
+
+module _ (fold : Fold) (keeps : Type 0) (states : List State) (shape : Shape) (gate : ℕ) (tally next : Tally) (bytes : List ℕ) (o : Option Step) (broken : Bool) (pen : IsPen (open_count fold.stage fold.count) keeps states shape gate tally next bytes o broken) (model : keeps) where
+  pub pen_kept : {D : Type 0} (disk : D) (room : ℕ) → {places : ℕ} → IsKept states (pen_of states disk shape gate tally bytes room o broken places (fold_of fold))
   pen_kept disk room =
       let knows = pen.knows model in
       record {
         images_open = knows.images_open;
-        pending_is_told = told_pending shape gate tally (blanked_before shape gate (bytes_of states)) (vector_before shape gate (bytes_of states)) bytes o broken (now states) knows;
+        pending_is_told = λ j is. subst (λ n. (gate < j) ⊎ (((j ≡ gate) × MayBeOpening (job_of shape bytes o)) ⊎ IsBeingFolded shape n (blanked_before shape gate (bytes_of states)) j)) (sym (fold_count_is fold.stage (record { count = fold.count; left = left_of fold; stage = fold.stage }) refl)) (told_pending shape gate tally (blanked_before shape gate (bytes_of states)) (vector_before shape gate (bytes_of states)) bytes o broken (now states) knows j is);
         gate_is = knows.gate_is;
         tally_is = knows.tally_is;
         size_is = ap (λ t. t.size) knows.tally_is ∙ held_size shape (blanked_before shape gate (bytes_of states)) (vector_before shape gate (bytes_of states)) (bytes_of states) knows.file.holds;
@@ -53,21 +70,35 @@ pub after_size : (tally : Tally) (frame : Frame) → tally.size ≤ 2 ^ 32 → M
 after_size tally (Group lengths bytes) le may = ltb-false (2 ^ 32) (tally.size + sum lengths) may.short
 after_size tally (Change runs bytes) le may = le
 after_size tally (Shrink n) le may = let below = ltb-false tally.size n may.inside in omega arith
-after_size tally (Fold count) le may = le
+after_size tally (kinds.Fold count) le may = le
 
 pub after_changes : (tally : Tally) (frame : Frame) → (after tally frame).changes ≤ tally.changes + 1
 after_changes tally (Group lengths bytes) = omega arith
 after_changes tally (Change runs bytes) = omega arith
 after_changes tally (Shrink n) = omega arith
-after_changes tally (Fold count) = omega arith
+after_changes tally (kinds.Fold count) = omega arith
 
 pub after_folded : (tally : Tally) (frame : Frame) → tally.folded ≤ tally.changes → MayFollow tally frame → (after tally frame).folded ≤ (after tally frame).changes
 after_folded tally (Group lengths bytes) le may = le
 after_folded tally (Change runs bytes) le may = omega arith
 after_folded tally (Shrink n) le may = le
-after_folded tally (Fold count) le may = ltb-false tally.changes count ((or_parts (nat_lt count tally.folded) (nat_lt tally.changes count) may.counted).1)
+after_folded tally (kinds.Fold count) le may = ltb-false tally.changes count ((or_parts (nat_lt count tally.folded) (nat_lt tally.changes count) may.counted).1)
 
 -- ---- a call
+
+-- a write at a place or past it leaves the bytes below
+laid_past : (p at : ℕ) (old bytes : List ℕ) → p ≤ at → at ≤ length old → LaidAlike p old (overlay old at bytes)
+laid_past p at old bytes le inside = record {
+  long = omega arith;
+  long_too = omega (arith, length-overlay old at bytes inside);
+  each = λ j lt. sym (get_or-overlay old at bytes j inside (omega arith) (inl (omega arith)));
+}
+
+calls_alike : (step : Step) (p : ℕ) (bytes : List ℕ) (old new : List State) → p < length (bytes_of old) → Calls step p bytes old new → LaidAlike p (bytes_of old) (bytes_of new)
+calls_alike Body p bytes old new lt call = subst (LaidAlike p (bytes_of old)) (sym (ap bytes_of call)) (laid_past p (p + 1) (bytes_of old) (body_of bytes) (omega arith) (omega arith))
+calls_alike BodySync p bytes old new lt call = subst (LaidAlike p (bytes_of old)) (sym (ap bytes_of call)) (record { long = omega arith; long_too = omega arith; each = λ j below. refl })
+calls_alike Gate p bytes old new lt call = subst (LaidAlike p (bytes_of old)) (sym (ap bytes_of call)) (laid_past p p (bytes_of old) (1 ∷ []) (omega arith) (omega arith))
+calls_alike GateSync p bytes old new lt call = subst (LaidAlike p (bytes_of old)) (sym (ap bytes_of call)) (record { long = omega arith; long_too = omega arith; each = λ j below. refl })
 
 pub last_step : (step : Step) → step_after step ≡ None → step ≡ GateSync
 last_step Body is = absurd cc
@@ -131,6 +162,13 @@ module _ {count : ℕ} (keeps keeps' : Type 0) (states new : List State) (shape 
       subst (λ s. LeavesOnly states new (OpensWith shape frames vector (job_of shape bytes s))) (sym is)
       (tick_leaves shape count frames following vector then bytes step states new r (knows m).file (at m) (reads m) (on_ok r (at_gate m) (done m)) (on_err r (fails_at_gate m) (failed model)))
 
+  pub tally_now : keeps → tally ≡ tally_of frames
+  tally_now m = (knows m).tally_is
+
+  -- the frames keep the rules
+  pub legal_now : keeps → AreLegal shape frames
+  legal_now m = held_legal shape frames vector (bytes_of states) (knows m).file.holds
+
   -- ---- that failed
 
   failed : (model : keeps') → FailsCall step gate given states new → Failed shape count frames following vector then bytes step (now new)
@@ -164,6 +202,10 @@ module _ {count : ℕ} (keeps keeps' : Type 0) (states new : List State) (shape 
     next_seen behind after_it model =
         let m = back model in
         seen_as shape gate frames vector (bytes_of new) (knows m).gate_is (tick_next shape count frames following vector then bytes step states new (knows m).file (at m) (reads m) (at_gate m (call m)) behind after_it).file.holds
+
+    -- below the gate no byte changes
+    pub bytes_alike : keeps' → LaidAlike p (bytes_of states) (bytes_of new)
+    bytes_alike model = let m = back model in calls_alike step p bytes states new (omega (arith, (knows m).file.gate_synced, (reads m).no_shorter)) (at_gate m (call m))
 
     pub whole_next : (behind : Step) → step_after step ≡ Some behind → IsPen count keeps' new shape gate tally next bytes (Some behind) broken
     whole_next behind after_it = record {
@@ -200,6 +242,18 @@ module _ {count : ℕ} (keeps keeps' : Type 0) (states new : List State) (shape 
       done_seen model =
           let m = back model in
           seen_as shape gate' following then (bytes_of new) (next_gate m) (tick_done shape count frames following vector then bytes step states new (at m) (reads m) (at_gate m (call m)) last).0.holds
+
+      pub settles_now : keeps' → now new ≡ settled (bytes_of states)
+      settles_now model = let m = back model in ap now (subst (λ st. Calls st p bytes states new) (last_step step last) (at_gate m (call m)))
+
+      pub holds_now : keeps' → Holds shape frames vector (bytes_of states)
+      holds_now model = (knows (back model)).file.holds
+
+      -- the job's frame stands already
+      pub holds_next : keeps' → Holds shape following then (bytes_of states)
+      holds_next model =
+          let m = back model in
+          subst (λ s. Holds shape following then s.seen) (settles_now model) (tick_done shape count frames following vector then bytes step states new (at m) (reads m) (at_gate m (call m)) last).0.holds
 
       pub more_frames : keeps' → blanked_before shape gate' (bytes_of new) ≡ following
       more_frames model = (done_seen model).frames_are

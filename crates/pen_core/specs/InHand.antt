@@ -1,5 +1,5 @@
 -- A fold in hand, by a pen's fields.
-use Rattle.std.specs.Prelude.{◌≡◌, ℕ, ◌+◌, ◌-◌, ◌<◌, ◌≤◌, ◌^◌, List, [], ◌∷◌, ◌++◌, length, map, take, drop, Option, Some, None, Bool, false, nat_lt, if◌then◌else◌}
+use Rattle.std.specs.Prelude.{◌≡◌, ℕ, ◌+◌, ◌-◌, ◌<◌, ◌≤◌, ◌^◌, List, [], ◌∷◌, ◌++◌, length, map, take, drop, Option, Some, None, Bool, true, false, nat_lt, if◌then◌else◌}
 use Rattle.std.specs.List.{AllByRecursion}
 use Rattle.disk_core.specs.State.{State, now}
 use Rattle.disk_core.specs.Calls.{bytes_of, Stays, Writes, TearsWrite, Settles}
@@ -17,8 +17,7 @@ use Rattle.pen_core.specs.declared.stage.FoldStage.{FoldStage}
 use Rattle.pen_core.specs.declared.stage.FoldStage.TheVariants.{Home, Sync, Ready, Filed}
 use Rattle.pen_core.specs.declared.stage.FoldStage.TheVariants as stages
 use Rattle.pen_core.specs.PenOf.{FoldOf, HomeWrite}
-use Rattle.pen_core.specs.Vectors.{blanked_before}
-use Rattle.pen_core.specs.Listed.{frame_in_hand}
+use Rattle.pen_core.specs.Vectors.{frame_at, blanked_before}
 use Rattle.pen_core.specs.Folds.{IsFolding}
 
 -- ---- what a fold is seen as
@@ -69,7 +68,21 @@ home_fault stages.None = disk_faults.Sync
 home_fault Ready = disk_faults.Sync
 home_fault Filed = disk_faults.Sync
 
--- what comes next once it succeeded, and how many writes are done
+abbrev pub has_call : FoldStage → Bool
+has_call (Home n) = true
+has_call Sync = true
+has_call stages.None = false
+has_call Ready = false
+has_call Filed = false
+
+abbrev pub is_unfolded : FoldStage → Bool
+is_unfolded stages.None = true
+is_unfolded (Home n) = false
+is_unfolded Sync = false
+is_unfolded Ready = false
+is_unfolded Filed = false
+
+-- what comes next once it succeeded, how many writes are done, and which are left
 abbrev pub stage_after : FoldStage → FoldStage
 stage_after (Home n) = if nat_lt 1 n then Home (n - 1) else Sync
 stage_after Sync = Ready
@@ -84,8 +97,26 @@ done_after stages.None done = done
 done_after Ready done = done
 done_after Filed done = done
 
+abbrev pub left_after : FoldStage → List HomeWrite → List HomeWrite
+left_after (Home n) left = drop 1 left
+left_after Sync left = left
+left_after stages.None left = left
+left_after Ready left = left
+left_after Filed left = left
+
+abbrev pub called : FoldOf → FoldOf
+called fold = record { count = fold.count; left = left_after fold.stage fold.left; stage = stage_after fold.stage }
+
 abbrev pub advanced : Fold → Fold
 advanced fold = record { stage = stage_after fold.stage; count = fold.count; runs = fold.runs; writes = fold.writes; done = done_after fold.stage fold.done; bytes = fold.bytes; frame = fold.frame }
+
+-- so many home writes are left
+abbrev pub writes_left : FoldStage → ℕ
+writes_left (Home n) = n
+writes_left Sync = 0
+writes_left stages.None = 0
+writes_left Ready = 0
+writes_left Filed = 0
 
 -- ---- what it counts itself
 
@@ -119,6 +150,11 @@ pub record IsWaiting (shape : Shape) (gate : ℕ) (tally : Tally) (bytes : List 
   pub spelled : fold.frame.items ≡ frame_text shape.format (frames.Fold fold.count) ++ 0 ∷ []
   pub room : gate_then gate bytes step + 14 < 2 ^ 48
 
+-- the frame of the job in hand
+abbrev pub frame_in_hand : Shape → List ℕ → Option Step → Option Frame
+frame_in_hand shape bytes None = None
+frame_in_hand shape bytes (Some step) = Some (frame_at shape bytes)
+
 -- a fold is in hand
 abbrev pub IsInHand : FoldStage → Type 0
 IsInHand stages.None = ⊥
@@ -132,7 +168,7 @@ IsAtStage shape gate tally bytes step fold stages.None = Unit {0}
 IsAtStage shape gate tally bytes step fold (Home n) = IsWaiting shape gate tally bytes step fold × (fold.done + n ≡ length fold.writes.items) × (0 < n)
 IsAtStage shape gate tally bytes step fold Sync = IsWaiting shape gate tally bytes step fold × (fold.done ≡ length fold.writes.items)
 IsAtStage shape gate tally bytes step fold Ready = IsWaiting shape gate tally bytes step fold × (fold.done ≡ length fold.writes.items)
-IsAtStage shape gate tally bytes step fold Filed = frame_in_hand shape bytes step ≡ Some (frames.Fold fold.count)
+IsAtStage shape gate tally bytes step fold Filed = (frame_in_hand shape bytes step ≡ Some (frames.Fold fold.count)) × (fold.done ≡ length fold.writes.items)
 
 -- ---- and of its disk
 

@@ -6,9 +6,9 @@ pub mod Known
 pub mod Refusals
 pub mod Pen
 pub mod Inside
-pub mod Listed
 pub mod Folds
 pub mod InHand
+pub mod Listed
 pub mod Births
 pub mod Covered
 pub mod Opening

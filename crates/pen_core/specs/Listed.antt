@@ -1,6 +1,6 @@
 -- The lists that a pen keeps of its file: where home bytes stand, and the runs of the live changes. A job in hand is
 -- entered when it begins, behind what is told of the file, so that its last tick takes no memory.
-use Rattle.std.specs.Prelude.{◌≡◌, ℕ, ◌+◌, ◌*◌, List, [], ◌∷◌, ◌++◌, length, map, sum, Option, Some, None}
+use Rattle.std.specs.Prelude.{◌≡◌, ℕ, ◌+◌, ◌-◌, ◌*◌, List, [], ◌∷◌, ◌++◌, length, map, take, sum, Option, Some, None}
 use Rattle.std.specs.List.{flat_map}
 use Rattle.disk_core.specs.State.{State}
 use Rattle.disk_core.specs.Calls.{bytes_of}
@@ -8,32 +8,31 @@ use Rattle.segment_core.specs.declared.format.Shape.{Shape}
 use Rattle.segment_core.specs.declared.found.Home.{Home}
 use Rattle.segment_core.specs.declared.found.Homes.{Homes}
 use Rattle.segment_core.specs.declared.tally.Tally.{Tally}
-use Rattle.segment_core.specs.Frame.{Frame, Group, Change, Shrink, Fold}
+use Rattle.segment_core.specs.Frame.{Frame, Group, Change, Shrink}
+use Rattle.segment_core.specs.Frame as kinds
 use Rattle.segment_core.specs.Tally.{tally_of, AreLegal}
 use Rattle.segment_core.specs.Blanked.{all_blanked}
 use Rattle.segment_core.specs.Found.{AreHomes, pairs_of, live_of}
 use Rattle.pen_core.specs.declared.step.Step.{Step}
+use Rattle.pen_core.specs.declared.fold.Fold.{Fold}
+use Rattle.pen_core.specs.declared.stage.FoldStage.TheVariants.{Filed}
 use Rattle.pen_core.specs.Held.{gate_of}
-use Rattle.pen_core.specs.Vectors.{frame_at, blanked_before}
+use Rattle.pen_core.specs.Vectors.{blanked_before}
+use Rattle.pen_core.specs.InHand.{frame_in_hand, IsInHand}
 
 -- what a frame that begins behind a file of so many bytes and records enters among the homes
 abbrev pub homes_entered : ℕ → ℕ → Frame → List Home
 homes_entered gate size (Group lengths bytes) = record { position = size; place = gate + 10 + length lengths * 4; count = sum lengths } ∷ []
 homes_entered gate size (Change runs bytes) = []
 homes_entered gate size (Shrink n) = []
-homes_entered gate size (Fold count) = []
+homes_entered gate size (kinds.Fold count) = []
 
 -- and among the live runs
 abbrev pub runs_entered : Frame → List (ℕ × ℕ)
 runs_entered (Group lengths bytes) = []
 runs_entered (Change runs bytes) = map (λ run. (run.start, run.count)) runs
 runs_entered (Shrink n) = []
-runs_entered (Fold count) = []
-
--- the frame of the job in hand
-abbrev pub frame_in_hand : Shape → List ℕ → Option Step → Option Frame
-frame_in_hand shape bytes None = None
-frame_in_hand shape bytes (Some step) = Some (frame_at shape bytes)
+runs_entered (kinds.Fold count) = []
 
 abbrev pub homes_ahead : ℕ → ℕ → Option Frame → List Home
 homes_ahead gate size None = []
@@ -57,12 +56,13 @@ pub record Lists (shape : Shape) (frames : List Frame) (ahead : Option Frame) (h
 
 -- What the lists of a pen are, whatever its disk: there are frames which it has committed, and of which they tell.
 -- Where the disk keeps the model, the file has these frames.
-pub record IsListed (keeps : Type 0) (states : List State) (shape : Shape) (gate : ℕ) (tally : Tally) (bytes : List ℕ) (step : Option Step) (homes : Homes) (live : ℕ) : Type 0 where
+pub record IsListed (keeps : Type 0) (states : List State) (shape : Shape) (gate : ℕ) (tally : Tally) (bytes : List ℕ) (step : Option Step) (homes : Homes) (live : ℕ) (fold : Fold) : Type 0 where
   pub frames : List Frame
   pub legal : AreLegal shape frames
   pub gate_is : gate ≡ gate_of shape frames
   pub tally_is : tally ≡ tally_of frames
   pub lists : Lists shape frames (frame_in_hand shape bytes step) homes live
-  -- a Fold is no job yet
-  pub no_fold : (count : ℕ) → frame_in_hand shape bytes step ≡ Some (Fold count) → ⊥
+  -- a Fold is the job of a fold in hand alone
+  pub filed : (count : ℕ) → frame_in_hand shape bytes step ≡ Some (kinds.Fold count) → (fold.stage ≡ Filed) × (count ≡ fold.count)
+  pub runs_are : IsInHand fold.stage → fold.runs ≡ length (flat_map pairs_of (take (fold.count - tally.folded) (live_of shape frames)))
   pub same : keeps → blanked_before shape gate (bytes_of states) ≡ all_blanked frames

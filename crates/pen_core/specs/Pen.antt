@@ -1,5 +1,6 @@
 -- What the calls of a pen promise.
-use Rattle.std.specs.Prelude.{◌≡◌, ◌⊎◌, ℕ, ◌+◌, ◌<◌, List, length, Option, Some, None, Bool, true, false, IfSome}
+use Rattle.std.specs.Prelude.{◌≡◌, ◌⊎◌, ℕ, ◌+◌, ◌<◌, List, length, Option, Some, None, Bool, true, false, IfSome, if◌then◌else◌}
+use Rattle.std.specs.Option.{is_some}
 use Rattle.disk_core.specs.State.{State, now, IsImage}
 use Rattle.disk_core.specs.Choice.{is_pending}
 use Rattle.segment_core.specs.declared.format.Shape.{Shape}
@@ -9,6 +10,8 @@ use Rattle.pen_core.specs.declared.step.Step.{Step}
 use Rattle.pen_core.specs.declared.step.Step.TheVariants as steps
 use Rattle.pen_core.specs.declared.stage.Ticked.{Ticked}
 use Rattle.pen_core.specs.declared.stage.Ticked.TheVariants as ticks
+use Rattle.pen_core.specs.declared.stage.HomeTicked.{HomeTicked}
+use Rattle.pen_core.specs.declared.stage.HomeTicked.TheVariants as home_ticks
 use Rattle.pen_core.specs.declared.stage.Stage.{Stage}
 use Rattle.pen_core.specs.declared.stage.FoldStage.{FoldStage}
 use Rattle.pen_core.specs.declared.stage.FoldStage.TheVariants as folds
@@ -20,6 +23,7 @@ use Rattle.pen_core.specs.Known.{IsBeforeOrAfter}
 use Rattle.pen_core.specs.Vectors.{frames_with}
 use Rattle.segment_core.specs.Raw.{after_frame}
 use Rattle.pen_core.specs.PenOf.{PenOf, JobOf, FoldOf}
+use Rattle.pen_core.specs.InHand.{has_call, called, home_fault}
 
 -- ---- what a crash may leave
 
@@ -90,8 +94,9 @@ pub record CountsDone {D : Type 0} (frame : Frame) (old new : PenOf D) : Type 0 
   pub fold_is : new.fold ≡ fold_behind frame old.fold
   pub tally_is : new.tally ≡ after old.tally frame
   pub gate_is : new.gate ≡ old.gate + length (frame_text old.shape.format frame)
-  pub room_same : new.room ≡ old.room
-  pub places_same : new.places ≡ old.places
+  -- a Fold gives back memory
+  pub room_same : ((count : ℕ) → frame ≡ Fold count → ⊥) → new.room ≡ old.room
+  pub places_same : ((count : ℕ) → frame ≡ Fold count → ⊥) → new.places ≡ old.places
   pub job_done : new.job ≡ None
 
 -- what a tick makes of the counts, whatever the disk
@@ -153,6 +158,58 @@ vector_with shape vector (Some job) = after_frame shape.width vector job.frame
 
 abbrev pub vector_after : {D : Type 0} → PenOf D → List (List ℕ)
 vector_after pen = vector_with pen.shape pen.vector pen.job
+
+-- ---- ticks of the homes
+
+-- nothing of it has changed but the disk and the fold
+pub record HomesCalled {D : Type 0} (fold : FoldOf) (old new : PenOf D) : Type 0 where
+  pub fold_was : old.fold ≡ Some fold
+  pub fold_is : new.fold ≡ Some (called fold)
+  pub job_same : new.job ≡ old.job
+  pub shape_same : new.shape ≡ old.shape
+  pub tally_same : new.tally ≡ old.tally
+  pub gate_same : new.gate ≡ old.gate
+  pub room_same : new.room ≡ old.room
+  pub places_same : new.places ≡ old.places
+
+-- the frame of a fold whose homes are on the disk is the log job
+pub record IsFiled {D : Type 0} (fold : FoldOf) (old new : PenOf D) : Type 0 where
+  pub fold_was : old.fold ≡ Some fold
+  pub ready : fold.stage ≡ folds.Ready
+  pub idle : old.job ≡ None
+  pub fold_is : new.fold ≡ Some (record { count = fold.count; left = fold.left; stage = folds.Filed })
+  pub job_is : new.job ≡ Some (record { frame = Fold fold.count; step = steps.Body })
+  pub disk_same : new.disk ≡ old.disk
+  pub shape_same : new.shape ≡ old.shape
+  pub tally_same : new.tally ≡ old.tally
+  pub gate_same : new.gate ≡ old.gate
+  pub places_same : new.places ≡ old.places
+
+-- a fold has no call of its own to make, and a job is in hand, maybe its own frame
+pub record IsWaiting {D : Type 0} (fold : FoldOf) (old new : PenOf D) : Type 0 where
+  pub fold_was : old.fold ≡ Some fold
+  pub at : (fold.stage ≡ folds.Ready) ⊎ (fold.stage ≡ folds.Filed)
+  pub busy : is_some old.job ≡ true
+  pub same : new ≡ old
+
+-- what a tick makes of a pen, whatever the disk
+abbrev pub IsHomeTicked : {D : Type 0} → PenOf D → PenOf D → HomeTicked → Type 0
+IsHomeTicked old new home_ticks.Idle = (old.fold ≡ None) × (new ≡ old)
+IsHomeTicked old new home_ticks.Step = (fold : FoldOf) × (has_call fold.stage ≡ true) × HomesCalled fold old new
+IsHomeTicked old new home_ticks.Filed = (fold : FoldOf) × IsFiled fold old new
+IsHomeTicked old new home_ticks.Waiting = (fold : FoldOf) × IsWaiting fold old new
+
+-- why it was refused
+abbrev pub IsHomeFault : {D : Type 0} → PenOf D → PenOf D → PenFault → Type 0
+IsHomeFault old new fault =
+    ((fault ≡ faults.Broken) × (old.broken ≡ true) × (new ≡ old))
+    ⊎ ((fold : FoldOf) × (old.broken ≡ false) × (old.fold ≡ Some fold) × (has_call fold.stage ≡ true) × (fault ≡ faults.Disk (home_fault fold.stage)) × IsBrokenBy old new)
+
+-- how many calls of the device a tick makes
+abbrev pub home_calls_due : Bool → Option FoldOf → ℕ
+home_calls_due true fold = 0
+home_calls_due false None = 0
+home_calls_due false (Some fold) = if has_call fold.stage then 1 else 0
 
 -- ---- begins
 

@@ -39,7 +39,8 @@ impl<D: Disk> Pen<D> {
         requires { payload < 2 ^ 32 }
         ensures { result ≡ refusals.is_full self.now payload }
     {
-        self.gate >= GATE_LIMIT || self.gate + (HEAD_LEN + payload) as u64 >= GATE_LIMIT
+        self.gate >= GATE_LIMIT
+            || self.gate + (HEAD_LEN + payload) as u64 + self.fold.frame_len() >= GATE_LIMIT
     }
 
     /// Begins to shrink the vector to its first `n` records.

@@ -74,8 +74,9 @@ impl<D: Disk> Pen<D> {
             }
             None => {
                 self.homes.cut(self.next.size);
-                self.live = self.homes.live.len();
                 self.gate += self.bytes.len() as u64 - 1;
+                self.fold.end(&mut self.homes.live, &mut self.bytes);
+                self.live = self.homes.live.len();
                 self.tally = self.next;
                 self.step = None;
                 Ok(Ticked::Done)

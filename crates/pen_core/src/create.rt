@@ -10,6 +10,7 @@ ghost use Rattle.pen_core.specs.Births.{AreLooks, AreCallsUntil, EndsAt, calls_o
 ghost use Rattle.pen_core.specs.Pen.{IsKept, failed_calls};
 
 use crate::fault::PenFault;
+use crate::fold::Fold;
 use crate::pen::Pen;
 use disk_core::{Disk, DiskFault};
 use segment_core::{Format, Homes, Shape, Tally};
@@ -247,6 +248,7 @@ impl<D: Disk> Pen<D> {
             step: None,
             homes: Homes::new(alloc),
             live: 0,
+            fold: Fold::none(alloc),
             broken: false,
         })
     }

@@ -4,7 +4,7 @@ ghost use Rattle.std.specs.Prelude.{◌≡◌, ◌≤◌, ◌<◌, ◌+◌, ◌^
 ghost use Rattle.disk_core.specs.Calls.{bytes_of};
 ghost use Rattle.disk_core.specs.Moments.{clock};
 ghost use Rattle.disk_core.specs.Fault.{IsCounted};
-ghost use Rattle.pen_core.specs.InHand.{fold_of, left_of, HomeCalls, FailsHomeCall, home_fault, advanced, CanCall, stage_ended, live_after};
+ghost use Rattle.pen_core.specs.InHand.{fold_of, left_of, HomeCalls, FailsHomeCall, home_fault, advanced, CanCall, has_call, is_unfolded, stage_ended, live_after};
 ghost use Rattle.pen_core.specs.Refusals.{fold_len};
 
 use crate::stage::FoldStage;
@@ -70,6 +70,20 @@ impl Fold {
         }
     }
 
+    /// Whether a device call of the homes is next.
+    pub(crate) fn has_call(&self) -> bool
+        ensures { result ≡ has_call self.now.stage }
+    {
+        matches!(self.stage, FoldStage::Home(_) | FoldStage::Sync)
+    }
+
+    /// Whether none is in hand.
+    pub(crate) fn is_none(&self) -> bool
+        ensures { result ≡ is_unfolded self.now.stage }
+    {
+        matches!(self.stage, FoldStage::None)
+    }
+
     /// Makes the next device call of the homes: a write, or their sync.
     pub(crate) fn call<D: Disk>(&self, disk: &mut D) -> Result<(), DiskFault>
         requires { (gate : ℕ) × (gate < 2 ^ 64) × (D.keeps disk.old → gate ≤ length (bytes_of (D.states disk.old))) × CanCall gate self.now self.now.stage }
@@ -111,7 +125,7 @@ impl Fold {
     pub(crate) fn end(&mut self, live: &mut Vec<(u64, u64)>, bytes: &mut Vec<u8>)
         ensures stage { self.new.stage ≡ stage_ended self.old.stage }
         ensures live { live.new.items ≡ live_after self.old.stage self.old.runs live.old.items }
-        ensures same { (self.old.stage ≡ FoldStage.Filed → ⊥) → (self.new ≡ self.old) × (bytes.new ≡ bytes.old) }
+        ensures same { (self.old.stage ≡ FoldStage.Filed → ⊥) → (self.new ≡ self.old) × (live.new ≡ live.old) × (bytes.new ≡ bytes.old) }
     {
         if let FoldStage::Filed = self.stage {
             let runs = self.runs.min(live.len());

@@ -10,6 +10,7 @@ mod fault;
 mod fold;
 mod frame_bytes;
 mod group;
+mod home;
 #[cfg(test)]
 mod noting;
 mod open;
@@ -19,7 +20,7 @@ mod step;
 
 pub use fault::{OpenFault, PenFault};
 pub use pen::Pen;
-pub use stage::{FoldStage, Stage, Ticked};
+pub use stage::{FoldStage, HomeTicked, Stage, Ticked};
 
 #[cfg(test)]
 mod tests;

@@ -10,6 +10,7 @@ ghost use Rattle.pen_core.specs.Opening.{IsAtRest, IsOpened, OnlySyncs, IsOpenRe
 ghost use Rattle.pen_core.specs.Pen.{IsKept};
 
 use crate::fault::OpenFault;
+use crate::fold::Fold;
 use crate::pen::Pen;
 use disk_core::Disk;
 use record_core::Record;
@@ -152,6 +153,7 @@ impl<D: Disk> Pen<D> {
             step: None,
             live: homes.live.len(),
             homes,
+            fold: Fold::none(alloc),
             broken: false,
         }
     }

@@ -1,9 +1,11 @@
 //! A pen writes one segment file.
 
-ghost use Rattle.std.specs.Prelude.{◌≡◌};
+ghost use Rattle.std.specs.Prelude.{◌≡◌, length, IfSome};
+ghost use Rattle.pen_core.specs.InHand.{writes_left};
 ghost use Rattle.pen_core.specs.Pen.{IsKept, stage_of};
 
-use crate::stage::{FoldStage, Stage};
+use crate::fold::Fold;
+use crate::stage::Stage;
 use crate::step::Step;
 use disk_core::Disk;
 use segment_core::{Format, Homes, Shape, Tally};
@@ -30,23 +32,28 @@ pub struct Pen<D: Disk> {
     pub(crate) homes: Homes,
     /// How many of the runs are of changes in the file.
     pub(crate) live: usize,
+    /// The fold in hand.
+    pub(crate) fold: Fold,
     /// A call of the disk has failed.
     pub(crate) broken: bool,
 }
 
 impl<D: Disk> Model for Pen<D> {
-    ghost use Rattle.std.specs.Prelude.{◌-◌, None, vec_len, vec_capacity};
+    ghost use Rattle.std.specs.Prelude.{◌-◌, vec_len, vec_capacity};
     ghost use Rattle.pen_core.specs.PenOf.{PenOf};
+    ghost use Rattle.pen_core.specs.Pen.{open_count};
     ghost use Rattle.pen_core.specs.Inside.{pen_of, IsPen};
+    ghost use Rattle.pen_core.specs.InHand.{fold_of, IsFold};
     ghost use Rattle.pen_core.specs.Listed.{IsListed};
 
     ghost Value = { PenOf D };
 
     ghost view = { λ p. pen_of (D.states p.disk) p.disk p.shape p.gate p.tally p.bytes.items (vec_capacity p.bytes) p.step p.broken
-        (vec_capacity p.homes.live - vec_len p.homes.live) None };
+        (vec_capacity p.homes.live - vec_len p.homes.live) (fold_of p.fold) };
 
-    ghost invariant = { λ p. IsPen 0 (D.keeps p.disk) (D.states p.disk) p.shape p.gate p.tally p.next p.bytes.items p.step p.broken
-        × IsListed (D.keeps p.disk) (D.states p.disk) p.shape p.gate p.tally p.bytes.items p.step p.homes p.live };
+    ghost invariant = { λ p. IsPen (open_count p.fold.stage p.fold.count) (D.keeps p.disk) (D.states p.disk) p.shape p.gate p.tally p.next p.bytes.items p.step p.broken
+        × IsListed (D.keeps p.disk) (D.states p.disk) p.shape p.gate p.tally p.bytes.items p.step p.homes p.live p.fold
+        × IsFold (D.keeps p.disk) (D.states p.disk) p.shape p.gate p.tally p.bytes.items p.step p.broken p.fold };
 }
 
 impl<D: Disk> Pen<D> {
@@ -75,7 +82,8 @@ impl<D: Disk> Pen<D> {
 
     /// What is left of the job and of the fold.
     pub fn stage(&self) -> Stage
-        ensures { result ≡ stage_of self.now }
+        ensures stage { result ≡ stage_of self.now }
+        ensures homes { IfSome self.now.fold (λ fold. length fold.left ≡ writes_left fold.stage) }
     {
         let log = match self.step {
             Some(step) => step.left(),
@@ -83,7 +91,7 @@ impl<D: Disk> Pen<D> {
         };
         Stage {
             log,
-            fold: FoldStage::None,
+            fold: self.fold.stage,
         }
     }
 }

@@ -11,6 +11,19 @@ pub enum Ticked {
     Done,
 }
 
+/// What a tick of the homes did.
+#[derive(Clone, Copy, Debug, PartialEq, Eq)]
+pub enum HomeTicked {
+    /// No fold is in hand.
+    Idle,
+    /// One home write, or their sync.
+    Step,
+    /// The fold's frame is the log job now. No device call was made.
+    Filed,
+    /// A log job is in hand, or the fold's own frame is it.
+    Waiting,
+}
+
 /// How far a fold is.
 #[derive(Clone, Copy, Debug, PartialEq, Eq)]
 pub enum FoldStage {

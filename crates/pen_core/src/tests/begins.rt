@@ -85,6 +85,28 @@ fn growths_in_a_row_and_a_shrink_are_begun(rt: HostRuntime) -> Result<(), Fail> 
     Ok(())
 }
 
+/// Why this change is refused.
+fn change_fault<D: Disk>(pen: &mut Pen<D>, start: u64, pieces: &[&[u64]]) -> Option<PenFault>
+    requires width { pen.old.shape.width ≡ 8 }
+    requires some { 0 < length (joined (map (λ piece. piece.now) pieces.now)) }
+    ensures { pen.new.shape ≡ pen.old.shape }
+{
+    match pen.begin_change(start, pieces) {
+        Ok(()) => None,
+        Err(fault) => Some(fault),
+    }
+}
+
+/// Why this shrink is refused.
+fn shrink_fault<D: Disk>(pen: &mut Pen<D>, n: u64) -> Option<PenFault>
+    ensures { pen.new.shape ≡ pen.old.shape }
+{
+    match pen.begin_shrink(n) {
+        Ok(()) => None,
+        Err(fault) => Some(fault),
+    }
+}
+
 #[test]
 fn refusals_come_in_their_order(rt: HostRuntime) -> Result<(), Fail> {
     let alloc = rt.alloc();
@@ -96,21 +118,29 @@ fn refusals_come_in_their_order(rt: HostRuntime) -> Result<(), Fail> {
         Some(PenFault::OldFormat)
     );
     assert_eq!(rt;
-        pen.begin_change(1, &piece).err(),
+        change_fault(&mut pen, 1, &piece),
         Some(PenFault::OutOfRange)
     );
     assert_eq!(rt;
         pen.ready_change(0, 0xffff_ffff_ffff).err(),
         Some(PenFault::OutOfRange)
     );
-    assert_eq!(rt; pen.begin_shrink(3).err(), Some(PenFault::OutOfRange));
+    assert_eq!(rt; shrink_fault(&mut pen, 3), Some(PenFault::OutOfRange));
+    Ok(())
+}
+
+#[test]
+fn a_job_in_hand_keeps_others_out(rt: HostRuntime) -> Result<(), Fail> {
+    let alloc = rt.alloc();
+    let piece: [&[u64]; 1] = [&[1, 2]];
+    let mut pen = grown(alloc, Format::One, &[5, 6])?;
     pen.begin_change(0, &piece)?;
-    assert_eq!(rt; pen.begin_change(0, &piece).err(), Some(PenFault::Busy));
-    assert_eq!(rt; pen.begin_shrink(3).err(), Some(PenFault::Busy));
+    assert_eq!(rt; change_fault(&mut pen, 0, &piece), Some(PenFault::Busy));
+    assert_eq!(rt; shrink_fault(&mut pen, 3), Some(PenFault::Busy));
     assert_eq!(rt; pen.begin_group(&piece).err(), Some(PenFault::Busy));
     assert!(rt; commit(&mut pen));
-    assert_eq!(rt; pen.begin_shrink(3).err(), Some(PenFault::OutOfRange));
-    assert_eq!(rt; pen.begin_shrink(1).err(), Some(PenFault::Unfolded));
+    assert_eq!(rt; shrink_fault(&mut pen, 3), Some(PenFault::OutOfRange));
+    assert_eq!(rt; shrink_fault(&mut pen, 1), Some(PenFault::Unfolded));
     assert_eq!(rt; records_of(alloc, pen)?.as_slice(), [1, 2].as_slice());
     Ok(())
 }
@@ -185,5 +215,13 @@ fn a_pen_whose_disk_has_failed_begins_nothing(rt: HostRuntime) -> Result<(), Fai
     );
     assert_eq!(rt; pen.begin_shrink(9).err(), Some(PenFault::Broken));
     assert_eq!(rt; pen.tick_log(), Err(PenFault::Broken));
+    Ok(())
+}
+
+#[test]
+fn without_a_fold_a_tick_of_the_homes_is_idle(rt: HostRuntime) -> Result<(), Fail> {
+    let mut pen = grown(rt.alloc(), Format::One, &[5])?;
+    assert_eq!(rt; pen.tick_home(), Ok(HomeTicked::Idle));
+    assert_eq!(rt; pen.stage().fold, FoldStage::None);
     Ok(())
 }

@@ -10,9 +10,12 @@ use Rattle.segment_core.specs.Written.{group_frame, joined, payload_len}
 use Rattle.segment_core.specs.Parsed.{vector_before}
 use Rattle.segment_core.proofs.Written.{sum-lengths}
 use Rattle.pen_core.specs.declared.step.Step.TheVariants.{Body}
-use Rattle.pen_core.specs.Refusals.{is_full}
-use Rattle.pen_core.proofs.Begins.{no_step, not_full}
+use Rattle.pen_core.specs.Refusals.{is_full, fold_len}
+use Rattle.pen_core.proofs.Begins.{no_step, all_fits, not_full}
 use Rattle.pen_core.proofs.Growths.{few_growths, group_begun, group_at, group_tells}
+use Rattle.pen_core.specs.InHand.{fold_of}
+use Rattle.pen_core.proofs.InHand.{group_held}
+use Rattle.pen_core.proofs.AtRest.{at_rest}
 use Rattle.pen_core.proofs.Listed.{group_listed}
 use Rattle.pen_core.proofs.pen.Pen.begin_growths.Goals as goal
 
@@ -53,6 +56,12 @@ overflow_add-payload-2 g c =
 
 -- ---- the pen
 
+pub invariant_of-self-then-is_err-3 : goal.invariant_of-self-then-is_err-3
+invariant_of-self-then-is_err-3 g c =
+    let s = c.self.inside in
+    at_rest (g.D.Disk.keeps s.disk) (g.D.Disk.states s.disk) s.shape s.gate s.tally s.next s.bytes.items c.push.new.self.items s.step s.broken s.homes (record { homes = c.reserve.new.self; live = s.homes.live }) s.live s.fold c.self.invariant.0 c.self.invariant.1 c.self.invariant.2
+    (no_step s.shape s.bytes.items s.step (subst (λ v. is_some v.job ≡ false) (sym c.self.view_is) c.in_ok-ready.ensures.idle)) c.reserve.ensures.items refl
+
 pub invariant_of-self-2 : goal.invariant_of-self-2
 invariant_of-self-2 g c =
     let s = c.self.inside in
@@ -65,7 +74,7 @@ invariant_of-self-2 g c =
     let payload : 4 + c.count.result * 4 + c.in-Some.records * c.width_of.result ≡ payload_len g.R.Record.form.width growths = ap (λ n. 4 + n * 4 + c.in-Some.records * c.width_of.result) c.count.ensures ∙ ap (λ n. 4 + length growths * 4 + n * c.width_of.result) counted ∙ ap (λ w. 4 + length growths * 4 + length (joined growths) * w) c.width_of.ensures.is in
     let short : s.tally.size + length (joined growths) ≤ 2 ^ 32 = subst (λ n. s.tally.size + n ≤ 2 ^ 32) counted c.if-self-records-gt-RECORD_LIMIT.false in
     let fits : payload_len g.R.Record.form.width growths ≤ limit_of s.shape.format = subst (λ n. n ≤ limit_of s.shape.format) payload (subst (λ n. 4 + c.count.result * 4 + c.in-Some.records * c.width_of.result ≤ n) c.payload_limit-limit.ensures.is c.if-payload-limit.false) in
-    let room = subst (λ n. s.gate + (6 + n) < 2 ^ 48) payload (not_full c.is_full.result s.gate (4 + c.count.result * 4 + c.in-Some.records * c.width_of.result) 0 (c.is_full.ensures ∙ ap (λ v. is_full v (4 + c.count.result * 4 + c.in-Some.records * c.width_of.result)) (sym c.self.view_is)) c.if-is_full.false) in
+    let room = subst (λ n. s.gate + (6 + n) < 2 ^ 48) payload (not_full c.is_full.result s.gate (4 + c.count.result * 4 + c.in-Some.records * c.width_of.result) (fold_len (fold_of s.fold)) (c.is_full.ensures ∙ ap (λ v. is_full v (4 + c.count.result * 4 + c.in-Some.records * c.width_of.result)) (sym c.self.view_is)) c.if-is_full.false) in
     let text = on_ok c.append_group.result (sym c.is_err-2.ensures.value ∙ c.if-is_err-2.false) c.append_group.ensures.text s.shape.format ∙ ap (λ bs. bs ++ frame_text s.shape.format (group_frame g.R.Record.form growths)) c.clear.ensures.items in
     let spelled : c.push.new.self.items ≡ frame_text s.shape.format (group_frame g.R.Record.form growths) ++ 0 ∷ [] = c.push.ensures.items ∙ pushed c.push.result (sym c.is_err-3.ensures.value ∙ c.if-is_err-3.false) c.append_group.new.file.items (c.append_group.new.file.items ++ 0 ∷ []) ∙ ap (λ bs. bs ++ 0 ∷ []) text in
     let after_it = ap (λ n. record { size = s.tally.size + n; changes = s.tally.changes; folded = s.tally.folded }) (counted ∙ sum-lengths growths) in (
@@ -78,6 +87,9 @@ invariant_of-self-2 g c =
           (subst (λ v. v.broken ≡ false) (sym c.self.view_is) c.in_ok-ready.ensures.whole) (no_step s.shape s.bytes.items s.step (subst (λ v. is_some v.job ≡ false) (sym c.self.view_is) c.in_ok-ready.ensures.idle)) (g.met.D.Disk.reads_an_image s.disk)
           spelled laws.width_in_range.0 width laws.width_of_bytes c.requires.some c.requires.each short fits room)
           c.count-2.result c.in-Some.records c.count-2.ensures counted {old = c.reserve.new.self.items} more c.reserve.ensures.items refl,
+      group_held (g.D.Disk.keeps s.disk) (g.D.Disk.states s.disk) s.shape s.gate s.tally s.bytes.items c.push.new.self.items s.step s.broken s.fold g.R.Record.form growths c.self.invariant.2
+          (no_step s.shape s.bytes.items s.step (subst (λ v. is_some v.job ≡ false) (sym c.self.view_is) c.in_ok-ready.ensures.idle)) spelled laws.width_of_bytes
+          (subst (λ n. s.gate + (6 + n) + fold_len (fold_of s.fold) < 2 ^ 48) payload (all_fits c.is_full.result s.gate (4 + c.count.result * 4 + c.in-Some.records * c.width_of.result) (fold_len (fold_of s.fold)) (c.is_full.ensures ∙ ap (λ v. is_full v (4 + c.count.result * 4 + c.in-Some.records * c.width_of.result)) (sym c.self.view_is)) c.if-is_full.false)),
     )
 
 pub returns-clause-begun : goal.returns-clause-begun
@@ -90,7 +102,7 @@ returns-clause-begun g c = rw (← c.self.view_is) (
     let payload : 4 + c.count.result * 4 + c.in-Some.records * c.width_of.result ≡ payload_len g.R.Record.form.width growths = ap (λ n. 4 + n * 4 + c.in-Some.records * c.width_of.result) c.count.ensures ∙ ap (λ n. 4 + length growths * 4 + n * c.width_of.result) counted ∙ ap (λ w. 4 + length growths * 4 + length (joined growths) * w) c.width_of.ensures.is in
     let short : s.tally.size + length (joined growths) ≤ 2 ^ 32 = subst (λ n. s.tally.size + n ≤ 2 ^ 32) counted c.if-self-records-gt-RECORD_LIMIT.false in
     let fits : payload_len g.R.Record.form.width growths ≤ limit_of s.shape.format = subst (λ n. n ≤ limit_of s.shape.format) payload (subst (λ n. 4 + c.count.result * 4 + c.in-Some.records * c.width_of.result ≤ n) c.payload_limit-limit.ensures.is c.if-payload-limit.false) in
-    let room = subst (λ n. s.gate + (6 + n) < 2 ^ 48) payload (not_full c.is_full.result s.gate (4 + c.count.result * 4 + c.in-Some.records * c.width_of.result) 0 (c.is_full.ensures ∙ ap (λ v. is_full v (4 + c.count.result * 4 + c.in-Some.records * c.width_of.result)) (sym c.self.view_is)) c.if-is_full.false) in
+    let room = subst (λ n. s.gate + (6 + n) < 2 ^ 48) payload (not_full c.is_full.result s.gate (4 + c.count.result * 4 + c.in-Some.records * c.width_of.result) (fold_len (fold_of s.fold)) (c.is_full.ensures ∙ ap (λ v. is_full v (4 + c.count.result * 4 + c.in-Some.records * c.width_of.result)) (sym c.self.view_is)) c.if-is_full.false) in
     let text = on_ok c.append_group.result (sym c.is_err-2.ensures.value ∙ c.if-is_err-2.false) c.append_group.ensures.text s.shape.format ∙ ap (λ bs. bs ++ frame_text s.shape.format (group_frame g.R.Record.form growths)) c.clear.ensures.items in
     let spelled : c.push.new.self.items ≡ frame_text s.shape.format (group_frame g.R.Record.form growths) ++ 0 ∷ [] = c.push.ensures.items ∙ pushed c.push.result (sym c.is_err-3.ensures.value ∙ c.if-is_err-3.false) c.append_group.new.file.items (c.append_group.new.file.items ++ 0 ∷ []) ∙ ap (λ bs. bs ++ 0 ∷ []) text in
     let frame = group_at (g.D.Disk.keeps s.disk) (g.D.Disk.states s.disk) s.shape s.gate s.tally s.next s.bytes.items c.push.new.self.items s.step s.broken g.R.Record.form growths c.self.invariant.0
@@ -108,7 +120,7 @@ returns-clause-next g c = rw (← c.self.view_is) (
     let payload : 4 + c.count.result * 4 + c.in-Some.records * c.width_of.result ≡ payload_len g.R.Record.form.width growths = ap (λ n. 4 + n * 4 + c.in-Some.records * c.width_of.result) c.count.ensures ∙ ap (λ n. 4 + length growths * 4 + n * c.width_of.result) counted ∙ ap (λ w. 4 + length growths * 4 + length (joined growths) * w) c.width_of.ensures.is in
     let short : s.tally.size + length (joined growths) ≤ 2 ^ 32 = subst (λ n. s.tally.size + n ≤ 2 ^ 32) counted c.if-self-records-gt-RECORD_LIMIT.false in
     let fits : payload_len g.R.Record.form.width growths ≤ limit_of s.shape.format = subst (λ n. n ≤ limit_of s.shape.format) payload (subst (λ n. 4 + c.count.result * 4 + c.in-Some.records * c.width_of.result ≤ n) c.payload_limit-limit.ensures.is c.if-payload-limit.false) in
-    let room = subst (λ n. s.gate + (6 + n) < 2 ^ 48) payload (not_full c.is_full.result s.gate (4 + c.count.result * 4 + c.in-Some.records * c.width_of.result) 0 (c.is_full.ensures ∙ ap (λ v. is_full v (4 + c.count.result * 4 + c.in-Some.records * c.width_of.result)) (sym c.self.view_is)) c.if-is_full.false) in
+    let room = subst (λ n. s.gate + (6 + n) < 2 ^ 48) payload (not_full c.is_full.result s.gate (4 + c.count.result * 4 + c.in-Some.records * c.width_of.result) (fold_len (fold_of s.fold)) (c.is_full.ensures ∙ ap (λ v. is_full v (4 + c.count.result * 4 + c.in-Some.records * c.width_of.result)) (sym c.self.view_is)) c.if-is_full.false) in
     let text = on_ok c.append_group.result (sym c.is_err-2.ensures.value ∙ c.if-is_err-2.false) c.append_group.ensures.text s.shape.format ∙ ap (λ bs. bs ++ frame_text s.shape.format (group_frame g.R.Record.form growths)) c.clear.ensures.items in
     let spelled : c.push.new.self.items ≡ frame_text s.shape.format (group_frame g.R.Record.form growths) ++ 0 ∷ [] = c.push.ensures.items ∙ pushed c.push.result (sym c.is_err-3.ensures.value ∙ c.if-is_err-3.false) c.append_group.new.file.items (c.append_group.new.file.items ++ 0 ∷ []) ∙ ap (λ bs. bs ++ 0 ∷ []) text in
     λ records read. group_tells (g.D.Disk.keeps s.disk) (g.D.Disk.states s.disk) s.shape s.gate s.tally s.next s.bytes.items c.push.new.self.items s.step s.broken g.R.Record.form growths c.self.invariant.0

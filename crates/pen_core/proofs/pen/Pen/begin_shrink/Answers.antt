@@ -1,6 +1,6 @@
 use Rattle.std.proofs.Common.{◌≡◌, Result, Ok, Err, OnOk, false, Some, refl, sym, ap, subst, ◌∙◌}
 use Rattle.std.specs.Option.{is_some}
-use Rattle.pen_core.specs.Refusals.{is_full}
+use Rattle.pen_core.specs.Refusals.{is_full, fold_len}
 use Rattle.std.specs.Result.{is_err}
 use Rattle.std.proofs.lemmas.List.{append-nil}
 use Rattle.segment_core.specs.Frame.{Shrink}
@@ -8,8 +8,10 @@ use Rattle.segment_core.specs.Raw.{after_frame}
 use Rattle.segment_core.specs.Parsed.{vector_before}
 use Rattle.disk_core.specs.Calls.{bytes_of}
 use Rattle.pen_core.specs.declared.step.Step.TheVariants.{Body}
-use Rattle.pen_core.proofs.Begins.{no_step, not_full, shrink_framed, shrink_follows}
+use Rattle.pen_core.proofs.Begins.{no_step, all_fits, not_full, shrink_framed, shrink_follows}
 use Rattle.pen_core.proofs.Begun.{begun, begun_frame}
+use Rattle.pen_core.specs.InHand.{fold_of}
+use Rattle.pen_core.proofs.InHand.{fold_begun}
 use Rattle.pen_core.proofs.Listed.{listed_begun}
 use Rattle.pen_core.proofs.pen.Pen.begin_shrink.Goals as goal
 
@@ -25,15 +27,19 @@ invariant_of-self-2 g c =
           (subst (λ v. v.broken ≡ false) (sym c.self.view_is) c.in_ok-ready.ensures.whole) (no_step s.shape s.bytes.items s.step (subst (λ v. is_some v.job ≡ false) (sym c.self.view_is) c.in_ok-ready.ensures.idle)) (g.met.D.Disk.reads_an_image s.disk)
           (on_ok c.put_shrink.result (sym c.is_err.ensures.value ∙ c.if-is_err.false) c.put_shrink.ensures.text s.shape.format)
           (shrink_framed s.shape n c.self.invariant.0.wide.0 c.ranges.n.fits) (shrink_follows s.tally n c.if-n-self.false c.if-self.false) refl (λ count. λ is. absurd cc)
-          (not_full c.is_full.result s.gate 8 0 (c.is_full.ensures ∙ ap (λ v. is_full v 8) (sym c.self.view_is)) c.if-is_full.false),
+          (not_full c.is_full.result s.gate 8 (fold_len (fold_of s.fold)) (c.is_full.ensures ∙ ap (λ v. is_full v 8) (sym c.self.view_is)) c.if-is_full.false),
       listed_begun (g.D.Disk.keeps s.disk) (g.D.Disk.states s.disk) s.shape s.gate s.tally s.bytes.items s.step s.homes s.live c.self.invariant.1 (no_step s.shape s.bytes.items s.step (subst (λ v. is_some v.job ≡ false) (sym c.self.view_is) c.in_ok-ready.ensures.idle))
           c.put_shrink.new.bytes.items s.homes (Shrink n) Body
           (begun_frame (g.D.Disk.keeps s.disk) (g.D.Disk.states s.disk) s.shape s.gate s.tally s.next (record { size = n; changes = s.tally.changes; folded = s.tally.folded }) s.bytes.items c.put_shrink.new.bytes.items s.step s.broken (Shrink n) c.self.invariant.0
           (subst (λ v. v.broken ≡ false) (sym c.self.view_is) c.in_ok-ready.ensures.whole) (no_step s.shape s.bytes.items s.step (subst (λ v. is_some v.job ≡ false) (sym c.self.view_is) c.in_ok-ready.ensures.idle)) (g.met.D.Disk.reads_an_image s.disk)
           (on_ok c.put_shrink.result (sym c.is_err.ensures.value ∙ c.if-is_err.false) c.put_shrink.ensures.text s.shape.format)
           (shrink_framed s.shape n c.self.invariant.0.wide.0 c.ranges.n.fits) (shrink_follows s.tally n c.if-n-self.false c.if-self.false) refl (λ count. λ is. absurd cc)
-          (not_full c.is_full.result s.gate 8 0 (c.is_full.ensures ∙ ap (λ v. is_full v 8) (sym c.self.view_is)) c.if-is_full.false))
+          (not_full c.is_full.result s.gate 8 (fold_len (fold_of s.fold)) (c.is_full.ensures ∙ ap (λ v. is_full v 8) (sym c.self.view_is)) c.if-is_full.false))
           (λ count. λ is. absurd cc) (sym (append-nil s.homes.homes.items)) (sym (append-nil s.homes.live.items)),
+      fold_begun (g.D.Disk.keeps s.disk) (g.D.Disk.states s.disk) s.shape s.gate s.tally s.bytes.items c.put_shrink.new.bytes.items s.step s.broken s.fold (Shrink n) Body c.self.invariant.2
+          (no_step s.shape s.bytes.items s.step (subst (λ v. is_some v.job ≡ false) (sym c.self.view_is) c.in_ok-ready.ensures.idle))
+          (on_ok c.put_shrink.result (sym c.is_err.ensures.value ∙ c.if-is_err.false) c.put_shrink.ensures.text s.shape.format)
+          (all_fits c.is_full.result s.gate 8 (fold_len (fold_of s.fold)) (c.is_full.ensures ∙ ap (λ v. is_full v 8) (sym c.self.view_is)) c.if-is_full.false),
     )
 
 pub returns-clause-begun : goal.returns-clause-begun
@@ -44,7 +50,7 @@ returns-clause-begun g c = rw (← c.self.view_is) (
     (subst (λ v. v.broken ≡ false) (sym c.self.view_is) c.in_ok-ready.ensures.whole) (no_step s.shape s.bytes.items s.step (subst (λ v. is_some v.job ≡ false) (sym c.self.view_is) c.in_ok-ready.ensures.idle)) (g.met.D.Disk.reads_an_image s.disk)
     (on_ok c.put_shrink.result (sym c.is_err.ensures.value ∙ c.if-is_err.false) c.put_shrink.ensures.text s.shape.format)
     (shrink_framed s.shape n c.self.invariant.0.wide.0 c.ranges.n.fits) (shrink_follows s.tally n c.if-n-self.false c.if-self.false) refl (λ count. λ is. absurd cc)
-    (not_full c.is_full.result s.gate 8 0 (c.is_full.ensures ∙ ap (λ v. is_full v 8) (sym c.self.view_is)) c.if-is_full.false) in
+    (not_full c.is_full.result s.gate 8 (fold_len (fold_of s.fold)) (c.is_full.ensures ∙ ap (λ v. is_full v 8) (sym c.self.view_is)) c.if-is_full.false) in
     record { job_is = ap (λ f. Some (record { frame = f; step = Body })) frame; disk_same = refl; file_same = record { frames_same = refl; vector_same = refl }; broken_same = refl; shape_same = refl; fold_same = refl; tally_same = refl; gate_same = refl })
 
 pub returns-clause-vector : goal.returns-clause-vector
@@ -55,5 +61,5 @@ returns-clause-vector g c = rw (← c.self.view_is) (
     (subst (λ v. v.broken ≡ false) (sym c.self.view_is) c.in_ok-ready.ensures.whole) (no_step s.shape s.bytes.items s.step (subst (λ v. is_some v.job ≡ false) (sym c.self.view_is) c.in_ok-ready.ensures.idle)) (g.met.D.Disk.reads_an_image s.disk)
     (on_ok c.put_shrink.result (sym c.is_err.ensures.value ∙ c.if-is_err.false) c.put_shrink.ensures.text s.shape.format)
     (shrink_framed s.shape n c.self.invariant.0.wide.0 c.ranges.n.fits) (shrink_follows s.tally n c.if-n-self.false c.if-self.false) refl (λ count. λ is. absurd cc)
-    (not_full c.is_full.result s.gate 8 0 (c.is_full.ensures ∙ ap (λ v. is_full v 8) (sym c.self.view_is)) c.if-is_full.false) in
+    (not_full c.is_full.result s.gate 8 (fold_len (fold_of s.fold)) (c.is_full.ensures ∙ ap (λ v. is_full v 8) (sym c.self.view_is)) c.if-is_full.false) in
     ap (λ f. after_frame s.shape.width (vector_before s.shape s.gate (bytes_of (g.D.Disk.states s.disk))) f) frame)

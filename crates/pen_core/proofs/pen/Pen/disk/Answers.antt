@@ -5,4 +5,4 @@ use Rattle.pen_core.proofs.pen.Pen.disk.Goals as goal
 pub returns-clause-kept : goal.returns-clause-kept
 returns-clause-kept g c = rw (← c.self.view_is) (
     let s = c.self.inside in
-    λ model. pen_kept (g.D.Disk.keeps s.disk) (g.D.Disk.states s.disk) s.shape s.gate s.tally s.next s.bytes.items s.step s.broken c.self.invariant.0 model s.disk (vec_capacity s.bytes))
+    λ model. pen_kept s.fold (g.D.Disk.keeps s.disk) (g.D.Disk.states s.disk) s.shape s.gate s.tally s.next s.bytes.items s.step s.broken c.self.invariant.0 model s.disk (vec_capacity s.bytes))

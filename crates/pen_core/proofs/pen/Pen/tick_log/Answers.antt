@@ -1,21 +1,15 @@
 -- Each answer is one lemma on the pen's fields.
-use Rattle.std.proofs.Common.{◌≡◌, ◌+◌, ◌-◌, true, Some, None, inr, refl, sym, ap, ◌∙◌}
+use Rattle.std.proofs.Common.{◌+◌, ◌-◌, true, Some, None, inr, refl, sym, ap, ◌∙◌}
 use Rattle.std.specs.Prelude.{vec_len, vec_capacity}
-use Rattle.segment_core.specs.Frame.{Frame, Group, Change, Shrink, Fold}
-use Rattle.pen_core.specs.Pen.{fold_behind}
 use Rattle.pen_core.specs.declared.fault.PenFault.TheVariants.{Disk}
 use Rattle.pen_core.specs.Vectors.{frame_at}
 use Rattle.pen_core.specs.Inside.{job_of}
-use Rattle.pen_core.specs.Listed.{frame_in_hand}
-use Rattle.pen_core.proofs.Whole.{pen_kept, whole_idle, last_step, whole_counts, whole_leaves, whole_broken, whole_same, whole_next, whole_stays, gate_moved, more_frames, vector_then, whole_done}
-use Rattle.pen_core.proofs.Listed.{listed_stays, homes_in_turn, listed_done}
+use Rattle.pen_core.specs.InHand.{frame_in_hand, live_after}
+use Rattle.pen_core.proofs.Whole.{pen_kept, whole_idle, last_step, whole_counts, whole_leaves, whole_broken, whole_same, whole_next, whole_stays, legal_now, bytes_alike, gate_moved, more_frames, vector_then}
+use Rattle.pen_core.proofs.InHand.{fold_stays, fold_broken}
+use Rattle.pen_core.proofs.LastTick.{pen_last, listed_last, fold_last, fold_seen, other_unfiled}
+use Rattle.pen_core.proofs.Listed.{listed_stays, homes_in_turn}
 use Rattle.pen_core.proofs.pen.Pen.tick_log.Goals as goal
-
-none_behind : (frame : Frame) → None ≡ fold_behind frame None
-none_behind (Group lengths bytes) = refl
-none_behind (Change runs bytes) = refl
-none_behind (Shrink n) = refl
-none_behind (Fold count) = refl
 
 pub returns-then-self-clause-images : goal.returns-then-self-clause-images
 returns-then-self-clause-images g c = rw (← c.self.view_is) (
@@ -25,7 +19,7 @@ returns-then-self-clause-images g c = rw (← c.self.view_is) (
 pub returns-then-self-clause-kept : goal.returns-then-self-clause-kept
 returns-then-self-clause-kept g c = rw (← c.self.view_is) (
     let s = c.self.inside in
-    λ model. pen_kept (g.D.Disk.keeps s.disk) (g.D.Disk.states s.disk) s.shape s.gate s.tally s.next s.bytes.items s.step s.broken c.self.invariant.0 model s.disk (vec_capacity s.bytes))
+    λ model. pen_kept s.fold (g.D.Disk.keeps s.disk) (g.D.Disk.states s.disk) s.shape s.gate s.tally s.next s.bytes.items s.step s.broken c.self.invariant.0 model s.disk (vec_capacity s.bytes))
 
 pub returns-in_default-clause-images : goal.returns-in_default-clause-images
 returns-in_default-clause-images g c = rw (← c.self.view_is) (
@@ -35,7 +29,7 @@ returns-in_default-clause-images g c = rw (← c.self.view_is) (
 pub returns-in_default-clause-kept : goal.returns-in_default-clause-kept
 returns-in_default-clause-kept g c = rw (← c.self.view_is) (
     let s = c.self.inside in
-    λ model. pen_kept (g.D.Disk.keeps s.disk) (g.D.Disk.states s.disk) s.shape s.gate s.tally s.next s.bytes.items s.step s.broken c.self.invariant.0 model s.disk (vec_capacity s.bytes))
+    λ model. pen_kept s.fold (g.D.Disk.keeps s.disk) (g.D.Disk.states s.disk) s.shape s.gate s.tally s.next s.bytes.items s.step s.broken c.self.invariant.0 model s.disk (vec_capacity s.bytes))
 
 pub invariant_of-self : goal.invariant_of-self
 invariant_of-self g c =
@@ -46,6 +40,7 @@ invariant_of-self g c =
       listed_stays (g.D.Disk.keeps s.disk) (g.D.Disk.states s.disk) s.shape s.gate s.tally s.bytes.items s.step s.homes s.live c.self.invariant.1
           (g.D.Disk.keeps new) (g.D.Disk.states new) s.step refl c.call.ensures.model (λ model. whole_same (g.D.Disk.keeps s.disk) (g.D.Disk.keeps new) (g.D.Disk.states s.disk) (g.D.Disk.states new) s.shape s.gate s.tally s.next s.bytes.items c.deref.result.now s.step s.broken c.in-Some.step c.self.invariant.0
           c.if-self.false c.in-Some.is c.deref.ensures.value c.call.ensures.model (g.met.D.Disk.reads_an_image s.disk) (g.met.D.Disk.reads_an_image new) model (c.in-Err.ensures.failed model)),
+      fold_broken (g.D.Disk.keeps s.disk) (g.D.Disk.keeps new) (g.D.Disk.states s.disk) (g.D.Disk.states new) s.shape s.gate s.tally s.bytes.items s.step s.broken s.fold c.self.invariant.2 c.call.ensures.model,
     )
 
 pub returns-in-Err-clause-images : goal.returns-in-Err-clause-images
@@ -59,7 +54,7 @@ pub returns-in-Err-clause-kept : goal.returns-in-Err-clause-kept
 returns-in-Err-clause-kept g c =
     let s = c.self.inside in
     let new = c.call.new.disk in
-    λ model. pen_kept (g.D.Disk.keeps new) (g.D.Disk.states new) s.shape s.gate s.tally s.next s.bytes.items s.step true
+    λ model. pen_kept s.fold (g.D.Disk.keeps new) (g.D.Disk.states new) s.shape s.gate s.tally s.next s.bytes.items s.step true
     (whole_broken (g.D.Disk.keeps s.disk) (g.D.Disk.keeps new) (g.D.Disk.states s.disk) (g.D.Disk.states new) s.shape s.gate s.tally s.next s.bytes.items c.deref.result.now s.step s.broken c.in-Some.step c.self.invariant.0
     c.if-self.false c.in-Some.is c.deref.ensures.value c.call.ensures.model (g.met.D.Disk.reads_an_image s.disk) (g.met.D.Disk.reads_an_image new) c.in-Err.ensures.failed) model new (vec_capacity s.bytes)
 
@@ -92,6 +87,9 @@ invariant_of-self-in-Some-next g c =
           (g.D.Disk.keeps new) (g.D.Disk.states new) (Some c.in-Some-next.behind) (sym (ap (frame_in_hand s.shape s.bytes.items) c.in-Some.is)) c.call.ensures.model
           (whole_stays (g.D.Disk.keeps s.disk) (g.D.Disk.keeps new) (g.D.Disk.states s.disk) (g.D.Disk.states new) s.shape s.gate s.tally s.next s.bytes.items c.deref.result.now s.step s.broken c.in-Some.step c.self.invariant.0
           c.if-self.false c.in-Some.is c.deref.ensures.value c.call.ensures.model (g.met.D.Disk.reads_an_image s.disk) (g.met.D.Disk.reads_an_image new) c.in_default-call.ensures.done c.in-Some-next.behind (sym c.next.ensures ∙ c.in-Some-next.is)),
+      fold_stays (g.D.Disk.keeps s.disk) (g.D.Disk.keeps new) (g.D.Disk.states s.disk) (g.D.Disk.states new) s.shape s.gate s.tally s.bytes.items s.step s.broken s.fold c.self.invariant.2 c.call.ensures.model c.in-Some.step c.in-Some-next.behind c.in-Some.is
+          (λ model. legal_now (g.D.Disk.keeps s.disk) (g.D.Disk.keeps new) (g.D.Disk.states s.disk) (g.D.Disk.states new) s.shape s.gate s.tally s.next s.bytes.items c.deref.result.now s.step s.broken c.in-Some.step c.self.invariant.0 c.if-self.false c.in-Some.is c.deref.ensures.value c.call.ensures.model (g.met.D.Disk.reads_an_image s.disk) (g.met.D.Disk.reads_an_image new) (c.call.ensures.model model)) (λ model. bytes_alike (g.D.Disk.keeps s.disk) (g.D.Disk.keeps new) (g.D.Disk.states s.disk) (g.D.Disk.states new) s.shape s.gate s.tally s.next s.bytes.items c.deref.result.now s.step s.broken c.in-Some.step c.self.invariant.0 c.if-self.false c.in-Some.is c.deref.ensures.value c.call.ensures.model (g.met.D.Disk.reads_an_image s.disk) (g.met.D.Disk.reads_an_image new) c.in_default-call.ensures.done model)
+          (λ model. (whole_stays (g.D.Disk.keeps s.disk) (g.D.Disk.keeps new) (g.D.Disk.states s.disk) (g.D.Disk.states new) s.shape s.gate s.tally s.next s.bytes.items c.deref.result.now s.step s.broken c.in-Some.step c.self.invariant.0 c.if-self.false c.in-Some.is c.deref.ensures.value c.call.ensures.model (g.met.D.Disk.reads_an_image s.disk) (g.met.D.Disk.reads_an_image new) c.in_default-call.ensures.done c.in-Some-next.behind (sym c.next.ensures ∙ c.in-Some-next.is) model).frames_same) (λ model. (whole_stays (g.D.Disk.keeps s.disk) (g.D.Disk.keeps new) (g.D.Disk.states s.disk) (g.D.Disk.states new) s.shape s.gate s.tally s.next s.bytes.items c.deref.result.now s.step s.broken c.in-Some.step c.self.invariant.0 c.if-self.false c.in-Some.is c.deref.ensures.value c.call.ensures.model (g.met.D.Disk.reads_an_image s.disk) (g.met.D.Disk.reads_an_image new) c.in_default-call.ensures.done c.in-Some-next.behind (sym c.next.ensures ∙ c.in-Some-next.is) model).vector_same),
     )
 
 pub returns-in-Some-next-clause-images : goal.returns-in-Some-next-clause-images
@@ -105,7 +103,7 @@ pub returns-in-Some-next-clause-kept : goal.returns-in-Some-next-clause-kept
 returns-in-Some-next-clause-kept g c =
     let s = c.self.inside in
     let new = c.call.new.disk in
-    λ model. pen_kept (g.D.Disk.keeps new) (g.D.Disk.states new) s.shape s.gate s.tally s.next s.bytes.items (Some c.in-Some-next.behind) s.broken
+    λ model. pen_kept s.fold (g.D.Disk.keeps new) (g.D.Disk.states new) s.shape s.gate s.tally s.next s.bytes.items (Some c.in-Some-next.behind) s.broken
     (whole_next (g.D.Disk.keeps s.disk) (g.D.Disk.keeps new) (g.D.Disk.states s.disk) (g.D.Disk.states new) s.shape s.gate s.tally s.next s.bytes.items c.deref.result.now s.step s.broken c.in-Some.step c.self.invariant.0
     c.if-self.false c.in-Some.is c.deref.ensures.value c.call.ensures.model (g.met.D.Disk.reads_an_image s.disk) (g.met.D.Disk.reads_an_image new) c.in_default-call.ensures.done c.in-Some-next.behind (sym c.next.ensures ∙ c.in-Some-next.is)) model new (vec_capacity s.bytes)
 
@@ -134,15 +132,9 @@ pub invariant_of-self-in-None : goal.invariant_of-self-in-None
 invariant_of-self-in-None g c =
     let s = c.self.inside in
     let new = c.call.new.disk in (
-      whole_done (g.D.Disk.keeps s.disk) (g.D.Disk.keeps new) (g.D.Disk.states s.disk) (g.D.Disk.states new) s.shape s.gate s.tally s.next s.bytes.items c.deref.result.now s.step s.broken c.in-Some.step c.self.invariant.0
-          c.if-self.false c.in-Some.is c.deref.ensures.value c.call.ensures.model (g.met.D.Disk.reads_an_image s.disk) (g.met.D.Disk.reads_an_image new) c.in_default-call.ensures.done (s.gate + (c.len.result - 1)) (ap (λ n. s.gate + (n - 1)) (c.len.ensures ∙ sym c.deref.ensures.len)) (sym c.next.ensures ∙ c.in-None.is),
-      listed_done (g.D.Disk.keeps s.disk) (g.D.Disk.states s.disk) s.shape s.gate s.tally s.bytes.items s.step s.homes s.live c.self.invariant.1 c.in-Some.step c.in-Some.is s.next c.self.invariant.0.job
-          (g.D.Disk.keeps new) (g.D.Disk.states new) (s.gate + (c.len.result - 1)) (record { homes = c.cut.new.self.homes; live = c.cut.new.self.live }) c.len-self-inside.result c.self.invariant.0.folded_counted
-          (gate_moved (g.D.Disk.keeps s.disk) (g.D.Disk.keeps new) (g.D.Disk.states s.disk) (g.D.Disk.states new) s.shape s.gate s.tally s.next s.bytes.items c.deref.result.now s.step s.broken c.in-Some.step c.self.invariant.0
-          c.if-self.false c.in-Some.is c.deref.ensures.value c.call.ensures.model (g.met.D.Disk.reads_an_image s.disk) (g.met.D.Disk.reads_an_image new) c.in_default-call.ensures.done (s.gate + (c.len.result - 1)) (ap (λ n. s.gate + (n - 1)) (c.len.ensures ∙ sym c.deref.ensures.len)) (sym c.next.ensures ∙ c.in-None.is))
-          c.call.ensures.model (more_frames (g.D.Disk.keeps s.disk) (g.D.Disk.keeps new) (g.D.Disk.states s.disk) (g.D.Disk.states new) s.shape s.gate s.tally s.next s.bytes.items c.deref.result.now s.step s.broken c.in-Some.step c.self.invariant.0
-          c.if-self.false c.in-Some.is c.deref.ensures.value c.call.ensures.model (g.met.D.Disk.reads_an_image s.disk) (g.met.D.Disk.reads_an_image new) c.in_default-call.ensures.done (s.gate + (c.len.result - 1)) (ap (λ n. s.gate + (n - 1)) (c.len.ensures ∙ sym c.deref.ensures.len)) (sym c.next.ensures ∙ c.in-None.is))
-          c.cut.ensures.in_turn c.cut.ensures.each c.cut.ensures.live (c.len-self-inside.ensures ∙ c.cut.new.self.live.ok.0),
+      pen_last (g.D.Disk.keeps s.disk) (g.D.Disk.keeps new) (g.D.Disk.states s.disk) (g.D.Disk.states new) s.shape s.gate s.tally s.next s.bytes.items c.deref.result.now c.end.new.bytes.items s.step s.broken c.in-Some.step s.homes (record { homes = c.cut.new.self.homes; live = c.end.new.live }) s.live c.len-self-inside.result s.fold c.end.new.self c.self.invariant.0 c.self.invariant.1 c.self.invariant.2 c.if-self.false c.in-Some.is c.deref.ensures.value c.call.ensures.model (g.met.D.Disk.reads_an_image s.disk) (g.met.D.Disk.reads_an_image new) c.in_default-call.ensures.done (s.gate + (c.len.result - 1)) (ap (λ n. s.gate + (n - 1)) (c.len.ensures ∙ sym c.deref.ensures.len)) (sym c.next.ensures ∙ c.in-None.is) c.cut.ensures.in_turn c.cut.ensures.each (c.len-self-inside.ensures ∙ c.end.new.live.ok.0) c.end.ensures.stage (c.end.ensures.live ∙ ap (λ live. live_after s.fold.stage s.fold.runs live.items) c.cut.ensures.live) (λ unfiled. (c.end.ensures.same unfiled).0),
+      listed_last (g.D.Disk.keeps s.disk) (g.D.Disk.keeps new) (g.D.Disk.states s.disk) (g.D.Disk.states new) s.shape s.gate s.tally s.next s.bytes.items c.deref.result.now c.end.new.bytes.items s.step s.broken c.in-Some.step s.homes (record { homes = c.cut.new.self.homes; live = c.end.new.live }) s.live c.len-self-inside.result s.fold c.end.new.self c.self.invariant.0 c.self.invariant.1 c.self.invariant.2 c.if-self.false c.in-Some.is c.deref.ensures.value c.call.ensures.model (g.met.D.Disk.reads_an_image s.disk) (g.met.D.Disk.reads_an_image new) c.in_default-call.ensures.done (s.gate + (c.len.result - 1)) (ap (λ n. s.gate + (n - 1)) (c.len.ensures ∙ sym c.deref.ensures.len)) (sym c.next.ensures ∙ c.in-None.is) c.cut.ensures.in_turn c.cut.ensures.each (c.len-self-inside.ensures ∙ c.end.new.live.ok.0) c.end.ensures.stage (c.end.ensures.live ∙ ap (λ live. live_after s.fold.stage s.fold.runs live.items) c.cut.ensures.live) (λ unfiled. (c.end.ensures.same unfiled).0),
+      fold_last (g.D.Disk.keeps s.disk) (g.D.Disk.keeps new) (g.D.Disk.states s.disk) (g.D.Disk.states new) s.shape s.gate s.tally s.next s.bytes.items c.deref.result.now c.end.new.bytes.items s.step s.broken c.in-Some.step s.homes (record { homes = c.cut.new.self.homes; live = c.end.new.live }) s.live c.len-self-inside.result s.fold c.end.new.self c.self.invariant.0 c.self.invariant.1 c.self.invariant.2 c.if-self.false c.in-Some.is c.deref.ensures.value c.call.ensures.model (g.met.D.Disk.reads_an_image s.disk) (g.met.D.Disk.reads_an_image new) c.in_default-call.ensures.done (s.gate + (c.len.result - 1)) (ap (λ n. s.gate + (n - 1)) (c.len.ensures ∙ sym c.deref.ensures.len)) (sym c.next.ensures ∙ c.in-None.is) c.cut.ensures.in_turn c.cut.ensures.each (c.len-self-inside.ensures ∙ c.end.new.live.ok.0) c.end.ensures.stage (c.end.ensures.live ∙ ap (λ live. live_after s.fold.stage s.fold.runs live.items) c.cut.ensures.live) (λ unfiled. (c.end.ensures.same unfiled).0),
     )
 
 pub returns-in-None-clause-images : goal.returns-in-None-clause-images
@@ -156,9 +148,8 @@ pub returns-in-None-clause-kept : goal.returns-in-None-clause-kept
 returns-in-None-clause-kept g c =
     let s = c.self.inside in
     let new = c.call.new.disk in
-    λ model. pen_kept (g.D.Disk.keeps new) (g.D.Disk.states new) s.shape (s.gate + (c.len.result - 1)) s.next s.next s.bytes.items None s.broken
-    (whole_done (g.D.Disk.keeps s.disk) (g.D.Disk.keeps new) (g.D.Disk.states s.disk) (g.D.Disk.states new) s.shape s.gate s.tally s.next s.bytes.items c.deref.result.now s.step s.broken c.in-Some.step c.self.invariant.0
-    c.if-self.false c.in-Some.is c.deref.ensures.value c.call.ensures.model (g.met.D.Disk.reads_an_image s.disk) (g.met.D.Disk.reads_an_image new) c.in_default-call.ensures.done (s.gate + (c.len.result - 1)) (ap (λ n. s.gate + (n - 1)) (c.len.ensures ∙ sym c.deref.ensures.len)) (sym c.next.ensures ∙ c.in-None.is)) model new (vec_capacity s.bytes)
+    λ model. pen_kept c.end.new.self (g.D.Disk.keeps new) (g.D.Disk.states new) s.shape (s.gate + (c.len.result - 1)) s.next s.next c.end.new.bytes.items None s.broken
+    (pen_last (g.D.Disk.keeps s.disk) (g.D.Disk.keeps new) (g.D.Disk.states s.disk) (g.D.Disk.states new) s.shape s.gate s.tally s.next s.bytes.items c.deref.result.now c.end.new.bytes.items s.step s.broken c.in-Some.step s.homes (record { homes = c.cut.new.self.homes; live = c.end.new.live }) s.live c.len-self-inside.result s.fold c.end.new.self c.self.invariant.0 c.self.invariant.1 c.self.invariant.2 c.if-self.false c.in-Some.is c.deref.ensures.value c.call.ensures.model (g.met.D.Disk.reads_an_image s.disk) (g.met.D.Disk.reads_an_image new) c.in_default-call.ensures.done (s.gate + (c.len.result - 1)) (ap (λ n. s.gate + (n - 1)) (c.len.ensures ∙ sym c.deref.ensures.len)) (sym c.next.ensures ∙ c.in-None.is) c.cut.ensures.in_turn c.cut.ensures.each (c.len-self-inside.ensures ∙ c.end.new.live.ok.0) c.end.ensures.stage (c.end.ensures.live ∙ ap (λ live. live_after s.fold.stage s.fold.runs live.items) c.cut.ensures.live) (λ unfiled. (c.end.ensures.same unfiled).0)) model new (vec_capacity c.end.new.bytes)
 
 pub returns-in-None-clause-ticked : goal.returns-in-None-clause-ticked
 returns-in-None-clause-ticked g c = rw (← c.self.view_is) (
@@ -169,13 +160,13 @@ returns-in-None-clause-ticked g c = rw (← c.self.view_is) (
       last_step c.in-Some.step (sym c.next.ensures ∙ c.in-None.is),
       record {
         shape_same = refl;
-        fold_is = none_behind (frame_at s.shape s.bytes.items);
+        fold_is = fold_seen (g.D.Disk.keeps s.disk) (g.D.Disk.keeps new) (g.D.Disk.states s.disk) (g.D.Disk.states new) s.shape s.gate s.tally s.next s.bytes.items c.deref.result.now c.end.new.bytes.items s.step s.broken c.in-Some.step s.homes (record { homes = c.cut.new.self.homes; live = c.end.new.live }) s.live c.len-self-inside.result s.fold c.end.new.self c.self.invariant.0 c.self.invariant.1 c.self.invariant.2 c.if-self.false c.in-Some.is c.deref.ensures.value c.call.ensures.model (g.met.D.Disk.reads_an_image s.disk) (g.met.D.Disk.reads_an_image new) c.in_default-call.ensures.done (s.gate + (c.len.result - 1)) (ap (λ n. s.gate + (n - 1)) (c.len.ensures ∙ sym c.deref.ensures.len)) (sym c.next.ensures ∙ c.in-None.is) c.cut.ensures.in_turn c.cut.ensures.each (c.len-self-inside.ensures ∙ c.end.new.live.ok.0) c.end.ensures.stage (c.end.ensures.live ∙ ap (λ live. live_after s.fold.stage s.fold.runs live.items) c.cut.ensures.live) (λ unfiled. (c.end.ensures.same unfiled).0);
         tally_is = whole_counts (g.D.Disk.keeps s.disk) (g.D.Disk.keeps new) (g.D.Disk.states s.disk) (g.D.Disk.states new) s.shape s.gate s.tally s.next s.bytes.items c.deref.result.now s.step s.broken c.in-Some.step c.self.invariant.0
             c.if-self.false c.in-Some.is c.deref.ensures.value c.call.ensures.model (g.met.D.Disk.reads_an_image s.disk) (g.met.D.Disk.reads_an_image new);
         gate_is = gate_moved (g.D.Disk.keeps s.disk) (g.D.Disk.keeps new) (g.D.Disk.states s.disk) (g.D.Disk.states new) s.shape s.gate s.tally s.next s.bytes.items c.deref.result.now s.step s.broken c.in-Some.step c.self.invariant.0
             c.if-self.false c.in-Some.is c.deref.ensures.value c.call.ensures.model (g.met.D.Disk.reads_an_image s.disk) (g.met.D.Disk.reads_an_image new) c.in_default-call.ensures.done (s.gate + (c.len.result - 1)) (ap (λ n. s.gate + (n - 1)) (c.len.ensures ∙ sym c.deref.ensures.len)) (sym c.next.ensures ∙ c.in-None.is);
-        room_same = refl;
-        places_same = ap (λ live. vec_capacity live - vec_len live) c.cut.ensures.live;
+        room_same = λ other. ap (λ bytes. vec_capacity bytes) (c.end.ensures.same (other_unfiled (g.D.Disk.keeps s.disk) (g.D.Disk.keeps new) (g.D.Disk.states s.disk) (g.D.Disk.states new) s.shape s.gate s.tally s.next s.bytes.items c.deref.result.now c.end.new.bytes.items s.step s.broken c.in-Some.step s.homes (record { homes = c.cut.new.self.homes; live = c.end.new.live }) s.live c.len-self-inside.result s.fold c.end.new.self c.self.invariant.0 c.self.invariant.1 c.self.invariant.2 c.if-self.false c.in-Some.is c.deref.ensures.value c.call.ensures.model (g.met.D.Disk.reads_an_image s.disk) (g.met.D.Disk.reads_an_image new) c.in_default-call.ensures.done (s.gate + (c.len.result - 1)) (ap (λ n. s.gate + (n - 1)) (c.len.ensures ∙ sym c.deref.ensures.len)) (sym c.next.ensures ∙ c.in-None.is) c.cut.ensures.in_turn c.cut.ensures.each (c.len-self-inside.ensures ∙ c.end.new.live.ok.0) c.end.ensures.stage (c.end.ensures.live ∙ ap (λ live. live_after s.fold.stage s.fold.runs live.items) c.cut.ensures.live) (λ unfiled. (c.end.ensures.same unfiled).0) other)).2;
+        places_same = λ other. ap (λ live. vec_capacity live - vec_len live) ((c.end.ensures.same (other_unfiled (g.D.Disk.keeps s.disk) (g.D.Disk.keeps new) (g.D.Disk.states s.disk) (g.D.Disk.states new) s.shape s.gate s.tally s.next s.bytes.items c.deref.result.now c.end.new.bytes.items s.step s.broken c.in-Some.step s.homes (record { homes = c.cut.new.self.homes; live = c.end.new.live }) s.live c.len-self-inside.result s.fold c.end.new.self c.self.invariant.0 c.self.invariant.1 c.self.invariant.2 c.if-self.false c.in-Some.is c.deref.ensures.value c.call.ensures.model (g.met.D.Disk.reads_an_image s.disk) (g.met.D.Disk.reads_an_image new) c.in_default-call.ensures.done (s.gate + (c.len.result - 1)) (ap (λ n. s.gate + (n - 1)) (c.len.ensures ∙ sym c.deref.ensures.len)) (sym c.next.ensures ∙ c.in-None.is) c.cut.ensures.in_turn c.cut.ensures.each (c.len-self-inside.ensures ∙ c.end.new.live.ok.0) c.end.ensures.stage (c.end.ensures.live ∙ ap (λ live. live_after s.fold.stage s.fold.runs live.items) c.cut.ensures.live) (λ unfiled. (c.end.ensures.same unfiled).0) other)).1 ∙ c.cut.ensures.live);
         job_done = refl;
       },
     ))

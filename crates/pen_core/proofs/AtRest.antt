@@ -1,0 +1,38 @@
+-- No job is in hand: the memory for one may have grown, and hold other bytes.
+use Rattle.std.proofs.Common.{◌≡◌, ℕ, Bool, List, Option, None, sym, subst}
+use Rattle.disk_core.specs.State.{State}
+use Rattle.segment_core.specs.declared.format.Shape.{Shape}
+use Rattle.segment_core.specs.declared.found.Homes.{Homes}
+use Rattle.segment_core.specs.declared.tally.Tally.{Tally}
+use Rattle.pen_core.specs.declared.fold.Fold.{Fold}
+use Rattle.pen_core.specs.declared.step.Step.{Step}
+use Rattle.pen_core.specs.InHand.{IsFold}
+use Rattle.pen_core.specs.Inside.{IsPen}
+use Rattle.pen_core.specs.Listed.{IsListed}
+use Rattle.pen_core.specs.Pen.{open_count}
+use Rattle.pen_core.proofs.InHand.{fold_same}
+use Rattle.pen_core.proofs.Listed.{listed_same}
+
+pub pen_same : (count : ℕ) (keeps : Type 0) (states : List State) (shape : Shape) (gate : ℕ) (tally next : Tally) (bytes bytes' : List ℕ) (o : Option Step) (broken : Bool) → IsPen count keeps states shape gate tally next bytes o broken → o ≡ None → IsPen count keeps states shape gate tally next bytes' o broken
+pen_same count keeps states shape gate tally next bytes bytes' o broken pen idle =
+    let rests : IsPen count keeps states shape gate tally next bytes None broken = subst (λ s. IsPen count keeps states shape gate tally next bytes s broken) idle pen in
+    let made : IsPen count keeps states shape gate tally next bytes' None broken = record {
+      wide = rests.wide;
+      gate_fits = rests.gate_fits;
+      size_fits = rests.size_fits;
+      changes_fit = rests.changes_fit;
+      folded_counted = rests.folded_counted;
+      job = tt;
+      knows = λ model. let k = rests.knows model in record { gate_is = k.gate_is; tally_is = k.tally_is; file = k.file; images_open = k.images_open; gate_pending = k.gate_pending; stands = k.stands };
+    } in
+    subst (λ s. IsPen count keeps states shape gate tally next bytes' s broken) (sym idle) made
+
+-- the invariant
+pub at_rest : (keeps : Type 0) (states : List State) (shape : Shape) (gate : ℕ) (tally next : Tally) (bytes bytes' : List ℕ) (o : Option Step) (broken : Bool) (homes homes' : Homes) (live : ℕ) (fold : Fold)
+    → IsPen (open_count fold.stage fold.count) keeps states shape gate tally next bytes o broken → IsListed keeps states shape gate tally bytes o homes live fold → IsFold keeps states shape gate tally bytes o broken fold → o ≡ None → homes'.homes.items ≡ homes.homes.items → homes'.live.items ≡ homes.live.items
+    → IsPen (open_count fold.stage fold.count) keeps states shape gate tally next bytes' o broken × IsListed keeps states shape gate tally bytes' o homes' live fold × IsFold keeps states shape gate tally bytes' o broken fold
+at_rest keeps states shape gate tally next bytes bytes' o broken homes homes' live fold pen listed is_fold idle homes_same live_same = (
+  pen_same (open_count fold.stage fold.count) keeps states shape gate tally next bytes bytes' o broken pen idle,
+  listed_same keeps states shape gate tally bytes o homes live listed idle bytes' homes' homes_same live_same,
+  fold_same keeps states shape gate tally bytes bytes' o broken fold is_fold idle,
+)

@@ -1,0 +1,17 @@
+use Rattle.std.proofs.Common.{◌≡◌, false, refl, sym, subst}
+use Rattle.std.specs.Option.{is_some}
+use Rattle.pen_core.proofs.AtRest.{at_rest}
+use Rattle.pen_core.proofs.Begins.{no_step}
+use Rattle.pen_core.proofs.pen.Pen.ready_runs.Goals as goal
+
+pub invariant_of-self-then-is_err-2 : goal.invariant_of-self-then-is_err-2
+invariant_of-self-then-is_err-2 g c =
+    let s = c.self.inside in
+    at_rest (g.D.Disk.keeps s.disk) (g.D.Disk.states s.disk) s.shape s.gate s.tally s.next s.bytes.items c.take_room.new.bytes.items s.step s.broken s.homes (record { homes = s.homes.homes; live = c.reserve.new.self }) s.live s.fold c.self.invariant.0 c.self.invariant.1 c.self.invariant.2
+    (no_step s.shape s.bytes.items s.step (subst (λ v. is_some v.job ≡ false) (sym c.self.view_is) c.in_ok-payload.ensures.idle)) refl c.reserve.ensures.items
+
+pub invariant_of-self-2 : goal.invariant_of-self-2
+invariant_of-self-2 g c =
+    let s = c.self.inside in
+    at_rest (g.D.Disk.keeps s.disk) (g.D.Disk.states s.disk) s.shape s.gate s.tally s.next s.bytes.items c.take_room.new.bytes.items s.step s.broken s.homes (record { homes = s.homes.homes; live = c.reserve.new.self }) s.live s.fold c.self.invariant.0 c.self.invariant.1 c.self.invariant.2
+    (no_step s.shape s.bytes.items s.step (subst (λ v. is_some v.job ≡ false) (sym c.self.view_is) c.in_ok-payload.ensures.idle)) refl c.reserve.ensures.items
