@@ -13,3 +13,4 @@ pub mod Births
 pub mod NewPen
 pub mod RunsGiven
 pub mod Covers
+pub mod HomeRunSteps

@@ -9,3 +9,4 @@ pub mod Inside
 pub mod Listed
 pub mod Births
 pub mod Covered
+pub mod HomeRuns

@@ -9,6 +9,7 @@ mod create;
 mod fault;
 mod frame_bytes;
 mod group;
+mod home_runs;
 mod pen;
 mod stage;
 mod step;
