@@ -7,7 +7,7 @@ use Rattle.segment_core.specs.declared.format.Shape.{Shape}
 use Rattle.segment_core.specs.declared.tally.Tally.{Tally}
 use Rattle.segment_core.specs.Frame.{Frame, header, frame_text, text}
 use Rattle.segment_core.specs.Tally.{nothing, after, tally_of}
-use Rattle.segment_core.specs.Vector.{last_from, change_in}
+use Rattle.segment_core.specs.Vector.{last_from, change_in, change_of}
 use Rattle.segment_core.specs.Folding.{IsLoose}
 use Rattle.segment_core.specs.Blanked.{all_blanked}
 use Rattle.segment_core.proofs.Blanked.{all_blanked-all_blanked, length-text-blanked}
@@ -52,11 +52,16 @@ last_from_more says more shape p tally (frame ∷ frames) x all is =
       | inr here ↦ or_now (last_from more shape.format q t frames) (more p tally frame) x (all p tally frame x here.1)
     ]
 
-pub folded_loose : (shape : Shape) (count : ℕ) (frames : List Frame) (j : ℕ) → IsBeingFolded shape count frames j → IsLoose shape frames j
-folded_loose shape count frames j is =
+pub folded_covered : (shape : Shape) (count : ℕ) (frames : List Frame) (j : ℕ) → (is : IsBeingFolded shape count frames j) → (told : ℕ) × (change_of shape (tally_of frames).folded frames is.position ≡ Some told)
+folded_covered shape count frames j is =
     let folded : ℕ = (tally_of frames).folded in
     let said = last_from_more (early_in shape folded count is.position) (change_in shape folded is.position) shape (length (header shape)) nothing frames is.told (λ q t frame y at. early_said (nat_lt t.changes count) (change_in shape folded is.position q t frame) y at) is.covered in
-    record { position = is.position; place = is.place; told = said.value; home_is = is.home_is; covered = said.is; from = is.from; before = is.before }
+    (said.value, said.is)
+
+pub folded_loose : (shape : Shape) (count : ℕ) (frames : List Frame) (j : ℕ) → IsBeingFolded shape count frames j → IsLoose shape frames j
+folded_loose shape count frames j is =
+    let said = folded_covered shape count frames j is in
+    record { position = is.position; place = is.place; told = said.0; home_is = is.home_is; covered = said.1; from = is.from; before = is.before }
 
 -- ---- the same file
 

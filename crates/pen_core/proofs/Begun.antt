@@ -1,20 +1,24 @@
 -- A frame that may follow is begun: with its body behind the gate, and the gate open, the file would be the next.
-use Rattle.std.proofs.Common.{◌≡◌, ℕ, ◌+◌, ◌-◌, ◌^◌, ◌<◌, Bool, true, false, cond, List, [], ◌∷◌, ◌++◌, length, take, drop, get_or, Option, Some, None, refl, sym, ap, subst, ◌∙◌, arith, append_assoc}
+use Rattle.std.proofs.Common.{◌≡◌, ℕ, ◌+◌, ◌-◌, ◌^◌, ◌<◌, Bool, false, cond, List, [], ◌∷◌, ◌++◌, length, take, drop, get_or, Option, Some, None, refl, sym, ap, subst, ◌∙◌, arith, append_assoc}
 use Rattle.std.specs.Option.{option_or}
 use Rattle.std.specs.Int.{w32, to_le_bytes}
 use Rattle.std.proofs.lemmas.Bool.{le-ltb}
-use Rattle.std.proofs.lemmas.List.{length-append, length-take-le, take_at, drop_at, take-append-le, take-take, map_push, get_or_push}
-use Rattle.disk_core.specs.State.{State, now, overlay, is_within, IsImage}
+use Rattle.std.proofs.lemmas.List.{length-append, length-take-le, take_at, drop_at, take-append-le, take-take, map_push, get_or_push, get_or_append_left}
+use Rattle.disk_core.specs.State.{State, now, overlay, IsImage}
 use Rattle.disk_core.specs.Calls.{bytes_of}
 use Rattle.segment_core.specs.declared.format.Shape.{Shape}
 use Rattle.segment_core.specs.declared.tally.Tally.{Tally}
 use Rattle.segment_core.specs.Frame.{Frame, Fold, kind_of, payload_of, header, frame_text, text}
 use Rattle.segment_core.specs.Layout.{IsFrame}
-use Rattle.segment_core.specs.Tally.{nothing, after, tally_of, MayFollow}
-use Rattle.segment_core.specs.Vector.{last_from, change_in}
+use Rattle.segment_core.specs.Tally.{nothing, after, tally_of, MayFollow, AreLegal}
+use Rattle.segment_core.specs.Vector.{last_from, change_in, home_of}
+use Rattle.segment_core.specs.Folding.{HomesHold}
 use Rattle.segment_core.specs.Blanked.{blanked}
 use Rattle.segment_core.proofs.Push.{Begins_push, Begins_before}
-use Rattle.segment_core.proofs.Blanked.{tally_from-blanked}
+use Rattle.segment_core.proofs.Blanked.{tally_from-blanked, same_legal}
+use Rattle.segment_core.proofs.PlaceOf.{home_of_between}
+use Rattle.segment_core.proofs.Loose.{take_same}
+use Rattle.segment_core.proofs.HomesHold.{HomesHold_same, HomesHold_blanked}
 use Rattle.segment_core.proofs.OneMore.{IsVectorOf_begins}
 use Rattle.segment_core.proofs.Raw.{IsVectorOf_frame}
 use Rattle.segment_core.proofs.Payload.{length-frame_text}
@@ -27,7 +31,9 @@ use Rattle.pen_core.specs.Vectors.{frame_at, blanked_before, frames_with}
 use Rattle.segment_core.specs.Raw.{after_frame}
 use Rattle.segment_core.specs.Parsed.{vector_before}
 use Rattle.pen_core.specs.Inside.{IsBodyOf, IsAtStep, Knows, IsPen}
-use Rattle.pen_core.proofs.Again.{gate_behind}
+use Rattle.pen_core.specs.Known.{PendingIsFolded}
+use Rattle.pen_core.proofs.Again.{gate_behind, blank_again}
+use Rattle.pen_core.proofs.BeingFolded.{IsBeingFolded_push}
 use Rattle.pen_core.proofs.Parsed.{frame_at-text}
 use Rattle.pen_core.proofs.Pens.{gate_with, knows_at}
 
@@ -48,6 +54,10 @@ nothing_folded shape frames j is =
     let some = is.covered in
     absurd cc
 
+-- frames that bytes hold keep the rules, whatever their home bytes
+pub held_legal : (shape : Shape) (frames : List Frame) (vector : List (List ℕ)) (bytes : List ℕ) → Holds shape frames vector bytes → AreLegal shape frames
+held_legal shape frames vector bytes has = same_legal has.found frames (sym (blank_again has.found frames has.alike)) shape has.begins.legal
+
 -- ---- the body
 
 -- with the body behind the gate, and the gate open, the bytes are those of one frame more
@@ -65,8 +75,8 @@ opened_text front body r gate is some =
     ∙ ap (λ (bs : List ℕ). front ++ 1 ∷ [] ++ bs) rest
     ∙ append_assoc front (1 ∷ []) (body ++ behind)
 
-module _ (shape : Shape) (frames : List Frame) (vector : List (List ℕ)) (s : State) (f : Frame) (has : Holds shape frames vector s.seen) (there : gate_of shape frames < length s.seen) (whole : IsFrame shape f)
-    (may : MayFollow (tally_of frames) f) (no_fold : (count : ℕ) → f ≡ Fold count → ⊥) where
+module _ (count : ℕ) (shape : Shape) (frames : List Frame) (vector : List (List ℕ)) (s : State) (f : Frame) (has : Holds shape frames vector s.seen) (there : gate_of shape frames < length s.seen) (whole : IsFrame shape f)
+    (may : MayFollow (tally_of frames) f) (hold : (fold : ℕ) → f ≡ Fold fold → HomesHold shape.format (raw shape.width) s.seen frames fold vector) where
   abbrev gate : ℕ
   gate = gate_of shape frames
 
@@ -96,6 +106,23 @@ module _ (shape : Shape) (frames : List Frame) (vector : List (List ℕ)) (s : S
       let opened = ap (λ (bs : List ℕ). overlay (overlay bs (gate + 1) body) gate (1 ∷ [])) b.1 ∙ opened_text (text shape has.found) body b.0 gate g (omega arith) in
       opened ∙ ap (λ (bs : List ℕ). text shape has.found ++ bs) (append_assoc (frame_text shape.format f) (0 ∷ []) tail)
 
+  -- the homes of the frames are as they were
+  home_stays : (i place : ℕ) → home_of shape has.found i ≡ Some place → take shape.width (drop place image) ≡ take shape.width (drop place s.seen)
+  home_stays i place at =
+      let b = home_of_between shape has.found i place has.begins.legal at in
+      let g = gate_behind shape has.found frames has.alike in
+      let all = length-append (text shape has.found) has.begins.begins.0 in
+      let long = ap length has.begins.begins.1 in
+      let long' = ap length image_is ∙ length-append (text shape has.found) (frame_text shape.format f ++ 0 ∷ tail) in
+      take_same shape.width place image s.seen (omega (arith, b.to)) (omega (arith, b.to)) (λ j from before.
+      ap (λ (bs : List ℕ). get_or bs j 0) image_is ∙ get_or_append_left (text shape has.found) (frame_text shape.format f ++ 0 ∷ tail) 0 j (omega (arith, b.to))
+      ∙ sym (ap (λ (bs : List ℕ). get_or bs j 0) has.begins.begins.1 ∙ get_or_append_left (text shape has.found) has.begins.begins.0 0 j (omega (arith, b.to))))
+
+  hold_there : (fold : ℕ) → f ≡ Fold fold → HomesHold shape.format (raw shape.width) image has.found fold vector
+  hold_there fold is =
+      HomesHold_same shape.format (raw shape.width) s.seen image has.found fold vector (λ i place at. ap (λ c. Some c) (home_stays i place at))
+      (HomesHold_blanked shape.format (raw shape.width) s.seen frames has.found fold vector (blank_again has.found frames has.alike) (hold fold is))
+
   body_holds : Holds shape (frames_with frames f) (after_frame shape.width vector f) image
   body_holds =
       let begins = Begins_push shape image has.found f (0 ∷ tail) has.begins.legal whole may' image_is in
@@ -104,11 +131,11 @@ module _ (shape : Shape) (frames : List Frame) (vector : List (List ℕ)) (s : S
         found = has.found ++ f ∷ [];
         alike = map_push blanked has.found f ∙ ap (λ (fs : List Frame). fs ++ blanked f ∷ []) has.alike;
         begins = begins;
-        read = IsVectorOf_frame shape.format shape.width image has.found vector f before begins (λ count fold. absurd (no_fold count fold));
+        read = IsVectorOf_frame shape.format shape.width image has.found vector f before begins hold_there;
       }
 
-  pub body_is : ((j : ℕ) → j < gate → is_within s.pending j ≡ true → ⊥) → IsBodyOf shape 0 gate frames (frames_with frames f) (after_frame shape.width vector f) body s
-  body_is settled =
+  pub body_is : PendingIsFolded shape count frames (frames_with frames f) s → IsBodyOf shape count gate frames (frames_with frames f) (after_frame shape.width vector f) body s
+  body_is pending =
       let front : List ℕ = (kind_of f ∷ to_le_bytes w32 (length (payload_of shape.format f))) ++ payload_of shape.format f in
       let size = length-append front (0 ∷ []) in
       let last : get_or body (length body - 1) 0 ≡ 0 = get_or_push front 0 0 (length body - 1) (omega arith) in
@@ -117,15 +144,15 @@ module _ (shape : Shape) (frames : List Frame) (vector : List (List ℕ)) (s : S
         some = omega (arith, length-frame_text shape.format f);
         size = gate_with shape frames f ∙ ap (λ n. gate + n) (sym long);
         closed = λ opened. omega (arith, last, opened);
-        pending_is_folded = λ j lt pending. absurd (settled j lt pending);
+        pending_is_folded = pending;
         holds = body_holds;
       }
 
 -- ---- on a pen's fields
 
-module _ (keeps : Type 0) (states : List State) (shape : Shape) (gate : ℕ) (tally next next' : Tally) (bytes bytes' : List ℕ) (o : Option Step) (broken : Bool) (f : Frame) (pen : IsPen keeps states shape gate tally next bytes o broken)
+module _ {count : ℕ} (keeps : Type 0) (states : List State) (shape : Shape) (gate : ℕ) (tally next next' : Tally) (bytes bytes' : List ℕ) (o : Option Step) (broken : Bool) (f : Frame) (pen : IsPen count keeps states shape gate tally next bytes o broken)
     (whole : broken ≡ false) (idle : o ≡ None) (reads : keeps → IsImage (now states) (bytes_of states)) (spelled : bytes' ≡ frame_text shape.format f ++ 0 ∷ []) (framed : IsFrame shape f) (may : MayFollow tally f) (counted : next' ≡ after tally f)
-    (no_fold : (count : ℕ) → f ≡ Fold count → ⊥) (fits : gate + length (frame_text shape.format f) < 2 ^ 48) where
+    (no_fold : (fold : ℕ) → f ≡ Fold fold → ⊥) (fits : gate + length (frame_text shape.format f) < 2 ^ 48) where
   abbrev frames : List Frame
   frames = blanked_before shape gate (bytes_of states)
 
@@ -135,20 +162,21 @@ module _ (keeps : Type 0) (states : List State) (shape : Shape) (gate : ℕ) (ta
   pub begun_frame : frame_at shape bytes' ≡ f
   begun_frame = ap (frame_at shape) spelled ∙ frame_at-text shape f (0 ∷ []) framed
 
-  knows : keeps → Knows shape gate tally frames vector bytes None broken (now states)
-  knows model = subst (λ step. Knows shape gate tally frames vector bytes step broken (now states)) idle (pen.knows model)
+  knows : keeps → Knows count shape gate tally frames vector bytes None broken (now states)
+  knows model = subst (λ step. Knows count shape gate tally frames vector bytes step broken (now states)) idle (pen.knows model)
 
-  at_body : (model : keeps) → IsAtStep shape 0 gate frames (frames_with frames (frame_at shape bytes')) (after_frame shape.width vector (frame_at shape bytes')) bytes' Body (now states)
+  at_body : (model : keeps) → IsAtStep shape count gate frames (frames_with frames (frame_at shape bytes')) (after_frame shape.width vector (frame_at shape bytes')) bytes' Body (now states)
   at_body model =
       let k = knows model in
       let s = now states in
       let there = reads model in
-      let made = body_is shape frames vector s f k.file.holds (omega (arith, k.file.gate_synced, there.no_shorter)) framed (subst (λ t. MayFollow t f) k.tally_is may) no_fold (λ j lt pending. nothing_folded shape frames j (k.file.pending_is_folded j lt pending)) in
-      subst (λ g. IsAtStep shape 0 gate frames (frames_with frames g) (after_frame shape.width vector g) bytes' Body s) (sym begun_frame)
-      (subst (λ bs. IsAtStep shape 0 gate frames (frames_with frames f) (after_frame shape.width vector f) bs Body s) (sym spelled)
-      (k.stands whole, subst (λ g. IsBodyOf shape 0 g frames (frames_with frames f) (after_frame shape.width vector f) (body_of (frame_text shape.format f ++ 0 ∷ [])) s) (sym k.gate_is) made))
+      let made = body_is count shape frames vector s f k.file.holds (omega (arith, k.file.gate_synced, there.no_shorter)) framed (subst (λ t. MayFollow t f) k.tally_is may) (λ fold is. absurd (no_fold fold is))
+      (λ j lt pending. IsBeingFolded_push shape count frames f j (held_legal shape frames vector (now states).seen k.file.holds) no_fold (k.file.pending_is_folded j lt pending)) in
+      subst (λ g. IsAtStep shape count gate frames (frames_with frames g) (after_frame shape.width vector g) bytes' Body s) (sym begun_frame)
+      (subst (λ bs. IsAtStep shape count gate frames (frames_with frames f) (after_frame shape.width vector f) bs Body s) (sym spelled)
+      (k.stands whole, subst (λ g. IsBodyOf shape count g frames (frames_with frames f) (after_frame shape.width vector f) (body_of (frame_text shape.format f ++ 0 ∷ [])) s) (sym k.gate_is) made))
 
-  pub begun : IsPen keeps states shape gate tally next' bytes' (Some Body) broken
+  pub begun : IsPen count keeps states shape gate tally next' bytes' (Some Body) broken
   begun = record {
     wide = pen.wide;
     gate_fits = pen.gate_fits;

@@ -1,11 +1,8 @@
 -- Growths as a frame that may follow, and the records behind it.
-use Rattle.std.proofs.Common.{Bool, false, ◌≡◌, ℕ, zero, suc, ◌+◌, ◌*◌, ◌^◌, ◌≤◌, ◌<◌, List, [], ◌∷◌, ◌++◌, length, map, sum, take, drop, Option, Some, None, refl, sym, ap, subst, ◌∙◌, arith}
-use Rattle.std.specs.Prelude.{slice_get}
+use Rattle.std.proofs.Common.{Bool, false, ◌≡◌, ℕ, ◌+◌, ◌*◌, ◌^◌, ◌≤◌, ◌<◌, List, [], ◌∷◌, ◌++◌, length, map, sum, Option, Some, None, refl, sym, ap, subst, ◌∙◌, arith}
 use Rattle.std.specs.List.{flat_map, AllByRecursion}
-use Rattle.std.specs.Option.{option_and_then}
 use Rattle.std.proofs.lemmas.Bool.{le-ltb}
-use Rattle.std.proofs.lemmas.List.{length-append, length-map, take-append-drop}
-use Rattle.std.proofs.Math.Seq.{take-append_seam, drop-append_seam}
+use Rattle.std.proofs.lemmas.List.{length-append, length-map}
 use Rattle.disk_core.specs.State.{State, now, IsImage}
 use Rattle.disk_core.specs.Calls.{bytes_of}
 use Rattle.record_core.specs.Bytes.{Encoding}
@@ -21,7 +18,8 @@ use Rattle.segment_core.specs.Raw.{cells_in, after_frame, AreReadAs}
 use Rattle.segment_core.specs.Written.{group_frame, joined, payload_len}
 use Rattle.segment_core.proofs.Payload.{limit_small, length-frame_text}
 use Rattle.segment_core.proofs.Raw.{AreReadAs_written}
-use Rattle.segment_core.proofs.Written.{joined_push, take_more, joined-append, long_growth, sum-lengths, length-group_frame}
+use Rattle.segment_core.proofs.ReadAs.{cells_in-flat_map_bytes, AreReadAs-append}
+use Rattle.segment_core.proofs.Written.{long_growth, sum-lengths, length-group_frame}
 use Rattle.pen_core.specs.declared.step.Step.{Step}
 use Rattle.pen_core.specs.declared.step.Step.TheVariants.{Body}
 use Rattle.pen_core.specs.Vectors.{frame_at}
@@ -29,15 +27,6 @@ use Rattle.pen_core.specs.Inside.{IsPen}
 use Rattle.pen_core.proofs.Begun.{begun, begun_frame}
 
 -- ---- how many records
-
-pub records_more : {R : Type 0} (growths : List (List R)) (k : ℕ) (growth : List R) → slice_get growths k ≡ Some growth → length (joined (take (k + 1) growths)) ≡ length (joined (take k growths)) + length growth
-records_more growths k growth is = ap (λ gs. length (joined gs)) (take_more growths k growth is) ∙ ap length (joined_push (take k growths) growth) ∙ length-append (joined (take k growths)) growth
-
-pub records_within : {R : Type 0} (growths : List (List R)) (k : ℕ) → length (joined (take k growths)) ≤ length (joined growths)
-records_within growths k =
-    let parts = ap (λ gs. length (joined gs)) (sym (take-append-drop k growths)) in
-    let both = ap length (joined-append (take k growths) (drop k growths)) ∙ length-append (joined (take k growths)) (joined (drop k growths)) in
-    omega arith
 
 -- each growth has a record, so there are no more growths than records
 pub few_growths : {R : Type 0} (growths : List (List R)) → AllByRecursion (λ growth. 0 < length growth) growths → length growths ≤ length (joined growths)
@@ -75,35 +64,15 @@ module _ {R : Type 0} (form : Encoding R) (shape : Shape) (tally : Tally) (growt
 
 -- ---- the records
 
-cells_flat : {R : Type 0} (form : Encoding R) (records : List R) → ((r : R) → length (form.bytes_of r) ≡ form.width) → cells_in form.width (length records) (flat_map form.bytes_of records) ≡ map form.bytes_of records
-cells_flat form [] size_of = refl
-cells_flat form (r ∷ records) size_of =
-    let here : List ℕ = form.bytes_of r in
-    let rest : List ℕ = flat_map form.bytes_of records in
-    ap (λ w. take w (here ++ rest) ∷ cells_in form.width (length records) (drop w (here ++ rest))) (sym (size_of r))
-    ∙ ap (λ c. c ∷ cells_in form.width (length records) (drop (length here) (here ++ rest))) (take-append_seam here rest)
-    ∙ ap (λ bs. here ∷ cells_in form.width (length records) bs) (drop-append_seam here rest)
-    ∙ ap (λ cs. here ∷ cs) (cells_flat form records size_of)
-
-pub AreReadAs-append : {R : Type 0} (form : Encoding R) (cells more : List (List ℕ)) (records new : List R) → AreReadAs form cells records → AreReadAs form more new → AreReadAs form (cells ++ more) (records ++ new)
-AreReadAs-append {R} form cells more records new a b = record { size = length-append cells more ∙ ap (λ n. n + length more) a.size ∙ ap (λ n. length records + n) b.size ∙ sym (length-append records new); each = each cells records a.size a.each }
-  where
-    each : (cs : List (List ℕ)) (rs : List R) → length cs ≡ length rs → ((i : ℕ) → option_and_then form.value_of (slice_get cs i) ≡ slice_get rs i) → (i : ℕ) → option_and_then form.value_of (slice_get (cs ++ more) i) ≡ slice_get (rs ++ new) i
-    each [] [] same read i = b.each i
-    each [] (r ∷ rs) same read i = absurd (omega (arith, same))
-    each (c ∷ cs) [] same read i = absurd (omega (arith, same))
-    each (c ∷ cs) (r ∷ rs) same read zero = read zero
-    each (c ∷ cs) (r ∷ rs) same read (suc i) = each cs rs (omega (arith, same)) (λ k. read (suc k)) i
-
 pub group_next : {R : Type 0} (form : Encoding R) (width : ℕ) (vector : List (List ℕ)) (records : List R) (growths : List (List R)) → form.width ≡ width → ((r : R) → length (form.bytes_of r) ≡ form.width) → AreReadAgain form (joined growths) → AreReadAs form vector records
     → AreReadAs form (after_frame width vector (group_frame form growths)) (records ++ joined growths)
 group_next form width vector records growths same size_of again read =
-    let cells = ap (λ w. cells_in w (sum (map length growths)) (flat_map form.bytes_of (joined growths))) (sym same) ∙ ap (λ n. cells_in form.width n (flat_map form.bytes_of (joined growths))) (sym (sum-lengths growths)) ∙ cells_flat form (joined growths) size_of in
+    let cells = ap (λ w. cells_in w (sum (map length growths)) (flat_map form.bytes_of (joined growths))) (sym same) ∙ ap (λ n. cells_in form.width n (flat_map form.bytes_of (joined growths))) (sym (sum-lengths growths)) ∙ cells_in-flat_map_bytes form (joined growths) size_of in
     subst (λ cs. AreReadAs form (vector ++ cs) (records ++ joined growths)) (sym cells) (AreReadAs-append form vector (map form.bytes_of (joined growths)) records (joined growths) read (AreReadAs_written form (joined growths) again))
 
 -- ---- begun
 
-module _ {R : Type 0} (keeps : Type 0) (states : List State) (shape : Shape) (gate : ℕ) (tally next : Tally) (bytes bytes' : List ℕ) (o : Option Step) (broken : Bool) (form : Encoding R) (growths : List (List R)) (pen : IsPen keeps states shape gate tally next bytes o broken)
+module _ {R : Type 0} {count : ℕ} (keeps : Type 0) (states : List State) (shape : Shape) (gate : ℕ) (tally next : Tally) (bytes bytes' : List ℕ) (o : Option Step) (broken : Bool) (form : Encoding R) (growths : List (List R)) (pen : IsPen count keeps states shape gate tally next bytes o broken)
     (whole : broken ≡ false) (idle : o ≡ None) (reads : keeps → IsImage (now states) (bytes_of states)) (spelled : bytes' ≡ frame_text shape.format (group_frame form growths) ++ 0 ∷ []) (wide : 1 ≤ form.width) (width : form.width ≡ shape.width)
     (size_of : (r : R) → length (form.bytes_of r) ≡ form.width) (some : 0 < length growths) (each : AllByRecursion (λ growth. 0 < length growth) growths) (short : tally.size + length (joined growths) ≤ 2 ^ 32)
     (fits : payload_len form.width growths ≤ limit_of shape.format) (not_full : gate + (6 + payload_len form.width growths) < 2 ^ 48) where
@@ -116,13 +85,13 @@ module _ {R : Type 0} (keeps : Type 0) (states : List State) (shape : Shape) (ga
   follows : MayFollow tally frame
   follows = group_follows form shape tally growths wide width size_of some each short
 
-  no_fold : (count : ℕ) → frame ≡ Fold count → ⊥
-  no_fold count is = absurd cc
+  no_fold : (fold : ℕ) → frame ≡ Fold fold → ⊥
+  no_fold fold is = absurd cc
 
   room : gate + length (frame_text shape.format frame) < 2 ^ 48
   room = let long = length-frame_text shape.format frame ∙ ap (λ n. 6 + n) (length-group_frame shape.format form growths size_of) in omega arith
 
-  pub group_begun : (next' : Tally) → next' ≡ after tally frame → IsPen keeps states shape gate tally next' bytes' (Some Body) broken
+  pub group_begun : (next' : Tally) → next' ≡ after tally frame → IsPen count keeps states shape gate tally next' bytes' (Some Body) broken
   group_begun next' counted = begun keeps states shape gate tally next next' bytes bytes' o broken frame pen whole idle reads spelled framed follows counted no_fold room
 
   pub group_at : frame_at shape bytes' ≡ frame

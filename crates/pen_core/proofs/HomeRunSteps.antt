@@ -12,7 +12,7 @@ use Rattle.segment_core.specs.Found.{home_among, AreInTurn}
 use Rattle.segment_core.specs.Vector.{place_among}
 use Rattle.segment_core.proofs.PlaceAmong.{place_among_inside, place_among_below}
 use Rattle.segment_core.proofs.FoundHomes.{in_turn_up_to}
-use Rattle.pen_core.specs.HomeRuns.{positions_at, AreHomesTo, IsHomeRun, IsPartOf, Appends}
+use Rattle.pen_core.specs.HomeRuns.{positions_at, AreHomesTo, IsHomeRun, IsPartOf, AreAscending, Appends}
 
 pub range-append : (a m n : ℕ) → range_with_len a m ++ range_with_len (a + m) n ≡ range_with_len a (m + n)
 range-append a zero n =
@@ -28,30 +28,59 @@ pub positions_at-append : (xs ys : List Home) → positions_at (xs ++ ys) ≡ po
 positions_at-append [] ys = refl
 positions_at-append (x ∷ xs) ys = ap (λ ps. range_with_len x.position x.count ++ ps) (positions_at-append xs ys) ∙ sym (append_assoc (range_with_len x.position x.count) (positions_at xs) (positions_at ys))
 
-pub Appends-none : (Is : Home → Type 0) (old : List Home) → Appends Is [] old old
-Appends-none Is old = record { runs = []; behind = sym (append-nil old); positions_are = refl; each = All-nil Is }
+pub ascending-push : (from to : ℕ) (runs : List Home) (run : Home) → AreAscending from to runs → to ≤ run.position → AreAscending from (run.position + run.count) (runs ++ run ∷ [])
+ascending-push from to [] run ascend le = (omega arith, omega arith)
+ascending-push from to (first ∷ runs) run ascend le = (ascend.0, ascending-push (first.position + first.count) to runs run ascend.1 le)
 
-pub Appends-more : (Is : Home → Type 0) (old mid : List Home) (positions : List ℕ) (run : Home) → Appends Is positions old mid → Is run → Appends Is (positions ++ range_with_len run.position run.count) old (mid ++ run ∷ [])
-Appends-more Is old mid positions run so_far is = record {
+pub ascending-from : (a b c : ℕ) (runs : List Home) → a ≤ b → AreAscending b c runs → AreAscending a c runs
+ascending-from a b c [] le ascend = omega arith
+ascending-from a b c (run ∷ runs) le ascend = (omega (arith, ascend.0), ascend.1)
+
+pub ascending-join : (a b c : ℕ) (xs ys : List Home) → AreAscending a b xs → AreAscending b c ys → AreAscending a c (xs ++ ys)
+ascending-join a b c [] ys first then = ascending-from a b c ys first then
+ascending-join a b c (x ∷ xs) ys first then = (first.0, ascending-join (x.position + x.count) b c xs ys first.1 then)
+
+pub ascending-to : (a b c : ℕ) (runs : List Home) → AreAscending a b runs → b ≤ c → AreAscending a c runs
+ascending-to a b c [] ascend le = omega arith
+ascending-to a b c (run ∷ runs) ascend le = (ascend.0, ascending-to (run.position + run.count) b c runs ascend.1 le)
+
+pub Appends-none : (Is : Home → Type 0) (from : ℕ) (old : List Home) → Appends Is [] from from old old
+Appends-none Is from old = record { runs = []; behind = sym (append-nil old); positions_are = refl; ascend = omega arith; each = All-nil Is }
+
+pub Appends-more : (Is : Home → Type 0) (from to : ℕ) (old mid : List Home) (positions : List ℕ) (run : Home) → Appends Is positions from to old mid → Is run → to ≤ run.position → Appends Is (positions ++ range_with_len run.position run.count) from (run.position + run.count) old (mid ++ run ∷ [])
+Appends-more Is from to old mid positions run so_far is le = record {
   runs = so_far.runs ++ run ∷ [];
   behind = ap (λ xs. xs ++ run ∷ []) so_far.behind ∙ append_assoc old so_far.runs (run ∷ []);
   positions_are = positions_at-append so_far.runs (run ∷ []) ∙ ap (λ ps. ps ++ (range_with_len run.position run.count ++ [])) so_far.positions_are ∙ ap (λ ps. positions ++ ps) (append-nil (range_with_len run.position run.count));
+  ascend = ascending-push from to so_far.runs run so_far.ascend le;
   each = All-push Is so_far.runs run so_far.each is;
 }
 
-pub Appends-join : (Is : Home → Type 0) (a b c : List Home) (ps qs : List ℕ) → Appends Is ps a b → Appends Is qs b c → Appends Is (ps ++ qs) a c
-Appends-join Is a b c ps qs first then = record {
+pub Appends-join : (Is : Home → Type 0) (f m t : ℕ) (a b c : List Home) (ps qs : List ℕ) → Appends Is ps f m a b → Appends Is qs m t b c → Appends Is (ps ++ qs) f t a c
+Appends-join Is f m t a b c ps qs first then = record {
   runs = first.runs ++ then.runs;
   behind = then.behind ∙ ap (λ xs. xs ++ then.runs) first.behind ∙ append_assoc a first.runs then.runs;
   positions_are = positions_at-append first.runs then.runs ∙ ap (λ xs. xs ++ positions_at then.runs) first.positions_are ∙ ap (λ xs. ps ++ xs) then.positions_are;
+  ascend = ascending-join f m t first.runs then.runs first.ascend then.ascend;
   each = All-append Is first.runs then.runs first.each then.each;
 }
 
-pub Appends-weaker : (Is Was : Home → Type 0) (a b : List Home) (ps : List ℕ) → ((run : Home) → Is run → Was run) → Appends Is ps a b → Appends Was ps a b
-Appends-weaker Is Was a b ps weaker appends = record {
+-- the same from a lower position on
+pub Appends-from : (Is : Home → Type 0) (lower from to : ℕ) (ps : List ℕ) (a b : List Home) → lower ≤ from → Appends Is ps from to a b → Appends Is ps lower to a b
+Appends-from Is lower from to ps a b le appends = record {
   runs = appends.runs;
   behind = appends.behind;
   positions_are = appends.positions_are;
+  ascend = ascending-from lower from to appends.runs le appends.ascend;
+  each = appends.each;
+}
+
+pub Appends-weaker : (Is Was : Home → Type 0) (from to : ℕ) (a b : List Home) (ps : List ℕ) → ((run : Home) → Is run → Was run) → Appends Is ps from to a b → Appends Was ps from to a b
+Appends-weaker Is Was from to a b ps weaker appends = record {
+  runs = appends.runs;
+  behind = appends.behind;
+  positions_are = appends.positions_are;
+  ascend = appends.ascend;
   each = All-weaker Is Was weaker appends.runs appends.each;
 }
 
@@ -163,9 +192,9 @@ ranges-join from at count le =
 
 -- the next positions of a home, as many as one write takes
 pub part_more : (width from to at count : ℕ) (home : Home) (old runs : List Home) → home.position ≤ from → from ≤ at → at + count ≤ to → to ≤ home.position + home.count → 0 < count → count ≤ 4096
-    → Appends (IsPartOf width home) (range_with_len from (at - from)) old runs
-    → Appends (IsPartOf width home) (range_with_len from (at + count - from)) old (runs ++ record { position = at; place = home.place + (at - home.position) * width; count = count } ∷ [])
+    → Appends (IsPartOf width home) (range_with_len from (at - from)) from at old runs
+    → Appends (IsPartOf width home) (range_with_len from (at + count - from)) from (at + count) old (runs ++ record { position = at; place = home.place + (at - home.position) * width; count = count } ∷ [])
 part_more width from to at count home old runs inside le fits within some few so_far =
     let run : Home = record { position = at; place = home.place + (at - home.position) * width; count = count } in
-    let grown = Appends-more (IsPartOf width home) old runs (range_with_len from (at - from)) run so_far (record { some = some; few = few; from = omega arith; to = omega arith; place_is = refl }) in
-    subst (λ ps. Appends (IsPartOf width home) ps old (runs ++ run ∷ [])) (ranges-join from at count le) grown
+    let grown = Appends-more (IsPartOf width home) from at old runs (range_with_len from (at - from)) run so_far (record { some = some; few = few; from = omega arith; to = omega arith; place_is = refl }) (omega arith) in
+    subst (λ ps. Appends (IsPartOf width home) ps from (at + count) old (runs ++ run ∷ [])) (ranges-join from at count le) grown

@@ -37,7 +37,7 @@ module _ (keeps : Type 0) (states : List State) (shape : Shape) (next : Tally) (
   pub new_vector : keeps → vector_before shape 11 (bytes_of states) ≡ []
   new_vector model = (empty_seen model).vector_is
 
-  empty_known : Knows shape 11 nothing [] [] bytes None false (settled (empty_file shape))
+  empty_known : Knows 0 shape 11 nothing [] [] bytes None false (settled (empty_file shape))
   empty_known =
       let gate = empty_gate shape in
       knows_rest shape 11 nothing [] [] bytes (settled (empty_file shape)) gate refl false
@@ -45,7 +45,7 @@ module _ (keeps : Type 0) (states : List State) (shape : Shape) (next : Tally) (
       (record { closed = λ e. omega (arith, e); kept = refl })
       (settled_image (empty_file shape))
 
-  pub new_pen : (1 ≤ shape.width) × (shape.width < 2 ^ 16) → IsPen keeps states shape 11 nothing next bytes None false
+  pub new_pen : (1 ≤ shape.width) × (shape.width < 2 ^ 16) → IsPen 0 keeps states shape 11 nothing next bytes None false
   new_pen wide = record {
     wide = wide;
     gate_fits = omega arith;
@@ -55,7 +55,7 @@ module _ (keeps : Type 0) (states : List State) (shape : Shape) (next : Tally) (
     job = tt;
     knows = λ model. (
         let seen = empty_seen model in
-        subst (λ s. Knows shape 11 nothing (blanked_before shape 11 (bytes_of states)) (vector_before shape 11 (bytes_of states)) bytes None false s) (sym (made model))
-        (subst (λ fs. Knows shape 11 nothing fs (vector_before shape 11 (bytes_of states)) bytes None false (settled (empty_file shape))) (sym seen.frames_are)
-        (subst (λ v. Knows shape 11 nothing [] v bytes None false (settled (empty_file shape))) (sym seen.vector_is) empty_known)));
+        subst (λ s. Knows 0 shape 11 nothing (blanked_before shape 11 (bytes_of states)) (vector_before shape 11 (bytes_of states)) bytes None false s) (sym (made model))
+        (subst (λ fs. Knows 0 shape 11 nothing fs (vector_before shape 11 (bytes_of states)) bytes None false (settled (empty_file shape))) (sym seen.frames_are)
+        (subst (λ v. Knows 0 shape 11 nothing [] v bytes None false (settled (empty_file shape))) (sym seen.vector_is) empty_known)));
   }

@@ -38,12 +38,12 @@ held_size shape frames vector bytes has = ap (λ fs. (tally_of fs).size) (sym ha
 
 module _ (shape : Shape) (gate : ℕ) (tally : Tally) (frames : List Frame) (vector : List (List ℕ)) (bytes : List ℕ) (s : State) (gate_is : gate ≡ gate_of shape frames) (tally_is : tally ≡ tally_of frames) where
   -- no job is in hand
-  pub knows_rest : (broken : Bool) → IsFileOf shape 0 frames vector s → IsShut gate s → IsImage s s.seen → Knows shape gate tally frames vector bytes None broken s
-  knows_rest broken file shut readable = record {
+  pub knows_rest : {count : ℕ} (broken : Bool) → IsFileOf shape count frames vector s → IsShut gate s → IsImage s s.seen → Knows count shape gate tally frames vector bytes None broken s
+  knows_rest {count} broken file shut readable = record {
     gate_is = gate_is;
     tally_is = tally_is;
     file = file;
-    images_open = λ image is. images_shut shape 0 frames vector s file readable image is (subst (λ g. IsShut g s) gate_is shut);
+    images_open = λ image is. images_shut shape count frames vector s file readable image is (subst (λ g. IsShut g s) gate_is shut);
     gate_pending = λ is. absurd (both_ways (is_within s.pending gate) shut.kept is);
     stands = λ whole. shut;
   }
@@ -61,21 +61,21 @@ module _ (shape : Shape) (gate : ℕ) (tally : Tally) (frames : List Frame) (vec
   opening step is = is
 
   -- the next call is this one
-  pub knows_at : (step : Step) (broken : Bool) → IsFileOf shape 0 frames vector s → IsAtStep shape 0 gate frames following then bytes step s → IsImage s s.seen → Knows shape gate tally frames vector bytes (Some step) broken s
-  knows_at step broken file at readable =
-      let at' : IsAtStep shape 0 (gate_of shape frames) frames following then bytes step s = subst (λ g. IsAtStep shape 0 g frames following then bytes step s) gate_is at in
+  pub knows_at : {count : ℕ} (step : Step) (broken : Bool) → IsFileOf shape count frames vector s → IsAtStep shape count gate frames following then bytes step s → IsImage s s.seen → Knows count shape gate tally frames vector bytes (Some step) broken s
+  knows_at {count} step broken file at readable =
+      let at' : IsAtStep shape count (gate_of shape frames) frames following then bytes step s = subst (λ g. IsAtStep shape count g frames following then bytes step s) gate_is at in
       record {
         gate_is = gate_is;
         tally_is = tally_is;
         file = file;
-        images_open = images_at shape 0 frames following vector then bytes step s file at' readable;
-        gate_pending = λ is. gate_at shape 0 frames following vector then bytes step s at' (subst (λ g. is_within s.pending g ≡ true) gate_is is);
+        images_open = images_at shape count frames following vector then bytes step s file at' readable;
+        gate_pending = λ is. gate_at shape count frames following vector then bytes step s at' (subst (λ g. is_within s.pending g ≡ true) gate_is is);
         stands = λ whole. at;
       }
 
   -- and it has failed
-  pub knows_broken : (step : Step) → Failed shape 0 frames following vector then bytes step s → Knows shape gate tally frames vector bytes (Some step) true s
-  knows_broken step failed = record {
+  pub knows_broken : {count : ℕ} (step : Step) → Failed shape count frames following vector then bytes step s → Knows count shape gate tally frames vector bytes (Some step) true s
+  knows_broken {count} step failed = record {
     gate_is = gate_is;
     tally_is = tally_is;
     file = failed.file;
@@ -85,9 +85,9 @@ module _ (shape : Shape) (gate : ℕ) (tally : Tally) (frames : List Frame) (vec
   }
 
 -- what may be pending
-pub told_pending : (shape : Shape) (gate : ℕ) (tally : Tally) (frames : List Frame) (vector : List (List ℕ)) (bytes : List ℕ) (o : Option Step) (broken : Bool) (s : State) → Knows shape gate tally frames vector bytes o broken s
-    → (j : ℕ) → is_pending s j ≡ true → (gate < j) ⊎ (((j ≡ gate) × MayBeOpening (job_of shape bytes o)) ⊎ IsBeingFolded shape 0 frames j)
-told_pending shape gate tally frames vector bytes o broken s knows j is =
+pub told_pending : {count : ℕ} (shape : Shape) (gate : ℕ) (tally : Tally) (frames : List Frame) (vector : List (List ℕ)) (bytes : List ℕ) (o : Option Step) (broken : Bool) (s : State) → Knows count shape gate tally frames vector bytes o broken s
+    → (j : ℕ) → is_pending s j ≡ true → (gate < j) ⊎ (((j ≡ gate) × MayBeOpening (job_of shape bytes o)) ⊎ IsBeingFolded shape count frames j)
+told_pending {count} shape gate tally frames vector bytes o broken s knows j is =
     let synced = knows.file.gate_synced in
     let at = knows.gate_is in
     let inside : j ≤ gate → is_within s.pending j ≡ true = λ le. elim (or_cases (nat_le (length s.synced) j) (is_within s.pending j) is) [

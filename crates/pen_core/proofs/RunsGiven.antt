@@ -7,7 +7,7 @@ use Rattle.std.proofs.lemmas.Bool.{and_parts, leb-true}
 use Rattle.segment_core.specs.Frame.{Run, records_of_runs}
 use Rattle.segment_core.specs.Tally.{are_ascending, are_inside}
 use Rattle.segment_core.proofs.FrameParts.{records_of_runs-cons}
-use Rattle.pen_core.specs.Refusals.{runs_given}
+use Rattle.segment_core.specs.Runs.{runs_given}
 
 -- both tests of the runs that are left
 abbrev pub well_formed : ℕ → List (ℕ × ℕ) → Bool

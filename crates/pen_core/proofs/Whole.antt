@@ -21,7 +21,8 @@ use Rattle.pen_core.specs.Known.{IsShut}
 use Rattle.pen_core.specs.Vectors.{frame_at, blanked_before, frames_with}
 use Rattle.segment_core.specs.Raw.{after_frame}
 use Rattle.segment_core.specs.Parsed.{vector_before}
-use Rattle.pen_core.specs.Pen.{OpensWith, IsKept}
+use Rattle.pen_core.specs.PenOf.{FoldOf}
+use Rattle.pen_core.specs.Pen.{OpensWith, fold_count, IsKept}
 use Rattle.pen_core.specs.Inside.{job_of, pen_of, IsJob, IsMaybeJob, IsAtStep, Knows, IsPen}
 use Rattle.pen_core.proofs.Parsed.{SeenAs, seen_as}
 use Rattle.pen_core.proofs.Ticks.{tick_leaves, tick_next, tick_done, Failed, tick_failed}
@@ -29,8 +30,8 @@ use Rattle.pen_core.proofs.Pens.{tally_with, gate_with, held_size, knows_rest, k
 
 -- ---- at rest
 
-module _ (keeps : Type 0) (states : List State) (shape : Shape) (gate : ℕ) (tally next : Tally) (bytes : List ℕ) (o : Option Step) (broken : Bool) (pen : IsPen keeps states shape gate tally next bytes o broken) (model : keeps) where
-  pub pen_kept : {D : Type 0} (disk : D) (room : ℕ) → {places : ℕ} → IsKept states (pen_of states disk shape gate tally bytes room o broken places)
+module _ {fold : Option FoldOf} (keeps : Type 0) (states : List State) (shape : Shape) (gate : ℕ) (tally next : Tally) (bytes : List ℕ) (o : Option Step) (broken : Bool) (pen : IsPen (fold_count fold) keeps states shape gate tally next bytes o broken) (model : keeps) where
+  pub pen_kept : {D : Type 0} (disk : D) (room : ℕ) → {places : ℕ} → IsKept states (pen_of states disk shape gate tally bytes room o broken places fold)
   pen_kept disk room =
       let knows = pen.knows model in
       record {
@@ -40,25 +41,26 @@ module _ (keeps : Type 0) (states : List State) (shape : Shape) (gate : ℕ) (ta
         size_is = ap (λ t. t.size) knows.tally_is ∙ held_size shape (blanked_before shape gate (bytes_of states)) (vector_before shape gate (bytes_of states)) (bytes_of states) knows.file.holds;
       }
 
-  -- no call
+-- where no call is made
+module _ {count : ℕ} (keeps : Type 0) (states : List State) (shape : Shape) (gate : ℕ) (tally next : Tally) (bytes : List ℕ) (o : Option Step) (broken : Bool) (pen : IsPen count keeps states shape gate tally next bytes o broken) (model : keeps) where
   pub whole_idle : LeavesOnly states states (OpensWith shape (blanked_before shape gate (bytes_of states)) (vector_before shape gate (bytes_of states)) (job_of shape bytes o))
   whole_idle = LeavesOnly-start states _ (pen.knows model).images_open
 
 -- ---- the counts behind a frame
 
-after_size : (tally : Tally) (frame : Frame) → tally.size ≤ 2 ^ 32 → MayFollow tally frame → (after tally frame).size ≤ 2 ^ 32
+pub after_size : (tally : Tally) (frame : Frame) → tally.size ≤ 2 ^ 32 → MayFollow tally frame → (after tally frame).size ≤ 2 ^ 32
 after_size tally (Group lengths bytes) le may = ltb-false (2 ^ 32) (tally.size + sum lengths) may.short
 after_size tally (Change runs bytes) le may = le
 after_size tally (Shrink n) le may = let below = ltb-false tally.size n may.inside in omega arith
 after_size tally (Fold count) le may = le
 
-after_changes : (tally : Tally) (frame : Frame) → (after tally frame).changes ≤ tally.changes + 1
+pub after_changes : (tally : Tally) (frame : Frame) → (after tally frame).changes ≤ tally.changes + 1
 after_changes tally (Group lengths bytes) = omega arith
 after_changes tally (Change runs bytes) = omega arith
 after_changes tally (Shrink n) = omega arith
 after_changes tally (Fold count) = omega arith
 
-after_folded : (tally : Tally) (frame : Frame) → tally.folded ≤ tally.changes → MayFollow tally frame → (after tally frame).folded ≤ (after tally frame).changes
+pub after_folded : (tally : Tally) (frame : Frame) → tally.folded ≤ tally.changes → MayFollow tally frame → (after tally frame).folded ≤ (after tally frame).changes
 after_folded tally (Group lengths bytes) le may = le
 after_folded tally (Change runs bytes) le may = omega arith
 after_folded tally (Shrink n) le may = le
@@ -76,7 +78,7 @@ pub record FileStays (shape : Shape) (gate : ℕ) (states new : List State) : Ty
   pub frames_same : blanked_before shape gate (bytes_of new) ≡ blanked_before shape gate (bytes_of states)
   pub vector_same : vector_before shape gate (bytes_of new) ≡ vector_before shape gate (bytes_of states)
 
-module _ (keeps keeps' : Type 0) (states new : List State) (shape : Shape) (gate : ℕ) (tally next : Tally) (bytes given : List ℕ) (o : Option Step) (broken : Bool) (step : Step) (pen : IsPen keeps states shape gate tally next bytes o broken)
+module _ {count : ℕ} (keeps keeps' : Type 0) (states new : List State) (shape : Shape) (gate : ℕ) (tally next : Tally) (bytes given : List ℕ) (o : Option Step) (broken : Bool) (step : Step) (pen : IsPen count keeps states shape gate tally next bytes o broken)
     (whole : broken ≡ false) (is : o ≡ Some step) (value : given ≡ bytes) (back : keeps' → keeps) (reads : keeps → IsImage (now states) (bytes_of states)) (reads' : keeps' → IsImage (now new) (bytes_of new)) where
   abbrev frames : List Frame
   frames = blanked_before shape gate (bytes_of states)
@@ -102,11 +104,11 @@ module _ (keeps keeps' : Type 0) (states new : List State) (shape : Shape) (gate
   pub whole_counts : next ≡ after tally frame
   whole_counts = job.next_is
 
-  knows : keeps → Knows shape gate tally frames vector bytes (Some step) broken (now states)
-  knows model = subst (λ s. Knows shape gate tally frames vector bytes s broken (now states)) is (pen.knows model)
+  knows : keeps → Knows count shape gate tally frames vector bytes (Some step) broken (now states)
+  knows model = subst (λ s. Knows count shape gate tally frames vector bytes s broken (now states)) is (pen.knows model)
 
-  at : (model : keeps) → IsAtStep shape 0 p frames following then bytes step (now states)
-  at model = subst (λ g. IsAtStep shape 0 g frames following then bytes step (now states)) (knows model).gate_is ((knows model).stands whole)
+  at : (model : keeps) → IsAtStep shape count p frames following then bytes step (now states)
+  at model = subst (λ g. IsAtStep shape count g frames following then bytes step (now states)) (knows model).gate_is ((knows model).stands whole)
 
   at_gate : (model : keeps) → Calls step gate given states new → Calls step p bytes states new
   at_gate model call = subst (λ g. Calls step g bytes states new) (knows model).gate_is (subst (λ b. Calls step gate b states new) value call)
@@ -126,17 +128,17 @@ module _ (keeps keeps' : Type 0) (states new : List State) (shape : Shape) (gate
   whole_leaves r done failed model =
       let m = back model in
       subst (λ s. LeavesOnly states new (OpensWith shape frames vector (job_of shape bytes s))) (sym is)
-      (tick_leaves shape 0 frames following vector then bytes step states new r (knows m).file (at m) (reads m) (on_ok r (at_gate m) (done m)) (on_err r (fails_at_gate m) (failed model)))
+      (tick_leaves shape count frames following vector then bytes step states new r (knows m).file (at m) (reads m) (on_ok r (at_gate m) (done m)) (on_err r (fails_at_gate m) (failed model)))
 
   -- ---- that failed
 
-  failed : (model : keeps') → FailsCall step gate given states new → Failed shape 0 frames following vector then bytes step (now new)
-  failed model call = let m = back model in tick_failed shape 0 frames following vector then bytes step states new (knows m).file (at m) (reads m) (reads' model) (fails_at_gate m call)
+  failed : (model : keeps') → FailsCall step gate given states new → Failed shape count frames following vector then bytes step (now new)
+  failed model call = let m = back model in tick_failed shape count frames following vector then bytes step states new (knows m).file (at m) (reads m) (reads' model) (fails_at_gate m call)
 
   failed_seen : (model : keeps') → FailsCall step gate given states new → SeenAs shape gate frames vector (bytes_of new)
   failed_seen model call = seen_as shape gate frames vector (bytes_of new) (knows (back model)).gate_is (failed model call).file.holds
 
-  pub whole_broken : (keeps' → FailsCall step gate given states new) → IsPen keeps' new shape gate tally next bytes o true
+  pub whole_broken : (keeps' → FailsCall step gate given states new) → IsPen count keeps' new shape gate tally next bytes o true
   whole_broken call = record {
     wide = pen.wide;
     gate_fits = pen.gate_fits;
@@ -147,8 +149,8 @@ module _ (keeps keeps' : Type 0) (states new : List State) (shape : Shape) (gate
     knows = λ model. (
         let seen = failed_seen model (call model) in
         let k = knows (back model) in
-        let made : Knows shape gate tally frames vector bytes o true (now new) = subst (λ s. Knows shape gate tally frames vector bytes s true (now new)) (sym is) (knows_broken shape gate tally frames vector bytes (now new) k.gate_is k.tally_is step (failed model (call model))) in
-        subst (λ fs. Knows shape gate tally fs (vector_before shape gate (bytes_of new)) bytes o true (now new)) (sym seen.frames_are) (subst (λ v. Knows shape gate tally frames v bytes o true (now new)) (sym seen.vector_is) made));
+        let made : Knows count shape gate tally frames vector bytes o true (now new) = subst (λ s. Knows count shape gate tally frames vector bytes s true (now new)) (sym is) (knows_broken shape gate tally frames vector bytes (now new) k.gate_is k.tally_is step (failed model (call model))) in
+        subst (λ fs. Knows count shape gate tally fs (vector_before shape gate (bytes_of new)) bytes o true (now new)) (sym seen.frames_are) (subst (λ v. Knows count shape gate tally frames v bytes o true (now new)) (sym seen.vector_is) made));
   }
 
   pub whole_same : keeps' → FailsCall step gate given states new → FileStays shape gate states new
@@ -160,9 +162,9 @@ module _ (keeps keeps' : Type 0) (states new : List State) (shape : Shape) (gate
     next_seen : (behind : Step) → step_after step ≡ Some behind → keeps' → SeenAs shape gate frames vector (bytes_of new)
     next_seen behind after_it model =
         let m = back model in
-        seen_as shape gate frames vector (bytes_of new) (knows m).gate_is (tick_next shape 0 frames following vector then bytes step states new (knows m).file (at m) (reads m) (at_gate m (call m)) behind after_it).file.holds
+        seen_as shape gate frames vector (bytes_of new) (knows m).gate_is (tick_next shape count frames following vector then bytes step states new (knows m).file (at m) (reads m) (at_gate m (call m)) behind after_it).file.holds
 
-    pub whole_next : (behind : Step) → step_after step ≡ Some behind → IsPen keeps' new shape gate tally next bytes (Some behind) broken
+    pub whole_next : (behind : Step) → step_after step ≡ Some behind → IsPen count keeps' new shape gate tally next bytes (Some behind) broken
     whole_next behind after_it = record {
       wide = pen.wide;
       gate_fits = pen.gate_fits;
@@ -174,10 +176,10 @@ module _ (keeps keeps' : Type 0) (states new : List State) (shape : Shape) (gate
           let m = back model in
           let k = knows m in
           let seen = next_seen behind after_it model in
-          let stands = tick_next shape 0 frames following vector then bytes step states new k.file (at m) (reads m) (at_gate m (call m)) behind after_it in
-          let at' : IsAtStep shape 0 gate frames following then bytes behind (now new) = subst (λ g. IsAtStep shape 0 g frames following then bytes behind (now new)) (sym k.gate_is) stands.at in
-          let made : Knows shape gate tally frames vector bytes (Some behind) broken (now new) = knows_at shape gate tally frames vector bytes (now new) k.gate_is k.tally_is behind broken stands.file at' (reads' model) in
-          subst (λ fs. Knows shape gate tally fs (vector_before shape gate (bytes_of new)) bytes (Some behind) broken (now new)) (sym seen.frames_are) (subst (λ v. Knows shape gate tally frames v bytes (Some behind) broken (now new)) (sym seen.vector_is) made));
+          let stands = tick_next shape count frames following vector then bytes step states new k.file (at m) (reads m) (at_gate m (call m)) behind after_it in
+          let at' : IsAtStep shape count gate frames following then bytes behind (now new) = subst (λ g. IsAtStep shape count g frames following then bytes behind (now new)) (sym k.gate_is) stands.at in
+          let made : Knows count shape gate tally frames vector bytes (Some behind) broken (now new) = knows_at shape gate tally frames vector bytes (now new) k.gate_is k.tally_is behind broken stands.file at' (reads' model) in
+          subst (λ fs. Knows count shape gate tally fs (vector_before shape gate (bytes_of new)) bytes (Some behind) broken (now new)) (sym seen.frames_are) (subst (λ v. Knows count shape gate tally frames v bytes (Some behind) broken (now new)) (sym seen.vector_is) made));
     }
 
     pub whole_stays : (behind : Step) → step_after step ≡ Some behind → keeps' → FileStays shape gate states new
@@ -196,7 +198,7 @@ module _ (keeps keeps' : Type 0) (states new : List State) (shape : Shape) (gate
       done_seen : keeps' → SeenAs shape gate' following then (bytes_of new)
       done_seen model =
           let m = back model in
-          seen_as shape gate' following then (bytes_of new) (next_gate m) (tick_done shape 0 frames following vector then bytes step states new (at m) (reads m) (at_gate m (call m)) last).0.holds
+          seen_as shape gate' following then (bytes_of new) (next_gate m) (tick_done shape count frames following vector then bytes step states new (at m) (reads m) (at_gate m (call m)) last).0.holds
 
       pub more_frames : keeps' → blanked_before shape gate' (bytes_of new) ≡ following
       more_frames model = (done_seen model).frames_are
@@ -204,7 +206,7 @@ module _ (keeps keeps' : Type 0) (states new : List State) (shape : Shape) (gate
       pub vector_then : keeps' → vector_before shape gate' (bytes_of new) ≡ then
       vector_then model = (done_seen model).vector_is
 
-      pub whole_done : IsPen keeps' new shape gate' next next bytes None broken
+      pub whole_done : IsPen count keeps' new shape gate' next next bytes None broken
       whole_done =
           let may = job.may_follow in
           let size = after_size tally frame pen.size_fits may in
@@ -227,8 +229,8 @@ module _ (keeps keeps' : Type 0) (states new : List State) (shape : Shape) (gate
                 let m = back model in
                 let k = knows m in
                 let seen = done_seen model in
-                let done = tick_done shape 0 frames following vector then bytes step states new (at m) (reads m) (at_gate m (call m)) last in
+                let done = tick_done shape count frames following vector then bytes step states new (at m) (reads m) (at_gate m (call m)) last in
                 let tally_is : next ≡ tally_of following = counted ∙ ap (λ t. after t frame) k.tally_is ∙ sym (tally_with frames frame) in
-                let made : Knows shape gate' next following then bytes None broken (now new) = knows_rest shape gate' next following then bytes (now new) (next_gate m) tally_is broken done.0 (subst (λ g. IsShut g (now new)) (sym (next_gate m)) done.1) (reads' model) in
-                subst (λ fs. Knows shape gate' next fs (vector_before shape gate' (bytes_of new)) bytes None broken (now new)) (sym seen.frames_are) (subst (λ v. Knows shape gate' next following v bytes None broken (now new)) (sym seen.vector_is) made));
+                let made : Knows count shape gate' next following then bytes None broken (now new) = knows_rest shape gate' next following then bytes (now new) (next_gate m) tally_is broken done.0 (subst (λ g. IsShut g (now new)) (sym (next_gate m)) done.1) (reads' model) in
+                subst (λ fs. Knows count shape gate' next fs (vector_before shape gate' (bytes_of new)) bytes None broken (now new)) (sym seen.frames_are) (subst (λ v. Knows count shape gate' next following v bytes None broken (now new)) (sym seen.vector_is) made));
           }

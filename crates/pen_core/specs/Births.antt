@@ -1,25 +1,18 @@
--- A file that is made, and one that is opened.
-use Rattle.std.specs.Prelude.{◌≡◌, ◌≢◌, ◌⊎◌, ℕ, ◌+◌, ◌/◌, ◌≤◌, ◌<◌, List, [], length, slice_index, Some, None, false}
-use Rattle.record_core.specs.Bytes.{Encoding}
+-- A file that is made.
+use Rattle.std.specs.Prelude.{◌≡◌, ◌≢◌, ◌⊎◌, ℕ, ◌+◌, ◌≤◌, ◌<◌, List, [], length, slice_index, Some, None, false}
 use Rattle.disk_core.specs.State.{State, now, settled, IsImage}
 use Rattle.disk_core.specs.Calls.{bytes_of}
 use Rattle.disk_core.specs.Moments.{clock, LeftSince, LeavesOnly}
-use Rattle.segment_core.specs.declared.format.Format.{Format}
 use Rattle.segment_core.specs.declared.format.Shape.{Shape}
 use Rattle.segment_core.specs.declared.fault.ScanFault.TheVariants.{Unborn}
-use Rattle.segment_core.specs.Shape.{shape_of}
-use Rattle.segment_core.specs.Frame.{Frame}
-use Rattle.segment_core.specs.Tally.{nothing, tally_of}
-use Rattle.segment_core.specs.Vector.{HasVector}
+use Rattle.segment_core.specs.Tally.{nothing}
 use Rattle.segment_core.specs.Fault.{header_fault}
-use Rattle.segment_core.specs.Raw.{AreReadAs}
-use Rattle.segment_core.specs.Blanked.{all_blanked}
 use Rattle.pen_core.specs.declared.create.Ground.{Ground}
 use Rattle.pen_core.specs.declared.create.Ground.TheVariants.{File, Blank, Closed}
 use Rattle.disk_core.specs.declared.fault.DiskFault.{DiskFault}
 use Rattle.pen_core.specs.declared.fault.PenFault.{PenFault}
 use Rattle.pen_core.specs.declared.fault.PenFault.TheVariants.{Exists, Disk}
-use Rattle.pen_core.specs.Held.{Opens, gate_of}
+use Rattle.pen_core.specs.Held.{Opens}
 use Rattle.pen_core.specs.PenOf.{PenOf}
 
 -- ---- creation
@@ -69,27 +62,3 @@ pub record IsNew {D : Type 0} (shape : Shape) (pen : PenOf D) : Type 0 where
 pub record IsEmpty {D : Type 0} (pen : PenOf D) : Type 0 where
   pub frames_are : pen.frames ≡ []
   pub vector_is : pen.vector ≡ []
-
--- ---- opening
-
--- the pieces of 4,096 bytes that are begun
-abbrev pub pieces_of : ℕ → ℕ
-pieces_of len = (len + 4095) / 4096
-
--- The pen goes on with the file that these bytes are, and the records are its vector.
-pub record IsOpened {R D : Type 0} (form : Encoding R) (bytes : List ℕ) (pen : PenOf D) (records : List R) : Type 0 where
-  pub format : Format
-  pub found : List Frame
-  pub vector : HasVector format form bytes found records
-  pub shape_is : pen.shape ≡ shape_of format form
-  pub frames_are : pen.frames ≡ all_blanked found
-  pub read_as : AreReadAs form pen.vector records
-  pub tally_is : pen.tally ≡ tally_of found
-  pub gate_is : pen.gate ≡ gate_of (shape_of format form) found
-  pub no_job : pen.job ≡ None
-  pub no_fold : pen.fold ≡ None
-  pub whole : pen.broken ≡ false
-
--- once the first sync has succeeded, a crash leaves the bytes as they read
-abbrev pub StaysAsRead : List State → List State → Type 0
-StaysAsRead old new = (image : List ℕ) → LeftSince new (clock old + 1) image → image ≡ bytes_of old

@@ -1,5 +1,5 @@
 -- Positions in runs whose home bytes are adjacent.
-use Rattle.std.specs.Prelude.{◌≡◌, ℕ, ◌+◌, ◌-◌, ◌*◌, ◌≤◌, ◌<◌, ◌^◌, List, ◌++◌, Some, All}
+use Rattle.std.specs.Prelude.{◌≡◌, ℕ, ◌+◌, ◌-◌, ◌*◌, ◌≤◌, ◌<◌, ◌^◌, List, [], ◌∷◌, ◌++◌, Some, All}
 use Rattle.std.specs.List.{flat_map, range_with_len}
 use Rattle.segment_core.specs.declared.found.Home.{Home}
 use Rattle.segment_core.specs.Found.{home_among, AreInTurn}
@@ -35,14 +35,21 @@ pub record IsPartOf (width : ℕ) (home run : Home) : Type 0 where
   pub to : run.position + run.count ≤ home.position + home.count
   pub place_is : run.place ≡ home.place + (run.position - home.position) * width
 
--- behind the old ones stand runs, each of which is so, with these positions
-pub record Appends (Is : Home → Type 0) (positions : List ℕ) (old new : List Home) : Type 0 where
+-- each begins at or behind the end of the one before, and all stand between these positions
+abbrev pub AreAscending : ℕ → ℕ → List Home → Type 0
+AreAscending from to [] = from ≤ to
+AreAscending from to (run ∷ runs) = (from ≤ run.position) × AreAscending (run.position + run.count) to runs
+
+-- behind the old ones stand runs between these two positions, each of which is so, with these positions
+pub record Appends (Is : Home → Type 0) (positions : List ℕ) (from to : ℕ) (old new : List Home) : Type 0 where
   pub runs : List Home
   pub behind : new ≡ old ++ runs
   pub positions_are : positions_at runs ≡ positions
+  pub ascend : AreAscending from to runs
   pub each : All Is runs
 
 -- just the positions of the cover, in order, in such runs
-pub record AreHomeRuns (width : ℕ) (homes : List Home) (cover : List (ℕ × ℕ)) (runs : List Home) : Type 0 where
+pub record AreHomeRuns (width size : ℕ) (homes : List Home) (cover : List (ℕ × ℕ)) (runs : List Home) : Type 0 where
   pub positions_are : positions_at runs ≡ positions_in cover
+  pub ascend : AreAscending 0 size runs
   pub each : All (IsHomeRun width homes) runs

@@ -15,7 +15,7 @@ use Rattle.pen_core.specs.Known.{PendingIsFolded, IsFileOf, IsShut, IsWritten, I
 use Rattle.pen_core.specs.Vectors.{frame_at, blanked_before, frames_with}
 use Rattle.segment_core.specs.Raw.{after_frame}
 use Rattle.segment_core.specs.Parsed.{vector_before}
-use Rattle.pen_core.specs.PenOf.{PenOf, JobOf}
+use Rattle.pen_core.specs.PenOf.{PenOf, JobOf, FoldOf}
 use Rattle.pen_core.specs.Pen.{OpensWith, MayBeOpening}
 
 abbrev pub job_of : Shape → List ℕ → Option Step → Option JobOf
@@ -23,14 +23,14 @@ job_of shape bytes None = None
 job_of shape bytes (Some step) = Some (record { frame = frame_at shape bytes; step = step })
 
 -- The frames and the vector are those that a read gives, cut at the gate.
-abbrev pub pen_of : {D : Type 0} → List State → D → Shape → ℕ → Tally → List ℕ → ℕ → Option Step → Bool → ℕ → PenOf D
-pen_of states disk shape gate tally bytes room step broken places = record {
+abbrev pub pen_of : {D : Type 0} → List State → D → Shape → ℕ → Tally → List ℕ → ℕ → Option Step → Bool → ℕ → Option FoldOf → PenOf D
+pen_of states disk shape gate tally bytes room step broken places fold = record {
   disk = disk;
   shape = shape;
   frames = blanked_before shape gate (bytes_of states);
   vector = vector_before shape gate (bytes_of states);
   job = job_of shape bytes step;
-  fold = None;
+  fold = fold;
   broken = broken;
   tally = tally;
   gate = gate;
@@ -75,22 +75,22 @@ Stands shape count gate frames vector bytes (Some step) s =
     let frame = frame_at shape bytes in
     IsAtStep shape count gate frames (frames_with frames frame) (after_frame shape.width vector frame) bytes step s
 
--- What a pen knows of its disk.
-pub record Knows (shape : Shape) (gate : ℕ) (tally : Tally) (frames : List Frame) (vector : List (List ℕ)) (bytes : List ℕ) (step : Option Step) (broken : Bool) (s : State) : Type 0 where
+-- What a pen knows of its disk. The count is that of a fold whose homes may be pending, 0 where there is none.
+pub record Knows (count : ℕ) (shape : Shape) (gate : ℕ) (tally : Tally) (frames : List Frame) (vector : List (List ℕ)) (bytes : List ℕ) (step : Option Step) (broken : Bool) (s : State) : Type 0 where
   pub gate_is : gate ≡ gate_of shape frames
   pub tally_is : tally ≡ tally_of frames
-  pub file : IsFileOf shape 0 frames vector s
+  pub file : IsFileOf shape count frames vector s
   pub images_open : (image : List ℕ) → IsImage s image → OpensWith shape frames vector (job_of shape bytes step) image
   pub gate_pending : is_within s.pending gate ≡ true → MayBeOpening (job_of shape bytes step)
   -- until a call fails
-  pub stands : broken ≡ false → Stands shape 0 gate frames vector bytes step s
+  pub stands : broken ≡ false → Stands shape count gate frames vector bytes step s
 
 -- The invariant.
-pub record IsPen (keeps : Type 0) (states : List State) (shape : Shape) (gate : ℕ) (tally next : Tally) (bytes : List ℕ) (step : Option Step) (broken : Bool) : Type 0 where
+pub record IsPen (count : ℕ) (keeps : Type 0) (states : List State) (shape : Shape) (gate : ℕ) (tally next : Tally) (bytes : List ℕ) (step : Option Step) (broken : Bool) : Type 0 where
   pub wide : (1 ≤ shape.width) × (shape.width < 2 ^ 16)
-  pub gate_fits : gate < 2 ^ 48
+  pub gate_fits : gate < 2 ^ 64
   pub size_fits : tally.size ≤ 2 ^ 32
   pub changes_fit : tally.changes ≤ gate
   pub folded_counted : tally.folded ≤ tally.changes
   pub job : IsMaybeJob shape gate tally next bytes step
-  pub knows : keeps → Knows shape gate tally (blanked_before shape gate (bytes_of states)) (vector_before shape gate (bytes_of states)) bytes step broken (now states)
+  pub knows : keeps → Knows count shape gate tally (blanked_before shape gate (bytes_of states)) (vector_before shape gate (bytes_of states)) bytes step broken (now states)

@@ -7,6 +7,8 @@ pub mod Refusals
 pub mod Pen
 pub mod Inside
 pub mod Listed
+pub mod Folds
 pub mod Births
 pub mod Covered
 pub mod HomeRuns
+pub mod Opening

@@ -1,11 +1,12 @@
 -- Why a pen refuses: each test on what it is seen as, in the order in which they are made.
-use Rattle.std.specs.Prelude.{◌≡◌, ℕ, ◌+◌, ◌*◌, ◌^◌, Bool, false, List, [], ◌∷◌, ◌++◌, length, map, Option, Some, None, MatchOption, nat_le, nat_lt, not, ◌&&◌, if◌then◌else◌}
+use Rattle.std.specs.Prelude.{◌≡◌, ℕ, ◌+◌, ◌≤◌, ◌^◌, Bool, false, List, [], ◌∷◌, ◌++◌, length, Option, Some, None, MatchOption, nat_le, nat_lt, not, ◌&&◌, if◌then◌else◌}
 use Rattle.std.specs.List.{list_all}
 use Rattle.std.specs.Option.{is_some}
 use Rattle.segment_core.specs.declared.format.Format.{Format}
 use Rattle.segment_core.specs.declared.format.Format.TheVariants.{One, Two}
 use Rattle.segment_core.specs.Shape.{limit_of}
-use Rattle.segment_core.specs.Frame.{Run, runs_len, records_of_runs}
+use Rattle.segment_core.specs.Frame.{Run}
+use Rattle.segment_core.specs.Runs.{change_len}
 use Rattle.segment_core.specs.Tally.{are_ascending, are_inside}
 use Rattle.pen_core.specs.declared.fault.PenFault.{PenFault}
 use Rattle.pen_core.specs.declared.fault.PenFault.TheVariants.{Broken, Busy, OldFormat, Runs, OutOfRange, TooLarge, Unfolded, FileFull, Memory}
@@ -51,14 +52,10 @@ module _ {D : Type 0} (pen : PenOf D) where
   abbrev pub are_disordered : List Run → Bool
   are_disordered runs = not (list_all (λ run. nat_lt 0 run.count) runs && are_ascending 0 runs)
 
-  -- the bytes of the payload of a change of these runs
-  abbrev pub change_len : List Run → ℕ
-  change_len runs = runs_len pen.shape.format (length runs) + records_of_runs runs * pen.shape.width
-
   abbrev pub change_lines : List Run → List (Bool × PenFault)
   change_lines runs =
       ready_lines ++ (is_old pen.shape.format runs, OldFormat) ∷ (are_disordered runs, Runs)
-      ∷ (not (are_inside pen.tally.size runs), OutOfRange) ∷ room_lines (change_len runs)
+      ∷ (not (are_inside pen.tally.size runs), OutOfRange) ∷ room_lines (change_len pen.shape runs)
 
   -- to a length past the vector's, or while a change is live
   abbrev pub shrink_lines : ℕ → List (Bool × PenFault)
@@ -72,5 +69,9 @@ room_for payload = 6 + payload + 1
 abbrev pub one_run : ℕ → ℕ → List Run
 one_run start count = record { start = start; count = count } ∷ []
 
-abbrev pub runs_given : List (ℕ × ℕ) → List Run
-runs_given runs = map (λ run. record { start = run.0; count = run.1 }) runs
+-- A change of these runs has been readied: none of the tests holds, and there is room for its frame and for its runs
+-- among the live ones.
+pub record IsReadied {D : Type 0} (pen : PenOf D) (runs : List Run) : Type 0 where
+  pub allowed : first_refusal (change_lines pen runs) ≡ None
+  pub room : room_for (change_len pen.shape runs) ≤ pen.room
+  pub places : length runs ≤ pen.places

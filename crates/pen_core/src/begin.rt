@@ -1,6 +1,6 @@
 //! The begin of a job: it tests all refusals and takes all memory, so that the ticks take none.
 
-ghost use Rattle.std.specs.Prelude.{◌≡◌, ◌<◌, ◌^◌, None, Some, false, take, OnOk, OnErr, IfErr};
+ghost use Rattle.std.specs.Prelude.{◌≡◌, ◌≤◌, ◌<◌, ◌^◌, None, Some, false, take, OnOk, OnErr, IfErr};
 ghost use Rattle.std.specs.Option.{is_some};
 ghost use Rattle.segment_core.specs.Frame.{Shrink};
 ghost use Rattle.pen_core.specs.Pen.{Begins, IsUnchanged, vector_after};
@@ -12,7 +12,7 @@ use crate::frame_bytes::{HEAD_LEN, put_shrink};
 use crate::pen::Pen;
 use crate::step::Step;
 use disk_core::Disk;
-use segment_core::Tally;
+use segment_core::{SHRINK_PAYLOAD_LEN, Tally};
 
 /// Gates stand below this place.
 const GATE_LIMIT: u64 = 1 << 48;
@@ -22,6 +22,7 @@ impl<D: Disk> Pen<D> {
     pub(crate) fn ready(&self) -> Result<(), PenFault>
         ensures whole { OnOk result (self.now.broken ≡ false) }
         ensures idle { OnOk result (is_some self.now.job ≡ false) }
+        ensures short { self.now.tally.size ≤ 2 ^ 32 }
         ensures refused { IfErr result (λ fault. first_refusal (ready_lines self.now) ≡ Some fault) }
     {
         if self.broken {
@@ -38,7 +39,7 @@ impl<D: Disk> Pen<D> {
         requires { payload < 2 ^ 32 }
         ensures { result ≡ refusals.is_full self.now payload }
     {
-        self.gate + (HEAD_LEN + payload) as u64 >= GATE_LIMIT
+        self.gate >= GATE_LIMIT || self.gate + (HEAD_LEN + payload) as u64 >= GATE_LIMIT
     }
 
     /// Begins to shrink the vector to its first `n` records.
@@ -59,7 +60,7 @@ impl<D: Disk> Pen<D> {
         if self.tally.folded < self.tally.changes {
             return Err(PenFault::Unfolded);
         }
-        if self.is_full(8) {
+        if self.is_full(SHRINK_PAYLOAD_LEN) {
             return Err(PenFault::FileFull);
         }
         if put_shrink(n, &mut self.bytes).is_err() {

@@ -1,17 +1,25 @@
 //! The begin of a change: other records for runs of positions.
 
-ghost use Rattle.std.specs.Prelude.{◌≡◌, ◌≤◌, ◌<◌, ◌^◌, ◌&&◌, None, Some, true, length, nat_lt, MatchResult, OnOk, IfOk, OnErr, IfErr};
+ghost use Rattle.std.specs.Prelude.{◌≡◌, ◌≤◌, ◌<◌, ◌^◌, ◌&&◌, None, Some, List, true, false, length, map, nat_lt, MatchResult, OnOk, IsOk, IfOk, OnErr, IfErr};
 ghost use Rattle.std.specs.List.{list_all};
-ghost use Rattle.segment_core.specs.Frame.{runs_len, records_of_runs};
+ghost use Rattle.std.specs.Option.{is_some};
+ghost use Rattle.segment_core.specs.Frame.{records_of_runs};
+ghost use Rattle.segment_core.specs.Raw.{AreReadAs};
+ghost use Rattle.segment_core.specs.Command.{replaced};
+ghost use Rattle.segment_core.specs.Written.{joined};
+ghost use Rattle.segment_core.specs.Runs.{runs_given, change_len, change_frame};
 ghost use Rattle.segment_core.specs.Tally.{are_ascending, are_inside};
-ghost use Rattle.pen_core.specs.Pen.{IsUnchanged};
-ghost use Rattle.pen_core.specs.Refusals.{first_refusal, IsRefusal, change_lines, change_len, one_run, runs_given, room_for};
+ghost use Rattle.pen_core.specs.Pen.{Begins, IsUnchanged, vector_after};
+ghost use Rattle.pen_core.specs.Refusals.{first_refusal, IsRefusal, change_lines, one_run, room_for, IsReadied};
 
 use crate::fault::PenFault;
-use crate::frame_bytes::take_room;
+use crate::frame_bytes::{put_change, take_room};
+use crate::group::count_records;
 use crate::pen::Pen;
+use crate::step::Step;
 use disk_core::Disk;
-use segment_core::Format;
+use record_core::Record;
+use segment_core::{Format, GrowthList, Tally};
 
 /// Whether each run has a position, and begins at or behind the end of the one before.
 fn runs_ascend(runs: &[(u64, u64)]) -> bool
@@ -60,8 +68,9 @@ impl<D: Disk> Pen<D> {
     fn change_size(&self, runs: &[(u64, u64)]) -> Result<usize, PenFault>
         requires some { 0 < length runs.now }
         requires width { self.now.shape.width < 2 ^ 16 }
-        ensures size { IfOk result (λ payload. payload ≡ change_len self.now (runs_given runs.now)) }
+        ensures size { IfOk result (λ payload. payload ≡ change_len self.now.shape (runs_given runs.now)) }
         ensures small { IfOk result (λ payload. payload < 2 ^ 32) }
+        ensures idle { OnOk result (is_some self.now.job ≡ false) }
         ensures allowed { OnOk result (first_refusal (change_lines self.now (runs_given runs.now)) ≡ None) }
         ensures refused { IfErr result (λ fault. first_refusal (change_lines self.now (runs_given runs.now)) ≡ Some fault) }
     {
@@ -80,11 +89,7 @@ impl<D: Disk> Pen<D> {
         if runs.len() > limit {
             return Err(PenFault::TooLarge);
         }
-        let head = match self.shape.format {
-            Format::One => runs.len() * 8,
-            Format::Two => 4 + runs.len() * 12,
-        };
-        let payload = head + records * self.shape.width;
+        let payload = self.shape.format.runs_len(runs.len()) + records * self.shape.width;
         if payload > limit {
             return Err(PenFault::TooLarge);
         }
@@ -95,16 +100,15 @@ impl<D: Disk> Pen<D> {
     }
 
     /// Whether runs of positions, by start and count, may be changed: answers all refusals of such a change, and takes
-    /// the room that its frame and its place among the live runs need.
+    /// the room that its frame and its place among the live runs need. A begin of the same runs directly after it isn't
+    /// refused.
     ///
     /// Refused, in this order: `Broken`; `Busy`; `OldFormat`, for more than one run in a file of version 1; `Runs`,
     /// where one is empty, or doesn't begin at or behind the end of the one before; `OutOfRange`; `TooLarge`;
     /// `FileFull`; `Memory`.
     pub fn ready_runs(&mut self, runs: &[(u64, u64)]) -> Result<(), PenFault>
         requires some { 0 < length runs.now }
-        ensures allowed { OnOk result (first_refusal (change_lines self.old (runs_given runs.now)) ≡ None) }
-        ensures room { OnOk result (room_for (change_len self.old (runs_given runs.now)) ≤ self.new.room) }
-        ensures places { OnOk result (length runs.now ≤ self.new.places) }
+        ensures ready { OnOk result (IsReadied self.new (runs_given runs.now)) }
         ensures refused { IfErr result (λ fault. IsRefusal (change_lines self.old (runs_given runs.now)) fault) }
         ensures unchanged { IsUnchanged self.old self.new }
     {
@@ -121,12 +125,86 @@ impl<D: Disk> Pen<D> {
     /// Whether `count` positions from `start` on may be changed, at least one. `ready_runs` says more.
     pub fn ready_change(&mut self, start: u64, count: u64) -> Result<(), PenFault>
         requires some { 0 < count }
-        ensures allowed { OnOk result (first_refusal (change_lines self.old (one_run start count)) ≡ None) }
-        ensures room { OnOk result (room_for (change_len self.old (one_run start count)) ≤ self.new.room) }
-        ensures places { OnOk result (1 ≤ self.new.places) }
+        ensures ready { OnOk result (IsReadied self.new (one_run start count)) }
         ensures refused { IfErr result (λ fault. IsRefusal (change_lines self.old (one_run start count)) fault) }
         ensures unchanged { IsUnchanged self.old self.new }
     {
         self.ready_runs(&[(start, count)])
+    }
+
+    /// Begins to change the records of runs of positions, by start and count, to those that the pieces lend, in order,
+    /// each piece as one slice. At least one run; the pieces have as many records as the runs.
+    ///
+    /// Refused as `ready_runs` is, in the same order. Directly after that of the same runs it isn't refused.
+    pub fn begin_runs_from<R: Record, G: GrowthList<R>>(
+        &mut self,
+        runs: &[(u64, u64)],
+        pieces: &G,
+    ) -> Result<(), PenFault>
+        requires width { R.form.width ≡ self.old.shape.width }
+        requires some { 0 < length runs.now }
+        requires filled { length (joined (G.growths pieces.now)) ≡ records_of_runs (runs_given runs.now) }
+        ensures begun { OnOk result (Begins (change_frame R.form (runs_given runs.now) (G.growths pieces.now)) self.old self.new) }
+        ensures next { (records : List R) → AreReadAs R.form self.old.vector records
+            → OnOk result (AreReadAs R.form (vector_after self.new) (replaced records (runs_given runs.now) (joined (G.growths pieces.now)))) }
+        ensures allowed { OnOk result (first_refusal (change_lines self.old (runs_given runs.now)) ≡ None) }
+        ensures refused { IfErr result (λ fault. IsRefusal (change_lines self.old (runs_given runs.now)) fault) }
+        ensures unchanged { OnErr result (IsUnchanged self.old self.new) }
+        ensures sure { IsReadied self.old (runs_given runs.now) → IsOk result }
+    {
+        let payload = self.change_size(runs)?;
+        let format = self.shape.format;
+        if put_change::<R, G>(format, runs, pieces, payload, &mut self.bytes).is_err() {
+            return Err(PenFault::Memory);
+        }
+        if self.homes.live.extend_from_slice(runs).is_err() {
+            return Err(PenFault::Memory);
+        }
+        self.next = Tally {
+            changes: self.tally.changes + 1,
+            ..self.tally
+        };
+        self.step = Some(Step::Body);
+        Ok(())
+    }
+
+    /// Begins to change the records of runs. `begin_runs_from` says more.
+    pub fn begin_runs<R: Record>(
+        &mut self,
+        runs: &[(u64, u64)],
+        pieces: &[&[R]],
+    ) -> Result<(), PenFault>
+        requires width { R.form.width ≡ self.old.shape.width }
+        requires some { 0 < length runs.now }
+        requires filled { length (joined (map (λ piece. piece.now) pieces.now)) ≡ records_of_runs (runs_given runs.now) }
+        ensures begun { OnOk result (Begins (change_frame R.form (runs_given runs.now) (map (λ piece. piece.now) pieces.now)) self.old self.new) }
+        ensures next { (records : List R) → AreReadAs R.form self.old.vector records
+            → OnOk result (AreReadAs R.form (vector_after self.new) (replaced records (runs_given runs.now) (joined (map (λ piece. piece.now) pieces.now)))) }
+        ensures allowed { OnOk result (first_refusal (change_lines self.old (runs_given runs.now)) ≡ None) }
+        ensures refused { IfErr result (λ fault. IsRefusal (change_lines self.old (runs_given runs.now)) fault) }
+        ensures unchanged { OnErr result (IsUnchanged self.old self.new) }
+        ensures sure { IsReadied self.old (runs_given runs.now) → IsOk result }
+    {
+        self.begin_runs_from::<R, &[&[R]]>(runs, &pieces)
+    }
+
+    /// Begins to change the records from `start` on to those of the pieces, at least one. Directly after `ready_change`
+    /// of the same start and count it isn't refused. `begin_runs_from` says more.
+    pub fn begin_change<R: Record>(&mut self, start: u64, pieces: &[&[R]]) -> Result<(), PenFault>
+        requires width { R.form.width ≡ self.old.shape.width }
+        requires some { 0 < length (joined (map (λ piece. piece.now) pieces.now)) }
+        ensures begun { OnOk result (Begins (change_frame R.form (one_run start (length (joined (map (λ piece. piece.now) pieces.now)))) (map (λ piece. piece.now) pieces.now)) self.old self.new) }
+        ensures next { (records : List R) → AreReadAs R.form self.old.vector records
+            → OnOk result (AreReadAs R.form (vector_after self.new) (replaced records (one_run start (length (joined (map (λ piece. piece.now) pieces.now)))) (joined (map (λ piece. piece.now) pieces.now)))) }
+        ensures allowed { OnOk result (first_refusal (change_lines self.old (one_run start (length (joined (map (λ piece. piece.now) pieces.now))))) ≡ None) }
+        ensures refused { IfErr result (λ fault. IsRefusal (change_lines self.old (one_run start (length (joined (map (λ piece. piece.now) pieces.now))))) fault) }
+        ensures unchanged { OnErr result (IsUnchanged self.old self.new) }
+        ensures sure { IsReadied self.old (one_run start (length (joined (map (λ piece. piece.now) pieces.now)))) → IsOk result }
+    {
+        self.ready()?;
+        let Some(count) = count_records::<R, &[&[R]]>(&pieces) else {
+            return Err(PenFault::OutOfRange);
+        };
+        self.begin_runs_from::<R, &[&[R]]>(&[(start, count)], &pieces)
     }
 }

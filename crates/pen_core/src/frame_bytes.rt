@@ -1,20 +1,20 @@
 //! The bytes of a job: its frame behind an open gate, and the next gate, closed.
 
-ghost use Rattle.std.specs.Prelude.{◌≡◌, ◌≤◌, ◌<◌, ◌+◌, ◌^◌, ◌++◌, ◌∷◌, [], OnOk, IsOk, vec_capacity};
-ghost use Rattle.std.specs.Int.{w32, to_le_bytes};
+ghost use Rattle.std.specs.Prelude.{◌≡◌, ◌≤◌, ◌<◌, ◌+◌, ◌^◌, ◌++◌, ◌∷◌, [], length, OnOk, IsOk, vec_capacity};
+ghost use Rattle.record_core.specs.Cells.{AreReadAgain};
 ghost use Rattle.segment_core.specs.declared.format.Format.{Format};
-ghost use Rattle.segment_core.specs.Kind.{kind_byte};
-ghost use Rattle.segment_core.specs.Frame.{Shrink, frame_text};
+ghost use Rattle.segment_core.specs.Shape.{shape_of};
+ghost use Rattle.segment_core.specs.Frame.{Shrink, records_of_runs, frame_text};
+ghost use Rattle.segment_core.specs.Written.{joined};
+ghost use Rattle.segment_core.specs.Runs.{runs_given, change_len, change_frame};
 ghost use Rattle.pen_core.specs.Refusals.{room_for};
 
-use segment_core::FrameKind;
+use record_core::Record;
+use segment_core::{Format, GrowthList, SHRINK_PAYLOAD_LEN, append_change, append_shrink};
 use std::alloc::AllocError;
 
 /// The bytes of a frame before its payload.
 pub(crate) const HEAD_LEN: usize = 6;
-
-/// An open gate.
-const OPEN: u8 = 1;
 
 /// The gate as it is written closed.
 const CLOSED: u8 = 0;
@@ -30,25 +30,33 @@ pub(crate) fn take_room(payload: usize, bytes: &mut Vec<u8>) -> Result<(), Alloc
     bytes.reserve(HEAD_LEN + payload + 1)
 }
 
-/// Begins a frame: an open gate, the kind and the payload's length. There is room for all of it then.
-fn put_head(kind: FrameKind, payload: usize, bytes: &mut Vec<u8>) -> Result<(), AllocError>
-    requires { payload < 2 ^ 32 }
-    ensures text { OnOk result (bytes.new.items ≡ 1 ∷ kind_byte kind ∷ to_le_bytes w32 payload) }
-    ensures room { OnOk result (room_for payload ≤ vec_capacity bytes.new) }
+/// The frame of a change whose payload has this length, and the next gate.
+pub(crate) fn put_change<R: Record, G: GrowthList<R>>(
+    format: Format,
+    runs: &[(u64, u64)],
+    pieces: &G,
+    payload: usize,
+    bytes: &mut Vec<u8>,
+) -> Result<(), AllocError>
+    requires filled { length (joined (G.growths pieces.now)) ≡ records_of_runs (runs_given runs.now) }
+    requires len { payload ≡ change_len (shape_of format R.form) (runs_given runs.now) }
+    requires small { payload < 2 ^ 32 }
+    ensures text { OnOk result (bytes.new.items ≡ frame_text format (change_frame R.form (runs_given runs.now) (G.growths pieces.now)) ++ 0 ∷ []) }
+    ensures read_again { OnOk result (AreReadAgain R.form (joined (G.growths pieces.now))) }
     ensures sure { room_for payload ≤ vec_capacity bytes.old → IsOk result }
 {
     take_room(payload, bytes)?;
-    bytes.push(OPEN)?;
-    bytes.push(kind as u8)?;
-    bytes.extend_from_slice(&(payload as u32).to_le_bytes())
+    append_change::<R, G>(format, runs, pieces, payload, bytes)?;
+    bytes.push(CLOSED)?;
+    Ok(())
 }
 
 /// The frame of a shrink, and the next gate.
 pub(crate) fn put_shrink(n: u64, bytes: &mut Vec<u8>) -> Result<(), AllocError>
     ensures text { OnOk result ((format : Format) → bytes.new.items ≡ frame_text format (Shrink n) ++ 0 ∷ []) }
 {
-    put_head(FrameKind::Shrink, 8, bytes)?;
-    bytes.extend_from_slice(&n.to_le_bytes())?;
+    take_room(SHRINK_PAYLOAD_LEN, bytes)?;
+    append_shrink(n, bytes)?;
     bytes.push(CLOSED)?;
     Ok(())
 }

@@ -16,7 +16,7 @@ use record_core::{Record, width_of};
 use segment_core::{GrowthList, Home, RECORD_LIMIT, Tally, append_group};
 
 /// How many records the growths have, if no vector is too short for them.
-fn count_records<R, G: GrowthList<R>>(growths: &G) -> Option<u64>
+pub(crate) fn count_records<R, G: GrowthList<R>>(growths: &G) -> Option<u64>
     ensures { MatchOption result
         (2 ^ 32 < length (joined (G.growths growths.now)))
         (λ n. (n ≡ length (joined (G.growths growths.now))) × (n ≤ 2 ^ 32)) }

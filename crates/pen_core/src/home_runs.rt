@@ -2,6 +2,7 @@
 
 ghost use Rattle.std.specs.Prelude.{◌≡◌, ◌≤◌, ◌<◌, ◌+◌, ◌-◌, ◌*◌, ◌^◌, All, IfOk, OnOk, length, get_or};
 ghost use Rattle.std.specs.List.{range_with_len};
+ghost use Rattle.pen_core.specs.Covered.{StandApart};
 ghost use Rattle.pen_core.specs.HomeRuns.{AreHomesTo, IsHomeRun, IsPartOf, Appends, AreHomeRuns};
 
 use segment_core::Home;
@@ -34,7 +35,7 @@ fn append_parts(
     requires to { to ≤ home.position + home.count }
     requires fits { home.position + home.count ≤ 2 ^ 32 }
     requires placed { from < to → home.place + (to - home.position) * width ≤ 2 ^ 48 }
-    ensures { OnOk result (Appends (IsPartOf width home) (range_with_len from (to - from)) runs.old.items runs.new.items) }
+    ensures { OnOk result (Appends (IsPartOf width home) (range_with_len from (to - from)) from to runs.old.items runs.new.items) }
 {
     let mut at = from;
     while at < to {
@@ -62,7 +63,7 @@ fn append_run(
     requires size { size ≤ 2 ^ 32 }
     requires some { from < to }
     requires inside { to ≤ size }
-    ensures { OnOk result (Appends (IsHomeRun width homes.now) (range_with_len from (to - from)) runs.old.items runs.new.items) }
+    ensures { OnOk result (Appends (IsHomeRun width homes.now) (range_with_len from (to - from)) from to runs.old.items runs.new.items) }
 {
     let mut at = from;
     for k in home_at(homes, from, size, width)..homes.len() {
@@ -77,7 +78,7 @@ fn append_run(
     Ok(())
 }
 
-/// The positions that these runs cover, in order, in runs whose home bytes are adjacent, each few enough for one
+/// The positions that these runs cover, which stand apart, in order, in runs whose home bytes are adjacent, each few enough for one
 /// write. The homes are those of the vector's positions; of each run the first is found by a binary search.
 pub(crate) fn home_runs(
     alloc: Global,
@@ -88,9 +89,9 @@ pub(crate) fn home_runs(
 ) -> Result<Vec<Home>, AllocError>
     requires homes { AreHomesTo width size homes.now }
     requires size { size ≤ 2 ^ 32 }
-    requires some { All (λ run. 0 < run.1) cover.now }
+    requires apart { StandApart 0 cover.now }
     requires inside { All (λ run. run.0 + run.1 ≤ size) cover.now }
-    ensures { IfOk result (λ runs. AreHomeRuns width homes.now cover.now runs.items) }
+    ensures { IfOk result (λ runs. AreHomeRuns width size homes.now cover.now runs.items) }
 {
     let mut runs = Vec::new(alloc);
     for k in 0..cover.len() {

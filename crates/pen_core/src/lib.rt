@@ -10,6 +10,7 @@ mod fault;
 mod frame_bytes;
 mod group;
 mod home_runs;
+mod open;
 mod pen;
 mod stage;
 mod step;

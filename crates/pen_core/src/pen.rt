@@ -35,7 +35,7 @@ pub struct Pen<D: Disk> {
 }
 
 impl<D: Disk> Model for Pen<D> {
-    ghost use Rattle.std.specs.Prelude.{◌-◌, vec_len, vec_capacity};
+    ghost use Rattle.std.specs.Prelude.{◌-◌, None, vec_len, vec_capacity};
     ghost use Rattle.pen_core.specs.PenOf.{PenOf};
     ghost use Rattle.pen_core.specs.Inside.{pen_of, IsPen};
     ghost use Rattle.pen_core.specs.Listed.{IsListed};
@@ -43,9 +43,9 @@ impl<D: Disk> Model for Pen<D> {
     ghost Value = { PenOf D };
 
     ghost view = { λ p. pen_of (D.states p.disk) p.disk p.shape p.gate p.tally p.bytes.items (vec_capacity p.bytes) p.step p.broken
-        (vec_capacity p.homes.live - vec_len p.homes.live) };
+        (vec_capacity p.homes.live - vec_len p.homes.live) None };
 
-    ghost invariant = { λ p. IsPen (D.keeps p.disk) (D.states p.disk) p.shape p.gate p.tally p.next p.bytes.items p.step p.broken
+    ghost invariant = { λ p. IsPen 0 (D.keeps p.disk) (D.states p.disk) p.shape p.gate p.tally p.next p.bytes.items p.step p.broken
         × IsListed (D.keeps p.disk) (D.states p.disk) p.shape p.gate p.tally p.bytes.items p.step p.homes p.live };
 }
 

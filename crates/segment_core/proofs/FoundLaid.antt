@@ -1,6 +1,6 @@
 -- Records laid over records: one position more, one run more, one change more.
 use Rattle.std.proofs.Common.{◌≡◌, ◌≢◌, ℕ, zero, suc, ◌+◌, ◌-◌, ◌*◌, ◌≤◌, ◌<◌, Bool, true, List, [], ◌∷◌, ◌++◌, length, take, drop, Option, Some, None, refl, sym, ap, subst, ◌∙◌, arith, inl, inr}
-use Rattle.std.specs.Prelude.{nat_le, slice_get}
+use Rattle.std.specs.Prelude.{nat_le, slice_get, MatchOption}
 use Rattle.std.specs.List.{list_all}
 use Rattle.std.specs.Option.{option_or}
 use Rattle.std.proofs.lemmas.Bool.{cases_lt, and_parts, leb-true}
@@ -15,7 +15,7 @@ use Rattle.segment_core.specs.declared.notes.Notes.{Notes}
 use Rattle.segment_core.specs.Frame.{Run, Frame, Group, Change, Shrink, Fold, records_of_runs}
 use Rattle.segment_core.specs.Tally.{are_inside}
 use Rattle.segment_core.specs.Reading.{Seen, runs_of, record_count}
-use Rattle.segment_core.specs.Vector.{place_among, place_in_runs}
+use Rattle.segment_core.specs.Vector.{place_among, place_in_runs, record_in}
 use Rattle.segment_core.specs.Notes.{noted}
 use Rattle.segment_core.specs.Found.{StandsAt, IsDecoded, IsLaidAt, IsLaid}
 use Rattle.segment_core.proofs.FrameParts.{records_of_runs-cons}
@@ -115,6 +115,12 @@ decoded_as {R} form image place k w position at held notes is here decoded =
 
 others_as : (old new : Notes) (position at : ℕ) → position ≡ at → ((q : ℕ) → q ≢ position → noted new q ≡ noted old q) → (q : ℕ) → q ≢ at → noted new q ≡ noted old q
 others_as old new position at here others q apart = others q (λ is. apart (is ∙ here))
+
+-- bytes that are a record, at a position of which nothing is noted
+pub decoded_whole : {R : Type 0} (form : Encoding R) (image : List ℕ) (place : ℕ) (bytes : List ℕ) (r : R) (note : Option ℕ) → length bytes ≡ form.width → form.value_of bytes ≡ Some r → StandsAt image place bytes → note ≡ None → IsDecoded form image place (Some r) note
+decoded_whole {R} form image place bytes r note wide value stands none =
+    let is : record_in form image place ≡ Some r = ap (λ n. form.value_of (take n (drop place image))) (sym wide) ∙ ap form.value_of stands ∙ value in
+    subst (λ (o : Option R). MatchOption o (note ≡ Some place) (λ held. (Some r ≡ Some held) × (note ≡ None))) (sym is) (refl, none)
 
 -- a record that was pushed
 pub laid_push : {R : Type 0} (form : Encoding R) (image : List ℕ) (place start k w position : ℕ) (old : List R) (old_notes : Notes) (mid : List R) (mid_notes : Notes) (new : List R) (new_notes : Notes) (r : R)

@@ -1,5 +1,5 @@
 -- How far an image has been read.
-use Rattle.std.specs.Prelude.{◌≡◌, ◌<◌, ℕ, List, [], ◌++◌, length, take, vec_capacity, ◌⊎◌}
+use Rattle.std.specs.Prelude.{◌≡◌, ◌<◌, ◌+◌, ℕ, nat_lt, if◌then◌else◌, List, [], ◌++◌, length, take, vec_capacity, ◌⊎◌}
 use Rattle.record_core.specs.Bytes.{Encoding}
 use Rattle.segment_core.specs.declared.fault.ScanFault.{ScanFault}
 use Rattle.segment_core.specs.declared.fault.ScanFault.TheVariants.{Memory}
@@ -8,9 +8,13 @@ use Rattle.segment_core.specs.declared.scanner.Stage.{Stage}
 use Rattle.segment_core.specs.declared.scanner.Stage.TheVariants.{Header, Open, Closed, Refused}
 use Rattle.segment_core.specs.Frame.{Frame}
 use Rattle.segment_core.specs.Image.{HasFrames}
-use Rattle.segment_core.specs.Fault.{IsSound, IsRefused}
+use Rattle.segment_core.specs.Fault.{payload_len_in, IsSound, IsRefused}
 use Rattle.segment_core.specs.Reading.{IsShort}
 use Rattle.segment_core.specs.Walk.{IsBehind, StandsBefore}
+
+-- how long a frame is, as far as its front tells: its head at least
+abbrev pub len_told : List ℕ → ℕ
+len_told front = if nat_lt (length front) 6 then 6 else 6 + payload_len_in front
 
 -- the image is the front of a header, and the vector has no memory yet
 pub record IsFront {R : Type 0} (form : Encoding R) (image : List ℕ) (scanner : Scanner R) : Type 0 where

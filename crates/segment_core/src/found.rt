@@ -1,7 +1,7 @@
 //! What the frames so far say of the vector. Records are decoded as their home bytes come by, and live changes
 //! are laid over them at the end.
 
-ghost use Rattle.std.specs.Prelude.{◌≡◌, ◌≢◌, ◌≤◌, ◌<◌, ◌+◌, ◌*◌, ◌-◌, ◌^◌, ◌++◌, ◌∷◌, ◌⊎◌, [], ℕ, List, Some, None, length, drop, OnOk, IfOk, MatchResult, vec_capacity};
+ghost use Rattle.std.specs.Prelude.{◌≡◌, ◌≢◌, ◌≤◌, ◌<◌, ◌+◌, ◌*◌, ◌-◌, ◌^◌, ◌++◌, ◌∷◌, ◌⊎◌, [], ℕ, List, Some, None, length, drop, OnOk, IfOk, MatchResult, vec_len, vec_capacity};
 ghost use Rattle.std.specs.List.{flat_map, AllByRecursion};
 ghost use Rattle.segment_core.specs.declared.format.Format.{Format};
 ghost use Rattle.segment_core.specs.Shape.{shape_of};
@@ -81,6 +81,37 @@ fn decode<R: Record>(
     }
 }
 
+/// Appends the records of these bytes up to the first that is none, as long as nothing is noted, and answers how
+/// many they are. The loop touches nothing but the bytes and the records, so that numbers are copied many at once.
+fn grow_sound<R: Record>(area: &[u8], count: usize, records: &mut Vec<R>, notes: &Notes) -> usize
+    requires filled { length area.now ≡ count * R.form.width }
+    requires room { vec_len records.old + count ≤ vec_capacity records.old }
+    ensures inside { result ≤ count }
+    ensures longer { length records.new.items ≡ length records.old.items + result }
+    ensures room { vec_len records.new + count ≤ vec_capacity records.new + result }
+    ensures laid { (image : List ℕ) (place : ℕ) → StandsAt image place area.now
+        → IsLaid R.form image (place_among R.form.width place (length records.old.items) result) records.old.items notes.now records.new.items notes.now }
+{
+    if !notes.is_empty() {
+        return 0;
+    }
+    let width = width_of::<R>();
+    // Held here, so that the loop keeps its length in a register.
+    let alloc = *records.allocator();
+    let mut grown = replace(records, Vec::new(alloc));
+    let mut sound = 0;
+    while sound < count {
+        let at = sound * width;
+        let Some(record) = R::take(&area[at..at + width]) else {
+            break;
+        };
+        grown.push_reserved(record);
+        sound += 1;
+    }
+    *records = grown;
+    sound
+}
+
 /// Appends the `count` records of these bytes, which stand at this place.
 fn grow<R: Record>(
     area: &[u8],
@@ -99,16 +130,13 @@ fn grow<R: Record>(
     let width = width_of::<R>();
     let start = records.len();
     records.reserve(count)?;
-    // Held here, so that the loop keeps its length in a register.
-    let alloc = *records.allocator();
-    let mut grown = replace(records, Vec::new(alloc));
-    for k in 0..count {
+    let sound = grow_sound(area, count, records, notes);
+    for k in sound..count {
         let at = k * width;
         let position = (start + k) as u64;
         let record = decode(&area[at..at + width], position, place + at as u64, notes)?;
-        grown.push_reserved(record);
+        records.push_reserved(record);
     }
-    *records = grown;
     Ok(())
 }
 

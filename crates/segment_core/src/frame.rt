@@ -269,7 +269,7 @@ impl<'a> FrameReader<'a> {
 
 /// The number whose four bytes begin at `at`.
 #[tactic(auto, unfolding(crate::specs::Layout::u32_at))]
-fn u32_at(bytes: &[u8], at: usize) -> u32
+pub(crate) fn u32_at(bytes: &[u8], at: usize) -> u32
     requires { at + 4 ≤ length bytes.now }
     ensures { result ≡ u32_at bytes.now at }
 {

@@ -1,6 +1,6 @@
 //! Which positions have no record so far, and where the bytes stand that say so.
 
-ghost use Rattle.std.specs.Prelude.{◌≡◌, ◌≢◌, ◌<◌, ◌≤◌, ℕ, Some, None, OnOk, MatchOption};
+ghost use Rattle.std.specs.Prelude.{◌≡◌, ◌≢◌, ◌<◌, ◌≤◌, ℕ, Some, None, OnOk, IsTrue, MatchOption};
 ghost use Rattle.segment_core.specs.Notes.{noted};
 
 use std::alloc::{AllocError, Global};
@@ -22,6 +22,14 @@ impl Notes {
         }
     }
 
+    /// Whether nothing is noted.
+    #[inline(always)]
+    pub(crate) fn is_empty(&self) -> bool
+        ensures { IsTrue result → (q : ℕ) → noted self.now q ≡ None }
+    {
+        self.places.is_empty()
+    }
+
     /// The bytes at this place say what is at the position, and are no record.
     #[cold]
     #[inline(never)]
@@ -39,7 +47,7 @@ impl Notes {
         ensures here { noted self.new position ≡ None }
         ensures others { (q : ℕ) → q ≢ position → noted self.new q ≡ noted self.old q }
     {
-        if !self.places.is_empty() {
+        if !self.is_empty() {
             self.remove(position);
         }
     }

@@ -6,12 +6,12 @@ ghost use Rattle.segment_core.specs.Frame.{header};
 ghost use Rattle.segment_core.specs.Fault.{header_fault, IsRefused};
 ghost use Rattle.segment_core.specs.Found.{AreHomesOf};
 ghost use Rattle.segment_core.specs.Scanned.{IsScanOf};
-ghost use Rattle.segment_core.specs.Scanner.{GoesOn, HasEnded, IsOn, IsRefusedFor, IsFedAt, IsFed, IsLost};
+ghost use Rattle.segment_core.specs.Scanner.{len_told, GoesOn, HasEnded, IsOn, IsRefusedFor, IsFedAt, IsFed, IsLost};
 
 use crate::fault::{Cause, ScanFault};
 use crate::format::{FRAME_HEAD_LEN, Format, HEADER_LEN, MAGIC, OPEN, RECORD_LIMIT, Shape};
 use crate::found::Homes;
-use crate::frame::damaged;
+use crate::frame::{damaged, u32_at};
 use crate::vector::Scanned;
 use crate::walk::{Tail, Walk};
 use record_core::{Record, width_of};
@@ -68,20 +68,20 @@ fn check_header(bytes: &[u8], width: usize) -> Result<Format, ScanFault>
     Ok(format)
 }
 
-/// How many bytes to take next: all where no frame has begun, else those of its head, or of its payload.
+/// How many bytes to take next: all where no frame has begun, else what is left of its head, or of the whole frame.
 fn wanted(pending: &[u8]) -> usize
-    ensures { 0 < result }
+    ensures some { 0 < result }
+    ensures left { 0 < length pending.now → length pending.now < len_told pending.now → length pending.now + result ≡ len_told pending.now }
 {
     if pending.is_empty() {
         return usize::MAX;
     }
-    let whole = if pending.len() < FRAME_HEAD_LEN {
+    let told = if pending.len() < FRAME_HEAD_LEN {
         FRAME_HEAD_LEN
     } else {
-        FRAME_HEAD_LEN
-            + u32::from_le_bytes([pending[2], pending[3], pending[4], pending[5]]) as usize
+        FRAME_HEAD_LEN + u32_at(pending, 2) as usize
     };
-    whole.saturating_sub(pending.len()).max(1)
+    told.saturating_sub(pending.len()).max(1)
 }
 
 impl<R: Record> Scanner<R> {

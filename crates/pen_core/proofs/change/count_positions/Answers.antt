@@ -1,7 +1,7 @@
 use Rattle.std.proofs.Common.{◌+◌, get_or, drop, ap, arith}
 use Rattle.segment_core.specs.Frame.{records_of_runs}
 use Rattle.segment_core.proofs.FrameParts.{records_of_runs-cons}
-use Rattle.pen_core.specs.Refusals.{runs_given}
+use Rattle.segment_core.specs.Runs.{runs_given}
 use Rattle.pen_core.proofs.RunsGiven.{runs_left, positions_within}
 use Rattle.pen_core.proofs.change.count_positions.Goals as goal
 

@@ -1,6 +1,6 @@
 use Rattle.std.proofs.Common.{◌≡◌, drop}
 use Rattle.segment_core.specs.Tally.{are_inside}
-use Rattle.pen_core.specs.Refusals.{runs_given}
+use Rattle.segment_core.specs.Runs.{runs_given}
 use Rattle.pen_core.proofs.change.runs_inside.Given as goal
 
 abbrev pub invariant-loop-k : goal.invariant-loop-k

@@ -1,5 +1,5 @@
 use Rattle.std.proofs.Common.{◌+◌, arith}
-use Rattle.pen_core.proofs.Growths.{records_more, records_within}
+use Rattle.segment_core.proofs.Written.{records_more, records_within}
 use Rattle.pen_core.proofs.group.count_records.Goals as goal
 
 pub returns-then-records-total : goal.returns-then-records-total

@@ -14,7 +14,7 @@ pub loop-at-init : goal.loop-at-init
 loop-at-init c = record {
   from = omega arith;
   to = c.requires.some;
-  so_far = subst (λ ps. Appends (IsPartOf c.args.width c.args.home) ps c.args.runs.now.items c.args.runs.now.items) (sym (none_left c.args.from)) (Appends-none (IsPartOf c.args.width c.args.home) c.args.runs.now.items);
+  so_far = subst (λ ps. Appends (IsPartOf c.args.width c.args.home) ps c.args.from c.args.from c.args.runs.now.items c.args.runs.now.items) (sym (none_left c.args.from)) (Appends-none (IsPartOf c.args.width c.args.home) c.args.from c.args.runs.now.items);
 }
 
 pub overflow_sub-at : goal.overflow_sub-at
@@ -46,7 +46,7 @@ loop-at-preserved c =
     record {
       from = omega arith;
       to = omega arith;
-      so_far = subst (λ rs. Appends (IsPartOf c.args.width c.args.home) (range_with_len c.args.from (c.loop-at.at + c.min-count.result - c.args.from)) c.args.runs.now.items rs) (sym c.in_ok-push.ensures.items)
+      so_far = subst (λ rs. Appends (IsPartOf c.args.width c.args.home) (range_with_len c.args.from (c.loop-at.at + c.min-count.result - c.args.from)) c.args.from (c.loop-at.at + c.min-count.result) c.args.runs.now.items rs) (sym c.in_ok-push.ensures.items)
           (part_more c.args.width c.args.from c.args.to c.loop-at.at c.min-count.result c.args.home c.args.runs.now.items c.loop-at.runs.items c.requires.from from (omega arith) c.requires.to (omega arith) (omega arith) c.loop-at.invariant.so_far);
     }
 
@@ -54,4 +54,4 @@ pub returns : goal.returns
 returns c =
     let to = c.loop-at.invariant.to in
     let all : c.loop-at.at ≡ c.args.to = omega (arith, c.loop-at-test.false) in
-    subst (λ n. Appends (IsPartOf c.args.width c.args.home) (range_with_len c.args.from (n - c.args.from)) c.args.runs.now.items c.loop-at.runs.items) all c.loop-at.invariant.so_far
+    subst (λ n. Appends (IsPartOf c.args.width c.args.home) (range_with_len c.args.from (n - c.args.from)) c.args.from n c.args.runs.now.items c.loop-at.runs.items) all c.loop-at.invariant.so_far

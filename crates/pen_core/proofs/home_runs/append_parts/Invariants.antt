@@ -7,7 +7,7 @@ abbrev pub invariant-loop-at : goal.invariant-loop-at
 invariant-loop-at l = record {
   from : l.from ≤ l.at;
   to : l.at ≤ l.to;
-  so_far : Appends (IsPartOf l.width l.home) (range_with_len l.from (l.at - l.from)) l.fn.runs.items l.runs.items;
+  so_far : Appends (IsPartOf l.width l.home) (range_with_len l.from (l.at - l.from)) l.from l.at l.fn.runs.items l.runs.items;
 }
 
 abbrev pub decreases-loop-at : goal.decreases-loop-at

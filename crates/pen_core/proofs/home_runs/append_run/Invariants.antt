@@ -10,5 +10,5 @@ invariant-loop-k l = record {
   to : l.at ≤ l.to;
   here : (d : Home) → l.at < l.to → l.k < length l.homes → ((get_or l.homes l.k d).position ≤ l.at) × (l.at ≤ (get_or l.homes l.k d).position + (get_or l.homes l.k d).count);
   all : length l.homes ≤ l.k → l.to ≤ l.at;
-  so_far : Appends (IsHomeRun l.width l.homes) (range_with_len l.from (l.at - l.from)) l.fn.runs.items l.runs.items;
+  so_far : Appends (IsHomeRun l.width l.homes) (range_with_len l.from (l.at - l.from)) l.from l.at l.fn.runs.items l.runs.items;
 }

@@ -1,23 +1,9 @@
-use Rattle.std.proofs.Common.{◌≡◌, ◌+◌, ◌-◌, ◌*◌, List, length, ℕ, sym, ap, subst, ◌∙◌, arith, rules}
+use Rattle.std.proofs.Common.{◌≡◌, ◌+◌, ◌-◌, ◌*◌, length, ℕ, ap, subst, ◌∙◌, arith, rules}
 use Rattle.std.proofs.lemmas.List.{length_push}
 use Rattle.segment_core.specs.Vector.{place_among}
 use Rattle.segment_core.specs.Found.{IsLaid}
-use Rattle.segment_core.proofs.FoundLaid.{laid_nothing, laid_push, place_among_none, stands_part, cell_within}
+use Rattle.segment_core.proofs.FoundLaid.{laid_push, stands_part, cell_within}
 use Rattle.segment_core.proofs.found.grow.Goals as goal
-
-pub loop-k-init : goal.loop-k-init
-loop-k-init g c =
-    let held = c.replace-grown.ensures.value in
-    let items = ap (λ v. v.items) held ∙ c.reserve.ensures.items in
-    let form = g.R.Record.form in
-    let start = length c.args.records.now.items in
-    let old = c.args.records.now.items in
-    record {
-      longer = ap length items ∙ omega arith;
-      room = rw held (omega (arith, c.in_ok-reserve.ensures.ok));
-      laid = λ image stands. subst (λ (rs : List g.row.R.Denot). IsLaid form image (place_among form.width c.args.place start 0) old c.args.notes.now rs c.args.notes.now) (sym items)
-          (laid_nothing form image (place_among form.width c.args.place start 0) old c.args.notes.now (place_among_none form.width c.args.place start));
-    }
 
 pub loop-k-preserved : goal.loop-k-preserved
 loop-k-preserved g c =
@@ -30,9 +16,9 @@ loop-k-preserved g c =
     let first : c.len-start.result ≡ start = search rules in
     let within = cell_within k c.args.count w form.width (length c.args.area.now) c.width_of-width.ensures.is c.loop-k-test.true c.requires.filled in
     record {
-      longer = ap length pushed ∙ length_push c.loop-k.grown.items c.in_ok-record.record ∙ omega (arith, so_far.longer);
+      longer = ap length pushed ∙ length_push c.loop-k.records.items c.in_ok-record.record ∙ omega (arith, so_far.longer);
       room = omega (arith, so_far.room, c.push_reserved.ensures.len, c.push_reserved.ensures.capacity);
-      laid = λ image stands. laid_push form image c.args.place start k w (c.len-start.result + k) c.args.records.now.items c.args.notes.now c.loop-k.grown.items c.loop-k.notes c.push_reserved.new.self.items c.decode.new.notes c.in_ok-record.record
+      laid = λ image stands. laid_push form image c.args.place start k w (c.len-start.result + k) c.args.records.now.items c.args.notes.now c.loop-k.records.items c.loop-k.notes c.push_reserved.new.self.items c.decode.new.notes c.in_ok-record.record
           c.width_of-width.ensures.is (ap (λ n. n + k) first) so_far.longer pushed (so_far.laid image stands)
           (c.in_ok-record.ensures.decoded image (stands_part image c.args.place c.args.area.now (k * w) (k * w + w - k * w) stands within))
           c.in_ok-record.ensures.others;
@@ -41,5 +27,5 @@ loop-k-preserved g c =
 pub returns-clause-laid : goal.returns-clause-laid
 returns-clause-laid g c = λ image stands. (
     let all : c.loop-k.k ≡ c.args.count = omega (arith, c.loop-k-test.false, c.loop-k.auto.k-end) in
-    subst (λ (n : ℕ). IsLaid g.R.Record.form image (place_among g.R.Record.form.width c.args.place (length c.args.records.now.items) n) c.args.records.now.items c.args.notes.now c.loop-k.grown.items c.loop-k.notes) all
+    subst (λ (n : ℕ). IsLaid g.R.Record.form image (place_among g.R.Record.form.width c.args.place (length c.args.records.now.items) n) c.args.records.now.items c.args.notes.now c.loop-k.records.items c.loop-k.notes) all
     (c.loop-k.invariant.laid image stands))

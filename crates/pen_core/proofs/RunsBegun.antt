@@ -1,0 +1,175 @@
+-- A change of runs as a frame that may follow, and the records behind it.
+use Rattle.std.proofs.Common.{◌≡◌, ℕ, ◌+◌, ◌*◌, ◌^◌, ◌≤◌, ◌<◌, Bool, true, false, List, [], ◌∷◌, ◌++◌, length, map, Option, Some, None, cond, refl, sym, ap, subst, ◌∙◌, arith}
+use Rattle.std.specs.Prelude.{nat_le, nat_lt, not, ◌&&◌, MatchOption}
+use Rattle.std.specs.List.{list_all, AllByRecursion}
+use Rattle.std.specs.Option.{is_some}
+use Rattle.std.proofs.lemmas.Bool.{leb-false, lt-ltb, le-leb, ltb-true, ltb-false, and_parts, not-false, not_from_true, lt-leb}
+use Rattle.std.proofs.lemmas.List.{append-nil}
+use Rattle.std.proofs.lemmas.Nat.{mul-le}
+use Rattle.disk_core.specs.State.{State, now, IsImage}
+use Rattle.disk_core.specs.Calls.{bytes_of}
+use Rattle.record_core.specs.Bytes.{Encoding}
+use Rattle.record_core.specs.Cells.{AreReadAgain}
+use Rattle.record_core.proofs.Cells.{length-flat_map_bytes}
+use Rattle.segment_core.specs.declared.found.Homes.{Homes}
+use Rattle.segment_core.specs.declared.format.Format.{Format}
+use Rattle.segment_core.specs.declared.format.Format.TheVariants.{One, Two}
+use Rattle.segment_core.specs.declared.format.Shape.{Shape}
+use Rattle.segment_core.specs.declared.tally.Tally.{Tally}
+use Rattle.segment_core.specs.Shape.{limit_of}
+use Rattle.segment_core.specs.Frame.{Run, Frame, Fold, records_of_runs, frame_text, payload_of}
+use Rattle.segment_core.specs.Layout.{HasRuns, IsFrame}
+use Rattle.segment_core.specs.Tally.{after, are_ascending, are_inside, MayFollow}
+use Rattle.segment_core.specs.Raw.{after_frame, AreReadAs}
+use Rattle.segment_core.specs.Command.{replaced}
+use Rattle.segment_core.specs.Written.{joined}
+use Rattle.segment_core.specs.Runs.{runs_given, change_len, change_frame}
+use Rattle.segment_core.proofs.Payload.{limit_small, length-frame_text}
+use Rattle.segment_core.proofs.Changes.{length-runs_given, length-change_frame}
+use Rattle.segment_core.proofs.ReadAs.{AreReadAs_change}
+use Rattle.segment_core.proofs.LegalCommand.{are_runs}
+use Rattle.pen_core.specs.declared.step.Step.{Step}
+use Rattle.pen_core.specs.declared.step.Step.TheVariants.{Body}
+use Rattle.pen_core.specs.declared.fault.PenFault.{PenFault}
+use Rattle.pen_core.specs.PenOf.{PenOf}
+use Rattle.pen_core.specs.declared.fault.PenFault.TheVariants.{OldFormat, Runs, OutOfRange, Memory}
+use Rattle.pen_core.specs.Refusals.{first_refusal, IsRefusal, fold_len, ready_lines, room_lines, is_old, are_disordered, change_lines, one_run}
+use Rattle.pen_core.specs.Vectors.{frame_at}
+use Rattle.pen_core.specs.Inside.{IsPen, job_of}
+use Rattle.pen_core.specs.Listed.{IsListed}
+use Rattle.pen_core.proofs.Begins.{no_step}
+use Rattle.pen_core.proofs.Begun.{begun, begun_frame}
+use Rattle.pen_core.proofs.Listed.{listed_begun}
+
+-- ---- what the tests say
+
+-- none of the tests of a change holds
+pub record Allows (broken busy : Bool) (shape : Shape) (gate : ℕ) (tally : Tally) (runs : List Run) : Type 0 where
+  pub whole : broken ≡ false
+  pub idle : busy ≡ false
+  pub young : (format : Format) → format ≡ shape.format → 0 < length runs → HasRuns format runs
+  pub each : AllByRecursion (λ run. 0 < run.count) runs
+  pub ordered : are_ascending 0 runs ≡ true
+  pub inside : are_inside tally.size runs ≡ true
+  pub fits : change_len shape runs ≤ limit_of shape.format
+  pub not_full : gate + (6 + change_len shape runs) < 2 ^ 48
+
+-- the first test doesn't hold, nor those behind it
+passed : (test : Bool) (fault : PenFault) (lines : List (Bool × PenFault)) → first_refusal ((test, fault) ∷ lines) ≡ None → (test ≡ false) × (first_refusal lines ≡ None)
+passed true fault lines none = absurd cc
+passed false fault lines none = (refl, none)
+
+none_holds : (lines : List (Bool × PenFault)) → first_refusal lines ≡ None → AllByRecursion (λ line. line.0 ≡ false) lines
+none_holds [] none = tt
+none_holds (line ∷ lines) none = let rest = passed line.0 line.1 lines none in (rest.0, none_holds lines rest.1)
+
+all_counted : (runs : List Run) → list_all (λ run. nat_lt 0 run.count) runs ≡ true → AllByRecursion (λ run. 0 < run.count) runs
+all_counted [] all = tt
+all_counted (run ∷ runs) all =
+    let parts = and_parts (nat_lt 0 run.count) (list_all (λ r. nat_lt 0 r.count) runs) all in
+    (ltb-true 0 run.count parts.0, all_counted runs parts.1)
+
+module _ {D : Type 0} (pen : PenOf D) (runs : List Run) where
+  has_runs : (format : Format) → is_old pen format runs ≡ false → 0 < length runs → HasRuns format runs
+  has_runs One old some = let few = ltb-false 1 (length runs) old in omega arith
+  has_runs Two old some = some
+
+  pub allows : first_refusal (change_lines pen runs) ≡ None → Allows pen.broken (is_some pen.job) pen.shape pen.gate pen.tally runs
+  allows none =
+      let tests = none_holds (change_lines pen runs) none in
+      let formed = and_parts (list_all (λ run. nat_lt 0 run.count) runs) (are_ascending 0 runs) (not-false (list_all (λ run. nat_lt 0 run.count) runs && are_ascending 0 runs) tests.1.1.1.0) in
+      let below = leb-false (2 ^ 48) (pen.gate + (6 + change_len pen.shape runs) + fold_len pen.fold) tests.1.1.1.1.1.1.0 in
+      record {
+        whole = tests.0;
+        idle = tests.1.0;
+        young = λ format is some. has_runs format (ap (λ f. is_old pen f runs) is ∙ tests.1.1.0) some;
+        each = all_counted runs formed.0;
+        ordered = formed.1;
+        inside = not-false (are_inside pen.tally.size runs) tests.1.1.1.1.0;
+        fits = ltb-false (limit_of pen.shape.format) (change_len pen.shape runs) tests.1.1.1.1.1.0;
+        not_full = omega arith;
+      }
+
+-- one test holds, and none before it
+first_of_them : (before : List (Bool × PenFault)) (test : Bool) (fault : PenFault) (behind : List (Bool × PenFault)) → AllByRecursion (λ line. line.0 ≡ false) before → test ≡ true → first_refusal (before ++ (test, fault) ∷ behind) ≡ Some fault
+first_of_them [] test fault behind none holds = ap (λ b. cond b (Some fault) (first_refusal behind)) holds
+first_of_them (line ∷ before) test fault behind none holds = ap (λ b. cond b (Some line.1) (first_refusal (before ++ (test, fault) ∷ behind))) none.0 ∙ first_of_them before test fault behind none.1 holds
+
+-- no vector has so many positions
+pub too_many : {D : Type 0} (pen : PenOf D) (start count : ℕ) → pen.broken ≡ false → is_some pen.job ≡ false → pen.tally.size ≤ 2 ^ 32 → 2 ^ 32 < count → IsRefusal (change_lines pen (one_run start count)) OutOfRange
+too_many pen start count whole idle short many =
+    let runs : List Run = one_run start count in
+    let formed : are_disordered pen runs ≡ false = ap (λ b. not ((b && true) && (nat_le 0 start && true))) (lt-ltb 0 count (omega arith)) ∙ ap (λ b. not (b && true)) (le-leb 0 start (omega arith)) in
+    let outside : not (are_inside pen.tally.size runs) ≡ true = ap (λ b. not (b && true)) (lt-leb (start + count) pen.tally.size (omega arith)) in
+    let first = first_of_them (ready_lines pen ++ (is_old pen pen.shape.format runs, OldFormat) ∷ (are_disordered pen runs, Runs) ∷ []) (not (are_inside pen.tally.size runs)) OutOfRange (room_lines pen (change_len pen.shape runs)) (whole, (idle, (young pen.shape.format, (formed, tt)))) outside in
+    subst (λ o. MatchOption o (OutOfRange ≡ Memory) (λ fault. OutOfRange ≡ fault)) (sym first) refl
+  where
+    young : (format : Format) → is_old pen format (one_run start count) ≡ false
+    young One = refl
+    young Two = refl
+
+-- ---- the frame
+
+runs_again : (runs : List (ℕ × ℕ)) → map (λ run. (run.start, run.count)) (runs_given runs) ≡ runs
+runs_again [] = refl
+runs_again (run ∷ runs) = ap (λ rs. (run.0, run.1) ∷ rs) (runs_again runs)
+
+module _ {R : Type 0} (form : Encoding R) (shape : Shape) (gate : ℕ) (tally : Tally) (runs : List Run) (pieces : List (List R)) (wide : 1 ≤ shape.width) (short : tally.size ≤ 2 ^ 32) (width : form.width ≡ shape.width) (size_of : (r : R) → length (form.bytes_of r) ≡ form.width)
+    (some : 0 < length runs) (filled : length (joined pieces) ≡ records_of_runs runs) {broken busy : Bool} (allowed : Allows broken busy shape gate tally runs) where
+  abbrev frame : Frame
+  frame = change_frame form runs pieces
+
+  payload : length (payload_of shape.format frame) ≡ change_len shape runs
+  payload = length-change_frame shape.format form runs pieces size_of filled ∙ ap (λ w. change_len (record { format = shape.format; width = w }) runs) width
+
+  pub change_framed : IsFrame shape frame
+  change_framed =
+      let limit = limit_small shape.format in
+      let fits = allowed.fits in
+      let least = mul-le (records_of_runs runs) 1 (records_of_runs runs) shape.width (omega arith) wide in
+      record {
+        wide = omega arith;
+        small = omega (arith, payload);
+        layout = (
+          allowed.young shape.format refl some,
+          are_runs tally.size runs short (omega arith) allowed.each allowed.inside,
+          length-flat_map_bytes form (joined pieces) size_of ∙ ap (λ n. n * form.width) filled ∙ ap (λ w. records_of_runs runs * w) width,
+        );
+      }
+
+  pub change_follows : MayFollow tally frame
+  change_follows = record { ordered = not_from_true (are_ascending 0 runs) allowed.ordered; inside = not_from_true (are_inside tally.size runs) allowed.inside; folded = refl; counted = refl; short = refl }
+
+  pub change_room : gate + length (frame_text shape.format frame) < 2 ^ 48
+  change_room = let long = length-frame_text shape.format frame ∙ ap (λ n. 6 + n) payload in let below = allowed.not_full in omega arith
+
+-- ---- begun
+
+-- What stands once a change is begun: the pen's fields are sound, the job's frame is the change, and the records behind
+-- it are those with the runs replaced.
+pub record ChangeBegun {R : Type 0} (keeps : Type 0) (states : List State) (shape : Shape) (gate : ℕ) (tally : Tally) (bytes : List ℕ) (broken : Bool) (homes : Homes) (live : ℕ) (form : Encoding R) (runs : List Run) (pieces : List (List R)) : Type 0 where
+  pub pen : IsPen keeps states shape gate tally (after tally (change_frame form runs pieces)) bytes (Some Body) broken
+  pub listed : IsListed keeps states shape gate tally bytes (Some Body) homes live
+  pub frame_is : frame_at shape bytes ≡ change_frame form runs pieces
+  pub tells : (vector : List (List ℕ)) (records : List R) → AreReadAs form vector records → AreReadAs form (after_frame shape.width vector (frame_at shape bytes)) (replaced records runs (joined pieces))
+
+pub change_begun : {R : Type 0} (keeps : Type 0) (states : List State) (shape : Shape) (gate : ℕ) (tally next : Tally) (bytes bytes' : List ℕ) (o : Option Step) (broken : Bool) (homes homes' : Homes) (live : ℕ) (form : Encoding R) (runs : List (ℕ × ℕ)) (pieces : List (List R))
+    → IsPen keeps states shape gate tally next bytes o broken → IsListed keeps states shape gate tally bytes o homes live → Allows broken (is_some (job_of shape bytes o)) shape gate tally (runs_given runs) → (keeps → IsImage (now states) (bytes_of states))
+    → bytes' ≡ frame_text shape.format (change_frame form (runs_given runs) pieces) ++ 0 ∷ [] → form.width ≡ shape.width → ((r : R) → length (form.bytes_of r) ≡ form.width) → 0 < length runs → length (joined pieces) ≡ records_of_runs (runs_given runs) → AreReadAgain form (joined pieces)
+    → homes'.homes ≡ homes.homes → homes'.live.items ≡ homes.live.items ++ runs → ChangeBegun keeps states shape gate tally bytes' broken homes' live form (runs_given runs) pieces
+change_begun keeps states shape gate tally next bytes bytes' o broken homes homes' live form runs pieces pen listed allowed reads spelled width size_of some filled again homes_same live_more =
+    let given : List Run = runs_given runs in
+    let frame : Frame = change_frame form given pieces in
+    let counted : 0 < length given = omega (arith, length-runs_given runs) in
+    let idle : o ≡ None = no_step shape bytes o allowed.idle in
+    let no_fold : (count : ℕ) → frame ≡ Fold count → ⊥ = λ count is. absurd cc in
+    let framed = change_framed form shape gate tally given pieces pen.wide.0 pen.size_fits width size_of counted filled allowed in
+    let follows = change_follows form shape gate tally given pieces pen.wide.0 pen.size_fits width size_of counted filled allowed in
+    let room = change_room form shape gate tally given pieces pen.wide.0 pen.size_fits width size_of counted filled allowed in
+    let at : frame_at shape bytes' ≡ frame = begun_frame keeps states shape gate tally next (after tally frame) bytes bytes' o broken frame pen allowed.whole idle reads spelled framed follows refl no_fold room in
+    record {
+      pen = begun keeps states shape gate tally next (after tally frame) bytes bytes' o broken frame pen allowed.whole idle reads spelled framed follows refl no_fold room;
+      listed = listed_begun keeps states shape gate tally bytes o homes live listed idle bytes' homes' frame Body at no_fold (ap (λ v. v.items) homes_same ∙ sym (append-nil homes.homes.items)) (live_more ∙ ap (λ rs. homes.live.items ++ rs) (sym (runs_again runs)));
+      frame_is = at;
+      tells = λ vector records are. subst (λ f. AreReadAs form (after_frame shape.width vector f) (replaced records given (joined pieces))) (sym at) (AreReadAs_change form shape.width vector records given pieces width size_of filled again are);
+    }

@@ -1,0 +1,51 @@
+use Rattle.std.proofs.Common.{◌≡◌, ◌++◌, List, Result, Ok, Err, OnOk, false, cond, Some, refl, sym, ap, subst, ◌∙◌}
+use Rattle.std.specs.Result.{is_err, is_ok}
+use Rattle.std.specs.Option.{is_some}
+use Rattle.disk_core.specs.Calls.{bytes_of}
+use Rattle.segment_core.specs.Parsed.{vector_before}
+use Rattle.segment_core.specs.Runs.{runs_given}
+use Rattle.pen_core.specs.declared.step.Step.TheVariants.{Body}
+use Rattle.pen_core.proofs.RunsBegun.{Allows, allows, ChangeBegun, change_begun}
+use Rattle.pen_core.proofs.pen.Pen.begin_runs_from.Given.{Over}
+use Rattle.pen_core.proofs.pen.Pen.begin_runs_from.Goals.{Else-is_err-2}
+use Rattle.pen_core.proofs.pen.Pen.begin_runs_from.Goals as goal
+
+on_ok : {A E P : Type 0} (r : Result A E) → is_err r ≡ false → OnOk r P → P
+on_ok (Ok value) is p = p
+on_ok (Err error) is p = absurd cc
+
+appended : {A E X : Type 0} (r : Result A E) → is_err r ≡ false → (old new : List X) → cond (is_ok r) new old ≡ new
+appended (Ok value) is old new = refl
+appended (Err error) is old new = absurd cc
+
+-- what stands once memory was taken
+begins : (g : Over) (c : Else-is_err-2 g)
+    → ChangeBegun (g.D.Disk.keeps c.self.inside.disk) (g.D.Disk.states c.self.inside.disk) c.self.inside.shape c.self.inside.gate c.self.inside.tally c.put_change.new.bytes.items c.self.inside.broken
+    (record { homes = c.self.inside.homes.homes; live = c.extend_from_slice.new.self }) c.self.inside.live g.R.Record.form (runs_given c.args.runs.now) (g.G.GrowthList.growths c.args.pieces.now)
+begins g c =
+    let s = c.self.inside in
+    let runs = c.args.runs.now in
+    let laws = g.met.R.Record g.world.𝓛 g.world.𝓜 g.world.𝓡 ((λ s x. x), (λ x. x), (λ x. x), λ x. x) in
+    let wrote = sym c.is_err.ensures.value ∙ c.if-is_err.false in
+    let allowed = subst (λ v. Allows v.broken (is_some v.job) v.shape v.gate v.tally (runs_given runs)) (sym c.self.view_is) (allows c.args.self.now (runs_given runs) c.in_ok-payload.ensures.allowed) in
+    change_begun (g.D.Disk.keeps s.disk) (g.D.Disk.states s.disk) s.shape s.gate s.tally s.next s.bytes.items c.put_change.new.bytes.items s.step s.broken s.homes (record { homes = s.homes.homes; live = c.extend_from_slice.new.self }) s.live g.R.Record.form runs (g.G.GrowthList.growths c.args.pieces.now)
+    c.self.invariant.0 c.self.invariant.1 allowed (g.met.D.Disk.reads_an_image s.disk) (on_ok c.put_change.result wrote c.put_change.ensures.text) (c.requires.width ∙ sym (ap (λ v. v.shape.width) c.self.view_is)) laws.width_of_bytes c.requires.some c.requires.filled
+    (on_ok c.put_change.result wrote c.put_change.ensures.read_again) refl (c.extend_from_slice.ensures.items ∙ appended c.extend_from_slice.result (sym c.is_err-2.ensures.value ∙ c.if-is_err-2.false) s.homes.live.items (s.homes.live.items ++ runs))
+
+pub invariant_of-self-2 : goal.invariant_of-self-2
+invariant_of-self-2 g c = let b = begins g (goal.at.invariant_of-self-2 g c).Else-is_err-2 in (b.pen, b.listed)
+
+pub returns-clause-begun : goal.returns-clause-begun
+returns-clause-begun g c = rw (← c.self.view_is) (record {
+  job_is = ap (λ f. Some (record { frame = f; step = Body })) (begins g (goal.at.returns-clause-begun g c).Else-is_err-2).frame_is;
+  disk_same = refl;
+  file_same = record { frames_same = refl; vector_same = refl };
+  broken_same = refl;
+  shape_same = refl;
+  fold_same = refl;
+  tally_same = refl;
+  gate_same = refl;
+})
+
+pub returns-clause-next : goal.returns-clause-next
+returns-clause-next g c = rw (← c.self.view_is) (λ records are. (begins g (goal.at.returns-clause-next g c).Else-is_err-2).tells (vector_before c.self.inside.shape c.self.inside.gate (bytes_of (g.D.Disk.states c.self.inside.disk))) records are)

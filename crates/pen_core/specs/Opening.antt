@@ -1,0 +1,115 @@
+-- A file that is opened.
+use Rattle.std.specs.Prelude.{◌≡◌, ◌⊎◌, ℕ, ◌+◌, ◌/◌, ◌≤◌, ◌<◌, ◌^◌, List, length, map, take, None, false}
+use Rattle.record_core.specs.Bytes.{Encoding, IsBytes}
+use Rattle.disk_core.specs.State.{State, now, settled, IsImage}
+use Rattle.disk_core.specs.Calls.{bytes_of}
+use Rattle.disk_core.specs.Moments.{clock, LeftSince, LeavesOnly}
+use Rattle.disk_core.specs.declared.fault.DiskFault.TheVariants as causes
+use Rattle.segment_core.specs.declared.format.Format.{Format}
+use Rattle.segment_core.specs.Shape.{shape_of}
+use Rattle.segment_core.specs.Frame.{Frame}
+use Rattle.segment_core.specs.Tally.{tally_of}
+use Rattle.segment_core.specs.Vector.{HasVector}
+use Rattle.segment_core.specs.Fault.{IsRefused}
+use Rattle.segment_core.specs.Raw.{AreReadAs}
+use Rattle.segment_core.specs.Found.{AreHomesOf}
+use Rattle.segment_core.specs.Scanned.{IsScanOf}
+use Rattle.segment_core.specs.Scanner.{IsFed}
+use Rattle.segment_core.specs.declared.found.Homes.{Homes}
+use Rattle.segment_core.specs.declared.scanner.Scanner.{Scanner}
+use Rattle.segment_core.specs.declared.vector.Scanned.{Scanned}
+use Rattle.segment_core.specs.Blanked.{all_blanked}
+use Rattle.pen_core.specs.declared.fault.OpenFault.{OpenFault}
+use Rattle.pen_core.specs.declared.fault.OpenFault.TheVariants.{Scan, Disk}
+use Rattle.pen_core.specs.Held.{gate_of}
+use Rattle.pen_core.specs.PenOf.{PenOf}
+
+-- ---- the pen
+
+-- what a pen that was opened counts, whatever the disk: nothing is in hand
+pub record IsAtRest {D : Type 0} (width size : ℕ) (pen : PenOf D) : Type 0 where
+  pub width_is : pen.shape.width ≡ width
+  pub size_is : pen.tally.size ≡ size
+  pub no_job : pen.job ≡ None
+  pub no_fold : pen.fold ≡ None
+  pub whole : pen.broken ≡ false
+
+-- The pen goes on with the file that these bytes are, and the records are its vector.
+pub record IsOpened {R D : Type 0} (form : Encoding R) (bytes : List ℕ) (pen : PenOf D) (records : List R) : Type 0 where
+  pub format : Format
+  pub found : List Frame
+  pub vector : HasVector format form bytes found records
+  pub shape_is : pen.shape ≡ shape_of format form
+  pub frames_are : pen.frames ≡ all_blanked found
+  pub vector_is : pen.vector ≡ map form.bytes_of records
+  pub read_as : AreReadAs form pen.vector records
+  pub tally_is : pen.tally ≡ tally_of found
+  pub gate_is : pen.gate ≡ gate_of (shape_of format form) found
+
+-- ---- the disk
+
+-- Nothing is written. The disk is as it was, or, once the first sync has succeeded, its bytes as they read are on it:
+-- a crash leaves what it might have left before, and from that sync on those bytes. The next call, of the length,
+-- tells that it succeeded.
+pub record OnlySyncs (old new : List State) : Type 0 where
+  pub stands : (now new ≡ now old) ⊎ (now new ≡ settled (bytes_of old))
+  pub left_before : LeavesOnly old new (IsImage (now old))
+  pub stays_as_read : clock old + 1 < clock new → (image : List ℕ) → LeftSince new (clock old + 1) image → image ≡ bytes_of old
+
+-- ---- what was read
+
+-- The scanner has taken in an image of so many bytes: where the disk keeps the model, the first of these.
+pub record HasTaken {R : Type 0} (form : Encoding R) (keeps : Type 0) (bytes : List ℕ) (len : ℕ) (scanner : Scanner R) : Type 0 where
+  pub image : List ℕ
+  pub size : length image ≡ len
+  pub short : len < 2 ^ 64
+  pub fits : IsBytes image
+  pub fed : IsFed form image scanner
+  pub is : keeps → image ≡ take len bytes
+
+-- A scan of an image has found this: where the disk keeps the model, of the bytes that are all on it.
+pub record IsFoundOn {R : Type 0} (form : Encoding R) (keeps : Type 0) (states : List State) (scanned : Scanned R) (homes : Homes) : Type 0 where
+  pub image : List ℕ
+  pub short : length image < 2 ^ 64
+  pub fits : IsBytes image
+  pub scan : IsScanOf form image scanned
+  pub homes_are : AreHomesOf (shape_of scan.format form) scan.frames homes
+  pub on_disk : keeps → now states ≡ settled image
+
+-- ---- refusals
+
+-- why there is no pen: what a scan of the bytes answers, or a call of the disk that failed
+abbrev pub IsOpenRefusal : {R : Type 0} → Encoding R → List ℕ → OpenFault → Type 0
+IsOpenRefusal form bytes (Scan fault) = IsRefused form bytes fault
+IsOpenRefusal form bytes (Disk cause) = Unit {0}
+
+-- how many calls of the disk have failed where this is answered
+abbrev pub failed_openings : OpenFault → ℕ
+failed_openings (Scan fault) = 0
+failed_openings (Disk cause) = 1
+
+-- ---- the calls
+
+-- the pieces of 4,096 bytes that are begun
+abbrev pub pieces_of : ℕ → ℕ
+pieces_of len = (len + 4095) / 4096
+
+-- the calls of the disk that opening makes: a sync, the length, and a read for each piece
+abbrev pub calls_of : ℕ → ℕ
+calls_of len = 2 + pieces_of len
+
+-- where it answers this at a read, or behind it
+abbrev pub IsReadFault : OpenFault → Type 0
+IsReadFault (Scan fault) = Unit {0}
+IsReadFault (Disk causes.Read) = Unit {0}
+IsReadFault (Disk causes.Sync) = ⊥
+IsReadFault (Disk causes.Length) = ⊥
+IsReadFault (Disk causes.Write) = ⊥
+
+-- and how many it has made, the one that failed among them, where it answers this
+abbrev pub AreCallsMade : ℕ → OpenFault → ℕ → Type 0
+AreCallsMade len (Scan fault) n = (2 ≤ n) × (n ≤ calls_of len)
+AreCallsMade len (Disk causes.Sync) n = n ≡ 1
+AreCallsMade len (Disk causes.Length) n = n ≡ 2
+AreCallsMade len (Disk causes.Read) n = (2 < n) × (n ≤ calls_of len)
+AreCallsMade len (Disk causes.Write) n = ⊥
