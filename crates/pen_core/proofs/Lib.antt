@@ -22,3 +22,4 @@ pub mod Covers
 pub mod HomeRunSteps
 pub mod Pieces
 pub mod Opening
+pub mod PieceValues

@@ -12,3 +12,4 @@ pub mod Births
 pub mod Covered
 pub mod HomeRuns
 pub mod Opening
+pub mod Values

@@ -14,6 +14,7 @@ mod open;
 mod pen;
 mod stage;
 mod step;
+mod values;
 
 pub use fault::{OpenFault, PenFault};
 pub use pen::Pen;
