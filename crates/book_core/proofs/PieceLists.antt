@@ -2,11 +2,11 @@
 use Rattle.std.proofs.Common.{◌≡◌, ℕ, zero, suc, ◌+◌, ◌-◌, ◌<◌, ◌≤◌, List, [], ◌∷◌, ◌++◌, length, map, take, drop, slice_get, Option, Some, None, MatchOption, IfSome, Bor, option_map, refl, ap, sym, subst, ◌∙◌, zero-add, add_assoc, le_of_lt, arith}
 use Rattle.std.specs.Prelude.{sum_by}
 use Rattle.std.proofs.lemmas.Grind.{flat_map-append}
-use Rattle.std.proofs.lemmas.List.{take-append-le, take_at, take-map, drop_at, drop-drop, drop-append-le, length-append, length-drop}
+use Rattle.std.proofs.lemmas.List.{drop_more, take-append-le, take_at, take-map, drop_at, drop-drop, drop-append-le, length-append, length-drop}
 use Rattle.std.proofs.lemmas.List.Concat.{length-flat_map}
 use Rattle.std.proofs.lemmas.List.Folds.{flat_map-map}
 use Rattle.std.proofs.lemmas.List.Sums.{sum_by-cons}
-use Rattle.std.proofs.lemmas.Option.{slice_get_within, slice_get-map}
+use Rattle.std.proofs.lemmas.Option.{get_or_from_slice_get, slice_get_within, slice_get-map}
 use Rattle.block_core.specs.Growth.{Growth}
 use Rattle.directory_core.specs.Chain.{total, joined}
 use Rattle.directory_core.specs.Finding.{IsPieceAt, IsRestAt}
@@ -113,3 +113,7 @@ module _ {R : Type 0} (blocks : List (List R)) (es : List (Growth R)) where
   pub growths_found : (i : ℕ) (r : Option (Bor (List R))) → MatchOption r (length (joined_pieces blocks ++ joined es) ≤ i) (λ piece. IsRestOfPiece (blocks ++ map (λ e. e.records) es) i piece.now) → IfSome r (λ piece. IsPieceAt (joined_pieces blocks ++ joined es) i piece.now)
   growths_found i None told = tt
   growths_found i (Some piece) told = growths_rest i piece.now told
+
+-- what stands at a place is the first of what is left there
+pub drop_next : {X : Type 0} (xs : List X) (k : ℕ) (x : X) → slice_get xs k ≡ Some x → drop k xs ≡ x ∷ drop (k + 1) xs
+drop_next xs k x is = drop_more xs k x (slice_get_within xs k x is) ∙ ap (λ (y : _). y ∷ drop (k + 1) xs) (get_or_from_slice_get xs k x x is)

@@ -47,10 +47,10 @@ pub record IsForeign {R : Type 0} (seat : Seated R) (n : ℕ) : Type 0 where
   pub bears : growth.seat ≡ seat.id
   pub not_made : own_of seat.id (take n seat.pass.entries) ≡ seat.made
 
--- number n strayed: what stands there behind those known doesn't follow them or was found taken, or it bears the
--- seat's id and the seat didn't make it
+-- number n strayed: none of the growths known is foreign, and what stands behind them doesn't follow them or was found
+-- taken; or it bears the seat's id and the seat didn't make it
 abbrev pub IsStray : {R : Type 0} → Seated R → ℕ → Type 0
-IsStray seat n = (n ≡ length seat.pass.entries) ⊎ IsForeign seat n
+IsStray seat n = (HasJustItsOwn seat × (n ≡ length seat.pass.entries)) ⊎ IsForeign seat n
 
 -- the size that the seat knows
 abbrev pub size_of : {R : Type 0} → Phase R → Seated R → ℕ

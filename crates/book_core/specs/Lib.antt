@@ -2,3 +2,5 @@ pub mod Marks
 pub mod Lists
 pub mod Growing
 pub mod Beginning
+pub mod Snapshots
+pub mod Pieces

@@ -67,8 +67,8 @@ impl<R: Record> Live<R> {
         }
     }
 
-    /// Publishes the block as one growth behind all growths so far, and answers where it stands. Where it is
-    /// refused the block comes back with its records, and the seat knows at least what it knew.
+    /// Publishes the block as one growth behind all that the seat then knows, and answers where it stands. Where it
+    /// is refused the block comes back with its records, and the seat knows at least what it knew.
     pub fn grow<E: Wait>(
         &self,
         rt: &E,
@@ -91,8 +91,8 @@ impl<R: Record> Live<R> {
             return Err((fresh, fault));
         }
         let put = self.put(seat, fresh);
-        book.published = seat.known();
-        self.let_go(book);
+        book.published = book.published.max(seat.known());
+        self.unlock(book);
         put
     }
 
@@ -135,7 +135,9 @@ impl<R: Record> Live<R> {
         self.grow_by(rt, seat, 1, v)
     }
 
-    /// Grows by as many copies of the value as bring the size to `n`. `None` where it is already there.
+    /// Grows by as many copies of the value as bring the size to `n`. `None` where it is already there. The block is
+    /// made under the lock: it is refused by the first that holds of `Closed`, `Strayed`, `Full`, `TooLarge`,
+    /// `TooLong` and `Memory`, of which all but the first two come only where the size falls short of `n`.
     pub fn grow_to_at_least<E: Wait>(
         &self,
         rt: &E,
@@ -159,8 +161,8 @@ impl<R: Record> Live<R> {
         }
         self.catch_up(seat)?;
         let filled = self.fill_up(seat, n, v);
-        book.published = seat.known();
-        self.let_go(book);
+        book.published = book.published.max(seat.known());
+        self.unlock(book);
         filled
     }
 
@@ -199,6 +201,3 @@ impl<R: Record> Live<R> {
         }
     }
 }
-
-#[cfg(test)]
-mod tests;

@@ -13,9 +13,14 @@ mod mark;
 mod opening;
 mod reading;
 mod seat;
+mod snapshot;
 mod waking;
 
 pub use fault::GrowFault;
 pub use live::{Begun, Live, SEAT_LIMIT};
 pub use mark::{Mark, MarkState, Reader, Reading, Writer};
 pub use seat::{Receipt, Seat};
+pub use snapshot::{Records, Snapshot};
+
+#[cfg(test)]
+mod tests;

@@ -13,6 +13,7 @@ use crate::mark::{Mark, Writer};
 use crate::opening::Opening;
 use crate::seat::Seat;
 use crate::waking::Waking;
+use block_core::Entry;
 use crossbeam_utils::CachePadded;
 use directory_core::{DirFault, Directory, GROWTH_LIMIT, Pass, RECORD_LIMIT};
 use record_core::Record;
@@ -201,11 +202,28 @@ impl<R: Record> Live<R> {
         })
     }
 
-    /// The growths of the phase, for who settles them by a pass of its own.
-    pub fn directory(&self) -> &Directory<R>
-        ensures { result.now ≡ self.now.directory }
+    /// As `Directory::look`, for who settles the growths by a pass of its own.
+    pub fn look_by(&self, pass: &mut Pass<R>) -> Result<u64, DirFault>
+        requires of { pass.old.of ≡ self.now.directory }
+        ensures of { pass.new.of ≡ self.now.directory }
+        ensures longer { Begins pass.old.entries pass.new.entries }
+        ensures count { MatchResult result
+            (λ known. known ≡ length pass.new.entries)
+            (λ fault. fault ≡ DirFault.Strayed (length pass.new.entries)) }
     {
-        &self.directory
+        self.directory.look(pass)
+    }
+
+    /// The growth of that number, for who settles the growths by a pass of its own. `None` where the pass doesn't
+    /// know it.
+    pub fn entry<'a>(&'a self, pass: &mut Pass<R>, number: u64) -> Option<&'a Entry<R>>
+        requires of { pass.old.of ≡ self.now.directory }
+        ensures same { pass.new ≡ pass.old }
+        ensures value { MatchOption result
+            (length pass.old.entries ≤ number)
+            (λ entry. slice_get pass.old.entries number ≡ Some entry.now) }
+    {
+        self.directory.entry(pass, number)
     }
 
     /// The mark of the phase, for who raises it.
@@ -313,6 +331,6 @@ impl<R: Record> Live<R> {
     pub fn close<E: Wait>(&self, rt: &E) {
         let mut book = self.lock.lock(rt);
         book.closed = true;
-        self.let_go(book);
+        self.unlock(book);
     }
 }

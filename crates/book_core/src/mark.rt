@@ -246,7 +246,7 @@ impl Writer {
         self.told = told;
     }
 
-    /// So many growths are settled. The state stays.
+    /// So many growths are settled. The state stays. It wakes nobody: `Live::wake_settled` does.
     pub fn raise(&mut self, mark: &Mark, count: u64)
         requires of { self.old.of ≡ mark.now }
         requires no_fall { self.old.told.count ≤ count }
@@ -258,7 +258,7 @@ impl Writer {
         self.store(mark, Reading { count, state });
     }
 
-    /// The mark says Ended. The count stays.
+    /// The mark says Ended. The count stays. It wakes nobody: `Live::wake_settled` does.
     pub fn set_ended(&mut self, mark: &Mark)
         requires of { self.old.of ≡ mark.now }
         ensures of { self.new.of ≡ mark.now }
@@ -271,7 +271,7 @@ impl Writer {
         self.store(mark, told);
     }
 
-    /// The mark says Broken. The count stays.
+    /// The mark says Broken. The count stays. It wakes nobody: `Live::wake_settled` does.
     pub fn set_broken(&mut self, mark: &Mark)
         requires of { self.old.of ≡ mark.now }
         ensures of { self.new.of ≡ mark.now }

@@ -66,3 +66,59 @@ impl<R: Record> Live<R> {
         Some(entry.records())
     }
 }
+
+/// The pieces that are left of a list as a seat knows it, in order. The seat is borrowed until this ends, and is then
+/// as it was.
+#[derive(Drop)]
+pub struct Pieces<'a, 's, R: Record> {
+    live: &'a Live<R>,
+    seat: &'s mut Seat<R>,
+    next: u64,
+    count: u64,
+    ghost of: { IsOf live.now seat.now },
+    ghost counted: { count ≡ length (pieces_of live.now seat.now) },
+    ghost inside: { next ≤ count },
+}
+
+impl<R: Record> Live<R> {
+    ghost use Rattle.book_core.specs.Pieces.{pieces_left};
+
+    /// The pieces of the list as the seat knows it, in order, lent for the life of the book: the blocks from before
+    /// the phase, then the growths by their numbers.
+    pub fn pieces<'a, 's>(&'a self, seat: &'s mut Seat<R>) -> Pieces<'a, 's, R>
+        requires of { IsOf self.now seat.old }
+        ensures pieces { pieces_left result ≡ pieces_of self.now seat.old }
+        ensures seat { (result.seat.ghost_name ≡ seat.entry.ghost_name) × (result.seat.now ≡ seat.old) }
+    {
+        let count = self.piece_count(seat);
+        Pieces {
+            live: self,
+            seat,
+            next: 0,
+            count,
+        }
+    }
+}
+
+impl<'a, 's, R: Record> Pieces<'a, 's, R> {
+    ghost use Rattle.std.specs.Iterator.{YieldsFirstRef};
+    ghost use Rattle.book_core.specs.Pieces.{pieces_left};
+
+    /// The next piece. `None` past the last one.
+    pub fn next_piece(&mut self) -> Option<&'a [R]>
+        ensures next { YieldsFirstRef pieces_left self.old result self.new }
+        ensures seat { (self.new.seat.ghost_name ≡ self.old.seat.ghost_name)
+            × (self.new.seat.now ≡ self.old.seat.now) }
+    {
+        let piece = self.live.piece_at(self.seat, self.next)?;
+        self.next += 1;
+        Some(piece)
+    }
+
+    /// How many pieces are left.
+    pub fn left(&self) -> u64
+        ensures { result ≡ length (pieces_left self.now) }
+    {
+        self.count - self.next
+    }
+}

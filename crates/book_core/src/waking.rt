@@ -3,11 +3,12 @@
 //! Why no wake-up is lost. The flusher reads the count of growths and the closed flag under the book's lock, and
 //! sets the flag that it sleeps under the same lock, which it gives up in falling asleep. A growth and a close
 //! change what it reads under that lock, take the flag there, and wake it where the flag was set: so either the
-//! flusher has read the change, or its flag is found. A seat reads the mark once more under the lock of the hall,
-//! where it counts itself as waiting, and gives that lock up in falling asleep. Who raises the mark stores first,
-//! and takes that lock then: so either the seat has read the new mark, or it is counted, and is woken.
+//! flusher has read the change, or its flag is found. A seat reads the mark once more under the waiters' lock,
+//! where it counts itself as waiting, and gives that lock up in falling asleep. Who raises the mark and then calls
+//! `wake_settled` stores first, and takes that lock then: so either the seat has read the new mark, or it is counted,
+//! and is woken.
 
-ghost use Rattle.std.specs.Prelude.{◌≡◌, ◌<◌, ◌≤◌, true};
+ghost use Rattle.std.specs.Prelude.{◌≡◌, ◌<◌, ◌≤◌, ◌↔◌, IsTrue};
 ghost use Rattle.book_core.specs.Lists.{IsOf};
 ghost use Rattle.book_core.specs.Growing.{IsTold, IsPast};
 
@@ -19,7 +20,7 @@ use std::sync::{Condvar, Mutex, MutexGuard, Wait};
 
 /// What the lock of those that wait for the mark keeps: how many they are.
 #[derive(Drop)]
-struct Hall {
+struct Waiters {
     waiting: u64,
 }
 
@@ -27,7 +28,7 @@ struct Hall {
 #[derive(Drop)]
 pub(crate) struct Waking {
     more: Condvar,
-    hall: Mutex<Hall>,
+    waiters: Mutex<Waiters>,
     raised: Condvar,
 }
 
@@ -35,7 +36,7 @@ impl Waking {
     pub(crate) fn new() -> Waking {
         Waking {
             more: Condvar::new(),
-            hall: Mutex::new(Hall { waiting: 0 }),
+            waiters: Mutex::new(Waiters { waiting: 0 }),
             raised: Condvar::new(),
         }
     }
@@ -43,7 +44,7 @@ impl Waking {
 
 /// Whether the growth of that number is settled, or no more will be.
 fn is_past(number: u64, count: u64, state: MarkState) -> bool
-    ensures { result ≡ true → IsPast number count state }
+    ensures { IsTrue result ↔ IsPast number count state }
 {
     match state {
         MarkState::Running => number < count,
@@ -53,7 +54,7 @@ fn is_past(number: u64, count: u64, state: MarkState) -> bool
 
 impl<R: Record> Live<R> {
     /// Lets the book's lock go, and wakes the flusher where it sleeps: only then there is a system call.
-    pub(crate) fn let_go(&self, mut book: MutexGuard<'_, Book>) {
+    pub(crate) fn unlock(&self, mut book: MutexGuard<'_, Book>) {
         let sleeps = book.flusher_sleeps;
         book.flusher_sleeps = false;
         drop(book);
@@ -79,9 +80,9 @@ impl<R: Record> Live<R> {
 
     /// Wakes those that wait for the mark, where there are any. For the flusher, after it raised or set the mark.
     pub fn wake_settled<E: Wait>(&self, rt: &E) {
-        let hall = self.waking.hall.lock(rt);
-        let waiting = hall.waiting;
-        drop(hall);
+        let waiters = self.waking.waiters.lock(rt);
+        let waiting = waiters.waiting;
+        drop(waiters);
         if waiting != 0 {
             self.waking.raised.notify_all();
         }
@@ -98,7 +99,8 @@ impl<R: Record> Live<R> {
         (told.count, told.state)
     }
 
-    /// As `settled`, once the growth of that number is settled or no more will be. It sleeps until then.
+    /// As `settled`, once the growth of that number is settled or no more will be. It sleeps until then, and is woken
+    /// by `wake_settled` alone.
     pub fn await_settled<E: Wait>(
         &self,
         rt: &E,
@@ -114,17 +116,17 @@ impl<R: Record> Live<R> {
         if is_past(number, count, state) {
             return (count, state);
         }
-        let mut hall = self.waking.hall.lock(rt);
-        hall.waiting = hall.waiting.wrapping_add(1);
+        let mut waiters = self.waking.waiters.lock(rt);
+        waiters.waiting = waiters.waiting.wrapping_add(1);
         (count, state) = self.settled(seat);
         for _ in rt.forever() {
             if is_past(number, count, state) {
                 break;
             }
-            hall = self.waking.raised.wait(rt, hall);
+            waiters = self.waking.raised.wait(rt, waiters);
             (count, state) = self.settled(seat);
         }
-        hall.waiting = hall.waiting.wrapping_sub(1);
+        waiters.waiting = waiters.waiting.wrapping_sub(1);
         (count, state)
     }
 }

@@ -1,16 +1,16 @@
 //! A row of starts is searched for the last one at or before a position.
 
 ghost use Rattle.std.specs.Prelude.{◌≡◌, ◌+◌, ◌<◌, ◌≤◌, length, slice_index};
-ghost use Rattle.directory_core.specs.Limits.{growth_limit, record_limit};
+ghost use Rattle.directory_core.specs.Limits.{record_limit};
 ghost use Rattle.directory_core.specs.Finding.{IsBetween};
 
 /// How far round the guess it is looked first.
 const NEAR: usize = 8;
 
-/// Where position `i` would stand if all growths had one length.
-pub(crate) fn guess_of(i: u64, size: u64, known: usize) -> usize
+/// Where position `i` would stand if all slices had one length.
+fn guess_of(i: u64, size: u64, known: usize) -> usize
     requires inside { (i < size) × (size ≤ record_limit) }
-    requires known { (0 < known) × (known ≤ growth_limit) }
+    requires known { (0 < known) × (known ≤ record_limit) }
     ensures { result < known }
 {
     (i * known as u64 / size) as usize
@@ -18,8 +18,8 @@ pub(crate) fn guess_of(i: u64, size: u64, known: usize) -> usize
 
 /// Two places near the guess between which the last start at or before `i` stands; where it isn't near, the guess
 /// and one end.
-pub(crate) fn narrow(starts: &[u32], i: u64, guess: usize) -> (usize, usize)
-    requires guess { (guess < length starts.now) × (length starts.now ≤ growth_limit) }
+fn narrow(starts: &[u32], i: u64, guess: usize) -> (usize, usize)
+    requires guess { (guess < length starts.now) × (length starts.now ≤ record_limit) }
     requires first { slice_index starts.now 0 ≤ i }
     ensures { IsBetween starts.now i result.0 result.1 }
 {
@@ -36,7 +36,7 @@ pub(crate) fn narrow(starts: &[u32], i: u64, guess: usize) -> (usize, usize)
 }
 
 /// The place of the last start at or before `i`.
-pub(crate) fn search(starts: &[u32], i: u64, low: usize, high: usize) -> usize
+fn search(starts: &[u32], i: u64, low: usize, high: usize) -> usize
     requires { IsBetween starts.now i low high }
     ensures { IsBetween starts.now i result (result + 1) }
 {
@@ -51,4 +51,17 @@ pub(crate) fn search(starts: &[u32], i: u64, low: usize, high: usize) -> usize
         }
     }
     low
+}
+
+/// The place of the last start at or before position `i`, of slices with so many records together. It is looked for
+/// near the place that it would have if all slices had one length, and by halves where it isn't there.
+pub fn last_start(starts: &[u32], size: u64, i: u64) -> usize
+    requires inside { (i < size) × (size ≤ record_limit) }
+    requires some { (0 < length starts.now) × (length starts.now ≤ record_limit) }
+    requires first { slice_index starts.now 0 ≤ i }
+    ensures { IsBetween starts.now i result (result + 1) }
+{
+    let guess = guess_of(i, size, starts.len());
+    let (low, high) = narrow(starts, i, guess);
+    search(starts, i, low, high)
 }

@@ -8,7 +8,7 @@ ghost use Rattle.directory_core.specs.Notes.{cells_of, IsFiled, StandsIn, Follow
 
 use crate::address::spot;
 use crate::bucket::Bucket;
-use crate::finding::{guess_of, narrow, search};
+use crate::finding::last_start;
 use block_core::Entry;
 use once_cell::race::Note;
 use record_core::Record;
@@ -83,6 +83,7 @@ impl<R: Record> Pass<R> {
         ensures chained { IsChained self.now.entries }
         ensures in_a_frame { AreBlocks R.form.width self.now.entries }
         ensures in_room { (result ≤ self.now.of.room) × (self.now.of.room ≤ growth_limit) }
+        ensures in_limit { total self.now.entries ≤ self.now.of.limit }
     {
         self.starts.len() as u64
     }
@@ -225,9 +226,7 @@ impl<R: Record> Pass<R> {
             return None;
         }
         let starts = self.starts.as_slice();
-        let guess = guess_of(i, self.size, starts.len());
-        let (low, high) = narrow(starts, i, guess);
-        let low = search(starts, i, low, high);
-        Some((low as u64, (i - starts[low] as u64) as usize))
+        let number = last_start(starts, self.size, i);
+        Some((number as u64, (i - starts[number] as u64) as usize))
     }
 }

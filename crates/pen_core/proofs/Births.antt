@@ -15,7 +15,7 @@ use Rattle.segment_core.specs.declared.fault.ScanFault.TheVariants.{Unborn}
 use Rattle.segment_core.specs.Frame.{header}
 use Rattle.segment_core.specs.Fault.{first_line, header_lines, header_fault}
 use Rattle.pen_core.specs.Held.{Opens}
-use Rattle.pen_core.specs.Births.{IsExisting, IsBirth, IsBornSafely, IsClear, WritesNothing}
+use Rattle.pen_core.specs.Births.{IsExisting, IsUnbornOrEmpty, StaysUnbornOrEmpty, IsClear, WritesNothing}
 use Rattle.pen_core.proofs.Held.{not_pending}
 
 unborn : (width : ℕ) (image : List ℕ) → (nat_le (length image) 1 || not (get_or image 0 0 == 1)) ≡ true → header_fault width image ≡ Some Unborn
@@ -43,23 +43,23 @@ empty_opens shape = record {
 }
 
 -- what is no file stays none
-pub birth_blank : (shape : Shape) (image : List ℕ) → length image ≤ 1 → IsBirth shape image
+pub birth_blank : (shape : Shape) (image : List ℕ) → length image ≤ 1 → IsUnbornOrEmpty shape image
 birth_blank shape image short = inl (unborn_short shape.width image short)
 
-pub birth_closed : (shape : Shape) (image : List ℕ) → get_or image 0 0 ≢ 1 → IsBirth shape image
+pub birth_closed : (shape : Shape) (image : List ℕ) → get_or image 0 0 ≢ 1 → IsUnbornOrEmpty shape image
 birth_closed shape image shut = inl (unborn_closed shape.width image shut)
 
 -- while byte 0 alone is written
-pub births_of_first : (shape : Shape) (bytes seen image : List ℕ) → length bytes ≤ 1 → IsImage (touched (settled bytes) 0 1 seen) image → IsBirth shape image
+pub births_of_first : (shape : Shape) (bytes seen image : List ℕ) → length bytes ≤ 1 → IsImage (touched (settled bytes) 0 1 seen) image → IsUnbornOrEmpty shape image
 births_of_first shape bytes seen image short is = birth_blank shape image (omega (arith, is.no_longer))
 
 -- while the header is written behind a closed byte 0 that is on the disk
-pub births_of_header : (shape : Shape) (len : ℕ) (bytes seen image : List ℕ) → 0 < length bytes → get_or bytes 0 0 ≢ 1 → IsImage (touched (settled bytes) 1 len seen) image → IsBirth shape image
+pub births_of_header : (shape : Shape) (len : ℕ) (bytes seen image : List ℕ) → 0 < length bytes → get_or bytes 0 0 ≢ 1 → IsImage (touched (settled bytes) 1 len seen) image → IsUnbornOrEmpty shape image
 births_of_header shape len bytes seen image some shut is = birth_closed shape image (λ opened. shut (sym (is.each 0 some (not_pending [] 1 len 0 refl (λ from upto. omega arith))) ∙ opened))
 
 -- while byte 0 is opened: no file yet, or the empty one
 pub births_of_opening : (shape : Shape) (bytes seen image : List ℕ) → length bytes ≡ length (empty_file shape) → ((j : ℕ) → 0 < j → j < length bytes → get_or bytes j 0 ≡ get_or (empty_file shape) j 0) → IsImage (touched (settled bytes) 0 1 seen) image
-    → IsBirth shape image
+    → IsUnbornOrEmpty shape image
 births_of_opening shape bytes seen image size same is = elim (cases_eq (get_or image 0 0) 1) [
   | inr shut ↦ birth_closed shape image shut
   | inl opened ↦ inr (subst (Opens shape [] []) (sym (ext_get_or 0 image (empty_file shape) (omega (arith, size, is.no_shorter, is.no_longer)) (λ j lt. at j opened (omega (arith, is.no_longer, size))))) (empty_opens shape))
@@ -92,10 +92,10 @@ stays_twice old mid new first second =
     let same : now mid ≡ now old = ap now first in
     LeavesOnly-more old mid new (now mid) (IsImage (now old)) (stays_only old mid first) second (λ image is. subst (λ s. IsImage s image) same is)
 
--- ---- the ground
+-- ---- what the disk holds
 
-birth_of_ground : (shape : Shape) (bytes : List ℕ) → (IsExisting bytes → ⊥) → IsBirth shape bytes
-birth_of_ground shape bytes none = elim (cases_lt 1 (length bytes)) [
+unborn_as_it_is : (shape : Shape) (bytes : List ℕ) → (IsExisting bytes → ⊥) → IsUnbornOrEmpty shape bytes
+unborn_as_it_is shape bytes none = elim (cases_lt 1 (length bytes)) [
   | inr short ↦ birth_blank shape bytes short
   | inl long ↦ elim (cases_eq (get_or bytes 0 0) 1) [
     | inl opened ↦ absurd (none (inr (long, opened)))
@@ -104,15 +104,15 @@ birth_of_ground shape bytes none = elim (cases_lt 1 (length bytes)) [
 ]
 
 -- where there was no file, what the calls up to here leave is none
-pub born_still : (shape : Shape) (old new : List State) (bytes : List ℕ) → now old ≡ settled bytes → (IsExisting bytes → ⊥) → LeavesOnly old new (IsImage (now old)) → LeavesOnly old new (IsBirth shape)
+pub born_still : (shape : Shape) (old new : List State) (bytes : List ℕ) → now old ≡ settled bytes → (IsExisting bytes → ⊥) → LeavesOnly old new (IsImage (now old)) → LeavesOnly old new (IsUnbornOrEmpty shape)
 born_still shape old new bytes is none leaves =
-    LeavesOnly-weaker old new (IsImage (now old)) (IsBirth shape) (λ image left. subst (IsBirth shape) (sym (IsImage-settled bytes image (subst (λ s. IsImage s image) is left))) (birth_of_ground shape bytes none)) leaves
+    LeavesOnly-weaker old new (IsImage (now old)) (IsUnbornOrEmpty shape) (λ image left. subst (IsUnbornOrEmpty shape) (sym (IsImage-settled bytes image (subst (λ s. IsImage s image) is left))) (unborn_as_it_is shape bytes none)) leaves
 
 -- behind a first byte that is written
-pub born_first : (shape : Shape) (old mid new : List State) (bytes : List ℕ) → now old ≡ settled bytes → now mid ≡ now old → (IsExisting bytes → ⊥) → length bytes ≤ 1 → LeavesOnly old mid (IsImage (now old)) → LeavesOnly mid new (IsImage (touched (now mid) 0 1 (bytes_of mid))) → LeavesOnly old new (IsBirth shape)
+pub born_first : (shape : Shape) (old mid new : List State) (bytes : List ℕ) → now old ≡ settled bytes → now mid ≡ now old → (IsExisting bytes → ⊥) → length bytes ≤ 1 → LeavesOnly old mid (IsImage (now old)) → LeavesOnly mid new (IsImage (touched (now mid) 0 1 (bytes_of mid))) → LeavesOnly old new (IsUnbornOrEmpty shape)
 born_first shape old mid new bytes is same none short first second =
-    LeavesOnly-join old mid new (IsBirth shape) (born_still shape old mid bytes is none first)
-    (LeavesOnly-weaker mid new (IsImage (touched (now mid) 0 1 (bytes_of mid))) (IsBirth shape) (λ image left. births_of_first shape bytes (bytes_of mid) image short (subst (λ s. IsImage (touched s 0 1 (bytes_of mid)) image) (same ∙ is) left)) second)
+    LeavesOnly-join old mid new (IsUnbornOrEmpty shape) (born_still shape old mid bytes is none first)
+    (LeavesOnly-weaker mid new (IsImage (touched (now mid) 0 1 (bytes_of mid))) (IsUnbornOrEmpty shape) (λ image left. births_of_first shape bytes (bytes_of mid) image short (subst (λ s. IsImage (touched s 0 1 (bytes_of mid)) image) (same ∙ is) left)) second)
 
 pub clear_first : (bytes : List ℕ) → length bytes ≤ 1 → IsClear (settled (overlay bytes 0 (0 ∷ [])))
 clear_first [] short = (0 ∷ [], refl, omega arith, omega arith, λ e. omega (arith, e))
@@ -130,16 +130,16 @@ module _ (shape : Shape) where
       let none : drop (length rest) bytes ≡ [] = drop_all (length rest) bytes (omega (arith, short)) in
       ap (λ (bs : List ℕ). b ∷ rest ++ bs) none ∙ ap (λ (bs : List ℕ). b ∷ bs) (append-nil rest)
 
-  pub born_header : (old mid : List State) → IsClear (now old) → LeavesOnly old mid (IsImage (touched (now old) 1 (length rest) (bytes_of old))) → LeavesOnly old mid (IsBirth shape)
+  pub born_header : (old mid : List State) → IsClear (now old) → LeavesOnly old mid (IsImage (touched (now old) 1 (length rest) (bytes_of old))) → LeavesOnly old mid (IsUnbornOrEmpty shape)
   born_header old mid clear leaves =
-      LeavesOnly-weaker old mid (IsImage (touched (now old) 1 (length rest) (bytes_of old))) (IsBirth shape) (λ image left. births_of_header shape (length rest) clear.0 (bytes_of old) image clear.2 clear.4 (subst (λ s. IsImage (touched s 1 (length rest) (bytes_of old)) image) clear.1 left)) leaves
+      LeavesOnly-weaker old mid (IsImage (touched (now old) 1 (length rest) (bytes_of old))) (IsUnbornOrEmpty shape) (λ image left. births_of_header shape (length rest) clear.0 (bytes_of old) image clear.2 clear.4 (subst (λ s. IsImage (touched s 1 (length rest) (bytes_of old)) image) clear.1 left)) leaves
 
-  pub born_opened : (old mid new : List State) → IsClear (now old) → LeavesOnly old mid (IsImage (touched (now old) 1 (length rest) (bytes_of old))) → now mid ≡ settled (overlay (bytes_of old) 1 rest) → LeavesOnly mid new (IsImage (touched (now mid) 0 1 (bytes_of mid))) → LeavesOnly old new (IsBirth shape)
+  pub born_opened : (old mid new : List State) → IsClear (now old) → LeavesOnly old mid (IsImage (touched (now old) 1 (length rest) (bytes_of old))) → now mid ≡ settled (overlay (bytes_of old) 1 rest) → LeavesOnly mid new (IsImage (touched (now mid) 0 1 (bytes_of mid))) → LeavesOnly old new (IsUnbornOrEmpty shape)
   born_opened old mid new clear first is second =
-      LeavesOnly-join old mid new (IsBirth shape) (born_header old mid clear first)
-      (LeavesOnly-weaker mid new (IsImage (touched (now mid) 0 1 (bytes_of mid))) (IsBirth shape) (λ image left. opening clear.0 (ap (λ s. s.seen) clear.1) clear.2 clear.3 image left) second)
+      LeavesOnly-join old mid new (IsUnbornOrEmpty shape) (born_header old mid clear first)
+      (LeavesOnly-weaker mid new (IsImage (touched (now mid) 0 1 (bytes_of mid))) (IsUnbornOrEmpty shape) (λ image left. opening clear.0 (ap (λ s. s.seen) clear.1) clear.2 clear.3 image left) second)
     where
-      opening : (bytes : List ℕ) → bytes_of old ≡ bytes → 0 < length bytes → length bytes ≤ 12 → (image : List ℕ) → IsImage (touched (now mid) 0 1 (bytes_of mid)) image → IsBirth shape image
+      opening : (bytes : List ℕ) → bytes_of old ≡ bytes → 0 < length bytes → length bytes ≤ 12 → (image : List ℕ) → IsImage (touched (now mid) 0 1 (bytes_of mid)) image → IsUnbornOrEmpty shape image
       opening [] same some short image left = absurd (omega (arith, some))
       opening (b ∷ bytes) same some short image left =
           let made : now mid ≡ settled (b ∷ rest) = is ∙ ap (λ (bs : List ℕ). settled (overlay bs 1 rest)) same ∙ ap settled (laid_behind b bytes (omega (arith, short))) in
@@ -158,14 +158,14 @@ module _ (shape : Shape) where
 
 -- ---- from the first sync on
 
-pub born_safely : (shape : Shape) (old mid new : List State) → clock mid ≡ clock old + 1 → bytes_of mid ≡ bytes_of old → ((IsExisting (bytes_of mid) → ⊥) → LeavesOnly mid new (IsBirth shape)) → IsBornSafely shape old new
+pub born_safely : (shape : Shape) (old mid new : List State) → clock mid ≡ clock old + 1 → bytes_of mid ≡ bytes_of old → ((IsExisting (bytes_of mid) → ⊥) → LeavesOnly mid new (IsUnbornOrEmpty shape)) → StaysUnbornOrEmpty shape old new
 born_safely shape old mid new time same leaves none later image left =
     (leaves (λ there. none (subst IsExisting same there))).each image (subst (λ t. LeftSince new t image) (sym time) left)
 
-pub born_onward : (shape : Shape) (old mid last new : List State) → clock mid ≡ clock old + 1 → bytes_of mid ≡ bytes_of old → ((IsExisting (bytes_of mid) → ⊥) → LeavesOnly mid last (IsBirth shape)) → LeavesOnly last new (IsBirth shape) → IsBornSafely shape old new
-born_onward shape old mid last new time same first second = born_safely shape old mid new time same (λ none. LeavesOnly-join mid last new (IsBirth shape) (first none) second)
+pub born_onward : (shape : Shape) (old mid last new : List State) → clock mid ≡ clock old + 1 → bytes_of mid ≡ bytes_of old → ((IsExisting (bytes_of mid) → ⊥) → LeavesOnly mid last (IsUnbornOrEmpty shape)) → LeavesOnly last new (IsUnbornOrEmpty shape) → StaysUnbornOrEmpty shape old new
+born_onward shape old mid last new time same first second = born_safely shape old mid new time same (λ none. LeavesOnly-join mid last new (IsUnbornOrEmpty shape) (first none) second)
 
-pub born_unsynced : (shape : Shape) (old new : List State) → clock new ≡ clock old + 1 → IsBornSafely shape old new
+pub born_unsynced : (shape : Shape) (old new : List State) → clock new ≡ clock old + 1 → StaysUnbornOrEmpty shape old new
 born_unsynced shape old new time none later image left = absurd (omega arith)
 
 -- where there was a file

@@ -74,6 +74,9 @@ folding_alike shape count frames vector left s t legal same fold =
       into_homes = fold.into_homes;
     }
 
+pub folding_seen : (shape : Shape) (count : ℕ) (frames : List Frame) (vector : List (List ℕ)) (left : List HomeWrite) (s t : State) → s.seen ≡ t.seen → IsFolding shape count frames vector left s → IsFolding shape count frames vector left t
+folding_seen shape count frames vector left s t same fold = record { homes_hold = subst (λ bs. HomesHold shape.format (raw shape.width) (laid left bs) frames count vector) same fold.homes_hold; into_homes = fold.into_homes }
+
 -- ---- one more group or change
 
 -- a list that ends with a frame, but for home bytes

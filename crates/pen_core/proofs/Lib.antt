@@ -10,12 +10,14 @@ pub mod Pens
 pub mod Folds
 pub mod Whole
 pub mod Listed
+pub mod InHand
 pub mod BeingFolded
 pub mod Begun
 pub mod Begins
 pub mod Growths
 pub mod RunsBegun
 pub mod Births
+pub mod CreationCalls
 pub mod NewPen
 pub mod RunsGiven
 pub mod Covers
@@ -23,3 +25,4 @@ pub mod HomeRunSteps
 pub mod Pieces
 pub mod Opening
 pub mod PieceValues
+pub mod WorkedOpening

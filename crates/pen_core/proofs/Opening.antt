@@ -125,7 +125,7 @@ module _ {R : Type 0} (format : Format) (form : Encoding R) (image : List ℕ) (
   seen : SeenAs shape p frames cells image
   seen = seen_as shape p frames cells image gate_is holds
 
-  known_file : (bytes : List ℕ) → Knows shape p (tally_of found) frames cells bytes None false (settled image)
+  known_file : (bytes : List ℕ) → Knows 0 shape p (tally_of found) frames cells bytes None false (settled image)
   known_file bytes = knows_rest shape p (tally_of found) frames cells bytes (settled image) gate_is (sym (tally_from-blanked nothing found)) false file_is shut (settled_image image)
 
 -- ---- a pen's fields
@@ -180,14 +180,14 @@ module _ {R : Type 0} (form : Encoding R) (keeps : Type 0) (states : List State)
       (subst (λ g. SeenAs file g (all_blanked found) (map form.bytes_of records) (bytes_of states)) (sym gate_same)
       (subst (λ (bs : List ℕ). SeenAs file (length (text file found)) (all_blanked found) (map form.bytes_of records) bs) (sym (seen_same model)) (seen named form on.image found records back on.fits on.scan.vector)))
 
-  has_known : (bytes : List ℕ) → keeps → Knows told scanned.gate tally (all_blanked found) (map form.bytes_of records) bytes None false (now states)
+  has_known : (bytes : List ℕ) → keeps → Knows 0 told scanned.gate tally (all_blanked found) (map form.bytes_of records) bytes None false (now states)
   has_known bytes model =
-      subst (λ s. Knows s scanned.gate tally (all_blanked found) (map form.bytes_of records) bytes None false (now states)) (sym shape_same)
-      (subst (λ g. Knows file g tally (all_blanked found) (map form.bytes_of records) bytes None false (now states)) (sym gate_same)
-      (subst (λ t. Knows file (length (text file found)) t (all_blanked found) (map form.bytes_of records) bytes None false (now states)) (sym tally_same)
-      (subst (λ s. Knows file (length (text file found)) (tally_of found) (all_blanked found) (map form.bytes_of records) bytes None false s) (sym (on.on_disk model)) (known_file named form on.image found records back on.fits on.scan.vector bytes))))
+      subst (λ s. Knows 0 s scanned.gate tally (all_blanked found) (map form.bytes_of records) bytes None false (now states)) (sym shape_same)
+      (subst (λ g. Knows 0 file g tally (all_blanked found) (map form.bytes_of records) bytes None false (now states)) (sym gate_same)
+      (subst (λ t. Knows 0 file (length (text file found)) t (all_blanked found) (map form.bytes_of records) bytes None false (now states)) (sym tally_same)
+      (subst (λ s. Knows 0 file (length (text file found)) (tally_of found) (all_blanked found) (map form.bytes_of records) bytes None false s) (sym (on.on_disk model)) (known_file named form on.image found records back on.fits on.scan.vector bytes))))
 
-  pub opened_pen : (next : Tally) (bytes : List ℕ) → (1 ≤ form.width) × (form.width < 2 ^ 16) → IsPen keeps states told scanned.gate tally next bytes None false
+  pub opened_pen : (next : Tally) (bytes : List ℕ) → (1 ≤ form.width) × (form.width < 2 ^ 16) → IsPen 0 keeps states told scanned.gate tally next bytes None false
   opened_pen next bytes wide =
       let placed = inside named form on.image found records back on.fits on.scan.vector in
       let long = length-text file found in
@@ -203,8 +203,8 @@ module _ {R : Type 0} (form : Encoding R) (keeps : Type 0) (states : List State)
         job = tt;
         knows = λ model. (
             let seen = has_seen model in
-            subst (λ fs. Knows told scanned.gate tally fs (vector_before told scanned.gate (bytes_of states)) bytes None false (now states)) (sym seen.frames_are)
-            (subst (λ v. Knows told scanned.gate tally (all_blanked found) v bytes None false (now states)) (sym seen.vector_is) (has_known bytes model)));
+            subst (λ fs. Knows 0 told scanned.gate tally fs (vector_before told scanned.gate (bytes_of states)) bytes None false (now states)) (sym seen.frames_are)
+            (subst (λ v. Knows 0 told scanned.gate tally (all_blanked found) v bytes None false (now states)) (sym seen.vector_is) (has_known bytes model)));
       }
 
   pub opened_lists : (bytes : List ℕ) (live : ℕ) → live ≡ length homes.live.items → IsListed keeps states told scanned.gate tally bytes None homes live
@@ -224,7 +224,7 @@ module _ {R : Type 0} (form : Encoding R) (keeps : Type 0) (states : List State)
     same = λ model. (has_seen model).frames_are;
   }
 
-  pub opened_as : {D : Type 0} (disk : D) (bytes : List ℕ) (room places : ℕ) → keeps → IsOpened form (bytes_of states) (pen_of states disk told scanned.gate tally bytes room None false places) records
+  pub opened_as : {D : Type 0} (disk : D) (bytes : List ℕ) (room places : ℕ) → keeps → IsOpened form (bytes_of states) (pen_of states disk told scanned.gate tally bytes room None false places None) records
   opened_as disk bytes room places model =
       let seen = has_seen model in
       let image : bytes_of states ≡ on.image = seen_same model in

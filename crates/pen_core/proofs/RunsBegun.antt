@@ -147,16 +147,16 @@ module _ {R : Type 0} (form : Encoding R) (shape : Shape) (gate : ℕ) (tally : 
 
 -- What stands once a change is begun: the pen's fields are sound, the job's frame is the change, and the records behind
 -- it are those with the runs replaced.
-pub record ChangeBegun {R : Type 0} (keeps : Type 0) (states : List State) (shape : Shape) (gate : ℕ) (tally : Tally) (bytes : List ℕ) (broken : Bool) (homes : Homes) (live : ℕ) (form : Encoding R) (runs : List Run) (pieces : List (List R)) : Type 0 where
-  pub pen : IsPen keeps states shape gate tally (after tally (change_frame form runs pieces)) bytes (Some Body) broken
+pub record ChangeBegun {R : Type 0} (count : ℕ) (keeps : Type 0) (states : List State) (shape : Shape) (gate : ℕ) (tally : Tally) (bytes : List ℕ) (broken : Bool) (homes : Homes) (live : ℕ) (form : Encoding R) (runs : List Run) (pieces : List (List R)) : Type 0 where
+  pub pen : IsPen count keeps states shape gate tally (after tally (change_frame form runs pieces)) bytes (Some Body) broken
   pub listed : IsListed keeps states shape gate tally bytes (Some Body) homes live
   pub frame_is : frame_at shape bytes ≡ change_frame form runs pieces
   pub tells : (vector : List (List ℕ)) (records : List R) → AreReadAs form vector records → AreReadAs form (after_frame shape.width vector (frame_at shape bytes)) (replaced records runs (joined pieces))
 
-pub change_begun : {R : Type 0} (keeps : Type 0) (states : List State) (shape : Shape) (gate : ℕ) (tally next : Tally) (bytes bytes' : List ℕ) (o : Option Step) (broken : Bool) (homes homes' : Homes) (live : ℕ) (form : Encoding R) (runs : List (ℕ × ℕ)) (pieces : List (List R))
-    → IsPen keeps states shape gate tally next bytes o broken → IsListed keeps states shape gate tally bytes o homes live → Allows broken (is_some (job_of shape bytes o)) shape gate tally (runs_given runs) → (keeps → IsImage (now states) (bytes_of states))
+pub change_begun : {R : Type 0} {count : ℕ} (keeps : Type 0) (states : List State) (shape : Shape) (gate : ℕ) (tally next : Tally) (bytes bytes' : List ℕ) (o : Option Step) (broken : Bool) (homes homes' : Homes) (live : ℕ) (form : Encoding R) (runs : List (ℕ × ℕ)) (pieces : List (List R))
+    → IsPen count keeps states shape gate tally next bytes o broken → IsListed keeps states shape gate tally bytes o homes live → Allows broken (is_some (job_of shape bytes o)) shape gate tally (runs_given runs) → (keeps → IsImage (now states) (bytes_of states))
     → bytes' ≡ frame_text shape.format (change_frame form (runs_given runs) pieces) ++ 0 ∷ [] → form.width ≡ shape.width → ((r : R) → length (form.bytes_of r) ≡ form.width) → 0 < length runs → length (joined pieces) ≡ records_of_runs (runs_given runs) → AreReadAgain form (joined pieces)
-    → homes'.homes ≡ homes.homes → homes'.live.items ≡ homes.live.items ++ runs → ChangeBegun keeps states shape gate tally bytes' broken homes' live form (runs_given runs) pieces
+    → homes'.homes ≡ homes.homes → homes'.live.items ≡ homes.live.items ++ runs → ChangeBegun count keeps states shape gate tally bytes' broken homes' live form (runs_given runs) pieces
 change_begun keeps states shape gate tally next bytes bytes' o broken homes homes' live form runs pieces pen listed allowed reads spelled width size_of some filled again homes_same live_more =
     let given : List Run = runs_given runs in
     let frame : Frame = change_frame form given pieces in

@@ -38,6 +38,7 @@ module _ {fold : Option FoldOf} (keeps : Type 0) (states : List State) (shape : 
         images_open = knows.images_open;
         pending_is_told = told_pending shape gate tally (blanked_before shape gate (bytes_of states)) (vector_before shape gate (bytes_of states)) bytes o broken (now states) knows;
         gate_is = knows.gate_is;
+        tally_is = knows.tally_is;
         size_is = ap (λ t. t.size) knows.tally_is ∙ held_size shape (blanked_before shape gate (bytes_of states)) (vector_before shape gate (bytes_of states)) (bytes_of states) knows.file.holds;
       }
 

@@ -1,5 +1,5 @@
 -- A file that is made.
-use Rattle.std.specs.Prelude.{◌≡◌, ◌≢◌, ◌⊎◌, ℕ, ◌+◌, ◌≤◌, ◌<◌, List, [], length, slice_index, Some, None, false}
+use Rattle.std.specs.Prelude.{◌≡◌, ◌≢◌, ◌⊎◌, ℕ, ◌+◌, ◌-◌, ◌≤◌, ◌<◌, List, [], ◌∷◌, ◌++◌, length, slice_index, slice_get, Some, None, false, nat_le, if◌then◌else◌}
 use Rattle.disk_core.specs.State.{State, now, settled, IsImage}
 use Rattle.disk_core.specs.Calls.{bytes_of}
 use Rattle.disk_core.specs.Moments.{clock, LeftSince, LeavesOnly}
@@ -7,11 +7,12 @@ use Rattle.segment_core.specs.declared.format.Shape.{Shape}
 use Rattle.segment_core.specs.declared.fault.ScanFault.TheVariants.{Unborn}
 use Rattle.segment_core.specs.Tally.{nothing}
 use Rattle.segment_core.specs.Fault.{header_fault}
-use Rattle.pen_core.specs.declared.create.Ground.{Ground}
-use Rattle.pen_core.specs.declared.create.Ground.TheVariants.{File, Blank, Closed}
+use Rattle.pen_core.specs.declared.create.Contents.{Contents}
+use Rattle.pen_core.specs.declared.create.Contents.TheVariants.{File, Blank, Closed}
 use Rattle.disk_core.specs.declared.fault.DiskFault.{DiskFault}
 use Rattle.pen_core.specs.declared.fault.PenFault.{PenFault}
-use Rattle.pen_core.specs.declared.fault.PenFault.TheVariants.{Exists, Disk}
+use Rattle.disk_core.specs.declared.fault.DiskFault.TheVariants as causes
+use Rattle.pen_core.specs.declared.fault.PenFault.TheVariants.{Broken, Busy, OldFormat, Runs, OutOfRange, TooLarge, Unfolded, FileFull, Memory, Exists, Disk}
 use Rattle.pen_core.specs.Held.{Opens}
 use Rattle.pen_core.specs.PenOf.{PenOf}
 
@@ -22,23 +23,23 @@ abbrev pub IsExisting : List ℕ → Type 0
 IsExisting bytes = (12 < length bytes) ⊎ ((1 < length bytes) × (slice_index bytes 0 ≡ 1))
 
 -- what a look at the bytes finds
-abbrev pub IsGround : List ℕ → Ground → Type 0
-IsGround bytes File = IsExisting bytes
-IsGround bytes Blank = length bytes ≤ 1
-IsGround bytes Closed = (1 < length bytes) × (length bytes ≤ 12) × (slice_index bytes 0 ≢ 1)
+abbrev pub AreContents : List ℕ → Contents → Type 0
+AreContents bytes File = IsExisting bytes
+AreContents bytes Blank = length bytes ≤ 1
+AreContents bytes Closed = (1 < length bytes) × (length bytes ≤ 12) × (slice_index bytes 0 ≢ 1)
 
 -- On the disk stands a closed first byte, and no more than an empty file has.
 abbrev pub IsClear : State → Type 0
 IsClear s = (bytes : List ℕ) × (s ≡ settled bytes) × (0 < length bytes) × (length bytes ≤ 12) × (slice_index bytes 0 ≢ 1)
 
 -- The image is no file yet, or the empty one.
-abbrev pub IsBirth : Shape → List ℕ → Type 0
-IsBirth shape image = (header_fault shape.width image ≡ Some Unborn) ⊎ Opens shape [] [] image
+abbrev pub IsUnbornOrEmpty : Shape → List ℕ → Type 0
+IsUnbornOrEmpty shape image = (header_fault shape.width image ≡ Some Unborn) ⊎ Opens shape [] [] image
 
 -- From the first sync on, where it succeeded and there was no file, each image is no file yet, or the empty one. The
 -- next call, of the length, tells that it succeeded.
-abbrev pub IsBornSafely : Shape → List State → List State → Type 0
-IsBornSafely shape old new = (IsExisting (bytes_of old) → ⊥) → clock old + 1 < clock new → (image : List ℕ) → LeftSince new (clock old + 1) image → IsBirth shape image
+abbrev pub StaysUnbornOrEmpty : Shape → List State → List State → Type 0
+StaysUnbornOrEmpty shape old new = (IsExisting (bytes_of old) → ⊥) → clock old + 1 < clock new → (image : List ℕ) → LeftSince new (clock old + 1) image → IsUnbornOrEmpty shape image
 
 -- Where there was a file nothing is written: a crash leaves what it might have left before.
 pub record WritesNothing (old new : List State) : Type 0 where
@@ -62,3 +63,45 @@ pub record IsNew {D : Type 0} (shape : Shape) (pen : PenOf D) : Type 0 where
 pub record IsEmpty {D : Type 0} (pen : PenOf D) : Type 0 where
   pub frames_are : pen.frames ≡ []
   pub vector_is : pen.vector ≡ []
+
+-- ---- the calls of a creation
+
+-- a write and its sync
+abbrev pub write_calls : List DiskFault
+write_calls = causes.Write ∷ causes.Sync ∷ []
+
+-- behind the first sync: the length; then a closed byte is written where there is at most one, and else the first is read
+abbrev pub first_calls : List ℕ → List DiskFault
+first_calls bytes = causes.Length ∷ (if nat_le (length bytes) 1 then write_calls else causes.Read ∷ [])
+
+-- all of them where there is no file, each by the fault that it may answer
+abbrev pub calls_of_creation : List ℕ → List DiskFault
+calls_of_creation bytes = (causes.Sync ∷ []) ++ first_calls bytes ++ (write_calls ++ write_calls)
+
+-- so many of these calls were made, and the last is the one that answers this fault
+abbrev pub EndsAt : List DiskFault → DiskFault → ℕ → Type 0
+EndsAt calls cause n = (0 < n) × (slice_get calls (n - 1) ≡ Some cause)
+
+-- a file is told by the length, or by the first byte
+abbrev pub IsTold : List DiskFault → ℕ → Type 0
+IsTold calls n = EndsAt calls causes.Length n ⊎ EndsAt calls causes.Read n
+
+-- so many were made where this is found of what the disk holds
+abbrev pub AreLooks : List DiskFault → Contents → ℕ → Type 0
+AreLooks calls File n = IsTold calls n
+AreLooks calls Blank n = n ≡ 1
+AreLooks calls Closed n = n ≡ 2
+
+-- and where creation answers this
+abbrev pub AreCallsUntil : List DiskFault → PenFault → ℕ → Type 0
+AreCallsUntil calls (Disk cause) n = EndsAt calls cause n
+AreCallsUntil calls Exists n = IsTold calls n
+AreCallsUntil calls Memory n = n ≡ 0
+AreCallsUntil calls Broken n = ⊥
+AreCallsUntil calls Busy n = ⊥
+AreCallsUntil calls OldFormat n = ⊥
+AreCallsUntil calls Runs n = ⊥
+AreCallsUntil calls OutOfRange n = ⊥
+AreCallsUntil calls TooLarge n = ⊥
+AreCallsUntil calls Unfolded n = ⊥
+AreCallsUntil calls FileFull n = ⊥

@@ -8,6 +8,7 @@ pub mod Pen
 pub mod Inside
 pub mod Listed
 pub mod Folds
+pub mod InHand
 pub mod Births
 pub mod Covered
 pub mod HomeRuns

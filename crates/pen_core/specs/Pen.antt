@@ -4,7 +4,7 @@ use Rattle.disk_core.specs.State.{State, now, IsImage}
 use Rattle.disk_core.specs.Choice.{is_pending}
 use Rattle.segment_core.specs.declared.format.Shape.{Shape}
 use Rattle.segment_core.specs.Frame.{Frame, frame_text}
-use Rattle.segment_core.specs.Tally.{after}
+use Rattle.segment_core.specs.Tally.{after, tally_of}
 use Rattle.pen_core.specs.declared.step.Step.{Step}
 use Rattle.pen_core.specs.declared.step.Step.TheVariants as steps
 use Rattle.pen_core.specs.declared.stage.Ticked.{Ticked}
@@ -37,10 +37,17 @@ abbrev pub MayBeOpening : Option JobOf → Type 0
 MayBeOpening None = ⊥
 MayBeOpening (Some job) = (job.step ≡ steps.Gate) ⊎ (job.step ≡ steps.GateSync)
 
--- how many changes a fold in hand counts
+-- how many changes a fold counts whose homes may be pending: none before it begins, and none behind their sync
+abbrev pub open_count : FoldStage → ℕ → ℕ
+open_count folds.None count = 0
+open_count (folds.Home n) count = count
+open_count folds.Sync count = count
+open_count folds.Ready count = 0
+open_count folds.Filed count = 0
+
 abbrev pub fold_count : Option FoldOf → ℕ
 fold_count None = 0
-fold_count (Some fold) = fold.count
+fold_count (Some fold) = open_count fold.stage fold.count
 
 -- What may be pending at place j: past the closed gate; that gate, once the body is synced; a home byte that is
 -- being folded.
@@ -53,6 +60,7 @@ pub record IsKept {D : Type 0} (states : List State) (pen : PenOf D) : Type 0 wh
   pub images_open : (image : List ℕ) → IsImage (now states) image → MayOpen pen image
   pub pending_is_told : (j : ℕ) → is_pending (now states) j ≡ true → MayBePending pen j
   pub gate_is : pen.gate ≡ gate_of pen.shape pen.frames
+  pub tally_is : pen.tally ≡ tally_of pen.frames
   pub size_is : pen.tally.size ≡ length pen.vector
 
 -- ---- ticks

@@ -1,12 +1,12 @@
 //! A file is made: its header behind a closed first byte, a sync, that byte opened, a sync.
 
-ghost use Rattle.std.specs.Prelude.{◌≡◌, ◌⊎◌, ◌≤◌, ◌<◌, ◌+◌, ◌^◌, ◌++◌, ◌∷◌, [], length, Ok, Err, OnOk, IfOk, IfErr, MatchResult};
+ghost use Rattle.std.specs.Prelude.{◌≡◌, ◌⊎◌, ◌≤◌, ◌<◌, ◌+◌, ◌-◌, ◌^◌, ◌++◌, ◌∷◌, [], length, Ok, Err, OnOk, IfOk, IfErr, MatchResult};
 ghost use Rattle.disk_core.specs.State.{now, settled, touched, overlay, IsImage};
 ghost use Rattle.disk_core.specs.Calls.{bytes_of};
 ghost use Rattle.disk_core.specs.Moments.{LeavesOnly, clock};
 ghost use Rattle.segment_core.specs.declared.format.Format.TheVariants.{One};
 ghost use Rattle.segment_core.specs.Frame.{header};
-ghost use Rattle.pen_core.specs.Births.{IsExisting, IsGround, IsClear, IsBirth, IsBornSafely, WritesNothing, IsCreateFault, IsNew, IsEmpty};
+ghost use Rattle.pen_core.specs.Births.{AreLooks, AreCallsUntil, EndsAt, calls_of_creation, first_calls, write_calls, IsExisting, AreContents, IsClear, IsUnbornOrEmpty, StaysUnbornOrEmpty, WritesNothing, IsCreateFault, IsNew, IsEmpty};
 ghost use Rattle.pen_core.specs.Pen.{IsKept, failed_calls};
 
 use crate::fault::PenFault;
@@ -17,7 +17,7 @@ use std::alloc::{AllocError, Global};
 
 /// What a disk holds before a file is made on it.
 #[derive(Clone, Copy, Debug, PartialEq, Eq)]
-pub(crate) enum Ground {
+pub(crate) enum Contents {
     /// A file.
     File,
     /// At most one byte.
@@ -39,13 +39,16 @@ const OPEN: u8 = 1;
 const CLOSED: u8 = 0;
 
 /// What the disk holds.
-fn look<D: Disk>(disk: &mut D) -> Result<Ground, DiskFault>
-    ensures found { D.keeps disk.new → IfOk result (λ seen. IsGround (bytes_of (D.states disk.old)) seen) }
+fn look<D: Disk>(disk: &mut D) -> Result<Contents, DiskFault>
+    ensures found { D.keeps disk.new → IfOk result (λ seen. AreContents (bytes_of (D.states disk.old)) seen) }
     ensures same { D.keeps disk.new → now (D.states disk.new) ≡ now (D.states disk.old) }
     ensures images { D.keeps disk.new → LeavesOnly (D.states disk.old) (D.states disk.new) (IsImage (now (D.states disk.old))) }
     ensures time { clock (D.states disk.new) ≤ clock (D.states disk.old) + 2 }
-    ensures blank_time { result ≡ Ok Ground.Blank → clock (D.states disk.new) ≡ clock (D.states disk.old) + 1 }
+    ensures blank_time { result ≡ Ok Contents.Blank → clock (D.states disk.new) ≡ clock (D.states disk.old) + 1 }
     ensures later { clock (D.states disk.old) < clock (D.states disk.new) }
+    ensures calls { D.keeps disk.new → MatchResult result
+        (λ seen. AreLooks (first_calls (bytes_of (D.states disk.old))) seen (clock (D.states disk.new) - clock (D.states disk.old)))
+        (λ cause. EndsAt (first_calls (bytes_of (D.states disk.old))) cause (clock (D.states disk.new) - clock (D.states disk.old))) }
     ensures faults { MatchResult result
         (λ _. D.faults disk.new ≡ D.faults disk.old)
         (λ _. D.faults disk.new ≡ D.faults disk.old + 1) }
@@ -53,17 +56,17 @@ fn look<D: Disk>(disk: &mut D) -> Result<Ground, DiskFault>
 {
     let len = disk.len()?;
     if len > EMPTY_LEN {
-        return Ok(Ground::File);
+        return Ok(Contents::File);
     }
     if len < 2 {
-        return Ok(Ground::Blank);
+        return Ok(Contents::Blank);
     }
     let mut first = [0];
     disk.read_at(0, &mut first)?;
     if first[0] == OPEN {
-        return Ok(Ground::File);
+        return Ok(Contents::File);
     }
-    Ok(Ground::Closed)
+    Ok(Contents::Closed)
 }
 
 /// Writes the bytes and syncs them.
@@ -74,6 +77,9 @@ fn write_synced<D: Disk>(disk: &mut D, at: u64, bytes: &[u8]) -> Result<(), Disk
     ensures done { D.keeps disk.new → OnOk result (now (D.states disk.new) ≡ settled (overlay (bytes_of (D.states disk.old)) at bytes.now)) }
     ensures time { clock (D.states disk.new) ≤ clock (D.states disk.old) + 2 }
     ensures later { clock (D.states disk.old) < clock (D.states disk.new) }
+    ensures calls { MatchResult result
+        (λ _. clock (D.states disk.new) ≡ clock (D.states disk.old) + 2)
+        (λ cause. EndsAt write_calls cause (clock (D.states disk.new) - clock (D.states disk.old))) }
     ensures faults { MatchResult result
         (λ _. D.faults disk.new ≡ D.faults disk.old)
         (λ _. D.faults disk.new ≡ D.faults disk.old + 1) }
@@ -84,11 +90,11 @@ fn write_synced<D: Disk>(disk: &mut D, at: u64, bytes: &[u8]) -> Result<(), Disk
 }
 
 /// Closes the first byte of a disk that holds no file, and syncs it.
-fn clear_ground<D: Disk>(disk: &mut D) -> Result<(), PenFault>
+fn close_first<D: Disk>(disk: &mut D) -> Result<(), PenFault>
     requires settled { D.keeps disk.old → now (D.states disk.old) ≡ settled (bytes_of (D.states disk.old)) }
     ensures clear { D.keeps disk.new → OnOk result (IsClear (now (D.states disk.new))) }
     ensures born { D.keeps disk.new → (IsExisting (bytes_of (D.states disk.old)) → ⊥) → (shape : Shape)
-        → LeavesOnly (D.states disk.old) (D.states disk.new) (IsBirth shape) }
+        → LeavesOnly (D.states disk.old) (D.states disk.new) (IsUnbornOrEmpty shape) }
     ensures none_existed { D.keeps disk.new → OnOk result (IsExisting (bytes_of (D.states disk.old)) → ⊥) }
     ensures existed { D.keeps disk.new → IsExisting (bytes_of (D.states disk.old))
         → LeavesOnly (D.states disk.old) (D.states disk.new) (IsImage (now (D.states disk.old))) × (now (D.states disk.new) ≡ now (D.states disk.old)) }
@@ -96,19 +102,22 @@ fn clear_ground<D: Disk>(disk: &mut D) -> Result<(), PenFault>
     ensures refused { IfErr result IsCreateFault }
     ensures time { clock (D.states disk.new) ≤ clock (D.states disk.old) + 3 }
     ensures later { clock (D.states disk.old) < clock (D.states disk.new) }
+    ensures calls { D.keeps disk.new → MatchResult result
+        (λ _. clock (D.states disk.new) ≡ clock (D.states disk.old) + length (first_calls (bytes_of (D.states disk.old))))
+        (λ fault. AreCallsUntil (first_calls (bytes_of (D.states disk.old))) fault (clock (D.states disk.new) - clock (D.states disk.old))) }
     ensures faults { MatchResult result
         (λ _. D.faults disk.new ≡ D.faults disk.old)
         (λ fault. D.faults disk.new ≡ D.faults disk.old + failed_calls fault) }
     ensures model { D.keeps disk.new → D.keeps disk.old }
 {
-    let ground = match look(disk) {
-        Ok(ground) => ground,
+    let contents = match look(disk) {
+        Ok(contents) => contents,
         Err(fault) => return Err(PenFault::Disk(fault)),
     };
-    match ground {
-        Ground::File => Err(PenFault::Exists),
-        Ground::Closed => Ok(()),
-        Ground::Blank => match write_synced(disk, 0, &[CLOSED]) {
+    match contents {
+        Contents::File => Err(PenFault::Exists),
+        Contents::Closed => Ok(()),
+        Contents::Blank => match write_synced(disk, 0, &[CLOSED]) {
             Ok(()) => Ok(()),
             Err(fault) => Err(PenFault::Disk(fault)),
         },
@@ -119,9 +128,12 @@ fn clear_ground<D: Disk>(disk: &mut D) -> Result<(), PenFault>
 fn write_header<D: Disk>(disk: &mut D, shape: Shape, bytes: &[u8]) -> Result<(), DiskFault>
     requires spelled { bytes.now ≡ header shape ++ 0 ∷ [] }
     requires clear { D.keeps disk.old → IsClear (now (D.states disk.old)) }
-    ensures born { D.keeps disk.new → LeavesOnly (D.states disk.old) (D.states disk.new) (IsBirth shape) }
+    ensures born { D.keeps disk.new → LeavesOnly (D.states disk.old) (D.states disk.new) (IsUnbornOrEmpty shape) }
     ensures done { D.keeps disk.new → OnOk result (now (D.states disk.new) ≡ settled (header shape ++ 0 ∷ [])) }
     ensures time { clock (D.states disk.new) ≤ clock (D.states disk.old) + 4 }
+    ensures calls { MatchResult result
+        (λ _. clock (D.states disk.new) ≡ clock (D.states disk.old) + 4)
+        (λ cause. EndsAt (write_calls ++ write_calls) cause (clock (D.states disk.new) - clock (D.states disk.old))) }
     ensures faults { MatchResult result
         (λ _. D.faults disk.new ≡ D.faults disk.old)
         (λ _. D.faults disk.new ≡ D.faults disk.old + 1) }
@@ -134,13 +146,16 @@ fn write_header<D: Disk>(disk: &mut D, shape: Shape, bytes: &[u8]) -> Result<(),
 /// Makes an empty file, unless there is a file.
 fn make<D: Disk>(disk: &mut D, shape: Shape, bytes: &[u8]) -> Result<(), PenFault>
     requires spelled { bytes.now ≡ header shape ++ 0 ∷ [] }
-    ensures born { D.keeps disk.new → IsBornSafely shape (D.states disk.old) (D.states disk.new) }
+    ensures born { D.keeps disk.new → StaysUnbornOrEmpty shape (D.states disk.old) (D.states disk.new) }
     ensures done { D.keeps disk.new → OnOk result (now (D.states disk.new) ≡ settled (header shape ++ 0 ∷ [])) }
     ensures none_existed { D.keeps disk.new → OnOk result (IsExisting (bytes_of (D.states disk.old)) → ⊥) }
     ensures existed { D.keeps disk.new → IsExisting (bytes_of (D.states disk.old)) → WritesNothing (D.states disk.old) (D.states disk.new) }
     ensures exists { D.keeps disk.new → result ≡ Err PenFault.Exists → IsExisting (bytes_of (D.states disk.old)) }
     ensures refused { IfErr result IsCreateFault }
     ensures time { clock (D.states disk.new) ≤ clock (D.states disk.old) + 8 }
+    ensures calls { D.keeps disk.new → MatchResult result
+        (λ _. clock (D.states disk.new) ≡ clock (D.states disk.old) + length (calls_of_creation (bytes_of (D.states disk.old))))
+        (λ fault. AreCallsUntil (calls_of_creation (bytes_of (D.states disk.old))) fault (clock (D.states disk.new) - clock (D.states disk.old))) }
     ensures faults { MatchResult result
         (λ _. D.faults disk.new ≡ D.faults disk.old)
         (λ fault. D.faults disk.new ≡ D.faults disk.old + failed_calls fault) }
@@ -149,7 +164,7 @@ fn make<D: Disk>(disk: &mut D, shape: Shape, bytes: &[u8]) -> Result<(), PenFaul
     if let Err(fault) = disk.sync() {
         return Err(PenFault::Disk(fault));
     }
-    clear_ground(disk)?;
+    close_first(disk)?;
     if let Err(fault) = write_header(disk, shape, bytes) {
         return Err(PenFault::Disk(fault));
     }
@@ -189,8 +204,8 @@ impl<D: Disk> Pen<D> {
         ensures file { IfOk result (λ pen. D.keeps pen.disk → IsEmpty pen) }
         ensures kept { IfOk result (λ pen. D.keeps pen.disk → IsKept (D.states pen.disk) pen) }
         ensures born { MatchResult result
-            (λ pen. D.keeps pen.disk → IsBornSafely (record { format = format; width = width }) (D.states disk) (D.states pen.disk))
-            (λ r. D.keeps r.0 → IsBornSafely (record { format = format; width = width }) (D.states disk) (D.states r.0)) }
+            (λ pen. D.keeps pen.disk → StaysUnbornOrEmpty (record { format = format; width = width }) (D.states disk) (D.states pen.disk))
+            (λ r. D.keeps r.0 → StaysUnbornOrEmpty (record { format = format; width = width }) (D.states disk) (D.states r.0)) }
         ensures none_existed { IfOk result (λ pen. D.keeps pen.disk → IsExisting (bytes_of (D.states disk)) → ⊥) }
         ensures existed { IfErr result (λ r. D.keeps r.0 → IsExisting (bytes_of (D.states disk)) → (r.0 ≡ disk) ⊎ WritesNothing (D.states disk) (D.states r.0)) }
         ensures exists { IfErr result (λ r. D.keeps r.0 → r.1 ≡ PenFault.Exists → IsExisting (bytes_of (D.states disk))) }
@@ -198,6 +213,9 @@ impl<D: Disk> Pen<D> {
         ensures time { MatchResult result
             (λ pen. clock (D.states pen.disk) ≤ clock (D.states disk) + 8)
             (λ r. clock (D.states r.0) ≤ clock (D.states disk) + 8) }
+        ensures calls { MatchResult result
+            (λ pen. D.keeps pen.disk → clock (D.states pen.disk) ≡ clock (D.states disk) + length (calls_of_creation (bytes_of (D.states disk))))
+            (λ r. D.keeps r.0 → AreCallsUntil (calls_of_creation (bytes_of (D.states disk))) r.1 (clock (D.states r.0) - clock (D.states disk))) }
         ensures faults { MatchResult result
             (λ pen. D.faults pen.disk ≡ D.faults disk)
             (λ r. D.faults r.0 ≡ D.faults disk + failed_calls r.1) }
@@ -240,8 +258,8 @@ impl<D: Disk> Pen<D> {
         ensures file { IfOk result (λ pen. D.keeps pen.disk → IsEmpty pen) }
         ensures kept { IfOk result (λ pen. D.keeps pen.disk → IsKept (D.states pen.disk) pen) }
         ensures born { MatchResult result
-            (λ pen. D.keeps pen.disk → IsBornSafely (record { format = One; width = width }) (D.states disk) (D.states pen.disk))
-            (λ r. D.keeps r.0 → IsBornSafely (record { format = One; width = width }) (D.states disk) (D.states r.0)) }
+            (λ pen. D.keeps pen.disk → StaysUnbornOrEmpty (record { format = One; width = width }) (D.states disk) (D.states pen.disk))
+            (λ r. D.keeps r.0 → StaysUnbornOrEmpty (record { format = One; width = width }) (D.states disk) (D.states r.0)) }
         ensures none_existed { IfOk result (λ pen. D.keeps pen.disk → IsExisting (bytes_of (D.states disk)) → ⊥) }
         ensures existed { IfErr result (λ r. D.keeps r.0 → IsExisting (bytes_of (D.states disk)) → (r.0 ≡ disk) ⊎ WritesNothing (D.states disk) (D.states r.0)) }
         ensures exists { IfErr result (λ r. D.keeps r.0 → r.1 ≡ PenFault.Exists → IsExisting (bytes_of (D.states disk))) }
@@ -249,6 +267,9 @@ impl<D: Disk> Pen<D> {
         ensures time { MatchResult result
             (λ pen. clock (D.states pen.disk) ≤ clock (D.states disk) + 8)
             (λ r. clock (D.states r.0) ≤ clock (D.states disk) + 8) }
+        ensures calls { MatchResult result
+            (λ pen. D.keeps pen.disk → clock (D.states pen.disk) ≡ clock (D.states disk) + length (calls_of_creation (bytes_of (D.states disk))))
+            (λ r. D.keeps r.0 → AreCallsUntil (calls_of_creation (bytes_of (D.states disk))) r.1 (clock (D.states r.0) - clock (D.states disk))) }
         ensures faults { MatchResult result
             (λ pen. D.faults pen.disk ≡ D.faults disk)
             (λ r. D.faults r.0 ≡ D.faults disk + failed_calls r.1) }

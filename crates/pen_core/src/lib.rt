@@ -7,9 +7,12 @@ mod commit;
 mod covered;
 mod create;
 mod fault;
+mod fold;
 mod frame_bytes;
 mod group;
 mod home_runs;
+#[cfg(test)]
+mod noting;
 mod open;
 mod pen;
 mod stage;

@@ -190,3 +190,6 @@ impl<D: Disk> Pen<D> {
         }
     }
 }
+
+#[cfg(test)]
+mod tests;

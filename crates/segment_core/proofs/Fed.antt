@@ -22,6 +22,7 @@ use Rattle.segment_core.specs.Reading.{IsShort}
 use Rattle.segment_core.specs.Found.{BeginsWithText, IsNoVector}
 use Rattle.segment_core.specs.Walk.{IsBehind, StandsBefore, IsFaultOf, IsWalkRefused}
 use Rattle.segment_core.specs.Scanner.{IsFront, GoesOn, HasEnded, IsOn, IsRefusedFor, IsFedAt, IsFed}
+use Rattle.segment_core.proofs.Push.{append-empty}
 use Rattle.segment_core.proofs.Lines.{frame_fault_from_lines}
 use Rattle.segment_core.proofs.Head.{finds_no_gate}
 use Rattle.segment_core.proofs.Longest.{NoFrame_fault, is_longest}
@@ -201,13 +202,9 @@ refused_part form image piece used n fault refused =
     subst (λ (bs : List ℕ). IsRefusedFor form bs fault) (whole_piece image piece (used + n))
     (refused_more form (image ++ take (used + n) piece) (drop (used + n) piece) fault (subst (λ (bs : List ℕ). IsRefusedFor form bs fault) (next_part image piece used n) refused))
 
-nothing_more : (image piece : List ℕ) → length piece ≡ 0 → image ≡ image ++ piece
-nothing_more image [] none = sym (append-nil image)
-nothing_more image (b ∷ piece) none = absurd (omega arith)
-
 -- bytes that mean nothing
 pub fed_more : {R : Type 0} (form : Encoding R) (image piece : List ℕ) (scanner : Scanner R) (stage : Stage) → scanner.stage ≡ stage → (stage ≡ stages.Open → ⊥) → (stage ≡ stages.Header → length piece ≡ 0) → IsFed form image scanner → IsFed form (image ++ piece) scanner
-fed_more form image piece scanner stages.Header is other none fed = subst (λ (bs : List ℕ). IsFed form bs scanner) (nothing_more image piece (none refl)) fed
+fed_more form image piece scanner stages.Header is other none fed = subst (λ (bs : List ℕ). IsFed form bs scanner) (append-empty image piece (none refl)) fed
 fed_more form image piece scanner stages.Open is other none fed = absurd (other refl)
 fed_more form image piece scanner stages.Closed is other none fed = fed_by form (image ++ piece) scanner stages.Closed is (ended_more form image piece scanner (fed_at form image scanner stages.Closed is fed))
 fed_more form image piece scanner (stages.Refused fault) is other none fed = fed_by form (image ++ piece) scanner (stages.Refused fault) is (refused_more form image piece fault (fed_at form image scanner (stages.Refused fault) is fed))

@@ -18,6 +18,7 @@ use Rattle.segment_core.specs.Reading.{Seen, runs_of, record_count}
 use Rattle.segment_core.specs.Vector.{place_among, place_in_runs, record_in}
 use Rattle.segment_core.specs.Notes.{noted}
 use Rattle.segment_core.specs.Found.{StandsAt, IsDecoded, IsLaidAt, IsLaid}
+use Rattle.segment_core.proofs.RunRows.{records_of_runs_push}
 use Rattle.segment_core.proofs.FrameParts.{records_of_runs-cons}
 use Rattle.segment_core.proofs.PlaceAmong.{place_among_inside, place_among_below, place_among_past}
 use Rattle.segment_core.proofs.LastFrom.{option_or_assoc, option_or_none}
@@ -62,9 +63,6 @@ stands_part image place area a n stands within =
     ap (λ m. take m (drop (place + a) image)) len ∙ sym is
 
 -- ---- one position more
-
-some_is : {X : Type 0} (x y : X) → Some x ≡ Some y → x ≡ y
-some_is x y e = cc
 
 laid_at_same : {R : Type 0} (form : Encoding R) (image : List ℕ) (place : Option ℕ) (held later before : Option R) (seen seen_later seen_before : Option ℕ) → later ≡ held → seen_later ≡ seen
     → IsLaidAt form image place held before seen seen_before → IsLaidAt form image place later before seen_later seen_before
@@ -192,16 +190,8 @@ runs_fill (Fold count) = omega arith
 
 list_all-at : {X : Type 0} (test : X → Bool) (xs : List X) (k : ℕ) (x : X) → list_all test xs ≡ true → slice_get xs k ≡ Some x → test x ≡ true
 list_all-at test [] k x all is = absurd cc
-list_all-at test (y ∷ xs) zero x all is = let same : y ≡ x = some_is y x is in ap test (sym same) ∙ (and_parts (test y) (list_all test xs) all).0
+list_all-at test (y ∷ xs) zero x all is = let same : y ≡ x = cc in ap test (sym same) ∙ (and_parts (test y) (list_all test xs) all).0
 list_all-at test (y ∷ xs) (suc k) x all is = list_all-at test xs k x (and_parts (test y) (list_all test xs) all).1 is
-
-records_of_runs-push : (runs : List Run) (run : Run) → records_of_runs (runs ++ run ∷ []) ≡ records_of_runs runs + run.count
-records_of_runs-push [] run = omega arith
-records_of_runs-push (first ∷ runs) run =
-    let rest = records_of_runs-push runs run in
-    let a = records_of_runs-cons first (runs ++ run ∷ []) in
-    let b = records_of_runs-cons first runs in
-    omega arith
 
 -- run k of a change lies in the vector, and the bytes from at on begin with its records
 pub record RunFits (width size k at w : ℕ) (area : List ℕ) (runs : List Run) (run : Run) : Type 0 where
@@ -221,7 +211,7 @@ run_fits width size k at w area change run is wide area_len inside told here =
     let product : run.count * w ≡ run.count * width = ap (λ n. run.count * n) is in
     let lt = slice_get_within runs k run told in
     let more : take (k + 1) runs ≡ take k runs ++ run ∷ [] = take_more runs k run lt ∙ ap (λ r. take k runs ++ r ∷ []) (get_or_from_slice_get runs k run run told) in
-    let sum : records_of_runs (take (k + 1) runs) ≡ records_of_runs (take k runs) + run.count = ap records_of_runs more ∙ records_of_runs-push (take k runs) run in
+    let sum : records_of_runs (take (k + 1) runs) ≡ records_of_runs (take k runs) + run.count = ap records_of_runs more ∙ records_of_runs_push (take k runs) run in
     let split : (records_of_runs (take k runs) + run.count) * width ≡ records_of_runs (take k runs) * width + run.count * width = omega arith in
     let next : at + run.count * w ≡ records_of_runs (take (k + 1) runs) * width = ap (λ n. at + n) product ∙ ap (λ n. n + run.count * width) here ∙ sym split ∙ ap (λ n. n * width) (sym sum) in
     let some = records_of_runs-take (k + 1) runs in

@@ -1,10 +1,10 @@
 -- One frame more, of each kind: what was found is then what the frames say.
-use Rattle.std.proofs.Common.{◌≡◌, ℕ, zero, suc, ◌+◌, ◌-◌, ◌*◌, ◌^◌, ◌≤◌, ◌<◌, Bool, true, false, ◌||◌, not, List, [], ◌∷◌, ◌++◌, length, take, drop, Option, Some, None, refl, sym, ap, subst, ◌∙◌, arith, inl, inr}
+use Rattle.std.proofs.Common.{◌≡◌, ℕ, zero, suc, ◌+◌, ◌-◌, ◌*◌, ◌^◌, ◌≤◌, ◌<◌, true, false, List, [], ◌∷◌, ◌++◌, length, take, drop, Option, Some, None, refl, sym, ap, subst, ◌∙◌, arith, inl, inr}
 use Rattle.std.specs.Prelude.{nat_lt, slice_get, MatchOption}
 use Rattle.std.specs.List.{AllByRecursion}
 use Rattle.std.specs.Option.{option_or}
-use Rattle.std.proofs.lemmas.Bool.{cases_lt, ltb-false, leb-true, le-leb, and_parts}
-use Rattle.std.proofs.lemmas.List.{append-nil, length-append, length-take-le, drop_all, drop-drop}
+use Rattle.std.proofs.lemmas.Bool.{cases_lt, not-false, or_parts, ltb-false, leb-true, le-leb, and_parts}
+use Rattle.std.proofs.lemmas.List.{drop-append-le, append-nil, length-append, length-take-le, drop_all, drop-drop}
 use Rattle.std.proofs.lemmas.Nat.{mul-le}
 use Rattle.record_core.specs.Bytes.{Encoding}
 use Rattle.segment_core.specs.declared.format.Format.{Format}
@@ -101,13 +101,9 @@ changes_in_change shape p (Change runs bytes) kind = refl
 changes_in_change shape p (Shrink n) kind = absurd (omega (arith, kind))
 changes_in_change shape p (Fold count) kind = absurd (omega (arith, kind))
 
-not_false : (b : Bool) → not b ≡ false → b ≡ true
-not_false true is = refl
-not_false false is = absurd cc
-
 change_inside : (t : Tally) (f : Frame) → kind_of f ≡ 2 → is_outside t f ≡ false → are_inside t.size (runs_of f) ≡ true
 change_inside t (Group lengths bytes) kind inside = absurd (omega (arith, kind))
-change_inside t (Change runs bytes) kind inside = not_false (are_inside t.size runs) inside
+change_inside t (Change runs bytes) kind inside = not-false (are_inside t.size runs) inside
 change_inside t (Shrink n) kind inside = absurd (omega (arith, kind))
 change_inside t (Fold count) kind inside = absurd (omega (arith, kind))
 
@@ -232,11 +228,6 @@ found_group {R} form frames seen old new kind follows grown =
 
 -- ---- a change
 
-drop_push : {X : Type 0} (n : ℕ) (xs : List X) (x : X) → n ≤ length xs → drop n (xs ++ x ∷ []) ≡ drop n xs ++ x ∷ []
-drop_push zero xs x le = refl
-drop_push (suc n) [] x le = absurd (omega arith)
-drop_push (suc n) (y ∷ xs) x le = drop_push n xs x (omega arith)
-
 pub found_change : {R : Type 0} (form : Encoding R) (frames : List Frame) (seen : Seen) (old new : Found R) → kind_of seen.frame ≡ 2 → Follows form frames old seen → IsSame old new → new.folded ≡ old.folded → new.live.items ≡ old.live.items ++ seen ∷ []
     → IsFound form seen.shape.format (frames ++ seen.frame ∷ []) new
 found_change form frames seen old new kind follows same folded_same pushed =
@@ -266,7 +257,7 @@ found_change form frames seen old new kind follows same folded_same pushed =
       live_is = pushed ∙ ap (λ (cs : List Seen). cs ++ seen ∷ []) behind.live_is ∙ sym (
           ap (λ m. drop m (changes_of shape (frames ++ f ∷ []))) folded
           ∙ ap (drop t.folded) (changes_push shape frames f ∙ ap (λ (cs : List Seen). changes_of shape frames ++ cs) (changes_in_change shape (length (text shape frames)) f kind ∙ ap (λ (x : Seen). x ∷ []) one))
-          ∙ drop_push t.folded (changes_of shape frames) seen (omega arith));
+          ∙ drop-append-le t.folded (changes_of shape frames) (seen ∷ []) (omega arith));
       inside = subst (λ (cs : List Seen). AllByRecursion (IsInside (tally_of (frames ++ f ∷ [])).size) cs) (sym pushed)
           (subst (λ m. AllByRecursion (IsInside m) (old.live.items ++ seen ∷ [])) (sym size) (all_push (IsInside t.size) old.live.items seen behind.inside (change_inside t f kind follows.may.inside)));
     }
@@ -310,13 +301,9 @@ found_shrink form frames seen old new n frame follows cut =
 
 -- ---- a fold
 
-either_false : (a b : Bool) → (a || b) ≡ false → (a ≡ false) × (b ≡ false)
-either_false true b is = absurd cc
-either_false false b is = (refl, is)
-
 pub fold_bounds : (t : Tally) (f : Frame) (count : ℕ) → f ≡ Fold count → is_miscounted t f ≡ false → (t.folded ≤ count) × (count ≤ t.changes)
 fold_bounds t f count frame fits =
-    let parts = either_false (nat_lt count t.folded) (nat_lt t.changes count) (sym (ap (is_miscounted t) frame) ∙ fits) in
+    let parts = or_parts (nat_lt count t.folded) (nat_lt t.changes count) (sym (ap (is_miscounted t) frame) ∙ fits) in
     (ltb-false count t.folded parts.0, ltb-false t.changes count parts.1)
 
 pub found_fold : {R : Type 0} (form : Encoding R) (frames : List Frame) (seen : Seen) (old new : Found R) (count : ℕ) → seen.frame ≡ Fold count → Follows form frames old seen → IsSame old new → new.folded ≡ count → new.live.items ≡ drop (count - old.folded) old.live.items

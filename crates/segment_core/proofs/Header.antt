@@ -4,7 +4,7 @@ use Rattle.std.specs.Prelude.{not, nat_lt, nat_le, nat_eq, ◌==◌, ◌||◌}
 use Rattle.std.specs.List.{starts_with}
 use Rattle.std.specs.Int.{w16, to_le_bytes, from_le_bytes}
 use Rattle.std.specs.Cmp.Lexicographic.{pointwise, same_text}
-use Rattle.std.proofs.lemmas.Bool.{le-ltb, lt-ltb, le-leb, lt-leb, ltb-false, eqb-true, eq-eqb, ne_eqb}
+use Rattle.std.proofs.lemmas.Bool.{not-false, or_parts, or_from, le-ltb, lt-ltb, le-leb, lt-leb, ltb-false, eqb-true, eq-eqb, ne_eqb}
 use Rattle.std.proofs.lemmas.List.{take-append-drop, length-append, length-take-le, length-drop, drop-drop, get_or-drop, get_or_append_left, drop-append-le, take-append-le}
 use Rattle.std.proofs.lemmas.Nat.{le_bytes_2}
 use Rattle.record_core.specs.Bytes.{IsBytes}
@@ -17,18 +17,6 @@ use Rattle.segment_core.specs.Frame.{header}
 use Rattle.segment_core.specs.Fault.{header_lines, header_fault, first_line, is_version}
 use Rattle.segment_core.proofs.Numbers.{IsBytes-drop, IsBytes-take}
 use Rattle.segment_core.proofs.Lines.{first_line_at, AreSilent, first_line_silent}
-
-pub either : (a b : Bool) → a ≡ false → b ≡ false → (a || b) ≡ false
-either true b p q = absurd cc
-either false b p q = q
-
-pub neither : (a b : Bool) → (a || b) ≡ false → (a ≡ false) × (b ≡ false)
-neither true b e = absurd cc
-neither false b e = (refl, e)
-
-not_not : (b : Bool) → not b ≡ false → b ≡ true
-not_not true e = refl
-not_not false e = absurd cc
 
 silent_lines : (lines : List (Bool × ScanFault)) → first_line lines ≡ None → AreSilent lines
 silent_lines [] none = tt
@@ -64,9 +52,9 @@ pub header_of_none : (width : ℕ) (image : List ℕ) → header_fault width ima
 unfolding header_lines
 header_of_none width image none =
     let silent = silent_lines (header_lines width image) none in
-    let born = neither _ _ silent.0 in
-    let segment = neither _ _ silent.1.0 in
-    record { long = ltb-false _ _ segment.0; opened = eqb-true _ _ (not_not _ born.1); magic = not_not _ segment.1; version = version_known image (not_not _ silent.1.1.0); wide = eqb-true _ _ (not_not _ silent.1.1.1.0) }
+    let born = or_parts _ _ silent.0 in
+    let segment = or_parts _ _ silent.1.0 in
+    record { long = ltb-false _ _ segment.0; opened = eqb-true _ _ (not-false _ born.1); magic = not-false _ segment.1; version = version_known image (not-false _ silent.1.1.0); wide = eqb-true _ _ (not-false _ silent.1.1.1.0) }
 
 first_cell : (bytes : List ℕ) (n : ℕ) → 0 < length bytes → slice_index bytes 0 ≡ n → bytes ≡ n ∷ drop 1 bytes
 first_cell [] n some is = absurd (omega arith)
@@ -117,7 +105,7 @@ pub record IsBorn (image : List ℕ) : Type 0 where
   pub opened : slice_index image 0 ≡ 1
 
 born : (image : List ℕ) → IsBorn image → (nat_le (length image) 1 || not (slice_index image 0 == 1)) ≡ false
-born image is = either _ _ (lt-leb (length image) 1 is.some) (ap (λ n. not (n == 1)) is.opened)
+born image is = or_from _ _ (lt-leb (length image) 1 is.some) (ap (λ n. not (n == 1)) is.opened)
 
 pub finds_other_short : (width : ℕ) (image : List ℕ) → IsBorn image → length image < 11 → header_fault width image ≡ Some NotSegment
 unfolding header_lines
@@ -134,7 +122,7 @@ pub record IsSegment (image : List ℕ) : Type 0 where
   pub magic : starts_with nat_eq (drop 1 image) (codes "CVECSEG") ≡ true
 
 segment : (image : List ℕ) → IsSegment image → (nat_lt (length image) 11 || not (starts_with nat_eq (drop 1 image) (codes "CVECSEG"))) ≡ false
-segment image is = either _ _ (le-ltb _ _ is.long) (ap not is.magic)
+segment image is = or_from _ _ (le-ltb _ _ is.long) (ap not is.magic)
 
 pub finds_version : (width : ℕ) (image : List ℕ) → IsSegment image → is_version (slice_index image 8) ≡ false → header_fault width image ≡ Some (Version (slice_index image 8))
 unfolding header_lines

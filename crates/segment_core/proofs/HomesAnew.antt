@@ -2,7 +2,7 @@
 use Rattle.std.proofs.Common.{◌≡◌, ℕ, ◌+◌, ◌*◌, ◌≤◌, ◌<◌, List, [], ◌∷◌, ◌++◌, length, take, drop, get_or, Some, refl, sym, ap, ◌∙◌, arith, inl, inr, replicate, append_assoc}
 use Rattle.std.specs.List.{flat_map}
 use Rattle.std.specs.Int.{w32, to_le_bytes}
-use Rattle.std.proofs.lemmas.List.{append-nil, length-append, length-drop, length-take-le, get_or-take, get_or-drop, get_or_append_left, get_or-append-add, take-append-drop, drop-drop, ext_get_or, nil_from_length}
+use Rattle.std.proofs.lemmas.List.{length-append, length-drop, length-take-le, get_or-take, get_or-drop, get_or_append_left, get_or-append-add, take-append-drop, drop-drop, ext_get_or}
 use Rattle.segment_core.specs.declared.format.Format.{Format}
 use Rattle.segment_core.specs.declared.format.Shape.{Shape}
 use Rattle.segment_core.specs.declared.tally.Tally.{Tally}
@@ -11,6 +11,7 @@ use Rattle.segment_core.specs.Layout.{IsFrame}
 use Rattle.segment_core.specs.Tally.{after, AreLegalFrom}
 use Rattle.segment_core.specs.Vector.{last_from, home_in}
 use Rattle.segment_core.specs.Blanked.{blanked, all_blanked}
+use Rattle.segment_core.proofs.Push.{append-empty}
 use Rattle.segment_core.proofs.FrameParts.{head_text, front_text, length-front_text, frame_parts, length-payload_of}
 use Rattle.segment_core.proofs.LastFrom.{option_or_cases}
 use Rattle.segment_core.proofs.PlaceOf.{home_in_between, last_from_between}
@@ -43,17 +44,14 @@ home_behind shape i p tally (Change runs bytes) place whole is = absurd cc
 home_behind shape i p tally (Shrink n) place whole is = absurd cc
 home_behind shape i p tally (Fold count) place whole is = absurd cc
 
-alone : (front new : List ℕ) → length new ≡ 0 → front ≡ front ++ new
-alone front new none = sym (ap (λ (bs : List ℕ). front ++ bs) (nil_from_length new none) ∙ append-nil front)
-
 frame_text-with_homes : (format : Format) (frame : Frame) (new : List ℕ) → length new ≡ length (home_bytes_of frame) → frame_text format (with_homes frame new) ≡ before_homes format frame ++ new
 frame_text-with_homes format (Group lengths bytes) new same =
     let payloads : length (payload_of format (Group lengths new)) ≡ length (payload_of format (Group lengths bytes)) = length-payload_of format (Group lengths new) ∙ ap (λ n. 4 + length lengths * 4 + n) same ∙ sym (length-payload_of format (Group lengths bytes)) in
     frame_parts format (Group lengths new)
     ∙ ap (λ n. (1 ∷ 1 ∷ to_le_bytes w32 n) ++ head_text format (Group lengths new) ++ new) payloads
-frame_text-with_homes format (Change runs bytes) new same = alone (frame_text format (Change runs bytes)) new same
-frame_text-with_homes format (Shrink n) new same = alone (frame_text format (Shrink n)) new same
-frame_text-with_homes format (Fold count) new same = alone (frame_text format (Fold count)) new same
+frame_text-with_homes format (Change runs bytes) new same = append-empty (frame_text format (Change runs bytes)) new same
+frame_text-with_homes format (Shrink n) new same = append-empty (frame_text format (Shrink n)) new same
+frame_text-with_homes format (Fold count) new same = append-empty (frame_text format (Fold count)) new same
 
 with_own : (frame : Frame) → with_homes frame (home_bytes_of frame) ≡ frame
 with_own (Group lengths bytes) = refl

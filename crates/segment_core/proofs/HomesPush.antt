@@ -1,19 +1,19 @@
 -- The homes and the live changes of one frame more.
-use Rattle.std.proofs.Common.{◌≡◌, ℕ, zero, suc, ◌+◌, ◌-◌, ◌*◌, ◌≤◌, ◌<◌, List, [], ◌∷◌, ◌++◌, length, sum, drop, Option, None, refl, sym, ap, subst, ◌∙◌, arith, inl, inr}
+use Rattle.std.proofs.Common.{◌≡◌, ℕ, ◌+◌, ◌-◌, ◌*◌, ◌≤◌, ◌<◌, List, [], ◌∷◌, ◌++◌, length, sum, drop, Option, None, refl, sym, ap, subst, ◌∙◌, arith, inl, inr}
 use Rattle.std.specs.Option.{option_or}
 use Rattle.std.proofs.lemmas.Bool.{cases_lt}
-use Rattle.std.proofs.lemmas.List.{append-nil, drop-drop}
+use Rattle.std.proofs.lemmas.List.{drop-append-le, append-nil, drop-drop}
 use Rattle.segment_core.specs.declared.format.Shape.{Shape}
 use Rattle.segment_core.specs.declared.found.Home.{Home}
 use Rattle.segment_core.specs.declared.tally.Tally.{Tally}
-use Rattle.segment_core.specs.Frame.{Run, Frame, Group, Change, Shrink, Fold, text}
+use Rattle.segment_core.specs.Frame.{Run, Frame, Group, Change, Fold, text}
 use Rattle.segment_core.specs.Tally.{nothing, after, tally_of}
 use Rattle.segment_core.specs.Vector.{place_among, home_in, home_of}
 use Rattle.segment_core.specs.Reading.{Seen}
 use Rattle.segment_core.specs.Found.{home_among, AreInTurn, AreHomes, changes_in, changes_of, live_of}
 use Rattle.segment_core.proofs.Push.{tally_from_push}
 use Rattle.segment_core.proofs.LastFrom.{home_push}
-use Rattle.segment_core.proofs.PlaceAmong.{place_among_inside, place_among_below}
+use Rattle.segment_core.proofs.PlaceAmong.{place_among_inside}
 use Rattle.segment_core.proofs.FoundHomes.{home_among_push, in_turn_push}
 use Rattle.segment_core.proofs.FoundChanges.{changes_push, changes_counted}
 
@@ -57,11 +57,6 @@ AreHomes_same shape frames f homes later none shorter has turn same =
 
 -- ---- live changes
 
-drop_push : {X : Type 0} (n : ℕ) (xs : List X) (x : X) → n ≤ length xs → drop n (xs ++ x ∷ []) ≡ drop n xs ++ x ∷ []
-drop_push zero xs x le = refl
-drop_push (suc n) [] x le = absurd (omega arith)
-drop_push (suc n) (y ∷ xs) x le = drop_push n xs x (omega arith)
-
 -- a frame that is no change and no fold
 pub live_of_same : (shape : Shape) (frames : List Frame) (f : Frame) → ((p : ℕ) → changes_in shape p f ≡ []) → (after (tally_of frames) f).folded ≡ (tally_of frames).folded → live_of shape (frames ++ f ∷ []) ≡ live_of shape frames
 live_of_same shape frames f none folded =
@@ -75,7 +70,7 @@ live_of_change shape frames runs bytes few =
     let counted = changes_counted shape frames in
     ap (λ m. drop m (changes_of shape (frames ++ f ∷ []))) (ap (λ x. x.folded) (tally_from_push nothing frames f))
     ∙ ap (drop (tally_of frames).folded) (changes_push shape frames f)
-    ∙ drop_push (tally_of frames).folded (changes_of shape frames) (record { at = length (text shape frames); shape = shape; frame = f }) (omega arith)
+    ∙ drop-append-le (tally_of frames).folded (changes_of shape frames) (record { at = length (text shape frames); shape = shape; frame = f } ∷ []) (omega arith)
 
 pub live_of_fold : (shape : Shape) (frames : List Frame) (count : ℕ) → (tally_of frames).folded ≤ count → live_of shape (frames ++ Fold count ∷ []) ≡ drop (count - (tally_of frames).folded) (live_of shape frames)
 live_of_fold shape frames count from =

@@ -1,7 +1,7 @@
 -- What holds of the table of faults.
 use Rattle.std.proofs.Common.{◌≡◌, ℕ, zero, suc, ◌+◌, ◌≤◌, Bool, true, false, cond, List, [], ◌∷◌, ◌++◌, length, Some, None, refl, ap, ◌∙◌, arith}
 use Rattle.std.specs.Prelude.{not, nat_lt}
-use Rattle.std.proofs.lemmas.Bool.{le-ltb, ne_eqb}
+use Rattle.std.proofs.lemmas.Bool.{not_from_true, le-ltb, ne_eqb}
 use Rattle.std.proofs.lemmas.List.{length-append}
 use Rattle.segment_core.specs.declared.fault.ScanFault.{ScanFault}
 use Rattle.segment_core.specs.declared.format.Format.{Format}
@@ -35,9 +35,6 @@ first_line_silent [] silent = refl
 first_line_silent ((true, fault) ∷ lines) silent = let e = silent.0 in absurd cc
 first_line_silent ((false, fault) ∷ lines) silent = first_line_silent lines silent.1
 
-not_false : (b : Bool) → b ≡ true → not b ≡ false
-not_false b e = ap not e
-
 is_kind-kind_of : (frame : Frame) → is_kind (kind_of frame) ≡ true
 is_kind-kind_of (Group lengths bytes) = refl
 is_kind-kind_of (Change runs bytes) = refl
@@ -63,7 +60,7 @@ frame_lines-frame_text shape p frame rest whole =
             le-ltb (limit_of shape.format) (payload_len_in bytes) (omega arith),
             (
               le-ltb (length bytes) (6 + payload_len_in bytes) (omega arith),
-              (not_false _ formed, tt),
+              (not_from_true _ formed, tt),
             ),
           ),
         ),

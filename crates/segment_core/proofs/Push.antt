@@ -2,7 +2,7 @@
 use Rattle.std.proofs.Common.{◌≡◌, ℕ, ◌+◌, ◌<◌, List, [], ◌∷◌, ◌++◌, length, drop, get_or, refl, sym, ap, ◌∙◌, append_assoc}
 use Rattle.std.specs.Prelude.{◌≢◌}
 use Rattle.std.specs.List.{flat_map}
-use Rattle.std.proofs.lemmas.List.{length-append, flat_map_more, drop_at, drop_more}
+use Rattle.std.proofs.lemmas.List.{append-nil, nil_from_length, length-append, flat_map_more, drop_at, drop_more}
 use Rattle.segment_core.specs.declared.format.Shape.{Shape}
 use Rattle.segment_core.specs.declared.tally.Tally.{Tally}
 use Rattle.segment_core.specs.Frame.{Frame, header, frame_text, text}
@@ -12,6 +12,9 @@ use Rattle.segment_core.specs.Image.{Begins, HasFrames}
 
 pub text_push : (shape : Shape) (frames : List Frame) (frame : Frame) → text shape (frames ++ frame ∷ []) ≡ text shape frames ++ frame_text shape.format frame
 text_push shape frames frame = sym (flat_map_more (frame_text shape.format) (header shape) frames frame)
+
+pub append-empty : (bytes more : List ℕ) → length more ≡ 0 → bytes ≡ bytes ++ more
+append-empty bytes more none = sym (ap (λ (bs : List ℕ). bytes ++ bs) (nil_from_length more none) ∙ append-nil bytes)
 
 pub length-text : (shape : Shape) (frames : List Frame) → length (text shape frames) ≡ length (header shape) + length (flat_map (frame_text shape.format) frames)
 length-text shape frames = length-append (header shape) (flat_map (frame_text shape.format) frames)

@@ -42,12 +42,9 @@ payload_len-append width a b =
     let product : length (joined (a ++ b)) * width ≡ (length (joined a) + length (joined b)) * width = ap (λ n. n * width) records in
     omega arith
 
-inside_Some : {X : Type 0} (x y : X) → Some x ≡ Some y → x ≡ y
-inside_Some x y is = cc
-
 pub take_more : {X : Type 0} (xs : List X) (k : ℕ) (x : X) → slice_get xs k ≡ Some x → take (k + 1) xs ≡ take k xs ++ x ∷ []
 take_more [] k x is = absurd cc
-take_more (y ∷ xs) zero x is = ap (λ (z : _). z ∷ []) (inside_Some y x is)
+take_more (y ∷ xs) zero x is = let same : y ≡ x = cc in ap (λ (z : _). z ∷ []) same
 take_more (y ∷ xs) (suc k) x is = let n : suc k + 1 ≡ suc (k + 1) = omega arith in rw n (ap (λ (l : List _). y ∷ l) (take_more xs k x is))
 
 -- the lengths of the growths, and of one more
@@ -108,7 +105,7 @@ AreReadAgain-append form (r ∷ a) b each more = (each.0, AreReadAgain-append fo
 
 -- ---- text
 
-regroup : (file head lengths bytes : List ℕ) → ((file ++ head) ++ lengths) ++ bytes ≡ file ++ (head ++ (lengths ++ bytes))
+pub regroup : (file head lengths bytes : List ℕ) → ((file ++ head) ++ lengths) ++ bytes ≡ file ++ (head ++ (lengths ++ bytes))
 regroup file head lengths bytes = simp append_assoc
 
 -- a frame that was appended piece by piece

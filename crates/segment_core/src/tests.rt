@@ -204,6 +204,9 @@ fn worked_files_have_their_vectors(rt: HostRuntime) -> Result<(), Fail> {
     holds::<u64>(&rt, &FIVE, &[5])?;
     holds::<u64>(&rt, &TWO_GROWTHS, &[1, 2, 3])?;
     holds::<u64>(&rt, &CHANGED, &[7])?;
+    let mut other_home = CHANGED;
+    other_home[25..33].fill(0xff);
+    holds::<u64>(&rt, &other_home, &[7])?;
     holds::<u64>(&rt, &FOLDED, &[5])?;
     holds::<u64>(&rt, &SHRUNK, &[5])?;
     holds::<u64>(&rt, &TWO_RUNS, &[7, 5, 8, 9])?;
@@ -280,6 +283,10 @@ fn runs_of_version_2(rt: HostRuntime) -> Result<(), Fail> {
     file[75] = 0;
     is_refused::<u64>(&rt, &file, damaged(63, Cause::Layout));
     file[75] = 1;
+    // The first run is outside, and the second begins before it ends.
+    file[67] = 9;
+    is_refused::<u64>(&rt, &file, damaged(63, Cause::Runs));
+    file[67] = 0;
     file[8] = 1;
     is_refused::<u64>(&rt, &file, damaged(63, Cause::Layout));
     Ok(())

@@ -4,10 +4,10 @@ use Rattle.directory_core.proofs.pass.Pass.find.Goals as goal
 
 pub returns : goal.returns
 returns g c =
-    let found = c.search-low.ensures in
+    let found = c.last_start-number.ensures in
     let row = c.as_slice-starts.ensures.value in
     let inside = found.inside in
-    rw (← c.self.view_is, row) (finds c.self.invariant.list c.search-low.result c.args.i (omega (arith, ap length row)) (rw (← row) found.from) (λ more. rw (← row) (found.until (rw row more))) (omega (arith, c.if-i-self.false)))
+    rw (← c.self.view_is, row) (finds c.self.invariant.list c.last_start-number.result c.args.i (omega (arith, ap length row)) (rw (← row) found.from) (λ more. rw (← row) (found.until (rw row more))) (omega (arith, c.if-i-self.false)))
 
-pub narrow-low-requires-clause-first : goal.narrow-low-requires-clause-first
-narrow-low-requires-clause-first g c = rw c.as_slice-starts.ensures.value (first_start c.self.invariant.list c.args.i (omega (arith, c.if-i-self.false))).1
+pub last_start-number-requires-clause-first : goal.last_start-number-requires-clause-first
+last_start-number-requires-clause-first g c = rw c.as_slice-starts.ensures.value (first_start c.self.invariant.list c.args.i (omega (arith, c.if-i-self.false))).1

@@ -20,7 +20,7 @@ appended (Err error) is old new = absurd cc
 
 -- what stands once memory was taken
 begins : (g : Over) (c : Else-is_err-2 g)
-    → ChangeBegun (g.D.Disk.keeps c.self.inside.disk) (g.D.Disk.states c.self.inside.disk) c.self.inside.shape c.self.inside.gate c.self.inside.tally c.put_change.new.bytes.items c.self.inside.broken
+    → ChangeBegun 0 (g.D.Disk.keeps c.self.inside.disk) (g.D.Disk.states c.self.inside.disk) c.self.inside.shape c.self.inside.gate c.self.inside.tally c.put_change.new.bytes.items c.self.inside.broken
     (record { homes = c.self.inside.homes.homes; live = c.extend_from_slice.new.self }) c.self.inside.live g.R.Record.form (runs_given c.args.runs.now) (g.G.GrowthList.growths c.args.pieces.now)
 begins g c =
     let s = c.self.inside in

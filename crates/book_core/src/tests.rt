@@ -1,13 +1,14 @@
 //! What no clause says: worked values, that growths succeed, and that a closed book refuses them.
 
-ghost use Rattle.std.specs.Prelude.{◌≡◌, IfSome};
-ghost use Rattle.book_core.specs.Lists.{IsOf};
+ghost use Rattle.std.specs.Prelude.{◌≡◌, ◌≤◌, length, IfSome};
+ghost use Rattle.directory_core.specs.Limits.{record_limit};
+ghost use Rattle.book_core.specs.Lists.{IsOf, records_of, joined_pieces};
 ghost use Rattle.book_core.specs.Beginning.{AreNewSeats};
 
 use super::*;
-use crate::live::Begun;
-use crate::mark::Writer;
+use block_core::Fresh;
 use std::alloc::Global;
+use std::sync::Wait;
 use std::test::Fail;
 
 mod threads;
@@ -35,7 +36,14 @@ fn take_seat(live: &Live<u64>, seats: &mut Vec<Seat<u64>>) -> Option<Seat<u64>>
 
 /// A book over no records, with that room and two seats.
 fn begin_two(alloc: Global, room: u64) -> Option<Two> {
-    let Ok(begun) = Live::begin(alloc, Vec::new(alloc), room, 2) else {
+    begin_two_over(alloc, Vec::new(alloc), room)
+}
+
+/// A book over these blocks, with that room and two seats.
+fn begin_two_over(alloc: Global, blocks: Vec<Vec<u64>>, room: u64) -> Option<Two>
+    requires { length (joined_pieces (records_of blocks.items)) ≤ record_limit }
+{
+    let Ok(begun) = Live::begin(alloc, blocks, room, 2) else {
         return None;
     };
     let Begun {

@@ -13,7 +13,12 @@ use std::thread;
 use std::thread::Threads;
 
 /// Makes so many growths of one record.
-fn put_many<E: Wait>(rt: &E, live: &Live<u64>, mut seat: Seat<u64>, count: u64) -> Option<Seat<u64>>
+pub(super) fn put_many<E: Wait>(
+    rt: &E,
+    live: &Live<u64>,
+    mut seat: Seat<u64>,
+    count: u64,
+) -> Option<Seat<u64>>
     requires { IsOf live.now seat }
     ensures { IfSome result (λ seat. IsOf live.now seat) }
 {

@@ -1,0 +1,60 @@
+-- The list of a seat, laid out in slices.
+use Rattle.std.specs.Prelude.{◌≡◌, ℕ, ◌+◌, ◌<◌, ◌≤◌, List, ◌++◌, length, map, take, get_or, filter, sum_by, slice_get, nat_lt, All, Some}
+use Rattle.directory_core.specs.Limits.{record_limit}
+use Rattle.book_core.specs.Lists.{Phase, Seated, joined_pieces, list_of}
+
+-- position i of the pieces joined is that place of that piece
+pub record IsPlaceIn {R : Type 0} (pieces : List (List R)) (i number place : ℕ) : Type 0 where
+  pub piece : List R
+  pub at : slice_get pieces number ≡ Some piece
+  pub inside : place < length piece
+  pub before : sum_by length (take number pieces) + place ≡ i
+
+-- each piece has a record
+abbrev pub AreFull : {R : Type 0} → List (List R) → Type 0
+AreFull pieces = All (λ p. 0 < length p) pieces
+
+-- each piece has a record and starts where the one before it ends, and together they have so many records
+pub record AreLaid {R : Type 0} (pieces : List (List R)) (starts : List ℕ) (size : ℕ) : Type 0 where
+  pub full : AreFull pieces
+  pub as_many : length starts ≡ length pieces
+  pub start_at : (k : ℕ) → k < length pieces → get_or starts k 0 ≡ sum_by length (take k pieces)
+  pub size_is : size ≡ sum_by length pieces
+  pub in_limit : size ≤ record_limit
+
+-- what contracts see of a row of slices: the records of each, and how many slices and starts there is room for
+pub record Row (R : Type 0) : Type 0 where
+  pub pieces : List (List R)
+  pub slice_room : ℕ
+  pub start_room : ℕ
+
+-- there is room for so many more
+abbrev pub HasRoomFor : {R : Type 0} → Row R → ℕ → Type 0
+HasRoomFor row n = (length row.pieces + n ≤ row.slice_room) × (length row.pieces + n ≤ row.start_room)
+
+-- the pieces that have records
+abbrev pub full_of : {R : Type 0} → List (List R) → List (List R)
+full_of pieces = filter (λ p. nat_lt 0 (length p)) pieces
+
+-- what contracts see of a snapshot: the phase that it is of, and the records of each growth that it has, in order
+pub record Shown (R : Type 0) : Type 0 where
+  pub of : Phase R
+  pub growths : List (List R)
+
+-- its pieces: the blocks from before the phase that have records, then the growths
+abbrev pub pieces_in : {R : Type 0} → Shown R → List (List R)
+pieces_in shown = full_of shown.of.blocks ++ shown.growths
+
+-- its list
+abbrev pub list_in : {R : Type 0} → Shown R → List R
+list_in shown = joined_pieces (pieces_in shown)
+
+-- the records of each growth that the seat knows
+abbrev pub growths_of : {R : Type 0} → Seated R → List (List R)
+growths_of seat = map (λ e. e.records) seat.pass.entries
+
+-- it has just what the seat knows
+pub record Shows {R : Type 0} (live : Phase R) (seat : Seated R) (shown : Shown R) : Type 0 where
+  pub of : shown.of ≡ live
+  pub growths : shown.growths ≡ growths_of seat
+  pub list : list_in shown ≡ list_of live seat

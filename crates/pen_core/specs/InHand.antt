@@ -1,0 +1,166 @@
+-- A fold in hand, by a pen's fields.
+use Rattle.std.specs.Prelude.{◌≡◌, ℕ, ◌+◌, ◌-◌, ◌<◌, ◌≤◌, ◌^◌, List, [], ◌∷◌, ◌++◌, length, map, take, drop, Option, Some, None, Bool, false, nat_lt, if◌then◌else◌}
+use Rattle.std.specs.List.{AllByRecursion}
+use Rattle.disk_core.specs.State.{State, now}
+use Rattle.disk_core.specs.Calls.{bytes_of, Stays, Writes, TearsWrite, Settles}
+use Rattle.disk_core.specs.declared.fault.DiskFault.{DiskFault}
+use Rattle.disk_core.specs.declared.fault.DiskFault.TheVariants as disk_faults
+use Rattle.segment_core.specs.declared.format.Shape.{Shape}
+use Rattle.segment_core.specs.declared.tally.Tally.{Tally}
+use Rattle.segment_core.specs.Frame.{Frame, frame_text}
+use Rattle.segment_core.specs.Frame as frames
+use Rattle.segment_core.specs.Parsed.{vector_before}
+use Rattle.pen_core.specs.declared.fold.Fold.{Fold}
+use Rattle.pen_core.specs.declared.fold.Write.{Write}
+use Rattle.pen_core.specs.declared.step.Step.{Step}
+use Rattle.pen_core.specs.declared.stage.FoldStage.{FoldStage}
+use Rattle.pen_core.specs.declared.stage.FoldStage.TheVariants.{Home, Sync, Ready, Filed}
+use Rattle.pen_core.specs.declared.stage.FoldStage.TheVariants as stages
+use Rattle.pen_core.specs.PenOf.{FoldOf, HomeWrite}
+use Rattle.pen_core.specs.Vectors.{blanked_before}
+use Rattle.pen_core.specs.Listed.{frame_in_hand}
+use Rattle.pen_core.specs.Folds.{IsFolding}
+
+-- ---- what a fold is seen as
+
+abbrev pub write_of : List ℕ → Write → HomeWrite
+write_of bytes write = record { place = write.place; bytes = take (write.to - write.from) (drop write.from bytes) }
+
+abbrev pub left_of : Fold → List HomeWrite
+left_of fold = map (write_of fold.bytes.items) (drop fold.done fold.writes.items)
+
+abbrev pub in_stage : FoldStage → FoldOf → Option FoldOf
+in_stage stages.None fold = None
+in_stage (Home n) fold = Some fold
+in_stage Sync fold = Some fold
+in_stage Ready fold = Some fold
+in_stage Filed fold = Some fold
+
+abbrev pub fold_of : Fold → Option FoldOf
+fold_of fold = in_stage fold.stage (record { count = fold.count; left = left_of fold; stage = fold.stage })
+
+-- ---- its device calls
+
+abbrev pub first_write : List HomeWrite → HomeWrite
+first_write [] = record { place = 0; bytes = [] }
+first_write (write ∷ writes) = write
+
+-- a call that succeeded
+abbrev pub HomeCalls : FoldStage → List HomeWrite → List State → List State → Type 0
+HomeCalls (Home n) left old new = Writes (first_write left).place (first_write left).bytes old new
+HomeCalls Sync left old new = Settles old new
+HomeCalls stages.None left old new = Settles old new
+HomeCalls Ready left old new = Settles old new
+HomeCalls Filed left old new = Settles old new
+
+-- a call that failed
+abbrev pub FailsHomeCall : FoldStage → List HomeWrite → List State → List State → Type 0
+FailsHomeCall (Home n) left old new = TearsWrite (first_write left).place (length (first_write left).bytes) old new
+FailsHomeCall Sync left old new = Stays old new
+FailsHomeCall stages.None left old new = Stays old new
+FailsHomeCall Ready left old new = Stays old new
+FailsHomeCall Filed left old new = Stays old new
+
+-- the fault that it then answers
+abbrev pub home_fault : FoldStage → DiskFault
+home_fault (Home n) = disk_faults.Write
+home_fault Sync = disk_faults.Sync
+home_fault stages.None = disk_faults.Sync
+home_fault Ready = disk_faults.Sync
+home_fault Filed = disk_faults.Sync
+
+-- what comes next once it succeeded, and how many writes are done
+abbrev pub stage_after : FoldStage → FoldStage
+stage_after (Home n) = if nat_lt 1 n then Home (n - 1) else Sync
+stage_after Sync = Ready
+stage_after stages.None = stages.None
+stage_after Ready = Ready
+stage_after Filed = Filed
+
+abbrev pub done_after : FoldStage → ℕ → ℕ
+done_after (Home n) done = done + 1
+done_after Sync done = done
+done_after stages.None done = done
+done_after Ready done = done
+done_after Filed done = done
+
+abbrev pub advanced : Fold → Fold
+advanced fold = record { stage = stage_after fold.stage; count = fold.count; runs = fold.runs; writes = fold.writes; done = done_after fold.stage fold.done; bytes = fold.bytes; frame = fold.frame }
+
+-- ---- what it counts itself
+
+-- a write of bytes that there are, below the gate
+pub record IsPlanned (gate len : ℕ) (write : Write) : Type 0 where
+  pub some : write.from < write.to
+  pub inside : write.to ≤ len
+  pub below_gate : write.place + (write.to - write.from) ≤ gate
+
+abbrev pub ArePlanned : ℕ → Fold → Type 0
+ArePlanned gate fold = AllByRecursion (IsPlanned gate (length fold.bytes.items)) fold.writes.items
+
+-- what the next call asks for
+abbrev pub CanCall : ℕ → Fold → FoldStage → Type 0
+CanCall gate fold (Home n) = (fold.done < length fold.writes.items) × ArePlanned gate fold
+CanCall gate fold Sync = Unit {0}
+CanCall gate fold stages.None = ⊥
+CanCall gate fold Ready = ⊥
+CanCall gate fold Filed = ⊥
+
+-- where the gate behind the job in hand will stand
+abbrev pub gate_then : ℕ → List ℕ → Option Step → ℕ
+gate_then gate bytes None = gate
+gate_then gate bytes (Some step) = gate + (length bytes - 1)
+
+-- a fold whose frame is still to come
+pub record IsWaiting (shape : Shape) (gate : ℕ) (tally : Tally) (bytes : List ℕ) (step : Option Step) (fold : Fold) : Type 0 where
+  pub live : tally.folded < fold.count
+  pub upto : fold.count ≤ tally.changes
+  pub planned : ArePlanned gate fold
+  pub spelled : fold.frame.items ≡ frame_text shape.format (frames.Fold fold.count) ++ 0 ∷ []
+  pub room : gate_then gate bytes step + 14 < 2 ^ 48
+
+-- a fold is in hand
+abbrev pub IsInHand : FoldStage → Type 0
+IsInHand stages.None = ⊥
+IsInHand (Home n) = Unit {0}
+IsInHand Sync = Unit {0}
+IsInHand Ready = Unit {0}
+IsInHand Filed = Unit {0}
+
+abbrev pub IsAtStage : Shape → ℕ → Tally → List ℕ → Option Step → Fold → FoldStage → Type 0
+IsAtStage shape gate tally bytes step fold stages.None = Unit {0}
+IsAtStage shape gate tally bytes step fold (Home n) = IsWaiting shape gate tally bytes step fold × (fold.done + n ≡ length fold.writes.items) × (0 < n)
+IsAtStage shape gate tally bytes step fold Sync = IsWaiting shape gate tally bytes step fold × (fold.done ≡ length fold.writes.items)
+IsAtStage shape gate tally bytes step fold Ready = IsWaiting shape gate tally bytes step fold × (fold.done ≡ length fold.writes.items)
+IsAtStage shape gate tally bytes step fold Filed = frame_in_hand shape bytes step ≡ Some (frames.Fold fold.count)
+
+-- ---- and of its disk
+
+abbrev pub HomesAt : Shape → List Frame → List (List ℕ) → Fold → State → FoldStage → Type 0
+HomesAt shape fs vector fold s stages.None = Unit {0}
+HomesAt shape fs vector fold s (Home n) = IsFolding shape fold.count fs vector (left_of fold) s
+HomesAt shape fs vector fold s Sync = IsFolding shape fold.count fs vector (left_of fold) s
+HomesAt shape fs vector fold s Ready = IsFolding shape fold.count fs vector (left_of fold) s
+HomesAt shape fs vector fold s Filed = Unit {0}
+
+pub record IsFold (keeps : Type 0) (states : List State) (shape : Shape) (gate : ℕ) (tally : Tally) (bytes : List ℕ) (step : Option Step) (broken : Bool) (fold : Fold) : Type 0 where
+  pub counts : IsAtStage shape gate tally bytes step fold fold.stage
+  -- until a call fails
+  pub homes : keeps → broken ≡ false → HomesAt shape (blanked_before shape gate (bytes_of states)) (vector_before shape gate (bytes_of states)) fold (now states) fold.stage
+
+-- ---- the end of a fold, where its frame was the job
+
+abbrev pub stage_ended : FoldStage → FoldStage
+stage_ended stages.None = stages.None
+stage_ended (Home n) = Home n
+stage_ended Sync = Sync
+stage_ended Ready = Ready
+stage_ended Filed = stages.None
+
+-- the live runs that are left
+abbrev pub live_after : FoldStage → ℕ → List (ℕ × ℕ) → List (ℕ × ℕ)
+live_after stages.None runs live = live
+live_after (Home n) runs live = live
+live_after Sync runs live = live
+live_after Ready runs live = live
+live_after Filed runs live = drop runs live

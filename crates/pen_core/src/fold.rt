@@ -1,0 +1,124 @@
+//! A fold in hand: the home bytes that it writes anew, and the frame that says so then.
+
+ghost use Rattle.std.specs.Prelude.{◌≡◌, ◌≤◌, ◌<◌, ◌+◌, ◌^◌, ℕ, length, OnOk, OnErr};
+ghost use Rattle.disk_core.specs.Calls.{bytes_of};
+ghost use Rattle.disk_core.specs.Moments.{clock};
+ghost use Rattle.disk_core.specs.Fault.{IsCounted};
+ghost use Rattle.pen_core.specs.InHand.{fold_of, left_of, HomeCalls, FailsHomeCall, home_fault, advanced, CanCall, stage_ended, live_after};
+ghost use Rattle.pen_core.specs.Refusals.{fold_len};
+
+use crate::stage::FoldStage;
+use disk_core::{Disk, DiskFault};
+use std::alloc::Global;
+use std::mem::swap;
+
+/// The bytes of a fold's frame.
+const FRAME_LEN: u64 = 14;
+
+/// A write of home bytes.
+#[derive(Clone, Copy, Debug, PartialEq, Eq)]
+pub(crate) struct Write {
+    /// The place of the first byte in the file.
+    pub(crate) place: u64,
+    /// Where its bytes begin among those of the fold, and where they end.
+    pub(crate) from: usize,
+    pub(crate) to: usize,
+}
+
+/// A fold in hand, unless its stage is `None`. Its memory is used again.
+#[derive(Drop)]
+pub(crate) struct Fold {
+    /// What comes next.
+    pub(crate) stage: FoldStage,
+    /// How many changes it counts.
+    pub(crate) count: u64,
+    /// How many of the live runs are of these changes: the first ones.
+    pub(crate) runs: usize,
+    /// The home writes, by ascending position.
+    pub(crate) writes: Vec<Write>,
+    /// How many of them are done.
+    pub(crate) done: usize,
+    /// What they write.
+    pub(crate) bytes: Vec<u8>,
+    /// The bytes of its frame as a job; while it is the job, the memory of the jobs before it.
+    pub(crate) frame: Vec<u8>,
+}
+
+impl Fold {
+    /// No fold. It takes no memory.
+    pub(crate) fn none(alloc: Global) -> Fold
+        ensures { result.stage ≡ FoldStage.None }
+    {
+        Fold {
+            stage: FoldStage::None,
+            count: 0,
+            runs: 0,
+            writes: Vec::new(alloc),
+            done: 0,
+            bytes: Vec::new(alloc),
+            frame: Vec::new(alloc),
+        }
+    }
+
+    /// The bytes of its frame, 0 where there is no fold.
+    pub(crate) fn frame_len(&self) -> u64
+        ensures { result ≡ fold_len (fold_of self.now) }
+    {
+        match self.stage {
+            FoldStage::None => 0,
+            _ => FRAME_LEN,
+        }
+    }
+
+    /// Makes the next device call of the homes: a write, or their sync.
+    pub(crate) fn call<D: Disk>(&self, disk: &mut D) -> Result<(), DiskFault>
+        requires { (gate : ℕ) × (gate < 2 ^ 64) × (D.keeps disk.old → gate ≤ length (bytes_of (D.states disk.old))) × CanCall gate self.now self.now.stage }
+        ensures done { D.keeps disk.old → OnOk result (HomeCalls self.now.stage (left_of self.now) (D.states disk.old) (D.states disk.new)) }
+        ensures failed { D.keeps disk.new → OnErr result (FailsHomeCall self.now.stage (left_of self.now) (D.states disk.old) (D.states disk.new)) }
+        ensures time { clock (D.states disk.new) ≡ clock (D.states disk.old) + 1 }
+        ensures cause { IsCounted (home_fault self.now.stage) (D.faults disk.old) (D.faults disk.new) result }
+        ensures model { D.keeps disk.new → D.keeps disk.old }
+        ensures goes_on { D.keeps disk.old → OnOk result (D.keeps disk.new) }
+    {
+        match self.stage {
+            FoldStage::Home(_) => {
+                let write = self.writes[self.done];
+                disk.write_at(write.place, &self.bytes[write.from..write.to])
+            }
+            _ => disk.sync(),
+        }
+    }
+
+    /// Goes on behind a call that succeeded.
+    pub(crate) fn advance(&mut self)
+        requires { (gate : ℕ) × CanCall gate self.old self.old.stage }
+        ensures { self.new ≡ advanced self.old }
+    {
+        match self.stage {
+            FoldStage::Home(left) => {
+                self.done += 1;
+                self.stage = if left > 1 {
+                    FoldStage::Home(left - 1)
+                } else {
+                    FoldStage::Sync
+                };
+            }
+            _ => self.stage = FoldStage::Ready,
+        }
+    }
+
+    /// Ends, where its frame is the job that is done: the changes that it counts are live no more.
+    pub(crate) fn end(&mut self, live: &mut Vec<(u64, u64)>, bytes: &mut Vec<u8>)
+        ensures stage { self.new.stage ≡ stage_ended self.old.stage }
+        ensures live { live.new.items ≡ live_after self.old.stage self.old.runs live.old.items }
+        ensures same { (self.old.stage ≡ FoldStage.Filed → ⊥) → (self.new ≡ self.old) × (bytes.new ≡ bytes.old) }
+    {
+        if let FoldStage::Filed = self.stage {
+            let runs = self.runs.min(live.len());
+            live.rotate_left(runs);
+            live.truncate(live.len() - runs);
+            swap(bytes, &mut self.frame);
+            self.stage = FoldStage::None;
+        }
+    }
+}

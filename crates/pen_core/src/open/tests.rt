@@ -1,0 +1,253 @@
+//! Files that are opened: their vectors, their faults, the calls of the disk, and what a stopped writer left.
+
+use super::*;
+use crate::noting::NotingDisk;
+use disk_core::{Blow, Choice, DiskFault, FuseDisk, ImageLength, PendingBytes, RamDisk};
+use record_core::Flagged;
+use segment_core::Cause;
+use std::fmt::Debug;
+use std::process::Abort;
+use std::test::Fail;
+
+/// The file of no growth.
+const EMPTY: [u8; 12] = [1, 67, 86, 69, 67, 83, 69, 71, 1, 8, 0, 0];
+
+/// The file of one growth of one number, 5.
+const FIVE: [u8; 34] = [
+    1, 67, 86, 69, 67, 83, 69, 71, 1, 8, 0, 1, 1, 16, 0, 0, 0, 1, 0, 0, 0, 1, 0, 0, 0, 5, 0, 0, 0,
+    0, 0, 0, 0, 0,
+];
+
+/// One growth of 5, and a change of it to 7.
+const CHANGED: [u8; 56] = [
+    1, 67, 86, 69, 67, 83, 69, 71, 1, 8, 0, 1, 1, 16, 0, 0, 0, 1, 0, 0, 0, 1, 0, 0, 0, 5, 0, 0, 0,
+    0, 0, 0, 0, 1, 2, 16, 0, 0, 0, 0, 0, 0, 0, 0, 0, 0, 0, 7, 0, 0, 0, 0, 0, 0, 0, 0,
+];
+
+/// A growth of 5 and 6, a change of the second, its fold, and a shrink to one record.
+const SHRUNK: [u8; 92] = [
+    1, 67, 86, 69, 67, 83, 69, 71, 1, 8, 0, 1, 1, 24, 0, 0, 0, 1, 0, 0, 0, 2, 0, 0, 0, 5, 0, 0, 0,
+    0, 0, 0, 0, 6, 0, 0, 0, 0, 0, 0, 0, 1, 2, 16, 0, 0, 0, 1, 0, 0, 0, 0, 0, 0, 0, 6, 0, 0, 0, 0,
+    0, 0, 0, 1, 4, 8, 0, 0, 0, 1, 0, 0, 0, 0, 0, 0, 0, 1, 3, 8, 0, 0, 0, 1, 0, 0, 0, 0, 0, 0, 0, 0,
+];
+
+/// Version 2: a growth of four times 5, and a change of two runs to 7, and to 8 and 9.
+const TWO_RUNS: [u8; 116] = [
+    1, 67, 86, 69, 67, 83, 69, 71, 2, 8, 0, 1, 1, 40, 0, 0, 0, 1, 0, 0, 0, 4, 0, 0, 0, 5, 0, 0, 0,
+    0, 0, 0, 0, 5, 0, 0, 0, 0, 0, 0, 0, 5, 0, 0, 0, 0, 0, 0, 0, 5, 0, 0, 0, 0, 0, 0, 0, 1, 2, 52,
+    0, 0, 0, 2, 0, 0, 0, 0, 0, 0, 0, 0, 0, 0, 0, 1, 0, 0, 0, 2, 0, 0, 0, 0, 0, 0, 0, 2, 0, 0, 0, 7,
+    0, 0, 0, 0, 0, 0, 0, 8, 0, 0, 0, 0, 0, 0, 0, 9, 0, 0, 0, 0, 0, 0, 0, 0,
+];
+
+/// A growth of one flagged record whose bytes are none.
+const BAD: [u8; 35] = [
+    1, 67, 86, 69, 67, 83, 69, 71, 1, 9, 0, 1, 1, 17, 0, 0, 0, 1, 0, 0, 0, 1, 0, 0, 0, 5, 0, 0, 0,
+    0, 0, 0, 0, 2, 0,
+];
+
+/// The same under a live change to 7, flagged.
+const COVERED: [u8; 58] = [
+    1, 67, 86, 69, 67, 83, 69, 71, 1, 9, 0, 1, 1, 17, 0, 0, 0, 1, 0, 0, 0, 1, 0, 0, 0, 5, 0, 0, 0,
+    0, 0, 0, 0, 2, 1, 2, 17, 0, 0, 0, 0, 0, 0, 0, 0, 0, 0, 0, 7, 0, 0, 0, 0, 0, 0, 0, 1, 0,
+];
+
+/// What a crash leaves of a disk of which all is synced: its bytes.
+const AS_IT_IS: Choice = Choice {
+    length: ImageLength::Greatest,
+    pending: PendingBytes::Fill(0xff),
+};
+
+/// A disk that holds this file.
+fn disk_of(alloc: Global, file: &[u8]) -> Result<RamDisk, Fail> {
+    Ok(RamDisk::from_bytes(alloc, Vec::from_slice(alloc, file)?))
+}
+
+/// The file opens to these records, with nothing in hand, and stays as it is.
+fn opens<R: Record + Debug>(
+    rt: &(impl AllocGlobal + Abort),
+    file: &[u8],
+    records: &[R],
+) -> Result<(), Fail> {
+    let disk = disk_of(rt.alloc(), file)?;
+    let (pen, found) = Pen::open::<R>(rt.alloc(), disk).ok().ok_or("a file")?;
+    assert_eq!(rt; found.as_slice(), records);
+    assert_eq!(rt; pen.stage().log, 0);
+    let disk = pen.into_disk();
+    assert_eq!(rt; disk.pending(), 0);
+    assert_eq!(rt; disk.image(&AS_IT_IS)?.as_slice(), file);
+    Ok(())
+}
+
+#[test]
+fn files_of_both_versions(rt: HostRuntime) -> Result<(), Fail> {
+    opens::<u64>(&rt, &EMPTY, &[])?;
+    opens::<u64>(&rt, &FIVE, &[5])?;
+    opens::<u64>(&rt, &CHANGED, &[7])?;
+    opens::<u64>(&rt, &SHRUNK, &[5])?;
+    opens::<u64>(&rt, &TWO_RUNS, &[7, 5, 8, 9])?;
+    opens::<Flagged>(&rt, &COVERED, &[Flagged { key: 7, flag: true }])
+}
+
+/// Why the file isn't opened. The disk is handed back as it was.
+fn refused<R: Record>(rt: &(impl AllocGlobal + Abort), file: &[u8]) -> Result<OpenFault, Fail> {
+    let disk = disk_of(rt.alloc(), file)?;
+    let (disk, fault) = Pen::open::<R>(rt.alloc(), disk).err().ok_or("no file")?;
+    assert_eq!(rt; disk.pending(), 0);
+    assert_eq!(rt; disk.image(&AS_IT_IS)?.as_slice(), file);
+    Ok(fault)
+}
+
+/// A fault that was found at this place.
+fn damaged(at: u64, cause: Cause) -> OpenFault {
+    OpenFault::Scan(ScanFault::Damaged { at, cause })
+}
+
+#[test]
+fn what_is_no_file_is_refused(rt: HostRuntime) -> Result<(), Fail> {
+    let scan = OpenFault::Scan;
+    assert_eq!(rt; refused::<u64>(&rt, &[])?, scan(ScanFault::Unborn));
+    assert_eq!(rt; refused::<u64>(&rt, &[1])?, scan(ScanFault::Unborn));
+    assert_eq!(rt;
+        refused::<u64>(&rt, &EMPTY[..4])?,
+        scan(ScanFault::NotSegment)
+    );
+    let mut file = EMPTY;
+    file[8] = 3;
+    assert_eq!(rt; refused::<u64>(&rt, &file)?, scan(ScanFault::Version(3)));
+    assert_eq!(rt; refused::<u32>(&rt, &EMPTY)?, scan(ScanFault::Width(8)));
+    assert_eq!(rt;
+        refused::<u64>(&rt, &EMPTY[..11])?,
+        damaged(11, Cause::NoGate)
+    );
+    assert_eq!(rt;
+        refused::<u64>(&rt, &FIVE[..33])?,
+        damaged(33, Cause::NoGate)
+    );
+    assert_eq!(rt;
+        refused::<Flagged>(&rt, &BAD)?,
+        damaged(25, Cause::BadRecord)
+    );
+    Ok(())
+}
+
+#[test]
+fn a_call_that_fails_is_told(rt: HostRuntime) -> Result<(), Fail> {
+    let alloc = rt.alloc();
+    for (calls, cause) in [
+        (0, DiskFault::Sync),
+        (1, DiskFault::Length),
+        (2, DiskFault::Read),
+    ] {
+        let disk = FuseDisk::new(disk_of(alloc, &FIVE)?, calls, Blow::FailOnce(0));
+        let (disk, fault) = Pen::open::<u64>(alloc, disk).err().ok_or("a fault")?;
+        assert_eq!(rt; fault, OpenFault::Disk(cause));
+        let (_, records) = Pen::open::<u64>(alloc, disk).ok().ok_or("a file")?;
+        assert_eq!(rt; records.as_slice(), [5].as_slice());
+    }
+    Ok(())
+}
+
+#[test]
+fn a_long_file_is_read_in_pieces(rt: HostRuntime) -> Result<(), Fail> {
+    let alloc = rt.alloc();
+    let mut file = Vec::from_slice(alloc, &FIVE)?;
+    file.resize(4097, 0xff)?;
+    let disk = NotingDisk::new(RamDisk::from_bytes(alloc, file));
+    let (pen, records) = Pen::open::<u64>(alloc, disk).ok().ok_or("a file")?;
+    assert_eq!(rt; records.as_slice(), [5].as_slice());
+    let notes = pen.disk().notes();
+    assert_eq!(rt; (notes.syncs, notes.lengths, notes.writes), (1, 1, 0));
+    assert_eq!(rt; (notes.reads, notes.longest, notes.end), (2, 4096, 4097));
+    assert!(rt; notes.in_turn);
+    Ok(())
+}
+
+/// The vectors of a file to which three commands are committed, before each and at the end.
+const VECTORS: [&[u64]; 4] = [&[], &[5, 6, 7], &[5, 6], &[5, 6, 8]];
+
+/// Opens the file, and commits this one of the three: a group of two growths, a shrink, a group of one.
+fn commit<D: Disk>(alloc: Global, disk: D, command: usize) -> Result<D, D> {
+    let (mut pen, _) = match Pen::open::<u64>(alloc, disk) {
+        Ok(opened) => opened,
+        Err((disk, _)) => return Err(disk),
+    };
+    let begun = match command {
+        0 => pen.begin_group::<u64>(&[&[5, 6], &[7]]),
+        1 => pen.begin_shrink(2),
+        _ => pen.begin_group::<u64>(&[&[8]]),
+    };
+    if begun.is_err() {
+        return Err(pen.into_disk());
+    }
+    for _ in 0..4 {
+        if pen.tick_log().is_err() {
+            return Err(pen.into_disk());
+        }
+    }
+    Ok(pen.into_disk())
+}
+
+/// Makes a file and commits the three, until a call of the disk fails.
+fn write_all<D: Disk>(alloc: Global, disk: D) -> D {
+    let mut disk = match Pen::create(alloc, disk, 8) {
+        Ok(pen) => pen.into_disk(),
+        Err((disk, _)) => return disk,
+    };
+    for command in 0..3 {
+        disk = match commit(alloc, disk, command) {
+            Ok(disk) => disk,
+            Err(disk) => return disk,
+        };
+    }
+    disk
+}
+
+/// What the image opens to; nothing where it is no file yet.
+fn opened(alloc: Global, image: Vec<u8>) -> Result<Option<Vec<u64>>, Fail> {
+    match Pen::open::<u64>(alloc, RamDisk::from_bytes(alloc, image)) {
+        Ok((_, records)) => Ok(Some(records)),
+        Err((_, OpenFault::Scan(ScanFault::Unborn))) => Ok(None),
+        Err((_, fault)) => Err(fault.into()),
+    }
+}
+
+#[test]
+fn a_stopped_writer_leaves_a_file_that_opens(rt: HostRuntime) -> Result<(), Fail> {
+    let alloc = rt.alloc();
+    for calls in 0..30u64 {
+        let settled = match calls {
+            0..=14 => 0,
+            15..=21 => 1,
+            22..=28 => 2,
+            _ => 3,
+        };
+        let may_be = if matches!(calls, 14 | 21 | 28) {
+            settled + 1
+        } else {
+            settled
+        };
+        let disk = write_all(
+            alloc,
+            FuseDisk::new(RamDisk::new(alloc), calls, Blow::Stop),
+        ).into_inner();
+        for length in [ImageLength::Old, ImageLength::Greatest] {
+            for pending in [
+                PendingBytes::Old,
+                PendingBytes::New,
+                PendingBytes::Fill(0),
+                PendingBytes::Fill(1),
+                PendingBytes::Fill(0xff),
+            ] {
+                match opened(alloc, disk.image(&Choice { length, pending })?)? {
+                    Some(records) => {
+                        let records = records.as_slice();
+                        assert!(rt; 7 <= calls);
+                        assert!(rt; records == VECTORS[settled] || records == VECTORS[may_be]);
+                    }
+                    None => assert!(rt; calls <= 7),
+                }
+            }
+        }
+    }
+    Ok(())
+}
