@@ -26,3 +26,4 @@ pub mod Pieces
 pub mod Opening
 pub mod PieceValues
 pub mod WorkedOpening
+pub mod WritesFor

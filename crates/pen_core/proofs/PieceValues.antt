@@ -34,8 +34,8 @@ pub piece_part : {R : Type 0} (pieces : List (List R)) (k : ℕ) (d : List R) (s
 piece_part pieces k d start at last lt is from some to =
     let here : length (joined (take k pieces)) + (at - start) ≡ at = omega arith in
     sym (ap (λ n. take (last - at) (drop n (joined pieces))) (sym here)
-      ∙ ap (λ rs. take (last - at) (drop (length (joined (take k pieces)) + (at - start)) rs)) (joined-split pieces k d lt)
-      ∙ middle (joined (take k pieces)) (get_or pieces k d) (joined (drop (k + 1) pieces)) (at - start) (last - at) (omega arith))
+    ∙ ap (λ rs. take (last - at) (drop (length (joined (take k pieces)) + (at - start)) rs)) (joined-split pieces k d lt)
+    ∙ middle (joined (take k pieces)) (get_or pieces k d) (joined (drop (k + 1) pieces)) (at - start) (last - at) (omega arith))
 
 -- bytes up to one position, and those up to a later one
 pub bytes_at-more : {R : Type 0} (form : Encoding R) (records : List R) (from at last : ℕ) → from ≤ at → at ≤ last → bytes_at form records from (at - from) ++ bytes_at form records at (last - at) ≡ bytes_at form records from (last - from)
@@ -43,9 +43,9 @@ bytes_at-more form records from at last some more =
     let here : from + (at - from) ≡ at = omega arith in
     let all : at - from + (last - at) ≡ last - from = omega arith in
     sym (ap (λ n. bytes_at form records from n) (sym all)
-      ∙ ap (flat_map form.bytes_of) (take-add (at - from) (last - at) (drop from records))
-      ∙ flat_map-append form.bytes_of (take (at - from) (drop from records)) (take (last - at) (drop (at - from) (drop from records)))
-      ∙ ap (λ rs. bytes_at form records from (at - from) ++ flat_map form.bytes_of (take (last - at) rs)) (drop-drop (at - from) from records ∙ ap (λ n. drop n records) here))
+    ∙ ap (flat_map form.bytes_of) (take-add (at - from) (last - at) (drop from records))
+    ∙ flat_map-append form.bytes_of (take (at - from) (drop from records)) (take (last - at) (drop (at - from) (drop from records)))
+    ∙ ap (λ rs. bytes_at form records from (at - from) ++ flat_map form.bytes_of (take (last - at) rs)) (drop-drop (at - from) from records ∙ ap (λ n. drop n records) here))
 
 -- the next piece ends inside the whole
 pub piece_inside : {R : Type 0} (pieces : List (List R)) (k : ℕ) (d : List R) → k < length pieces → length (joined (take k pieces)) + length (get_or pieces k d) ≤ length (joined pieces)

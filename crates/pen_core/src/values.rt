@@ -1,11 +1,14 @@
 //! What a fold writes: the values of covered positions, as their bytes.
 
-ghost use Rattle.std.specs.Prelude.{◌≡◌, ◌≤◌, ◌<◌, ◌+◌, ◌-◌, ◌*◌, ◌^◌, ◌++◌, length, OnOk};
+ghost use Rattle.std.specs.Prelude.{◌≡◌, ◌≤◌, ◌<◌, ◌+◌, ◌-◌, ◌*◌, ◌^◌, ◌++◌, All, length, map, OnOk};
 ghost use Rattle.segment_core.specs.Written.{joined};
-ghost use Rattle.pen_core.specs.Values.{IsPassed, bytes_at};
+ghost use Rattle.pen_core.specs.InHand.{write_of};
+ghost use Rattle.pen_core.specs.HomeRuns.{AreAscending};
+ghost use Rattle.pen_core.specs.Values.{IsPassed, bytes_at, writes_for};
 
+use crate::fold::Write;
 use record_core::{Record, append_records};
-use segment_core::GrowthList;
+use segment_core::{GrowthList, Home};
 use std::alloc::AllocError;
 
 /// How many pieces are behind a walk over them, and how many records these have.
@@ -41,7 +44,10 @@ pub(crate) fn append_values<R: Record, G: GrowthList<R>>(
         let end = start + piece.len() as u64;
         if at < end {
             let last = to.min(end);
-            append_records(&piece[(at - start) as usize..(last - start) as usize], bytes)?;
+            append_records(
+                &piece[(at - start) as usize..(last - start) as usize],
+                bytes,
+            )?;
             at = last;
         }
         if at == to {
@@ -49,6 +55,41 @@ pub(crate) fn append_values<R: Record, G: GrowthList<R>>(
         }
         passed.pieces = k + 1;
         passed.records = end;
+    }
+    Ok(())
+}
+
+/// The writes that put the records of these runs into their home bytes, and what they write. The pieces are the whole
+/// vector, in order; the runs ascend. Each piece is looked at once.
+pub(crate) fn home_writes<R: Record, G: GrowthList<R>>(
+    pieces: &G,
+    runs: &[Home],
+    writes: &mut Vec<Write>,
+    bytes: &mut Vec<u8>,
+) -> Result<(), AllocError>
+    requires few { length (joined (G.growths pieces.now)) ≤ 2 ^ 32 }
+    requires width { R.form.width < 2 ^ 16 }
+    requires ascend { AreAscending 0 (length (joined (G.growths pieces.now))) runs.now }
+    ensures writes { OnOk result (map (write_of bytes.new.items) writes.new.items ≡ writes_for R.form (joined (G.growths pieces.now)) runs.now) }
+    ensures inside { OnOk result (All (λ write. (write.from ≤ write.to) × (write.to ≤ length bytes.new.items)) writes.new.items) }
+{
+    writes.clear();
+    bytes.clear();
+    writes.reserve(runs.len())?;
+    let mut passed = Passed {
+        pieces: 0,
+        records: 0,
+    };
+    for k in 0..runs.len() {
+        let run = runs[k];
+        let from = bytes.len();
+        let end = run.position + run.count;
+        append_values::<R, G>(pieces, run.position, end, &mut passed, bytes)?;
+        writes.push_reserved(Write {
+            place: run.place,
+            from,
+            to: bytes.len(),
+        });
     }
     Ok(())
 }

@@ -76,25 +76,25 @@ loop-k-preserved g c =
     let next = passed_more growths c.loop-k.k c.growth-piece.result.now c.loop-k.passed.records c.growth-piece.ensures inside is in
     elim c.if-at-end.branch [
       | then-at-end+in_ok-append_records w ↦
-        let end = w.min-last.ensures in
-        let less : w.min-last.result ≡ c.args.to → ⊥ = λ e. c.if-at-to.false (w.at-is ∙ e) in
-        rw (w.bytes-is, w.at-is) record {
-          here = refl;
-          passed = record { inside = omega arith; records_are = sym next.0 };
-          behind = omega (arith, less);
-          from = omega (arith, l.from, l.to, w.if-at-end.true);
-          to = omega arith;
-          values = values_more form growths c.loop-k.k c.growth-piece.result.now c.loop-k.passed.records c.loop-k.at w.min-last.result c.args.from c.args.bytes.now.items c.loop-k.bytes.items w.append_records.new.out.items
-            c.growth-piece.ensures inside is l.behind (omega (arith, l.to, w.if-at-end.true)) (omega arith) l.from l.values w.in_ok-append_records.ensures.bytes;
-        }
+          let end = w.min-last.ensures in
+          let less : w.min-last.result ≡ c.args.to → ⊥ = λ e. c.if-at-to.false (w.at-is ∙ e) in
+          rw (w.bytes-is, w.at-is) record {
+            here = refl;
+            passed = record { inside = omega arith; records_are = sym next.0 };
+            behind = omega (arith, less);
+            from = omega (arith, l.from, l.to, w.if-at-end.true);
+            to = omega arith;
+            values = values_more form growths c.loop-k.k c.growth-piece.result.now c.loop-k.passed.records c.loop-k.at w.min-last.result c.args.from c.args.bytes.now.items c.loop-k.bytes.items w.append_records.new.out.items
+                c.growth-piece.ensures inside is l.behind (omega (arith, l.to, w.if-at-end.true)) (omega arith) l.from l.values w.in_ok-append_records.ensures.bytes;
+          }
       | else-at-end w ↦ rw (w.bytes-is, w.at-is) record {
-          here = refl;
-          passed = record { inside = omega arith; records_are = sym next.0 };
-          behind = omega (arith, w.if-at-end.false);
-          from = l.from;
-          to = l.to;
-          values = l.values;
-        }
+        here = refl;
+        passed = record { inside = omega arith; records_are = sym next.0 };
+        behind = omega (arith, w.if-at-end.false);
+        from = l.from;
+        to = l.to;
+        values = l.values;
+      }
     ]
 
 done : {R : Type 0} (pieces : List (List R)) (k records at to : ℕ) → length pieces ≤ k → records ≡ length (joined (take k pieces)) → records ≤ at → at ≤ to → to ≤ length (joined pieces) → at ≡ to
