@@ -6,3 +6,4 @@ pub mod ShownLists
 pub mod Slices
 pub mod Steps
 pub mod Turns
+pub mod Worked

@@ -16,6 +16,7 @@ pub mod Begun
 pub mod Begins
 pub mod Growths
 pub mod RunsBegun
+pub mod Worked
 pub mod Births
 pub mod CreationCalls
 pub mod NewPen

@@ -3,7 +3,7 @@ use Rattle.std.specs.Prelude.{◌≡◌, ◌⊎◌, ℕ, ◌+◌, ◌<◌, List,
 use Rattle.disk_core.specs.State.{State, now, IsImage}
 use Rattle.disk_core.specs.Choice.{is_pending}
 use Rattle.segment_core.specs.declared.format.Shape.{Shape}
-use Rattle.segment_core.specs.Frame.{Frame, frame_text}
+use Rattle.segment_core.specs.Frame.{Frame, Group, Change, Shrink, Fold, frame_text}
 use Rattle.segment_core.specs.Tally.{after, tally_of}
 use Rattle.pen_core.specs.declared.step.Step.{Step}
 use Rattle.pen_core.specs.declared.step.Step.TheVariants as steps
@@ -72,6 +72,14 @@ pub record CountsSame {D : Type 0} (old new : PenOf D) : Type 0 where
   pub tally_same : new.tally ≡ old.tally
   pub gate_same : new.gate ≡ old.gate
   pub room_same : new.room ≡ old.room
+  pub places_same : new.places ≡ old.places
+
+-- the fold behind a frame that is done: it ends with its own
+abbrev pub fold_behind : Frame → Option FoldOf → Option FoldOf
+fold_behind (Group lengths bytes) fold = fold
+fold_behind (Change runs bytes) fold = fold
+fold_behind (Shrink n) fold = fold
+fold_behind (Fold count) fold = None
 
 abbrev pub next_job : JobOf → Option JobOf → Type 0
 next_job old new = (step : Step) × (step_after old.step ≡ Some step) × (new ≡ Some (record { frame = old.frame; step = step }))
@@ -79,10 +87,11 @@ next_job old new = (step : Step) × (step_after old.step ≡ Some step) × (new 
 -- the last call of the job succeeded: its frame stands in the file
 pub record CountsDone {D : Type 0} (frame : Frame) (old new : PenOf D) : Type 0 where
   pub shape_same : new.shape ≡ old.shape
-  pub fold_same : new.fold ≡ old.fold
+  pub fold_is : new.fold ≡ fold_behind frame old.fold
   pub tally_is : new.tally ≡ after old.tally frame
   pub gate_is : new.gate ≡ old.gate + length (frame_text old.shape.format frame)
   pub room_same : new.room ≡ old.room
+  pub places_same : new.places ≡ old.places
   pub job_done : new.job ≡ None
 
 -- what a tick makes of the counts, whatever the disk

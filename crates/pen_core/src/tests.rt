@@ -1,37 +1,62 @@
-//! A file that is made and written, on a disk in memory.
+//! Files that are made and written, on a disk in memory that stops working.
+
+ghost use Rattle.std.specs.Prelude.{◌≡◌};
+
+mod begins;
+mod commits;
+mod creation;
 
 use super::*;
-use disk_core::{Choice, ImageLength, PendingBytes, RamDisk};
-use segment_core::scan;
+use disk_core::{Choice, Disk, ImageLength, PendingBytes, RamDisk};
+use segment_core::{ScanFault, scan};
 use std::alloc::Global;
 use std::test::Fail;
 
-/// What a crash leaves that loses all that may be lost.
-const OLD: Choice = Choice {
-    length: ImageLength::Old,
-    pending: PendingBytes::Old,
-};
+/// What stands at the pending places of an image, but for those of which a part has arrived.
+const PENDING: [PendingBytes; 5] = [
+    PendingBytes::Old,
+    PendingBytes::New,
+    PendingBytes::Fill(0),
+    PendingBytes::Fill(1),
+    PendingBytes::Fill(0xff),
+];
 
-/// A file of two growths of one group, whose commit was stopped after so many device calls.
-fn stopped_after(alloc: Global, calls: u8) -> Option<RamDisk> {
-    let mut pen = Pen::create(alloc, RamDisk::new(alloc), 8).ok()?;
-    let growths: [&[u64]; 2] = [&[5, 6], &[7]];
-    pen.begin_group(&growths).ok()?;
-    for _ in 0..calls {
-        pen.tick_log().ok()?;
-    }
-    Some(pen.into_disk())
+/// Which of the images that a crash may leave is looked at: the first with nothing that is pending, the next two each
+/// with all of it as it was written, and so on.
+fn choice(k: u64) -> Choice {
+    let length = match k % 2 {
+        0 => ImageLength::Old,
+        _ => ImageLength::Greatest,
+    };
+    let pending = match k / 2 {
+        n if n < 5 => PENDING[n as usize],
+        n => PendingBytes::Front(n - 5, 0xff),
+    };
+    Choice { length, pending }
 }
 
-#[test]
-fn a_group_is_there_once_its_fourth_call_is_done(rt: HostRuntime) -> Result<(), Fail> {
-    let alloc = rt.alloc();
-    for calls in 0..5u8 {
-        let disk = stopped_after(alloc, calls).ok_or("a pen")?;
-        let image = disk.image(&OLD)?;
-        let scanned = scan::<u64>(alloc, image.as_slice())?;
-        let records: &[u64] = if calls < 4 { &[] } else { &[5, 6, 7] };
-        assert_eq!(rt; scanned.records.as_slice(), records);
+/// How many choices there are.
+fn choices(disk: &RamDisk) -> u64 {
+    let fronts = disk.pending().min(1000) + 1;
+    2 * (5 + fronts)
+}
+
+/// The vector of the image that choice `k` names, or its fault.
+fn opened(alloc: Global, disk: &RamDisk, k: u64) -> Result<Result<Vec<u64>, ScanFault>, Fail> {
+    let image = disk.image(&choice(k))?;
+    Ok(scan::<u64>(alloc, image.as_slice()).map(|scanned| scanned.records))
+}
+
+/// Makes the calls of the job in hand. Whether the last of them succeeded.
+fn commit<D: Disk>(pen: &mut Pen<D>) -> bool
+    ensures { pen.new.shape ≡ pen.old.shape }
+{
+    for _ in 0..4 {
+        match pen.tick_log() {
+            Ok(Ticked::Done) => return true,
+            Ok(_) => {}
+            Err(_) => return false,
+        }
     }
-    Ok(())
+    false
 }

@@ -1,6 +1,8 @@
 -- Each answer is one lemma on the pen's fields.
-use Rattle.std.proofs.Common.{◌+◌, ◌-◌, true, Some, None, inr, refl, sym, ap, ◌∙◌}
-use Rattle.std.specs.Prelude.{vec_capacity}
+use Rattle.std.proofs.Common.{◌≡◌, ◌+◌, ◌-◌, true, Some, None, inr, refl, sym, ap, ◌∙◌}
+use Rattle.std.specs.Prelude.{vec_len, vec_capacity}
+use Rattle.segment_core.specs.Frame.{Frame, Group, Change, Shrink, Fold}
+use Rattle.pen_core.specs.Pen.{fold_behind}
 use Rattle.pen_core.specs.declared.fault.PenFault.TheVariants.{Disk}
 use Rattle.pen_core.specs.Vectors.{frame_at}
 use Rattle.pen_core.specs.Inside.{job_of}
@@ -8,6 +10,12 @@ use Rattle.pen_core.specs.Listed.{frame_in_hand}
 use Rattle.pen_core.proofs.Whole.{pen_kept, whole_idle, last_step, whole_counts, whole_leaves, whole_broken, whole_same, whole_next, whole_stays, gate_moved, more_frames, vector_then, whole_done}
 use Rattle.pen_core.proofs.Listed.{listed_stays, homes_in_turn, listed_done}
 use Rattle.pen_core.proofs.pen.Pen.tick_log.Goals as goal
+
+none_behind : (frame : Frame) → None ≡ fold_behind frame None
+none_behind (Group lengths bytes) = refl
+none_behind (Change runs bytes) = refl
+none_behind (Shrink n) = refl
+none_behind (Fold count) = refl
 
 pub returns-then-self-clause-images : goal.returns-then-self-clause-images
 returns-then-self-clause-images g c = rw (← c.self.view_is) (
@@ -64,7 +72,7 @@ returns-in-Err-clause-refused g c = rw (← c.self.view_is) (
       c.if-self.false,
       ap (job_of s.shape s.bytes.items) c.in-Some.is,
       ap (λ fault. Disk fault) c.in-Err.ensures.cause.0,
-      record { broken = refl; job_same = refl; counts_same = record { shape_same = refl; fold_same = refl; tally_same = refl; gate_same = refl; room_same = refl } },
+      record { broken = refl; job_same = refl; counts_same = record { shape_same = refl; fold_same = refl; tally_same = refl; gate_same = refl; room_same = refl; places_same = refl } },
     ))
 
 pub returns-in-Err-clause-file_stays : goal.returns-in-Err-clause-file_stays
@@ -107,7 +115,7 @@ returns-in-Some-next-clause-ticked g c = rw (← c.self.view_is) (
       record { frame = frame_at s.shape s.bytes.items; step = c.in-Some.step },
       ap (job_of s.shape s.bytes.items) c.in-Some.is,
       (c.in-Some-next.behind, (sym c.next.ensures ∙ c.in-Some-next.is), refl),
-      record { shape_same = refl; fold_same = refl; tally_same = refl; gate_same = refl; room_same = refl },
+      record { shape_same = refl; fold_same = refl; tally_same = refl; gate_same = refl; room_same = refl; places_same = refl },
     ))
 
 pub returns-in-Some-next-clause-file : goal.returns-in-Some-next-clause-file
@@ -161,12 +169,13 @@ returns-in-None-clause-ticked g c = rw (← c.self.view_is) (
       last_step c.in-Some.step (sym c.next.ensures ∙ c.in-None.is),
       record {
         shape_same = refl;
-        fold_same = refl;
+        fold_is = none_behind (frame_at s.shape s.bytes.items);
         tally_is = whole_counts (g.D.Disk.keeps s.disk) (g.D.Disk.keeps new) (g.D.Disk.states s.disk) (g.D.Disk.states new) s.shape s.gate s.tally s.next s.bytes.items c.deref.result.now s.step s.broken c.in-Some.step c.self.invariant.0
             c.if-self.false c.in-Some.is c.deref.ensures.value c.call.ensures.model (g.met.D.Disk.reads_an_image s.disk) (g.met.D.Disk.reads_an_image new);
         gate_is = gate_moved (g.D.Disk.keeps s.disk) (g.D.Disk.keeps new) (g.D.Disk.states s.disk) (g.D.Disk.states new) s.shape s.gate s.tally s.next s.bytes.items c.deref.result.now s.step s.broken c.in-Some.step c.self.invariant.0
             c.if-self.false c.in-Some.is c.deref.ensures.value c.call.ensures.model (g.met.D.Disk.reads_an_image s.disk) (g.met.D.Disk.reads_an_image new) c.in_default-call.ensures.done (s.gate + (c.len.result - 1)) (ap (λ n. s.gate + (n - 1)) (c.len.ensures ∙ sym c.deref.ensures.len)) (sym c.next.ensures ∙ c.in-None.is);
         room_same = refl;
+        places_same = ap (λ live. vec_capacity live - vec_len live) c.cut.ensures.live;
         job_done = refl;
       },
     ))
