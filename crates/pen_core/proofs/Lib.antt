@@ -28,3 +28,5 @@ pub mod Opening
 pub mod PieceValues
 pub mod WorkedOpening
 pub mod WritesFor
+pub mod LiveRuns
+pub mod HomesTo

@@ -1,12 +1,11 @@
 -- Writes whose bytes stand one behind the other.
 use Rattle.std.proofs.Common.{◌≡◌, ℕ, ◌+◌, ◌-◌, ◌≤◌, ◌<◌, List, [], ◌∷◌, ◌++◌, length, map, take, drop, get_or, All, refl, sym, ap, ◌∙◌, arith}
 use Rattle.std.proofs.Math.Seq.{drop-append_seam}
-use Rattle.std.proofs.lemmas.List.{append-nil, take_all, take-append-le, drop-append-le, take_more, length-append, length-drop, map_push}
+use Rattle.std.proofs.lemmas.List.{take_all, take-append-le, drop-append-le, take_more, length-append, length-drop, map_push}
 use Rattle.std.proofs.lemmas.List.Elements.{All-tail, All-head, All-push, All-weaker}
 use Rattle.record_core.specs.Bytes.{Encoding}
 use Rattle.segment_core.specs.declared.found.Home.{Home}
 use Rattle.pen_core.specs.declared.fold.Write.{Write}
-use Rattle.pen_core.specs.PenOf.{HomeWrite}
 use Rattle.pen_core.specs.InHand.{write_of}
 use Rattle.pen_core.specs.HomeRuns.{AreAscending}
 use Rattle.pen_core.specs.Values.{bytes_at, write_for, writes_for}
