@@ -30,3 +30,5 @@ pub mod WorkedOpening
 pub mod WritesFor
 pub mod LiveRuns
 pub mod HomesTo
+pub mod RunPositions
+pub mod FoldBegun
