@@ -17,7 +17,7 @@ use Rattle.segment_core.specs.Frame.{Frame, text}
 use Rattle.segment_core.specs.Tally.{nothing, tally_of, AreLegal}
 use Rattle.segment_core.specs.Vector.{home_of, change_of, place_of, record_in}
 use Rattle.segment_core.specs.Folding.{HomesHold}
-use Rattle.segment_core.specs.Found.{AreInTurn, AreHomes}
+use Rattle.segment_core.specs.Found.{home_among}
 use Rattle.segment_core.specs.Blanked.{all_blanked}
 use Rattle.segment_core.specs.Raw.{raw}
 use Rattle.segment_core.proofs.Apart.{home_of_apart}
@@ -97,17 +97,21 @@ row_of place width (suc count) j from before = elim (cases_lt j (place + count *
 
 -- ---- runs that are at home
 
+-- the homes say where each position's home bytes begin
+abbrev pub SaysHomes : Shape → List Frame → List Home → Type 0
+SaysHomes shape frames homes = (i : ℕ) → i < (tally_of frames).size → home_among shape.width homes i ≡ home_of shape frames i
+
 record IsAtHome (shape : Shape) (frames : List Frame) (run : Home) : Type 0 where
   some : 0 < run.count
   inside : run.position + run.count ≤ (tally_of frames).size
   adjacent : (i : ℕ) → run.position ≤ i → i < run.position + run.count → home_of shape frames i ≡ Some (run.place + (i - run.position) * shape.width)
 
-all_at_home : (shape : Shape) (frames : List Frame) (homes : List Home) (from : ℕ) (runs : List Home) → AreHomes shape frames homes → AreAscending from (tally_of frames).size runs → All (IsHomeRun shape.width homes) runs → AllByRecursion (IsAtHome shape frames) runs
+all_at_home : (shape : Shape) (frames : List Frame) (homes : List Home) (from : ℕ) (runs : List Home) → SaysHomes shape frames homes → AreAscending from (tally_of frames).size runs → All (IsHomeRun shape.width homes) runs → AllByRecursion (IsAtHome shape frames) runs
 all_at_home shape frames homes from [] are ascend each = tt
 all_at_home shape frames homes from (run ∷ runs) are ascend each =
     let first = All-head (IsHomeRun shape.width homes) run runs each in
     let end = ascending-inside (run.position + run.count) (tally_of frames).size runs ascend.1 in (
-      record { some = first.some; inside = end; adjacent = λ i le lt. sym (are.each i (omega arith)) ∙ first.adjacent i le lt },
+      record { some = first.some; inside = end; adjacent = λ i le lt. sym (are i (omega arith)) ∙ first.adjacent i le lt },
       all_at_home shape frames homes (run.position + run.count) runs are ascend.1 (All-tail (IsHomeRun shape.width homes) run runs each),
     )
 
@@ -296,17 +300,12 @@ held_wide shape frames vector bytes has = All-from_get_or (HasWidth shape.width)
         ap length (sym same) ∙ length-take-le shape.width (drop place bytes) (omega (arith, b.to, length-drop place bytes))
 
 -- homes are the same whatever stands in them
-AreHomes-blanked : (shape : Shape) (frames : List Frame) (homes : List Home) → AreHomes shape frames homes → AreHomes shape (all_blanked frames) homes
-AreHomes-blanked shape frames homes are =
-    let tally = tally_from-blanked nothing frames in
-    record {
-      in_turn = subst (λ t. AreInTurn 0 homes t.size) (sym tally) are.in_turn;
-      each = λ i lt. are.each i (subst (λ t. i < t.size) tally lt) ∙ sym (home_of-blanked shape frames i);
-    }
+SaysHomes-blanked : (shape : Shape) (frames : List Frame) (homes : List Home) → SaysHomes shape frames homes → SaysHomes shape (all_blanked frames) homes
+SaysHomes-blanked shape frames homes says i lt = says i (subst (λ t. i < t.size) (tally_from-blanked nothing frames) lt) ∙ sym (home_of-blanked shape frames i)
 
 -- All changes are folded: once the writes of the cover's runs are done, each covered position has its record in its
 -- home bytes.
-module _ (shape : Shape) (frames : List Frame) (vector : List (List ℕ)) (homes : List Home) (cover : List (ℕ × ℕ)) (runs : List Home) (s : State) (some : 0 < shape.width) (has : Holds shape (all_blanked frames) vector s.seen) (are : AreHomes shape frames homes)
+module _ (shape : Shape) (frames : List Frame) (vector : List (List ℕ)) (homes : List Home) (cover : List (ℕ × ℕ)) (runs : List Home) (s : State) (some : 0 < shape.width) (has : Holds shape (all_blanked frames) vector s.seen) (are : SaysHomes shape frames homes)
     (is : IsCover (live_runs shape frames) cover) (at : AreHomeRuns shape.width (tally_of frames).size homes cover runs) where
   abbrev others : List Frame
   others = all_blanked frames
@@ -339,7 +338,7 @@ module _ (shape : Shape) (frames : List Frame) (vector : List (List ℕ)) (homes
       let legal = held_legal shape others vector s.seen has in
       let wide = held_wide shape others vector s.seen has in
       let ascend = subst (λ t. AreAscending 0 t.size runs) (sym tally) at.ascend in
-      let at_home = all_at_home shape others homes 0 runs (AreHomes-blanked shape frames homes are) ascend at.each in
+      let at_home = all_at_home shape others homes 0 runs (SaysHomes-blanked shape frames homes are) ascend at.each in
       record {
         homes_hold = homes_hold_laid shape others vector legal wide vector_size (tally_of frames).changes runs s.seen ascend at_home same_covered gate_seen;
         into_homes = all_home_writes shape others vector legal wide vector_size (tally_of frames).changes runs at_home some covered_early;

@@ -177,7 +177,7 @@ pub placed_below : (width size : ℕ) (homes : List Home) (k i : ℕ) (d : Home)
     → (get_or homes k d).place + (i + 1 - (get_or homes k d).position) * width ≤ 2 ^ 48
 placed_below width size homes k i d are lt from to =
     let home = get_or homes k d in
-    let fits = are.placed i (home.place + (i - home.position) * width) (home_among-at width 0 size i homes k d are.in_turn lt from to) in
+    let fits = are.placed i (home.place + (i - home.position) * width) (home_among-at width 0 are.end i homes k d are.in_turn lt from to) in
     let more : i + 1 - home.position ≡ (i - home.position) + 1 = omega arith in
     let parts : (i + 1 - home.position) * width ≡ (i - home.position) * width + 1 * width = ap (λ n. n * width) more ∙ add-mul (i - home.position) 1 width in
     omega arith

@@ -16,9 +16,13 @@ positions_in runs = flat_map (λ run. range_with_len run.0 run.1) runs
 abbrev pub positions_at : List Home → List ℕ
 positions_at homes = flat_map (λ home. range_with_len home.position home.count) homes
 
--- each position below the size has one home, whose bytes keep within the limit on gates
+-- each position below the size has one home, whose bytes keep within the limit on gates; positions behind them may
+-- have homes too
 pub record AreHomesTo (width size : ℕ) (homes : List Home) : Type 0 where
-  pub in_turn : AreInTurn 0 homes size
+  pub end : ℕ
+  pub reached : size ≤ end
+  pub small : end ≤ 2 ^ 32
+  pub in_turn : AreInTurn 0 homes end
   pub placed : (i p : ℕ) → home_among width homes i ≡ Some p → p + width ≤ 2 ^ 48
 
 -- positions, few enough for one write, whose home bytes stand one behind the other from its place on

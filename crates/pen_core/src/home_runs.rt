@@ -60,7 +60,6 @@ fn append_run(
     runs: &mut Vec<Home>,
 ) -> Result<(), AllocError>
     requires homes { AreHomesTo width size homes.now }
-    requires size { size ≤ 2 ^ 32 }
     requires some { from < to }
     requires inside { to ≤ size }
     ensures { OnOk result (Appends (IsHomeRun width homes.now) (range_with_len from (to - from)) from to runs.old.items runs.new.items) }
@@ -79,7 +78,8 @@ fn append_run(
 }
 
 /// The positions that these runs cover, which stand apart, in order, in runs whose home bytes are adjacent, each few enough for one
-/// write. The homes are those of the vector's positions; of each run the first is found by a binary search.
+/// write. The homes are those of the vector's positions, and maybe of positions behind them; of each run the first is
+/// found by a binary search.
 pub(crate) fn home_runs(
     alloc: Global,
     cover: &[(u64, u64)],
@@ -88,7 +88,6 @@ pub(crate) fn home_runs(
     width: u64,
 ) -> Result<Vec<Home>, AllocError>
     requires homes { AreHomesTo width size homes.now }
-    requires size { size ≤ 2 ^ 32 }
     requires apart { StandApart 0 cover.now }
     requires inside { All (λ run. run.0 + run.1 ≤ size) cover.now }
     ensures { IfOk result (λ runs. AreHomeRuns width size homes.now cover.now runs.items) }

@@ -26,8 +26,8 @@ returns-then-at-to c = subst (λ n. Appends (IsHomeRun c.args.width c.args.homes
 
 pub overflow_add-home : goal.overflow_add-home
 overflow_add-home c =
-    let to = turn-to 0 c.args.size c.args.homes.now c.loop-k.k blank c.requires.homes.in_turn c.loop-k-test.true in
-    omega (arith, c.requires.size)
+    let to = turn-to 0 c.requires.homes.end c.args.homes.now c.loop-k.k blank c.requires.homes.in_turn c.loop-k-test.true in
+    omega (arith, c.requires.homes.small)
 
 pub append_parts-requires-clause-from : goal.append_parts-requires-clause-from
 append_parts-requires-clause-from c =
@@ -43,8 +43,8 @@ append_parts-requires-clause-some c =
 
 pub append_parts-requires-clause-fits : goal.append_parts-requires-clause-fits
 append_parts-requires-clause-fits c =
-    let to = turn-to 0 c.args.size c.args.homes.now c.loop-k.k blank c.requires.homes.in_turn c.loop-k-test.true in
-    omega (arith, c.requires.size)
+    let to = turn-to 0 c.requires.homes.end c.args.homes.now c.loop-k.k blank c.requires.homes.in_turn c.loop-k-test.true in
+    omega (arith, c.requires.homes.small)
 
 pub append_parts-requires-clause-placed : goal.append_parts-requires-clause-placed
 append_parts-requires-clause-placed c = λ lt.
@@ -67,15 +67,15 @@ loop-k-preserved c =
     let from = c.loop-k.invariant.from in
     let home = get_or homes k blank in
     let parts = Appends-weaker (IsPartOf c.args.width home) (IsHomeRun c.args.width homes) c.loop-k.at c.min-end.result c.loop-k.runs.items c.append_parts.new.runs.items (range_with_len c.loop-k.at (c.min-end.result - c.loop-k.at))
-    (IsHomeRun-part c.args.width c.args.size homes k blank turn c.loop-k-test.true) c.in_ok-append_parts.ensures in
+    (IsHomeRun-part c.args.width c.requires.homes.end homes k blank turn c.loop-k-test.true) c.in_ok-append_parts.ensures in
     let joined = Appends-join (IsHomeRun c.args.width homes) c.args.from c.loop-k.at c.min-end.result c.args.runs.now.items c.loop-k.runs.items c.append_parts.new.runs.items (range_with_len c.args.from (c.loop-k.at - c.args.from)) (range_with_len c.loop-k.at (c.min-end.result - c.loop-k.at)) c.loop-k.invariant.so_far parts in
     let all : c.loop-k.at + (c.min-end.result - c.loop-k.at) ≡ c.min-end.result = omega arith in
     let range = ranges-join c.args.from c.loop-k.at (c.min-end.result - c.loop-k.at) from ∙ ap (λ n. range_with_len c.args.from (n - c.args.from)) all in
     record {
       from = omega arith;
       to = omega arith;
-      here = λ d left lt. let next = turn-next 0 c.args.size homes k d turn lt in let same : (get_or homes k d).position + (get_or homes k d).count ≡ home.position + home.count = ap (λ (h : Home). h.position + h.count) (get_or_default homes k d blank c.loop-k-test.true) in (omega arith, omega arith);
-      all = λ le. omega (arith, turn-last 0 c.args.size homes k blank turn (omega (arith, c.loop-k-test.true)), c.requires.inside);
+      here = λ d left lt. let next = turn-next 0 c.requires.homes.end homes k d turn lt in let same : (get_or homes k d).position + (get_or homes k d).count ≡ home.position + home.count = ap (λ (h : Home). h.position + h.count) (get_or_default homes k d blank c.loop-k-test.true) in (omega arith, omega arith);
+      all = λ le. omega (arith, turn-last 0 c.requires.homes.end homes k blank turn (omega (arith, c.loop-k-test.true)), c.requires.inside, c.requires.homes.reached);
       so_far = subst (λ ps. Appends (IsHomeRun c.args.width homes) ps c.args.from c.min-end.result c.args.runs.now.items c.append_parts.new.runs.items) range joined;
     }
 

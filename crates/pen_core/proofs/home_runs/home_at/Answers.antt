@@ -13,9 +13,9 @@ found : (c : goal.After-partition_point) → (d : Home) → here c d
 found c d =
     let homes = c.args.homes.now in
     let turn = c.requires.homes.in_turn in
-    let parted = IsPartitionedBy-leb (λ (h : Home). h.position) homes c.args.position (turn-sorted c.args.size homes turn) in
+    let parted = IsPartitionedBy-leb (λ (h : Home). h.position) homes c.args.position (turn-sorted c.requires.homes.end homes turn) in
     let point = IsPartitionPoint-from_clause (λ (h : Home). leb h.position c.args.position) homes c.partition_point.result c.partition_point.ensures.partitioned parted (λ a r q k. search rules) in
-    home-found c.args.size c.args.position homes c.partition_point.result d turn c.requires.inside c.partition_point.ensures.bound (λ k d lt. leb-true _ _ (point.0 k d (omega arith) lt)) (λ k d from lt. leb-false _ _ (point.1 k d from lt))
+    home-found c.requires.homes.end c.args.position homes c.partition_point.result d turn (omega (arith, c.requires.inside, c.requires.homes.reached)) c.partition_point.ensures.bound (λ k d lt. leb-true _ _ (point.0 k d (omega arith) lt)) (λ k d from lt. leb-false _ _ (point.1 k d from lt))
 
 pub overflow_sub-result : goal.overflow_sub-result
 overflow_sub-result c = (found c (record { position = 0; place = 0; count = 0 })).0
