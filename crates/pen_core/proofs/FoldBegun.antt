@@ -120,6 +120,11 @@ all_at_home shape frames homes from (run ∷ runs) are ascend each =
 abbrev EndsAt : ℕ → HomeWrite → Type 0
 EndsAt n write = write.place + length write.bytes ≤ n
 
+-- a write of some bytes, below the gate
+pub record HasPlace (gate : ℕ) (write : HomeWrite) : Type 0 where
+  pub some : 0 < length write.bytes
+  pub below : write.place + length write.bytes ≤ gate
+
 abbrev Misses : ℕ → HomeWrite → Type 0
 Misses j write = (j < write.place) ⊎ (write.place + length write.bytes ≤ j)
 
@@ -163,6 +168,15 @@ module _ (shape : Shape) (frames : List Frame) (cells : List (List ℕ)) (legal 
   all_end_below : (runs : List Home) → AllByRecursion (IsAtHome shape frames) runs → AllByRecursion (EndsAt gate) (map write runs)
   all_end_below [] homes = tt
   all_end_below (run ∷ runs) homes = (ends_below run homes.0, all_end_below runs homes.1)
+
+  pub all_placed : (homes : List Home) (cover : List (ℕ × ℕ)) (runs : List Home) → 0 < width → SaysHomes shape frames homes → AreHomeRuns width (tally_of frames).size homes cover runs → AllByRecursion (HasPlace gate) (map write runs)
+  all_placed homes cover runs some says at = go runs (all_at_home shape frames homes 0 runs says at.ascend at.each)
+    where
+      go : (rest : List Home) → AllByRecursion (IsAtHome shape frames) rest → AllByRecursion (HasPlace gate) (map write rest)
+      go [] at_home = tt
+      go (run ∷ rest) at_home =
+          let row = row_fits 0 width run.count width at_home.0.some (omega arith) in
+          (record { some = omega (arith, length-write run at_home.0); below = ends_below run at_home.0 }, go rest at_home.1)
 
   -- the home of a byte that a run's write has
   record IsWritten (run : Home) (j : ℕ) : Type 0 where

@@ -32,3 +32,4 @@ pub mod LiveRuns
 pub mod HomesTo
 pub mod RunPositions
 pub mod FoldBegun
+pub mod FoldPlanned
