@@ -33,3 +33,4 @@ pub mod HomesTo
 pub mod RunPositions
 pub mod FoldBegun
 pub mod FoldPlanned
+pub mod FoldListed

@@ -4,17 +4,20 @@ use Rattle.std.specs.Prelude.{nat_le, nat_lt, ◌&&◌, is_some}
 use Rattle.std.specs.List.{flat_map, AllByRecursion}
 use Rattle.std.specs.Option.{option_or}
 use Rattle.std.proofs.lemmas.Bool.{lt-ltb, or_left, or_right}
+use Rattle.std.proofs.lemmas.List.{length-append, length-drop, length-map}
 use Rattle.std.proofs.lemmas.List.Folds.{list_any-append}
 use Rattle.std.proofs.lemmas.List.Elements.{All-nil, All-cons, All-head, All-tail, All-append, All-weaker}
+use Rattle.segment_core.specs.declared.format.Format.{Format}
+use Rattle.segment_core.specs.declared.format.Format.TheVariants.{One, Two}
 use Rattle.segment_core.specs.declared.format.Shape.{Shape}
 use Rattle.segment_core.specs.declared.tally.Tally.{Tally}
 use Rattle.segment_core.specs.Frame.{Run, Frame, Group, Change, Shrink, Fold, header, frame_text}
-use Rattle.segment_core.specs.Layout.{IsRun}
+use Rattle.segment_core.specs.Layout.{IsRun, HasRuns}
 use Rattle.segment_core.specs.Reading.{Seen, runs_of}
 use Rattle.segment_core.specs.Tally.{nothing, after, tally_of, AreLegalFrom, AreLegal}
 use Rattle.segment_core.specs.Vector.{place_among, place_in_runs, last_from, change_in, change_of}
 use Rattle.segment_core.specs.Found.{first_record_of, changes_from, changes_of, live_of, live_among, pairs_of}
-use Rattle.segment_core.proofs.FoundChanges.{all_drop, changes_counted, change_of_live}
+use Rattle.segment_core.proofs.FoundChanges.{pair_of, all_drop, changes_counted, change_of_live}
 use Rattle.segment_core.proofs.LegalCommand.{size_limit}
 use Rattle.segment_core.proofs.PlaceOf.{live_inside}
 use Rattle.pen_core.specs.Covered.{has, covers, StandApart, IsCover}
@@ -37,7 +40,7 @@ told_test false x = refl
 pub told_among : (width p start count i : ℕ) → is_some (place_among width p start count i) ≡ has i (start, count)
 told_among width p start count i = told_test (nat_le start i && nat_lt i (start + count)) (p + (i - start) * width)
 
-told_in_runs : (width i p : ℕ) (runs : List Run) → is_some (place_in_runs width i p runs) ≡ covers i (map (λ run. (run.start, run.count)) runs)
+told_in_runs : (width i p : ℕ) (runs : List Run) → is_some (place_in_runs width i p runs) ≡ covers i (map pair_of runs)
 told_in_runs width i p [] = refl
 told_in_runs width i p (run ∷ runs) =
     let rest : Option ℕ = place_in_runs width i (p + run.count * width) runs in
@@ -99,9 +102,9 @@ HasSome run = 0 < run.1
 abbrev pub EndsBy : ℕ → ℕ × ℕ → Type 0
 EndsBy size run = run.0 + run.1 ≤ size
 
-some_runs : (runs : List Run) → AllByRecursion IsRun runs → All HasSome (map (λ run. (run.start, run.count)) runs)
+some_runs : (runs : List Run) → AllByRecursion IsRun runs → All HasSome (map pair_of runs)
 some_runs [] each = All-nil HasSome
-some_runs (run ∷ runs) each = All-cons HasSome (run.start, run.count) (map (λ run. (run.start, run.count)) runs) each.0.1.0 (some_runs runs each.1)
+some_runs (run ∷ runs) each = All-cons HasSome (run.start, run.count) (map pair_of runs) each.0.1.0 (some_runs runs each.1)
 
 some_changes : (shape : Shape) (p : ℕ) (tally : Tally) (frames : List Frame) → AreLegalFrom shape tally frames → AllByRecursion (λ change. All HasSome (pairs_of change)) (changes_from shape p frames)
 some_changes shape p tally [] legal = tt
@@ -146,3 +149,36 @@ apart_some from (run ∷ runs) apart = All-cons HasSome run runs apart.1 (apart_
 
 pub cover_inside : (shape : Shape) (frames : List Frame) (cover : List (ℕ × ℕ)) → AreLegal shape frames → IsCover (live_runs shape frames) cover → All (EndsBy (tally_of frames).size) cover
 cover_inside shape frames cover legal is = ends_inside (tally_of frames).size cover (apart_some 0 cover is.apart) (λ i e. live_below shape frames i legal (sym (is.same i) ∙ e))
+
+-- ---- where a change is live, a position is covered
+
+has_run : (format : Format) (runs : List Run) → HasRuns format runs → 0 < length runs
+has_run One runs has = omega arith
+has_run Two runs has = has
+
+filled_changes : (shape : Shape) (p : ℕ) (tally : Tally) (frames : List Frame) → AreLegalFrom shape tally frames → AllByRecursion (λ change. 0 < length (pairs_of change)) (changes_from shape p frames)
+filled_changes shape p tally [] legal = tt
+filled_changes shape p tally (Group lengths bytes ∷ frames) legal = filled_changes shape (p + length (frame_text shape.format (Group lengths bytes))) (after tally (Group lengths bytes)) frames legal.2
+filled_changes shape p tally (Change runs bytes ∷ frames) legal = (
+  (let some = has_run shape.format runs legal.0.layout.0 in omega (arith, length-map runs pair_of)),
+  filled_changes shape (p + length (frame_text shape.format (Change runs bytes))) (after tally (Change runs bytes)) frames legal.2,
+)
+filled_changes shape p tally (Shrink n ∷ frames) legal = filled_changes shape (p + length (frame_text shape.format (Shrink n))) (after tally (Shrink n)) frames legal.2
+filled_changes shape p tally (Fold count ∷ frames) legal = filled_changes shape (p + length (frame_text shape.format (Fold count))) (after tally (Fold count)) frames legal.2
+
+filled_pairs : (changes : List Seen) → AllByRecursion (λ change. 0 < length (pairs_of change)) changes → 0 < length changes → 0 < length (flat_map pairs_of changes)
+filled_pairs [] each some = absurd (omega arith)
+filled_pairs (change ∷ changes) each some = let first = each.0 in omega (arith, length-append (pairs_of change) (flat_map pairs_of changes))
+
+first_covered : (runs : List (ℕ × ℕ)) → All HasSome runs → 0 < length runs → (i : ℕ) × (covers i runs ≡ true)
+first_covered [] each some = absurd (omega arith)
+first_covered (run ∷ runs) each some =
+    let first = All-head HasSome run runs each in
+    (run.0, or_left (has run.0 run) (covers run.0 runs) (true-has run.0 run.0 run.1 (omega arith) (omega arith)))
+
+pub live_runs_cover : (shape : Shape) (frames : List Frame) → AreLegal shape frames → (tally_of frames).folded < (tally_of frames).changes → (i : ℕ) × (covers i (live_runs shape frames) ≡ true)
+live_runs_cover shape frames legal live =
+    let all = changes_counted shape frames in
+    let left = length-drop (tally_of frames).folded (changes_of shape frames) in
+    first_covered (live_runs shape frames) (live_runs_some shape frames legal)
+    (filled_pairs (live_of shape frames) (all_drop (λ change. 0 < length (pairs_of change)) (tally_of frames).folded (changes_of shape frames) (filled_changes shape (length (header shape)) nothing frames legal)) (omega arith))
