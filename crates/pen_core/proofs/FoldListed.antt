@@ -1,8 +1,10 @@
 -- A fold that is begun, by a pen's fields: what its calls ask for, and what it knows of its disk.
 use Rattle.std.proofs.Common.{◌≡◌, ℕ, ◌<◌, ◌^◌, true, List, [], ◌∷◌, length, map, take, Option, All, sym, ap, subst, ◌∙◌, arith}
+use Rattle.std.specs.List.{AllByRecursion}
 use Rattle.std.proofs.lemmas.List.{take_at}
 use Rattle.disk_core.specs.State.{State, now}
 use Rattle.disk_core.specs.Calls.{bytes_of}
+use Rattle.record_core.specs.Bytes.{Encoding}
 use Rattle.segment_core.specs.declared.format.Shape.{Shape}
 use Rattle.segment_core.specs.declared.found.Home.{Home}
 use Rattle.segment_core.specs.declared.found.Homes.{Homes}
@@ -11,18 +13,22 @@ use Rattle.segment_core.specs.Frame.{Frame}
 use Rattle.segment_core.specs.Parsed.{vector_before}
 use Rattle.segment_core.specs.Raw.{raw}
 use Rattle.segment_core.specs.Blanked.{all_blanked}
+use Rattle.pen_core.specs.declared.fold.Write.{Write}
 use Rattle.pen_core.specs.declared.step.Step.{Step}
 use Rattle.pen_core.specs.Covered.{covers, IsCover}
 use Rattle.pen_core.specs.Folds.{IsFolding}
 use Rattle.pen_core.specs.Held.{Holds}
 use Rattle.pen_core.specs.HomeRuns.{AreHomeRuns}
+use Rattle.pen_core.specs.InHand.{write_of, IsPlanned}
 use Rattle.pen_core.specs.Listed.{frame_in_hand, live_runs, runs_ahead, IsListed}
 use Rattle.pen_core.specs.Values.{writes_for}
 use Rattle.pen_core.specs.Vectors.{blanked_before}
 use Rattle.pen_core.proofs.FoldBegun.{SaysHomes, IsFolding-begun}
+use Rattle.pen_core.proofs.FoldPlanned.{writes_for-raw, ArePlanned-begun}
 use Rattle.pen_core.proofs.HomesTo.{SaysHomes-listed}
 use Rattle.pen_core.proofs.LiveRuns.{HasSome, EndsBy, live_runs_some, live_runs_small, cover_inside, live_runs_cover}
 use Rattle.pen_core.proofs.RunPositions.{span_of, covers-home_runs}
+use Rattle.pen_core.proofs.WritesFor.{Within}
 
 module _ (keeps : Type 0) (states : List State) (shape : Shape) (gate : ℕ) (tally : Tally) (bytes : List ℕ) (step : Option Step) (homes : Homes) (live : ℕ) (listed : IsListed keeps states shape gate tally bytes step homes live) where
   abbrev frames : List Frame
@@ -71,3 +77,18 @@ module _ (keeps : Type 0) (states : List State) (shape : Shape) (gate : ℕ) (ta
           subst (λ fs. IsFolding shape tally.changes fs vector (writes_for (raw shape.width) vector runs) (now states)) (sym same)
           (subst (λ t. IsFolding shape t.changes (all_blanked frames) vector (writes_for (raw shape.width) vector runs) (now states)) (sym listed.tally_is)
           (IsFolding-begun shape frames vector homes.homes.items cover runs (now states) some (subst (λ fs. Holds shape fs vector (now states).seen) same has) says_homes file_cover here))
+
+      module _ {R : Type 0} (form : Encoding R) (records : List R) (made : List ℕ) (writes : List Write) (some : 0 < shape.width) (made_is : map (write_of made) writes ≡ writes_for form records runs) where
+        pub planned_pen : ((r : R) → length (form.bytes_of r) ≡ shape.width) → length records ≡ tally.size → All (Within (length made)) writes → AllByRecursion (IsPlanned gate (length made)) writes
+        planned_pen each size within =
+            let here = subst (λ t. AreHomeRuns shape.width t.size homes.homes.items cover runs) listed.tally_is at in
+            subst (λ g. AllByRecursion (IsPlanned g (length made)) writes) (sym listed.gate_is)
+            (ArePlanned-begun form shape frames homes.homes.items cover runs records made writes some each listed.legal says_homes here (size ∙ ap (λ t. t.size) listed.tally_is) made_is within)
+
+        -- the vector is these records, as their bytes
+        pub folding_pen : keeps → Holds shape (blanked_before shape gate (bytes_of states)) (vector_before shape gate (bytes_of states)) (now states).seen → vector_before shape gate (bytes_of states) ≡ map form.bytes_of records
+            → IsFolding shape tally.changes (blanked_before shape gate (bytes_of states)) (vector_before shape gate (bytes_of states)) (map (write_of made) writes) (now states)
+        folding_pen model has same =
+            let vector : List (List ℕ) = vector_before shape gate (bytes_of states) in
+            subst (λ left. IsFolding shape tally.changes (blanked_before shape gate (bytes_of states)) vector left (now states))
+            (sym (made_is ∙ writes_for-raw form shape.width records runs ∙ ap (λ cells. writes_for (raw shape.width) cells runs) (sym same))) (IsFolding-pen model some has)

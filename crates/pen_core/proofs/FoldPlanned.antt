@@ -1,7 +1,8 @@
 -- The writes that a fold plans: of records as their bytes, and below the gate, whatever its disk.
-use Rattle.std.proofs.Common.{◌≡◌, ℕ, zero, suc, ◌-◌, ◌<◌, List, [], ◌∷◌, ◌++◌, length, map, drop, All, refl, sym, ap, subst, ◌∙◌, arith}
-use Rattle.std.specs.List.{AllByRecursion}
-use Rattle.std.proofs.lemmas.List.{length-drop, length-map, length-take-le}
+use Rattle.std.proofs.Common.{◌≡◌, ℕ, suc, ◌-◌, ◌<◌, List, [], ◌∷◌, length, map, take, drop, All, refl, sym, ap, subst, ◌∙◌, arith}
+use Rattle.std.specs.List.{flat_map, AllByRecursion}
+use Rattle.std.proofs.lemmas.List.{drop-map, take-map, length-drop, length-map, length-take-le}
+use Rattle.std.proofs.lemmas.List.Folds.{flat_map-map}
 use Rattle.std.proofs.lemmas.List.Elements.{All-nil, All-cons, All-head, All-tail}
 use Rattle.record_core.specs.Bytes.{Encoding, IsBytes, WritesBack}
 use Rattle.segment_core.specs.declared.format.Shape.{Shape}
@@ -21,13 +22,10 @@ use Rattle.pen_core.proofs.WritesFor.{Within}
 
 -- records are written as their bytes are
 bytes_at-raw : {R : Type 0} (form : Encoding R) (width : ℕ) (records : List R) (from count : ℕ) → bytes_at form records from count ≡ bytes_at (raw width) (map form.bytes_of records) from count
-bytes_at-raw form width [] zero zero = refl
-bytes_at-raw form width [] zero (suc count) = refl
-bytes_at-raw form width [] (suc from) zero = refl
-bytes_at-raw form width [] (suc from) (suc count) = refl
-bytes_at-raw form width (r ∷ records) zero zero = refl
-bytes_at-raw form width (r ∷ records) zero (suc count) = ap (λ bs. form.bytes_of r ++ bs) (bytes_at-raw form width records zero count)
-bytes_at-raw form width (r ∷ records) (suc from) count = bytes_at-raw form width records from count
+bytes_at-raw form width records from count =
+    sym (ap (λ cells. bytes_at (raw width) cells 0 count) (drop-map form.bytes_of from records)
+    ∙ ap (flat_map (raw width).bytes_of) (take-map form.bytes_of count (drop from records))
+    ∙ flat_map-map (raw width).bytes_of form.bytes_of (take count (drop from records)))
 
 pub writes_for-raw : {R : Type 0} (form : Encoding R) (width : ℕ) (records : List R) (runs : List Home) → writes_for form records runs ≡ writes_for (raw width) (map form.bytes_of records) runs
 writes_for-raw form width records [] = refl

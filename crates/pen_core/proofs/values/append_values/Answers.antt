@@ -1,8 +1,8 @@
-use Rattle.std.proofs.Common.{◌≡◌, ◌≤◌, ◌<◌, ◌+◌, ◌-◌, ◌*◌, ◌^◌, ◌++◌, List, ℕ, length, take, drop, get_or, refl, sym, ap, subst, ◌∙◌, append_assoc, arith}
+use Rattle.std.proofs.Common.{◌≡◌, ◌≤◌, ◌<◌, ◌-◌, ◌++◌, List, ℕ, length, take, drop, refl, sym, ap, ◌∙◌, arith}
 use Rattle.std.proofs.lemmas.Nat.{mul-le}
 use Rattle.std.proofs.lemmas.List.{append-nil, length-take-le, length-drop}
 use Rattle.segment_core.specs.Written.{joined}
-use Rattle.pen_core.specs.Values.{IsPassed, bytes_at}
+use Rattle.pen_core.specs.Values.{bytes_at}
 use Rattle.pen_core.proofs.PieceValues.{joined-all, values_more, passed_more, bytes_at-none}
 use Rattle.pen_core.proofs.values.append_values.Goals as goal
 use Rattle.pen_core.proofs.values.append_values.Goals.{then-at-end+in_ok-append_records, else-at-end}

@@ -1,10 +1,9 @@
-use Rattle.std.proofs.Common.{◌≡◌, ◌≤◌, ◌<◌, ◌+◌, ◌-◌, ◌*◌, ◌^◌, ◌++◌, List, [], ◌∷◌, ℕ, All, length, map, take, drop, get_or, refl, sym, ap, subst, ◌∙◌, arith}
+use Rattle.std.proofs.Common.{◌≡◌, ◌≤◌, ◌<◌, ◌+◌, ◌-◌, ◌^◌, ◌++◌, List, [], ◌∷◌, ℕ, length, drop, get_or, refl, ap, subst, ◌∙◌, arith}
 use Rattle.std.proofs.lemmas.Nat.{mul-le}
 use Rattle.std.proofs.lemmas.List.{take_all, drop_more, length-append}
 use Rattle.std.proofs.lemmas.List.Elements.{All-nil}
 use Rattle.segment_core.specs.declared.found.Home.{Home}
 use Rattle.segment_core.specs.Written.{joined}
-use Rattle.pen_core.specs.InHand.{write_of}
 use Rattle.pen_core.specs.HomeRuns.{AreAscending}
 use Rattle.pen_core.specs.Values.{bytes_at, writes_for}
 use Rattle.pen_core.proofs.WritesFor.{Within, writes_more, within_more, ascending-inside}

@@ -1,4 +1,4 @@
-use Rattle.std.proofs.Common.{◌≡◌, ℕ, ◌+◌, ◌≤◌, length, map, take, drop, All}
+use Rattle.std.proofs.Common.{◌≡◌, ℕ, ◌≤◌, length, map, take, drop, All}
 use Rattle.std.specs.Prelude.{vec_capacity}
 use Rattle.segment_core.specs.Written.{joined}
 use Rattle.pen_core.specs.InHand.{write_of}
