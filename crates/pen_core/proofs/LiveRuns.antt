@@ -37,7 +37,7 @@ told_test : (b : Bool) (x : ℕ) → is_some (cond b (Some x) None) ≡ b
 told_test true x = refl
 told_test false x = refl
 
-pub told_among : (width p start count i : ℕ) → is_some (place_among width p start count i) ≡ has i (start, count)
+told_among : (width p start count i : ℕ) → is_some (place_among width p start count i) ≡ has i (start, count)
 told_among width p start count i = told_test (nat_le start i && nat_lt i (start + count)) (p + (i - start) * width)
 
 told_in_runs : (width i p : ℕ) (runs : List Run) → is_some (place_in_runs width i p runs) ≡ covers i (map pair_of runs)
