@@ -20,8 +20,8 @@ use Rattle.pen_core.specs.Covered.{covers, IsCover}
 use Rattle.pen_core.specs.Folds.{IsFolding}
 use Rattle.pen_core.specs.Held.{Holds}
 use Rattle.pen_core.specs.HomeRuns.{AreHomeRuns}
-use Rattle.pen_core.specs.InHand.{write_of, IsPlanned}
-use Rattle.pen_core.specs.Listed.{frame_in_hand, live_runs, runs_ahead, IsListed}
+use Rattle.pen_core.specs.InHand.{frame_in_hand, write_of, IsPlanned}
+use Rattle.pen_core.specs.Listed.{live_runs, runs_ahead, IsListed}
 use Rattle.pen_core.specs.Values.{writes_for}
 use Rattle.pen_core.specs.Vectors.{blanked_before}
 use Rattle.pen_core.proofs.FoldBegun.{SaysHomes, IsFolding-begun}

@@ -22,7 +22,8 @@ use Rattle.pen_core.specs.Held.{gate_of}
 use Rattle.disk_core.specs.State.{State}
 use Rattle.pen_core.specs.HomeRuns.{AreHomesTo}
 use Rattle.pen_core.specs.Inside.{IsMaybeJob}
-use Rattle.pen_core.specs.Listed.{homes_ahead, frame_in_hand, Lists, IsListed}
+use Rattle.pen_core.specs.InHand.{frame_in_hand}
+use Rattle.pen_core.specs.Listed.{homes_ahead, Lists, IsListed}
 use Rattle.pen_core.specs.Vectors.{frame_at}
 use Rattle.pen_core.specs.declared.fold.Fold as folds
 use Rattle.pen_core.specs.declared.step.Step.{Step}
