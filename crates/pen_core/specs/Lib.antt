@@ -14,3 +14,4 @@ pub mod Covered
 pub mod HomeRuns
 pub mod Opening
 pub mod Values
+pub mod Plan
