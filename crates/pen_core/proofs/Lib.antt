@@ -38,3 +38,4 @@ pub mod RunPositions
 pub mod FoldBegun
 pub mod FoldPlanned
 pub mod FoldListed
+pub mod Taken
