@@ -1,11 +1,12 @@
 -- A fold is begun, on a pen's fields.
 use Rattle.std.proofs.Common.{◌≡◌, ℕ, ◌+◌, ◌-◌, ◌^◌, ◌≤◌, ◌<◌, Bool, false, List, [], ◌∷◌, ◌++◌, length, map, take, drop, All, Option, Some, None, refl, sym, ap, subst, ◌∙◌, arith}
 use Rattle.std.specs.List.{flat_map}
-use Rattle.std.proofs.lemmas.List.{length-map, take-append-le, append-nil}
+use Rattle.std.proofs.lemmas.List.{length-append, length-map, take-append-le, append-nil}
 use Rattle.disk_core.specs.State.{State, now}
 use Rattle.disk_core.specs.Calls.{bytes_of}
 use Rattle.record_core.specs.Bytes.{Encoding}
 use Rattle.segment_core.specs.declared.format.Shape.{Shape}
+use Rattle.segment_core.specs.declared.found.Home as Home_
 use Rattle.segment_core.specs.declared.found.Homes.{Homes}
 use Rattle.segment_core.specs.declared.tally.Tally.{Tally}
 use Rattle.segment_core.specs.Frame.{Frame, frame_text}
@@ -26,11 +27,12 @@ use Rattle.pen_core.specs.Plan.{IsPlan}
 use Rattle.pen_core.specs.Values.{write_for}
 use Rattle.pen_core.specs.Folds.{IsFolding}
 use Rattle.pen_core.specs.InHand.{write_of, left_of, gate_then, frame_in_hand, IsInHand, IsAtStage, HomesAt, IsFold}
-use Rattle.pen_core.specs.Inside.{IsBodyOf, IsAtStep, Stands, Knows, IsPen}
+use Rattle.pen_core.specs.Inside.{job_of, IsMaybeJob, IsBodyOf, IsAtStep, Stands, Knows, IsPen}
 use Rattle.pen_core.specs.Listed.{IsListed}
-use Rattle.pen_core.specs.Pen.{open_count}
+use Rattle.pen_core.specs.Pen.{open_count, job_len}
 use Rattle.pen_core.proofs.Begun.{nothing_folded}
 use Rattle.pen_core.proofs.FoldListed.{some_runs, planned_pen, folding_pen}
+use Rattle.pen_core.proofs.HomeTick.{left_long}
 use Rattle.pen_core.proofs.Listed.{live_counted}
 
 -- ---- where nothing is being folded, any count is known of
@@ -92,6 +94,25 @@ listed_idle keeps states shape gate tally bytes o homes live fold fold' listed n
   runs_are = λ held. absurd (subst IsInHand none' held);
   same = listed.same;
 }
+
+-- where the gate will stand, as it is seen
+pub gate_seen : (shape : Shape) (gate : ℕ) (tally next : Tally) (bytes : List ℕ) (o : Option Step) → IsMaybeJob shape gate tally next bytes o → gate_then gate bytes o ≡ gate + job_len shape (job_of shape bytes o)
+gate_seen shape gate tally next bytes None job = omega arith
+gate_seen shape gate tally next bytes (Some step) job = let all = ap length job.spelled ∙ length-append (frame_text shape.format (frame_at shape bytes)) (0 ∷ []) in omega arith
+
+-- the same plan, in a fold of other counts
+pub plan_for : {R : Type 0} (form : Encoding R) (records : List R) (width size : ℕ) (live : List (ℕ × ℕ)) (homes : List Home_.Home) (fold fold' : Fold) → fold'.bytes ≡ fold.bytes → fold'.writes ≡ fold.writes → IsPlan form records width size live homes fold → IsPlan form records width size live homes fold'
+plan_for form records width size live homes fold fold' bytes_same writes_same plan = record {
+  cover = plan.cover;
+  runs = plan.runs;
+  covered = plan.covered;
+  at_home = plan.at_home;
+  writes_are = ap (λ bs. map (write_of bs.items) fold'.writes.items) bytes_same ∙ ap (λ ws. map (write_of fold.bytes.items) ws.items) writes_same ∙ plan.writes_are;
+  inside = subst (λ bs. All (λ write. (write.from ≤ write.to) × (write.to ≤ length bs.items)) fold'.writes.items) (sym bytes_same) (subst (λ ws. All (λ write. (write.from ≤ write.to) × (write.to ≤ length fold.bytes.items)) ws.items) (sym writes_same) plan.inside);
+}
+
+pub length_left : (fold : Fold) → fold.done ≡ 0 → length (left_of fold) ≡ length fold.writes.items
+length_left fold first = let long = left_long fold in omega arith
 
 -- ---- it is begun
 

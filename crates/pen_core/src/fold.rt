@@ -22,7 +22,7 @@ use std::alloc::{AllocError, Global};
 use std::mem::swap;
 
 /// The bytes of a fold's frame.
-const FRAME_LEN: u64 = 14;
+pub(crate) const FRAME_LEN: u64 = 14;
 
 /// A write of home bytes.
 #[derive(Clone, Copy, Debug, PartialEq, Eq)]
