@@ -16,12 +16,12 @@ same_test : (a b : Bool) → (a ≡ true → b ≡ true) → (b ≡ true → a �
 same_test true b to from = sym (to refl)
 same_test false b to from = sym (false_from_ne_true b (λ e. false≢true (from e)))
 
-has-true : (i start count : ℕ) → has i (start, count) ≡ true → (start ≤ i) × (i < start + count)
+pub has-true : (i start count : ℕ) → has i (start, count) ≡ true → (start ≤ i) × (i < start + count)
 has-true i start count e =
     let both = and_parts (nat_le start i) (nat_lt i (start + count)) e in
     (leb-true start i both.0, ltb-true i (start + count) both.1)
 
-true-has : (i start count : ℕ) → start ≤ i → i < start + count → has i (start, count) ≡ true
+pub true-has : (i start count : ℕ) → start ≤ i → i < start + count → has i (start, count) ≡ true
 true-has i start count from to = and_from (nat_le start i) (nat_lt i (start + count)) (le-leb start i from) (lt-ltb i (start + count) to)
 
 -- a run, and one that begins in it or right behind it and ends further, are one run

@@ -350,7 +350,7 @@ calls_held Sync calls = refl
 calls_held Ready calls = refl
 calls_held Filed calls = refl
 
-unfolded_at : (stage : FoldStage) → is_unfolded stage ≡ true → stage ≡ stages.None
+pub unfolded_at : (stage : FoldStage) → is_unfolded stage ≡ true → stage ≡ stages.None
 unfolded_at stages.None none = refl
 unfolded_at (Home n) none = absurd cc
 unfolded_at Sync none = absurd cc
@@ -421,7 +421,7 @@ listed_called keeps states shape gate tally bytes o homes live fold calls listed
     held_at Ready calls = tt
     held_at Filed calls = tt
 
-left_long : (fold : Fold) → length (left_of fold) ≡ length fold.writes.items - fold.done
+pub left_long : (fold : Fold) → length (left_of fold) ≡ length fold.writes.items - fold.done
 left_long fold = length-map (drop fold.done fold.writes.items) (write_of fold.bytes.items) ∙ length-drop fold.done fold.writes.items
 
 left_at : (shape : Shape) (gate : ℕ) (tally : Tally) (bytes : List ℕ) (o : Option Step) (fold : Fold) (stage : FoldStage) → IsAtStage shape gate tally bytes o fold stage → IfSome (in_stage stage (record { count = fold.count; left = left_of fold; stage = stage })) (λ f. length f.left ≡ writes_left f.stage)

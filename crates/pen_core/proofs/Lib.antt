@@ -26,6 +26,16 @@ pub mod CreationCalls
 pub mod NewPen
 pub mod RunsGiven
 pub mod Covers
+pub mod HomeRunSteps
 pub mod Pieces
 pub mod Opening
+pub mod PieceValues
 pub mod WorkedOpening
+pub mod WritesFor
+pub mod LiveRuns
+pub mod HomesTo
+pub mod RunPositions
+pub mod FoldBegun
+pub mod FoldPlanned
+pub mod FoldListed
+pub mod Taken

@@ -103,7 +103,7 @@ after_unfolded t (Shrink n) no_fold = refl
 after_unfolded t (Fold count) no_fold = absurd (no_fold count refl)
 
 -- as many changes are live as aren't folded
-live_counted : (shape : Shape) (frames : List Frame) → length (live_of shape frames) ≡ (tally_of frames).changes - (tally_of frames).folded
+pub live_counted : (shape : Shape) (frames : List Frame) → length (live_of shape frames) ≡ (tally_of frames).changes - (tally_of frames).folded
 live_counted shape frames = length-drop (tally_of frames).folded (changes_of shape frames) ∙ ap (λ n. n - (tally_of frames).folded) (sym (changes_counted shape frames))
 
 -- the first of them stay so behind a frame that is no fold

@@ -11,4 +11,7 @@ pub mod InHand
 pub mod Listed
 pub mod Births
 pub mod Covered
+pub mod HomeRuns
 pub mod Opening
+pub mod Values
+pub mod Plan

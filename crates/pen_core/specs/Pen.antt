@@ -1,5 +1,5 @@
 -- What the calls of a pen promise.
-use Rattle.std.specs.Prelude.{◌≡◌, ◌⊎◌, ℕ, ◌+◌, ◌<◌, List, length, Option, Some, None, Bool, true, false, IfSome, if◌then◌else◌}
+use Rattle.std.specs.Prelude.{◌≡◌, ◌⊎◌, ℕ, ◌+◌, ◌<◌, ◌≤◌, ◌^◌, List, length, Option, Some, None, Bool, true, false, IfSome, if◌then◌else◌}
 use Rattle.std.specs.Option.{is_some}
 use Rattle.disk_core.specs.State.{State, now, IsImage}
 use Rattle.disk_core.specs.Choice.{is_pending}
@@ -22,7 +22,7 @@ use Rattle.pen_core.specs.Held.{Opens, IsBeingFolded, gate_of}
 use Rattle.pen_core.specs.Known.{IsBeforeOrAfter}
 use Rattle.pen_core.specs.Vectors.{frames_with}
 use Rattle.segment_core.specs.Raw.{after_frame}
-use Rattle.pen_core.specs.PenOf.{PenOf, JobOf, FoldOf}
+use Rattle.pen_core.specs.PenOf.{PenOf, JobOf, FoldOf, HomeWrite}
 use Rattle.pen_core.specs.InHand.{has_call, called, home_fault}
 
 -- ---- what a crash may leave
@@ -210,6 +210,48 @@ abbrev pub home_calls_due : Bool → Option FoldOf → ℕ
 home_calls_due true fold = 0
 home_calls_due false None = 0
 home_calls_due false (Some fold) = if has_call fold.stage then 1 else 0
+
+-- ---- the begin of a fold
+
+-- the bytes that a job in hand will add
+abbrev pub job_len : Shape → Option JobOf → ℕ
+job_len shape None = 0
+job_len shape (Some job) = length (frame_text shape.format job.frame)
+
+-- where the gate will stand behind the job in hand and the fold's frame
+abbrev pub gate_behind_fold : {D : Type 0} → PenOf D → ℕ
+gate_behind_fold pen = pen.gate + job_len pen.shape pen.job + 14
+
+-- A fold of all changes in the file is in hand, and nothing else has changed.
+pub record BeginsFold {D : Type 0} (old new : PenOf D) : Type 0 where
+  pub whole : old.broken ≡ false
+  pub none : old.fold ≡ None
+  pub live : old.tally.folded < old.tally.changes
+  pub fits : gate_behind_fold old < 2 ^ 48
+  pub left : List HomeWrite
+  pub fold_is : new.fold ≡ Some (record { count = old.tally.changes; left = left; stage = folds.Home (length left) })
+  pub disk_same : new.disk ≡ old.disk
+  pub file_same : FileSame old new
+  pub job_same : new.job ≡ old.job
+  pub broken_same : new.broken ≡ old.broken
+  pub shape_same : new.shape ≡ old.shape
+  pub tally_same : new.tally ≡ old.tally
+  pub gate_same : new.gate ≡ old.gate
+  pub room_same : new.room ≡ old.room
+  pub places_same : new.places ≡ old.places
+
+-- whether one was begun: not where no change is live
+abbrev pub IsFoldAnswer : {D : Type 0} → PenOf D → PenOf D → Bool → Type 0
+IsFoldAnswer old new true = BeginsFold old new
+IsFoldAnswer old new false = (old.broken ≡ false) × (old.fold ≡ None) × (old.tally.changes ≤ old.tally.folded) × (new ≡ old)
+
+-- why none was
+abbrev pub IsFoldRefusal : {D : Type 0} → PenOf D → PenFault → Type 0
+IsFoldRefusal old fault =
+    ((fault ≡ faults.Broken) × (old.broken ≡ true))
+    ⊎ (((fault ≡ faults.Busy) × (old.broken ≡ false) × (is_some old.fold ≡ true))
+    ⊎ (((fault ≡ faults.FileFull) × (old.broken ≡ false) × (old.fold ≡ None) × (old.tally.folded < old.tally.changes) × (2 ^ 48 ≤ gate_behind_fold old))
+    ⊎ ((fault ≡ faults.Memory) × (old.broken ≡ false) × (old.fold ≡ None) × (old.tally.folded < old.tally.changes) × (gate_behind_fold old < 2 ^ 48))))
 
 -- ---- begins
 

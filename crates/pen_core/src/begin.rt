@@ -15,7 +15,7 @@ use disk_core::Disk;
 use segment_core::{SHRINK_PAYLOAD_LEN, Tally};
 
 /// Gates stand below this place.
-const GATE_LIMIT: u64 = 1 << 48;
+pub(crate) const GATE_LIMIT: u64 = 1 << 48;
 
 impl<D: Disk> Pen<D> {
     /// Whether a log job may be begun.

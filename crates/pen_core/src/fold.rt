@@ -1,19 +1,28 @@
 //! A fold in hand: the home bytes that it writes anew, and the frame that says so then.
 
-ghost use Rattle.std.specs.Prelude.{◌≡◌, ◌≤◌, ◌<◌, ◌+◌, ◌^◌, ℕ, length, OnOk, OnErr};
+ghost use Rattle.std.specs.Prelude.{◌≡◌, ◌≤◌, ◌<◌, ◌+◌, ◌^◌, ℕ, List, All, length, OnOk, OnErr};
+ghost use Rattle.segment_core.specs.Written.{joined};
+ghost use Rattle.pen_core.specs.Covered.{IsCover};
+ghost use Rattle.pen_core.specs.HomeRuns.{AreHomesTo};
+ghost use Rattle.pen_core.specs.Plan.{IsPlan};
 ghost use Rattle.disk_core.specs.Calls.{bytes_of};
 ghost use Rattle.disk_core.specs.Moments.{clock};
 ghost use Rattle.disk_core.specs.Fault.{IsCounted};
 ghost use Rattle.pen_core.specs.InHand.{fold_of, left_of, HomeCalls, FailsHomeCall, home_fault, advanced, CanCall, has_call, is_unfolded, stage_ended, live_after};
 ghost use Rattle.pen_core.specs.Refusals.{fold_len};
 
+use crate::covered::cover;
+use crate::home_runs::home_runs;
 use crate::stage::FoldStage;
+use crate::values::home_writes;
 use disk_core::{Disk, DiskFault};
-use std::alloc::Global;
+use record_core::Record;
+use segment_core::{GrowthList, Home};
+use std::alloc::{AllocError, Global};
 use std::mem::swap;
 
 /// The bytes of a fold's frame.
-const FRAME_LEN: u64 = 14;
+pub(crate) const FRAME_LEN: u64 = 14;
 
 /// A write of home bytes.
 #[derive(Clone, Copy, Debug, PartialEq, Eq)]
@@ -82,6 +91,35 @@ impl Fold {
         ensures { result ≡ is_unfolded self.now.stage }
     {
         matches!(self.stage, FoldStage::None)
+    }
+
+    /// Plans the home writes of the positions that these live runs cover, with their values now. The homes are those of
+    /// the vector's positions, and maybe of positions behind them. The fold begins no sooner than its stage is set.
+    pub(crate) fn plan<R: Record, G: GrowthList<R>>(
+        &mut self,
+        live: &[(u64, u64)],
+        homes: &[Home],
+        size: u64,
+        width: u64,
+        pieces: &G,
+    ) -> Result<(), AllocError>
+        requires some { All (λ run. 0 < run.1) live.now }
+        requires small { All (λ run. run.0 + run.1 ≤ 2 ^ 32) live.now }
+        requires inside { (cover : List (ℕ × ℕ)) → IsCover live.now cover → All (λ run. run.0 + run.1 ≤ size) cover }
+        requires homes { AreHomesTo width size homes.now }
+        requires all { length (joined (G.growths pieces.now)) ≡ size }
+        requires few { size ≤ 2 ^ 32 }
+        requires width { R.form.width < 2 ^ 16 }
+        ensures planned { OnOk result (IsPlan R.form (joined (G.growths pieces.now)) width size live.now homes.now self.new) }
+        ensures same { (self.new.stage ≡ self.old.stage) × (self.new.count ≡ self.old.count) × (self.new.runs ≡ self.old.runs) × (self.new.frame ≡ self.old.frame) }
+        ensures from_first { OnOk result (self.new.done ≡ 0) }
+    {
+        let alloc = *self.bytes.allocator();
+        let covered = cover(alloc, live)?;
+        let runs = home_runs(alloc, &covered, homes, size, width)?;
+        home_writes::<R, G>(pieces, &runs, &mut self.writes, &mut self.bytes)?;
+        self.done = 0;
+        Ok(())
     }
 
     /// Makes the next device call of the homes: a write, or their sync.

@@ -4,7 +4,7 @@ ghost use Rattle.std.specs.Prelude.{◌≡◌, ◌≤◌, ◌<◌, ◌+◌, ◌^
 ghost use Rattle.record_core.specs.Cells.{AreReadAgain};
 ghost use Rattle.segment_core.specs.declared.format.Format.{Format};
 ghost use Rattle.segment_core.specs.Shape.{shape_of};
-ghost use Rattle.segment_core.specs.Frame.{Shrink, records_of_runs, frame_text};
+ghost use Rattle.segment_core.specs.Frame.{Shrink, Fold, records_of_runs, frame_text};
 ghost use Rattle.segment_core.specs.Written.{joined};
 ghost use Rattle.segment_core.specs.Runs.{runs_given, change_len, change_frame};
 ghost use Rattle.pen_core.specs.Refusals.{room_for};
@@ -18,6 +18,9 @@ pub(crate) const HEAD_LEN: usize = 6;
 
 /// The gate as it is written closed.
 const CLOSED: u8 = 0;
+
+/// What a fold's frame has before its count: an open gate, the kind, and the length of the count.
+const FOLD_HEAD: [u8; 6] = [1, 4, 8, 0, 0, 0];
 
 /// Takes the memory of a frame with this payload, and of the gate behind it.
 pub(crate) fn take_room(payload: usize, bytes: &mut Vec<u8>) -> Result<(), AllocError>
@@ -57,6 +60,17 @@ pub(crate) fn put_shrink(n: u64, bytes: &mut Vec<u8>) -> Result<(), AllocError>
 {
     take_room(SHRINK_PAYLOAD_LEN, bytes)?;
     append_shrink(n, bytes)?;
+    bytes.push(CLOSED)?;
+    Ok(())
+}
+
+/// The frame of a fold of so many changes, and the next gate. It is the same in each format.
+pub(crate) fn put_fold(count: u64, bytes: &mut Vec<u8>) -> Result<(), AllocError>
+    ensures text { OnOk result ((format : Format) → bytes.new.items ≡ frame_text format (Fold count) ++ 0 ∷ []) }
+{
+    bytes.clear();
+    bytes.extend_from_slice(&FOLD_HEAD)?;
+    bytes.extend_from_slice(&count.to_le_bytes())?;
     bytes.push(CLOSED)?;
     Ok(())
 }

@@ -1,18 +1,94 @@
-//! The ticks of a fold: its home writes, their sync, and its frame as the log job.
+//! A fold's begin, and its ticks: its home writes, their sync, and its frame as the log job.
 
-ghost use Rattle.std.specs.Prelude.{◌≡◌, ◌+◌, OnOk, OnErr, IfOk, IfErr, MatchResult, false};
+ghost use Rattle.std.specs.Prelude.{◌≡◌, ◌+◌, ◌-◌, ◌≤◌, ◌<◌, ◌^◌, length, map, OnOk, OnErr, IfOk, IfErr, MatchResult, false};
 ghost use Rattle.disk_core.specs.Moments.{LeavesOnly, clock};
-ghost use Rattle.pen_core.specs.Pen.{MayOpen, IsKept, FileSame, IsHomeTicked, IsHomeFault, home_calls_due, failed_calls};
+ghost use Rattle.segment_core.specs.Written.{joined};
+ghost use Rattle.pen_core.specs.InHand.{gate_then};
+ghost use Rattle.pen_core.specs.Pen.{MayOpen, IsKept, FileSame, IsHomeTicked, IsHomeFault, home_calls_due, failed_calls, IsUnchanged, IsFoldAnswer, IsFoldRefusal};
 
+use crate::begin::GATE_LIMIT;
 use crate::fault::PenFault;
+use crate::fold::FRAME_LEN;
+use crate::frame_bytes::put_fold;
 use crate::pen::Pen;
 use crate::stage::{FoldStage, HomeTicked};
 use crate::step::Step;
 use disk_core::Disk;
-use segment_core::Tally;
+use record_core::Record;
+use segment_core::{GrowthList, Tally};
 use std::mem::swap;
 
+/// Where the gate will stand behind the job in hand.
+fn gate_behind(gate: u64, step: Option<Step>, bytes: &[u8]) -> u64
+    requires { gate_then gate bytes.now step < 2 ^ 64 }
+    ensures { result ≡ gate_then gate bytes.now step }
+{
+    match step {
+        Some(_) => gate + (bytes.len() as u64).saturating_sub(1),
+        None => gate,
+    }
+}
+
 impl<D: Disk> Pen<D> {
+    /// Begins to fold all changes in the file; one in hand isn't among them. The pieces are the file's vector now, in
+    /// order; a job in hand doesn't count. Answers whether a fold was begun: not where no change is live.
+    ///
+    /// It takes all memory that the fold needs. Refused, in this order: `Broken`; `Busy`, while a fold is in hand;
+    /// then, where a change is live, `FileFull`; `Memory`.
+    pub fn begin_fold_from<R: Record, G: GrowthList<R>>(
+        &mut self,
+        pieces: &G,
+    ) -> Result<bool, PenFault>
+        requires width { R.form.width ≡ self.old.shape.width }
+        requires all { length (joined (G.growths pieces.now)) ≡ self.old.tally.size }
+        requires values { D.keeps self.old.disk → self.old.vector ≡ map R.form.bytes_of (joined (G.growths pieces.now)) }
+        ensures begun { IfOk result (λ begun. IsFoldAnswer self.old self.new begun) }
+        ensures refused { IfErr result (λ fault. IsFoldRefusal self.old fault) }
+        ensures unchanged { OnErr result (IsUnchanged self.old self.new) }
+    {
+        if self.broken {
+            return Err(PenFault::Broken);
+        }
+        if !self.fold.is_none() {
+            return Err(PenFault::Busy);
+        }
+        if self.tally.changes <= self.tally.folded {
+            return Ok(false);
+        }
+        let gate = gate_behind(self.gate, self.step, &self.bytes);
+        if gate >= GATE_LIMIT - FRAME_LEN {
+            return Err(PenFault::FileFull);
+        }
+        let live = &self.homes.live[..self.live];
+        let width = self.shape.width as u64;
+        if self
+            .fold
+            .plan::<R, G>(live, &self.homes.homes, self.tally.size, width, pieces)
+            .is_err()
+        {
+            return Err(PenFault::Memory);
+        }
+        if put_fold(self.tally.changes, &mut self.fold.frame).is_err() {
+            return Err(PenFault::Memory);
+        }
+        self.fold.count = self.tally.changes;
+        self.fold.runs = self.live;
+        self.fold.stage = FoldStage::Home(self.fold.writes.len() as u64);
+        Ok(true)
+    }
+
+    /// Begins to fold all changes in the file. `begin_fold_from` says more.
+    pub fn begin_fold<R: Record>(&mut self, pieces: &[&[R]]) -> Result<bool, PenFault>
+        requires width { R.form.width ≡ self.old.shape.width }
+        requires all { length (joined (map (λ piece. piece.now) pieces.now)) ≡ self.old.tally.size }
+        requires values { D.keeps self.old.disk → self.old.vector ≡ map R.form.bytes_of (joined (map (λ piece. piece.now) pieces.now)) }
+        ensures begun { IfOk result (λ begun. IsFoldAnswer self.old self.new begun) }
+        ensures refused { IfErr result (λ fault. IsFoldRefusal self.old fault) }
+        ensures unchanged { OnErr result (IsUnchanged self.old self.new) }
+    {
+        self.begin_fold_from::<R, &[&[R]]>(&pieces)
+    }
+
     /// Makes the next device call of the fold in hand: a home write, or the sync behind the last one; then, while no
     /// log job is in hand, the fold's frame becomes that. The fold ends once it is done. It takes no memory.
     ///

@@ -11,12 +11,14 @@ mod fold;
 mod frame_bytes;
 mod group;
 mod home;
+mod home_runs;
 #[cfg(test)]
 mod noting;
 mod open;
 mod pen;
 mod stage;
 mod step;
+mod values;
 
 pub use fault::{OpenFault, PenFault};
 pub use pen::Pen;
