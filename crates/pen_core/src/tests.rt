@@ -5,6 +5,7 @@ ghost use Rattle.std.specs.Prelude.{◌≡◌};
 mod begins;
 mod commits;
 mod creation;
+mod folds;
 
 use super::*;
 use disk_core::{Choice, Disk, ImageLength, PendingBytes, RamDisk};
