@@ -1,5 +1,5 @@
 -- A fold is begun, on a pen's fields.
-use Rattle.std.proofs.Common.{◌≡◌, ℕ, ◌+◌, ◌-◌, ◌^◌, ◌≤◌, ◌<◌, Bool, false, List, [], ◌∷◌, ◌++◌, length, map, take, drop, All, Option, Some, None, refl, sym, ap, subst, ◌∙◌, arith}
+use Rattle.std.proofs.Common.{◌≡◌, ℕ, ◌+◌, ◌-◌, ◌^◌, ◌≤◌, ◌<◌, Bool, List, [], ◌∷◌, ◌++◌, length, map, take, drop, All, Option, Some, None, refl, sym, ap, subst, ◌∙◌, arith}
 use Rattle.std.specs.List.{flat_map}
 use Rattle.std.proofs.lemmas.List.{length-append, length-map, take-append-le, append-nil}
 use Rattle.disk_core.specs.State.{State, now}
@@ -20,14 +20,13 @@ use Rattle.pen_core.specs.declared.step.Step.{Step}
 use Rattle.pen_core.specs.declared.step.Step.TheVariants.{Body, BodySync, Gate, GateSync}
 use Rattle.pen_core.specs.declared.stage.FoldStage.TheVariants.{Home, Filed}
 use Rattle.pen_core.specs.declared.stage.FoldStage.TheVariants as stages
-use Rattle.pen_core.specs.Held.{gate_of}
 use Rattle.pen_core.specs.Known.{PendingIsFolded, IsFileOf, IsWritten}
 use Rattle.pen_core.specs.Vectors.{frame_at, blanked_before, frames_with}
 use Rattle.pen_core.specs.Plan.{IsPlan}
 use Rattle.pen_core.specs.Values.{write_for}
 use Rattle.pen_core.specs.Folds.{IsFolding}
-use Rattle.pen_core.specs.InHand.{write_of, left_of, gate_then, frame_in_hand, IsInHand, IsAtStage, HomesAt, IsFold}
-use Rattle.pen_core.specs.Inside.{job_of, IsMaybeJob, IsBodyOf, IsAtStep, Stands, Knows, IsPen}
+use Rattle.pen_core.specs.InHand.{write_of, left_of, gate_then, IsInHand, IsAtStage, HomesAt, IsFold}
+use Rattle.pen_core.specs.Inside.{job_of, IsMaybeJob, IsAtStep, Stands, IsPen}
 use Rattle.pen_core.specs.Listed.{IsListed}
 use Rattle.pen_core.specs.Pen.{open_count, job_len}
 use Rattle.pen_core.proofs.Begun.{nothing_folded}
