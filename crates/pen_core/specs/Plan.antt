@@ -8,7 +8,8 @@ use Rattle.pen_core.specs.HomeRuns.{AreHomeRuns}
 use Rattle.pen_core.specs.InHand.{write_of}
 use Rattle.pen_core.specs.Values.{writes_for}
 
--- the records at the positions that the runs cover, one write for each greatest run of adjacent home bytes
+-- the records at the positions that the live runs cover, just these, by writes into adjacent home bytes in ascending
+-- order
 pub record IsPlan {R : Type 0} (form : Encoding R) (records : List R) (width size : ℕ) (live : List (ℕ × ℕ)) (homes : List Home) (fold : Fold) : Type 0 where
   pub cover : List (ℕ × ℕ)
   pub runs : List Home
