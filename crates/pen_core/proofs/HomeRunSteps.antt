@@ -162,7 +162,7 @@ home-found size position homes n d turn lt bound before behind =
 moved : (p a b width : ℕ) → p + a * width + b * width ≡ p + (a + b) * width
 moved p a b width = omega (arith, add-mul a b width)
 
-pub IsHomeRun-part : (width size : ℕ) (homes : List Home) (k : ℕ) (d : Home) → AreInTurn 0 homes size → k < length homes → (run : Home) → IsPartOf width (get_or homes k d) run → IsHomeRun width homes run
+pub IsHomeRun-part : (width size : ℕ) (homes : List Home) (k : ℕ) (d : Home) → AreInTurn 0 homes size → k < length homes → (run : Home) → IsPartOf width (get_or homes k d) run → IsHomeRun width (home_among width homes) run
 IsHomeRun-part width size homes k d turn lt run part =
     let home = get_or homes k d in
     record {

@@ -25,14 +25,14 @@ use Rattle.pen_core.specs.Known.{PendingIsFolded, IsFileOf, IsWritten}
 use Rattle.pen_core.specs.Vectors.{frame_at, blanked_before, frames_with}
 use Rattle.pen_core.specs.Plan.{IsPlan}
 use Rattle.pen_core.specs.Values.{write_for}
-use Rattle.pen_core.specs.Folds.{IsFolding}
+use Rattle.pen_core.specs.Folds.{IsFolding, IsWholeFold}
 use Rattle.pen_core.specs.InHand.{write_of, left_of, in_stage, fold_of, gate_then, IsInHand, IsAtStage, HomesAt, IsFold}
 use Rattle.pen_core.specs.Inside.{job_of, IsMaybeJob, IsAtStep, Stands, IsPen}
 use Rattle.pen_core.specs.Listed.{IsListed}
 use Rattle.pen_core.specs.PenOf.{FoldOf}
 use Rattle.pen_core.specs.Pen.{open_count, job_len}
 use Rattle.pen_core.proofs.Begun.{nothing_folded}
-use Rattle.pen_core.proofs.FoldListed.{some_runs, planned_pen, folding_pen}
+use Rattle.pen_core.proofs.FoldListed.{some_runs, planned_pen, folding_pen, whole_pen}
 use Rattle.pen_core.proofs.HomeTick.{left_long}
 use Rattle.pen_core.proofs.Listed.{live_counted}
 
@@ -184,3 +184,9 @@ module _ {R : Type 0} (form : Encoding R) (records : List R) (keeps : Type 0) (s
 
   pub taken : IsPen (open_count fold'.stage fold'.count) keeps states shape gate tally next bytes o broken × IsListed keeps states shape gate tally bytes o homes live fold' × IsFold keeps states shape gate tally bytes o broken fold'
   taken = (pen_taken, listed_taken, fold_taken)
+
+  -- where the disk keeps the model
+  pub whole_taken : keeps → IsWholeFold shape (blanked_before shape gate (bytes_of states)) (vector_before shape gate (bytes_of states)) (left_of fold')
+  whole_taken model =
+      subst (λ d. IsWholeFold shape (blanked_before shape gate (bytes_of states)) (vector_before shape gate (bytes_of states)) (map (write_of fold'.bytes.items) (drop d fold'.writes.items))) (sym first)
+      (whole_pen keeps states shape gate tally bytes o homes live listed plan.cover plan.covered plan.runs plan.at_home form records fold'.bytes.items fold'.writes.items (omega (arith, pen.wide.0)) plan.writes_are model (closed.knows model).file.holds (values model))

@@ -1,5 +1,5 @@
 -- Positions in runs whose home bytes are adjacent.
-use Rattle.std.specs.Prelude.{◌≡◌, ℕ, ◌+◌, ◌-◌, ◌*◌, ◌≤◌, ◌<◌, ◌^◌, List, [], ◌∷◌, ◌++◌, Some, All}
+use Rattle.std.specs.Prelude.{◌≡◌, ℕ, ◌+◌, ◌-◌, ◌*◌, ◌≤◌, ◌<◌, ◌^◌, List, [], ◌∷◌, ◌++◌, Option, Some, All}
 use Rattle.std.specs.List.{flat_map, range_with_len}
 use Rattle.segment_core.specs.declared.found.Home.{Home}
 use Rattle.segment_core.specs.Found.{home_among, AreInTurn}
@@ -16,6 +16,10 @@ positions_in runs = flat_map (λ run. range_with_len run.0 run.1) runs
 abbrev pub positions_at : List Home → List ℕ
 positions_at homes = flat_map (λ home. range_with_len home.position home.count) homes
 
+-- the first position of a run, and how many it has
+abbrev pub span_of : Home → ℕ × ℕ
+span_of run = (run.position, run.count)
+
 -- each position below the size has one home, whose bytes keep within the limit on gates; positions behind them may
 -- have homes too
 pub record AreHomesTo (width size : ℕ) (homes : List Home) : Type 0 where
@@ -26,10 +30,10 @@ pub record AreHomesTo (width size : ℕ) (homes : List Home) : Type 0 where
   pub placed : (i p : ℕ) → home_among width homes i ≡ Some p → p + width ≤ 2 ^ 48
 
 -- positions, few enough for one write, whose home bytes stand one behind the other from its place on
-pub record IsHomeRun (width : ℕ) (homes : List Home) (run : Home) : Type 0 where
+pub record IsHomeRun (width : ℕ) (home : ℕ → Option ℕ) (run : Home) : Type 0 where
   pub some : 0 < run.count
   pub few : run.count ≤ write_limit
-  pub adjacent : (i : ℕ) → run.position ≤ i → i < run.position + run.count → home_among width homes i ≡ Some (run.place + (i - run.position) * width)
+  pub adjacent : (i : ℕ) → run.position ≤ i → i < run.position + run.count → home i ≡ Some (run.place + (i - run.position) * width)
 
 -- positions of one home, few enough for one write
 pub record IsPartOf (width : ℕ) (home run : Home) : Type 0 where
@@ -56,4 +60,4 @@ pub record Appends (Is : Home → Type 0) (positions : List ℕ) (from to : ℕ)
 pub record AreHomeRuns (width size : ℕ) (homes : List Home) (cover : List (ℕ × ℕ)) (runs : List Home) : Type 0 where
   pub positions_are : positions_at runs ≡ positions_in cover
   pub ascend : AreAscending 0 size runs
-  pub each : All (IsHomeRun width homes) runs
+  pub each : All (IsHomeRun width (home_among width homes)) runs

@@ -1,8 +1,9 @@
 //! A fold's begin, and its ticks: its home writes, their sync, and its frame as the log job.
 
-ghost use Rattle.std.specs.Prelude.{◌≡◌, ◌+◌, ◌-◌, ◌≤◌, ◌<◌, ◌^◌, length, map, take, OnOk, OnErr, IfOk, IfErr, MatchResult, false};
+ghost use Rattle.std.specs.Prelude.{◌≡◌, ◌+◌, ◌-◌, ◌≤◌, ◌<◌, ◌^◌, length, map, take, OnOk, OnErr, IfOk, IfErr, IfSome, MatchResult, false};
 ghost use Rattle.disk_core.specs.Moments.{LeavesOnly, clock};
 ghost use Rattle.segment_core.specs.Written.{joined};
+ghost use Rattle.pen_core.specs.Folds.{IsWholeFold};
 ghost use Rattle.pen_core.specs.InHand.{gate_then};
 ghost use Rattle.pen_core.specs.Pen.{MayOpen, IsKept, FileSame, IsHomeTicked, IsHomeFault, home_calls_due, failed_calls, IsUnchanged, IsReadyToFold, IsFoldBarred, IsFoldAnswer, IsFoldRefusal};
 
@@ -65,6 +66,7 @@ impl<D: Disk> Pen<D> {
         requires all { self.old.tally.size ≤ length (joined (G.growths pieces.now)) }
         requires values { D.keeps self.old.disk → self.old.vector ≡ map R.form.bytes_of (take self.old.tally.size (joined (G.growths pieces.now))) }
         ensures begun { IfOk result (λ begun. IsFoldAnswer self.old self.new begun) }
+        ensures plans { D.keeps self.old.disk → OnOk result (IfSome self.new.fold (λ fold. IsWholeFold self.old.shape self.old.frames self.old.vector fold.left)) }
         ensures refused { IfErr result (λ fault. IsFoldRefusal self.old fault) }
         ensures unchanged { OnErr result (IsUnchanged self.old self.new) }
     {
@@ -95,6 +97,7 @@ impl<D: Disk> Pen<D> {
         requires all { self.old.tally.size ≤ length (joined (map (λ piece. piece.now) pieces.now)) }
         requires values { D.keeps self.old.disk → self.old.vector ≡ map R.form.bytes_of (take self.old.tally.size (joined (map (λ piece. piece.now) pieces.now))) }
         ensures begun { IfOk result (λ begun. IsFoldAnswer self.old self.new begun) }
+        ensures plans { D.keeps self.old.disk → OnOk result (IfSome self.new.fold (λ fold. IsWholeFold self.old.shape self.old.frames self.old.vector fold.left)) }
         ensures refused { IfErr result (λ fault. IsFoldRefusal self.old fault) }
         ensures unchanged { OnErr result (IsUnchanged self.old self.new) }
     {

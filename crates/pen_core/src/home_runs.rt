@@ -2,6 +2,7 @@
 
 ghost use Rattle.std.specs.Prelude.{◌≡◌, ◌≤◌, ◌<◌, ◌+◌, ◌-◌, ◌*◌, ◌^◌, All, IfOk, OnOk, length, get_or};
 ghost use Rattle.std.specs.List.{range_with_len};
+ghost use Rattle.segment_core.specs.Found.{home_among};
 ghost use Rattle.pen_core.specs.Covered.{StandApart};
 ghost use Rattle.pen_core.specs.HomeRuns.{AreHomesTo, IsHomeRun, IsPartOf, Appends, AreHomeRuns};
 
@@ -62,7 +63,7 @@ fn append_run(
     requires homes { AreHomesTo width size homes.now }
     requires some { from < to }
     requires inside { to ≤ size }
-    ensures { OnOk result (Appends (IsHomeRun width homes.now) (range_with_len from (to - from)) from to runs.old.items runs.new.items) }
+    ensures { OnOk result (Appends (IsHomeRun width (home_among width homes.now)) (range_with_len from (to - from)) from to runs.old.items runs.new.items) }
 {
     let mut at = from;
     for k in home_at(homes, from, size, width)..homes.len() {

@@ -2,6 +2,7 @@ use Rattle.std.proofs.Common.{◌≡◌, ◌≤◌, ◌<◌, ◌+◌, ◌-◌, �
 use Rattle.std.specs.List.{range_with_len}
 use Rattle.std.proofs.lemmas.List.{get_or_default}
 use Rattle.segment_core.specs.declared.found.Home.{Home}
+use Rattle.segment_core.specs.Found.{home_among}
 use Rattle.pen_core.specs.HomeRuns.{IsPartOf, IsHomeRun, Appends}
 use Rattle.pen_core.proofs.HomeRunSteps.{Appends-none, Appends-join, Appends-weaker, IsHomeRun-part, placed_below, ranges-join, turn-next, turn-last, turn-to}
 use Rattle.pen_core.proofs.home_runs.append_run.Goals as goal
@@ -18,11 +19,11 @@ loop-k-init c =
       to = omega (arith, c.requires.some);
       here = λ d less lt. (found.from d, omega (arith, found.to d));
       all = λ le. absurd (omega (arith, found.inside));
-      so_far = subst (λ n. Appends (IsHomeRun c.args.width c.args.homes.now) (range_with_len c.args.from n) c.args.from c.args.from c.args.runs.now.items c.args.runs.now.items) (sym none) (Appends-none (IsHomeRun c.args.width c.args.homes.now) c.args.from c.args.runs.now.items);
+      so_far = subst (λ n. Appends (IsHomeRun c.args.width (home_among c.args.width c.args.homes.now)) (range_with_len c.args.from n) c.args.from c.args.from c.args.runs.now.items c.args.runs.now.items) (sym none) (Appends-none (IsHomeRun c.args.width (home_among c.args.width c.args.homes.now)) c.args.from c.args.runs.now.items);
     }
 
 pub returns-then-at-to : goal.returns-then-at-to
-returns-then-at-to c = subst (λ n. Appends (IsHomeRun c.args.width c.args.homes.now) (range_with_len c.args.from (n - c.args.from)) c.args.from n c.args.runs.now.items c.loop-k.runs.items) c.if-at-to.true c.loop-k.invariant.so_far
+returns-then-at-to c = subst (λ n. Appends (IsHomeRun c.args.width (home_among c.args.width c.args.homes.now)) (range_with_len c.args.from (n - c.args.from)) c.args.from n c.args.runs.now.items c.loop-k.runs.items) c.if-at-to.true c.loop-k.invariant.so_far
 
 pub overflow_add-home : goal.overflow_add-home
 overflow_add-home c =
@@ -66,9 +67,9 @@ loop-k-preserved c =
     let end = c.min-end.ensures in
     let from = c.loop-k.invariant.from in
     let home = get_or homes k blank in
-    let parts = Appends-weaker (IsPartOf c.args.width home) (IsHomeRun c.args.width homes) c.loop-k.at c.min-end.result c.loop-k.runs.items c.append_parts.new.runs.items (range_with_len c.loop-k.at (c.min-end.result - c.loop-k.at))
+    let parts = Appends-weaker (IsPartOf c.args.width home) (IsHomeRun c.args.width (home_among c.args.width homes)) c.loop-k.at c.min-end.result c.loop-k.runs.items c.append_parts.new.runs.items (range_with_len c.loop-k.at (c.min-end.result - c.loop-k.at))
     (IsHomeRun-part c.args.width c.requires.homes.end homes k blank turn c.loop-k-test.true) c.in_ok-append_parts.ensures in
-    let joined = Appends-join (IsHomeRun c.args.width homes) c.args.from c.loop-k.at c.min-end.result c.args.runs.now.items c.loop-k.runs.items c.append_parts.new.runs.items (range_with_len c.args.from (c.loop-k.at - c.args.from)) (range_with_len c.loop-k.at (c.min-end.result - c.loop-k.at)) c.loop-k.invariant.so_far parts in
+    let joined = Appends-join (IsHomeRun c.args.width (home_among c.args.width homes)) c.args.from c.loop-k.at c.min-end.result c.args.runs.now.items c.loop-k.runs.items c.append_parts.new.runs.items (range_with_len c.args.from (c.loop-k.at - c.args.from)) (range_with_len c.loop-k.at (c.min-end.result - c.loop-k.at)) c.loop-k.invariant.so_far parts in
     let all : c.loop-k.at + (c.min-end.result - c.loop-k.at) ≡ c.min-end.result = omega arith in
     let range = ranges-join c.args.from c.loop-k.at (c.min-end.result - c.loop-k.at) from ∙ ap (λ n. range_with_len c.args.from (n - c.args.from)) all in
     record {
@@ -76,11 +77,11 @@ loop-k-preserved c =
       to = omega arith;
       here = λ d left lt. let next = turn-next 0 c.requires.homes.end homes k d turn lt in let same : (get_or homes k d).position + (get_or homes k d).count ≡ home.position + home.count = ap (λ (h : Home). h.position + h.count) (get_or_default homes k d blank c.loop-k-test.true) in (omega arith, omega arith);
       all = λ le. omega (arith, turn-last 0 c.requires.homes.end homes k blank turn (omega (arith, c.loop-k-test.true)), c.requires.inside, c.requires.homes.reached);
-      so_far = subst (λ ps. Appends (IsHomeRun c.args.width homes) ps c.args.from c.min-end.result c.args.runs.now.items c.append_parts.new.runs.items) range joined;
+      so_far = subst (λ ps. Appends (IsHomeRun c.args.width (home_among c.args.width homes)) ps c.args.from c.min-end.result c.args.runs.now.items c.append_parts.new.runs.items) range joined;
     }
 
 pub returns : goal.returns
 returns c =
     let to = c.loop-k.invariant.to in
     let done : c.loop-k.at ≡ c.args.to = omega (arith, c.loop-k.invariant.all (omega (arith, c.loop-k-test.false))) in
-    subst (λ n. Appends (IsHomeRun c.args.width c.args.homes.now) (range_with_len c.args.from (n - c.args.from)) c.args.from n c.args.runs.now.items c.loop-k.runs.items) done c.loop-k.invariant.so_far
+    subst (λ n. Appends (IsHomeRun c.args.width (home_among c.args.width c.args.homes.now)) (range_with_len c.args.from (n - c.args.from)) c.args.from n c.args.runs.now.items c.loop-k.runs.items) done c.loop-k.invariant.so_far
