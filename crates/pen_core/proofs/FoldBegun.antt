@@ -179,7 +179,7 @@ module _ (shape : Shape) (frames : List Frame) (cells : List (List ℕ)) (legal 
   all_end_below (run ∷ runs) homes = (ends_below run homes.0, all_end_below runs homes.1)
 
   pub all_placed : (homes : List Home) (cover : List (ℕ × ℕ)) (runs : List Home) → 0 < width → SaysHomes shape frames homes → AreHomeRuns width (tally_of frames).size homes cover runs → AllByRecursion (HasPlace gate) (map write runs)
-  all_placed homes cover runs some says at = go runs (all_at_home shape frames homes 0 runs says at.ascend at.each)
+  all_placed homes cover runs some says at = go runs (all_at_home shape frames homes 0 runs says at.runs_are.ascend at.runs_are.each)
     where
       go : (rest : List Home) → AllByRecursion (IsAtHome shape frames) rest → AllByRecursion (HasPlace gate) (map write rest)
       go [] at_home = tt
@@ -357,22 +357,21 @@ module _ (shape : Shape) (frames : List Frame) (vector : List (List ℕ)) (homes
       omega (arith, gate_behind shape has.found others has.alike)
 
   ascend_others : AreAscending 0 (tally_of others).size runs
-  ascend_others = subst (λ t. AreAscending 0 t.size runs) (sym tally) at.ascend
+  ascend_others = subst (λ t. AreAscending 0 t.size runs) (sym tally) at.runs_are.ascend
 
   pub IsWholeFold-begun : IsWholeFold shape others vector (writes_for (raw shape.width) vector runs)
   IsWholeFold-begun = record {
     runs = runs;
     writes_are = refl;
     covered = λ i. sym (same_covered i);
-    ascend = ascend_others;
-    at_home = home_runs_of shape others homes 0 runs (SaysHomes-blanked shape frames homes are) ascend_others at.each;
+    runs_are = record { ascend = ascend_others; each = home_runs_of shape others homes 0 runs (SaysHomes-blanked shape frames homes are) ascend_others at.runs_are.each; greatest = at.runs_are.greatest };
   }
 
   pub IsFolding-begun : IsFolding shape (tally_of frames).changes others vector (writes_for (raw shape.width) vector runs) s
   IsFolding-begun =
       let legal = held_legal shape others vector s.seen has in
       let wide = held_wide shape others vector s.seen has in
-      let at_home = all_at_home shape others homes 0 runs (SaysHomes-blanked shape frames homes are) ascend_others at.each in
+      let at_home = all_at_home shape others homes 0 runs (SaysHomes-blanked shape frames homes are) ascend_others at.runs_are.each in
       record {
         homes_hold = homes_hold_laid shape others vector legal wide vector_size (tally_of frames).changes runs s.seen ascend_others at_home same_covered gate_seen;
         into_homes = all_home_writes shape others vector legal wide vector_size (tally_of frames).changes runs at_home some covered_early;
