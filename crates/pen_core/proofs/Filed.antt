@@ -27,7 +27,7 @@ use Rattle.pen_core.specs.declared.stage.FoldStage.TheVariants.{Ready, Filed}
 use Rattle.pen_core.specs.Step.{body_of}
 use Rattle.pen_core.specs.Vectors.{frame_at, blanked_before, frames_with}
 use Rattle.pen_core.specs.Folds.{laid, IsFolding}
-use Rattle.pen_core.specs.InHand.{left_of, write_of, IsWaiting, gate_then, frame_in_hand, IsInHand, IsAtStage, HomesAt, IsFold}
+use Rattle.pen_core.specs.InHand.{left_of, write_of, IsUnfiled, gate_then, frame_in_hand, IsInHand, IsAtStage, HomesAt, IsFold}
 use Rattle.pen_core.specs.Inside.{IsBodyOf, IsAtStep, Knows, IsPen}
 use Rattle.pen_core.specs.Listed.{Lists, IsListed}
 use Rattle.pen_core.specs.Pen.{open_count}
@@ -58,10 +58,10 @@ module _ (keeps : Type 0) (states : List State) (shape : Shape) (gate : ℕ) (ta
   abbrev next' : Tally
   next' = record { size = tally.size; changes = tally.changes; folded = fold.count }
 
-  at_ready : IsWaiting shape gate tally bytes o fold × (fold.done ≡ length fold.writes.items)
+  at_ready : IsUnfiled shape gate tally bytes o fold × (fold.done ≡ length fold.writes.items)
   at_ready = subst (IsAtStage shape gate tally bytes o fold) ready is_fold.counts
 
-  waiting : IsWaiting shape gate tally bytes o fold
+  waiting : IsUnfiled shape gate tally bytes o fold
   waiting = at_ready.0
 
   spelled : bytes' ≡ frame_text shape.format f ++ 0 ∷ []

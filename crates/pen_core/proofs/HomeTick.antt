@@ -31,7 +31,7 @@ use Rattle.pen_core.specs.Held.{IsBeingFolded, gate_of}
 use Rattle.pen_core.specs.Known.{IsFileOf, IsShut}
 use Rattle.pen_core.specs.Vectors.{frame_at, blanked_before, frames_with}
 use Rattle.pen_core.specs.Folds.{IsFolding}
-use Rattle.pen_core.specs.InHand.{write_of, left_of, first_write, in_stage, fold_of, has_call, is_unfolded, stage_after, left_after, done_after, called, writes_left, IsInHand, advanced, HomeCalls, FailsHomeCall, CanCall, IsPlanned, IsWaiting, frame_in_hand, IsAtStage, HomesAt, IsFold}
+use Rattle.pen_core.specs.InHand.{write_of, left_of, first_write, in_stage, fold_of, has_call, is_unfolded, stage_after, left_after, done_after, called, writes_left, IsInHand, advanced, HomeCalls, FailsHomeCall, CanCall, IsPlanned, IsUnfiled, frame_in_hand, IsAtStage, HomesAt, IsFold}
 use Rattle.pen_core.specs.Inside.{job_of, IsAtStep, Knows, IsPen}
 use Rattle.pen_core.specs.Pen.{OpensWith, open_count}
 use Rattle.pen_core.proofs.BeingFolded.{IsBeingFolded_push}
@@ -265,7 +265,7 @@ module _ (keeps keeps' : Type 0) (states new : List State) (shape : Shape) (gate
     pub called_stays : keeps' → FileStays shape gate states new
     called_stays = stays (open_count (stage_after fold.stage) fold.count) broken called_knows
 
-    waits : (fold' : Fold) → fold'.count ≡ fold.count → fold'.writes ≡ fold.writes → fold'.bytes ≡ fold.bytes → fold'.frame ≡ fold.frame → IsWaiting shape gate tally bytes o fold → IsWaiting shape gate tally bytes o fold'
+    waits : (fold' : Fold) → fold'.count ≡ fold.count → fold'.writes ≡ fold.writes → fold'.bytes ≡ fold.bytes → fold'.frame ≡ fold.frame → IsUnfiled shape gate tally bytes o fold → IsUnfiled shape gate tally bytes o fold'
     waits fold' count writes held frame w =
         let live = w.live in
         let upto = w.upto in

@@ -26,7 +26,7 @@ use Rattle.pen_core.specs.declared.stage.FoldStage.TheVariants as stages
 use Rattle.pen_core.specs.Held.{Holds, gate_of}
 use Rattle.pen_core.specs.Vectors.{frame_at, blanked_before, frames_with}
 use Rattle.pen_core.specs.Refusals.{fold_len}
-use Rattle.pen_core.specs.InHand.{in_stage, fold_of, left_of, IsPlanned, gate_then, IsWaiting, frame_in_hand, IsInHand, IsAtStage, HomesAt, stage_ended, live_after, IsFold}
+use Rattle.pen_core.specs.InHand.{in_stage, fold_of, left_of, IsPlanned, gate_then, IsUnfiled, frame_in_hand, IsInHand, IsAtStage, HomesAt, stage_ended, live_after, IsFold}
 use Rattle.pen_core.specs.Inside.{IsPen}
 use Rattle.pen_core.specs.Pen.{open_count}
 use Rattle.pen_core.proofs.Folds.{LaidAlike, folding_alike, folding_seen, folding_more}
@@ -59,7 +59,7 @@ planned_further gate gate' len [] le all = tt
 planned_further gate gate' len (w ∷ writes) le all = let below = all.0.below_gate in (record { some = all.0.some; inside = all.0.inside; below_gate = omega arith }, planned_further gate gate' len writes le all.1)
 
 module _ (shape : Shape) (gate gate' : ℕ) (tally tally' : Tally) (bytes bytes' : List ℕ) (o o' : Option Step) (fold : Fold) where
-  waits_on : IsWaiting shape gate tally bytes o fold → tally'.folded ≡ tally.folded → tally.changes ≤ tally'.changes → gate ≤ gate' → gate_then gate' bytes' o' + 14 < 2 ^ 48 → IsWaiting shape gate' tally' bytes' o' fold
+  waits_on : IsUnfiled shape gate tally bytes o fold → tally'.folded ≡ tally.folded → tally.changes ≤ tally'.changes → gate ≤ gate' → gate_then gate' bytes' o' + 14 < 2 ^ 48 → IsUnfiled shape gate' tally' bytes' o' fold
   waits_on waiting folded more further room =
       let live = waiting.live in
       let upto = waiting.upto in
@@ -75,7 +75,7 @@ module _ (shape : Shape) (gate gate' : ℕ) (tally tally' : Tally) (bytes bytes'
   stage_on Filed at same folded more further room = (same refl ∙ at.0, at.1)
 
 -- the room that a waiting fold has
-pub room_of : (shape : Shape) (gate : ℕ) (tally : Tally) (bytes : List ℕ) (o : Option Step) (fold : Fold) (stage : FoldStage) → IsAtStage shape gate tally bytes o fold stage → IsInHand stage → (stage ≡ Filed → ⊥) → IsWaiting shape gate tally bytes o fold
+pub room_of : (shape : Shape) (gate : ℕ) (tally : Tally) (bytes : List ℕ) (o : Option Step) (fold : Fold) (stage : FoldStage) → IsAtStage shape gate tally bytes o fold stage → IsInHand stage → (stage ≡ Filed → ⊥) → IsUnfiled shape gate tally bytes o fold
 room_of shape gate tally bytes o fold stages.None at held unfiled = absurd held
 room_of shape gate tally bytes o fold (Home n) at held unfiled = at.0
 room_of shape gate tally bytes o fold Sync at held unfiled = at.0

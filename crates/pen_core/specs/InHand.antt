@@ -143,7 +143,7 @@ gate_then gate bytes None = gate
 gate_then gate bytes (Some step) = gate + (length bytes - 1)
 
 -- a fold whose frame is still to come
-pub record IsWaiting (shape : Shape) (gate : ℕ) (tally : Tally) (bytes : List ℕ) (step : Option Step) (fold : Fold) : Type 0 where
+pub record IsUnfiled (shape : Shape) (gate : ℕ) (tally : Tally) (bytes : List ℕ) (step : Option Step) (fold : Fold) : Type 0 where
   pub live : tally.folded < fold.count
   pub upto : fold.count ≤ tally.changes
   pub planned : ArePlanned gate fold
@@ -165,9 +165,9 @@ IsInHand Filed = Unit {0}
 
 abbrev pub IsAtStage : Shape → ℕ → Tally → List ℕ → Option Step → Fold → FoldStage → Type 0
 IsAtStage shape gate tally bytes step fold stages.None = Unit {0}
-IsAtStage shape gate tally bytes step fold (Home n) = IsWaiting shape gate tally bytes step fold × (fold.done + n ≡ length fold.writes.items) × (0 < n)
-IsAtStage shape gate tally bytes step fold Sync = IsWaiting shape gate tally bytes step fold × (fold.done ≡ length fold.writes.items)
-IsAtStage shape gate tally bytes step fold Ready = IsWaiting shape gate tally bytes step fold × (fold.done ≡ length fold.writes.items)
+IsAtStage shape gate tally bytes step fold (Home n) = IsUnfiled shape gate tally bytes step fold × (fold.done + n ≡ length fold.writes.items) × (0 < n)
+IsAtStage shape gate tally bytes step fold Sync = IsUnfiled shape gate tally bytes step fold × (fold.done ≡ length fold.writes.items)
+IsAtStage shape gate tally bytes step fold Ready = IsUnfiled shape gate tally bytes step fold × (fold.done ≡ length fold.writes.items)
 IsAtStage shape gate tally bytes step fold Filed = (frame_in_hand shape bytes step ≡ Some (frames.Fold fold.count)) × (fold.done ≡ length fold.writes.items)
 
 -- ---- and of its disk

@@ -23,7 +23,7 @@ use Rattle.pen_core.specs.Known.{IsBeforeOrAfter}
 use Rattle.pen_core.specs.Vectors.{frames_with}
 use Rattle.segment_core.specs.Raw.{after_frame}
 use Rattle.pen_core.specs.PenOf.{PenOf, JobOf, FoldOf, HomeWrite}
-use Rattle.pen_core.specs.InHand.{has_call, called, home_fault}
+use Rattle.pen_core.specs.InHand.{has_call, called, home_fault, HomeCalls, FailsHomeCall}
 
 -- ---- what a crash may leave
 
@@ -198,6 +198,18 @@ IsHomeTicked old new home_ticks.Idle = (old.fold ≡ None) × (new ≡ old)
 IsHomeTicked old new home_ticks.Step = (fold : FoldOf) × (has_call fold.stage ≡ true) × HomesCalled fold old new
 IsHomeTicked old new home_ticks.Filed = (fold : FoldOf) × IsFiled fold old new
 IsHomeTicked old new home_ticks.Waiting = (fold : FoldOf) × IsWaiting fold old new
+
+-- what its device call makes of the disk: the first write that is left, or their sync; else it makes none
+abbrev pub HomeTickCalls : Option FoldOf → HomeTicked → List State → List State → Type 0
+HomeTickCalls fold home_ticks.Idle old new = new ≡ old
+HomeTickCalls fold home_ticks.Step old new = IfSome fold (λ fold. HomeCalls fold.stage fold.left old new)
+HomeTickCalls fold home_ticks.Filed old new = new ≡ old
+HomeTickCalls fold home_ticks.Waiting old new = new ≡ old
+
+-- and what it makes of it where it fails; a pen that is broken makes none
+abbrev pub HomeTickFails : Bool → Option FoldOf → List State → List State → Type 0
+HomeTickFails true fold old new = new ≡ old
+HomeTickFails false fold old new = IfSome fold (λ fold. FailsHomeCall fold.stage fold.left old new)
 
 -- why it was refused
 abbrev pub IsHomeFault : {D : Type 0} → PenOf D → PenOf D → PenFault → Type 0

@@ -5,7 +5,7 @@ ghost use Rattle.disk_core.specs.Moments.{LeavesOnly, clock};
 ghost use Rattle.segment_core.specs.Written.{joined};
 ghost use Rattle.pen_core.specs.Folds.{IsWholeFold};
 ghost use Rattle.pen_core.specs.InHand.{gate_then};
-ghost use Rattle.pen_core.specs.Pen.{MayOpen, IsKept, FileSame, IsHomeTicked, IsHomeFault, home_calls_due, failed_calls, IsUnchanged, IsReadyToFold, IsFoldBarred, IsFoldAnswer, IsFoldRefusal};
+ghost use Rattle.pen_core.specs.Pen.{MayOpen, IsKept, FileSame, IsHomeTicked, HomeTickCalls, HomeTickFails, IsHomeFault, home_calls_due, failed_calls, IsUnchanged, IsReadyToFold, IsFoldBarred, IsFoldAnswer, IsFoldRefusal};
 
 use crate::begin::GATE_LIMIT;
 use crate::fault::PenFault;
@@ -113,6 +113,9 @@ impl<D: Disk> Pen<D> {
         ensures images { D.keeps self.new.disk
             → LeavesOnly (D.states self.old.disk) (D.states self.new.disk) (MayOpen self.old) }
         ensures kept { D.keeps self.new.disk → IsKept (D.states self.new.disk) self.new }
+        ensures calls { D.keeps self.new.disk → MatchResult result
+            (λ ticked. HomeTickCalls self.old.fold ticked (D.states self.old.disk) (D.states self.new.disk))
+            (λ _. HomeTickFails self.old.broken self.old.fold (D.states self.old.disk) (D.states self.new.disk)) }
         ensures ticked { IfOk result (λ ticked. IsHomeTicked self.old self.new ticked) }
         ensures refused { IfErr result (λ fault. IsHomeFault self.old self.new fault) }
         ensures whole { OnOk result ((self.old.broken ≡ false) × (self.new.broken ≡ false)) }
