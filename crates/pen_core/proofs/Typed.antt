@@ -1,5 +1,5 @@
 -- What a crash leaves of a pen's file opens to, as records, where its vector is told as records.
-use Rattle.std.proofs.Common.{◌≡◌, ◌⊎◌, ℕ, ◌<◌, ◌^◌, List, Option, Some, None, sym, ap, subst, inl, inr}
+use Rattle.std.proofs.Common.{◌≡◌, ◌⊎◌, ℕ, ◌<◌, ◌^◌, List, Option, Some, None, sym, ap, subst, ◌∙◌, inl, inr}
 use Rattle.std.specs.Prelude.{IfSome}
 use Rattle.record_core.specs.Bytes.{Encoding}
 use Rattle.segment_core.specs.declared.format.Shape.{Shape}
@@ -12,7 +12,8 @@ use Rattle.segment_core.proofs.ReadAs.{AreCellsOf-read, AreCellsOf_same}
 use Rattle.pen_core.specs.Held.{Opens}
 use Rattle.pen_core.specs.Vectors.{frames_with}
 use Rattle.pen_core.specs.PenOf.{PenOf, JobOf}
-use Rattle.pen_core.specs.Pen.{OpensWith, MayOpen, FileGains, vector_with, vector_after}
+use Rattle.pen_core.specs.declared.stage.Ticked.TheVariants.{Step}
+use Rattle.pen_core.specs.Pen.{OpensWith, MayOpen, IsTicked, FileSame, FileGains, vector_with, vector_after}
 use Rattle.pen_core.specs.Typed.{OpensTo}
 
 -- ---- the vector behind the job
@@ -28,6 +29,17 @@ vector_after-done old new job is file = at old.job is file
     at : (o : Option JobOf) → o ≡ Some job → IfSome o (λ job. FileGains job.frame old new) → new.vector ≡ vector_with old.shape old.vector o
     at None is file = absurd cc
     at (Some done) is gains = gains.vector_is
+
+-- it stands while the file, and the job's frame, stand
+pub vector_after-same : {D : Type 0} (old new : PenOf D) → new.shape ≡ old.shape → FileSame old new → new.job ≡ old.job → vector_after new ≡ vector_after old
+vector_after-same old new shape file job =
+    ap (λ s. vector_with s new.vector new.job) shape ∙ ap (λ v. vector_with old.shape v new.job) file.vector_same ∙ ap (vector_with old.shape old.vector) job
+
+-- also at a step of the job
+pub vector_after-step : {D : Type 0} (old new : PenOf D) → IsTicked old new Step → FileSame old new → vector_after new ≡ vector_after old
+vector_after-step old new ticked file =
+    let shape = ticked.3.shape_same in
+    ap (λ s. vector_with s new.vector new.job) shape ∙ ap (λ v. vector_with old.shape v new.job) file.vector_same ∙ ap (vector_with old.shape old.vector) ticked.2.2 ∙ sym (ap (vector_with old.shape old.vector) ticked.1)
 
 module _ {R : Type 0} (form : Encoding R) where
   -- ---- what an image opens to
