@@ -8,7 +8,7 @@ use Rattle.std.proofs.lemmas.Bool.{cases_lt, or_cases, or_left, or_right}
 use Rattle.std.proofs.lemmas.Nat.{row_fits}
 use Rattle.std.proofs.lemmas.Option.{slice_get-get_or}
 use Rattle.std.proofs.lemmas.List.{length-append, length-drop, length-take-le, get_or-take, get_or-drop, get_or_append_left, get_or-append-add, ext_get_or}
-use Rattle.std.proofs.lemmas.List.Elements.{All-head, All-tail, All-take, All-drop, All-get_or, All-from_get_or}
+use Rattle.std.proofs.lemmas.List.Elements.{All-nil, All-cons, All-head, All-tail, All-take, All-drop, All-get_or, All-from_get_or}
 use Rattle.disk_core.specs.State.{State, overlay}
 use Rattle.disk_core.proofs.ImageLemmas.{length-overlay, get_or-overlay}
 use Rattle.segment_core.specs.declared.format.Shape.{Shape}
@@ -24,9 +24,9 @@ use Rattle.segment_core.proofs.Apart.{home_of_apart}
 use Rattle.segment_core.proofs.Blanked.{tally_from-blanked, home_of-blanked, change_of-blanked}
 use Rattle.segment_core.proofs.PlaceOf.{home_of_between, place_of_between, has_home, live_inside}
 use Rattle.pen_core.specs.Covered.{has, covers, IsCover}
-use Rattle.pen_core.specs.Folds.{laid, IsHomeWrite, IsFolding}
+use Rattle.pen_core.specs.Folds.{laid, IsHomeWrite, IsFolding, IsWholeFold}
 use Rattle.pen_core.specs.Held.{Holds, early_of, gate_of}
-use Rattle.pen_core.specs.HomeRuns.{IsHomeRun, AreAscending, AreHomeRuns}
+use Rattle.pen_core.specs.HomeRuns.{span_of, IsHomeRun, AreAscending, AreHomeRuns}
 use Rattle.pen_core.specs.Listed.{live_runs}
 use Rattle.pen_core.specs.PenOf.{HomeWrite}
 use Rattle.pen_core.specs.Values.{bytes_at, write_for, writes_for}
@@ -35,7 +35,7 @@ use Rattle.pen_core.proofs.Begun.{held_legal}
 use Rattle.pen_core.proofs.Covers.{has-true, true-has}
 use Rattle.pen_core.proofs.LiveRuns.{change_of-covers, told_is, early_of-all}
 use Rattle.pen_core.proofs.Overlaid.{overlaid}
-use Rattle.pen_core.proofs.RunPositions.{span_of, covers-home_runs}
+use Rattle.pen_core.proofs.RunPositions.{covers-home_runs}
 use Rattle.pen_core.proofs.WritesFor.{ascending-inside}
 
 -- ---- records of one width behind one another
@@ -106,14 +106,23 @@ record IsAtHome (shape : Shape) (frames : List Frame) (run : Home) : Type 0 wher
   inside : run.position + run.count ≤ (tally_of frames).size
   adjacent : (i : ℕ) → run.position ≤ i → i < run.position + run.count → home_of shape frames i ≡ Some (run.place + (i - run.position) * shape.width)
 
-all_at_home : (shape : Shape) (frames : List Frame) (homes : List Home) (from : ℕ) (runs : List Home) → SaysHomes shape frames homes → AreAscending from (tally_of frames).size runs → All (IsHomeRun shape.width homes) runs → AllByRecursion (IsAtHome shape frames) runs
+all_at_home : (shape : Shape) (frames : List Frame) (homes : List Home) (from : ℕ) (runs : List Home) → SaysHomes shape frames homes → AreAscending from (tally_of frames).size runs → All (IsHomeRun shape.width (home_among shape.width homes)) runs → AllByRecursion (IsAtHome shape frames) runs
 all_at_home shape frames homes from [] are ascend each = tt
 all_at_home shape frames homes from (run ∷ runs) are ascend each =
-    let first = All-head (IsHomeRun shape.width homes) run runs each in
+    let first = All-head (IsHomeRun shape.width (home_among shape.width homes)) run runs each in
     let end = ascending-inside (run.position + run.count) (tally_of frames).size runs ascend.1 in (
       record { some = first.some; inside = end; adjacent = λ i le lt. sym (are i (omega arith)) ∙ first.adjacent i le lt },
-      all_at_home shape frames homes (run.position + run.count) runs are ascend.1 (All-tail (IsHomeRun shape.width homes) run runs each),
+      all_at_home shape frames homes (run.position + run.count) runs are ascend.1 (All-tail (IsHomeRun shape.width (home_among shape.width homes)) run runs each),
     )
+
+home_runs_of : (shape : Shape) (frames : List Frame) (homes : List Home) (from : ℕ) (runs : List Home) → SaysHomes shape frames homes → AreAscending from (tally_of frames).size runs → All (IsHomeRun shape.width (home_among shape.width homes)) runs → All (IsHomeRun shape.width (home_of shape frames)) runs
+home_runs_of shape frames homes from [] says ascend each = All-nil (IsHomeRun shape.width (home_of shape frames))
+home_runs_of shape frames homes from (run ∷ runs) says ascend each =
+    let first = All-head (IsHomeRun shape.width (home_among shape.width homes)) run runs each in
+    let end = ascending-inside (run.position + run.count) (tally_of frames).size runs ascend.1 in
+    All-cons (IsHomeRun shape.width (home_of shape frames)) run runs
+    (record { some = first.some; few = first.few; adjacent = λ i le lt. sym (says i (omega arith)) ∙ first.adjacent i le lt })
+    (home_runs_of shape frames homes (run.position + run.count) runs says ascend.1 (All-tail (IsHomeRun shape.width (home_among shape.width homes)) run runs each))
 
 -- ---- writes laid
 
@@ -170,7 +179,7 @@ module _ (shape : Shape) (frames : List Frame) (cells : List (List ℕ)) (legal 
   all_end_below (run ∷ runs) homes = (ends_below run homes.0, all_end_below runs homes.1)
 
   pub all_placed : (homes : List Home) (cover : List (ℕ × ℕ)) (runs : List Home) → 0 < width → SaysHomes shape frames homes → AreHomeRuns width (tally_of frames).size homes cover runs → AllByRecursion (HasPlace gate) (map write runs)
-  all_placed homes cover runs some says at = go runs (all_at_home shape frames homes 0 runs says at.ascend at.each)
+  all_placed homes cover runs some says at = go runs (all_at_home shape frames homes 0 runs says at.runs_are.ascend at.runs_are.each)
     where
       go : (rest : List Home) → AllByRecursion (IsAtHome shape frames) rest → AllByRecursion (HasPlace gate) (map write rest)
       go [] at_home = tt
@@ -347,13 +356,23 @@ module _ (shape : Shape) (frames : List Frame) (vector : List (List ℕ)) (homes
       let size = ap length has.begins.begins.1 ∙ length-append (text shape has.found) has.begins.begins.0 in
       omega (arith, gate_behind shape has.found others has.alike)
 
+  ascend_others : AreAscending 0 (tally_of others).size runs
+  ascend_others = subst (λ t. AreAscending 0 t.size runs) (sym tally) at.runs_are.ascend
+
+  pub IsWholeFold-begun : IsWholeFold shape others vector (writes_for (raw shape.width) vector runs)
+  IsWholeFold-begun = record {
+    runs = runs;
+    writes_are = refl;
+    covered = λ i. sym (same_covered i);
+    runs_are = record { ascend = ascend_others; each = home_runs_of shape others homes 0 runs (SaysHomes-blanked shape frames homes are) ascend_others at.runs_are.each; greatest = at.runs_are.greatest };
+  }
+
   pub IsFolding-begun : IsFolding shape (tally_of frames).changes others vector (writes_for (raw shape.width) vector runs) s
   IsFolding-begun =
       let legal = held_legal shape others vector s.seen has in
       let wide = held_wide shape others vector s.seen has in
-      let ascend = subst (λ t. AreAscending 0 t.size runs) (sym tally) at.ascend in
-      let at_home = all_at_home shape others homes 0 runs (SaysHomes-blanked shape frames homes are) ascend at.each in
+      let at_home = all_at_home shape others homes 0 runs (SaysHomes-blanked shape frames homes are) ascend_others at.runs_are.each in
       record {
-        homes_hold = homes_hold_laid shape others vector legal wide vector_size (tally_of frames).changes runs s.seen ascend at_home same_covered gate_seen;
+        homes_hold = homes_hold_laid shape others vector legal wide vector_size (tally_of frames).changes runs s.seen ascend_others at_home same_covered gate_seen;
         into_homes = all_home_writes shape others vector legal wide vector_size (tally_of frames).changes runs at_home some covered_early;
       }

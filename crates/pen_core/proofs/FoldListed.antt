@@ -17,18 +17,18 @@ use Rattle.pen_core.specs.declared.fold.Write.{Write}
 use Rattle.pen_core.specs.declared.fold.Fold.{Fold}
 use Rattle.pen_core.specs.declared.step.Step.{Step}
 use Rattle.pen_core.specs.Covered.{covers, IsCover}
-use Rattle.pen_core.specs.Folds.{IsFolding}
+use Rattle.pen_core.specs.Folds.{IsFolding, IsWholeFold}
 use Rattle.pen_core.specs.Held.{Holds}
-use Rattle.pen_core.specs.HomeRuns.{AreHomeRuns}
+use Rattle.pen_core.specs.HomeRuns.{span_of, AreHomeRuns}
 use Rattle.pen_core.specs.InHand.{frame_in_hand, write_of, IsPlanned}
 use Rattle.pen_core.specs.Listed.{live_runs, runs_ahead, IsListed}
 use Rattle.pen_core.specs.Values.{writes_for}
 use Rattle.pen_core.specs.Vectors.{blanked_before}
-use Rattle.pen_core.proofs.FoldBegun.{SaysHomes, IsFolding-begun}
+use Rattle.pen_core.proofs.FoldBegun.{SaysHomes, IsFolding-begun, IsWholeFold-begun}
 use Rattle.pen_core.proofs.FoldPlanned.{writes_for-raw, ArePlanned-begun}
 use Rattle.pen_core.proofs.HomesTo.{SaysHomes-listed}
 use Rattle.pen_core.proofs.LiveRuns.{HasSome, EndsBy, live_runs_some, live_runs_small, cover_inside, live_runs_cover}
-use Rattle.pen_core.proofs.RunPositions.{span_of, covers-home_runs}
+use Rattle.pen_core.proofs.RunPositions.{covers-home_runs}
 use Rattle.pen_core.proofs.WritesFor.{Within}
 
 module _ (keeps : Type 0) (states : List State) (shape : Shape) (gate : ℕ) (tally : Tally) (bytes : List ℕ) (step : Option Step) (homes : Homes) (live : ℕ) {fold : Fold} (listed : IsListed keeps states shape gate tally bytes step homes live fold) where
@@ -79,6 +79,15 @@ module _ (keeps : Type 0) (states : List State) (shape : Shape) (gate : ℕ) (ta
           (subst (λ t. IsFolding shape t.changes (all_blanked frames) vector (writes_for (raw shape.width) vector runs) (now states)) (sym listed.tally_is)
           (IsFolding-begun shape frames vector homes.homes.items cover runs (now states) some (subst (λ fs. Holds shape fs vector (now states).seen) same has) says_homes file_cover here))
 
+      IsWholeFold-pen : keeps → 0 < shape.width → Holds shape (blanked_before shape gate (bytes_of states)) (vector_before shape gate (bytes_of states)) (now states).seen
+          → IsWholeFold shape (blanked_before shape gate (bytes_of states)) (vector_before shape gate (bytes_of states)) (writes_for (raw shape.width) (vector_before shape gate (bytes_of states)) runs)
+      IsWholeFold-pen model some has =
+          let vector : List (List ℕ) = vector_before shape gate (bytes_of states) in
+          let same = listed.same model in
+          let here = subst (λ t. AreHomeRuns shape.width t.size homes.homes.items cover runs) listed.tally_is at in
+          subst (λ fs. IsWholeFold shape fs vector (writes_for (raw shape.width) vector runs)) (sym same)
+          (IsWholeFold-begun shape frames vector homes.homes.items cover runs (now states) some (subst (λ fs. Holds shape fs vector (now states).seen) same has) says_homes file_cover here)
+
       module _ {R : Type 0} (form : Encoding R) (records : List R) (made : List ℕ) (writes : List Write) (some : 0 < shape.width) (made_is : map (write_of made) writes ≡ writes_for form records runs) where
         pub planned_pen : ((r : R) → length (form.bytes_of r) ≡ shape.width) → length records ≡ tally.size → All (Within (length made)) writes → AllByRecursion (IsPlanned gate (length made)) writes
         planned_pen each size within =
@@ -87,9 +96,15 @@ module _ (keeps : Type 0) (states : List State) (shape : Shape) (gate : ℕ) (ta
             (ArePlanned-begun form shape frames homes.homes.items cover runs records made writes some each listed.legal says_homes here (size ∙ ap (λ t. t.size) listed.tally_is) made_is within)
 
         -- the vector is these records, as their bytes
+        made_of_vector : vector_before shape gate (bytes_of states) ≡ map form.bytes_of records → map (write_of made) writes ≡ writes_for (raw shape.width) (vector_before shape gate (bytes_of states)) runs
+        made_of_vector same = made_is ∙ writes_for-raw form shape.width records runs ∙ ap (λ cells. writes_for (raw shape.width) cells runs) (sym same)
+
         pub folding_pen : keeps → Holds shape (blanked_before shape gate (bytes_of states)) (vector_before shape gate (bytes_of states)) (now states).seen → vector_before shape gate (bytes_of states) ≡ map form.bytes_of records
             → IsFolding shape tally.changes (blanked_before shape gate (bytes_of states)) (vector_before shape gate (bytes_of states)) (map (write_of made) writes) (now states)
         folding_pen model has same =
-            let vector : List (List ℕ) = vector_before shape gate (bytes_of states) in
-            subst (λ left. IsFolding shape tally.changes (blanked_before shape gate (bytes_of states)) vector left (now states))
-            (sym (made_is ∙ writes_for-raw form shape.width records runs ∙ ap (λ cells. writes_for (raw shape.width) cells runs) (sym same))) (IsFolding-pen model some has)
+            subst (λ left. IsFolding shape tally.changes (blanked_before shape gate (bytes_of states)) (vector_before shape gate (bytes_of states)) left (now states)) (sym (made_of_vector same)) (IsFolding-pen model some has)
+
+        pub whole_pen : keeps → Holds shape (blanked_before shape gate (bytes_of states)) (vector_before shape gate (bytes_of states)) (now states).seen → vector_before shape gate (bytes_of states) ≡ map form.bytes_of records
+            → IsWholeFold shape (blanked_before shape gate (bytes_of states)) (vector_before shape gate (bytes_of states)) (map (write_of made) writes)
+        whole_pen model has same =
+            subst (IsWholeFold shape (blanked_before shape gate (bytes_of states)) (vector_before shape gate (bytes_of states))) (sym (made_of_vector same)) (IsWholeFold-pen model some has)

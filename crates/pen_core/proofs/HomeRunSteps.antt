@@ -1,18 +1,18 @@
--- Runs behind runs, and positions of one home.
-use Rattle.std.proofs.Common.{◌≡◌, inl, inr, ℕ, zero, suc, ◌+◌, ◌-◌, ◌*◌, ◌≤◌, ◌<◌, ◌^◌, List, [], ◌∷◌, ◌++◌, length, get_or, subst, Some, None, refl, sym, ap, ◌∙◌, arith, append_assoc}
+-- Homes in turn, their parts, and the positions of runs.
+use Rattle.std.proofs.Common.{◌≡◌, ◌⊎◌, inl, inr, ℕ, zero, suc, ◌+◌, ◌-◌, ◌*◌, ◌≤◌, ◌<◌, ◌^◌, List, [], ◌∷◌, ◌++◌, length, get_or, All, Some, None, refl, sym, ap, ◌∙◌, arith, append_assoc}
 use Rattle.std.specs.List.{range_with_len}
 use Rattle.std.specs.Option.{option_or}
 use Rattle.std.proofs.lemmas.Bool.{cases_lt}
 use Rattle.std.specs.List.Sorted.{IsNonDecreasingBy}
 use Rattle.std.proofs.Math.Nat.{add-mul}
-use Rattle.std.proofs.lemmas.List.{append-nil}
-use Rattle.std.proofs.lemmas.List.Elements.{All-nil, All-push, All-append, All-weaker}
+use Rattle.std.proofs.lemmas.List.Elements.{All-nil, All-cons, All-head, All-tail}
 use Rattle.segment_core.specs.declared.found.Home.{Home}
 use Rattle.segment_core.specs.Found.{home_among, AreInTurn}
 use Rattle.segment_core.specs.Vector.{place_among}
 use Rattle.segment_core.proofs.PlaceAmong.{place_among_inside, place_among_below}
 use Rattle.segment_core.proofs.FoundHomes.{in_turn_up_to}
-use Rattle.pen_core.specs.HomeRuns.{positions_at, AreHomesTo, IsHomeRun, IsPartOf, AreAscending, Appends}
+use Rattle.pen_core.proofs.WritesFor.{ascending-inside}
+use Rattle.pen_core.specs.HomeRuns.{positions_at, AreHomesTo, IsAdjacent, IsHomeRun, AreAscending, IsBounded}
 
 pub range-append : (a m n : ℕ) → range_with_len a m ++ range_with_len (a + m) n ≡ range_with_len a (m + n)
 range-append a zero n =
@@ -24,6 +24,14 @@ range-append a (suc m) n =
     let all : suc (m + n) ≡ suc m + n = omega arith in
     ap (λ b. range_with_len a (suc m) ++ range_with_len b n) next ∙ ap (λ xs. a ∷ xs) (range-append (a + 1) m n) ∙ ap (range_with_len a) all
 
+-- positions from one place on, and those behind them
+pub ranges-join : (from at count : ℕ) → from ≤ at → range_with_len from (at - from) ++ range_with_len at count ≡ range_with_len from (at + count - from)
+ranges-join from at count le =
+    let here : at ≡ from + (at - from) = omega arith in
+    ap (λ n. range_with_len from (at - from) ++ range_with_len n count) here
+    ∙ range-append from (at - from) count
+    ∙ ap (range_with_len from) (omega arith)
+
 pub positions_at-append : (xs ys : List Home) → positions_at (xs ++ ys) ≡ positions_at xs ++ positions_at ys
 positions_at-append [] ys = refl
 positions_at-append (x ∷ xs) ys = ap (λ ps. range_with_len x.position x.count ++ ps) (positions_at-append xs ys) ∙ sym (append_assoc (range_with_len x.position x.count) (positions_at xs) (positions_at ys))
@@ -32,57 +40,9 @@ pub ascending-push : (from to : ℕ) (runs : List Home) (run : Home) → AreAsce
 ascending-push from to [] run ascend le = (omega arith, omega arith)
 ascending-push from to (first ∷ runs) run ascend le = (ascend.0, ascending-push (first.position + first.count) to runs run ascend.1 le)
 
-pub ascending-from : (a b c : ℕ) (runs : List Home) → a ≤ b → AreAscending b c runs → AreAscending a c runs
-ascending-from a b c [] le ascend = omega arith
-ascending-from a b c (run ∷ runs) le ascend = (omega (arith, ascend.0), ascend.1)
-
-pub ascending-join : (a b c : ℕ) (xs ys : List Home) → AreAscending a b xs → AreAscending b c ys → AreAscending a c (xs ++ ys)
-ascending-join a b c [] ys first then = ascending-from a b c ys first then
-ascending-join a b c (x ∷ xs) ys first then = (first.0, ascending-join (x.position + x.count) b c xs ys first.1 then)
-
 pub ascending-to : (a b c : ℕ) (runs : List Home) → AreAscending a b runs → b ≤ c → AreAscending a c runs
 ascending-to a b c [] ascend le = omega arith
 ascending-to a b c (run ∷ runs) ascend le = (ascend.0, ascending-to (run.position + run.count) b c runs ascend.1 le)
-
-pub Appends-none : (Is : Home → Type 0) (from : ℕ) (old : List Home) → Appends Is [] from from old old
-Appends-none Is from old = record { runs = []; behind = sym (append-nil old); positions_are = refl; ascend = omega arith; each = All-nil Is }
-
-pub Appends-more : (Is : Home → Type 0) (from to : ℕ) (old mid : List Home) (positions : List ℕ) (run : Home) → Appends Is positions from to old mid → Is run → to ≤ run.position → Appends Is (positions ++ range_with_len run.position run.count) from (run.position + run.count) old (mid ++ run ∷ [])
-Appends-more Is from to old mid positions run so_far is le = record {
-  runs = so_far.runs ++ run ∷ [];
-  behind = ap (λ xs. xs ++ run ∷ []) so_far.behind ∙ append_assoc old so_far.runs (run ∷ []);
-  positions_are = positions_at-append so_far.runs (run ∷ []) ∙ ap (λ ps. ps ++ (range_with_len run.position run.count ++ [])) so_far.positions_are ∙ ap (λ ps. positions ++ ps) (append-nil (range_with_len run.position run.count));
-  ascend = ascending-push from to so_far.runs run so_far.ascend le;
-  each = All-push Is so_far.runs run so_far.each is;
-}
-
-pub Appends-join : (Is : Home → Type 0) (f m t : ℕ) (a b c : List Home) (ps qs : List ℕ) → Appends Is ps f m a b → Appends Is qs m t b c → Appends Is (ps ++ qs) f t a c
-Appends-join Is f m t a b c ps qs first then = record {
-  runs = first.runs ++ then.runs;
-  behind = then.behind ∙ ap (λ xs. xs ++ then.runs) first.behind ∙ append_assoc a first.runs then.runs;
-  positions_are = positions_at-append first.runs then.runs ∙ ap (λ xs. xs ++ positions_at then.runs) first.positions_are ∙ ap (λ xs. ps ++ xs) then.positions_are;
-  ascend = ascending-join f m t first.runs then.runs first.ascend then.ascend;
-  each = All-append Is first.runs then.runs first.each then.each;
-}
-
--- the same from a lower position on
-pub Appends-from : (Is : Home → Type 0) (lower from to : ℕ) (ps : List ℕ) (a b : List Home) → lower ≤ from → Appends Is ps from to a b → Appends Is ps lower to a b
-Appends-from Is lower from to ps a b le appends = record {
-  runs = appends.runs;
-  behind = appends.behind;
-  positions_are = appends.positions_are;
-  ascend = ascending-from lower from to appends.runs le appends.ascend;
-  each = appends.each;
-}
-
-pub Appends-weaker : (Is Was : Home → Type 0) (from to : ℕ) (a b : List Home) (ps : List ℕ) → ((run : Home) → Is run → Was run) → Appends Is ps from to a b → Appends Was ps from to a b
-Appends-weaker Is Was from to a b ps weaker appends = record {
-  runs = appends.runs;
-  behind = appends.behind;
-  positions_are = appends.positions_are;
-  ascend = appends.ascend;
-  each = All-weaker Is Was weaker appends.runs appends.each;
-}
 
 -- ---- homes in turn
 
@@ -157,44 +117,59 @@ home-found size position homes n d turn lt bound before behind =
       ],
     )
 
--- ---- a part of a home is a run
+-- ---- a part of a home
 
-moved : (p a b width : ℕ) → p + a * width + b * width ≡ p + (a + b) * width
+pub moved : (p a b width : ℕ) → p + a * width + b * width ≡ p + (a + b) * width
 moved p a b width = omega (arith, add-mul a b width)
 
-pub IsHomeRun-part : (width size : ℕ) (homes : List Home) (k : ℕ) (d : Home) → AreInTurn 0 homes size → k < length homes → (run : Home) → IsPartOf width (get_or homes k d) run → IsHomeRun width homes run
-IsHomeRun-part width size homes k d turn lt run part =
-    let home = get_or homes k d in
-    record {
-      some = part.some;
-      few = part.few;
-      adjacent = λ i from to. home_among-at width 0 size i homes k d turn lt (omega (arith, part.from)) (omega (arith, part.to))
-          ∙ ap Some (sym (ap (λ p. p + (i - run.position) * width) part.place_is ∙ moved home.place (run.position - home.position) (i - run.position) width ∙ ap (λ n. home.place + n * width) (omega (arith, part.from))));
-    }
+-- its positions from one up to another
+abbrev pub part_of : ℕ → Home → ℕ → ℕ → Home
+part_of width home from to = record { position = from; place = home.place + (from - home.position) * width; count = to - from }
 
--- the place of a position of a home is below the limit
-pub placed_below : (width size : ℕ) (homes : List Home) (k i : ℕ) (d : Home) → AreHomesTo width size homes → k < length homes → (get_or homes k d).position ≤ i → i < (get_or homes k d).position + (get_or homes k d).count
-    → (get_or homes k d).place + (i + 1 - (get_or homes k d).position) * width ≤ 2 ^ 48
-placed_below width size homes k i d are lt from to =
+pub IsAdjacent-part : (width size : ℕ) (homes : List Home) (k : ℕ) (d : Home) (from to : ℕ) → AreInTurn 0 homes size → k < length homes → (get_or homes k d).position ≤ from → to ≤ (get_or homes k d).position + (get_or homes k d).count → IsAdjacent width (home_among width homes) (part_of width (get_or homes k d) from to)
+IsAdjacent-part width size homes k d from to turn lt le ends i after before =
     let home = get_or homes k d in
-    let fits = are.placed i (home.place + (i - home.position) * width) (home_among-at width 0 are.end i homes k d are.in_turn lt from to) in
-    let more : i + 1 - home.position ≡ (i - home.position) + 1 = omega arith in
-    let parts : (i + 1 - home.position) * width ≡ (i - home.position) * width + 1 * width = ap (λ n. n * width) more ∙ add-mul (i - home.position) 1 width in
+    let here : i - home.position ≡ from - home.position + (i - from) = omega arith in
+    home_among-at width 0 size i homes k d turn lt (omega arith) (omega arith)
+    ∙ ap Some (ap (λ n. home.place + n * width) here ∙ sym (moved home.place (from - home.position) (i - from) width))
+
+-- it keeps within the limit on places
+pub part_placed : (width size : ℕ) (homes : List Home) (k : ℕ) (d : Home) (from to : ℕ) → AreHomesTo width size homes → k < length homes → (get_or homes k d).position ≤ from → from < to → to ≤ (get_or homes k d).position + (get_or homes k d).count
+    → (get_or homes k d).place + (from - (get_or homes k d).position) * width + (to - from) * width ≤ 2 ^ 48
+part_placed width size homes k d from to are lt le some ends =
+    let home = get_or homes k d in
+    let fits = are.placed (to - 1) (home.place + (to - 1 - home.position) * width) (home_among-at width 0 are.end (to - 1) homes k d are.in_turn lt (omega arith) (omega arith)) in
+    let all : from - home.position + (to - from) ≡ (to - 1 - home.position) + 1 = omega arith in
+    let last = moved home.place (to - 1 - home.position) 1 width in
+    let whole = moved home.place (from - home.position) (to - from) width ∙ ap (λ n. home.place + n * width) all in
     omega arith
 
--- positions from one place on, and those behind them
-pub ranges-join : (from at count : ℕ) → from ≤ at → range_with_len from (at - from) ++ range_with_len at count ≡ range_with_len from (at + count - from)
-ranges-join from at count le =
-    let here : at ≡ from + (at - from) = omega arith in
-    ap (λ n. range_with_len from (at - from) ++ range_with_len n count) here
-    ∙ range-append from (at - from) count
-    ∙ ap (range_with_len from) (omega arith)
+-- the place of a position that is the first of a home, which may have none, or is in it
+pub first_or_in : (width size : ℕ) (homes : List Home) (k : ℕ) (d : Home) (at : ℕ) → AreHomesTo width size homes → k < length homes → (get_or homes k d).position ≤ at → (at ≡ (get_or homes k d).position) ⊎ (at < (get_or homes k d).position + (get_or homes k d).count) → (get_or homes k d).place < 2 ^ 64
+    → (get_or homes k d).place + (at - (get_or homes k d).position) * width < 2 ^ 64
+first_or_in width size homes k d at are lt le (inl first) small =
+    let none : at - (get_or homes k d).position ≡ 0 = omega arith in
+    let nothing : (at - (get_or homes k d).position) * width ≡ 0 * width = ap (λ n. n * width) none in
+    omega arith
+first_or_in width size homes k d at are lt le (inr inside) small =
+    let placed = part_placed width size homes k d at (at + 1) are lt le (omega arith) (omega arith) in
+    omega arith
 
--- the next positions of a home, as many as one write takes
-pub part_more : (width from to at count : ℕ) (home : Home) (old runs : List Home) → home.position ≤ from → from ≤ at → at + count ≤ to → to ≤ home.position + home.count → 0 < count → count ≤ 4096
-    → Appends (IsPartOf width home) (range_with_len from (at - from)) from at old runs
-    → Appends (IsPartOf width home) (range_with_len from (at + count - from)) from (at + count) old (runs ++ record { position = at; place = home.place + (at - home.position) * width; count = count } ∷ [])
-part_more width from to at count home old runs inside le fits within some few so_far =
-    let run : Home = record { position = at; place = home.place + (at - home.position) * width; count = count } in
-    let grown = Appends-more (IsPartOf width home) from at old runs (range_with_len from (at - from)) run so_far (record { some = some; few = few; from = omega arith; to = omega arith; place_is = refl }) (omega arith) in
-    subst (λ ps. Appends (IsPartOf width home) ps from (at + count) old (runs ++ run ∷ [])) (ranges-join from at count le) grown
+-- ---- runs keep within the limits
+
+IsBounded-run : (width size : ℕ) (homes : List Home) (run : Home) → AreHomesTo width size homes → IsHomeRun width (home_among width homes) run → run.position + run.count ≤ 2 ^ 32 → IsBounded width run
+IsBounded-run width size homes run are is short =
+    let some = is.some in
+    let last : ℕ = run.position + run.count - 1 in
+    let fits = are.placed last (run.place + (last - run.position) * width) (is.adjacent last (omega arith) (omega arith)) in
+    let count : (last - run.position) + 1 ≡ run.count = omega arith in
+    let whole = moved run.place (last - run.position) 1 width ∙ ap (λ n. run.place + n * width) count in
+    record { few = is.few; short = short; placed = omega arith }
+
+pub all_bounded : (width size from to : ℕ) (homes runs : List Home) → AreHomesTo width size homes → to ≤ 2 ^ 32 → AreAscending from to runs → All (IsHomeRun width (home_among width homes)) runs → All (IsBounded width) runs
+all_bounded width size from to homes [] are small ascend each = All-nil (IsBounded width)
+all_bounded width size from to homes (run ∷ runs) are small ascend each =
+    let end = ascending-inside (run.position + run.count) to runs ascend.1 in
+    All-cons (IsBounded width) run runs
+    (IsBounded-run width size homes run are (All-head (IsHomeRun width (home_among width homes)) run runs each) (omega arith))
+    (all_bounded width size (run.position + run.count) to homes runs are small ascend.1 (All-tail (IsHomeRun width (home_among width homes)) run runs each))

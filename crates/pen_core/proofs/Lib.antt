@@ -27,6 +27,7 @@ pub mod NewPen
 pub mod RunsGiven
 pub mod Covers
 pub mod HomeRunSteps
+pub mod GreatestRuns
 pub mod Pieces
 pub mod Opening
 pub mod PieceValues

@@ -64,20 +64,21 @@ bytes_at-none form records from =
     ap (bytes_at form records from) none
 
 -- the bytes of a piece's records behind those of the records before them
-pub values_more : {R : Type 0} (form : Encoding R) (pieces : List (List R)) (k : ℕ) (piece : List R) (start at last from : ℕ) (old mid new : List ℕ) → slice_get pieces k ≡ Some piece → k < length pieces → start ≡ length (joined (take k pieces)) → start ≤ at → at ≤ last → last ≤ start + length piece → from ≤ at
-    → mid ≡ old ++ bytes_at form (joined pieces) from (at - from) → new ≡ mid ++ flat_map form.bytes_of (take (last - start - (at - start)) (drop (at - start) piece)) → new ≡ old ++ bytes_at form (joined pieces) from (last - from)
-values_more form pieces k piece start at last from old mid new found lt is behind some to le so_far wrote =
+pub values_more : {R : Type 0} (form : Encoding R) (pieces : List (List R)) (k : ℕ) (piece : List R) (start at count from : ℕ) (old mid new : List ℕ) → slice_get pieces k ≡ Some piece → k < length pieces → start ≡ length (joined (take k pieces)) → start ≤ at → at + count ≤ start + length piece → from ≤ at
+    → mid ≡ old ++ bytes_at form (joined pieces) from (at - from) → new ≡ mid ++ flat_map form.bytes_of (take (at - start + count - (at - start)) (drop (at - start) piece)) → new ≡ old ++ bytes_at form (joined pieces) from (at + count - from)
+values_more form pieces k piece start at count from old mid new found lt is behind to le so_far wrote =
+    let last : ℕ = at + count in
     let there : get_or pieces k piece ≡ piece = get_or_from_slice_get pieces k piece piece found in
-    let count : last - start - (at - start) ≡ last - at = omega arith in
+    let many : at - start + count - (at - start) ≡ last - at = omega arith in
     let fits : last ≤ start + length (get_or pieces k piece) = subst (λ p. last ≤ start + length p) (sym there) to in
-    let part : take (last - start - (at - start)) (drop (at - start) piece) ≡ take (last - at) (drop at (joined pieces)) =
-    ap (λ n. take n (drop (at - start) piece)) count
+    let part : take (at - start + count - (at - start)) (drop (at - start) piece) ≡ take (last - at) (drop at (joined pieces)) =
+    ap (λ n. take n (drop (at - start) piece)) many
     ∙ ap (λ p. take (last - at) (drop (at - start) p)) (sym there)
-    ∙ piece_part pieces k piece start at last lt is behind some fits in
-    wrote ∙ ap (λ bs. bs ++ flat_map form.bytes_of (take (last - start - (at - start)) (drop (at - start) piece))) so_far
-    ∙ append_assoc old (bytes_at form (joined pieces) from (at - from)) (flat_map form.bytes_of (take (last - start - (at - start)) (drop (at - start) piece)))
+    ∙ piece_part pieces k piece start at last lt is behind (omega arith) fits in
+    wrote ∙ ap (λ bs. bs ++ flat_map form.bytes_of (take (at - start + count - (at - start)) (drop (at - start) piece))) so_far
+    ∙ append_assoc old (bytes_at form (joined pieces) from (at - from)) (flat_map form.bytes_of (take (at - start + count - (at - start)) (drop (at - start) piece)))
     ∙ ap (λ rs. old ++ (bytes_at form (joined pieces) from (at - from) ++ flat_map form.bytes_of rs)) part
-    ∙ ap (λ bs. old ++ bs) (bytes_at-more form (joined pieces) from at last le some)
+    ∙ ap (λ bs. old ++ bs) (bytes_at-more form (joined pieces) from at last le (omega arith))
 
 pub passed_more : {R : Type 0} (pieces : List (List R)) (k : ℕ) (piece : List R) (start : ℕ) → slice_get pieces k ≡ Some piece → k < length pieces → start ≡ length (joined (take k pieces)) → (length (joined (take (k + 1) pieces)) ≡ start + length piece) × (start + length piece ≤ length (joined pieces))
 passed_more pieces k piece start found lt is =

@@ -5,12 +5,8 @@ use Rattle.std.proofs.lemmas.Bool.{false_from_ne_true}
 use Rattle.std.proofs.lemmas.List.Folds.{list_any-append}
 use Rattle.segment_core.specs.declared.found.Home.{Home}
 use Rattle.pen_core.specs.Covered.{has, covers}
-use Rattle.pen_core.specs.HomeRuns.{positions_in, positions_at, AreHomeRuns}
+use Rattle.pen_core.specs.HomeRuns.{span_of, positions_in, positions_at, AreHomeRuns}
 use Rattle.pen_core.proofs.Covers.{has-true, has-longer}
-
--- the first position of a run, and how many it has
-abbrev pub span_of : Home → ℕ × ℕ
-span_of run = (run.position, run.count)
 
 abbrev is_at : ℕ → ℕ → Bool
 is_at i k = has i (k, 1)

@@ -1,5 +1,5 @@
 -- A fold is begun, on a pen's fields.
-use Rattle.std.proofs.Common.{◌≡◌, ℕ, ◌+◌, ◌-◌, ◌^◌, ◌≤◌, ◌<◌, Bool, List, [], ◌∷◌, ◌++◌, length, map, take, drop, All, Option, Some, None, refl, sym, ap, subst, ◌∙◌, arith}
+use Rattle.std.proofs.Common.{◌≡◌, ℕ, ◌+◌, ◌-◌, ◌^◌, ◌≤◌, ◌<◌, Bool, false, List, [], ◌∷◌, ◌++◌, length, map, take, drop, All, Option, Some, None, refl, sym, ap, subst, ◌∙◌, arith}
 use Rattle.std.specs.List.{flat_map}
 use Rattle.std.proofs.lemmas.List.{length-append, length-map, take-append-le, append-nil}
 use Rattle.disk_core.specs.State.{State, now}
@@ -18,19 +18,21 @@ use Rattle.segment_core.specs.Parsed.{vector_before}
 use Rattle.pen_core.specs.declared.fold.Fold.{Fold}
 use Rattle.pen_core.specs.declared.step.Step.{Step}
 use Rattle.pen_core.specs.declared.step.Step.TheVariants.{Body, BodySync, Gate, GateSync}
-use Rattle.pen_core.specs.declared.stage.FoldStage.TheVariants.{Home, Filed}
+use Rattle.pen_core.specs.declared.stage.FoldStage.{FoldStage}
+use Rattle.pen_core.specs.declared.stage.FoldStage.TheVariants.{Home, Sync, Ready, Filed}
 use Rattle.pen_core.specs.declared.stage.FoldStage.TheVariants as stages
 use Rattle.pen_core.specs.Known.{PendingIsFolded, IsFileOf, IsWritten}
 use Rattle.pen_core.specs.Vectors.{frame_at, blanked_before, frames_with}
 use Rattle.pen_core.specs.Plan.{IsPlan}
 use Rattle.pen_core.specs.Values.{write_for}
-use Rattle.pen_core.specs.Folds.{IsFolding}
-use Rattle.pen_core.specs.InHand.{write_of, left_of, gate_then, IsInHand, IsAtStage, HomesAt, IsFold}
+use Rattle.pen_core.specs.Folds.{IsFolding, IsWholeFold}
+use Rattle.pen_core.specs.InHand.{write_of, left_of, in_stage, fold_of, gate_then, IsInHand, IsAtStage, HomesAt, IsFold}
 use Rattle.pen_core.specs.Inside.{job_of, IsMaybeJob, IsAtStep, Stands, IsPen}
 use Rattle.pen_core.specs.Listed.{IsListed}
+use Rattle.pen_core.specs.PenOf.{FoldOf}
 use Rattle.pen_core.specs.Pen.{open_count, job_len}
 use Rattle.pen_core.proofs.Begun.{nothing_folded}
-use Rattle.pen_core.proofs.FoldListed.{some_runs, planned_pen, folding_pen}
+use Rattle.pen_core.proofs.FoldListed.{some_runs, planned_pen, folding_pen, whole_pen}
 use Rattle.pen_core.proofs.HomeTick.{left_long}
 use Rattle.pen_core.proofs.Listed.{live_counted}
 
@@ -110,22 +112,32 @@ plan_for form records width size live homes fold fold' bytes_same writes_same pl
   inside = subst (λ bs. All (λ write. (write.from ≤ write.to) × (write.to ≤ length bs.items)) fold'.writes.items) (sym bytes_same) (subst (λ ws. All (λ write. (write.from ≤ write.to) × (write.to ≤ length fold.bytes.items)) ws.items) (sym writes_same) plan.inside);
 }
 
+unseen_at : (stage : FoldStage) (fold : FoldOf) → in_stage stage fold ≡ None → stage ≡ stages.None
+unseen_at stages.None fold none = refl
+unseen_at (Home n) fold none = absurd cc
+unseen_at Sync fold none = absurd cc
+unseen_at Ready fold none = absurd cc
+unseen_at Filed fold none = absurd cc
+
 pub length_left : (fold : Fold) → fold.done ≡ 0 → length (left_of fold) ≡ length fold.writes.items
 length_left fold first = let long = left_long fold in omega arith
 
 -- ---- it is begun
 
 module _ {R : Type 0} (form : Encoding R) (records : List R) (keeps : Type 0) (states : List State) (shape : Shape) (gate : ℕ) (tally next : Tally) (bytes : List ℕ) (o : Option Step) (broken : Bool) (homes : Homes) (live : ℕ) (fold fold' : Fold)
-    (pen : IsPen (open_count fold.stage fold.count) keeps states shape gate tally next bytes o broken) (listed : IsListed keeps states shape gate tally bytes o homes live fold) (none : fold.stage ≡ stages.None) (some : tally.folded < tally.changes) (room : gate_then gate bytes o + 14 < 2 ^ 48)
+    (pen : IsPen (open_count fold.stage fold.count) keeps states shape gate tally next bytes o broken) (listed : IsListed keeps states shape gate tally bytes o homes live fold) (ready : (broken ≡ false) × (fold_of fold ≡ None) × (tally.folded < tally.changes) × (gate + job_len shape (job_of shape bytes o) + 14 < 2 ^ 48))
     (plan : IsPlan form records shape.width tally.size (take live homes.live.items) homes.homes.items fold') (size_of : (r : R) → length (form.bytes_of r) ≡ shape.width) (all : length records ≡ tally.size) (values : keeps → vector_before shape gate (bytes_of states) ≡ map form.bytes_of records)
     (spelled : fold'.frame.items ≡ frame_text shape.format (kinds.Fold tally.changes) ++ 0 ∷ []) (at : fold'.stage ≡ Home (length fold'.writes.items)) (count_is : fold'.count ≡ tally.changes) (runs_is : fold'.runs ≡ live) (first : fold'.done ≡ 0) where
+  none : fold.stage ≡ stages.None
+  none = unseen_at fold.stage (record { count = fold.count; left = left_of fold; stage = fold.stage }) ready.1
+
   closed : IsPen 0 keeps states shape gate tally next bytes o broken
   closed = subst (λ st. IsPen (open_count st fold.count) keeps states shape gate tally next bytes o broken) none pen
 
-  pub pen_taken : IsPen (open_count fold'.stage fold'.count) keeps states shape gate tally next bytes o broken
+  pen_taken : IsPen (open_count fold'.stage fold'.count) keeps states shape gate tally next bytes o broken
   pen_taken = pen_more (open_count fold'.stage fold'.count) keeps states shape gate tally next bytes o broken closed
 
-  pub listed_taken : IsListed keeps states shape gate tally bytes o homes live fold'
+  listed_taken : IsListed keeps states shape gate tally bytes o homes live fold'
   listed_taken =
       let counted = live_counted shape listed.frames in
       let lived : List Seen = live_of shape listed.frames in
@@ -143,19 +155,19 @@ module _ {R : Type 0} (form : Encoding R) (records : List R) (keeps : Type 0) (s
 
   some_writes : 0 < length fold'.writes.items
   some_writes =
-      let runs = some_runs keeps states shape gate tally bytes o homes live listed plan.cover plan.covered plan.runs plan.at_home some in
+      let runs = some_runs keeps states shape gate tally bytes o homes live listed plan.cover plan.covered plan.runs plan.at_home ready.2 in
       let same = ap length plan.writes_are in
       omega (arith, length-map fold'.writes.items (write_of fold'.bytes.items), length-map plan.runs (write_for form records))
 
-  pub fold_taken : IsFold keeps states shape gate tally bytes o broken fold'
+  fold_taken : IsFold keeps states shape gate tally bytes o broken fold'
   fold_taken = record {
     counts = subst (IsAtStage shape gate tally bytes o fold') (sym at) (
       record {
-        live = omega arith;
+        live = omega (arith, ready.2);
         upto = omega arith;
         planned = planned_pen keeps states shape gate tally bytes o homes live listed plan.cover plan.covered plan.runs plan.at_home form records fold'.bytes.items fold'.writes.items (omega (arith, pen.wide.0)) plan.writes_are size_of all plan.inside;
         spelled = spelled ∙ ap (λ n. frame_text shape.format (kinds.Fold n) ++ 0 ∷ []) (sym count_is);
-        room = room;
+        room = omega (arith, ready.3, gate_seen shape gate tally next bytes o pen.job);
       },
       omega arith,
       some_writes,
@@ -169,3 +181,12 @@ module _ {R : Type 0} (form : Encoding R) (records : List R) (keeps : Type 0) (s
           let made = folding_pen keeps states shape gate tally bytes o homes live listed plan.cover plan.covered plan.runs plan.at_home form records fold'.bytes.items fold'.writes.items (omega (arith, pen.wide.0)) plan.writes_are model (closed.knows model).file.holds (values model) in
           subst (λ n. IsFolding shape n (blanked_before shape gate (bytes_of states)) (vector_before shape gate (bytes_of states)) (left_of fold') (now states)) (sym count_is)
           (subst (λ d. IsFolding shape tally.changes (blanked_before shape gate (bytes_of states)) (vector_before shape gate (bytes_of states)) (map (write_of fold'.bytes.items) (drop d fold'.writes.items)) (now states)) (sym first) made)
+
+  pub taken : IsPen (open_count fold'.stage fold'.count) keeps states shape gate tally next bytes o broken × IsListed keeps states shape gate tally bytes o homes live fold' × IsFold keeps states shape gate tally bytes o broken fold'
+  taken = (pen_taken, listed_taken, fold_taken)
+
+  -- where the disk keeps the model
+  pub whole_taken : keeps → IsWholeFold shape (blanked_before shape gate (bytes_of states)) (vector_before shape gate (bytes_of states)) (left_of fold')
+  whole_taken model =
+      subst (λ d. IsWholeFold shape (blanked_before shape gate (bytes_of states)) (vector_before shape gate (bytes_of states)) (map (write_of fold'.bytes.items) (drop d fold'.writes.items))) (sym first)
+      (whole_pen keeps states shape gate tally bytes o homes live listed plan.cover plan.covered plan.runs plan.at_home form records fold'.bytes.items fold'.writes.items (omega (arith, pen.wide.0)) plan.writes_are model (closed.knows model).file.holds (values model))

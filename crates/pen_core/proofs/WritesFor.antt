@@ -1,7 +1,8 @@
 -- Writes whose bytes stand one behind the other.
-use Rattle.std.proofs.Common.{◌≡◌, ℕ, ◌+◌, ◌-◌, ◌≤◌, ◌<◌, List, [], ◌∷◌, ◌++◌, length, map, take, drop, get_or, All, refl, sym, ap, ◌∙◌, arith}
+use Rattle.std.proofs.Common.{◌≡◌, ℕ, zero, suc, ◌+◌, ◌-◌, ◌≤◌, ◌<◌, List, [], ◌∷◌, ◌++◌, length, map, take, drop, get_or, All, refl, sym, ap, ◌∙◌, arith}
 use Rattle.std.proofs.Math.Seq.{drop-append_seam}
-use Rattle.std.proofs.lemmas.List.{take_all, take-append-le, drop-append-le, take_more, length-append, length-drop, map_push}
+use Rattle.std.specs.List.{flat_map}
+use Rattle.std.proofs.lemmas.List.{drop-take, take-take, take_all, take-append-le, drop-append-le, take_more, length-append, length-drop, map_push}
 use Rattle.std.proofs.lemmas.List.Elements.{All-tail, All-head, All-push, All-weaker}
 use Rattle.record_core.specs.Bytes.{Encoding}
 use Rattle.segment_core.specs.declared.found.Home.{Home}
@@ -59,3 +60,24 @@ within_more bytes more writes place within =
 pub ascending-inside : (from to : ℕ) (runs : List Home) → AreAscending from to runs → from ≤ to
 ascending-inside from to [] ascend = ascend
 ascending-inside from to (run ∷ runs) ascend = let rest = ascending-inside (run.position + run.count) to runs ascend.1 in omega (arith, ascend.0)
+
+pub ascending-ends : (from to : ℕ) (runs : List Home) (k : ℕ) (d : Home) → AreAscending from to runs → k < length runs → (get_or runs k d).position + (get_or runs k d).count ≤ to
+ascending-ends from to [] k d ascend lt = absurd (omega arith)
+ascending-ends from to (run ∷ runs) zero d ascend lt = ascending-inside (run.position + run.count) to runs ascend.1
+ascending-ends from to (run ∷ runs) (suc k) d ascend lt = ascending-ends (run.position + run.count) to runs k d ascend.1 (omega arith)
+
+-- ---- records behind the last run
+
+cut_part : {X : Type 0} (xs : List X) (n from count : ℕ) → from + count ≤ n → take count (drop from (take n xs)) ≡ take count (drop from xs)
+cut_part xs n from count le =
+    let split : n ≡ from + (n - from) = omega arith in
+    ap (λ m. take count (drop from (take m xs))) split
+    ∙ ap (take count) (drop-take from (n - from) xs)
+    ∙ take-take count (n - from) (drop from xs) (omega arith)
+
+-- they are no matter to its writes
+pub writes_for-take : {R : Type 0} (form : Encoding R) (records : List R) (n from : ℕ) (runs : List Home) → AreAscending from n runs → writes_for form (take n records) runs ≡ writes_for form records runs
+writes_for-take form records n from [] ascend = refl
+writes_for-take form records n from (run ∷ runs) ascend =
+    ap (λ rs. record { place = run.place; bytes = flat_map form.bytes_of rs } ∷ writes_for form (take n records) runs) (cut_part records n run.position run.count (ascending-inside (run.position + run.count) n runs ascend.1))
+    ∙ ap (λ ws. write_for form records run ∷ ws) (writes_for-take form records n (run.position + run.count) runs ascend.1)

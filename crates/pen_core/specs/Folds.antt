@@ -1,13 +1,19 @@
--- A fold in hand: what its home writes make of the file once all of them are done.
-use Rattle.std.specs.Prelude.{ℕ, ◌+◌, ◌<◌, ◌≤◌, List, [], ◌∷◌, length}
+-- A fold: what it writes, and what its home writes make of the file once all of them are done.
+use Rattle.std.specs.Prelude.{◌≡◌, ℕ, ◌+◌, ◌<◌, ◌≤◌, List, [], ◌∷◌, length, map, is_some}
 use Rattle.std.specs.List.{AllByRecursion}
 use Rattle.disk_core.specs.State.{State, overlay}
 use Rattle.segment_core.specs.declared.format.Shape.{Shape}
+use Rattle.segment_core.specs.declared.found.Home.{Home}
 use Rattle.segment_core.specs.Frame.{Frame}
 use Rattle.segment_core.specs.Folding.{HomesHold}
 use Rattle.segment_core.specs.Raw.{raw}
+use Rattle.segment_core.specs.Tally.{tally_of}
+use Rattle.segment_core.specs.Vector.{home_of, change_of}
+use Rattle.pen_core.specs.Covered.{covers}
 use Rattle.pen_core.specs.Held.{IsBeingFolded, gate_of}
+use Rattle.pen_core.specs.HomeRuns.{span_of, AreRuns}
 use Rattle.pen_core.specs.PenOf.{HomeWrite}
+use Rattle.pen_core.specs.Values.{writes_for}
 
 -- writes laid over bytes, one after the other
 abbrev pub laid : List HomeWrite → List ℕ → List ℕ
@@ -25,3 +31,11 @@ pub record IsHomeWrite (shape : Shape) (count : ℕ) (frames : List Frame) (writ
 pub record IsFolding (shape : Shape) (count : ℕ) (frames : List Frame) (vector : List (List ℕ)) (left : List HomeWrite) (s : State) : Type 0 where
   pub homes_hold : HomesHold shape.format (raw shape.width) (laid left s.seen) frames count vector
   pub into_homes : AllByRecursion (IsHomeWrite shape count frames) left
+
+-- What a fold of all live changes writes: the records of just the positions that these cover, into their home bytes, by
+-- one write for each greatest run.
+pub record IsWholeFold (shape : Shape) (frames : List Frame) (vector : List (List ℕ)) (left : List HomeWrite) : Type 0 where
+  pub runs : List Home
+  pub writes_are : left ≡ writes_for (raw shape.width) vector runs
+  pub covered : (i : ℕ) → covers i (map span_of runs) ≡ is_some (change_of shape (tally_of frames).folded frames i)
+  pub runs_are : AreRuns shape.width (home_of shape frames) (tally_of frames).size runs

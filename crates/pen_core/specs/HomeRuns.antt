@@ -1,5 +1,5 @@
 -- Positions in runs whose home bytes are adjacent.
-use Rattle.std.specs.Prelude.{◌≡◌, ℕ, ◌+◌, ◌-◌, ◌*◌, ◌≤◌, ◌<◌, ◌^◌, List, [], ◌∷◌, ◌++◌, Some, All}
+use Rattle.std.specs.Prelude.{◌≡◌, ℕ, ◌+◌, ◌-◌, ◌*◌, ◌≤◌, ◌<◌, ◌^◌, List, [], ◌∷◌, Option, Some, All}
 use Rattle.std.specs.List.{flat_map, range_with_len}
 use Rattle.segment_core.specs.declared.found.Home.{Home}
 use Rattle.segment_core.specs.Found.{home_among, AreInTurn}
@@ -16,6 +16,10 @@ positions_in runs = flat_map (λ run. range_with_len run.0 run.1) runs
 abbrev pub positions_at : List Home → List ℕ
 positions_at homes = flat_map (λ home. range_with_len home.position home.count) homes
 
+-- the first position of a run, and how many it has
+abbrev pub span_of : Home → ℕ × ℕ
+span_of run = (run.position, run.count)
+
 -- each position below the size has one home, whose bytes keep within the limit on gates; positions behind them may
 -- have homes too
 pub record AreHomesTo (width size : ℕ) (homes : List Home) : Type 0 where
@@ -25,35 +29,52 @@ pub record AreHomesTo (width size : ℕ) (homes : List Home) : Type 0 where
   pub in_turn : AreInTurn 0 homes end
   pub placed : (i p : ℕ) → home_among width homes i ≡ Some p → p + width ≤ 2 ^ 48
 
--- positions, few enough for one write, whose home bytes stand one behind the other from its place on
-pub record IsHomeRun (width : ℕ) (homes : List Home) (run : Home) : Type 0 where
-  pub some : 0 < run.count
-  pub few : run.count ≤ write_limit
-  pub adjacent : (i : ℕ) → run.position ≤ i → i < run.position + run.count → home_among width homes i ≡ Some (run.place + (i - run.position) * width)
+-- positions whose home bytes stand one behind the other, from its place on
+abbrev pub IsAdjacent : ℕ → (ℕ → Option ℕ) → Home → Type 0
+IsAdjacent width home run = (i : ℕ) → run.position ≤ i → i < run.position + run.count → home i ≡ Some (run.place + (i - run.position) * width)
 
--- positions of one home, few enough for one write
-pub record IsPartOf (width : ℕ) (home run : Home) : Type 0 where
+-- such positions, few enough for one write
+pub record IsHomeRun (width : ℕ) (home : ℕ → Option ℕ) (run : Home) : Type 0 where
   pub some : 0 < run.count
   pub few : run.count ≤ write_limit
-  pub from : home.position ≤ run.position
-  pub to : run.position + run.count ≤ home.position + home.count
-  pub place_is : run.place ≡ home.place + (run.position - home.position) * width
+  pub adjacent : IsAdjacent width home run
 
 -- each begins at or behind the end of the one before, and all stand between these positions
 abbrev pub AreAscending : ℕ → ℕ → List Home → Type 0
 AreAscending from to [] = from ≤ to
 AreAscending from to (run ∷ runs) = (from ≤ run.position) × AreAscending (run.position + run.count) to runs
 
--- behind the old ones stand runs between these two positions, each of which is so, with these positions
-pub record Appends (Is : Home → Type 0) (positions : List ℕ) (from to : ℕ) (old new : List Home) : Type 0 where
-  pub runs : List Home
-  pub behind : new ≡ old ++ runs
-  pub positions_are : positions_at runs ≡ positions
-  pub ascend : AreAscending from to runs
-  pub each : All Is runs
+-- the next one begins where the run ends, in the vector and in the file
+abbrev pub Meets : ℕ → Home → Home → Type 0
+Meets width run next = (next.position ≡ run.position + run.count) × (next.place ≡ run.place + run.count * width)
 
--- just the positions of the cover, in order, in such runs
+-- the next one can't be joined to the run: it doesn't begin where that ends, or the run fills a write
+abbrev pub IsApartFrom : ℕ → Home → List Home → Type 0
+IsApartFrom width run [] = Unit {0}
+IsApartFrom width run (next ∷ runs) = Meets width run next → run.count ≡ write_limit
+
+-- none can be joined to the one before it
+abbrev pub AreGreatest : ℕ → List Home → Type 0
+AreGreatest width [] = Unit {0}
+AreGreatest width (run ∷ runs) = IsApartFrom width run runs × AreGreatest width runs
+
+-- the greatest runs, in ascending order, up to this position
+pub record AreRuns (width : ℕ) (home : ℕ → Option ℕ) (to : ℕ) (runs : List Home) : Type 0 where
+  pub ascend : AreAscending 0 to runs
+  pub each : All (IsHomeRun width home) runs
+  pub greatest : AreGreatest width runs
+
+-- few enough for one write, and within the limits on positions and on places
+pub record IsBounded (width : ℕ) (run : Home) : Type 0 where
+  pub few : run.count ≤ write_limit
+  pub short : run.position + run.count ≤ 2 ^ 32
+  pub placed : run.place + run.count * width ≤ 2 ^ 48
+
+-- what is left of a run behind its first positions
+abbrev pub behind : ℕ → Home → ℕ → Home
+behind width run n = record { position = run.position + n; place = run.place + n * width; count = run.count - n }
+
+-- just the positions of the cover, in order, in the greatest runs
 pub record AreHomeRuns (width size : ℕ) (homes : List Home) (cover : List (ℕ × ℕ)) (runs : List Home) : Type 0 where
   pub positions_are : positions_at runs ≡ positions_in cover
-  pub ascend : AreAscending 0 size runs
-  pub each : All (IsHomeRun width homes) runs
+  pub runs_are : AreRuns width (home_among width homes) size runs

@@ -222,12 +222,21 @@ job_len shape (Some job) = length (frame_text shape.format job.frame)
 abbrev pub gate_behind_fold : {D : Type 0} → PenOf D → ℕ
 gate_behind_fold pen = pen.gate + job_len pen.shape pen.job + 14
 
+-- whether there is something to fold, and room for the frame
+abbrev pub IsReadyToFold : {D : Type 0} → PenOf D → Bool → Type 0
+IsReadyToFold pen true = (pen.broken ≡ false) × (pen.fold ≡ None) × (pen.tally.folded < pen.tally.changes) × (gate_behind_fold pen < 2 ^ 48)
+IsReadyToFold pen false = (pen.broken ≡ false) × (pen.fold ≡ None) × (pen.tally.changes ≤ pen.tally.folded)
+
+-- why none may be begun, whatever memory there is
+abbrev pub IsFoldBarred : {D : Type 0} → PenOf D → PenFault → Type 0
+IsFoldBarred pen fault =
+    ((fault ≡ faults.Broken) × (pen.broken ≡ true))
+    ⊎ (((fault ≡ faults.Busy) × (pen.broken ≡ false) × (is_some pen.fold ≡ true))
+    ⊎ ((fault ≡ faults.FileFull) × (pen.broken ≡ false) × (pen.fold ≡ None) × (pen.tally.folded < pen.tally.changes) × (2 ^ 48 ≤ gate_behind_fold pen)))
+
 -- A fold of all changes in the file is in hand, and nothing else has changed.
 pub record BeginsFold {D : Type 0} (old new : PenOf D) : Type 0 where
-  pub whole : old.broken ≡ false
-  pub none : old.fold ≡ None
-  pub live : old.tally.folded < old.tally.changes
-  pub fits : gate_behind_fold old < 2 ^ 48
+  pub ready : IsReadyToFold old true
   pub left : List HomeWrite
   pub fold_is : new.fold ≡ Some (record { count = old.tally.changes; left = left; stage = folds.Home (length left) })
   pub disk_same : new.disk ≡ old.disk
@@ -243,15 +252,11 @@ pub record BeginsFold {D : Type 0} (old new : PenOf D) : Type 0 where
 -- whether one was begun: not where no change is live
 abbrev pub IsFoldAnswer : {D : Type 0} → PenOf D → PenOf D → Bool → Type 0
 IsFoldAnswer old new true = BeginsFold old new
-IsFoldAnswer old new false = (old.broken ≡ false) × (old.fold ≡ None) × (old.tally.changes ≤ old.tally.folded) × (new ≡ old)
+IsFoldAnswer old new false = IsReadyToFold old false × (new ≡ old)
 
 -- why none was
 abbrev pub IsFoldRefusal : {D : Type 0} → PenOf D → PenFault → Type 0
-IsFoldRefusal old fault =
-    ((fault ≡ faults.Broken) × (old.broken ≡ true))
-    ⊎ (((fault ≡ faults.Busy) × (old.broken ≡ false) × (is_some old.fold ≡ true))
-    ⊎ (((fault ≡ faults.FileFull) × (old.broken ≡ false) × (old.fold ≡ None) × (old.tally.folded < old.tally.changes) × (2 ^ 48 ≤ gate_behind_fold old))
-    ⊎ ((fault ≡ faults.Memory) × (old.broken ≡ false) × (old.fold ≡ None) × (old.tally.folded < old.tally.changes) × (gate_behind_fold old < 2 ^ 48))))
+IsFoldRefusal old fault = IsFoldBarred old fault ⊎ ((fault ≡ faults.Memory) × IsReadyToFold old true)
 
 -- ---- begins
 

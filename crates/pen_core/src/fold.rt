@@ -1,6 +1,6 @@
 //! A fold in hand: the home bytes that it writes anew, and the frame that says so then.
 
-ghost use Rattle.std.specs.Prelude.{◌≡◌, ◌≤◌, ◌<◌, ◌+◌, ◌^◌, ℕ, List, All, length, OnOk, OnErr};
+ghost use Rattle.std.specs.Prelude.{◌≡◌, ◌≤◌, ◌<◌, ◌+◌, ◌^◌, ℕ, List, All, length, take, OnOk, OnErr};
 ghost use Rattle.segment_core.specs.Written.{joined};
 ghost use Rattle.pen_core.specs.Covered.{IsCover};
 ghost use Rattle.pen_core.specs.HomeRuns.{AreHomesTo};
@@ -93,8 +93,9 @@ impl Fold {
         matches!(self.stage, FoldStage::None)
     }
 
-    /// Plans the home writes of the positions that these live runs cover, with their values now. The homes are those of
-    /// the vector's positions, and maybe of positions behind them. The fold begins no sooner than its stage is set.
+    /// Plans the home writes of the positions that these live runs cover, with their values now. The pieces begin with
+    /// the vector; the homes are those of its positions, and maybe of positions behind them. The fold begins no sooner
+    /// than its stage is set.
     pub(crate) fn plan<R: Record, G: GrowthList<R>>(
         &mut self,
         live: &[(u64, u64)],
@@ -107,10 +108,10 @@ impl Fold {
         requires small { All (λ run. run.0 + run.1 ≤ 2 ^ 32) live.now }
         requires inside { (cover : List (ℕ × ℕ)) → IsCover live.now cover → All (λ run. run.0 + run.1 ≤ size) cover }
         requires homes { AreHomesTo width size homes.now }
-        requires all { length (joined (G.growths pieces.now)) ≡ size }
+        requires all { size ≤ length (joined (G.growths pieces.now)) }
         requires few { size ≤ 2 ^ 32 }
         requires width { R.form.width < 2 ^ 16 }
-        ensures planned { OnOk result (IsPlan R.form (joined (G.growths pieces.now)) width size live.now homes.now self.new) }
+        ensures planned { OnOk result (IsPlan R.form (take size (joined (G.growths pieces.now))) width size live.now homes.now self.new) }
         ensures same { (self.new.stage ≡ self.old.stage) × (self.new.count ≡ self.old.count) × (self.new.runs ≡ self.old.runs) × (self.new.frame ≡ self.old.frame) }
         ensures from_first { OnOk result (self.new.done ≡ 0) }
     {

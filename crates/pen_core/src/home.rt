@@ -1,10 +1,11 @@
 //! A fold's begin, and its ticks: its home writes, their sync, and its frame as the log job.
 
-ghost use Rattle.std.specs.Prelude.{◌≡◌, ◌+◌, ◌-◌, ◌≤◌, ◌<◌, ◌^◌, length, map, OnOk, OnErr, IfOk, IfErr, MatchResult, false};
+ghost use Rattle.std.specs.Prelude.{◌≡◌, ◌+◌, ◌-◌, ◌≤◌, ◌<◌, ◌^◌, length, map, take, OnOk, OnErr, IfOk, IfErr, IfSome, MatchResult, false};
 ghost use Rattle.disk_core.specs.Moments.{LeavesOnly, clock};
 ghost use Rattle.segment_core.specs.Written.{joined};
+ghost use Rattle.pen_core.specs.Folds.{IsWholeFold};
 ghost use Rattle.pen_core.specs.InHand.{gate_then};
-ghost use Rattle.pen_core.specs.Pen.{MayOpen, IsKept, FileSame, IsHomeTicked, IsHomeFault, home_calls_due, failed_calls, IsUnchanged, IsFoldAnswer, IsFoldRefusal};
+ghost use Rattle.pen_core.specs.Pen.{MayOpen, IsKept, FileSame, IsHomeTicked, IsHomeFault, home_calls_due, failed_calls, IsUnchanged, IsReadyToFold, IsFoldBarred, IsFoldAnswer, IsFoldRefusal};
 
 use crate::begin::GATE_LIMIT;
 use crate::fault::PenFault;
@@ -30,21 +31,12 @@ fn gate_behind(gate: u64, step: Option<Step>, bytes: &[u8]) -> u64
 }
 
 impl<D: Disk> Pen<D> {
-    /// Begins to fold all changes in the file; one in hand isn't among them. The pieces are the file's vector now, in
-    /// order; a job in hand doesn't count. Answers whether a fold was begun: not where no change is live.
+    /// Whether a fold would be begun now, if memory for it can be had: not where no change is live. It takes no memory.
     ///
-    /// It takes all memory that the fold needs. Refused, in this order: `Broken`; `Busy`, while a fold is in hand;
-    /// then, where a change is live, `FileFull`; `Memory`.
-    pub fn begin_fold_from<R: Record, G: GrowthList<R>>(
-        &mut self,
-        pieces: &G,
-    ) -> Result<bool, PenFault>
-        requires width { R.form.width ≡ self.old.shape.width }
-        requires all { length (joined (G.growths pieces.now)) ≡ self.old.tally.size }
-        requires values { D.keeps self.old.disk → self.old.vector ≡ map R.form.bytes_of (joined (G.growths pieces.now)) }
-        ensures begun { IfOk result (λ begun. IsFoldAnswer self.old self.new begun) }
-        ensures refused { IfErr result (λ fault. IsFoldRefusal self.old fault) }
-        ensures unchanged { OnErr result (IsUnchanged self.old self.new) }
+    /// Refused, in this order: `Broken`; `Busy`, while a fold is in hand; then, where a change is live, `FileFull`.
+    pub fn ready_fold(&self) -> Result<bool, PenFault>
+        ensures ready { IfOk result (λ ready. IsReadyToFold self.now ready) }
+        ensures refused { IfErr result (λ fault. IsFoldBarred self.now fault) }
     {
         if self.broken {
             return Err(PenFault::Broken);
@@ -55,9 +47,31 @@ impl<D: Disk> Pen<D> {
         if self.tally.changes <= self.tally.folded {
             return Ok(false);
         }
-        let gate = gate_behind(self.gate, self.step, &self.bytes);
-        if gate >= GATE_LIMIT - FRAME_LEN {
+        if gate_behind(self.gate, self.step, &self.bytes) >= GATE_LIMIT - FRAME_LEN {
             return Err(PenFault::FileFull);
+        }
+        Ok(true)
+    }
+
+    /// Begins to fold all changes in the file; one in hand isn't among them. The pieces begin with the file's vector
+    /// now, in order; a job in hand doesn't count. Answers whether a fold was begun: not where no change is live.
+    ///
+    /// It takes all memory that the fold needs. Refused, in this order: `Broken`; `Busy`, while a fold is in hand;
+    /// then, where a change is live, `FileFull`; `Memory`.
+    pub fn begin_fold_from<R: Record, G: GrowthList<R>>(
+        &mut self,
+        pieces: &G,
+    ) -> Result<bool, PenFault>
+        requires width { R.form.width ≡ self.old.shape.width }
+        requires all { self.old.tally.size ≤ length (joined (G.growths pieces.now)) }
+        requires values { D.keeps self.old.disk → self.old.vector ≡ map R.form.bytes_of (take self.old.tally.size (joined (G.growths pieces.now))) }
+        ensures begun { IfOk result (λ begun. IsFoldAnswer self.old self.new begun) }
+        ensures plans { D.keeps self.old.disk → OnOk result (IfSome self.new.fold (λ fold. IsWholeFold self.old.shape self.old.frames self.old.vector fold.left)) }
+        ensures refused { IfErr result (λ fault. IsFoldRefusal self.old fault) }
+        ensures unchanged { OnErr result (IsUnchanged self.old self.new) }
+    {
+        if !self.ready_fold()? {
+            return Ok(false);
         }
         let live = &self.homes.live[..self.live];
         let width = self.shape.width as u64;
@@ -80,9 +94,10 @@ impl<D: Disk> Pen<D> {
     /// Begins to fold all changes in the file. `begin_fold_from` says more.
     pub fn begin_fold<R: Record>(&mut self, pieces: &[&[R]]) -> Result<bool, PenFault>
         requires width { R.form.width ≡ self.old.shape.width }
-        requires all { length (joined (map (λ piece. piece.now) pieces.now)) ≡ self.old.tally.size }
-        requires values { D.keeps self.old.disk → self.old.vector ≡ map R.form.bytes_of (joined (map (λ piece. piece.now) pieces.now)) }
+        requires all { self.old.tally.size ≤ length (joined (map (λ piece. piece.now) pieces.now)) }
+        requires values { D.keeps self.old.disk → self.old.vector ≡ map R.form.bytes_of (take self.old.tally.size (joined (map (λ piece. piece.now) pieces.now))) }
         ensures begun { IfOk result (λ begun. IsFoldAnswer self.old self.new begun) }
+        ensures plans { D.keeps self.old.disk → OnOk result (IfSome self.new.fold (λ fold. IsWholeFold self.old.shape self.old.frames self.old.vector fold.left)) }
         ensures refused { IfErr result (λ fault. IsFoldRefusal self.old fault) }
         ensures unchanged { OnErr result (IsUnchanged self.old self.new) }
     {

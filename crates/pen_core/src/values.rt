@@ -31,7 +31,6 @@ pub(crate) fn append_values<R: Record, G: GrowthList<R>>(
     requires ahead { passed.old.records ≤ from }
     requires some { from ≤ to }
     requires inside { to ≤ length (joined (G.growths pieces.now)) }
-    requires few { length (joined (G.growths pieces.now)) ≤ 2 ^ 32 }
     requires small { (to - from) * R.form.width ≤ 2 ^ 48 }
     ensures values { OnOk result (bytes.new.items ≡ bytes.old.items ++ bytes_at R.form (joined (G.growths pieces.now)) from (to - from)) }
     ensures passed { OnOk result (IsPassed (G.growths pieces.now) passed.new) }
@@ -40,36 +39,33 @@ pub(crate) fn append_values<R: Record, G: GrowthList<R>>(
     let mut at = from;
     for k in passed.pieces..pieces.count() {
         let piece = pieces.growth(k);
-        let start = passed.records;
-        let end = start + piece.len() as u64;
-        if at < end {
-            let last = to.min(end);
-            append_records(
-                &piece[(at - start) as usize..(last - start) as usize],
-                bytes,
-            )?;
-            at = last;
+        let len = piece.len() as u64;
+        let skipped = at - passed.records;
+        if skipped < len {
+            let count = (to - at).min(len - skipped);
+            append_records(&piece[skipped as usize..(skipped + count) as usize], bytes)?;
+            at += count;
         }
         if at == to {
             return Ok(());
         }
         passed.pieces = k + 1;
-        passed.records = end;
+        passed.records += len;
     }
     Ok(())
 }
 
-/// The writes that put the records of these runs into their home bytes, and what they write. The pieces are the whole
-/// vector, in order; the runs ascend. Each piece is looked at once.
+/// The writes that put the records of these runs into their home bytes, and what they write. The pieces begin with the
+/// vector; the runs ascend. Each piece is looked at once, and none behind the last run.
 pub(crate) fn home_writes<R: Record, G: GrowthList<R>>(
     pieces: &G,
     runs: &[Home],
     writes: &mut Vec<Write>,
     bytes: &mut Vec<u8>,
 ) -> Result<(), AllocError>
-    requires few { length (joined (G.growths pieces.now)) ≤ 2 ^ 32 }
     requires width { R.form.width < 2 ^ 16 }
     requires ascend { AreAscending 0 (length (joined (G.growths pieces.now))) runs.now }
+    requires few { AreAscending 0 (2 ^ 32) runs.now }
     ensures writes { OnOk result (map (write_of bytes.new.items) writes.new.items ≡ writes_for R.form (joined (G.growths pieces.now)) runs.now) }
     ensures inside { OnOk result (All (λ write. (write.from ≤ write.to) × (write.to ≤ length bytes.new.items)) writes.new.items) }
 {

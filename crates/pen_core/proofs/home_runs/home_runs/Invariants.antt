@@ -1,12 +1,14 @@
-use Rattle.std.proofs.Common.{ℕ, ◌≤◌, [], take, drop}
+use Rattle.std.proofs.Common.{◌≡◌, ℕ, ◌≤◌, take, drop}
+use Rattle.segment_core.specs.Found.{home_among}
 use Rattle.pen_core.specs.Covered.{StandApart}
-use Rattle.pen_core.specs.HomeRuns.{positions_in, IsHomeRun, Appends}
+use Rattle.pen_core.specs.HomeRuns.{positions_in, positions_at, AreRuns}
 use Rattle.pen_core.proofs.home_runs.home_runs.Given as goal
 
 abbrev pub invariant-loop-k : goal.invariant-loop-k
 invariant-loop-k l = record {
   end : ℕ;
   inside : end ≤ l.size;
-  so_far : Appends (IsHomeRun l.width l.homes) (positions_in (take l.k l.cover)) 0 end [] l.runs.items;
+  positions : positions_at l.runs.items ≡ positions_in (take l.k l.cover);
+  runs_are : AreRuns l.width (home_among l.width l.homes) end l.runs.items;
   left : StandApart end (drop l.k l.cover);
 }

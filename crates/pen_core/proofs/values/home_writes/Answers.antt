@@ -6,7 +6,7 @@ use Rattle.segment_core.specs.declared.found.Home.{Home}
 use Rattle.segment_core.specs.Written.{joined}
 use Rattle.pen_core.specs.HomeRuns.{AreAscending}
 use Rattle.pen_core.specs.Values.{bytes_at, writes_for}
-use Rattle.pen_core.proofs.WritesFor.{Within, writes_more, within_more, ascending-inside}
+use Rattle.pen_core.proofs.WritesFor.{Within, writes_more, within_more, ascending-inside, ascending-ends}
 use Rattle.pen_core.proofs.values.home_writes.Goals as goal
 
 abbrev blank : Home
@@ -35,9 +35,8 @@ loop-k-init g c =
 
 pub overflow_add-end : goal.overflow_add-end
 overflow_add-end g c =
-    let all = length (joined (g.G.GrowthList.growths c.args.pieces.now)) in
-    let next = next_run c.loop-k.invariant.end all c.args.runs.now c.loop-k.k c.loop-k-test.true c.loop-k.invariant.left in
-    omega (arith, next.1, c.requires.few)
+    let end = ascending-ends 0 (2 ^ 32) c.args.runs.now c.loop-k.k blank c.requires.few c.loop-k-test.true in
+    omega arith
 
 pub append_values-requires-clause-passed : goal.append_values-requires-clause-passed
 append_values-requires-clause-passed g c κs within = c.loop-k.invariant.passed
@@ -55,11 +54,9 @@ append_values-requires-clause-inside g c κs within =
 
 pub append_values-requires-clause-small : goal.append_values-requires-clause-small
 append_values-requires-clause-small g c κs within =
-    let all = length (joined (g.G.GrowthList.growths c.args.pieces.now)) in
     let run = get_or c.args.runs.now c.loop-k.k blank in
-    let next = next_run c.loop-k.invariant.end all c.args.runs.now c.loop-k.k c.loop-k-test.true c.loop-k.invariant.left in
-    let less = mul-le (run.position + run.count - run.position) g.R.Record.form.width (2 ^ 32) (2 ^ 16) (omega (arith, next.1, c.requires.few)) (omega (arith, c.requires.width)) in
-    less
+    let end = ascending-ends 0 (2 ^ 32) c.args.runs.now c.loop-k.k blank c.requires.few c.loop-k-test.true in
+    mul-le (run.position + run.count - run.position) g.R.Record.form.width (2 ^ 32) (2 ^ 16) (omega arith) (omega (arith, c.requires.width))
 
 pub push_reserved-requires : goal.push_reserved-requires
 push_reserved-requires g c = omega (arith, c.loop-k.invariant.many, c.loop-k.invariant.room, c.loop-k-test.true)
