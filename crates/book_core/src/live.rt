@@ -3,7 +3,7 @@
 ghost use Rattle.std.specs.Prelude.{◌≡◌, ◌+◌, ◌<◌, ◌≤◌, [], length, take, drop, slice_get, Some, IfOk, IfErr, IfSome, OnOk, MatchOption, MatchResult};
 ghost use Rattle.directory_core.specs.Limits.{record_limit};
 ghost use Rattle.directory_core.specs.Chain.{total, joined, Begins, Agree, Meets, IsChained};
-ghost use Rattle.book_core.specs.Marks.{nothing};
+ghost use Rattle.book_core.specs.Marks.{nothing, Rises};
 ghost use Rattle.book_core.specs.Lists.{records_of, joined_pieces, opening_of, IsOf, own_of, HasJustItsOwn, IsFirstOf, list_of};
 ghost use Rattle.book_core.specs.Growing.{Learns, IsLookFault, size_of};
 ghost use Rattle.book_core.specs.Beginning.{AreNewSeats, IsBeginRefusal, MayBegin};
@@ -226,6 +226,33 @@ impl<R: Record> Live<R> {
         self.directory.entry(pass, number)
     }
 
+    /// The pass of who settles the growths learns what a seat knows. It then knows what either knew; one of the two
+    /// lists begins the other.
+    pub fn meet_by(&self, pass: &mut Pass<R>, seat: &mut Seat<R>)
+        requires of { (pass.old.of ≡ self.now.directory) × IsOf self.now seat.old }
+        ensures of { pass.new.of ≡ self.now.directory }
+        ensures same { seat.new ≡ seat.old }
+        ensures agree { Agree pass.old.entries seat.old.pass.entries }
+        ensures meets { Meets pass.old.entries seat.old.pass.entries pass.new.entries }
+    {
+        pass.meet(&mut seat.pass);
+    }
+
+    /// Takes in a seat that is given up, for who settles the growths: the pass learns what the seat knew, and what
+    /// the seat was told rises to what the mark tells.
+    pub fn take_in(&self, pass: &mut Pass<R>, mark: &mut Writer, seat: Seat<R>)
+        requires of { (pass.old.of ≡ self.now.directory) × (mark.old.of ≡ self.now.mark) × IsOf self.now seat }
+        ensures of { pass.new.of ≡ self.now.directory }
+        ensures agree { Agree pass.old.entries seat.pass.entries }
+        ensures meets { Meets pass.old.entries seat.pass.entries pass.new.entries }
+        ensures same { mark.new ≡ mark.old }
+        ensures told { Rises seat.mark.told mark.old.told }
+    {
+        let (mut known, reader) = seat.into_parts();
+        pass.meet(&mut known);
+        mark.take_in(&self.mark, reader);
+    }
+
     /// The mark of the phase, for who raises it.
     pub fn mark(&self) -> &Mark
         ensures { result.now ≡ self.now.mark }
@@ -239,6 +266,21 @@ impl<R: Record> Live<R> {
         ensures in_limit { result + self.now.directory.limit ≡ record_limit }
     {
         self.opening.len()
+    }
+
+    /// How many blocks are from before the phase.
+    pub fn block_count(&self) -> u64
+        ensures { result ≡ length self.now.blocks }
+    {
+        self.opening.blocks.len() as u64
+    }
+
+    /// The block of that number from before the phase, lent for the life of the book.
+    pub fn block(&self, number: u64) -> &[R]
+        requires { number < length self.now.blocks }
+        ensures { slice_get self.now.blocks number ≡ Some result.now }
+    {
+        self.opening.blocks[number as usize].as_slice()
     }
 
     /// Ends the phase, and gives the blocks from before it.

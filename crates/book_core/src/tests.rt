@@ -12,6 +12,7 @@ use std::sync::Wait;
 use std::test::Fail;
 
 mod reading;
+mod settling;
 mod snapshot;
 mod threads;
 

@@ -63,8 +63,13 @@ impl<R: Record> Live<R> {
         }
     }
 
-    /// Sleeps until more than `known` growths were published, or the book is closed, and answers whether it is.
-    /// For the one flusher of a phase.
+    /// Sleeps until more than `known` growths were published, or the book is closed, and answers whether it is
+    /// closed. For the one flusher of a phase.
+    ///
+    /// After `true` a look finds all growths of the phase, unless it answers `Strayed`; after `false`, more than
+    /// `known`. No clause says so; the reason is the book's lock. Each growth is published under it, the book is
+    /// closed under it, and this reads under it that it is closed. So a growth that took the lock before the close
+    /// was published before this answers, and one that takes it after the close is refused.
     pub fn await_more<E: Wait>(&self, rt: &E, known: u64) -> bool {
         let mut book = self.lock.lock(rt);
         for _ in rt.forever() {

@@ -1,6 +1,6 @@
 -- Growths as a frame that may follow, and the records behind it.
 use Rattle.std.proofs.Common.{Bool, false, ◌≡◌, ℕ, ◌+◌, ◌*◌, ◌^◌, ◌≤◌, ◌<◌, List, [], ◌∷◌, ◌++◌, length, map, sum, Option, Some, None, refl, sym, ap, subst, ◌∙◌, arith}
-use Rattle.std.specs.List.{flat_map, AllByRecursion}
+use Rattle.std.specs.List.{AllByRecursion}
 use Rattle.std.proofs.lemmas.Bool.{le-ltb}
 use Rattle.std.proofs.lemmas.List.{length-append, length-map}
 use Rattle.disk_core.specs.State.{State, now, IsImage}
@@ -14,11 +14,10 @@ use Rattle.segment_core.specs.Shape.{limit_of}
 use Rattle.segment_core.specs.Frame.{Frame, Fold, frame_text}
 use Rattle.segment_core.specs.Layout.{IsLength, IsFrame}
 use Rattle.segment_core.specs.Tally.{after, MayFollow}
-use Rattle.segment_core.specs.Raw.{cells_in, after_frame, AreReadAs}
+use Rattle.segment_core.specs.Raw.{after_frame, AreCellsOf}
 use Rattle.segment_core.specs.Written.{group_frame, joined, payload_len}
 use Rattle.segment_core.proofs.Payload.{limit_small, length-frame_text}
-use Rattle.segment_core.proofs.Raw.{AreReadAs_written}
-use Rattle.segment_core.proofs.ReadAs.{cells_in-flat_map_bytes, AreReadAs-append}
+use Rattle.segment_core.proofs.ReadAs.{AreCellsOf_group}
 use Rattle.segment_core.proofs.Written.{long_growth, sum-lengths, length-group_frame}
 use Rattle.pen_core.specs.declared.step.Step.{Step}
 use Rattle.pen_core.specs.declared.step.Step.TheVariants.{Body}
@@ -62,14 +61,6 @@ module _ {R : Type 0} (form : Encoding R) (shape : Shape) (tally : Tally) (growt
   pub group_follows : tally.size + length (joined growths) ≤ 2 ^ 32 → MayFollow tally (group_frame form growths)
   group_follows short = record { ordered = refl; inside = refl; folded = refl; counted = refl; short = le-ltb (2 ^ 32) (tally.size + sum (map length growths)) (omega (arith, sum-lengths growths)) }
 
--- ---- the records
-
-pub group_next : {R : Type 0} (form : Encoding R) (width : ℕ) (vector : List (List ℕ)) (records : List R) (growths : List (List R)) → form.width ≡ width → ((r : R) → length (form.bytes_of r) ≡ form.width) → AreReadAgain form (joined growths) → AreReadAs form vector records
-    → AreReadAs form (after_frame width vector (group_frame form growths)) (records ++ joined growths)
-group_next form width vector records growths same size_of again read =
-    let cells = ap (λ w. cells_in w (sum (map length growths)) (flat_map form.bytes_of (joined growths))) (sym same) ∙ ap (λ n. cells_in form.width n (flat_map form.bytes_of (joined growths))) (sym (sum-lengths growths)) ∙ cells_in-flat_map_bytes form (joined growths) size_of in
-    subst (λ cs. AreReadAs form (vector ++ cs) (records ++ joined growths)) (sym cells) (AreReadAs-append form vector (map form.bytes_of (joined growths)) records (joined growths) read (AreReadAs_written form (joined growths) again))
-
 -- ---- begun
 
 module _ {R : Type 0} {count : ℕ} (keeps : Type 0) (states : List State) (shape : Shape) (gate : ℕ) (tally next : Tally) (bytes bytes' : List ℕ) (o : Option Step) (broken : Bool) (form : Encoding R) (growths : List (List R)) (pen : IsPen count keeps states shape gate tally next bytes o broken)
@@ -97,5 +88,5 @@ module _ {R : Type 0} {count : ℕ} (keeps : Type 0) (states : List State) (shap
   pub group_at : frame_at shape bytes' ≡ frame
   group_at = begun_frame keeps states shape gate tally next (after tally frame) bytes bytes' o broken frame pen whole idle reads spelled framed follows refl no_fold room
 
-  pub group_tells : (vector : List (List ℕ)) (records : List R) → AreReadAgain form (joined growths) → AreReadAs form vector records → AreReadAs form (after_frame shape.width vector (frame_at shape bytes')) (records ++ joined growths)
-  group_tells vector records again read = subst (λ f. AreReadAs form (after_frame shape.width vector f) (records ++ joined growths)) (sym group_at) (group_next form shape.width vector records growths width size_of again read)
+  pub group_tells : (vector : List (List ℕ)) (records : List R) → AreReadAgain form (joined growths) → AreCellsOf form vector records → AreCellsOf form (after_frame shape.width vector (frame_at shape bytes')) (records ++ joined growths)
+  group_tells vector records again read = subst (λ f. AreCellsOf form (after_frame shape.width vector f) (records ++ joined growths)) (sym group_at) (AreCellsOf_group form shape.width vector records growths width size_of again read)

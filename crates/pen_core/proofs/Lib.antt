@@ -40,3 +40,4 @@ pub mod FoldBegun
 pub mod FoldPlanned
 pub mod FoldListed
 pub mod Taken
+pub mod Typed

@@ -27,6 +27,7 @@ use Rattle.segment_core.proofs.Blanked.{tally_from-blanked}
 use Rattle.segment_core.proofs.Payload.{length-frame_text}
 use Rattle.segment_core.proofs.Push.{length-text}
 use Rattle.segment_core.proofs.Raw.{IsVectorOf_raw}
+use Rattle.segment_core.proofs.ReadAs.{AreCellsOf_read}
 use Rattle.pen_core.specs.Held.{Holds, gate_of}
 use Rattle.pen_core.specs.Known.{IsFileOf, IsShut}
 use Rattle.pen_core.specs.PenOf.{FoldOf}
@@ -239,8 +240,7 @@ module _ {R : Type 0} (form : Encoding R) (keeps : Type 0) (states : List State)
         vector = subst (λ (bs : List ℕ). HasVector named form bs found records) (sym image) on.scan.vector;
         shape_is = shape_same;
         frames_are = seen.frames_are;
-        vector_is = seen.vector_is;
-        read_as = subst (λ cells. AreReadAs form cells records) (sym seen.vector_is) (AreReadAs_same named form on.image found (map form.bytes_of records) records (read_raw named form on.image found records back on.fits on.scan.vector) on.scan.vector.read);
+        cells_are = AreCellsOf_read form (vector_before told scanned.gate (bytes_of states)) records seen.vector_is (subst (λ cells. AreReadAs form cells records) (sym seen.vector_is) (AreReadAs_same named form on.image found (map form.bytes_of records) records (read_raw named form on.image found records back on.fits on.scan.vector) on.scan.vector.read));
         tally_is = tally_same;
         gate_is = gate_same;
       }

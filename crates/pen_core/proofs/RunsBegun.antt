@@ -21,13 +21,13 @@ use Rattle.segment_core.specs.Frame as kinds
 use Rattle.segment_core.specs.Frame.{Run, Frame, records_of_runs, frame_text, payload_of}
 use Rattle.segment_core.specs.Layout.{HasRuns, IsFrame}
 use Rattle.segment_core.specs.Tally.{after, are_ascending, are_inside, MayFollow}
-use Rattle.segment_core.specs.Raw.{after_frame, AreReadAs}
+use Rattle.segment_core.specs.Raw.{after_frame, AreCellsOf}
 use Rattle.segment_core.specs.Command.{replaced}
 use Rattle.segment_core.specs.Written.{joined}
 use Rattle.segment_core.specs.Runs.{runs_given, change_len, change_frame}
 use Rattle.segment_core.proofs.Payload.{limit_small, length-frame_text}
 use Rattle.segment_core.proofs.Changes.{length-runs_given, length-change_frame}
-use Rattle.segment_core.proofs.ReadAs.{AreReadAs_change}
+use Rattle.segment_core.proofs.ReadAs.{AreCellsOf_change}
 use Rattle.segment_core.proofs.LegalCommand.{are_runs}
 use Rattle.pen_core.specs.declared.step.Step.{Step}
 use Rattle.pen_core.specs.declared.step.Step.TheVariants.{Body}
@@ -164,7 +164,7 @@ pub record ChangeBegun {R : Type 0} (count : ℕ) (keeps : Type 0) (states : Lis
   pub listed : IsListed keeps states shape gate tally bytes (Some Body) homes live fold
   pub held : IsFold keeps states shape gate tally bytes (Some Body) broken fold
   pub frame_is : frame_at shape bytes ≡ change_frame form runs pieces
-  pub tells : (vector : List (List ℕ)) (records : List R) → AreReadAs form vector records → AreReadAs form (after_frame shape.width vector (frame_at shape bytes)) (replaced records runs (joined pieces))
+  pub tells : (vector : List (List ℕ)) (records : List R) → AreCellsOf form vector records → AreCellsOf form (after_frame shape.width vector (frame_at shape bytes)) (replaced records runs (joined pieces))
 
 pub change_begun : {R : Type 0} {count : ℕ} (keeps : Type 0) (states : List State) (shape : Shape) (gate : ℕ) (tally next : Tally) (bytes bytes' : List ℕ) (o : Option Step) (broken : Bool) (homes homes' : Homes) (live : ℕ) {fold : Fold} (form : Encoding R) (runs : List (ℕ × ℕ)) (pieces : List (List R))
     → IsPen count keeps states shape gate tally next bytes o broken → IsListed keeps states shape gate tally bytes o homes live fold → IsFold keeps states shape gate tally bytes o broken fold → gate + (6 + change_len shape (runs_given runs)) + fold_len (fold_of fold) < 2 ^ 48 → Allows broken (is_some (job_of shape bytes o)) shape gate tally (runs_given runs) → (keeps → IsImage (now states) (bytes_of states))
@@ -186,5 +186,5 @@ change_begun {R} {count} keeps states shape gate tally next bytes bytes' o broke
       listed = listed_begun keeps states shape gate tally bytes o homes live listed idle bytes' homes' frame Body at no_fold (ap (λ v. v.items) homes_same ∙ sym (append-nil homes.homes.items)) (live_more ∙ ap (λ rs. homes.live.items ++ rs) (sym (runs_again runs)));
       held = fold_begun keeps states shape gate tally bytes bytes' o broken fold frame Body is_fold idle spelled (omega arith);
       frame_is = at;
-      tells = λ vector records are. subst (λ f. AreReadAs form (after_frame shape.width vector f) (replaced records given (joined pieces))) (sym at) (AreReadAs_change form shape.width vector records given pieces width size_of filled again are);
+      tells = λ vector records are. subst (λ f. AreCellsOf form (after_frame shape.width vector f) (replaced records given (joined pieces))) (sym at) (AreCellsOf_change form shape.width vector records given pieces width size_of filled again are);
     }

@@ -15,3 +15,4 @@ pub mod HomeRuns
 pub mod Opening
 pub mod Values
 pub mod Plan
+pub mod Typed

@@ -1,5 +1,5 @@
 -- A file that is opened.
-use Rattle.std.specs.Prelude.{◌≡◌, ◌⊎◌, ℕ, ◌+◌, ◌/◌, ◌≤◌, ◌<◌, ◌^◌, List, length, map, take, None, false}
+use Rattle.std.specs.Prelude.{◌≡◌, ◌⊎◌, ℕ, ◌+◌, ◌/◌, ◌≤◌, ◌<◌, ◌^◌, List, length, take, None, false}
 use Rattle.record_core.specs.Bytes.{Encoding, IsBytes}
 use Rattle.disk_core.specs.State.{State, now, settled, IsImage}
 use Rattle.disk_core.specs.Calls.{bytes_of}
@@ -11,7 +11,7 @@ use Rattle.segment_core.specs.Frame.{Frame}
 use Rattle.segment_core.specs.Tally.{tally_of}
 use Rattle.segment_core.specs.Vector.{HasVector}
 use Rattle.segment_core.specs.Fault.{IsRefused}
-use Rattle.segment_core.specs.Raw.{AreReadAs}
+use Rattle.segment_core.specs.Raw.{AreCellsOf}
 use Rattle.segment_core.specs.Found.{AreHomesOf}
 use Rattle.segment_core.specs.Scanned.{IsScanOf}
 use Rattle.segment_core.specs.Scanner.{IsFed}
@@ -41,8 +41,7 @@ pub record IsOpened {R D : Type 0} (form : Encoding R) (bytes : List ℕ) (pen :
   pub vector : HasVector format form bytes found records
   pub shape_is : pen.shape ≡ shape_of format form
   pub frames_are : pen.frames ≡ all_blanked found
-  pub vector_is : pen.vector ≡ map form.bytes_of records
-  pub read_as : AreReadAs form pen.vector records
+  pub cells_are : AreCellsOf form pen.vector records
   pub tally_is : pen.tally ≡ tally_of found
   pub gate_is : pen.gate ≡ gate_of (shape_of format form) found
 

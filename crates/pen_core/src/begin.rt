@@ -18,11 +18,14 @@ use segment_core::{SHRINK_PAYLOAD_LEN, Tally};
 pub(crate) const GATE_LIMIT: u64 = 1 << 48;
 
 impl<D: Disk> Pen<D> {
-    /// Whether a log job may be begun.
-    pub(crate) fn ready(&self) -> Result<(), PenFault>
+    /// Whether a log job may be begun: what each begin tests first.
+    ///
+    /// Refused, in this order: `Broken`, where a call of the disk has failed; `Busy`, while a log job is in hand.
+    pub fn ready(&self) -> Result<(), PenFault>
         ensures whole { OnOk result (self.now.broken ≡ false) }
         ensures idle { OnOk result (is_some self.now.job ≡ false) }
         ensures short { self.now.tally.size ≤ 2 ^ 32 }
+        ensures allowed { OnOk result (first_refusal (ready_lines self.now) ≡ None) }
         ensures refused { IfErr result (λ fault. first_refusal (ready_lines self.now) ≡ Some fault) }
     {
         if self.broken {

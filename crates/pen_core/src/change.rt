@@ -4,7 +4,7 @@ ghost use Rattle.std.specs.Prelude.{◌≡◌, ◌≤◌, ◌<◌, ◌^◌, ◌&
 ghost use Rattle.std.specs.List.{list_all};
 ghost use Rattle.std.specs.Option.{is_some};
 ghost use Rattle.segment_core.specs.Frame.{records_of_runs};
-ghost use Rattle.segment_core.specs.Raw.{AreReadAs};
+ghost use Rattle.segment_core.specs.Raw.{AreCellsOf};
 ghost use Rattle.segment_core.specs.Command.{replaced};
 ghost use Rattle.segment_core.specs.Written.{joined};
 ghost use Rattle.segment_core.specs.Runs.{runs_given, change_len, change_frame};
@@ -145,8 +145,8 @@ impl<D: Disk> Pen<D> {
         requires some { 0 < length runs.now }
         requires filled { length (joined (G.growths pieces.now)) ≡ records_of_runs (runs_given runs.now) }
         ensures begun { OnOk result (Begins (change_frame R.form (runs_given runs.now) (G.growths pieces.now)) self.old self.new) }
-        ensures next { (records : List R) → AreReadAs R.form self.old.vector records
-            → OnOk result (AreReadAs R.form (vector_after self.new) (replaced records (runs_given runs.now) (joined (G.growths pieces.now)))) }
+        ensures next { (records : List R) → AreCellsOf R.form self.old.vector records
+            → OnOk result (AreCellsOf R.form (vector_after self.new) (replaced records (runs_given runs.now) (joined (G.growths pieces.now)))) }
         ensures allowed { OnOk result (first_refusal (change_lines self.old (runs_given runs.now)) ≡ None) }
         ensures refused { IfErr result (λ fault. IsRefusal (change_lines self.old (runs_given runs.now)) fault) }
         ensures unchanged { OnErr result (IsUnchanged self.old self.new) }
@@ -178,8 +178,8 @@ impl<D: Disk> Pen<D> {
         requires some { 0 < length runs.now }
         requires filled { length (joined (map (λ piece. piece.now) pieces.now)) ≡ records_of_runs (runs_given runs.now) }
         ensures begun { OnOk result (Begins (change_frame R.form (runs_given runs.now) (map (λ piece. piece.now) pieces.now)) self.old self.new) }
-        ensures next { (records : List R) → AreReadAs R.form self.old.vector records
-            → OnOk result (AreReadAs R.form (vector_after self.new) (replaced records (runs_given runs.now) (joined (map (λ piece. piece.now) pieces.now)))) }
+        ensures next { (records : List R) → AreCellsOf R.form self.old.vector records
+            → OnOk result (AreCellsOf R.form (vector_after self.new) (replaced records (runs_given runs.now) (joined (map (λ piece. piece.now) pieces.now)))) }
         ensures allowed { OnOk result (first_refusal (change_lines self.old (runs_given runs.now)) ≡ None) }
         ensures refused { IfErr result (λ fault. IsRefusal (change_lines self.old (runs_given runs.now)) fault) }
         ensures unchanged { OnErr result (IsUnchanged self.old self.new) }
@@ -194,8 +194,8 @@ impl<D: Disk> Pen<D> {
         requires width { R.form.width ≡ self.old.shape.width }
         requires some { 0 < length (joined (map (λ piece. piece.now) pieces.now)) }
         ensures begun { OnOk result (Begins (change_frame R.form (one_run start (length (joined (map (λ piece. piece.now) pieces.now)))) (map (λ piece. piece.now) pieces.now)) self.old self.new) }
-        ensures next { (records : List R) → AreReadAs R.form self.old.vector records
-            → OnOk result (AreReadAs R.form (vector_after self.new) (replaced records (one_run start (length (joined (map (λ piece. piece.now) pieces.now)))) (joined (map (λ piece. piece.now) pieces.now)))) }
+        ensures next { (records : List R) → AreCellsOf R.form self.old.vector records
+            → OnOk result (AreCellsOf R.form (vector_after self.new) (replaced records (one_run start (length (joined (map (λ piece. piece.now) pieces.now)))) (joined (map (λ piece. piece.now) pieces.now)))) }
         ensures allowed { OnOk result (first_refusal (change_lines self.old (one_run start (length (joined (map (λ piece. piece.now) pieces.now))))) ≡ None) }
         ensures refused { IfErr result (λ fault. IsRefusal (change_lines self.old (one_run start (length (joined (map (λ piece. piece.now) pieces.now))))) fault) }
         ensures unchanged { OnErr result (IsUnchanged self.old self.new) }

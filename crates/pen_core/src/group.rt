@@ -2,7 +2,7 @@
 
 ghost use Rattle.std.specs.Prelude.{◌≡◌, ◌≤◌, ◌<◌, ◌^◌, ◌++◌, None, List, length, map, OnOk, OnErr, IfErr, MatchOption};
 ghost use Rattle.std.specs.List.{AllByRecursion};
-ghost use Rattle.segment_core.specs.Raw.{AreReadAs};
+ghost use Rattle.segment_core.specs.Raw.{AreCellsOf};
 ghost use Rattle.segment_core.specs.Written.{group_frame, joined, payload_len};
 ghost use Rattle.pen_core.specs.Pen.{Begins, IsUnchanged, vector_after};
 ghost use Rattle.pen_core.specs.Refusals.{first_refusal, IsRefusal, group_lines};
@@ -45,8 +45,8 @@ impl<D: Disk> Pen<D> {
         requires some { 0 < length (G.growths growths.now) }
         requires each { AllByRecursion (λ growth. 0 < length growth) (G.growths growths.now) }
         ensures begun { OnOk result (Begins (group_frame R.form (G.growths growths.now)) self.old self.new) }
-        ensures next { (records : List R) → AreReadAs R.form self.old.vector records
-            → OnOk result (AreReadAs R.form (vector_after self.new) (records ++ joined (G.growths growths.now))) }
+        ensures next { (records : List R) → AreCellsOf R.form self.old.vector records
+            → OnOk result (AreCellsOf R.form (vector_after self.new) (records ++ joined (G.growths growths.now))) }
         ensures allowed { OnOk result (first_refusal (group_lines self.old (length (joined (G.growths growths.now))) (payload_len R.form.width (G.growths growths.now))) ≡ None) }
         ensures refused { IfErr result (λ fault. IsRefusal (group_lines self.old (length (joined (G.growths growths.now))) (payload_len R.form.width (G.growths growths.now))) fault) }
         ensures unchanged { OnErr result (IsUnchanged self.old self.new) }
@@ -95,8 +95,8 @@ impl<D: Disk> Pen<D> {
         requires some { 0 < length growths.now }
         requires each { AllByRecursion (λ growth. 0 < length growth) (map (λ growth. growth.now) growths.now) }
         ensures begun { OnOk result (Begins (group_frame R.form (map (λ growth. growth.now) growths.now)) self.old self.new) }
-        ensures next { (records : List R) → AreReadAs R.form self.old.vector records
-            → OnOk result (AreReadAs R.form (vector_after self.new) (records ++ joined (map (λ growth. growth.now) growths.now))) }
+        ensures next { (records : List R) → AreCellsOf R.form self.old.vector records
+            → OnOk result (AreCellsOf R.form (vector_after self.new) (records ++ joined (map (λ growth. growth.now) growths.now))) }
         ensures allowed { OnOk result (first_refusal (group_lines self.old (length (joined (map (λ growth. growth.now) growths.now))) (payload_len R.form.width (map (λ growth. growth.now) growths.now))) ≡ None) }
         ensures refused { IfErr result (λ fault. IsRefusal (group_lines self.old (length (joined (map (λ growth. growth.now) growths.now))) (payload_len R.form.width (map (λ growth. growth.now) growths.now))) fault) }
         ensures unchanged { OnErr result (IsUnchanged self.old self.new) }

@@ -1,6 +1,6 @@
 //! A pen writes one segment file.
 
-ghost use Rattle.std.specs.Prelude.{◌≡◌, length, IfSome};
+ghost use Rattle.std.specs.Prelude.{◌≡◌, ◌≤◌, ◌^◌, length, IfSome};
 ghost use Rattle.pen_core.specs.InHand.{writes_left};
 ghost use Rattle.pen_core.specs.Pen.{IsKept, stage_of};
 
@@ -78,6 +78,14 @@ impl<D: Disk> Pen<D> {
         ensures { result ≡ self.now.shape.format }
     {
         self.shape.format
+    }
+
+    /// How many records the vector has. A job in hand doesn't count.
+    pub fn len(&self) -> u64
+        ensures is { result ≡ self.now.tally.size }
+        ensures few { result ≤ 2 ^ 32 }
+    {
+        self.tally.size
     }
 
     /// What is left of the job and of the fold.

@@ -61,7 +61,7 @@ one_list shape image frames others has longest =
 
 -- ---- one vector
 
-same_items : {R : Type 0} (a b : List R) → length a ≡ length b → ((i : ℕ) → i < length a → slice_get a i ≡ slice_get b i) → a ≡ b
+pub same_items : {R : Type 0} (a b : List R) → length a ≡ length b → ((i : ℕ) → i < length a → slice_get a i ≡ slice_get b i) → a ≡ b
 same_items [] [] len each = refl
 same_items [] (y ∷ b) len each = absurd (omega arith)
 same_items (x ∷ a) [] len each = absurd (omega arith)
@@ -115,17 +115,16 @@ memory_alone {R} format form image frames records fault small has refused = elim
   | inr memory ↦ memory.0
 ]
 
-same_vector : {R : Type 0} (format other : Format) (form : Encoding R) (image : List ℕ) (frames others : List Frame) (a b : List R) → format ≡ other → HasVector format form image frames a → HasVector other form image others b → a ≡ b
-same_vector {R} format other form image frames others a b one has has' =
+-- one image has one vector
+pub same_vector : {R : Type 0} (format other : Format) (form : Encoding R) (image : List ℕ) (frames others : List Frame) (a b : List R) → form.width < 2 ^ 16 → HasVector format form image frames a → HasVector other form image others b → a ≡ b
+same_vector {R} format other form image frames others a b small has has' =
+    let one = sym (sound_header format form.width image frames small has.framed).names ∙ (sound_header other form.width image others small has'.framed).names in
     let here : HasVector format form image others b = subst (λ f. HasVector f form image others b) (sym one) has' in
     let same : frames ≡ others = one_list (shape_of format form) image frames others has.framed (longest_closed (shape_of format form) image others here.framed) in
     one_vector format form image frames a b has.read (subst (λ fs. IsVectorOf format form image fs b) (sym same) here.read)
 
 pub scanned_as : {R : Type 0} (format : Format) (form : Encoding R) (image : List ℕ) (frames : List Frame) (records : List R) (scanned : Scanned R) → form.width < 2 ^ 16 → HasVector format form image frames records → IsScanOf form image scanned → scanned.records.items ≡ records
-scanned_as format form image frames records scanned small has scan =
-    let a = sound_header format form.width image frames small has.framed in
-    let b = sound_header scan.format form.width image scan.frames small scan.vector.framed in
-    sym (same_vector format scan.format form image frames scan.frames records scanned.records.items (sym a.names ∙ b.names) has scan.vector)
+scanned_as format form image frames records scanned small has scan = sym (same_vector format scan.format form image frames scan.frames records scanned.records.items small has scan.vector)
 
 pub is_scanned : {R : Type 0} (format : Format) (form : Encoding R) (image : List ℕ) (frames : List Frame) (records : List R) (answer : Result (Scanned R) ScanFault) → form.width < 2 ^ 16 → HasVector format form image frames records
     → MatchResult answer (IsScanOf form image) (IsRefused form image) → MatchResult answer (λ scanned. scanned.records.items ≡ records) (λ fault. fault ≡ Memory)

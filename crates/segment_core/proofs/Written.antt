@@ -15,7 +15,9 @@ use Rattle.record_core.specs.Limits.{payload_limit}
 use Rattle.record_core.specs.Bytes.{Encoding}
 use Rattle.segment_core.specs.declared.format.Format.{Format}
 use Rattle.segment_core.specs.Shape.{shape_of}
+use Rattle.segment_core.specs.declared.tally.Tally.{Tally}
 use Rattle.segment_core.specs.Frame.{payload_of, frame_text, text}
+use Rattle.segment_core.specs.Tally.{after}
 use Rattle.segment_core.specs.Written.{growths_of, groups_of, joined, all_records, group_frame, payload_len, AllFit}
 use Rattle.segment_core.proofs.Payload.{length-group_payload}
 use Rattle.segment_core.proofs.Push.{text_push}
@@ -89,6 +91,10 @@ long_growth width (suc n) wide = let more = long_growth width n wide in omega ar
 
 pub sum-lengths : {R : Type 0} (growths : List (List R)) → length (joined growths) ≡ sum (map length growths)
 sum-lengths growths = length-flat_map (λ growth. growth) growths ∙ sym (sum-map length growths)
+
+-- how long the vector is behind a group
+pub size-group_frame : {R : Type 0} (form : Encoding R) (tally : Tally) (growths : List (List R)) → (after tally (group_frame form growths)).size ≡ tally.size + length (joined growths)
+size-group_frame form tally growths = ap (λ n. tally.size + n) (sym (sum-lengths growths))
 
 pub length-group_frame : {R : Type 0} (format : Format) (form : Encoding R) (growths : List (List R)) → ((r : R) → length (form.bytes_of r) ≡ form.width) → length (payload_of format (group_frame form growths)) ≡ payload_len form.width growths
 length-group_frame format form growths wide =

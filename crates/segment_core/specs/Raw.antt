@@ -1,7 +1,8 @@
 -- Records as their bytes: what a file says, and what a frame makes of it, where no type of records is at hand.
-use Rattle.std.specs.Prelude.{◌≡◌, ℕ, zero, suc, List, [], ◌∷◌, length, take, drop, sum, slice_get, Option, Some, None}
+use Rattle.std.specs.Prelude.{◌≡◌, ℕ, zero, suc, List, [], ◌∷◌, length, map, take, drop, sum, slice_get, Option, Some, None}
 use Rattle.std.specs.Option.{option_map, option_and_then, unwrap_or}
 use Rattle.record_core.specs.Bytes.{Encoding}
+use Rattle.record_core.specs.Cells.{AreReadAgain}
 use Rattle.segment_core.specs.Frame.{Frame, records_of_runs}
 use Rattle.segment_core.specs.Frame as frames
 use Rattle.segment_core.specs.Command.{Command, Grow, Shrink, Change, after_command}
@@ -30,3 +31,8 @@ after_frame width cells frame = unwrap_or (option_map (after_command cells) (com
 pub record AreReadAs {R : Type 0} (form : Encoding R) (cells : List (List ℕ)) (records : List R) : Type 0 where
   pub size : length cells ≡ length records
   pub each : (i : ℕ) → option_and_then form.value_of (slice_get cells i) ≡ slice_get records i
+
+-- these bytes, one by one, are these records as they are written, and are read as them again
+pub record AreCellsOf {R : Type 0} (form : Encoding R) (cells : List (List ℕ)) (records : List R) : Type 0 where
+  pub written : cells ≡ map form.bytes_of records
+  pub read_again : AreReadAgain form records

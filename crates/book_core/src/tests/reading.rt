@@ -51,7 +51,7 @@ fn grow_twice<E: Wait>(
 }
 
 /// The first record of a piece, and how many it has.
-fn head_of(piece: &[u64]) -> (Option<u64>, usize) {
+pub(super) fn head_of(piece: &[u64]) -> (Option<u64>, usize) {
     (piece.first().copied(), piece.len())
 }
 
@@ -151,6 +151,31 @@ fn pieces_stand_by_number(rt: HostRuntime) -> Result<(), Fail> {
         read_in_order(&live, &mut first),
         ([one, two, three, four], 1)
     );
+    Ok(())
+}
+
+/// The heads of the first 4 blocks from before the phase.
+fn read_blocks(live: &Live<u64>) -> [Option<(Option<u64>, usize)>; 4] {
+    let mut heads = [None; 4];
+    for number in 0..4usize {
+        if (number as u64) < live.block_count() {
+            heads[number] = Some(head_of(live.block(number as u64)));
+        }
+    }
+    heads
+}
+
+#[test]
+fn blocks_stand_by_number(rt: HostRuntime) -> Result<(), Fail> {
+    let blocks = three_blocks(rt.alloc()).ok_or("no blocks")?;
+    let Two { live, .. } = begin_two_over(rt.alloc(), blocks, 2).ok_or("no book")?;
+    let want = [
+        Some((Some(1), 2)),
+        Some((None, 0)),
+        Some((Some(3), 1)),
+        None,
+    ];
+    assert_eq!(rt; read_blocks(&live), want);
     Ok(())
 }
 

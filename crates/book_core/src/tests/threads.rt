@@ -135,7 +135,8 @@ fn change_mark<E: Wait>(rt: &E, live: &Live<u64>, mut mark: Writer, change: Chan
     live.wake_settled(rt);
 }
 
-/// What a seat is told that waits for its growth while another thread changes the mark.
+/// What a seat is told that waits for its growth while another thread changes the mark. It waits on this thread: the
+/// other one starts later, so that the seat mostly sleeps by then.
 fn await_change<E: Threads + Wait + Sync>(rt: &E, two: Two, change: Change) -> (u64, MarkState) {
     let Two {
         live,
@@ -144,17 +145,17 @@ fn await_change<E: Threads + Wait + Sync>(rt: &E, two: Two, change: Change) -> (
         ..
     } = two;
     let shared = &live;
-    let (told, ()) = thread::join(
+    let ((), told) = thread::join(
         rt,
+        move || -> ()
+            requires { (mark.of ≡ shared.now.mark) × (mark.told.count ≡ 0) }
+        { change_mark(rt, shared, mark, change) },
         move || -> (u64, MarkState)
             requires { IsOf shared.now first }
         {
             let mut seat = first;
             shared.await_settled(rt, &mut seat, 0)
         },
-        move || -> ()
-            requires { (mark.of ≡ shared.now.mark) × (mark.told.count ≡ 0) }
-        { change_mark(rt, shared, mark, change) },
     );
     told
 }
@@ -184,16 +185,17 @@ fn grow_or_close<E: Wait>(rt: &E, live: &Live<u64>, mut seat: Seat<u64>, closes:
     }
 }
 
-/// What the flusher is told that waits for the first growth while another thread makes it or closes the book.
+/// What the flusher is told that waits for the first growth while another thread makes it or closes the book. It
+/// waits on this thread, as above.
 fn await_first<E: Threads + Wait + Sync>(rt: &E, two: Two, closes: bool) -> bool {
     let Two { live, first, .. } = two;
     let shared = &live;
-    let (closed, ()) = thread::join(
+    let ((), closed) = thread::join(
         rt,
-        move || shared.await_more(rt, 0),
         move || -> ()
             requires { IsOf shared.now first }
         { grow_or_close(rt, shared, first, closes) },
+        move || shared.await_more(rt, 0),
     );
     closed
 }

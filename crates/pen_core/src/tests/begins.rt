@@ -76,7 +76,9 @@ fn growths_in_a_row_and_a_shrink_are_begun(rt: HostRuntime) -> Result<(), Fail> 
     let Ok(()) = pen.begin_growths::<u64, Growths<u64>>(&row) else {
         return Err(Fail::from("refused"));
     };
+    assert_eq!(rt; pen.len(), 1);
     assert!(rt; commit(&mut pen));
+    assert_eq!(rt; pen.len(), 2);
     pen.begin_shrink(0)?;
     assert_eq!(rt; pen.stage().log, 4);
     assert!(rt; commit(&mut pen));
@@ -135,10 +137,12 @@ fn a_job_in_hand_keeps_others_out(rt: HostRuntime) -> Result<(), Fail> {
     let piece: [&[u64]; 1] = [&[1, 2]];
     let mut pen = grown(alloc, Format::One, &[5, 6])?;
     pen.begin_change(0, &piece)?;
+    assert_eq!(rt; pen.ready(), Err(PenFault::Busy));
     assert_eq!(rt; change_fault(&mut pen, 0, &piece), Some(PenFault::Busy));
     assert_eq!(rt; shrink_fault(&mut pen, 3), Some(PenFault::Busy));
     assert_eq!(rt; pen.begin_group(&piece).err(), Some(PenFault::Busy));
     assert!(rt; commit(&mut pen));
+    assert_eq!(rt; pen.ready(), Ok(()));
     assert_eq!(rt; shrink_fault(&mut pen, 3), Some(PenFault::OutOfRange));
     assert_eq!(rt; shrink_fault(&mut pen, 1), Some(PenFault::Unfolded));
     assert_eq!(rt; records_of(alloc, pen)?.as_slice(), [1, 2].as_slice());
@@ -207,6 +211,7 @@ fn a_pen_whose_disk_has_failed_begins_nothing(rt: HostRuntime) -> Result<(), Fai
     let growths: [&[u64]; 1] = [&[5]];
     pen.begin_group(&growths)?;
     assert!(rt; !commit(&mut pen));
+    assert_eq!(rt; pen.ready(), Err(PenFault::Broken));
     assert_eq!(rt; pen.begin_group(&growths).err(), Some(PenFault::Broken));
     assert_eq!(rt; pen.begin_change(7, &growths).err(), Some(PenFault::Broken));
     assert_eq!(rt;
