@@ -1,14 +1,14 @@
 -- The writes that a fold plans: of records as their bytes, and below the gate, whatever its disk.
-use Rattle.std.proofs.Common.{◌≡◌, ℕ, suc, ◌-◌, ◌<◌, List, [], ◌∷◌, length, map, take, drop, All, refl, sym, ap, subst, ◌∙◌, arith}
+use Rattle.std.proofs.Common.{◌≡◌, ℕ, ◌-◌, ◌<◌, List, [], ◌∷◌, length, map, take, drop, All, refl, sym, ap, subst, ◌∙◌, arith}
 use Rattle.std.specs.List.{flat_map, AllByRecursion}
 use Rattle.std.proofs.lemmas.List.{drop-map, take-map, length-drop, length-map, length-take-le}
 use Rattle.std.proofs.lemmas.List.Folds.{flat_map-map}
 use Rattle.std.proofs.lemmas.List.Elements.{All-nil, All-cons, All-head, All-tail}
-use Rattle.record_core.specs.Bytes.{Encoding, IsBytes, WritesBack}
+use Rattle.record_core.specs.Bytes.{Encoding}
 use Rattle.segment_core.specs.declared.format.Shape.{Shape}
 use Rattle.segment_core.specs.declared.found.Home.{Home}
 use Rattle.segment_core.specs.Frame.{Frame}
-use Rattle.segment_core.specs.Raw.{raw, AreReadAs}
+use Rattle.segment_core.specs.Raw.{raw}
 use Rattle.segment_core.specs.Tally.{tally_of, AreLegal}
 use Rattle.pen_core.specs.declared.fold.Write.{Write}
 use Rattle.pen_core.specs.Held.{gate_of}
@@ -32,17 +32,6 @@ writes_for-raw form width records [] = refl
 writes_for-raw form width records (run ∷ runs) =
     ap (λ bs. record { place = run.place; bytes = bs } ∷ writes_for form records runs) (bytes_at-raw form width records run.position run.count)
     ∙ ap (λ ws. write_for (raw width) (map form.bytes_of records) run ∷ ws) (writes_for-raw form width records runs)
-
--- bytes that are read as records are theirs
-pub AreReadAs_bytes : {R : Type 0} (form : Encoding R) (cells : List (List ℕ)) (records : List R) → WritesBack form → All (HasWidth form.width) cells → All IsBytes cells → AreReadAs form cells records → cells ≡ map form.bytes_of records
-AreReadAs_bytes form [] [] back wide fits are = refl
-AreReadAs_bytes form [] (r ∷ records) back wide fits are = let size = are.size in absurd cc
-AreReadAs_bytes form (cell ∷ cells) [] back wide fits are = let size = are.size in absurd cc
-AreReadAs_bytes form (cell ∷ cells) (r ∷ records) back wide fits are =
-    let size = are.size in
-    let rest = AreReadAs_bytes form cells records back (All-tail (HasWidth form.width) cell cells wide) (All-tail IsBytes cell cells fits) (record { size = omega arith; each = λ i. are.each (suc i) }) in
-    ap (λ c. c ∷ cells) (sym (back cell r (All-head IsBytes cell cells fits) (All-head (HasWidth form.width) cell cells wide) (are.each 0)))
-    ∙ ap (λ cs. form.bytes_of r ∷ cs) rest
 
 written_wide : {R : Type 0} (form : Encoding R) (width : ℕ) (records : List R) → ((r : R) → length (form.bytes_of r) ≡ width) → All (HasWidth width) (map form.bytes_of records)
 written_wide form width [] each = All-nil (HasWidth width)
