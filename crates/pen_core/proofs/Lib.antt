@@ -28,6 +28,7 @@ pub mod RunsGiven
 pub mod Covers
 pub mod HomeRunSteps
 pub mod GreatestRuns
+pub mod OneFold
 pub mod Pieces
 pub mod Opening
 pub mod PieceValues
