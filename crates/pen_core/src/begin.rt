@@ -37,8 +37,8 @@ impl<D: Disk> Pen<D> {
         Ok(())
     }
 
-    /// Whether a frame with this payload would bring the gate to the limit.
-    pub(crate) fn is_full(&self, payload: usize) -> bool
+    /// Whether the file has no room for a frame with a payload of so many bytes. Each begin tests it last but memory.
+    pub fn is_full(&self, payload: usize) -> bool
         requires { payload < 2 ^ 32 }
         ensures { result ≡ refusals.is_full self.now payload }
     {

@@ -1,0 +1,20 @@
+use Rattle.std.proofs.Common.{refl, sym, ap, ◌∙◌}
+use Rattle.flush_core.specs.Flusher.{FlusherOf}
+use Rattle.flush_core.proofs.Goes.{Serves-told, IsOf-served}
+use Rattle.flush_core.proofs.flusher.Flusher.serve.Goals.{in-Ok, in-Err}
+use Rattle.flush_core.proofs.flusher.Flusher.serve.Goals as goal
+
+pub returns-clause-images : goal.returns-clause-images
+returns-clause-images g c =
+    let raised = Serves-told g.R.Record.form g.D.Disk.keeps g.D.Disk.states c.args.self.now c.serve_all-served.new.self c.raise.new.self _ c.serve_all-served.ensures.serves refl c.raise.ensures.raised in
+    let of = IsOf-served g.R.Record.form g.D.Disk.keeps g.D.Disk.states c.args.live.now c.args.self.now c.raise.new.self raised c.requires.of in
+    elim c.match-served.branch [
+      | in-Ok w ↦
+          let mark = w.set_ended.new.self in
+          (Serves-told g.R.Record.form g.D.Disk.keeps g.D.Disk.states c.args.self.now c.raise.new.self c.match-served.self mark raised
+          (w.set_ended.ensures.of ∙ w.mark.ensures ∙ sym of.mark) (w.self-is ∙ ap (λ (f : FlusherOf g.row.R.Denot g.row.D.Denot). record f { mark = mark }) c.self.view_is)).images
+      | in-Err w ↦
+          let mark = w.set_broken.new.self in
+          (Serves-told g.R.Record.form g.D.Disk.keeps g.D.Disk.states c.args.self.now c.raise.new.self c.match-served.self mark raised
+          (w.set_broken.ensures.of ∙ w.mark-in-Err.ensures ∙ sym of.mark) (w.self-is ∙ ap (λ (f : FlusherOf g.row.R.Denot g.row.D.Denot). record f { mark = mark }) c.self.view_is)).images
+    ]

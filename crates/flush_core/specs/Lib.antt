@@ -1,0 +1,4 @@
+pub mod Group
+pub mod Flusher
+pub mod Refusals
+pub mod Serving

@@ -1,0 +1,69 @@
+//! What a flusher learns of the growers, and what it tells them.
+
+ghost use Rattle.std.specs.Prelude.{◌≡◌, ◌≤◌, ◌+◌, length, IfOk, IfErr, MatchResult};
+ghost use Rattle.directory_core.specs.Chain.{Agree, Meets, total};
+ghost use Rattle.book_core.specs.Lists as lists;
+ghost use Rattle.book_core.specs.Marks.{Rises};
+ghost use Rattle.flush_core.specs.Flusher.{IsOf, Learns};
+
+use crate::fault::FlushFault;
+use crate::flusher::Flusher;
+use book_core::{Live, Seat};
+use directory_core::DirFault;
+use disk_core::Disk;
+use record_core::Record;
+
+impl<R: Record, D: Disk> Flusher<R, D> {
+    /// Learns what growers have published, and answers how many records it then knows, those from before the phase among
+    /// them. `Strayed` names the growth that doesn't follow those before it; what stands before that one is known then.
+    pub fn look(&mut self, live: &Live<R>) -> Result<u64, FlushFault>
+        requires of { IsOf (D.keeps self.old.pen.disk) live.now self.old }
+        ensures learns { Learns self.old self.new }
+        ensures size { MatchResult result
+            (λ size. size ≡ self.new.before + total self.new.pass.entries)
+            (λ fault. fault ≡ FlushFault.Strayed (length self.new.pass.entries)) }
+    {
+        match live.look_by(&mut self.pass) {
+            Ok(_) => Ok(self.before + self.pass.size()),
+            Err(DirFault::Strayed(number)) => Err(FlushFault::Strayed(number)),
+            Err(_) => unreachable!(),
+        }
+    }
+
+    /// Learns what a seat knows, which finds no growth that the other doesn't have in the same place.
+    pub fn meet(&mut self, live: &Live<R>, seat: &mut Seat<R>)
+        requires of { IsOf (D.keeps self.old.pen.disk) live.now self.old × lists.IsOf live.now seat.old }
+        ensures learns { Learns self.old self.new }
+        ensures same { seat.new ≡ seat.old }
+        ensures agree { Agree self.old.pass.entries seat.old.pass.entries }
+        ensures meets { Meets self.old.pass.entries seat.old.pass.entries self.new.pass.entries }
+    {
+        live.meet_by(&mut self.pass, seat);
+    }
+
+    /// The mark tells from now on how many growths are settled, which is answered. Its state stays. It wakes nobody:
+    /// `Live::wake_settled` does.
+    pub fn raise(&mut self, live: &Live<R>) -> u64
+        requires of { IsOf (D.keeps self.old.pen.disk) live.now self.old }
+        ensures raised { self.new ≡ record self.old { mark = record self.old.mark { told = record { count = self.old.settled; state = self.old.mark.told.state } } } }
+        ensures count { result ≡ self.old.settled }
+    {
+        // No more growths are known than the mark can tell.
+        let known = self.pass.known();
+        prove!(self.settled <= known);
+        self.mark.raise(live.mark(), self.settled);
+        self.settled
+    }
+
+    /// Gives a seat up: what it knows is known, and what it was told by the mark is settled. So also behind a fault of the
+    /// pen.
+    pub fn take_in(&mut self, live: &Live<R>, seat: Seat<R>)
+        requires of { IsOf (D.keeps self.old.pen.disk) live.now self.old × lists.IsOf live.now seat }
+        ensures learns { Learns self.old self.new }
+        ensures agree { Agree self.old.pass.entries seat.pass.entries }
+        ensures meets { Meets self.old.pass.entries seat.pass.entries self.new.pass.entries }
+        ensures told { seat.mark.told.count ≤ self.new.settled }
+    {
+        live.take_in(&mut self.pass, &mut self.mark, seat);
+    }
+}

@@ -1,0 +1,17 @@
+//! A flusher commits what growers have put into a book: group by group, as many growths in one as its payload holds, and
+//! tells them by the mark what is settled.
+#![tactic(auto)]
+
+mod fault;
+mod flusher;
+mod fold;
+mod group;
+mod lane;
+mod learn;
+mod row;
+mod serve;
+mod tick;
+
+pub use fault::FlushFault;
+pub use flusher::Flusher;
+pub use lane::{Lane, Tick};

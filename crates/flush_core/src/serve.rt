@@ -1,0 +1,99 @@
+//! Serving growers: what they put is committed, group by group, until the book is closed.
+
+ghost use Rattle.std.specs.Prelude.{◌≡◌, ◌+◌, length, None, OnOk, OnErr, IfErr, MatchResult};
+ghost use Rattle.disk_core.specs.Moments.{LeavesOnly};
+ghost use Rattle.flush_core.specs.Flusher.{IsOf, GoesOn, KeepsFrom};
+ghost use Rattle.flush_core.specs.Refusals.{failed};
+ghost use Rattle.flush_core.specs.Serving.{Serves, HasEnded, HasBroken, IsServeFault};
+
+use crate::fault::FlushFault;
+use crate::flusher::Flusher;
+use crate::lane::{Lane, Tick};
+use book_core::Live;
+use disk_core::Disk;
+use record_core::Record;
+use std::sync::Wait;
+
+impl<R: Record, D: Disk> Flusher<R, D> {
+    /// Ticks the log until no job is in hand.
+    fn settle_job(&mut self) -> Result<(), FlushFault>
+        ensures serves { Serves R.form D.keeps D.states self.old self.new }
+        ensures idle { OnOk result (self.new.pen.job ≡ None) }
+        ensures whole { OnOk result (self.new.pen.broken ≡ self.old.pen.broken) }
+        ensures refused { IfErr result (λ fault. IsServeFault self.old self.new fault) }
+        ensures faults { MatchResult result
+            (λ _. D.faults self.new.pen.disk ≡ D.faults self.old.pen.disk)
+            (λ fault. D.faults self.new.pen.disk ≡ D.faults self.old.pen.disk + failed fault) }
+    {
+        while self.tick(Lane::Log)? == Tick::Step {}
+        Ok(())
+    }
+
+    /// Learns what growers have published, and begins to commit the next growths.
+    fn begin_next(&mut self, live: &Live<R>) -> Result<(), FlushFault>
+        requires of { IsOf (D.keeps self.old.pen.disk) live.now self.old }
+        requires idle { self.old.pen.job ≡ None }
+        ensures goes_on { GoesOn (D.keeps self.new.pen.disk) self.old self.new }
+        ensures disk { self.new.pen.disk ≡ self.old.pen.disk }
+        ensures whole { self.new.pen.broken ≡ self.old.pen.broken }
+        ensures refused { IfErr result (λ fault. IsServeFault self.old self.new fault × (failed fault ≡ 0)) }
+    {
+        self.look(live)?;
+        self.take_group(live)?;
+        Ok(())
+    }
+
+    /// Commits and tells, until the book is closed and all is settled.
+    fn serve_all<E: Wait>(&mut self, rt: &E, live: &Live<R>) -> Result<(), FlushFault>
+        requires of { IsOf (D.keeps self.old.pen.disk) live.now self.old }
+        ensures serves { Serves R.form D.keeps D.states self.old self.new }
+        ensures all { OnOk result (self.new.settled ≡ length self.new.pass.entries) }
+        ensures idle { OnOk result (self.new.pen.job ≡ None) }
+        ensures refused { IfErr result (λ fault. IsServeFault self.old self.new fault) }
+        ensures faults { MatchResult result
+            (λ _. D.faults self.new.pen.disk ≡ D.faults self.old.pen.disk)
+            (λ fault. D.faults self.new.pen.disk ≡ D.faults self.old.pen.disk + failed fault) }
+    {
+        // A group may be in hand, or the frame of a fold.
+        self.settle_job()?;
+        for _ in rt.forever() {
+            self.raise(live);
+            live.wake_settled(rt);
+            let closed = live.await_more(rt, self.settled);
+            self.begin_next(live)?;
+            self.settle_job()?;
+            if closed && self.settled == self.known() {
+                break;
+            }
+        }
+        Ok(())
+    }
+
+    /// Commits what growers put, group by group, and tells by the mark what is settled and wakes those that wait for it,
+    /// until the book is closed and every growth that it knows is settled; then the mark says Ended. While there is nothing
+    /// to commit it sleeps.
+    ///
+    /// On a refusal the mark says Broken. Refused: `Strayed`; `Pen(Broken)`, where the pen was; `Pen(FileFull)`; `Pen(Memory)`;
+    /// `Pen(Disk)`.
+    pub fn serve<E: Wait>(&mut self, rt: &E, live: &Live<R>) -> Result<(), FlushFault>
+        requires of { IsOf (D.keeps self.old.pen.disk) live.now self.old }
+        ensures ended { OnOk result (HasEnded self.new) }
+        ensures broken { OnErr result (HasBroken self.new) }
+        ensures refused { IfErr result (λ fault. IsServeFault self.old self.new fault) }
+        ensures goes_on { GoesOn (D.keeps self.new.pen.disk) self.old self.new }
+        ensures images { D.keeps self.new.pen.disk → LeavesOnly (D.states self.old.pen.disk) (D.states self.new.pen.disk) (KeepsFrom R.form self.old.settled self.new) }
+        ensures faults { MatchResult result
+            (λ _. D.faults self.new.pen.disk ≡ D.faults self.old.pen.disk)
+            (λ fault. D.faults self.new.pen.disk ≡ D.faults self.old.pen.disk + failed fault) }
+        ensures model { D.keeps self.new.pen.disk → D.keeps self.old.pen.disk }
+    {
+        let served = self.serve_all(rt, live);
+        self.raise(live);
+        match served {
+            Ok(()) => self.mark.set_ended(live.mark()),
+            Err(_) => self.mark.set_broken(live.mark()),
+        }
+        live.wake_settled(rt);
+        served
+    }
+}
