@@ -26,7 +26,7 @@ use Rattle.pen_core.specs.Vectors.{frame_at, blanked_before, frames_with}
 use Rattle.pen_core.specs.Plan.{IsPlan}
 use Rattle.pen_core.specs.Values.{write_for}
 use Rattle.pen_core.specs.Folds.{IsFolding, IsWholeFold}
-use Rattle.pen_core.specs.InHand.{write_of, left_of, in_stage, fold_of, gate_then, IsInHand, IsAtStage, HomesAt, IsFold}
+use Rattle.pen_core.specs.InHand.{write_of, left_of, in_stage, fold_of, gate_then, IsAtStage, HomesAt, IsFold}
 use Rattle.pen_core.specs.Inside.{job_of, IsMaybeJob, IsAtStep, Stands, IsPen}
 use Rattle.pen_core.specs.Listed.{IsListed}
 use Rattle.pen_core.specs.PenOf.{FoldOf}
@@ -82,22 +82,8 @@ take_whole xs n is = ap (λ ys. take n ys) (sym (append-nil xs)) ∙ take-append
     all [] n is = ap (λ k. take k []) is
     all (x ∷ xs) n is = ap (λ k. take k (x ∷ xs)) is ∙ ap (λ ys. x ∷ ys) (all xs (length xs) refl)
 
--- no fold is in hand, and none is begun: its memory may hold other bytes
-pub listed_idle : (keeps : Type 0) (states : List State) (shape : Shape) (gate : ℕ) (tally : Tally) (bytes : List ℕ) (o : Option Step) (homes : Homes) (live : ℕ) (fold fold' : Fold) → IsListed keeps states shape gate tally bytes o homes live fold → fold.stage ≡ stages.None → fold'.stage ≡ stages.None
-    → IsListed keeps states shape gate tally bytes o homes live fold'
-listed_idle keeps states shape gate tally bytes o homes live fold fold' listed none none' = record {
-  frames = listed.frames;
-  legal = listed.legal;
-  gate_is = listed.gate_is;
-  tally_is = listed.tally_is;
-  lists = listed.lists;
-  filed = λ count is. (let clash : stages.None ≡ Filed = sym none ∙ (listed.filed count is).0 in absurd cc);
-  runs_are = λ held. absurd (subst IsInHand none' held);
-  same = listed.same;
-}
-
 -- where the gate will stand, as it is seen
-pub gate_seen : (shape : Shape) (gate : ℕ) (tally next : Tally) (bytes : List ℕ) (o : Option Step) → IsMaybeJob shape gate tally next bytes o → gate_then gate bytes o ≡ gate + job_len shape (job_of shape bytes o)
+gate_seen : (shape : Shape) (gate : ℕ) (tally next : Tally) (bytes : List ℕ) (o : Option Step) → IsMaybeJob shape gate tally next bytes o → gate_then gate bytes o ≡ gate + job_len shape (job_of shape bytes o)
 gate_seen shape gate tally next bytes None job = omega arith
 gate_seen shape gate tally next bytes (Some step) job = let all = ap length job.spelled ∙ length-append (frame_text shape.format (frame_at shape bytes)) (0 ∷ []) in omega arith
 
