@@ -3,9 +3,13 @@
 ghost use Rattle.std.specs.Prelude.{◌≡◌};
 
 mod begins;
+mod calls;
 mod commits;
 mod creation;
 mod folds;
+mod folds_beside_commits;
+mod replayed;
+mod scattered_folds;
 
 use super::*;
 use disk_core::{Choice, Disk, ImageLength, PendingBytes, RamDisk};
