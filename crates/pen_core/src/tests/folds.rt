@@ -4,7 +4,8 @@ ghost use Rattle.std.specs.Prelude.{◌≡◌, ◌<◌, length, IfOk};
 
 use super::calls::Answer::{Begun, Done, Filed, Idle, Refused, Step, Waiting};
 use super::calls::Call::{Change, ChangeTwo, Grow, GrowTwo, Home, Log, Shrink};
-use super::calls::{Answer, Call, folding, made, play};
+use super::calls::{Answer, Call, folding, play};
+use super::replayed::{TestDisk, new_file};
 use super::*;
 use segment_core::Format;
 use std::process::Abort;
@@ -56,35 +57,43 @@ const FOLDING: [(Call, Answer); 9] = [
     (Home, Idle),
 ];
 
+/// What a crash leaves of the pen's file, if nothing pending arrives.
+fn left(alloc: Global, pen: &Pen<TestDisk>) -> Result<Vec<u8>, Fail> {
+    Ok(pen.disk().replayed(alloc)?.image(&choice(0))?)
+}
+
+/// Begins to fold the pen's file.
+fn begin_fold(rt: &(impl AllocGlobal + Abort), pen: &mut Pen<TestDisk>) -> Result<(), Fail>
+    requires { pen.old.shape.width ≡ 8 }
+    ensures { pen.new.shape ≡ pen.old.shape }
+{
+    let records = scan::<u64>(rt.alloc(), left(rt.alloc(), pen)?.as_slice())?.records;
+    assert_eq!(rt; pen.len(), records.len() as u64);
+    assert!(rt; pen.begin_fold::<u64>(&[records.as_slice()])?);
+    Ok(())
+}
+
 /// Makes a file by these calls, and begins to fold it.
 fn begun_behind(
     rt: &(impl AllocGlobal + Abort),
     format: Format,
     lines: &[(Call, Answer)],
-) -> Result<Pen<RamDisk>, Fail>
+) -> Result<Pen<TestDisk>, Fail>
     ensures { IfOk result (λ pen. pen.shape.width ≡ 8) }
 {
-    let mut pen = made(rt.alloc(), format)?;
+    let mut pen = new_file(rt.alloc(), format)?;
     play(rt, &mut pen, lines);
-    let (pen, is_begun) = folding(rt.alloc(), pen.into_disk())?;
-    assert!(rt; is_begun);
+    begin_fold(rt, &mut pen)?;
     Ok(pen)
-}
-
-/// What a crash leaves of the pen's file, if nothing pending arrives.
-fn left(pen: Pen<RamDisk>) -> Result<Vec<u8>, Fail> {
-    Ok(pen.into_disk().image(&choice(0))?)
 }
 
 #[test]
 fn a_fold_puts_a_change_into_its_home_bytes(rt: HostRuntime) -> Result<(), Fail> {
-    let mut pen = made(rt.alloc(), Format::One)?;
-    play(&rt, &mut pen, &CHANGING);
-    assert_eq!(rt; left(pen)?.as_slice(), CHANGED.as_slice());
     let mut pen = begun_behind(&rt, Format::One, &CHANGING)?;
     assert_eq!(rt; pen.stage().fold, FoldStage::Home(1));
+    assert_eq!(rt; left(rt.alloc(), &pen)?.as_slice(), CHANGED.as_slice());
     play(&rt, &mut pen, &FOLDING);
-    assert_eq!(rt; left(pen)?.as_slice(), FOLDED.as_slice());
+    assert_eq!(rt; left(rt.alloc(), &pen)?.as_slice(), FOLDED.as_slice());
     Ok(())
 }
 
@@ -131,7 +140,7 @@ const NEWER: [(Call, Answer); 12] = [
 fn a_newer_change_stays_live_over_a_fold(rt: HostRuntime) -> Result<(), Fail> {
     let mut pen = begun_behind(&rt, Format::One, &CHANGING)?;
     play(&rt, &mut pen, &NEWER);
-    let image = left(pen)?;
+    let image = left(rt.alloc(), &pen)?;
     assert_eq!(rt; image.len(), 92);
     let scanned = scan::<u64>(rt.alloc(), image.as_slice())?;
     assert_eq!(rt; (scanned.changes, scanned.folded), (2, 1));
@@ -167,7 +176,7 @@ fn folded_beside_a_change(rt: &(impl AllocGlobal + Abort)) -> Result<Vec<u8>, Fa
     pen.begin_change(0, &newer)?;
     assert!(rt; pen.begin_fold::<u64>(&[records.as_slice()])?);
     play(rt, &mut pen, &IN_HAND);
-    left(pen)
+    Ok(pen.into_disk().image(&choice(0))?)
 }
 
 #[test]
@@ -219,7 +228,7 @@ const SHRINKING: [(Call, Answer); 15] = [
 fn a_shrink_waits_for_the_fold(rt: HostRuntime) -> Result<(), Fail> {
     let mut pen = begun_behind(&rt, Format::One, &UNFOLDED)?;
     play(&rt, &mut pen, &SHRINKING);
-    let image = left(pen)?;
+    let image = left(rt.alloc(), &pen)?;
     assert_eq!(rt; image.as_slice(), SHRUNK.as_slice());
     let records = scan::<u64>(rt.alloc(), image.as_slice())?.records;
     assert_eq!(rt; records.as_slice(), [5].as_slice());
@@ -230,7 +239,7 @@ fn a_shrink_waits_for_the_fold(rt: HostRuntime) -> Result<(), Fail> {
 fn torn_home_bytes_lie_under_the_live_change(rt: HostRuntime) -> Result<(), Fail> {
     let mut pen = begun_behind(&rt, Format::One, &CHANGING)?;
     play(&rt, &mut pen, &FOLDING[..1]);
-    let image = pen.into_disk().image(&Choice {
+    let image = pen.disk().replayed(rt.alloc())?.image(&Choice {
         length: ImageLength::Greatest,
         pending: PendingBytes::Fill(0xff),
     })?;
@@ -283,7 +292,7 @@ fn runs_of_several_changes_are_written_home_together(rt: HostRuntime) -> Result<
     assert_eq!(rt; pen.stage().fold, FoldStage::Home(2));
     assert!(rt; finish(&mut pen));
     assert_eq!(rt; pen.stage().fold, FoldStage::None);
-    let image = left(pen)?;
+    let image = left(rt.alloc(), &pen)?;
     let scanned = scan::<u64>(rt.alloc(), image.as_slice())?;
     assert_eq!(rt; (scanned.changes, scanned.folded), (2, 2));
     assert_eq!(rt; scanned.records.as_slice(), [9, 11, 12, 10].as_slice());
@@ -304,7 +313,7 @@ const CUTS: [(u64, usize, u64); 8] = [
 ];
 
 /// Commits a growth.
-fn grow(pen: &mut Pen<RamDisk>, records: &[u64]) -> Result<bool, PenFault>
+fn grow(pen: &mut Pen<TestDisk>, records: &[u64]) -> Result<bool, PenFault>
     requires width { pen.old.shape.width ≡ 8 }
     requires some { 0 < length records.now }
     ensures { pen.new.shape ≡ pen.old.shape }
@@ -315,7 +324,7 @@ fn grow(pen: &mut Pen<RamDisk>, records: &[u64]) -> Result<bool, PenFault>
 }
 
 /// Commits a change.
-fn change(pen: &mut Pen<RamDisk>, start: u64, records: &[u64]) -> Result<bool, PenFault>
+fn change(pen: &mut Pen<TestDisk>, start: u64, records: &[u64]) -> Result<bool, PenFault>
     requires width { pen.old.shape.width ≡ 8 }
     requires some { 0 < length records.now }
     ensures { pen.new.shape ≡ pen.old.shape }
@@ -326,17 +335,19 @@ fn change(pen: &mut Pen<RamDisk>, start: u64, records: &[u64]) -> Result<bool, P
 }
 
 /// A file of the two groups, all fives, and a change to sixes.
-fn changed(alloc: Global, start: u64, count: usize) -> Result<Pen<RamDisk>, Fail> {
+fn changed(alloc: Global, start: u64, count: usize) -> Result<Pen<TestDisk>, Fail>
+    ensures { IfOk result (λ pen. pen.shape.width ≡ 8) }
+{
     let fives = vec![in alloc; 5u64; 5000]?;
-    let mut pen = made(alloc, Format::One)?;
+    let mut pen = new_file(alloc, Format::One)?;
     grow(&mut pen, fives.as_slice())?;
     grow(&mut pen, &fives[..3000])?;
     let sixes = vec![in alloc; 6u64; 8000]?;
-    if let Some(records) = sixes.get(..count)
-        && !records.is_empty()
-    {
-        change(&mut pen, start, records)?;
+    let records = sixes.get(..count).ok_or("too many")?;
+    if records.is_empty() {
+        return Err(Fail::from("none"));
     }
+    change(&mut pen, start, records)?;
     Ok(pen)
 }
 
@@ -346,12 +357,11 @@ fn home_writes_are_cut_at_4096_records_and_at_the_ends_of_groups(
 ) -> Result<(), Fail> {
     let alloc = rt.alloc();
     for (start, count, writes) in CUTS {
-        let pen = changed(alloc, start, count)?;
-        let (mut pen, is_begun) = folding(alloc, pen.into_disk())?;
-        assert!(rt; is_begun);
+        let mut pen = changed(alloc, start, count)?;
+        begin_fold(&rt, &mut pen)?;
         assert_eq!(rt; pen.stage().fold, FoldStage::Home(writes), "from {start}");
         assert!(rt; finish(&mut pen));
-        let scanned = scan::<u64>(alloc, left(pen)?.as_slice())?;
+        let scanned = scan::<u64>(alloc, left(alloc, &pen)?.as_slice())?;
         assert_eq!(rt; (scanned.changes, scanned.folded), (1, 1));
         assert_eq!(rt;
             scanned

@@ -1,7 +1,10 @@
 //! A disk for tests of large files, of which no call copies a whole file.
 
+ghost use Rattle.std.specs.Prelude.{◌≡◌, IfOk};
+
 use super::*;
 use disk_core::DiskFault;
+use segment_core::Format;
 use std::alloc::AllocError;
 
 /// A write since the last sync: its place, and where its bytes stand among those that were written.
@@ -23,6 +26,19 @@ pub(super) struct ReplayedDisk<D: Disk> {
     /// What was written since.
     bytes: Vec<u8>,
     writes: Vec<Written>,
+}
+
+pub(super) type TestDisk = ReplayedDisk<RamDisk>;
+
+/// A new file.
+pub(super) fn new_file(alloc: Global, format: Format) -> Result<Pen<TestDisk>, Fail>
+    ensures { IfOk result (λ pen. pen.shape.width ≡ 8) }
+{
+    let disk = ReplayedDisk::new(alloc, RamDisk::new(alloc));
+    match Pen::create_as(alloc, disk, 8, format) {
+        Ok(pen) => Ok(pen),
+        Err(_) => Err(Fail::from("no file")),
+    }
 }
 
 /// Notes a write.

@@ -4,14 +4,12 @@ ghost use Rattle.std.specs.Prelude.{◌≡◌, ◌<◌, ◌^◌, IfOk};
 
 use super::calls::Call::{Change, ChangeTwo, Grow, Home, Log};
 use super::calls::{Call, Plain, make};
-use super::replayed::ReplayedDisk;
+use super::replayed::{TestDisk, new_file};
 use super::*;
 use segment_core::Format;
 use std::alloc::AllocError;
 use std::process::Abort;
 use std::time::{Clock, Instant};
-
-type TestDisk = ReplayedDisk<RamDisk>;
 
 /// Groups of one growth each, whose numbers are their own positions; then changes of four scattered positions each,
 /// which together are all odd ones. The first half of the changes is committed twice.
@@ -102,23 +100,12 @@ fn change(pen: &mut Pen<TestDisk>, at: [u64; 4], more: u64) -> bool
     begun.is_ok() && commit(pen)
 }
 
-/// A new file.
-fn made(alloc: Global) -> Result<Pen<TestDisk>, Fail>
-    ensures { IfOk result (λ pen. pen.shape.width ≡ 8) }
-{
-    let disk = ReplayedDisk::new(alloc, RamDisk::new(alloc));
-    match Pen::create_as(alloc, disk, 8, Format::Two) {
-        Ok(pen) => Ok(pen),
-        Err(_) => Err(Fail::from("no file")),
-    }
-}
-
 /// A pen over a new file of these groups, changes and no fold, and the place of the gate behind the groups.
 fn laid(rt: &(impl AllocGlobal + Abort), size: Spread) -> Result<(Pen<TestDisk>, u64), Fail>
     requires { size.changes < 2 ^ 32 }
     ensures { IfOk result (λ r. r.0.shape.width ≡ 8) }
 {
-    let mut pen = made(rt.alloc())?;
+    let mut pen = new_file(rt.alloc(), Format::Two)?;
     for group in 0..size.groups {
         let start = group.saturating_mul(size.length);
         grow(&mut pen, start, start.saturating_add(size.length), rt)?;
