@@ -220,7 +220,7 @@ impl Done {
             threads: readers as u64,
             n: self.grown,
             time: self.growing,
-            memory: None,
+            detail: None,
         };
         let summed = Figure {
             work: "beside.sum",

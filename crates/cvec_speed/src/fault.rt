@@ -2,6 +2,8 @@
 
 use block_core::FreshFault;
 use book_core::GrowFault;
+use flush_core::FlushFault;
+use pen_core::{OpenFault, PenFault};
 use std::alloc::{AllocError, AllocFailed};
 use std::io;
 use thiserror::Error;
@@ -24,6 +26,27 @@ pub enum SpeedFault {
     /// The clock, or what the system tells of the memory, can't be read.
     #[error("the system tells no time or no memory")]
     System,
+    /// The system refuses the file.
+    #[error("the file: {0}")]
+    File(io::ErrorKind),
+    /// A pen refused, or its disk failed.
+    #[error("a pen refused: {0}")]
+    Pen(PenFault),
+    /// A file wasn't opened.
+    #[error("not opened: {0}")]
+    Open(OpenFault),
+    /// Who commits refused, or its disk failed.
+    #[error("no commit: {0}")]
+    Flush(FlushFault),
+    /// A growth won't be durable any more.
+    #[error("not durable")]
+    Unsettled,
+}
+
+impl From<PenFault> for SpeedFault {
+    fn from(fault: PenFault) -> SpeedFault {
+        SpeedFault::Pen(fault)
+    }
 }
 
 impl From<GrowFault> for SpeedFault {

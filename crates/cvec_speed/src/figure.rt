@@ -10,6 +10,25 @@ pub struct MemoryUse {
     pub highest: u64,
 }
 
+/// How long rounds took: a tenth of them, half of them, and 99 of 100 took at most so long.
+#[derive(Clone, Copy)]
+pub struct Waits {
+    pub p10: Duration,
+    pub p50: Duration,
+    pub p99: Duration,
+}
+
+/// What a figure says beside the time.
+#[derive(Clone, Copy)]
+pub enum Detail {
+    /// What memory its records took.
+    Memory(MemoryUse),
+    /// How many writes of a disk it made.
+    Writes(u64),
+    /// How long its rounds took.
+    Waits(Waits),
+}
+
 /// What was done in how much time.
 #[derive(Clone, Copy)]
 pub struct Figure {
@@ -20,7 +39,7 @@ pub struct Figure {
     /// How many records they made or read.
     pub n: u64,
     pub time: Duration,
-    pub memory: Option<MemoryUse>,
+    pub detail: Option<Detail>,
 }
 
 /// Ten-thousandths, with a point.
@@ -35,6 +54,42 @@ impl fmt::Display for TenThousandths {
     }
 }
 
+/// Microseconds, to a tenth.
+#[derive(Clone, Copy)]
+struct Micros(Duration);
+
+impl fmt::Display for Micros {
+    fn fmt<W: fmt::Write>(&self, f: &mut fmt::Formatter<W>) -> fmt::Result {
+        let whole = self.0.as_micros();
+        let rest = self.0.subsec_nanos() / 100 % 10;
+        write!(f, "{whole}.{rest}")
+    }
+}
+
+impl fmt::Display for Waits {
+    fn fmt<W: fmt::Write>(&self, f: &mut fmt::Formatter<W>) -> fmt::Result {
+        let p10 = Micros(self.p10);
+        let p50 = Micros(self.p50);
+        let p99 = Micros(self.p99);
+        write!(f, ",\"p10_us\":{p10},\"p50_us\":{p50},\"p99_us\":{p99}")
+    }
+}
+
+impl fmt::Display for Detail {
+    fn fmt<W: fmt::Write>(&self, f: &mut fmt::Formatter<W>) -> fmt::Result {
+        match *self {
+            Detail::Memory(memory) => {
+                let at_end = TenThousandths(memory.at_end);
+                let highest = TenThousandths(memory.highest);
+                write!(f, ",\"bytes_per_record\":{at_end}")?;
+                write!(f, ",\"peak_bytes_per_record\":{highest}")
+            }
+            Detail::Writes(writes) => write!(f, ",\"writes\":{writes}"),
+            Detail::Waits(waits) => write!(f, "{waits}"),
+        }
+    }
+}
+
 impl fmt::Display for Figure {
     fn fmt<W: fmt::Write>(&self, f: &mut fmt::Formatter<W>) -> fmt::Result {
         let work = self.work;
@@ -44,11 +99,8 @@ impl fmt::Display for Figure {
         let nanos = self.time.subsec_nanos();
         write!(f, "{{\"work\":\"{work}\",\"threads\":{threads},\"n\":{n}")?;
         write!(f, ",\"seconds\":{seconds}.{nanos:09}")?;
-        if let Some(memory) = self.memory {
-            let at_end = TenThousandths(memory.at_end);
-            let highest = TenThousandths(memory.highest);
-            write!(f, ",\"bytes_per_record\":{at_end}")?;
-            write!(f, ",\"peak_bytes_per_record\":{highest}")?;
+        if let Some(detail) = self.detail {
+            write!(f, "{detail}")?;
         }
         write!(f, "}}")
     }

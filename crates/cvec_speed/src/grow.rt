@@ -154,7 +154,7 @@ pub fn grow<E: Threads + Wait + Clock + Sync>(
         threads: sizes.threads as u64,
         n: total.count,
         time,
-        memory: None,
+        detail: None,
     };
     Ok(Vec::from_array(alloc, [figure])?)
 }

@@ -1,27 +1,40 @@
-//! `cvec_speed`: measures growth, reading and memory of a growth phase. It is started as
-//! `cvec_speed WORK name=number ..` and writes one line of JSON for each figure.
+//! `cvec_speed`: measures growth, reading and memory of a growth phase, and a vector's file. It is started as
+//! `cvec_speed WORK name=value ..` and writes one line of JSON for each figure.
 #![tactic(auto)]
 
 mod beside;
+mod change;
+mod commit;
+mod durable;
 mod fault;
 mod figure;
+mod fold;
 mod gate;
+mod group;
 mod grow;
 mod memory;
 mod mix;
 mod phase;
+mod pool;
+mod producer;
 mod read;
 mod reading;
+mod served;
+mod store;
 #[cfg(test)]
 mod tests;
 mod words;
 
 use crate::beside::beside;
+use crate::durable::durable;
 use crate::fault::SpeedFault;
+use crate::fold::fold;
 use crate::grow::grow;
 use crate::memory::memory;
 use crate::read::read;
+use crate::store::{build, open};
 use crate::words::{WordsFault, Work, read_words};
+use std::fs::File;
 use std::process::ExitCode;
 use std::rt::Files;
 use std::sync::Wait;
@@ -29,11 +42,15 @@ use std::thread::Threads;
 use std::time::Clock;
 use std::{env, io};
 
-const USAGE: &str = "usage: cvec_speed WORK name=number ..
+const USAGE: &str = "usage: cvec_speed WORK name=value ..
 grow threads= block= n=                      threads grow one vector
 beside threads= block= preload= n= cap_ms=   threads sum a vector while one more grows it
 read block= n= draws=                        one thread, and then 1, 2 and 4, read a vector
 memory block= n=                             what memory one thread's growths take
+open-build dir= block= n=                    a vector's file is made in a folder
+open-read dir= block= n= work=               it is opened; work is open.warm or open.cold
+fold dir= run= n=                            changes of runs of positions are folded
+durable dir= mode= threads= block= n= box_ms=   threads append to a file; mode is wait1, wait64 or flow
 ";
 
 fn main(rt: HostRuntime) -> io::Result<ExitCode> {
@@ -53,7 +70,7 @@ fn main(rt: HostRuntime) -> io::Result<ExitCode> {
 }
 
 /// Does the work, and writes its figures, or why there are none.
-fn measure<E: Threads + Wait + Clock + Files + AllocGlobal + Print + Eprint + Sync>(
+fn measure<E: Threads + Wait + Clock + Files<File = File> + AllocGlobal + Print + Eprint + Sync>(
     rt: &E,
     work: Work,
 ) -> io::Result<u8> {
@@ -62,6 +79,10 @@ fn measure<E: Threads + Wait + Clock + Files + AllocGlobal + Print + Eprint + Sy
         Work::Beside(sizes) => beside(rt, rt.alloc(), sizes),
         Work::Read(sizes) => read(rt, rt.alloc(), sizes),
         Work::Memory(sizes) => memory(rt, rt.alloc(), sizes),
+        Work::Build(sizes) => build(rt, rt.alloc(), sizes),
+        Work::Open(sizes, work) => open(rt, rt.alloc(), sizes, work),
+        Work::Fold(sizes) => fold(rt, rt.alloc(), sizes),
+        Work::Durable(sizes) => durable(rt, rt.alloc(), sizes),
     };
     match done {
         Ok(figures) => {

@@ -4,7 +4,7 @@ ghost use Rattle.book_core.specs.Beginning.{AreNewSeats};
 ghost use Rattle.std.specs.Prelude.{◌<◌};
 
 use crate::fault::SpeedFault;
-use crate::figure::{Figure, MemoryUse};
+use crate::figure::{Detail, Figure, MemoryUse};
 use crate::mix::mixed;
 use crate::phase::{begin, put_blocks, put_records, take_seat};
 use std::alloc::{AllocGlobal, Global};
@@ -87,10 +87,10 @@ pub fn memory<E: Wait + Clock + Files + AllocGlobal>(
         threads: 1,
         n,
         time,
-        memory: Some(MemoryUse {
+        detail: Some(Detail::Memory(MemoryUse {
             at_end: per_record(after.own.saturating_sub(before.own), n),
             highest: per_record(after.highest_own.saturating_sub(before.own), n),
-        }),
+        })),
     };
     Ok(Vec::from_array(alloc, [figure])?)
 }

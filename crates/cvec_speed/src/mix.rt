@@ -26,6 +26,11 @@ pub fn mixed(alloc: Global, first: u64, len: usize) -> Result<Vec<u64>, AllocErr
         .collect(alloc)
 }
 
+/// The sum of the numbers of the first so many places, which wraps.
+pub fn sum_of_mixed(n: u64) -> u64 {
+    (0..n).fold(0, |sum: u64, place: u64| sum.wrapping_add(mix(place)))
+}
+
 /// The sum of the records, which wraps.
 pub fn sum_of(records: &[u64]) -> u64 {
     records

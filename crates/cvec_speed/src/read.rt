@@ -6,7 +6,7 @@ ghost use Rattle.book_core.specs.Lists.{IsOf};
 use crate::fault::SpeedFault;
 use crate::figure::Figure;
 use crate::gate::{Gate, Span};
-use crate::mix::{below, mix, mixed};
+use crate::mix::{below, mix, mixed, sum_of_mixed};
 use crate::phase::{begin, put_blocks, take_seat};
 use crate::reading::{Total, total_of};
 use book_core::{Live, Seat, Snapshot};
@@ -130,7 +130,7 @@ fn read_at_random<E: Threads + Wait + Clock + Sync>(
         threads: threads as u64,
         n: sizes.draws.saturating_mul(threads as u64),
         time: Span::time_of_all(spans)?,
-        memory: None,
+        detail: None,
     })
 }
 
@@ -141,7 +141,7 @@ fn figure_of(work: &'static str, n: u64, time: Duration) -> Figure {
         threads: 1,
         n,
         time,
-        memory: None,
+        detail: None,
     }
 }
 
@@ -158,8 +158,11 @@ fn read_in_order<E: Clock>(
     let start = Instant::now(rt)?;
     let total = total_of(live, seat);
     let time = start.elapsed(rt)?;
-    let sum = (0..n).fold(0, |sum: u64, place: u64| sum.wrapping_add(mix(place)));
-    if total != (Total { count: n, sum }) {
+    let wanted = Total {
+        count: n,
+        sum: sum_of_mixed(n),
+    };
+    if total != wanted {
         return Err(SpeedFault::Content);
     }
     Ok(figure_of("read.seq", n, time))

@@ -1,15 +1,23 @@
 //! What no clause says: each work runs, and finds the content that it grew.
 
 use crate::beside::{BesideSizes, beside};
+use crate::durable::{DurableSizes, Mode, durable};
 use crate::fault::SpeedFault;
 use crate::figure::Figure;
+use crate::fold::{FoldSizes, fold};
 use crate::grow::{GrowSizes, grow};
 use crate::memory::{MemorySizes, memory};
 use crate::mix::{below, mix};
 use crate::read::{ReadSizes, read};
+use crate::store::{StoreSizes, build, open};
 use std::alloc::{AllocError, Global};
+use std::fs;
+use std::fs::File;
+use std::rt::Files;
+use std::sync::Wait;
 use std::test::Fail;
-use std::time::Duration;
+use std::thread::Threads;
+use std::time::{Clock, Duration};
 
 /// The numbers of records of the figures.
 fn counts_of(alloc: Global, figures: &[Figure]) -> Result<Vec<u64>, AllocError> {
@@ -80,5 +88,80 @@ fn memory_is_told_of_whole_blocks_in_one_phase(rt: HostRuntime) -> Result<(), Fa
         n: 1_048_569,
     };
     assert_eq!(rt; memory(&rt, rt.alloc(), many).err(), Some(SpeedFault::Room));
+    Ok(())
+}
+
+#[test]
+fn a_file_is_built_and_opened(rt: HostRuntime) -> Result<(), Fail> {
+    let dir = "built_and_opened";
+    let _ = fs::remove_dir_all(&rt, dir);
+    fs::create_dir(&rt, dir)?;
+    let sizes = StoreSizes {
+        dir,
+        block: 16,
+        n: 300_001,
+    };
+    assert!(rt; build(&rt, rt.alloc(), sizes)?.is_empty());
+    let figures = open(&rt, rt.alloc(), sizes, "open.warm")?;
+    let counts = counts_of(rt.alloc(), figures.as_slice())?;
+    assert_eq!(rt; counts.as_slice(), [300_001].as_slice());
+    fs::remove_dir_all(&rt, dir)?;
+    Ok(())
+}
+
+/// The numbers of the figures of a fold in a folder of its own.
+fn folded(rt: &HostRuntime, sizes: FoldSizes) -> Result<Vec<u64>, Fail> {
+    let _ = fs::remove_dir_all(rt, sizes.dir);
+    fs::create_dir(rt, sizes.dir)?;
+    let figures = fold(rt, rt.alloc(), sizes)?;
+    fs::remove_dir_all(rt, sizes.dir)?;
+    Ok(counts_of(rt.alloc(), figures.as_slice())?)
+}
+
+#[test]
+fn changes_are_folded(rt: HostRuntime) -> Result<(), Fail> {
+    let dir = "folded";
+    let apart = FoldSizes {
+        dir,
+        run: 1,
+        n: 1000,
+    };
+    assert_eq!(rt; folded(&rt, apart)?.as_slice(), [1000, 1000].as_slice());
+    let long = FoldSizes {
+        dir,
+        run: 100,
+        n: 9950,
+    };
+    assert_eq!(rt; folded(&rt, long)?.as_slice(), [9900, 9900].as_slice());
+    Ok(())
+}
+
+/// Two threads that append blocks of 16 records to a file in a folder of its own: the number of records.
+fn appended<E: Threads + Wait + Clock + Sync + Files<File = File> + AllocGlobal>(
+    rt: &E,
+    mode: Mode,
+) -> Result<u64, Fail> {
+    let dir = "appended";
+    let sizes = DurableSizes {
+        dir,
+        mode,
+        threads: 2,
+        block: 16,
+        n: 101,
+        most: Duration::from_millis(1),
+    };
+    let _ = fs::remove_dir_all(rt, dir);
+    fs::create_dir(rt, dir)?;
+    let figures = durable(rt, rt.alloc(), sizes)?;
+    fs::remove_dir_all(rt, dir)?;
+    let counts = counts_of(rt.alloc(), figures.as_slice())?;
+    Ok(counts.as_slice().first().copied().unwrap_or(0))
+}
+
+#[test]
+fn threads_append_to_a_file(rt: HostRuntime) -> Result<(), Fail> {
+    assert_eq!(rt; appended(&rt, Mode::Flow)?, 1600);
+    assert!(rt; appended(&rt, Mode::Wait1)? >= 32);
+    assert!(rt; appended(&rt, Mode::Wait64)? >= 2048);
     Ok(())
 }

@@ -1,20 +1,29 @@
-//! The words that name a work and its sizes: the work, then each size as `name=number`, in any order.
+//! The words that name a work and its sizes: the work, then each size as `name=value`, in any order.
 
 ghost use Rattle.std.specs.Prelude.{◌<◌, IfSome};
 
 use crate::beside::BesideSizes;
+use crate::durable::{DurableSizes, Mode};
+use crate::fold::FoldSizes;
 use crate::grow::GrowSizes;
 use crate::memory::MemorySizes;
 use crate::read::ReadSizes;
+use crate::store::StoreSizes;
 use std::time::Duration;
 
 /// What is to be measured.
 #[derive(Clone, Copy)]
-pub enum Work {
+pub enum Work<'a> {
     Grow(GrowSizes),
     Beside(BesideSizes),
     Read(ReadSizes),
     Memory(MemorySizes),
+    /// A file is made, without a figure.
+    Build(StoreSizes<'a>),
+    /// It is opened: with the name of the figure.
+    Open(StoreSizes<'a>, &'static str),
+    Fold(FoldSizes<'a>),
+    Durable(DurableSizes<'a>),
 }
 
 /// Why words name no work.
@@ -26,16 +35,21 @@ pub enum WordsFault {
     NoSize,
 }
 
-/// The size of that name.
-fn size_of(words: &[String], name: &str) -> Option<u64> {
+/// The value of that name.
+fn text_of<'a>(words: &'a [String], name: &str) -> Option<&'a str> {
     for word in words {
-        if let Some((key, number)) = word.split_once('=') {
+        if let Some((key, text)) = word.split_once('=') {
             if key == name {
-                return number.parse().ok();
+                return Some(text);
             }
         }
     }
     None
+}
+
+/// The number of that name.
+fn size_of(words: &[String], name: &str) -> Option<u64> {
+    text_of(words, name)?.parse().ok()
 }
 
 fn grow_sizes(words: &[String]) -> Option<GrowSizes> {
@@ -85,8 +99,70 @@ fn memory_sizes(words: &[String]) -> Option<MemorySizes> {
     Some(MemorySizes { block, n })
 }
 
+fn store_sizes(words: &[String]) -> Option<StoreSizes<'_>> {
+    let dir = text_of(words, "dir")?;
+    let block = u32::try_from(size_of(words, "block")?).ok()?;
+    let n = size_of(words, "n")?;
+    if block == 0 {
+        return None;
+    }
+    Some(StoreSizes { dir, block, n })
+}
+
+/// The name of a figure of opening.
+fn figure_name(words: &[String]) -> Option<&'static str> {
+    match text_of(words, "work")? {
+        "open.warm" => Some("open.warm"),
+        "open.cold" => Some("open.cold"),
+        _ => None,
+    }
+}
+
+fn open_work(words: &[String]) -> Option<Work<'_>> {
+    Some(Work::Open(store_sizes(words)?, figure_name(words)?))
+}
+
+fn fold_sizes(words: &[String]) -> Option<FoldSizes<'_>> {
+    let dir = text_of(words, "dir")?;
+    let run = u32::try_from(size_of(words, "run")?).ok()?;
+    let n = size_of(words, "n")?;
+    if run == 0 {
+        return None;
+    }
+    Some(FoldSizes { dir, run, n })
+}
+
+fn mode_of(words: &[String]) -> Option<Mode> {
+    match text_of(words, "mode")? {
+        "wait1" => Some(Mode::Wait1),
+        "wait64" => Some(Mode::Wait64),
+        "flow" => Some(Mode::Flow),
+        _ => None,
+    }
+}
+
+fn durable_sizes(words: &[String]) -> Option<DurableSizes<'_>> {
+    let dir = text_of(words, "dir")?;
+    let mode = mode_of(words)?;
+    let threads = u16::try_from(size_of(words, "threads")?).ok()?;
+    let block = u32::try_from(size_of(words, "block")?).ok()?;
+    let n = size_of(words, "n")?;
+    let most = Duration::from_millis(size_of(words, "box_ms")?);
+    if threads == 0 || block == 0 {
+        return None;
+    }
+    Some(DurableSizes {
+        dir,
+        mode,
+        threads,
+        block,
+        n,
+        most,
+    })
+}
+
 /// What the words ask for.
-pub fn read_words(words: &[String]) -> Result<Work, WordsFault> {
+pub fn read_words(words: &[String]) -> Result<Work<'_>, WordsFault> {
     let Some((work, sizes)) = words.split_first() else {
         return Err(WordsFault::NoWork);
     };
@@ -95,6 +171,10 @@ pub fn read_words(words: &[String]) -> Result<Work, WordsFault> {
         "beside" => beside_sizes(sizes).map(|sizes| Work::Beside(sizes)),
         "read" => read_sizes(sizes).map(|sizes| Work::Read(sizes)),
         "memory" => memory_sizes(sizes).map(|sizes| Work::Memory(sizes)),
+        "open-build" => store_sizes(sizes).map(|sizes| Work::Build(sizes)),
+        "open-read" => open_work(sizes),
+        "fold" => fold_sizes(sizes).map(|sizes| Work::Fold(sizes)),
+        "durable" => durable_sizes(sizes).map(|sizes| Work::Durable(sizes)),
         _ => return Err(WordsFault::NoWork),
     };
     work.ok_or(WordsFault::NoSize)

@@ -1,0 +1,36 @@
+//! A pen over a file that is measured, and its commits.
+
+ghost use Rattle.std.specs.Prelude.{◌≡◌, IfOk};
+
+use crate::fault::SpeedFault;
+use disk_core::Disk;
+use pen_core::{Pen, Ticked};
+use segment_core::Format;
+use std::alloc::Global;
+
+/// The bytes of a record.
+const WIDTH: u16 = 8;
+
+/// A pen over a new file.
+pub fn create<D: Disk + Drop>(alloc: Global, disk: D, format: Format) -> Result<Pen<D>, SpeedFault>
+    ensures { IfOk result (λ pen. pen.shape.width ≡ 8) }
+{
+    match Pen::create_as(alloc, disk, WIDTH, format) {
+        Ok(pen) => Ok(pen),
+        Err((_, fault)) => Err(SpeedFault::Pen(fault)),
+    }
+}
+
+/// Makes the device calls of the job in hand.
+pub fn commit<D: Disk>(pen: &mut Pen<D>) -> Result<(), SpeedFault>
+    ensures { pen.new.shape ≡ pen.old.shape }
+{
+    for _ in 0..4 {
+        match pen.tick_log() {
+            Ok(Ticked::Done) => return Ok(()),
+            Ok(_) => {}
+            Err(fault) => return Err(SpeedFault::Pen(fault)),
+        }
+    }
+    Ok(())
+}

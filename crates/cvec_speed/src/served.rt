@@ -1,0 +1,86 @@
+//! A phase whose growths are committed to a file.
+
+ghost use Rattle.std.specs.Prelude.{◌≡◌, [], IfOk, length};
+ghost use Rattle.std.specs.Int.{w64};
+ghost use Rattle.record_core.specs.Bytes.{unsigned};
+ghost use Rattle.segment_core.specs.Raw.{AreCellsOf};
+ghost use Rattle.pen_core.specs.Opening.{IsAtRest};
+ghost use Rattle.book_core.specs.Beginning.{AreNewSeats};
+ghost use Rattle.flush_core.specs.Flusher.{IsOf};
+
+use crate::fault::SpeedFault;
+use book_core::{Begun, Live, Seat};
+use directory_core::GROWTH_LIMIT;
+use disk_core::Disk;
+use flush_core::Flusher;
+use pen_core::Pen;
+use std::alloc::Global;
+use std::sync::Wait;
+use std::time::{Clock, Instant};
+
+/// A phase, its new seats, and who commits its growths.
+#[derive(Drop)]
+pub struct Served<D: Disk> {
+    pub live: Live<u64>,
+    pub seats: Vec<Seat<u64>>,
+    pub flusher: Flusher<u64, D>,
+    ghost of: { IsOf (D.keeps flusher.pen.disk) live flusher },
+    ghost seated: { AreNewSeats live.directory live.mark seats.items },
+}
+
+/// A phase over a pen's empty file.
+fn over_pen<D: Disk + Drop>(
+    alloc: Global,
+    pen: Pen<D>,
+    room: u64,
+    seats: u16,
+) -> Result<Served<D>, SpeedFault>
+    requires rests { IsAtRest 8 0 pen }
+    requires cells { D.keeps pen.disk → AreCellsOf (unsigned w64) pen.vector [] }
+{
+    if room == 0 || room > GROWTH_LIMIT {
+        return Err(SpeedFault::Room);
+    }
+    match Live::begin(alloc, Vec::new(alloc), room, seats) {
+        Ok(begun) => {
+            let Begun {
+                live,
+                seats,
+                pass,
+                mark,
+            } = begun;
+            let before = live.opening_len();
+            let flusher = Flusher::begin(alloc, pen, pass, mark, before);
+            Ok(Served {
+                live,
+                seats,
+                flusher,
+            })
+        }
+        Err((_, fault)) => Err(SpeedFault::Grow(fault)),
+    }
+}
+
+impl<D: Disk + Drop> Served<D> {
+    /// A phase over a new file on the disk, with room for so many growths, and so many seats.
+    pub fn begin(alloc: Global, disk: D, room: u64, seats: u16) -> Result<Served<D>, SpeedFault> {
+        match Pen::create(alloc, disk, 8) {
+            Ok(pen) => over_pen(alloc, pen, room, seats),
+            Err((_, fault)) => Err(SpeedFault::Pen(fault)),
+        }
+    }
+}
+
+/// Commits what others grow until the phase is closed and all of it is durable. Answers when that was.
+pub fn serve<E: Wait + Clock, D: Disk>(
+    rt: &E,
+    live: &Live<u64>,
+    flusher: &mut Flusher<u64, D>,
+) -> Result<Instant, SpeedFault>
+    requires { IsOf (D.keeps flusher.old.pen.disk) live.now flusher.old }
+{
+    match flusher.serve(rt, live) {
+        Ok(()) => Ok(Instant::now(rt)?),
+        Err(fault) => Err(SpeedFault::Flush(fault)),
+    }
+}
