@@ -1,6 +1,6 @@
 //! Threads append blocks to a vector, while one more thread commits them to its file.
 
-ghost use Rattle.std.specs.Prelude.{◌≡◌, ◌<◌};
+ghost use Rattle.std.specs.Prelude.{◌<◌};
 ghost use Rattle.book_core.specs.Beginning.{AreNewSeats};
 ghost use Rattle.flush_core.specs.Flusher.{IsOf};
 

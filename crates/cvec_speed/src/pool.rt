@@ -1,6 +1,6 @@
 //! Ready records, from which blocks are taken.
 
-ghost use Rattle.std.specs.Prelude.{◌≡◌, ◌+◌, ◌≤◌, ◌<◌, ◌^◌, length, vec_len};
+ghost use Rattle.std.specs.Prelude.{◌+◌, ◌≤◌, ◌^◌, vec_len};
 
 use crate::mix::mixed;
 use crate::reading::Total;

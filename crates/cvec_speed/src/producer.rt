@@ -1,6 +1,5 @@
 //! A thread that appends blocks, and waits until they are durable.
 
-ghost use Rattle.std.specs.Prelude.{◌≡◌, ◌<◌, IfSome};
 ghost use Rattle.book_core.specs.Lists.{IsOf};
 
 use crate::fault::SpeedFault;

@@ -1,6 +1,6 @@
 //! A phase whose growths are committed to a file.
 
-ghost use Rattle.std.specs.Prelude.{◌≡◌, [], IfOk, length};
+ghost use Rattle.std.specs.Prelude.{[]};
 ghost use Rattle.std.specs.Int.{w64};
 ghost use Rattle.record_core.specs.Bytes.{unsigned};
 ghost use Rattle.segment_core.specs.Raw.{AreCellsOf};
