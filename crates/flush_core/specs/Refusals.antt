@@ -59,8 +59,7 @@ failed (Strayed number) = 0
 
 -- ---- groups
 
--- Why none was begun: the pen is broken or has a job; else the file would be full of the greatest group, or there was
--- no memory for it.
+-- Why none was begun by a pen that might: the file has no room for the greatest group, or there was no memory for it.
 pub record IsNotBegun {R D : Type 0} (width : ℕ) (f : FlusherOf R D) (fault : PenFault) : Type 0 where
   pub count : ℕ
   pub greatest : IsGreatest width (limit_of f.pen.shape.format) (untaken f) count
@@ -68,6 +67,7 @@ pub record IsNotBegun {R D : Type 0} (width : ℕ) (f : FlusherOf R D) (fault : 
   pub ready : first_refusal (ready_lines f.pen) ≡ None
   pub why : IsRefusal ((is_full f.pen (payload_len width (take count (untaken f))), faults.FileFull) ∷ []) fault
 
+-- why none was begun: the pen is broken or has a job, or that
 abbrev pub IsTakeFault : {R D : Type 0} → ℕ → FlusherOf R D → FlushFault → Type 0
 IsTakeFault width f (Pen fault) = (first_refusal (ready_lines f.pen) ≡ Some fault) ⊎ IsNotBegun width f fault
 IsTakeFault width f (Strayed number) = ⊥
