@@ -3,7 +3,7 @@ use Rattle.std.proofs.Common.{◌≡◌, ◌≢◌, ℕ, ◌<◌, inl, inr, fals
 use Rattle.std.proofs.lemmas.Bool.Decides.{nat_tests}
 use Rattle.disk_core.specs.State.{State, now, covers, overlay, settled, touched, written, IsImage}
 use Rattle.disk_core.specs.Moments.{LeavesOnly}
-use Rattle.disk_core.specs.Commit.{IsAfter, IsBeforeOrAfter, body_written, body_synced, gate_written, IsCommit, body_failed, body_not_synced, gate_failed, gate_not_synced, all_done}
+use Rattle.disk_core.specs.Commit.{IsNewButGate, IsOldOrNew, body_written, body_synced, gate_written, IsCommit, body_failed, body_not_synced, gate_failed, gate_not_synced, all_done}
 use Rattle.disk_core.proofs.JoinedMoments.{LeavesOnly-start, LeavesOnly-more}
 use Rattle.disk_core.proofs.ImageLemmas.{IsImage-settled, settled_image, IsImage-touched, touched_more, torn_images, written_image}
 
@@ -11,7 +11,7 @@ not_covered : (gate i : ℕ) → i ≢ gate → covers (record { at = gate; len 
 not_covered gate i other = grind (arith, nat_tests)
 
 -- all bytes are on the disk but the one at the gate, which is inside
-pub touched_gate : (after : List ℕ) (gate : ℕ) (seen image : List ℕ) → gate < length after → IsImage (touched (settled after) gate 1 seen) image → IsAfter gate after image
+pub touched_gate : (after : List ℕ) (gate : ℕ) (seen image : List ℕ) → gate < length after → IsImage (touched (settled after) gate 1 seen) image → IsNewButGate gate after image
 touched_gate after gate seen image inside is = record {
   same_length = omega (arith, is.no_shorter, is.no_longer);
   each = λ i lt other. is.each i lt (rw (not_covered gate i other) refl);
@@ -19,7 +19,7 @@ touched_gate after gate seen image inside is = record {
 
 module _ (at : ℕ) (body : List ℕ) (gate byte : ℕ) (start : List State) (inside : gate < length (overlay (now start).seen at body)) where
   abbrev pub P : List ℕ → Type 0
-  P = IsBeforeOrAfter (now start) at body gate
+  P = IsOldOrNew (now start) at body gate
 
   abbrev pub after : List ℕ
   after = overlay (now start).seen at body

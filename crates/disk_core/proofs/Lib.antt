@@ -8,3 +8,4 @@ mod ContentsLemmas
 mod LogLemmas
 pub mod FileLemmas
 pub mod FuseLemmas
+mod Worked

@@ -4,16 +4,16 @@ use Rattle.disk_core.specs.State.{State, now, settled, touched, written, overlay
 use Rattle.disk_core.specs.Calls.{bytes_of, Stays, TearsWrite}
 
 -- outside the extent that is written, and what was pending before, the bytes are those of the disk before
-abbrev pub IsBefore : State → ℕ → ℕ → List ℕ → Type 0
-IsBefore before at len image = IsImage (touched before at len before.seen) image
+abbrev pub IsOldButBody : State → ℕ → ℕ → List ℕ → Type 0
+IsOldButBody before at len image = IsImage (touched before at len before.seen) image
 
 -- all bytes but the one at the gate are those of the disk after
-pub record IsAfter (gate : ℕ) (after image : List ℕ) : Type 0 where
+pub record IsNewButGate (gate : ℕ) (after image : List ℕ) : Type 0 where
   pub same_length : length image ≡ length after
   pub each : (i : ℕ) → i < length after → i ≢ gate → slice_index image i ≡ slice_index after i
 
-abbrev pub IsBeforeOrAfter : State → ℕ → List ℕ → ℕ → List ℕ → Type 0
-IsBeforeOrAfter before at body gate image = IsBefore before at (length body) image ⊎ IsAfter gate (overlay before.seen at body) image
+abbrev pub IsOldOrNew : State → ℕ → List ℕ → ℕ → List ℕ → Type 0
+IsOldOrNew before at body gate image = IsOldButBody before at (length body) image ⊎ IsNewButGate gate (overlay before.seen at body) image
 
 module _ (at : ℕ) (body : List ℕ) (gate byte : ℕ) (start : List State) where
   abbrev pub body_written : List State

@@ -3,7 +3,7 @@ ghost use Rattle.std.specs.Prelude.{◌≡◌, ◌+◌, ◌<◌, ◌≤◌, ◌^
 ghost use Rattle.disk_core.specs.State.{now, overlay, IsImage};
 ghost use Rattle.disk_core.specs.Calls.{bytes_of};
 ghost use Rattle.disk_core.specs.Moments.{Follows, LeavesOnly};
-ghost use Rattle.disk_core.specs.Commit.{IsBeforeOrAfter, gate_synced};
+ghost use Rattle.disk_core.specs.Commit.{IsOldOrNew, gate_synced};
 
 use crate::{Disk, DiskFault};
 
@@ -23,15 +23,15 @@ pub(crate) fn commit<D: Disk>(
     // Whenever it is stopped, the disk is as before outside of the body, or as after but for the gate. Where the disk
     // has stopped keeping the model within it, that is so up to its last call.
     ensures any_moment { D.keeps disk.new → LeavesOnly (D.states disk.old) (D.states disk.new)
-        (IsBeforeOrAfter (now (D.states disk.old)) at body.now gate) }
+        (IsOldOrNew (now (D.states disk.old)) at body.now gate) }
     ensures but_newest { D.keeps disk.old → LeavesOnly (D.states disk.old) (drop 1 (D.states disk.new))
-        (IsBeforeOrAfter (now (D.states disk.old)) at body.now gate) }
+        (IsOldOrNew (now (D.states disk.old)) at body.now gate) }
     ensures past { Follows (D.states disk.old) (D.states disk.new) }
     ensures done { D.keeps disk.new
         → OnOk result (D.states disk.new ≡ gate_synced at body.now gate byte (D.states disk.old)) }
 
     // Once it is done, a crash leaves what a read gives.
-    ensures settled { D.keeps disk.new → OnOk result ((image : List ℕ)
+    ensures one_image { D.keeps disk.new → OnOk result ((image : List ℕ)
         → IsImage (now (D.states disk.new)) image → image ≡ bytes_of (D.states disk.new)) }
 {
     disk.write_at(at, body)?;

@@ -15,8 +15,9 @@ use std::path::{AsPath, Path};
 use std::rt::Files;
 
 /// A disk over a real file, by std's `File`. How long it may become is the file system's to say: a write past that is
-/// a fault. It has no buffer of its own: a read or a write of any length is one call of the system. Where that call is
-/// interrupted or does a part only, it goes on from there until all is done, and what can't be finished is a fault.
+/// a fault. It has no buffer of its own: a read or a write of any length is one call of the system. Where that call does a
+/// part only, it goes on from there until all is done, and what can't be finished is a fault. A call that is interrupted
+/// is made again, whichever it is.
 ///
 /// What a file holds no program can know, so its meaning as a disk is read from two values that take no memory: the
 /// calls so far with their answers, and what no call tells (`FileTruth`): the bytes that the file held when it was
@@ -119,6 +120,18 @@ fn sync_parent<R: Files>(rt: &R, path: Path<'_>) -> io::Result<()> {
     File::open(rt, folder)?.sync_all()
 }
 
+/// The length of a file. Where the call is interrupted, it is made again.
+fn length_of<F: OpenFile>(file: &F) -> io::Result<u64> {
+    for _ in 0..u64::MAX {
+        match file.metadata() {
+            Ok(metadata) => return Ok(metadata.len()),
+            Err(error) if error.kind() == io::ErrorKind::Interrupted => {}
+            Err(error) => return Err(error),
+        }
+    }
+    Err(io::ErrorKind::Interrupted.into())
+}
+
 impl<F: FileExt + OpenFile + Drop> Disk for FileDisk<F> {
     ghost use Rattle.std.specs.Prelude.{◌+◌, ◌<◌, ◌≤◌, ◌^◌, length, OnOk, OnErr};
     ghost use Rattle.disk_core.specs.Calls.{bytes_of, AddsMoment, Writes, TearsWrite, LeavesPending};
@@ -135,9 +148,8 @@ impl<F: FileExt + OpenFile + Drop> Disk for FileDisk<F> {
     ghost reads_an_image = { λ disk agreed. disk.readable agreed };
 
     fn len(&mut self) -> Result<u64, DiskFault> {
-        match self.file.metadata() {
-            Ok(metadata) => {
-                let len = metadata.len();
+        match length_of(&self.file) {
+            Ok(len) => {
                 self.log = self.log.and(&FileEvent::Measured(len), &Snapshot::of(&[]));
                 Ok(len)
             }
