@@ -14,7 +14,7 @@ mod records;
 
 pub use key_flag::Flagged;
 pub use key_value::Pair;
-pub use limit::PAYLOAD_LIMIT;
+pub use limit::{PAYLOAD_LIMIT, RECORD_LIMIT};
 pub use record::{Record, width_of};
 pub use records::{RecordsFault, append_records, read_records};
 
