@@ -68,7 +68,7 @@ impl<R: Record> Fresh<R> {
             (IsRefusal R.form.width (length records.now)) }
     {
         Fresh::<R>::check_len(records.len() as u64)?;
-        let copies = Vec::from_slice(alloc, records).map_err(|_| FreshFault::Memory)?;
+        let copies = Vec::from_slice(alloc, records)?;
         Fresh::boxed(alloc, copies)
     }
 
@@ -80,8 +80,8 @@ impl<R: Record> Fresh<R> {
     {
         Fresh::<R>::check_len(n)?;
         let len = n as usize;
-        let mut copies = Vec::with_capacity(alloc, len).map_err(|_| FreshFault::Memory)?;
-        copies.resize(len, v).map_err(|_| FreshFault::Memory)?;
+        let mut copies = Vec::with_capacity(alloc, len)?;
+        copies.resize(len, v)?;
         Fresh::boxed(alloc, copies)
     }
 
@@ -98,10 +98,8 @@ impl<R: Record> Fresh<R> {
             seat: 0,
             serial: 0,
         };
-        match Box::new(alloc, Entry { label, records }) {
-            Ok(entry) => Ok(Fresh { entry }),
-            Err(_) => Err(FreshFault::Memory),
-        }
+        let entry = Box::new(alloc, Entry { label, records })?;
+        Ok(Fresh { entry })
     }
 
     /// How many records it has.

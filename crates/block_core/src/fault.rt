@@ -1,5 +1,8 @@
 //! Why records become no block.
 
+ghost use Rattle.std.specs.Prelude.{◌≡◌};
+
+use std::alloc::{AllocError, AllocFailed};
 use thiserror::Error;
 
 /// Why records become no block, in the order in which it is tested.
@@ -14,4 +17,24 @@ pub enum FreshFault {
     /// A growth of memory was refused.
     #[error("memory")]
     Memory,
+}
+
+impl From<AllocError> for FreshFault {
+    ghost use Rattle.block_core.specs.declared.fault.FreshFault.{FreshFault};
+
+    ghost from_gives = { λ _ fault. fault ≡ FreshFault.Memory };
+
+    fn from(_: AllocError) -> FreshFault {
+        FreshFault::Memory
+    }
+}
+
+impl<T: Drop> From<AllocFailed<T>> for FreshFault {
+    ghost use Rattle.block_core.specs.declared.fault.FreshFault.{FreshFault};
+
+    ghost from_gives = { λ _ fault. fault ≡ FreshFault.Memory };
+
+    fn from(_: AllocFailed<T>) -> FreshFault {
+        FreshFault::Memory
+    }
 }

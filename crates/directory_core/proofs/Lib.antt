@@ -4,3 +4,4 @@ pub mod NoteRows
 pub mod Readings
 pub mod Somes
 pub mod Spots
+pub mod Worked

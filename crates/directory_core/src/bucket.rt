@@ -1,8 +1,10 @@
 //! A run of cells that are set once.
 
-ghost use Rattle.std.specs.Prelude.{◌≡◌, ◌≤◌, length, slice_get, Some, IfOk, MatchOption};
+ghost use Rattle.std.specs.Prelude.{◌≡◌, ◌<◌, ◌≤◌, length, slice_get, Some, IfOk, MatchOption};
 ghost use Rattle.once_cell.specs.Once.{cell_name};
+ghost use Rattle.directory_core.specs.Spot.{span};
 
+use crate::address::bucket_len;
 use block_core::Entry;
 use once_cell::race::OnceBox;
 use record_core::Record;
@@ -25,11 +27,13 @@ impl<R: Record> Model for Bucket<R> {
 }
 
 impl<R: Record> Bucket<R> {
-    /// A bucket of so many empty cells.
+    /// The bucket of that number, whose cells are empty.
     #[cold]
-    pub(crate) fn boxed(alloc: Global, len: usize) -> Result<Box<Bucket<R>>, AllocError>
-        ensures { IfOk result (λ bucket. length bucket.value ≡ len) }
+    pub(crate) fn boxed(alloc: Global, number: usize) -> Result<Box<Bucket<R>>, AllocError>
+        requires { number < 17 }
+        ensures { IfOk result (λ bucket. length bucket.value ≡ span number) }
     {
+        let len = bucket_len(number);
         let mut cells = Vec::with_capacity(alloc, len)?;
         for _ in 0..len {
             cells.push_reserved(OnceBox::new(alloc));

@@ -2,18 +2,19 @@
 
 ghost use Rattle.std.specs.Prelude.{◌≡◌, ◌+◌, ◌<◌, ◌≤◌, ◌∷◌, [], ◌++◌, if◌then◌else◌, length, slice_get, Some, MatchOption, MatchResult, IfOk, IfErr, IfSome};
 ghost use Rattle.directory_core.specs.Limits.{growth_limit, record_limit};
+ghost use Rattle.directory_core.specs.Spot.{span};
 ghost use Rattle.directory_core.specs.Chain.{total, joined, IsNext, Begins};
 ghost use Rattle.directory_core.specs.Fault.{IsRefusal};
 ghost use Rattle.directory_core.specs.Finding.{IsPieceAt, IsRestAt};
 
-use crate::address::{BUCKETS, bucket_len, spot};
+use crate::address::{BUCKETS, spot};
 use crate::bucket::Bucket;
 use crate::fault::DirFault;
 use crate::pass::Pass;
 use block_core::Entry;
 use once_cell::race::OnceBox;
 use record_core::Record;
-use std::alloc::Global;
+use std::alloc::{AllocError, Global};
 use std::marker::Model;
 
 /// The records of one directory at most.
@@ -68,9 +69,7 @@ impl<R: Record> Directory<R> {
             (λ directory. (directory.room ≡ room) × (directory.limit ≡ limit))
             (λ fault. fault ≡ DirFault.Memory) }
     {
-        let Ok(mut buckets) = Vec::with_capacity(alloc, BUCKETS) else {
-            return Err(DirFault::Memory);
-        };
+        let mut buckets = Vec::with_capacity(alloc, BUCKETS)?;
         for _ in 0..BUCKETS {
             buckets.push_reserved(OnceBox::new(alloc));
         }
@@ -89,18 +88,12 @@ impl<R: Record> Directory<R> {
             (λ pass. (pass.of ≡ self.now) × (pass.entries ≡ []))
             (λ fault. fault ≡ DirFault.Memory) }
     {
-        let Ok(mut buckets) = Vec::with_capacity(self.alloc, BUCKETS) else {
-            return Err(DirFault::Memory);
-        };
+        let mut buckets = Vec::with_capacity(self.alloc, BUCKETS)?;
         for bucket in &self.buckets {
             buckets.push_reserved(bucket.note());
         }
-        let Ok(notes) = Vec::with_capacity(self.alloc, self.room as usize) else {
-            return Err(DirFault::Memory);
-        };
-        let Ok(starts) = Vec::with_capacity(self.alloc, self.room as usize) else {
-            return Err(DirFault::Memory);
-        };
+        let notes = Vec::with_capacity(self.alloc, self.room as usize)?;
+        let starts = Vec::with_capacity(self.alloc, self.room as usize)?;
         Ok(Pass::of(buckets, notes, starts, self.room, self.limit))
     }
 
@@ -135,10 +128,12 @@ impl<R: Record> Directory<R> {
         }
         let (at, place) = spot(number);
         let alloc = self.alloc;
-        let places = bucket_len(at);
         let mut bucket_note = pass.bucket_note(at);
         let made = self.buckets[at].get_or_try_init_as(
-            move || Bucket::boxed(alloc, places),
+            move || -> Result<Box<Bucket<R>>, AllocError>
+                requires { at < 17 }
+                ensures { IfOk result (λ bucket. length bucket.value ≡ span at) }
+            { Bucket::boxed(alloc, at) },
             &mut bucket_note,
         );
         let Ok(bucket) = made else {
@@ -165,6 +160,7 @@ impl<R: Record> Directory<R> {
         ensures more { IfOk result (λ found.
             length pass.new.entries ≡ length pass.old.entries + (if found then 1 else 0)) }
         ensures fault { IfErr result (λ fault. fault ≡ DirFault.Strayed (length pass.new.entries)) }
+        ensures in_room { IfErr result (λ _. length pass.new.entries < self.now.room) }
     {
         let number = pass.known();
         if number >= self.room {
@@ -195,7 +191,7 @@ impl<R: Record> Directory<R> {
 
     /// Takes in the growths that are there, one after another up to the first number that no growth has, and
     /// answers how many the pass then knows. `Strayed` names the first number whose growth doesn't follow those
-    /// before it, which the pass then knows.
+    /// before it, which the pass then knows; there is room for a growth of that number.
     pub fn look(&self, pass: &mut Pass<R>) -> Result<u64, DirFault>
         requires of { pass.old.of ≡ self.now }
         ensures of { pass.new.of ≡ self.now }
@@ -203,6 +199,7 @@ impl<R: Record> Directory<R> {
         ensures count { MatchResult result
             (λ known. known ≡ length pass.new.entries)
             (λ fault. fault ≡ DirFault.Strayed (length pass.new.entries)) }
+        ensures in_room { IfErr result (λ _. length pass.new.entries < self.now.room) }
     {
         for _ in 0..self.room {
             if !self.learn(pass)? {

@@ -1,5 +1,8 @@
 //! Why a growth isn't published, or isn't found.
 
+ghost use Rattle.std.specs.Prelude.{◌≡◌};
+
+use std::alloc::AllocError;
 use thiserror::Error;
 
 /// Why a growth isn't published, or isn't found. The pass knows what it knew.
@@ -18,4 +21,14 @@ pub enum DirFault {
     /// A growth of memory was refused.
     #[error("memory")]
     Memory,
+}
+
+impl From<AllocError> for DirFault {
+    ghost use Rattle.directory_core.specs.declared.fault.DirFault.{DirFault};
+
+    ghost from_gives = { λ _ fault. fault ≡ DirFault.Memory };
+
+    fn from(_: AllocError) -> DirFault {
+        DirFault::Memory
+    }
 }

@@ -218,9 +218,10 @@ impl<R: Record> Pass<R> {
 
     /// The number of the growth that has position `i`, and the place there. `None` past the end.
     pub fn find(&self, i: u64) -> Option<(u64, usize)>
-        ensures { MatchOption result
+        ensures place { MatchOption result
             (total self.now.entries ≤ i)
             (λ found. IsPlaceOf self.now.entries i found.0 found.1) }
+        ensures in_directory { IfSome result (λ found. found.0 < growth_limit) }
     {
         if i >= self.size {
             return None;

@@ -84,7 +84,7 @@ fn plant(
     let made = directory
         .buckets
         .first()?
-        .get_or_try_init(move || Bucket::boxed(alloc, 8));
+        .get_or_try_init(move || Bucket::boxed(alloc, 0));
     match made {
         Ok(bucket) => bucket.cell(place)?.set(entry).ok(),
         Err(_) => None,
@@ -247,6 +247,8 @@ fn a_growth_past_the_limit_is_strayed(rt: HostRuntime) -> Result<(), Fail> {
     let past = put(rt.alloc(), &directory, &mut pass, &[4, 5, 6]);
     let full = put(rt.alloc(), &directory, &mut pass, &[4, 5]);
     assert_eq!(rt; (past, full), (Err(DirFault::Strayed(1)), Ok(())));
+    let mut other = directory.pass()?;
+    assert_eq!(rt; (directory.look(&mut other), other.size()), (Ok(2), 5));
     assert!(rt; plant(rt.alloc(), &directory, 2, 2, 5).is_some());
     let look = directory.look(&mut pass);
     assert_eq!(rt;
@@ -256,22 +258,26 @@ fn a_growth_past_the_limit_is_strayed(rt: HostRuntime) -> Result<(), Fail> {
     Ok(())
 }
 
-/// Sets the first bucket to one of no places, as no directory makes it.
+/// Sets the second bucket, of 16 places, to one of 8, as no directory makes it.
 fn plant_bucket(alloc: Global, directory: &Directory<u64>) -> Option<()> {
     match Bucket::boxed(alloc, 0) {
-        Ok(short) => directory.buckets.first()?.set(short).ok(),
+        Ok(short) => directory.buckets.get(1)?.set(short).ok(),
         Err(_) => None,
     }
 }
 
 #[test]
 fn a_bucket_with_too_few_places_is_strayed(rt: HostRuntime) -> Result<(), Fail> {
-    let directory = Directory::new(rt.alloc(), 8)?;
+    let directory = Directory::new(rt.alloc(), 24)?;
     let mut pass = directory.pass()?;
     assert!(rt; plant_bucket(rt.alloc(), &directory).is_some());
-    assert_eq!(rt; directory.look(&mut pass), Err(DirFault::Strayed(0)));
-    let first = put(rt.alloc(), &directory, &mut pass, &[1u64]);
-    assert_eq!(rt; first, Err(DirFault::Strayed(0)));
+    put_numbers(rt.alloc(), &directory, &mut pass, 16)?;
+    let next = put(rt.alloc(), &directory, &mut pass, &[16]);
+    let look = directory.look(&mut pass);
+    assert_eq!(rt;
+        (next, look),
+        (Err(DirFault::Strayed(16)), Err(DirFault::Strayed(16)))
+    );
     Ok(())
 }
 
@@ -398,12 +404,15 @@ fn records_are_lent_up_to_their_growths_end(rt: HostRuntime) -> Result<(), Fail>
 }
 
 #[test]
-fn a_directory_has_room_for_all_buckets(rt: HostRuntime) -> Result<(), Fail> {
+fn the_last_bucket_is_filled(rt: HostRuntime) -> Result<(), Fail> {
     let directory = Directory::new(rt.alloc(), GROWTH_LIMIT)?;
     let mut pass = directory.pass()?;
-    put_numbers(rt.alloc(), &directory, &mut pass, 70_000)?;
-    let mut late = directory.pass()?;
-    assert_eq!(rt; directory.look(&mut late), Ok(70_000));
-    assert_eq!(rt; read(&directory, &mut late, 65_528), Some((65_528, 65_528)));
+    put_numbers(rt.alloc(), &directory, &mut pass, GROWTH_LIMIT)?;
+    let next = put(rt.alloc(), &directory, &mut pass, &[0]);
+    assert_eq!(rt; (next, pass.known()), (Err(DirFault::Full), 1_048_568));
+    let mut other = directory.pass()?;
+    assert_eq!(rt; directory.look(&mut other), Ok(1_048_568));
+    let last = read(&directory, &mut other, 1_048_567);
+    assert_eq!(rt; last, Some((1_048_567, 1_048_567)));
     Ok(())
 }

@@ -2,8 +2,8 @@ use Rattle.std.proofs.Common.{arith, ap, length}
 use Rattle.directory_core.proofs.Lists.{first_start, finds}
 use Rattle.directory_core.proofs.pass.Pass.find.Goals as goal
 
-pub returns : goal.returns
-returns g c =
+pub returns-clause-place : goal.returns-clause-place
+returns-clause-place g c =
     let found = c.last_start-number.ensures in
     let row = c.as_slice-starts.ensures.value in
     let inside = found.inside in

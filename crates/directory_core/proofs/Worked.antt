@@ -1,0 +1,137 @@
+-- Worked values of definitions that stand in conclusions alone.
+use Rattle.std.proofs.Common.{◌≡◌, ℕ, zero, suc, ◌+◌, inl, inr, List, [], ◌∷◌, Some, length, take, drop, slice_get, refl, ap, sym, ◌∙◌, arith}
+use Rattle.block_core.specs.Growth.{Growth}
+use Rattle.directory_core.specs.declared.fault.DirFault.{DirFault}
+use Rattle.directory_core.specs.declared.fault.DirFault.TheVariants.{Taken, Full, Strayed, Memory}
+use Rattle.directory_core.specs.Chain.{total, joined, IsNext, IsChained, AreBlocks, Begins, Agree, Meets}
+use Rattle.directory_core.specs.Fault.{KeepsLimit, IsRefusal}
+use Rattle.directory_core.specs.Finding.{IsPlaceOf, IsRestAt, IsPieceAt}
+use Rattle.directory_core.specs.Identity.{Name, Identity}
+use Rattle.directory_core.specs.Limits.{growth_limit, record_limit}
+use Rattle.directory_core.specs.Spot.{places_before, IsSpot}
+
+-- ---- spots
+
+limits : (growth_limit ≡ places_before 17) × (record_limit ≡ 4294967296)
+limits = (refl, refl)
+
+first_place : IsSpot 0 0 0
+first_place = record { inside = omega arith; at = refl }
+
+last_of_the_first : IsSpot 7 0 7
+last_of_the_first = record { inside = omega arith; at = refl }
+
+first_of_the_second : IsSpot 8 1 0
+first_of_the_second = record { inside = omega arith; at = refl }
+
+last_place : IsSpot 1048567 16 524287
+last_place = record { inside = omega arith; at = refl }
+
+-- the first bucket has no ninth place
+no_ninth : IsSpot 8 0 8 → ⊥
+no_ninth spot = let inside = spot.inside in omega arith
+
+-- ---- chains
+
+abbrev one : Growth ℕ
+one = record { number = 0; start = 0; seat = 3; serial = 0; records = 7 ∷ 8 ∷ [] }
+
+abbrev other : Growth ℕ
+other = record { number = 1; start = 2; seat = 1; serial = 0; records = 9 ∷ [] }
+
+of_both : (total (one ∷ other ∷ []) ≡ 3) × (joined (one ∷ other ∷ []) ≡ 7 ∷ 8 ∷ 9 ∷ [])
+of_both = (refl, refl)
+
+-- what is behind the first has its number and its start
+no_gap : IsNext (one ∷ []) (record { number = 1; start = 3; seat = 1; serial = 0; records = 9 ∷ [] }) → ⊥
+no_gap next = let start = next.start in omega arith
+
+no_skip : IsNext (one ∷ []) (record { number = 2; start = 2; seat = 1; serial = 0; records = 9 ∷ [] }) → ⊥
+no_skip next = let number = next.number in omega arith
+
+no_chain : IsChained (other ∷ []) → ⊥
+no_chain chained = let number = (chained 0 other refl).number in omega arith
+
+a_chain : IsChained (one ∷ other ∷ [])
+a_chain zero e is = let same : one ≡ e = cc in rw (← same) (record { number = refl; start = refl })
+a_chain (suc zero) e is = let same : other ≡ e = cc in rw (← same) (record { number = refl; start = refl })
+a_chain (suc (suc g)) e is = absurd cc
+
+-- a growth of no records is none of a chain of blocks
+no_empty_growth : AreBlocks {R = ℕ} 8 (one ∷ record { number = 1; start = 2; seat = 1; serial = 0; records = [] } ∷ []) → ⊥
+no_empty_growth blocks = let some = (blocks 1 one (omega arith)).some in omega arith
+
+-- ---- lists that agree
+
+not_begun : Begins {X = ℕ} (8 ∷ []) (7 ∷ 8 ∷ []) → ⊥
+not_begun begins = absurd cc
+
+not_begun_by_more : Begins {X = ℕ} (7 ∷ 8 ∷ []) (7 ∷ []) → ⊥
+not_begun_by_more begins = absurd cc
+
+no_agreement : Agree {X = ℕ} (7 ∷ 8 ∷ []) (7 ∷ 9 ∷ []) → ⊥
+no_agreement agree = let second = agree 1 (omega arith) (omega arith) in absurd cc
+
+-- of two lists of which one begins the other they give the longer
+the_longer : (both : List ℕ) → Meets (7 ∷ []) (7 ∷ 8 ∷ []) both → both ≡ 7 ∷ 8 ∷ []
+the_longer both meets = elim meets.is_one [
+  | inl short ↦ let begins = meets.begins_theirs in absurd (let wrong : take 2 (7 ∷ []) ≡ 7 ∷ 8 ∷ [] = ap (take 2) (sym short) ∙ begins in cc)
+  | inr long ↦ long
+]
+
+nothing_given : (both : List ℕ) → Meets (7 ∷ []) (8 ∷ []) both → ⊥
+nothing_given both meets = let seven : List ℕ = 7 ∷ [] in let eight : List ℕ = 8 ∷ [] in let same : seven ≡ eight = sym meets.begins_mine ∙ meets.begins_theirs in absurd cc
+
+-- ---- positions
+
+-- position 1 is the second place of the first growth, and no place of another
+second : IsPlaceOf (one ∷ other ∷ []) 1 0 1
+second = record { growth = one; is = refl; inside = omega arith; at = refl }
+
+third : IsPlaceOf (one ∷ other ∷ []) 2 1 0
+third = record { growth = other; is = refl; inside = omega arith; at = refl }
+
+not_past_its_end : IsPlaceOf (one ∷ other ∷ []) 2 0 2 → ⊥
+not_past_its_end at = let same : one ≡ at.growth = let is = at.is in cc in let inside = at.inside in let long = ap (λ (e : Growth ℕ). length e.records) same in omega arith
+
+rest_of_second : (place number : ℕ) (e : Growth ℕ) (piece : List ℕ) → slice_get (one ∷ other ∷ []) number ≡ Some e → total (take number (one ∷ other ∷ [])) + place ≡ 1 → piece ≡ drop place e.records → piece ≡ 8 ∷ []
+rest_of_second place zero e piece is at piece_is = let same : one ≡ e = cc in let here : place ≡ 1 = omega arith in piece_is ∙ (λ i. drop (here i) ((sym same i).records))
+rest_of_second place (suc zero) e piece is at piece_is = absurd (omega arith)
+rest_of_second place (suc (suc g)) e piece is at piece_is = absurd cc
+
+the_rest : (piece : List ℕ) → IsRestAt (one ∷ other ∷ []) 1 piece → piece ≡ 8 ∷ []
+the_rest piece rest = rest_of_second rest.place rest.number rest.found.growth piece rest.found.is rest.found.at rest.is
+
+a_piece : IsPieceAt {R = ℕ} (7 ∷ 8 ∷ 9 ∷ []) 1 (8 ∷ 9 ∷ [])
+a_piece = record { some = omega arith; is = refl }
+
+no_empty_piece : IsPieceAt {R = ℕ} (7 ∷ 8 ∷ []) 1 [] → ⊥
+no_empty_piece piece = let some = piece.some in omega arith
+
+no_other_piece : IsPieceAt {R = ℕ} (7 ∷ 8 ∷ 9 ∷ []) 1 (9 ∷ []) → ⊥
+no_other_piece piece = let is = piece.is in absurd cc
+
+-- ---- which fault may come of a growth of two records, behind two growths of three
+
+abbrev bounded : Name → ℕ → ℕ → Identity
+bounded name room limit = record { name = name; room = room; limit = limit }
+
+abbrev next : Growth ℕ
+next = record { number = 2; start = 3; seat = 3; serial = 1; records = 1 ∷ 2 ∷ [] }
+
+module _ (name : Name) where
+  where_full : (fault : DirFault) → IsRefusal (bounded name 2 5) (one ∷ other ∷ []) next fault → fault ≡ Full
+  where_full Taken is = absurd (let room = is.0 in omega arith)
+  where_full Full is = refl
+  where_full (Strayed n) is = absurd (let room = is.0 in omega arith)
+  where_full Memory is = absurd (let room = is.0 in omega arith)
+
+  past_the_limit : (fault : DirFault) → IsRefusal (bounded name 3 4) (one ∷ other ∷ []) next fault → fault ≡ Strayed 2
+  past_the_limit Taken is = absurd (let limit = is.1 in omega arith)
+  past_the_limit Full is = absurd (omega arith)
+  past_the_limit (Strayed n) is = ap Strayed is.1
+  past_the_limit Memory is = absurd (let limit = is.1 in omega arith)
+
+  -- to the limit
+  just_in_limit : KeepsLimit (bounded name 3 5) (one ∷ other ∷ []) next
+  just_in_limit = omega arith
