@@ -1,13 +1,13 @@
 -- Where each block ends.
-use Rattle.std.proofs.Common.{◌≡◌, ℕ, ◌+◌, ◌-◌, ◌<◌, ◌≤◌, inl, inr, List, [], ◌∷◌, ◌++◌, length, take, drop, get_or, option_map, refl, true, false, leb, ap, sym, ◌∙◌, below_more, arith}
+use Rattle.std.proofs.Common.{◌≡◌, ℕ, ◌+◌, ◌-◌, ◌<◌, ◌≤◌, inl, inr, List, [], ◌∷◌, ◌++◌, length, take, get_or, option_map, refl, true, false, leb, ap, sym, ◌∙◌, below_more, arith}
 use Rattle.std.specs.Prelude.{sum_by}
 use Rattle.std.specs.Global.{Vec}
 use Rattle.std.specs.List.Sorted.{IsPartitionedBy, IsPartitionPoint}
 use Rattle.std.proofs.lemmas.Bool.{cases_eq, leb-true, leb-false, le-leb}
 use Rattle.std.proofs.lemmas.List.{get_or-map, get_or_append_left, get_or_push, get_or_default, take_all, take-take, length-map}
-use Rattle.std.proofs.lemmas.Option.{slice_get-map, slice_get_read}
+use Rattle.std.proofs.lemmas.Option.{slice_get-map, slice_get_read, slice_get_cases}
 use Rattle.std.proofs.lemmas.List.Sums.{sum_by_more, sum_by-take-le}
-use Rattle.book_core.specs.Lists.{records_of, joined_pieces, IsRestOfPiece}
+use Rattle.book_core.specs.Lists.{records_of, joined_pieces, IsPlaceIn}
 use Rattle.book_core.proofs.PieceLists.{length-joined_pieces}
 
 -- what the first blocks hold, with one block more
@@ -82,18 +82,23 @@ module _ {R : Type 0} (blocks : List (Vec R)) (ends : List ℕ) (as_many : lengt
     pub found : (number < length blocks) × (sum_by length (take number (records_of blocks)) ≤ i) × (i < sum_by length (take (number + 1) (records_of blocks)))
     found = (found_inside, found_from, found_until)
 
--- the rest of a block from a place in it
+-- a place in a block
 module _ {R : Type 0} (blocks : List (Vec R)) (i number start : ℕ) (block : Vec R) (lt : number < length blocks) (is : block ≡ get_or blocks number block) (start_is : start ≡ sum_by length (take number (records_of blocks))) (from : sum_by length (take number (records_of blocks)) ≤ i) (until : i < sum_by length (take (number + 1) (records_of blocks))) where
   pub place_inside : i - start < length block.items
   place_inside = let more = end_more blocks number block lt is in omega arith
 
-  pub rest_of_block : IsRestOfPiece (records_of blocks) i (drop (i - start) block.items)
-  rest_of_block = record {
-    number = number;
-    place = i - start;
+  pub place_in_block : IsPlaceIn (records_of blocks) i number (i - start)
+  place_in_block = record {
     piece = block.items;
     at = slice_get-map (λ (b : Vec R). b.items) blocks number ∙ ap (option_map (λ (b : Vec R). b.items)) (slice_get_read blocks (length blocks) number block refl lt is);
     inside = place_inside;
     before = omega arith;
-    is = refl;
   }
+
+pub block_found : {R : Type 0} (blocks : List (Vec R)) (i number start : ℕ) → number < length blocks → start ≡ sum_by length (take number (records_of blocks)) → sum_by length (take number (records_of blocks)) ≤ i → i < sum_by length (take (number + 1) (records_of blocks))
+    → IsPlaceIn (records_of blocks) i number (i - start)
+block_found blocks i number start lt is from until =
+    elim ((slice_get_cases blocks number).1) [
+      | inl found ↦ place_in_block blocks i number start found.0 lt (sym found.3) is from until
+      | inr past ↦ absurd (omega (arith, past.0))
+    ]

@@ -7,3 +7,4 @@ pub mod Slices
 pub mod Steps
 pub mod Turns
 pub mod Worked
+pub mod WorkedGrowing

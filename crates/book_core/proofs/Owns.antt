@@ -1,5 +1,5 @@
 -- Which growths of a list bear an id.
-use Rattle.std.proofs.Common.{◌≡◌, ℕ, zero, suc, ◌+◌, ◌≤◌, ◌⊎◌, inl, inr, subst, List, [], ◌∷◌, ◌++◌, length, take, get_or, slice_get, Some, None, Option, option_to_list, IfSome, Bool, refl, ap, sym, ◌∙◌, arith}
+use Rattle.std.proofs.Common.{◌≡◌, ℕ, zero, suc, ◌+◌, ◌≤◌, ◌⊎◌, inl, inr, subst, List, [], ◌∷◌, ◌++◌, length, take, get_or, slice_get, Some, None, Option, option_to_list, IfSome, MatchOption, Bool, refl, ap, sym, ◌∙◌, arith}
 use Rattle.std.specs.Prelude.{◌==◌, cond}
 use Rattle.std.proofs.lemmas.Bool.{eq-eqb, ne_eqb}
 use Rattle.std.proofs.lemmas.List.{take-take, take_all, append-nil, length-append}
@@ -71,3 +71,8 @@ seats-pop directory mark seats rest (Some seat) all is = (λ k s at. all k s (ap
 pub new-is_of : {R : Type 0} (live : Phase R) (id : ℕ) (last : Option (Seated R)) → IfSome last (λ seat. IsNewSeat live.directory live.mark id seat) → IfSome last (λ seat. IsOf live seat)
 new-is_of live id None new = tt
 new-is_of live id (Some seat) new = record { directory = new.of; mark = ap (λ (m : MarkEnd). m.of) new.marked }
+
+-- a last one there is but of an empty row
+pub last_or_none : {X : Type 0} (last : Option X) (len left many : ℕ) (P Q : X → Type 0) → MatchOption last ((len ≡ 0) × (left ≡ 0)) Q → IfSome last P → many ≡ len → MatchOption last (many ≡ 0) P
+last_or_none None len left many P Q none is same = same ∙ none.0
+last_or_none (Some x) len left many P Q left_is is same = is

@@ -11,8 +11,8 @@ use Rattle.std.proofs.lemmas.List.Sums.{sum_by_push, sum_by_more, sum_by-take-le
 use Rattle.std.proofs.lemmas.Option.{slice_get_cases, slice_get_within, slice_get-get_or, get_or_from_slice_get}
 use Rattle.directory_core.specs.Limits.{record_limit}
 use Rattle.directory_core.specs.Finding.{IsBetween}
-use Rattle.book_core.specs.Lists.{records_of, joined_pieces, IsRestOfPiece}
-use Rattle.book_core.specs.Snapshots.{AreFull, AreLaid, IsPlaceIn, full_of}
+use Rattle.book_core.specs.Lists.{records_of, joined_pieces, IsPlaceIn, IsRestOfPiece}
+use Rattle.book_core.specs.Snapshots.{AreFull, AreLaid, full_of}
 use Rattle.book_core.proofs.PieceLists.{length-joined_pieces}
 
 -- the record at a place

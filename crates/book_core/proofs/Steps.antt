@@ -1,5 +1,5 @@
 -- What a seat does in two steps.
-use Rattle.std.proofs.Common.{◌≡◌, ℕ, ◌-◌, ◌<◌, ◌≤◌, List, [], ◌∷◌, ◌++◌, length, take, replicate, Option, Some, None, Result, Ok, Err, MatchOption, MatchResult, ap, sym, subst, ◌∙◌, arith}
+use Rattle.std.proofs.Common.{◌≡◌, ℕ, ◌-◌, ◌<◌, ◌≤◌, List, [], ◌∷◌, ◌++◌, length, take, replicate, Option, Some, None, Result, Ok, Err, ap, sym, subst, ◌∙◌, arith}
 use Rattle.std.proofs.lemmas.List.{length-take, take-take}
 use Rattle.block_core.specs.Growth.{Growth}
 use Rattle.block_core.specs.Length.{IsBlockLength}
@@ -9,7 +9,7 @@ use Rattle.book_core.specs.declared.fault.GrowFault.{GrowFault}
 use Rattle.book_core.specs.declared.fault.GrowFault.TheVariants.{Closed, Full, TooLong, Strayed, Memory, Empty, TooLarge}
 use Rattle.book_core.specs.declared.seat.Receipt.{Receipt}
 use Rattle.book_core.specs.Lists.{Phase, Seated}
-use Rattle.book_core.specs.Growing.{Learns, growth_of, Grown, FillsUp, size_of, IsBookRefusal, IsFillRefusal}
+use Rattle.book_core.specs.Growing.{Learns, growth_of, Grown, FillsOrReaches, size_of, IsBookRefusal, IsFillRefusal}
 
 pub begins-trans : {X : Type 0} (xs ys zs : List X) → Begins xs ys → Begins ys zs → Begins xs zs
 begins-trans xs ys zs a b =
@@ -42,9 +42,8 @@ grown-after live a b c records receipt ab grown =
       same = (grown.same.0 ∙ ab.id, grown.same.1 ∙ ab.mark, grown.same.2 ∙ ab.of);
     }
 
-pub fill-after : {R E : Type 0} (live : Phase R) (a b c : Seated R) (n : ℕ) (v : R) (r : Result (Option Receipt) E) → Learns a b
-    → MatchResult r (λ made. MatchOption made (Learns b c × (n ≤ size_of live c)) (FillsUp live b c n v)) (λ _. Learns b c)
-    → MatchResult r (λ made. MatchOption made (Learns a c × (n ≤ size_of live c)) (FillsUp live a c n v)) (λ _. Learns a c)
+pub fill-after : {R : Type 0} (live : Phase R) (a b c : Seated R) (n : ℕ) (v : R) (r : Result (Option Receipt) GrowFault) → Learns a b
+    → FillsOrReaches live b c n v r → FillsOrReaches live a c n v r
 fill-after live a b c n v (Ok None) ab told = (learns-trans a b c ab told.0, told.1)
 fill-after live a b c n v (Ok (Some receipt)) ab told = record { count = told.count; grown = grown-after live a b c (replicate told.count v) receipt ab told.grown; some = told.some; ends = told.ends }
 fill-after live a b c n v (Err e) ab told = learns-trans a b c ab told

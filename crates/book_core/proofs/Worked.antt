@@ -1,11 +1,23 @@
 -- Worked values of definitions that stand in conclusions alone.
-use Rattle.std.proofs.Common.{◌≡◌, ℕ, [], ◌∷◌, ap, refl, length, inl, inr, arith}
+use Rattle.std.proofs.Common.{◌≡◌, ℕ, zero, suc, ◌+◌, ◌<◌, List, [], ◌∷◌, Some, Ok, Err, ap, sym, ◌∙◌, refl, length, take, drop, slice_get, get_or, sum_by, inl, inr, arith}
+use Rattle.std.specs.Prelude.{◌^◌, ◌≤◌}
+use Rattle.std.proofs.lemmas.List.{length-drop}
 use Rattle.block_core.specs.Growth.{Growth}
+use Rattle.directory_core.specs.Identity.{Name, Identity}
+use Rattle.directory_core.specs.Known.{Held, Known}
+use Rattle.book_core.specs.declared.fault.GrowFault.{GrowFault}
+use Rattle.book_core.specs.declared.fault.GrowFault.TheVariants as grow
+use Rattle.book_core.specs.declared.fault.SettleFault.{SettleFault}
+use Rattle.book_core.specs.declared.fault.SettleFault.TheVariants as settle
 use Rattle.book_core.specs.declared.mark.MarkState.{MarkState}
 use Rattle.book_core.specs.declared.mark.MarkState.TheVariants.{Running, Ended, Broken}
-use Rattle.book_core.specs.Marks.{Rises}
-use Rattle.book_core.specs.Lists.{Seated, IsRestOfPiece, joined_pieces}
-use Rattle.book_core.specs.Growing.{Learns, IsPast}
+use Rattle.book_core.specs.Marks.{MarkName, MarkEnd, nothing, word_of, Rises}
+use Rattle.book_core.specs.Lists.{Phase, Seated, IsRestOfPiece, joined_pieces, own_of, StandInList}
+use Rattle.book_core.specs.Pieces.{from_place, IsLeftOf}
+use Rattle.book_core.specs.Snapshots.{AreLaid, full_of, Shows}
+use Rattle.book_core.specs.Beginning.{IsNewSeat, MayBegin, IsBeginRefusal}
+use Rattle.book_core.specs.Growing.{Learns, IsPast, IsTold, IsToldOf}
+use Rattle.book_core.proofs.PieceLists.{length-from_place}
 
 -- a growth isn't past while as many are settled as stand before it, and the mark runs
 not_past : (n : ℕ) → IsPast n n Running → ⊥
@@ -31,3 +43,162 @@ third = record { number = 2; place = 0; piece = 3 ∷ []; at = refl; inside = om
 
 joined_three : joined_pieces {R = ℕ} ((1 ∷ 2 ∷ []) ∷ [] ∷ (3 ∷ []) ∷ []) ≡ 1 ∷ 2 ∷ 3 ∷ []
 joined_three = refl
+
+-- ---- the word of a mark
+
+words : (word_of (record { count = 5; state = Running }) ≡ 20) × (word_of (record { count = 5; state = Ended }) ≡ 21) × (word_of (record { count = 5; state = Broken }) ≡ 22)
+words = (refl, refl, refl)
+
+-- ---- what a seat is told
+
+-- the second growth isn't settled where one is, and the first is even where the mark is broken
+not_yet : (state : MarkState) → IsToldOf 1 (record { count = 1; state = state }) (Ok 1) → ⊥
+not_yet state told = let settled = told.1 in omega arith
+
+settled_yet : (fault : SettleFault) → IsToldOf 0 (record { count = 1; state = Broken }) (Err fault) → ⊥
+settled_yet fault told = let unsettled = told.1 in omega arith
+
+told_broken : (fault : SettleFault) → IsToldOf 1 (record { count = 1; state = Broken }) (Err fault) → fault ≡ settle.Broken
+told_broken settle.Ended told = let state = told.0 in absurd cc
+told_broken settle.Broken told = refl
+
+-- ---- new seats, and those that made growths
+
+module _ (name : Name) (mark : MarkName) (held : Held) where
+  abbrev of : Identity
+  of = record { name = name; room = 2; limit = 2 ^ 32 }
+
+  abbrev seat : List (Growth ℕ) → List (Growth ℕ) → Seated ℕ
+  seat made known = record { id = 0; made = made; pass = record { of = of; entries = known; held = held }; mark = record { of = mark; told = nothing } }
+
+  abbrev mine : ℕ → Growth ℕ
+  mine serial = record { number = serial; start = serial; seat = 0; serial = serial; records = 7 ∷ [] }
+
+  no_other_id : IsNewSeat of mark 1 (seat [] []) → ⊥
+  no_other_id new = let id = new.id_is in omega arith
+
+  none_made : IsNewSeat of mark 0 (seat (mine 0 ∷ []) []) → ⊥
+  none_made new = absurd (let made = new.made in cc)
+
+  none_known : IsNewSeat of mark 0 (seat [] (mine 0 ∷ [])) → ⊥
+  none_known new = absurd (let knows = new.knows in cc)
+
+  -- what it made stands in its list, before what bears its id and it didn't make
+  stand_in_list : StandInList (seat (mine 0 ∷ []) (mine 0 ∷ mine 1 ∷ []))
+  stand_in_list = record { first = 1; inside = omega arith; are = refl }
+
+  own_in : (first : ℕ) → mine 1 ∷ [] ≡ own_of 0 (take first (mine 0 ∷ mine 1 ∷ [])) → ⊥
+  own_in zero is = absurd cc
+  own_in (suc zero) is = omega (arith, ap (sum_by (λ (e : Growth ℕ). e.serial)) is)
+  own_in (suc (suc n)) is = absurd cc
+
+  not_behind : StandInList (seat (mine 1 ∷ []) (mine 0 ∷ mine 1 ∷ [])) → ⊥
+  not_behind stand = own_in stand.first stand.are
+
+  -- of the mark alone: neither what a seat knows nor what the mark was doesn't tell
+  told_no_growth : (count : ℕ) (state : MarkState) → IsTold (seat [] []) (seat [] (mine 0 ∷ [])) count state → ⊥
+  told_no_growth count state told = absurd (let same = ap (λ (known : Known ℕ). length known.entries) told.same.2 in omega arith)
+
+  told_none_made : (count : ℕ) (state : MarkState) → IsTold (seat [] []) (seat (mine 0 ∷ []) []) count state → ⊥
+  told_none_made count state told = let same = ap length told.same.1 in omega arith
+
+  told_nothing : (count : ℕ) (state : MarkState) → IsTold (seat [] []) (seat [] []) count state → count ≡ 0
+  told_nothing count state told = sym (ap (λ (end : MarkEnd). end.told.count) told.mark)
+
+  -- once one growth was told, none is told of no growth, and the seat is no new one
+  abbrev told_one : Seated ℕ
+  told_one = record (seat [] []) { mark = record { of = mark; told = record { count = 1; state = Running } } }
+
+  told_no_less : (new : Seated ℕ) (state : MarkState) → IsTold told_one new 0 state → ⊥
+  told_no_less new state told = let up = told.rises.count in omega arith
+
+  not_new : IsNewSeat of mark 0 told_one → ⊥
+  not_new new = let count = ap (λ (end : MarkEnd). end.told.count) new.marked in omega arith
+
+  -- a snapshot that lacks a growth doesn't show the list of who knows it
+  lacks_one : (live : Phase ℕ) → Shows live (seat [] (mine 0 ∷ [])) (record { of = live; growths = [] }) → ⊥
+  lacks_one live shows = let few = ap length shows.growths in omega arith
+
+-- ---- phases that begin
+
+no_room : MayBegin 0 1 → ⊥
+no_room may = let some = may.room_in.0 in omega arith
+
+too_much_room : MayBegin 1048569 1 → ⊥
+too_much_room may = let within = may.room_in.1 in omega arith
+
+no_seat : MayBegin 1 0 → ⊥
+no_seat may = let some = may.seats_in.0 in omega arith
+
+too_many_seats : MayBegin 1 65 → ⊥
+too_many_seats may = let within = may.seats_in.1 in omega arith
+
+refused_for_memory : (fault : GrowFault) → IsBeginRefusal 1048568 64 fault → fault ≡ grow.Memory
+refused_for_memory grow.Closed why = absurd why
+refused_for_memory grow.Full why = absurd why
+refused_for_memory grow.TooLong why = absurd why
+refused_for_memory (grow.Strayed n) why = absurd why
+refused_for_memory grow.Memory why = refl
+refused_for_memory grow.Empty why = absurd why
+refused_for_memory grow.TooLarge why = elim why [
+  | inl none ↦ absurd (omega arith)
+  | inr more ↦ elim more [ inl room ↦ absurd (omega arith) | inr seats ↦ elim seats [ inl none ↦ absurd (omega arith) | inr many ↦ absurd (omega arith) ] ]
+]
+
+refused_as_too_large : (fault : GrowFault) → IsBeginRefusal 1 65 fault → fault ≡ grow.TooLarge
+refused_as_too_large grow.Closed why = absurd why
+refused_as_too_large grow.Full why = absurd why
+refused_as_too_large grow.TooLong why = absurd why
+refused_as_too_large (grow.Strayed n) why = absurd why
+refused_as_too_large grow.Memory why = absurd (too_many_seats why)
+refused_as_too_large grow.Empty why = absurd why
+refused_as_too_large grow.TooLarge why = refl
+
+-- ---- pieces
+
+abbrev three : List (List ℕ)
+three = (1 ∷ 2 ∷ []) ∷ [] ∷ (3 ∷ []) ∷ []
+
+-- nothing but the third piece stands at position 2
+third_place : (number place : ℕ) (piece : List ℕ) → slice_get three number ≡ Some piece → place < length piece → sum_by length (take number three) + place ≡ 2 → drop place piece ≡ 3 ∷ []
+third_place zero place piece is inside at = let same : 1 ∷ 2 ∷ [] ≡ piece = cc in absurd (omega (arith, ap length same))
+third_place (suc zero) place piece is inside at = let same : [] ≡ piece = cc in absurd (omega (arith, ap length same))
+third_place (suc (suc zero)) place piece is inside at = let same : 3 ∷ [] ≡ piece = cc in let here : place ≡ 0 = omega arith in λ i. drop (here i) (sym same i)
+third_place (suc (suc (suc n))) place piece is inside at = absurd cc
+
+the_third : (rest : List ℕ) → IsRestOfPiece three 2 rest → rest ≡ 3 ∷ []
+the_third rest at = at.is ∙ third_place at.number at.place at.piece at.at at.inside at.before
+
+from_the_second : from_place 1 three ≡ (2 ∷ []) ∷ [] ∷ (3 ∷ []) ∷ []
+from_the_second = refl
+
+left_of : (number place : ℕ) (left : List (List ℕ)) → left ≡ from_place place (drop number three) → length left ≤ 3
+left_of number place left are = omega (arith, ap length are, length-from_place place (drop number three), length-drop number three)
+
+no_more_left : IsLeftOf three ((1 ∷ []) ∷ (2 ∷ []) ∷ [] ∷ (3 ∷ []) ∷ []) → ⊥
+no_more_left left = let few = left_of left.number left.place _ left.are in omega arith
+
+full_of_three : full_of three ≡ (1 ∷ 2 ∷ []) ∷ (3 ∷ []) ∷ []
+full_of_three = refl
+
+abbrev both : List (List ℕ)
+both = (1 ∷ 2 ∷ []) ∷ (3 ∷ []) ∷ []
+
+both_full : (k : ℕ) (d : List ℕ) → k < 2 → 0 < length (get_or both k d)
+both_full zero d lt = omega arith
+both_full (suc zero) d lt = omega arith
+both_full (suc (suc k)) d lt = absurd (omega arith)
+
+both_start : (k : ℕ) → k < 2 → get_or (0 ∷ 2 ∷ []) k 0 ≡ sum_by length (take k both)
+both_start zero lt = refl
+both_start (suc zero) lt = refl
+both_start (suc (suc k)) lt = absurd (omega arith)
+
+laid : AreLaid both (0 ∷ 2 ∷ []) 3
+laid = record { full = both_full; as_many = refl; start_at = both_start; size_is = refl; in_limit = omega arith }
+
+none_empty : AreLaid {R = ℕ} ([] ∷ []) (0 ∷ []) 0 → ⊥
+none_empty laid = let some = laid.full 0 [] (omega arith) in omega arith
+
+starts_at_ends : AreLaid both (0 ∷ 1 ∷ []) 3 → ⊥
+starts_at_ends laid = let second = laid.start_at 1 (omega arith) in omega arith

@@ -3,7 +3,7 @@ use Rattle.std.specs.Prelude.{◌≡◌, ℕ, ◌<◌, ◌≤◌, ◌⊎◌, Lis
 use Rattle.directory_core.specs.Identity.{Identity}
 use Rattle.directory_core.specs.Limits.{growth_limit}
 use Rattle.book_core.specs.declared.fault.GrowFault.{GrowFault}
-use Rattle.book_core.specs.declared.fault.GrowFault.TheVariants.{Closed, Full, TooLong, Strayed, Memory, Empty, TooLarge}
+use Rattle.book_core.specs.declared.fault.GrowFault.TheVariants.{Memory, TooLarge}
 use Rattle.book_core.specs.Marks.{MarkName, nothing}
 use Rattle.book_core.specs.Lists.{Seated}
 
@@ -30,10 +30,6 @@ pub record MayBegin (room seats : ℕ) : Type 0 where
 
 -- the fault with which a phase isn't begun
 abbrev pub IsBeginRefusal : ℕ → ℕ → GrowFault → Type 0
-IsBeginRefusal room seats Closed = ⊥
-IsBeginRefusal room seats Full = ⊥
-IsBeginRefusal room seats TooLong = ⊥
-IsBeginRefusal room seats (Strayed n) = ⊥
 IsBeginRefusal room seats Memory = MayBegin room seats
-IsBeginRefusal room seats Empty = ⊥
 IsBeginRefusal room seats TooLarge = (room ≡ 0) ⊎ ((growth_limit < room) ⊎ ((seats ≡ 0) ⊎ (seat_limit < seats)))
+IsBeginRefusal room seats other = ⊥

@@ -1,5 +1,5 @@
 -- What a growth does to a seat, and why it is refused.
-use Rattle.std.specs.Prelude.{◌≡◌, ℕ, ◌+◌, ◌-◌, ◌<◌, ◌≤◌, ◌⊎◌, List, [], ◌∷◌, ◌++◌, length, take, slice_get, replicate, Some}
+use Rattle.std.specs.Prelude.{◌≡◌, ℕ, ◌+◌, ◌-◌, ◌<◌, ◌≤◌, ◌⊎◌, List, [], ◌∷◌, ◌++◌, length, take, slice_get, replicate, Some, Option, Result, Ok, Err, MatchOption, MatchResult}
 use Rattle.record_core.specs.Limits.{payload_limit}
 use Rattle.block_core.specs.Growth.{Growth}
 use Rattle.block_core.specs.Length.{IsBlockLength, payload_len}
@@ -8,7 +8,10 @@ use Rattle.directory_core.specs.Limits.{record_limit}
 use Rattle.book_core.specs.declared.fault.GrowFault.{GrowFault}
 use Rattle.book_core.specs.declared.fault.GrowFault.TheVariants.{Closed, Full, TooLong, Strayed, Memory, Empty, TooLarge}
 use Rattle.book_core.specs.declared.seat.Receipt.{Receipt}
+use Rattle.book_core.specs.declared.fault.SettleFault.{SettleFault}
 use Rattle.book_core.specs.declared.mark.MarkState.{MarkState}
+use Rattle.book_core.specs.declared.mark.Reading.{Reading}
+use Rattle.book_core.specs.Faults.{state_of}
 use Rattle.book_core.specs.Marks.{Rises, IsOver}
 use Rattle.book_core.specs.Lists.{Phase, opening_of, Seated, own_of, HasJustItsOwn}
 
@@ -47,10 +50,10 @@ pub record IsForeign {R : Type 0} (seat : Seated R) (n : ℕ) : Type 0 where
   pub bears : growth.seat ≡ seat.id
   pub not_made : own_of seat.id (take n seat.pass.entries) ≡ seat.made
 
--- number n strayed: none of the growths known is foreign, and what stands behind them doesn't follow them or was found
--- taken; or it bears the seat's id and the seat didn't make it
+-- number n strayed: none of the growths known is foreign, and what stands behind them, where there is room, doesn't
+-- follow them or was found taken; or it bears the seat's id and the seat didn't make it
 abbrev pub IsStray : {R : Type 0} → Seated R → ℕ → Type 0
-IsStray seat n = (HasJustItsOwn seat × (n ≡ length seat.pass.entries)) ⊎ IsForeign seat n
+IsStray seat n = (HasJustItsOwn seat × (n ≡ length seat.pass.entries) × (n < seat.pass.of.room)) ⊎ IsForeign seat n
 
 -- the size that the seat knows
 abbrev pub size_of : {R : Type 0} → Phase R → Seated R → ℕ
@@ -75,26 +78,27 @@ IsBookRefusal live seat len Memory = HasJustItsOwn seat × HasRoom live seat × 
 IsBookRefusal live seat len Empty = ⊥
 IsBookRefusal live seat len TooLarge = ⊥
 
+-- a growth that strays behind the tests of a put would have kept the limit
+abbrev pub StraysInLimit : {R : Type 0} → Phase R → Seated R → ℕ → GrowFault → Type 0
+StraysInLimit live seat len (Strayed n) = KeepsLimit live seat len
+StraysInLimit live seat len other = Unit {0}
+
 -- the fault of a look
 abbrev pub IsLookFault : {R : Type 0} → Seated R → GrowFault → Type 0
-IsLookFault seat Closed = ⊥
-IsLookFault seat Full = ⊥
-IsLookFault seat TooLong = ⊥
 IsLookFault seat (Strayed n) = IsStray seat n
-IsLookFault seat Memory = ⊥
-IsLookFault seat Empty = ⊥
-IsLookFault seat TooLarge = ⊥
+IsLookFault seat other = ⊥
 
--- the fault with which a growth of n copies is refused: by the length, for want of the block's memory, or by the
--- book
+-- the fault with which a growth by copies of n records is refused: by the length, for want of the block's memory, or
+-- by the book
 abbrev pub IsCopiesRefusal : {R : Type 0} → ℕ → Phase R → Seated R → ℕ → GrowFault → Type 0
 IsCopiesRefusal width live seat n Empty = n ≡ 0
 IsCopiesRefusal width live seat n TooLarge = payload_limit < payload_len width n
 IsCopiesRefusal width live seat n Memory = IsBlockLength width n
-IsCopiesRefusal width live seat n Closed = IsBlockLength width n
-IsCopiesRefusal width live seat n Full = IsBlockLength width n × IsBookRefusal live seat n Full
-IsCopiesRefusal width live seat n TooLong = IsBlockLength width n × IsBookRefusal live seat n TooLong
-IsCopiesRefusal width live seat n (Strayed k) = IsBlockLength width n × IsBookRefusal live seat n (Strayed k)
+IsCopiesRefusal width live seat n other = IsBlockLength width n × IsBookRefusal live seat n other
+
+-- a growth of these records is made, or is refused
+abbrev pub GrowsBy : {R : Type 0} → Phase R → Seated R → Seated R → List R → Result Receipt GrowFault → Type 0
+GrowsBy live old new records result = MatchResult result (Grown live old new records) (λ _. Learns old new)
 
 -- the seat made one growth of copies, whose range ends at n, which the size before it didn't reach
 pub record FillsUp {R : Type 0} (live : Phase R) (old new : Seated R) (n : ℕ) (v : R) (receipt : Receipt) : Type 0 where
@@ -102,6 +106,11 @@ pub record FillsUp {R : Type 0} (live : Phase R) (old new : Seated R) (n : ℕ) 
   pub grown : Grown live old new (replicate count v) receipt
   pub some : 0 < count
   pub ends : receipt.start + receipt.len ≡ n
+
+-- the size is n at least, a growth of copies brings it there, or that is refused
+abbrev pub FillsOrReaches : {R : Type 0} → Phase R → Seated R → Seated R → ℕ → R → Result (Option Receipt) GrowFault → Type 0
+FillsOrReaches live old new n v result =
+    MatchResult result (λ made. MatchOption made (Learns old new × (n ≤ size_of live new)) (FillsUp live old new n v)) (λ _. Learns old new)
 
 -- the fault with which no growth to n is made: by the book, or by the number of records that the size is short of n
 abbrev pub IsFillRefusal : {R : Type 0} → ℕ → Phase R → Seated R → ℕ → GrowFault → Type 0
@@ -122,3 +131,9 @@ pub record IsTold {R : Type 0} (old new : Seated R) (count : ℕ) (state : MarkS
 -- the growth of that number is settled, or no more will be
 abbrev pub IsPast : ℕ → ℕ → MarkState → Type 0
 IsPast number count state = (number < count) ⊎ IsOver state
+
+-- what is answered of the growth of that number, by what the mark told: it is settled, and so many are; or it isn't, and
+-- the mark is over
+abbrev pub IsToldOf : ℕ → Reading → Result ℕ SettleFault → Type 0
+IsToldOf number told (Ok count) = (told.count ≡ count) × (number < count)
+IsToldOf number told (Err fault) = (told.state ≡ state_of fault) × (told.count ≤ number)

@@ -1,4 +1,5 @@
 pub mod Marks
+pub mod Faults
 pub mod Lists
 pub mod Growing
 pub mod Beginning

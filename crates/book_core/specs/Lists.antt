@@ -19,6 +19,7 @@ joined_pieces pieces = flat_map (λ p. p) pieces
 pub record Phase (R : Type 0) : Type 0 where
   pub directory : Identity
   pub mark : MarkName
+  pub seat_count : ℕ
   pub blocks : List (List R)
 
 -- the records from before the phase
@@ -45,6 +46,13 @@ list_of live seat = opening_of live ++ joined seat.pass.entries
 -- the pieces in which it stands: the blocks from before the phase, then the growths by their numbers
 abbrev pub pieces_of : {R : Type 0} → Phase R → Seated R → List (List R)
 pieces_of live seat = live.blocks ++ map (λ e. e.records) seat.pass.entries
+
+-- position i of the pieces joined is that place of that piece
+pub record IsPlaceIn {R : Type 0} (pieces : List (List R)) (i number place : ℕ) : Type 0 where
+  pub piece : List R
+  pub at : slice_get pieces number ≡ Some piece
+  pub inside : place < length piece
+  pub before : sum_by length (take number pieces) + place ≡ i
 
 -- the records from position i of the pieces joined to the end of the piece that has it
 pub record IsRestOfPiece {R : Type 0} (pieces : List (List R)) (i : ℕ) (rest : List R) : Type 0 where

@@ -1,14 +1,7 @@
 -- The list of a seat, laid out in slices.
-use Rattle.std.specs.Prelude.{◌≡◌, ℕ, ◌+◌, ◌<◌, ◌≤◌, List, ◌++◌, length, map, take, get_or, filter, sum_by, slice_get, nat_lt, All, Some}
+use Rattle.std.specs.Prelude.{◌≡◌, ℕ, ◌+◌, ◌<◌, ◌≤◌, List, ◌++◌, length, map, take, get_or, filter, sum_by, nat_lt, All}
 use Rattle.directory_core.specs.Limits.{record_limit}
 use Rattle.book_core.specs.Lists.{Phase, Seated, joined_pieces, list_of}
-
--- position i of the pieces joined is that place of that piece
-pub record IsPlaceIn {R : Type 0} (pieces : List (List R)) (i number place : ℕ) : Type 0 where
-  pub piece : List R
-  pub at : slice_get pieces number ≡ Some piece
-  pub inside : place < length piece
-  pub before : sum_by length (take number pieces) + place ≡ i
 
 -- each piece has a record
 abbrev pub AreFull : {R : Type 0} → List (List R) → Type 0

@@ -1,5 +1,10 @@
-//! Why a growth isn't made.
+//! Why a growth isn't made, or isn't settled.
 
+ghost use Rattle.std.specs.Prelude.{◌≡◌};
+ghost use Rattle.book_core.specs.Faults.{fault_of_block};
+
+use block_core::FreshFault;
+use std::alloc::{AllocError, AllocFailed};
 use thiserror::Error;
 
 /// Why a growth isn't made, or a phase isn't begun. A growth is refused by the first of these that holds: `Empty`,
@@ -16,8 +21,9 @@ pub enum GrowFault {
     /// The vector would have more than 2^32 records.
     #[error("too long")]
     TooLong,
-    /// The growth of this number doesn't follow those before it, was found under the lock in the place of the next
-    /// one, or bears the seat's id and is none of its growths.
+    /// The growth of this number doesn't follow those before it, or was found under the lock in the place of the next
+    /// one: the seat then knows the growths before it, and there is room for it. Or the seat knows the growth of this
+    /// number, which bears the seat's id and is none of its growths.
     #[error("strayed at growth {0}")]
     Strayed(u64),
     /// A growth of memory was refused.
@@ -30,4 +36,47 @@ pub enum GrowFault {
     /// its limit.
     #[error("too large")]
     TooLarge,
+}
+
+impl From<FreshFault> for GrowFault {
+    ghost from_gives = { λ of_block fault. fault ≡ fault_of_block of_block };
+
+    fn from(of_block: FreshFault) -> GrowFault {
+        match of_block {
+            FreshFault::Empty => GrowFault::Empty,
+            FreshFault::TooLarge => GrowFault::TooLarge,
+            FreshFault::Memory => GrowFault::Memory,
+        }
+    }
+}
+
+impl From<AllocError> for GrowFault {
+    ghost use Rattle.book_core.specs.declared.fault.GrowFault.{GrowFault};
+
+    ghost from_gives = { λ _ fault. fault ≡ GrowFault.Memory };
+
+    fn from(_: AllocError) -> GrowFault {
+        GrowFault::Memory
+    }
+}
+
+impl<T: Drop> From<AllocFailed<T>> for GrowFault {
+    ghost use Rattle.book_core.specs.declared.fault.GrowFault.{GrowFault};
+
+    ghost from_gives = { λ _ fault. fault ≡ GrowFault.Memory };
+
+    fn from(_: AllocFailed<T>) -> GrowFault {
+        GrowFault::Memory
+    }
+}
+
+/// Why a growth isn't settled and won't be: the mark tells no more, and the growths that it tells of end before it.
+#[derive(Clone, Copy, Debug, PartialEq, Eq, Error)]
+pub enum SettleFault {
+    /// The mark says Ended.
+    #[error("ended")]
+    Ended,
+    /// The mark says Broken.
+    #[error("broken")]
+    Broken,
 }

@@ -4,12 +4,12 @@ ghost use Rattle.std.specs.Prelude.{◌≡◌, ◌+◌, ◌<◌, ◌≤◌, [], 
 ghost use Rattle.directory_core.specs.Limits.{record_limit};
 ghost use Rattle.directory_core.specs.Chain.{total, IsChained};
 ghost use Rattle.book_core.specs.Lists.{IsOf, HasJustItsOwn};
-ghost use Rattle.book_core.specs.Growing.{Learns, Grown, IsBookRefusal, IsCopiesRefusal, FillsUp, IsFillRefusal, size_of};
+ghost use Rattle.book_core.specs.Growing.{Learns, Grown, GrowsBy, FillsOrReaches, IsBookRefusal, StraysInLimit, IsCopiesRefusal, IsFillRefusal};
 
 use crate::fault::GrowFault;
 use crate::live::Live;
 use crate::seat::{Receipt, Seat};
-use block_core::{Fresh, FreshFault, Label};
+use block_core::{Fresh, Label};
 use directory_core::{DirFault, RECORD_LIMIT};
 use record_core::Record;
 use std::sync::Wait;
@@ -26,6 +26,7 @@ impl<R: Record> Live<R> {
         ensures known { IfErr result (λ _. seat.new.pass.entries ≡ seat.old.pass.entries) }
         ensures at_once { IfOk result (λ receipt. receipt.number ≡ length seat.old.pass.entries) }
         ensures fault { IfErr result (λ refused. IsBookRefusal self.now seat.new (length fresh) refused.1) }
+        ensures in_limit { IfErr result (λ refused. StraysInLimit self.now seat.new (length fresh) refused.1) }
     {
         let number = seat.pass.known();
         if number >= self.room {
@@ -106,30 +107,34 @@ impl<R: Record> Live<R> {
     ) -> Result<Receipt, GrowFault>
         requires of { IsOf self.now seat.old }
         ensures of { IsOf self.now seat.new }
-        ensures list { MatchResult result
-            (λ receipt. Grown self.now seat.old seat.new (replicate n v) receipt)
-            (λ _. Learns seat.old seat.new) }
+        ensures list { GrowsBy self.now seat.old seat.new (replicate n v) result }
         ensures fault { IfErr result (IsCopiesRefusal R.form.width self.now seat.new n) }
     {
-        let fresh = match Fresh::filled(self.alloc, n, v) {
-            Ok(fresh) => fresh,
-            Err(FreshFault::Empty) => return Err(GrowFault::Empty),
-            Err(FreshFault::TooLarge) => return Err(GrowFault::TooLarge),
-            Err(FreshFault::Memory) => return Err(GrowFault::Memory),
-        };
-        match self.grow(rt, seat, fresh) {
-            Ok(receipt) => Ok(receipt),
-            Err((_, fault)) => Err(fault),
-        }
+        let fresh = Fresh::filled(self.alloc, n, v)?;
+        self.grow(rt, seat, fresh).map_err(|(_, fault)| fault)
+    }
+
+    /// Grows by copies of the records.
+    pub fn grow_slice<E: Wait>(
+        &self,
+        rt: &E,
+        seat: &mut Seat<R>,
+        records: &[R],
+    ) -> Result<Receipt, GrowFault>
+        requires of { IsOf self.now seat.old }
+        ensures of { IsOf self.now seat.new }
+        ensures list { GrowsBy self.now seat.old seat.new records.now result }
+        ensures fault { IfErr result (IsCopiesRefusal R.form.width self.now seat.new (length records.now)) }
+    {
+        let fresh = Fresh::from_slice(self.alloc, records)?;
+        self.grow(rt, seat, fresh).map_err(|(_, fault)| fault)
     }
 
     /// Grows by one record.
     pub fn push_back<E: Wait>(&self, rt: &E, seat: &mut Seat<R>, v: R) -> Result<Receipt, GrowFault>
         requires of { IsOf self.now seat.old }
         ensures of { IsOf self.now seat.new }
-        ensures list { MatchResult result
-            (λ receipt. Grown self.now seat.old seat.new (v ∷ []) receipt)
-            (λ _. Learns seat.old seat.new) }
+        ensures list { GrowsBy self.now seat.old seat.new (v ∷ []) result }
         ensures fault { IfErr result (IsCopiesRefusal R.form.width self.now seat.new 1) }
     {
         self.grow_by(rt, seat, 1, v)
@@ -147,11 +152,7 @@ impl<R: Record> Live<R> {
     ) -> Result<Option<Receipt>, GrowFault>
         requires of { IsOf self.now seat.old }
         ensures of { IsOf self.now seat.new }
-        ensures list { MatchResult result
-            (λ made. MatchOption made
-            (Learns seat.old seat.new × (n ≤ size_of self.now seat.new))
-            (FillsUp self.now seat.old seat.new n v))
-            (λ _. Learns seat.old seat.new) }
+        ensures list { FillsOrReaches self.now seat.old seat.new n v result }
         ensures fault { IfErr result (IsFillRefusal R.form.width self.now seat.new n) }
     {
         let _ = self.catch_up(seat);
@@ -171,11 +172,7 @@ impl<R: Record> Live<R> {
         requires of { IsOf self.now seat.old }
         requires own { HasJustItsOwn seat.old }
         ensures of { IsOf self.now seat.new }
-        ensures list { MatchResult result
-            (λ made. MatchOption made
-            (Learns seat.old seat.new × (n ≤ size_of self.now seat.new))
-            (FillsUp self.now seat.old seat.new n v))
-            (λ _. Learns seat.old seat.new) }
+        ensures list { FillsOrReaches self.now seat.old seat.new n v result }
         ensures fault { IfErr result (IsFillRefusal R.form.width self.now seat.new n) }
     {
         let size = self.size(seat);
@@ -195,9 +192,7 @@ impl<R: Record> Live<R> {
         let Ok(fresh) = Fresh::filled(self.alloc, short, v) else {
             return Err(GrowFault::Memory);
         };
-        match self.put(seat, fresh) {
-            Ok(receipt) => Ok(Some(receipt)),
-            Err((_, fault)) => Err(fault),
-        }
+        let receipt = self.put(seat, fresh).map_err(|(_, fault)| fault)?;
+        Ok(Some(receipt))
     }
 }

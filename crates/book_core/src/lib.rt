@@ -6,18 +6,22 @@
 //! and what it was lent stays while others grow.
 #![tactic(auto)]
 
+mod beginning;
 mod fault;
 mod grow;
 mod live;
+mod looking;
 mod mark;
 mod opening;
 mod reading;
 mod seat;
+mod settling;
 mod snapshot;
 mod waking;
 
-pub use fault::GrowFault;
-pub use live::{Begun, Live, SEAT_LIMIT};
+pub use beginning::{Begun, SEAT_LIMIT};
+pub use fault::{GrowFault, SettleFault};
+pub use live::Live;
 pub use mark::{Mark, MarkState, Reader, Reading, Writer};
 pub use seat::{Receipt, Seat};
 pub use snapshot::{Records, Snapshot};

@@ -2,7 +2,7 @@
 
 ghost use Rattle.std.specs.Prelude.{◌≡◌, ℕ, ◌+◌, ◌<◌, ◌≤◌, length, take, sum_by, slice_index, vec_len, MatchResult};
 ghost use Rattle.directory_core.specs.Limits.{record_limit};
-ghost use Rattle.book_core.specs.Lists.{records_of, joined_pieces, IsRestOfPiece};
+ghost use Rattle.book_core.specs.Lists.{records_of, joined_pieces, IsPlaceIn};
 
 use record_core::Record;
 use std::alloc::Global;
@@ -68,14 +68,14 @@ impl<R: Record> Opening<R> {
         self.ends[number - 1]
     }
 
-    /// The records from position `i` to the end of the block that has it.
-    pub(crate) fn rest(&self, i: u64) -> &[R]
+    /// The number of the block that has position `i`, and the place there.
+    pub(crate) fn find(&self, i: u64) -> (usize, usize)
         requires { i < length (joined_pieces (records_of self.now.blocks.items)) }
-        ensures { IsRestOfPiece (records_of self.now.blocks.items) i result.now }
+        ensures { IsPlaceIn (records_of self.now.blocks.items) i result.0 result.1 }
     {
         let number = self.block_of(i);
         let start = self.start_of(number);
-        &self.blocks[number][(i - start) as usize..]
+        (number, (i - start) as usize)
     }
 
     /// The blocks.

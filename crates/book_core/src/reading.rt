@@ -1,15 +1,31 @@
 //! Reading what a seat knows: by position, and piece by piece. Nobody waits, and no memory is taken; what is lent
 //! stays while others grow.
 
-ghost use Rattle.std.specs.Prelude.{◌≡◌, ◌≤◌, length, slice_get, Some, MatchOption, IfSome};
+ghost use Rattle.std.specs.Prelude.{◌≡◌, ◌≤◌, List, length, drop, slice_get, Some, MatchOption, IfSome};
 ghost use Rattle.directory_core.specs.Finding.{IsPieceAt};
-ghost use Rattle.book_core.specs.Lists.{IsOf, joined_pieces, list_of, pieces_of, IsRestOfPiece};
+ghost use Rattle.book_core.specs.Lists.{IsOf, joined_pieces, list_of, pieces_of, IsPlaceIn, IsRestOfPiece};
 
 use crate::live::Live;
 use crate::seat::Seat;
 use record_core::Record;
 
 impl<R: Record> Live<R> {
+    /// The number of the piece that has position `i`, and the place there. `None` past the end.
+    fn find(&self, seat: &Seat<R>, i: u64) -> Option<(u64, usize)>
+        requires of { IsOf self.now seat.now }
+        ensures { MatchOption result
+            (length (list_of self.now seat.now) ≤ i)
+            (λ found. IsPlaceIn (pieces_of self.now seat.now) i found.0 found.1) }
+    {
+        let before = self.opening.len();
+        if i < before {
+            let (number, place) = self.opening.find(i);
+            return Some((number as u64, place));
+        }
+        let (number, place) = seat.pass.find(i - before)?;
+        Some((self.opening.blocks.len() as u64 + number, place))
+    }
+
     /// The record at position `i`, lent for the life of the book. `None` past the end.
     pub fn get<'a>(&'a self, seat: &mut Seat<R>, i: u64) -> Option<&'a R>
         requires of { IsOf self.now seat.old }
@@ -32,11 +48,9 @@ impl<R: Record> Live<R> {
             (λ piece. IsRestOfPiece (pieces_of self.now seat.old) i piece.now) }
         ensures in_order { IfSome result (λ piece. IsPieceAt (list_of self.now seat.old) i piece.now) }
     {
-        let before = self.opening.len();
-        if i < before {
-            return Some(self.opening.rest(i));
-        }
-        self.directory.piece(&mut seat.pass, i - before)
+        let (number, place) = self.find(seat, i)?;
+        let piece = self.piece_at(seat, number)?;
+        Some(&piece[place..])
     }
 
     /// In how many pieces the list stands as the seat knows it: the blocks from before the phase, and the growths.
@@ -74,14 +88,17 @@ pub struct Pieces<'a, 's, R: Record> {
     live: &'a Live<R>,
     seat: &'s mut Seat<R>,
     next: u64,
+    /// Of the next piece so many records are left out.
+    place: usize,
     count: u64,
     ghost of: { IsOf live.now seat.now },
     ghost counted: { count ≡ length (pieces_of live.now seat.now) },
     ghost inside: { next ≤ count },
+    ghost placed: { (piece : List R) → slice_get (pieces_of live.now seat.now) next ≡ Some piece → place ≤ length piece },
 }
 
 impl<R: Record> Live<R> {
-    ghost use Rattle.book_core.specs.Pieces.{pieces_left};
+    ghost use Rattle.book_core.specs.Pieces.{pieces_left, IsLeftOf};
 
     /// The pieces of the list as the seat knows it, in order, lent for the life of the book: the blocks from before
     /// the phase, then the growths by their numbers.
@@ -95,6 +112,26 @@ impl<R: Record> Live<R> {
             live: self,
             seat,
             next: 0,
+            place: 0,
+            count,
+        }
+    }
+
+    /// As `pieces`, from position `i` on: the records from there to the end of the piece that has it, then the pieces
+    /// behind it. None past the end.
+    pub fn pieces_from<'a, 's>(&'a self, seat: &'s mut Seat<R>, i: u64) -> Pieces<'a, 's, R>
+        requires of { IsOf self.now seat.old }
+        ensures list { joined_pieces (pieces_left result) ≡ drop i (list_of self.now seat.old) }
+        ensures pieces { IsLeftOf (pieces_of self.now seat.old) (pieces_left result) }
+        ensures seat { (result.seat.ghost_name ≡ seat.entry.ghost_name) × (result.seat.now ≡ seat.old) }
+    {
+        let count = self.piece_count(seat);
+        let (next, place) = self.find(seat, i).unwrap_or((count, 0));
+        Pieces {
+            live: self,
+            seat,
+            next,
+            place,
             count,
         }
     }
@@ -111,8 +148,10 @@ impl<'a, 's, R: Record> Pieces<'a, 's, R> {
             × (self.new.seat.now ≡ self.old.seat.now) }
     {
         let piece = self.live.piece_at(self.seat, self.next)?;
+        let place = self.place;
         self.next += 1;
-        Some(piece)
+        self.place = 0;
+        Some(&piece[place..])
     }
 
     /// How many pieces are left.

@@ -83,9 +83,7 @@ impl<R: Record> Live<R> {
         ensures same { seat.new ≡ seat.old }
         ensures list { MatchResult result (Shows self.now seat.old) (λ fault. fault ≡ GrowFault.Memory) }
     {
-        let Ok(slices) = Slices::of_blocks(self.alloc, self.opening.blocks.as_slice()) else {
-            return Err(GrowFault::Memory);
-        };
+        let slices = Slices::of_blocks(self.alloc, self.opening.blocks.as_slice())?;
         let blocks = slices.count();
         let mut snapshot = Snapshot {
             live: self,
@@ -118,9 +116,7 @@ impl<'a, R: Record> Snapshot<'a, R> {
         if knows <= has {
             return Ok(());
         }
-        if self.slices.reserve(knows - has).is_err() {
-            return Err(GrowFault::Memory);
-        }
+        self.slices.reserve(knows - has)?;
         add_growths(&mut self.slices, self.live, &mut seat.pass, has);
         Ok(())
     }

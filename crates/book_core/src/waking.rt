@@ -10,11 +10,12 @@
 
 ghost use Rattle.std.specs.Prelude.{◌≡◌, ◌<◌, ◌≤◌, ◌↔◌, IsTrue};
 ghost use Rattle.book_core.specs.Lists.{IsOf};
-ghost use Rattle.book_core.specs.Growing.{IsTold, IsPast};
+ghost use Rattle.book_core.specs.Growing.{IsTold, IsPast, IsToldOf};
 
+use crate::fault::SettleFault;
 use crate::live::{Book, Live};
 use crate::mark::MarkState;
-use crate::seat::Seat;
+use crate::seat::{Receipt, Seat};
 use record_core::Record;
 use std::sync::{Condvar, Mutex, MutexGuard, Wait};
 
@@ -133,5 +134,28 @@ impl<R: Record> Live<R> {
         }
         waiters.waiting = waiters.waiting.wrapping_sub(1);
         (count, state)
+    }
+
+    /// Sleeps until the growth of the receipt is settled, and answers how many growths are. `Ended` and `Broken` where
+    /// it isn't settled as the mark tells, and won't be.
+    pub fn await_receipt<E: Wait>(
+        &self,
+        rt: &E,
+        seat: &mut Seat<R>,
+        receipt: &Receipt,
+    ) -> Result<u64, SettleFault>
+        requires of { IsOf self.now seat.old }
+        ensures of { IsOf self.now seat.new }
+        ensures told { IsTold seat.old seat.new seat.new.mark.told.count seat.new.mark.told.state }
+        ensures settled { IsToldOf receipt.now.number seat.new.mark.told result }
+    {
+        let (count, state) = self.await_settled(rt, seat, receipt.number);
+        if receipt.number < count {
+            return Ok(count);
+        }
+        match state {
+            MarkState::Broken => Err(SettleFault::Broken),
+            MarkState::Running | MarkState::Ended => Err(SettleFault::Ended),
+        }
     }
 }

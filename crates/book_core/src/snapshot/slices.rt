@@ -3,8 +3,8 @@
 ghost use Rattle.std.specs.Prelude.{◌≡◌, ◌+◌, ◌<◌, ◌≤◌, [], ◌∷◌, ◌++◌, length, map, slice_get, Some, MatchOption, IfOk, IfSome, OnOk};
 ghost use Rattle.directory_core.specs.Limits.{record_limit};
 ghost use Rattle.directory_core.specs.Finding.{IsPieceAt};
-ghost use Rattle.book_core.specs.Lists.{records_of, joined_pieces, IsRestOfPiece};
-ghost use Rattle.book_core.specs.Snapshots.{HasRoomFor, AreFull, IsPlaceIn, full_of};
+ghost use Rattle.book_core.specs.Lists.{records_of, joined_pieces, IsPlaceIn, IsRestOfPiece};
+ghost use Rattle.book_core.specs.Snapshots.{HasRoomFor, AreFull, full_of};
 
 use directory_core::last_start;
 use record_core::Record;

@@ -27,7 +27,7 @@ fn with_block(alloc: Global, mut blocks: Vec<Vec<u64>>, records: &[u64]) -> Opti
 }
 
 /// The blocks [1, 2], none and [3].
-fn three_blocks(alloc: Global) -> Option<Vec<Vec<u64>>>
+pub(super) fn three_blocks(alloc: Global) -> Option<Vec<Vec<u64>>>
     ensures { IfSome result (λ blocks. length (joined_pieces (records_of blocks.items)) ≤ record_limit) }
 {
     let blocks = with_block(alloc, Vec::new(alloc), &[1, 2])?;
@@ -99,6 +99,61 @@ fn read_in_order(live: &Live<u64>, seat: &mut Seat<u64>) -> ([Option<(Option<u64
         heads[k] = pieces.next_piece().map(head_of);
     }
     (heads, pieces.left())
+}
+
+/// The heads of the first two pieces from a position on, and how many are left then.
+fn read_from(
+    live: &Live<u64>,
+    seat: &mut Seat<u64>,
+    i: u64,
+) -> ([Option<(Option<u64>, usize)>; 2], u64)
+    requires { IsOf live.now seat.old }
+    ensures { IsOf live.now seat.new }
+{
+    let mut pieces = live.pieces_from(seat, i);
+    let first = pieces.next_piece().map(head_of);
+    let second = pieces.next_piece().map(head_of);
+    ([first, second], pieces.left())
+}
+
+/// What `read_from` finds from each of 8 positions on.
+fn read_from_each(
+    live: &Live<u64>,
+    seat: &mut Seat<u64>,
+) -> [([Option<(Option<u64>, usize)>; 2], u64); 8]
+    requires { IsOf live.now seat.old }
+    ensures { IsOf live.now seat.new }
+{
+    let mut found = [([None; 2], 0); 8];
+    for i in 0..8usize {
+        found[i] = read_from(live, seat, i as u64);
+    }
+    found
+}
+
+#[test]
+fn pieces_stand_from_a_position_on(rt: HostRuntime) -> Result<(), Fail> {
+    let blocks = three_blocks(rt.alloc()).ok_or("no blocks")?;
+    let two = begin_two_over(rt.alloc(), blocks, 2).ok_or("no book")?;
+    let Two {
+        live,
+        mut first,
+        mut second,
+        ..
+    } = two;
+    grow_twice(&rt, &live, &mut first, &mut second).ok_or("no growth")?;
+    let want = [
+        ([Some((Some(1), 2)), Some((None, 0))], 3),
+        ([Some((Some(2), 1)), Some((None, 0))], 3),
+        ([Some((Some(3), 1)), Some((Some(4), 2))], 1),
+        ([Some((Some(4), 2)), Some((Some(5), 1))], 0),
+        ([Some((Some(4), 1)), Some((Some(5), 1))], 0),
+        ([Some((Some(5), 1)), None], 0),
+        ([None, None], 0),
+        ([None, None], 0),
+    ];
+    assert_eq!(rt; read_from_each(&live, &mut first), want);
+    Ok(())
 }
 
 #[test]

@@ -4,8 +4,9 @@ ghost use Rattle.std.specs.Prelude.{◌≡◌};
 ghost use Rattle.book_core.specs.Lists.{IsOf};
 
 use super::reading::head_of;
-use super::take_seat;
-use crate::live::{Begun, Live};
+use crate::beginning::Begun;
+use crate::fault::SettleFault;
+use crate::live::Live;
 use crate::mark::{MarkState, Reading, Writer};
 use crate::seat::Seat;
 use directory_core::Pass;
@@ -37,7 +38,7 @@ fn begin_one(alloc: Global) -> Option<Settling> {
         pass,
         mark,
     } = begun;
-    let seat = take_seat(&live, &mut seats)?;
+    let seat = live.take_seat(&mut seats)?;
     Some(Settling {
         live,
         seat,
@@ -129,5 +130,56 @@ fn a_seat_is_taken_in(rt: HostRuntime) -> Result<(), Fail> {
         state: MarkState::Running,
     };
     assert_eq!(rt; taken, Some((1, told)));
+    Ok(())
+}
+
+/// What comes to be told of a growth.
+#[derive(Clone, Copy)]
+enum Told {
+    Settled,
+    EndedBefore,
+    BrokenBefore,
+    BrokenBehind,
+}
+
+/// What a seat is told of its receipt, once the mark tells that.
+fn await_after_one<E: Wait>(
+    rt: &E,
+    settling: Settling,
+    told: Told,
+) -> Option<Result<u64, SettleFault>> {
+    let Settling {
+        live,
+        mut seat,
+        mut mark,
+        ..
+    } = settling;
+    let receipt = live.push_back(rt, &mut seat, 5).ok()?;
+    match told {
+        Told::Settled => mark.raise(live.mark(), 1),
+        Told::EndedBefore => mark.set_ended(live.mark()),
+        Told::BrokenBefore => mark.set_broken(live.mark()),
+        Told::BrokenBehind => {
+            mark.raise(live.mark(), 1);
+            mark.set_broken(live.mark());
+        }
+    }
+    Some(live.await_receipt(rt, &mut seat, &receipt))
+}
+
+#[test]
+fn a_receipt_is_settled_or_will_not_be(rt: HostRuntime) -> Result<(), Fail> {
+    let cases = [
+        (Told::Settled, Ok(1)),
+        (Told::EndedBefore, Err(SettleFault::Ended)),
+        (Told::BrokenBefore, Err(SettleFault::Broken)),
+        (Told::BrokenBehind, Ok(1)),
+    ];
+    for (told, want) in cases {
+        let answer = begin_one(rt.alloc()).and_then(|settling| await_after_one(
+            &rt, settling, told,
+        ));
+        assert_eq!(rt; answer, Some(want));
+    }
     Ok(())
 }

@@ -1,9 +1,8 @@
 //! A snapshot over blocks from before the phase and growths: its reads, and many readers.
 
-ghost use Rattle.std.specs.Prelude.{◌≡◌, ◌≤◌, length, IfSome};
-ghost use Rattle.directory_core.specs.Limits.{record_limit};
-ghost use Rattle.book_core.specs.Lists.{IsOf, records_of, joined_pieces};
+ghost use Rattle.book_core.specs.Lists.{IsOf};
 
+use super::reading::three_blocks;
 use super::threads::put_many;
 use super::{Two, begin_two_over};
 use crate::seat::Seat;
@@ -14,17 +13,6 @@ use std::sync::Wait;
 use std::test::Fail;
 use std::thread;
 use std::thread::Threads;
-
-/// The blocks [1, 2], none and [3].
-fn three_blocks(alloc: Global) -> Option<Vec<Vec<u64>>>
-    ensures { IfSome result (λ blocks. length (joined_pieces (records_of blocks.items)) ≤ record_limit) }
-{
-    let mut blocks = Vec::with_capacity(alloc, 3).ok()?;
-    blocks.push_reserved([1, 2].to_vec(alloc).ok()?);
-    blocks.push_reserved(Vec::new(alloc));
-    blocks.push_reserved([3].to_vec(alloc).ok()?);
-    Some(blocks)
-}
 
 /// A book with that room over the three blocks, with the growths [4, 5] and [6] behind them.
 fn grow_two<E: Wait>(rt: &E, alloc: Global, room: u64) -> Option<Two> {

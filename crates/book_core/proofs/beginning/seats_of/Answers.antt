@@ -1,6 +1,6 @@
 use Rattle.std.proofs.Common.{◌≡◌, ◌∙◌, ap, length, arith}
 use Rattle.book_core.proofs.Owns.{seats-push}
-use Rattle.book_core.proofs.live.seats_of.Goals as goal
+use Rattle.book_core.proofs.beginning.seats_of.Goals as goal
 
 pub loop-id-preserved : goal.loop-id-preserved
 loop-id-preserved g c =
