@@ -40,7 +40,7 @@ sound_more width format image more sound =
 pub refused_more : {R : Type 0} (form : Encoding R) (image more : List ℕ) (fault : ScanFault) → IsRefusedFor form image fault → IsRefusedFor form (image ++ more) fault
 refused_more form image more fault refused rest = subst (λ (bs : List ℕ). IsRefused form bs fault) (sym (append_assoc image more rest)) (refused (more ++ rest))
 
-frames_more : (shape : Shape) (image more : List ℕ) (frames : List Frame) → HasFrames shape image frames → HasFrames shape (image ++ more) frames
+pub frames_more : (shape : Shape) (image more : List ℕ) (frames : List Frame) → HasFrames shape image frames → HasFrames shape (image ++ more) frames
 frames_more shape image more frames has =
     let gate = has.closed in
     record { legal = has.legal; closed = (gate.0, gate.1 ++ more, gate.2, ap (λ (bs : List ℕ). bs ++ more) gate.3 ∙ append_assoc (text shape frames) (gate.0 ∷ gate.1) more) }

@@ -18,7 +18,7 @@ use Rattle.segment_core.specs.Tally.{nothing, after, tally_of, are_inside, is_ou
 use Rattle.segment_core.specs.Vector.{place_among, home_in, home_of}
 use Rattle.segment_core.specs.Reading.{Seen, runs_of, record_bytes_of, record_count, head_len}
 use Rattle.segment_core.specs.Notes.{noted}
-use Rattle.segment_core.specs.Found.{StandsAt, first_record_of, IsLaidAt, home_among, AreInTurn, AreHomes, changes_in, changes_of, live_of, IsInside, HasHome, IsFound, Follows, IsGrown, IsSame, IsCut}
+use Rattle.segment_core.specs.Found.{StandsAt, first_record_of, IsLaidAt, home_among, AreInTurn, AreHomes, changes_in, changes_of, live_of, IsInside, HasHome, IsFound, StandsNext, IsGrown, IsSame, IsCut}
 use Rattle.segment_core.proofs.Push.{text_push, tally_from_push}
 use Rattle.segment_core.proofs.LastFrom.{home_push}
 use Rattle.segment_core.proofs.PlaceAmong.{place_among_inside, place_among_below}
@@ -156,7 +156,7 @@ found_same form format frames old new same folded live is =
 
 -- ---- a group
 
-pub found_group : {R : Type 0} (form : Encoding R) (frames : List Frame) (seen : Seen) (old new : Found R) → kind_of seen.frame ≡ 1 → Follows form frames old seen → IsGrown form seen old new → IsFound form seen.shape.format (frames ++ seen.frame ∷ []) new
+pub found_group : {R : Type 0} (form : Encoding R) (frames : List Frame) (seen : Seen) (old new : Found R) → kind_of seen.frame ≡ 1 → StandsNext form frames old seen → IsGrown form seen old new → IsFound form seen.shape.format (frames ++ seen.frame ∷ []) new
 found_group {R} form frames seen old new kind follows grown =
     let f : Frame = seen.frame in
     let format : Format = seen.shape.format in
@@ -228,7 +228,7 @@ found_group {R} form frames seen old new kind follows grown =
 
 -- ---- a change
 
-pub found_change : {R : Type 0} (form : Encoding R) (frames : List Frame) (seen : Seen) (old new : Found R) → kind_of seen.frame ≡ 2 → Follows form frames old seen → IsSame old new → new.folded ≡ old.folded → new.live.items ≡ old.live.items ++ seen ∷ []
+pub found_change : {R : Type 0} (form : Encoding R) (frames : List Frame) (seen : Seen) (old new : Found R) → kind_of seen.frame ≡ 2 → StandsNext form frames old seen → IsSame old new → new.folded ≡ old.folded → new.live.items ≡ old.live.items ++ seen ∷ []
     → IsFound form seen.shape.format (frames ++ seen.frame ∷ []) new
 found_change form frames seen old new kind follows same folded_same pushed =
     let f : Frame = seen.frame in
@@ -264,7 +264,7 @@ found_change form frames seen old new kind follows same folded_same pushed =
 
 -- ---- a shrink
 
-pub found_shrink : {R : Type 0} (form : Encoding R) (frames : List Frame) (seen : Seen) (old new : Found R) (n : ℕ) → seen.frame ≡ Shrink n → Follows form frames old seen → IsCut n old new → IsFound form seen.shape.format (frames ++ seen.frame ∷ []) new
+pub found_shrink : {R : Type 0} (form : Encoding R) (frames : List Frame) (seen : Seen) (old new : Found R) (n : ℕ) → seen.frame ≡ Shrink n → StandsNext form frames old seen → IsCut n old new → IsFound form seen.shape.format (frames ++ seen.frame ∷ []) new
 found_shrink form frames seen old new n frame follows cut =
     let f : Frame = seen.frame in
     let format : Format = seen.shape.format in
@@ -306,7 +306,7 @@ fold_bounds t f count frame fits =
     let parts = or_parts (nat_lt count t.folded) (nat_lt t.changes count) (sym (ap (is_miscounted t) frame) ∙ fits) in
     (ltb-false count t.folded parts.0, ltb-false t.changes count parts.1)
 
-pub found_fold : {R : Type 0} (form : Encoding R) (frames : List Frame) (seen : Seen) (old new : Found R) (count : ℕ) → seen.frame ≡ Fold count → Follows form frames old seen → IsSame old new → new.folded ≡ count → new.live.items ≡ drop (count - old.folded) old.live.items
+pub found_fold : {R : Type 0} (form : Encoding R) (frames : List Frame) (seen : Seen) (old new : Found R) (count : ℕ) → seen.frame ≡ Fold count → StandsNext form frames old seen → IsSame old new → new.folded ≡ count → new.live.items ≡ drop (count - old.folded) old.live.items
     → IsFound form seen.shape.format (frames ++ seen.frame ∷ []) new
 found_fold form frames seen old new count frame follows same folded_now dropped =
     let f : Frame = seen.frame in

@@ -33,7 +33,12 @@ pub mod HomesPush
 pub mod FoundEnd
 pub mod Walked
 pub mod Fed
+pub mod Decided
+mod Room
 pub mod Worked
+mod WorkedFaults
+mod WorkedImages
+mod WorkedRecords
 pub mod Written
 pub mod Changes
 pub mod GrowthRows

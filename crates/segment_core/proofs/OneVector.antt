@@ -13,7 +13,7 @@ use Rattle.segment_core.specs.declared.format.Format.{Format}
 use Rattle.segment_core.specs.declared.format.Shape.{Shape}
 use Rattle.segment_core.specs.declared.tally.Tally.{Tally}
 use Rattle.segment_core.specs.declared.vector.Scanned.{Scanned}
-use Rattle.segment_core.specs.Shape.{shape_of, format_in}
+use Rattle.segment_core.specs.Shape.{version_of, shape_of, format_in}
 use Rattle.segment_core.specs.Frame.{Frame, header, frame_text, text}
 use Rattle.segment_core.specs.Tally.{nothing, after, tally_of, AreLegalFrom}
 use Rattle.segment_core.specs.Image.{HasFrames, IsLongest}
@@ -95,7 +95,7 @@ is_some [] i lt none = absurd (omega arith)
 is_some (x ∷ a) zero lt none = absurd cc
 is_some (x ∷ a) (suc i) lt none = is_some a i (omega arith) none
 
-from_none : {X : Type 0} (o : Option X) (P : Type 0) (Q : X → Type 0) → o ≡ None → MatchOption o P Q → P
+pub from_none : {X : Type 0} (o : Option X) (P : Type 0) (Q : X → Type 0) → o ≡ None → MatchOption o P Q → P
 from_none {X} o P Q is m = let P' : Option X → Type 0 = λ p. MatchOption p P Q in subst P' is m
 
 -- ---- no fault
@@ -130,3 +130,34 @@ pub is_scanned : {R : Type 0} (format : Format) (form : Encoding R) (image : Lis
     → MatchResult answer (IsScanOf form image) (IsRefused form image) → MatchResult answer (λ scanned. scanned.records.items ≡ records) (λ fault. fault ≡ Memory)
 is_scanned format form image frames records (Ok scanned) small has found = scanned_as format form image frames records scanned small has found
 is_scanned format form image frames records (Err fault) small has refused = memory_alone format form image frames records fault small has refused
+
+-- all that a scan tells of an image that has a vector
+pub record TellsOf {R : Type 0} (format : Format) (form : Encoding R) (frames : List Frame) (records : List R) (scanned : Scanned R) : Type 0 where
+  pub records_are : scanned.records.items ≡ records
+  pub version_is : scanned.version ≡ version_of format
+  pub width_is : scanned.width ≡ form.width
+  pub frames_are : scanned.frames ≡ length frames
+  pub changes_are : scanned.changes ≡ (tally_of frames).changes
+  pub folded_is : scanned.folded ≡ (tally_of frames).folded
+  pub gate_is : scanned.gate ≡ length (text (shape_of format form) frames)
+
+-- one image has one scan
+pub one_scan : {R : Type 0} (format : Format) (form : Encoding R) (image : List ℕ) (frames : List Frame) (records : List R) (scanned : Scanned R) → form.width < 2 ^ 16 → HasVector format form image frames records → IsScanOf form image scanned → TellsOf format form frames records scanned
+one_scan {R} format form image frames records scanned small has scan = record {
+  records_are = scanned_as format form image frames records scanned small has scan;
+  version_is = subst (λ f. scanned.version ≡ version_of f) one scan.version_is;
+  width_is = scan.width_is;
+  frames_are = subst (λ (fs : List Frame). scanned.frames ≡ length fs) same scan.frames_are;
+  changes_are = subst (λ fs. scanned.changes ≡ (tally_of fs).changes) same scan.changes_are;
+  folded_is = subst (λ fs. scanned.folded ≡ (tally_of fs).folded) same scan.folded_is;
+  gate_is = subst (λ f. scanned.gate ≡ length (text (shape_of f form) frames)) one (subst (λ fs. scanned.gate ≡ length (text (shape_of scan.format form) fs)) same scan.gate_is);
+}
+  where
+    one : scan.format ≡ format
+    one = sym (sound_header scan.format form.width image scan.frames small scan.vector.framed).names ∙ (sound_header format form.width image frames small has.framed).names
+
+    here : HasVector format form image scan.frames scanned.records.items
+    here = subst (λ f. HasVector f form image scan.frames scanned.records.items) one scan.vector
+
+    same : scan.frames ≡ frames
+    same = one_list (shape_of format form) image scan.frames frames here.framed (longest_closed (shape_of format form) image frames has.framed)

@@ -15,7 +15,7 @@ use Rattle.segment_core.specs.Tally.{nothing, after, tally_of, MayFollow, AreLeg
 use Rattle.segment_core.specs.Image.{HasFrames}
 use Rattle.segment_core.specs.Fault.{first_line, order_lines, frame_fault, is_closed}
 use Rattle.segment_core.specs.Reading.{Seen, BeginsWith, IsFaulty}
-use Rattle.segment_core.specs.Found.{IsFound, Follows}
+use Rattle.segment_core.specs.Found.{IsFound, StandsNext}
 use Rattle.segment_core.specs.Walk.{IsBehind, StandsBefore, IsFaultOf}
 use Rattle.segment_core.proofs.Numbers.{both_true}
 use Rattle.segment_core.proofs.Payload.{length-frame_text}
@@ -64,8 +64,8 @@ sound_size form frames walk behind =
     let t = ap (λ (t : Tally). t.size) behind.tally_is in
     omega arith
 
-pub follows : {R : Type 0} (form : Encoding R) (frames : List Frame) (walk : Walk R) (seen : Seen) → IsBehind form frames walk → seen.at ≡ walk.at → seen.shape ≡ walk.shape → IsFrame walk.shape seen.frame → MayFollow walk.tally seen.frame → Follows form frames walk.found seen
-follows form frames walk seen behind at same whole may = record {
+pub stands_next : {R : Type 0} (form : Encoding R) (frames : List Frame) (walk : Walk R) (seen : Seen) → IsBehind form frames walk → seen.at ≡ walk.at → seen.shape ≡ walk.shape → IsFrame walk.shape seen.frame → MayFollow walk.tally seen.frame → StandsNext form frames walk.found seen
+stands_next form frames walk seen behind at same whole may = record {
   behind = subst (λ (s : Shape). IsFound form s.format frames walk.found) (sym same) behind.found;
   wide = ap (λ (s : Shape). s.width) same ∙ behind.width_is;
   here = at ∙ behind.at_end ∙ ap (λ (s : Shape). length (text s frames)) (sym same);

@@ -1,11 +1,12 @@
 -- What changes a vector, and the list that is left.
-use Rattle.std.specs.Prelude.{◌≡◌, ℕ, ◌+◌, ◌*◌, ◌≤◌, ◌<◌, ◌^◌, true, List, [], ◌∷◌, ◌++◌, length, take, drop}
+use Rattle.std.specs.Prelude.{◌≡◌, ℕ, ◌+◌, ◌*◌, ◌≤◌, ◌<◌, true, List, [], ◌∷◌, ◌++◌, length, take, drop}
 use Rattle.std.specs.List.{AllByRecursion}
 use Rattle.segment_core.specs.declared.format.Shape.{Shape}
 use Rattle.segment_core.specs.Shape.{limit_of}
 use Rattle.segment_core.specs.Frame.{Run, runs_len, records_of_runs}
 use Rattle.segment_core.specs.Layout.{HasRuns}
 use Rattle.segment_core.specs.Tally.{are_ascending, are_inside}
+use Rattle.record_core.specs.Limits.{record_limit}
 
 -- Grow appends, Shrink keeps the first records, Change replaces the records of runs by others in their order.
 pub data Command (R : Type 0) : Type 0 where
@@ -38,7 +39,7 @@ pub record AreRuns (shape : Shape) (size : ℕ) (runs : List Run) (given : ℕ) 
 
 -- a command that may come when the vector is this list, in a file of this shape
 abbrev pub IsLegalCommand : {R : Type 0} → Shape → List R → Command R → Type 0
-IsLegalCommand shape records (Grow new) = (0 < length new) × (8 + length new * shape.width ≤ limit_of shape.format) × (length records + length new ≤ 2 ^ 32)
+IsLegalCommand shape records (Grow new) = (0 < length new) × (8 + length new * shape.width ≤ limit_of shape.format) × (length records + length new ≤ record_limit)
 IsLegalCommand shape records (Shrink n) = n ≤ length records
 IsLegalCommand shape records (Change runs new) = AreRuns shape (length records) runs (length new) × (runs_len shape.format (length runs) + length new * shape.width ≤ limit_of shape.format)
 

@@ -11,7 +11,7 @@ use Rattle.segment_core.specs.declared.fault.ScanFault.TheVariants.{Unborn, NotS
 use Rattle.segment_core.specs.declared.format.Format.{Format}
 use Rattle.segment_core.specs.declared.format.Shape.{Shape}
 use Rattle.segment_core.specs.Shape.{limit_of, shape_of, format_in}
-use Rattle.segment_core.specs.Frame.{Frame, text}
+use Rattle.segment_core.specs.Frame.{Frame, text, open_gate, header_len, frame_head_len}
 use Rattle.segment_core.specs.Layout.{u32_at, is_layout, frame_in}
 use Rattle.segment_core.specs.declared.tally.Tally.{Tally}
 use Rattle.segment_core.specs.Tally.{tally_of, is_disordered, is_outside, is_unfolded, is_miscounted, is_too_long}
@@ -33,8 +33,8 @@ is_version byte = byte == 1 || byte == 2
 -- the header, from its first byte on
 unfoldable pub header_lines : ℕ → List ℕ → List (Bool × ScanFault)
 header_lines width image =
-    (nat_le (length image) 1 || not (slice_index image 0 == 1), Unborn)
-    ∷ (nat_lt (length image) 11 || not (starts_with nat_eq (drop 1 image) (codes "CVECSEG")), NotSegment)
+    (nat_le (length image) 1 || not (slice_index image 0 == open_gate), Unborn)
+    ∷ (nat_lt (length image) header_len || not (starts_with nat_eq (drop 1 image) (codes "CVECSEG")), NotSegment)
     ∷ (not (is_version (slice_index image 8)), Version (slice_index image 8))
     ∷ (not (from_le_bytes w16 (take 2 (drop 9 image)) == width), Width (from_le_bytes w16 (take 2 (drop 9 image))))
     ∷ []
@@ -55,7 +55,7 @@ abbrev pub payload_len_in : List ℕ → ℕ
 payload_len_in bytes = u32_at bytes 2
 
 abbrev pub payload_in : List ℕ → List ℕ
-payload_in bytes = take (payload_len_in bytes) (drop 6 bytes)
+payload_in bytes = take (payload_len_in bytes) (drop frame_head_len bytes)
 
 -- the byte of a kind of frame
 abbrev pub is_kind : ℕ → Bool
@@ -65,26 +65,26 @@ is_kind byte = nat_lt 0 byte && nat_lt byte 5
 unfoldable pub frame_lines : Shape → ℕ → List ℕ → List (Bool × ScanFault)
 frame_lines shape p bytes =
     (length bytes == 0, damaged p NoGate)
-    ∷ (nat_lt (length bytes) 6, damaged p ShortFrame)
+    ∷ (nat_lt (length bytes) frame_head_len, damaged p ShortFrame)
     ∷ (not (is_kind (kind_in bytes)), damaged (p + 1) (Kind (kind_in bytes)))
     ∷ (nat_lt (limit_of shape.format) (payload_len_in bytes), damaged (p + 2) TooLarge)
-    ∷ (nat_lt (length bytes) (6 + payload_len_in bytes), damaged p ShortFrame)
-    ∷ (not (is_layout shape (kind_in bytes) (payload_in bytes)), damaged (p + 6) Layout)
+    ∷ (nat_lt (length bytes) (frame_head_len + payload_len_in bytes), damaged p ShortFrame)
+    ∷ (not (is_layout shape (kind_in bytes) (payload_in bytes)), damaged (p + frame_head_len) Layout)
     ∷ []
 
 -- the frame at p after those before it
 unfoldable pub order_lines : ℕ → Tally → Frame → List (Bool × ScanFault)
 order_lines p tally frame =
-    (is_disordered frame, damaged (p + 6) Runs)
-    ∷ (is_outside tally frame, damaged (p + 6) Range)
+    (is_disordered frame, damaged (p + frame_head_len) Runs)
+    ∷ (is_outside tally frame, damaged (p + frame_head_len) Range)
     ∷ (is_unfolded tally frame, damaged p Unfolded)
-    ∷ (is_miscounted tally frame, damaged (p + 6) FoldCount)
-    ∷ (is_too_long tally frame, damaged (p + 6) TooLong)
+    ∷ (is_miscounted tally frame, damaged (p + frame_head_len) FoldCount)
+    ∷ (is_too_long tally frame, damaged (p + frame_head_len) TooLong)
     ∷ []
 
 -- a gate that is there and isn't open
 abbrev pub is_closed : List ℕ → Bool
-is_closed bytes = nat_lt 0 (length bytes) && not (slice_index bytes 0 == 1)
+is_closed bytes = nat_lt 0 (length bytes) && not (slice_index bytes 0 == open_gate)
 
 -- what is wrong at p: nothing where a closed gate ends the frames
 unfoldable pub frame_fault : Shape → ℕ → Tally → List ℕ → Option ScanFault
@@ -92,14 +92,14 @@ frame_fault shape p tally bytes =
     if is_closed bytes then None else first_line (frame_lines shape p bytes ++ order_lines p tally (frame_in shape (kind_in bytes) (payload_in bytes)))
 
 -- position i is the least that has no record
-pub record IsFirstBad {R : Type 0} (format : Format) (form : Encoding R) (image : List ℕ) (frames : List Frame) (i : ℕ) : Type 0 where
+pub record IsLeastBad {R : Type 0} (format : Format) (form : Encoding R) (image : List ℕ) (frames : List Frame) (i : ℕ) : Type 0 where
   pub inside : i < (tally_of frames).size
   pub bad : record_at format form image frames i ≡ None
   pub before : (k : ℕ) → k < i → IsSome (record_at format form image frames k)
 
 abbrev pub IsBadRecord : {R : Type 0} → Format → Encoding R → List ℕ → List Frame → ScanFault → Type 0
 IsBadRecord format form image frames fault =
-    (i : ℕ) × (place : ℕ) × IsFirstBad format form image frames i × (place_of (shape_of format form) frames i ≡ Some place) × (fault ≡ damaged place BadRecord)
+    (i : ℕ) × (place : ℕ) × IsLeastBad format form image frames i × (place_of (shape_of format form) frames i ≡ Some place) × (fault ≡ damaged place BadRecord)
 
 -- the fault at the end of these frames
 abbrev pub EndsWith : {R : Type 0} → Format → Encoding R → List ℕ → List Frame → ScanFault → Type 0

@@ -1,6 +1,6 @@
 -- What the frames so far say of the vector: the records in the home bytes, where these stand, and the changes
 -- that no fold covers.
-use Rattle.std.specs.Prelude.{◌≡◌, ◌≤◌, ◌<◌, ◌^◌, ℕ, ◌+◌, true, List, [], ◌∷◌, ◌++◌, length, map, take, drop, slice_get, Option, Some, None, MatchOption, ◌⊎◌}
+use Rattle.std.specs.Prelude.{◌≡◌, ◌≤◌, ◌<◌, ℕ, ◌+◌, true, List, [], ◌∷◌, ◌++◌, length, map, take, drop, slice_get, Option, Some, None, MatchOption, ◌⊎◌}
 use Rattle.std.specs.List.{flat_map, AllByRecursion}
 use Rattle.std.specs.Option.{option_or}
 use Rattle.record_core.specs.Bytes.{Encoding}
@@ -13,7 +13,7 @@ use Rattle.segment_core.specs.declared.found.Home.{Home}
 use Rattle.segment_core.specs.declared.found.Homes.{Homes}
 use Rattle.segment_core.specs.declared.notes.Notes.{Notes}
 use Rattle.segment_core.specs.Shape.{shape_of}
-use Rattle.segment_core.specs.Frame.{Frame, Group, Change, Shrink, Fold, header, frame_text, text}
+use Rattle.segment_core.specs.Frame.{Frame, Group, Change, Shrink, Fold, header, frame_text, text, frame_head_len}
 use Rattle.segment_core.specs.Layout.{IsFrame}
 use Rattle.segment_core.specs.Tally.{tally_of, are_inside, MayFollow}
 use Rattle.segment_core.specs.Vector.{place_among, place_in_runs, record_in, home_of}
@@ -21,6 +21,7 @@ use Rattle.segment_core.specs.declared.fault.Cause.TheVariants.{BadRecord}
 use Rattle.segment_core.specs.Fault.{IsBadRecord, damaged}
 use Rattle.segment_core.specs.Reading.{Seen, runs_of, record_bytes_of, record_count, head_len}
 use Rattle.segment_core.specs.Notes.{noted}
+use Rattle.record_core.specs.Limits.{record_limit}
 
 -- ---- bytes at a place
 
@@ -30,7 +31,7 @@ StandsAt image place bytes = take (length bytes) (drop place image) ≡ bytes
 
 -- where a frame's records begin
 abbrev pub first_record_of : Seen → ℕ
-first_record_of seen = seen.at + 6 + head_len seen.shape.format seen.frame
+first_record_of seen = seen.at + frame_head_len + head_len seen.shape.format seen.frame
 
 -- what is held of a position whose bytes are at a place: their record, or a note of the place where they are none
 abbrev pub IsDecoded : {R : Type 0} → Encoding R → List ℕ → ℕ → Option R → Option ℕ → Type 0
@@ -109,7 +110,7 @@ HasHome form bytes home held note = (place : ℕ) × (home ≡ Some place) × (p
 -- what the frames so far say, as far as bytes behind them don't matter
 pub record IsFound {R : Type 0} (form : Encoding R) (format : Format) (frames : List Frame) (found : Found R) : Type 0 where
   pub size_is : length found.records.items ≡ (tally_of frames).size
-  pub small : (tally_of frames).size ≤ 2 ^ 32
+  pub small : (tally_of frames).size ≤ record_limit
   pub each : (i : ℕ) → i < (tally_of frames).size → HasHome form (text (shape_of format form) frames) (home_of (shape_of format form) frames i) (slice_get found.records.items i) (noted found.notes i)
   pub homes : AreHomes (shape_of format form) frames found.homes.items
   pub folded_is : found.folded ≡ (tally_of frames).folded
@@ -118,7 +119,7 @@ pub record IsFound {R : Type 0} (form : Encoding R) (format : Format) (frames : 
   pub inside : AllByRecursion (IsInside (tally_of frames).size) found.live.items
 
 -- a frame that stands behind those that were found, and may follow them
-pub record Follows {R : Type 0} (form : Encoding R) (frames : List Frame) (found : Found R) (seen : Seen) : Type 0 where
+pub record StandsNext {R : Type 0} (form : Encoding R) (frames : List Frame) (found : Found R) (seen : Seen) : Type 0 where
   pub behind : IsFound form seen.shape.format frames found
   pub wide : seen.shape.width ≡ form.width
   pub here : seen.at ≡ length (text seen.shape frames)

@@ -7,6 +7,20 @@ use Rattle.segment_core.specs.declared.format.Format.TheVariants.{One, Two}
 use Rattle.segment_core.specs.declared.format.Shape.{Shape}
 use Rattle.segment_core.specs.Shape.{version_of}
 
+-- a gate that is open, and a gate as it is written closed
+abbrev pub open_gate : ℕ
+open_gate = 1
+
+abbrev pub closed_gate : ℕ
+closed_gate = 0
+
+-- the bytes of a file's header, and those of a frame before its payload
+abbrev pub header_len : ℕ
+header_len = 11
+
+abbrev pub frame_head_len : ℕ
+frame_head_len = 6
+
 -- consecutive positions
 pub record Run : Type 0 where
   pub start : ℕ
@@ -61,11 +75,11 @@ payload_of format (Fold count) = to_le_bytes w64 count
 
 -- an open gate, the kind, the payload's length and the payload
 abbrev pub frame_text : Format → Frame → List ℕ
-frame_text format frame = (1 ∷ kind_of frame ∷ to_le_bytes w32 (length (payload_of format frame))) ++ payload_of format frame
+frame_text format frame = (open_gate ∷ kind_of frame ∷ to_le_bytes w32 (length (payload_of format frame))) ++ payload_of format frame
 
 -- an open gate, the magic, the version and the width of a record
 abbrev pub header : Shape → List ℕ
-header shape = (1 ∷ codes "CVECSEG") ++ (version_of shape.format ∷ to_le_bytes w16 shape.width)
+header shape = (open_gate ∷ codes "CVECSEG") ++ (version_of shape.format ∷ to_le_bytes w16 shape.width)
 
 abbrev pub text : Shape → List Frame → List ℕ
 text shape frames = header shape ++ flat_map (frame_text shape.format) frames

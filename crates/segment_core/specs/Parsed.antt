@@ -2,7 +2,7 @@
 -- known gate.
 use Rattle.std.specs.Prelude.{ℕ, zero, suc, ◌+◌, List, [], ◌∷◌, take, drop, Option, Some, None}
 use Rattle.segment_core.specs.declared.format.Shape.{Shape}
-use Rattle.segment_core.specs.Frame.{Frame}
+use Rattle.segment_core.specs.Frame.{Frame, header_len, frame_head_len}
 use Rattle.segment_core.specs.Tally.{tally_of}
 use Rattle.segment_core.specs.Layout.{frame_in}
 use Rattle.segment_core.specs.Vector.{place_of}
@@ -12,11 +12,11 @@ use Rattle.segment_core.specs.Fault.{kind_in, payload_len_in, payload_in}
 abbrev pub frames_from : Shape → ℕ → List ℕ → List Frame
 frames_from shape zero bytes = []
 frames_from shape (suc n) [] = []
-frames_from shape (suc n) (b ∷ bytes) = frame_in shape (kind_in (b ∷ bytes)) (payload_in (b ∷ bytes)) ∷ frames_from shape n (drop (6 + payload_len_in (b ∷ bytes)) (b ∷ bytes))
+frames_from shape (suc n) (b ∷ bytes) = frame_in shape (kind_in (b ∷ bytes)) (payload_in (b ∷ bytes)) ∷ frames_from shape n (drop (frame_head_len + payload_len_in (b ∷ bytes)) (b ∷ bytes))
 
 -- the frames between the header and the gate
 unfoldable pub frames_before : Shape → ℕ → List ℕ → List Frame
-frames_before shape gate bytes = frames_from shape gate (drop 11 (take gate bytes))
+frames_before shape gate bytes = frames_from shape gate (drop header_len (take gate bytes))
 
 abbrev pub cell_at : ℕ → List ℕ → Option ℕ → List ℕ
 cell_at width bytes None = []

@@ -7,7 +7,7 @@ use Rattle.segment_core.specs.declared.frame.Unread.TheVariants.{Short, Fault}
 use Rattle.segment_core.specs.declared.format.Format.{Format}
 use Rattle.segment_core.specs.declared.format.Shape.{Shape}
 use Rattle.segment_core.specs.Shape.{limit_of}
-use Rattle.segment_core.specs.Frame.{Run, Frame, Group, Change, Shrink, Fold, runs_len, records_of_runs, payload_of, frame_text}
+use Rattle.segment_core.specs.Frame.{Run, Frame, Group, Change, Shrink, Fold, runs_len, records_of_runs, payload_of, frame_text, frame_head_len}
 use Rattle.segment_core.specs.Layout.{IsFrame}
 use Rattle.segment_core.specs.Fault.{first_line, frame_lines, is_closed, damaged}
 
@@ -54,7 +54,7 @@ head_len format (Fold count) = 8
 
 -- what the fields of a reader are: its head counts the growths, or the runs
 pub record IsRead (at : ℕ) (shape : Shape) (heads records : ℕ) (payload : List ℕ) (frame : Frame) : Type 0 where
-  pub placed : at + 6 + length payload < 2 ^ 64
+  pub placed : at + frame_head_len + length payload < 2 ^ 64
   pub small : length payload ≤ limit_of shape.format
   pub whole : IsFrame shape frame
   pub spelled : payload_of shape.format frame ≡ payload

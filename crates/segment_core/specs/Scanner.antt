@@ -1,24 +1,40 @@
 -- How far an image has been read.
-use Rattle.std.specs.Prelude.{◌≡◌, ◌<◌, ◌+◌, ℕ, nat_lt, if◌then◌else◌, List, [], ◌++◌, length, take, vec_capacity, ◌⊎◌}
+use Rattle.std.specs.Prelude.{◌≡◌, ◌≤◌, ◌<◌, ◌+◌, ◌-◌, ◌*◌, ◌/◌, ◌↔◌, ℕ, nat_lt, if◌then◌else◌, List, [], ◌++◌, length, take, vec_capacity, ◌⊎◌}
 use Rattle.record_core.specs.Bytes.{Encoding}
+use Rattle.segment_core.specs.declared.fault.Cause.TheVariants.{NoGate, ShortFrame}
 use Rattle.segment_core.specs.declared.fault.ScanFault.{ScanFault}
 use Rattle.segment_core.specs.declared.fault.ScanFault.TheVariants.{Memory}
 use Rattle.segment_core.specs.declared.scanner.Scanner.{Scanner}
 use Rattle.segment_core.specs.declared.scanner.Stage.{Stage}
 use Rattle.segment_core.specs.declared.scanner.Stage.TheVariants.{Header, Open, Closed, Refused}
-use Rattle.segment_core.specs.Frame.{Frame}
+use Rattle.segment_core.specs.declared.vector.Scanned.{Scanned}
+use Rattle.segment_core.specs.declared.format.Shape.{Shape}
+use Rattle.segment_core.specs.Shape.{limit_of}
+use Rattle.segment_core.specs.Frame.{Frame, header_len, frame_head_len}
 use Rattle.segment_core.specs.Image.{HasFrames}
-use Rattle.segment_core.specs.Fault.{payload_len_in, IsSound, IsRefused}
+use Rattle.segment_core.specs.Fault.{payload_len_in, damaged, IsSound, IsFirstFault, IsRefused}
+use Rattle.segment_core.specs.Scanned.{IsScanOf}
 use Rattle.segment_core.specs.Reading.{IsShort}
 use Rattle.segment_core.specs.Walk.{IsBehind, StandsBefore}
 
 -- how long a frame is, as far as its front tells: its head at least
 abbrev pub len_told : List ℕ → ℕ
-len_told front = if nat_lt (length front) 6 then 6 else 6 + payload_len_in front
+len_told front = if nat_lt (length front) frame_head_len then frame_head_len else frame_head_len + payload_len_in front
+
+-- the bytes of a group's payload before its records, where it has one growth
+abbrev pub growth_head_len : ℕ
+growth_head_len = 8
+
+-- a file of no more than these bytes can have so many records: those of groups of one growth each, between the
+-- header and the last gate
+pub record CanHold (shape : Shape) (bytes records : ℕ) : Type 0 where
+  pub groups : ℕ
+  pub in_groups : records ≤ groups * ((limit_of shape.format - growth_head_len) / shape.width)
+  pub in_bytes : header_len + 1 + groups * (frame_head_len + growth_head_len) + records * shape.width ≤ bytes
 
 -- the image is the front of a header, and the vector has no memory yet
 pub record IsFront {R : Type 0} (form : Encoding R) (image : List ℕ) (scanner : Scanner R) : Type 0 where
-  pub short : length image < 11
+  pub short : length image < header_len
   pub filled : scanner.filled ≡ length image
   pub kept : take scanner.filled scanner.header ≡ image
   pub behind : IsBehind form [] scanner.walk
@@ -59,3 +75,12 @@ IsOn form image scanner = ((scanner.stage ≡ Open) × GoesOn form image scanner
 -- memory was refused
 abbrev pub IsLost : {R : Type 0} → Scanner R → Type 0
 IsLost scanner = scanner.stage ≡ Refused Memory
+
+-- bytes behind the image change neither its vector nor its first fault
+pub record IsDecided {R : Type 0} (form : Encoding R) (image : List ℕ) : Type 0 where
+  pub scans : (more : List ℕ) (scanned : Scanned R) → IsScanOf form (image ++ more) scanned ↔ IsScanOf form image scanned
+  pub faults : (more : List ℕ) (fault : ScanFault) → IsFirstFault form (image ++ more) fault ↔ IsFirstFault form image fault
+
+-- the image ends inside its header, where a gate has to stand, or inside a frame
+abbrev pub IsCutShort : {R : Type 0} → Encoding R → List ℕ → Type 0
+IsCutShort form image = (length image < header_len) ⊎ ((p : ℕ) × (IsFirstFault form image (damaged p NoGate) ⊎ IsFirstFault form image (damaged p ShortFrame)))

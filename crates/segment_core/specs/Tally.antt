@@ -1,10 +1,11 @@
 -- What the frames so far leave, and which frame may come then.
-use Rattle.std.specs.Prelude.{◌≡◌, ℕ, ◌+◌, ◌^◌, Bool, true, false, List, [], ◌∷◌, sum, nat_le, nat_lt, not, ◌||◌, ◌&&◌}
+use Rattle.std.specs.Prelude.{◌≡◌, ℕ, ◌+◌, Bool, true, false, List, [], ◌∷◌, sum, nat_le, nat_lt, not, ◌||◌, ◌&&◌}
 use Rattle.std.specs.List.{list_all}
 use Rattle.segment_core.specs.declared.format.Shape.{Shape}
 use Rattle.segment_core.specs.declared.tally.Tally.{Tally}
 use Rattle.segment_core.specs.Frame.{Run, Frame, Group, Change, Shrink, Fold}
 use Rattle.segment_core.specs.Layout.{IsFrame}
+use Rattle.record_core.specs.Limits.{record_limit}
 
 abbrev pub nothing : Tally
 nothing = record { size = 0; changes = 0; folded = 0 }
@@ -59,9 +60,9 @@ is_miscounted tally (Change runs bytes) = false
 is_miscounted tally (Shrink n) = false
 is_miscounted tally (Fold count) = nat_lt count tally.folded || nat_lt tally.changes count
 
--- a Group that brings the records past 2^32
+-- a Group that brings the records past the limit
 abbrev pub is_too_long : Tally → Frame → Bool
-is_too_long tally (Group lengths bytes) = nat_lt (2 ^ 32) (tally.size + sum lengths)
+is_too_long tally (Group lengths bytes) = nat_lt record_limit (tally.size + sum lengths)
 is_too_long tally (Change runs bytes) = false
 is_too_long tally (Shrink n) = false
 is_too_long tally (Fold count) = false

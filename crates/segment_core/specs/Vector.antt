@@ -6,7 +6,7 @@ use Rattle.record_core.specs.Bytes.{Encoding}
 use Rattle.segment_core.specs.declared.format.Format.{Format}
 use Rattle.segment_core.specs.declared.format.Shape.{Shape}
 use Rattle.segment_core.specs.Shape.{shape_of}
-use Rattle.segment_core.specs.Frame.{Run, Frame, Group, Change, Shrink, Fold, runs_len, header, frame_text}
+use Rattle.segment_core.specs.Frame.{Run, Frame, Group, Change, Shrink, Fold, runs_len, header, frame_text, frame_head_len}
 use Rattle.segment_core.specs.declared.tally.Tally.{Tally}
 use Rattle.segment_core.specs.Tally.{nothing, after, tally_of}
 use Rattle.segment_core.specs.Image.{HasFrames}
@@ -35,7 +35,7 @@ place_in_runs width i p (run ∷ runs) = option_or (place_in_runs width i (p + r
 -- where the frame, a change that isn't folded, says what stands at position i; folded is the count of the file's
 -- last Fold
 abbrev pub change_in : Shape → ℕ → ℕ → ℕ → Tally → Frame → Option ℕ
-change_in shape folded i p tally (Change runs bytes) = if nat_le folded tally.changes then place_in_runs shape.width i (p + 6 + runs_len shape.format (length runs)) runs else None
+change_in shape folded i p tally (Change runs bytes) = if nat_le folded tally.changes then place_in_runs shape.width i (p + frame_head_len + runs_len shape.format (length runs)) runs else None
 change_in shape folded i p tally (Group lengths bytes) = None
 change_in shape folded i p tally (Shrink n) = None
 change_in shape folded i p tally (Fold count) = None

@@ -10,7 +10,7 @@ use Rattle.segment_core.specs.declared.fault.ImageFault.TheVariants.{TooLarge, M
 use Rattle.record_core.specs.Limits.{payload_limit}
 use Rattle.segment_core.specs.declared.format.Format.TheVariants.{One}
 use Rattle.segment_core.specs.Shape.{shape_of}
-use Rattle.segment_core.specs.Frame.{Frame, Group, text}
+use Rattle.segment_core.specs.Frame.{Frame, Group, text, closed_gate}
 
 -- groups of growths as lists
 abbrev pub growths_of : {R : Type 0} → List (Vec R) → List (List R)
@@ -29,7 +29,7 @@ group_frame form growths = Group (map length growths) (flat_map form.bytes_of (j
 
 -- the file: the Groups, and a closed gate
 abbrev pub file_of : {R : Type 0} → Encoding R → List (List (List R)) → List ℕ
-file_of form groups = text (shape_of One form) (map (group_frame form) groups) ++ 0 ∷ []
+file_of form groups = text (shape_of One form) (map (group_frame form) groups) ++ closed_gate ∷ []
 
 -- the bytes of a group's payload
 abbrev pub payload_len : {R : Type 0} → ℕ → List (List R) → ℕ

@@ -5,12 +5,12 @@ ghost use Rattle.std.specs.Int.{w32, to_le_bytes};
 ghost use Rattle.record_core.specs.Cells.{AreReadAgain};
 ghost use Rattle.segment_core.specs.Kind.{kind_byte};
 ghost use Rattle.segment_core.specs.Shape.{shape_of};
-ghost use Rattle.segment_core.specs.Frame.{Shrink, number_text, number_len, run_text, runs_text, records_of_runs, frame_text};
+ghost use Rattle.segment_core.specs.Frame.{Shrink, frame_head_len, open_gate, number_text, number_len, run_text, runs_text, records_of_runs, frame_text};
 ghost use Rattle.segment_core.specs.Frame as frames;
 ghost use Rattle.segment_core.specs.Written.{joined};
 ghost use Rattle.segment_core.specs.Runs.{runs_given, change_len, change_frame};
 
-use crate::format::{Format, FrameKind, OPEN};
+use crate::format::{Format, FrameKind, OPEN_GATE, SHRINK_PAYLOAD_LEN};
 use crate::group::append_growths;
 use crate::growth_list::GrowthList;
 use record_core::Record;
@@ -19,30 +19,14 @@ use std::alloc::AllocError;
 #[cfg(test)]
 mod tests;
 
-/// The bytes of a shrink's payload.
-pub const SHRINK_PAYLOAD_LEN: usize = 8;
-
-impl Format {
-    /// The bytes of a change's payload before its records, where it has so many runs.
-    pub fn runs_len(self, runs: usize) -> usize
-        requires { runs < 2 ^ 32 }
-        ensures { result ≡ frames.runs_len self runs }
-    {
-        match self {
-            Format::One => runs * 8,
-            Format::Two => 4 + runs * 12,
-        }
-    }
-}
-
 /// Appends the head of a frame: an open gate, the kind and the payload's length.
 fn append_head(kind: FrameKind, payload_len: usize, file: &mut Vec<u8>) -> Result<(), AllocError>
     requires { payload_len < 2 ^ 32 }
-    ensures text { OnOk result (file.new.items ≡ file.old.items ++ 1 ∷ kind_byte kind ∷ to_le_bytes w32 payload_len) }
+    ensures text { OnOk result (file.new.items ≡ file.old.items ++ open_gate ∷ kind_byte kind ∷ to_le_bytes w32 payload_len) }
     ensures capacity { vec_capacity file.old ≤ vec_capacity file.new }
-    ensures room { vec_len file.old + 6 ≤ vec_capacity file.old → IsOk result }
+    ensures room { vec_len file.old + frame_head_len ≤ vec_capacity file.old → IsOk result }
 {
-    file.push(OPEN)?;
+    file.push(OPEN_GATE)?;
     file.push(kind as u8)?;
     file.extend_from_slice(&(payload_len as u32).to_le_bytes())
 }
@@ -101,7 +85,7 @@ pub fn append_change<R: Record, G: GrowthList<R>>(
     ensures text { OnOk result (file.new.items ≡ file.old.items ++ frame_text format (change_frame R.form (runs_given runs.now) (G.growths pieces.now))) }
     ensures read_again { OnOk result (AreReadAgain R.form (joined (G.growths pieces.now))) }
     ensures capacity { vec_capacity file.old ≤ vec_capacity file.new }
-    ensures room { vec_len file.old + (6 + payload_len) ≤ vec_capacity file.old → IsOk result }
+    ensures room { vec_len file.old + (frame_head_len + payload_len) ≤ vec_capacity file.old → IsOk result }
 {
     append_head(FrameKind::Change, payload_len, file)?;
     append_runs(format, runs, file)?;
@@ -113,7 +97,7 @@ pub fn append_change<R: Record, G: GrowthList<R>>(
 pub fn append_shrink(n: u64, file: &mut Vec<u8>) -> Result<(), AllocError>
     ensures text { OnOk result ((format : Format) → file.new.items ≡ file.old.items ++ frame_text format (Shrink n)) }
     ensures capacity { vec_capacity file.old ≤ vec_capacity file.new }
-    ensures room { vec_len file.old + 14 ≤ vec_capacity file.old → IsOk result }
+    ensures room { vec_len file.old + (frame_head_len + 8) ≤ vec_capacity file.old → IsOk result }
 {
     append_head(FrameKind::Shrink, SHRINK_PAYLOAD_LEN, file)?;
     file.extend_from_slice(&n.to_le_bytes())

@@ -1,6 +1,7 @@
 //! The numbers of the format.
 
-ghost use Rattle.std.specs.Prelude.{◌≡◌, ◌≤◌, ◌^◌, IfSome, IfNone, false};
+ghost use Rattle.std.specs.Prelude.{◌≡◌, ◌≤◌, ◌<◌, ◌^◌, IfSome, IfNone, false};
+ghost use Rattle.segment_core.specs.Frame as frames;
 
 use record_core::PAYLOAD_LIMIT;
 
@@ -56,16 +57,32 @@ impl Format {
             Format::Two => 16 * PAYLOAD_LIMIT,
         }
     }
+
+    /// The bytes of a number that version 1 leaves out.
+    pub(crate) fn number_len(self) -> usize
+        ensures { result ≡ frames.number_len self }
+    {
+        match self {
+            Format::One => 0,
+            Format::Two => COUNT_LEN,
+        }
+    }
+
+    /// The bytes of a change's payload before its records, where it has so many runs.
+    pub fn runs_len(self, runs: usize) -> usize
+        requires { runs < 2 ^ 32 }
+        ensures { result ≡ frames.runs_len self runs }
+    {
+        let number = self.number_len();
+        number + runs * (START_LEN + number)
+    }
 }
 
-/// The records of a vector at most.
-pub const RECORD_LIMIT: u64 = 4_294_967_296;
-
 /// A gate that is open. Every other byte is a closed one.
-pub(crate) const OPEN: u8 = 1;
+pub const OPEN_GATE: u8 = 0x01;
 
 /// The gate as it is written closed.
-pub(crate) const CLOSED: u8 = 0;
+pub const CLOSED_GATE: u8 = 0x00;
 
 /// What stands behind the first gate.
 pub(crate) const MAGIC: &[u8; 7] = b"CVECSEG";
@@ -75,6 +92,19 @@ pub(crate) const HEADER_LEN: usize = 11;
 
 /// The bytes of a frame before its payload: the gate, the kind and the payload's length.
 pub(crate) const FRAME_HEAD_LEN: usize = 6;
+
+/// The bytes of the first position of a run.
+pub(crate) const START_LEN: usize = 8;
+
+/// The bytes of a number of growths, of runs, or of records.
+pub(crate) const COUNT_LEN: usize = 4;
+
+/// The bytes of a shrink's payload.
+pub const SHRINK_PAYLOAD_LEN: usize = 8;
+
+/// The bytes of a group's payload before its records, where it has one growth: the number of growths, and the
+/// growth's length.
+pub(crate) const GROWTH_HEAD_LEN: usize = 2 * COUNT_LEN;
 
 /// What a frame is.
 #[derive(Clone, Copy, Debug, PartialEq, Eq)]

@@ -3,13 +3,14 @@
 
 ghost use Rattle.std.specs.Prelude.{◌≡◌, ◌≢◌, ◌≤◌, ◌<◌, ◌+◌, ◌*◌, ◌-◌, ◌^◌, ◌++◌, ◌∷◌, ◌⊎◌, [], ℕ, List, Some, None, length, drop, OnOk, IfOk, MatchResult, vec_len, vec_capacity};
 ghost use Rattle.std.specs.List.{flat_map, AllByRecursion};
+ghost use Rattle.record_core.specs.Limits.{record_limit};
 ghost use Rattle.segment_core.specs.declared.format.Format.{Format};
 ghost use Rattle.segment_core.specs.Shape.{shape_of};
 ghost use Rattle.segment_core.specs.Frame.{Frame};
 ghost use Rattle.segment_core.specs.Vector.{place_among, place_in_runs, IsVectorOf};
 ghost use Rattle.segment_core.specs.Reading.{runs_of, record_bytes_of, record_count};
 ghost use Rattle.segment_core.specs.Notes.{noted};
-ghost use Rattle.segment_core.specs.Found.{StandsAt, first_record_of, IsDecoded, IsLaid, home_among, AreInTurn, AreHomesOf, IsInside, IsFound, Follows, AreLaid, IsGrown, IsSame, IsCut, BeginsWithText, IsNoVector, IsLeastNoted, pairs_of};
+ghost use Rattle.segment_core.specs.Found.{StandsAt, first_record_of, IsDecoded, IsLaid, home_among, AreInTurn, AreHomesOf, IsInside, IsFound, StandsNext, AreLaid, IsGrown, IsSame, IsCut, BeginsWithText, IsNoVector, IsLeastNoted, pairs_of};
 
 use crate::fault::{Cause, ScanFault};
 use crate::format::FrameKind;
@@ -122,7 +123,7 @@ fn grow<R: Record>(
 ) -> Result<(), AllocError>
     requires filled { length area.now ≡ count * R.form.width }
     requires placed { place + length area.now < 2 ^ 64 }
-    requires few { length records.old.items + count ≤ 2 ^ 32 }
+    requires few { length records.old.items + count ≤ record_limit }
     ensures longer { OnOk result (length records.new.items ≡ length records.old.items + count) }
     ensures laid { OnOk result ((image : List ℕ) → StandsAt image place area.now
         → IsLaid R.form image (place_among R.form.width place (length records.old.items) count) records.old.items notes.old records.new.items notes.new) }
@@ -305,8 +306,8 @@ impl<R: Record> Found<R> {
 
     /// Takes in the next frame. Only memory is refused, and nothing is promised of what stands then.
     pub(crate) fn take(&mut self, frame: &FrameReader<'_>) -> Result<(), AllocError>
-        requires { (frames : List Frame) × Follows R.form frames self.old frame.now }
-        ensures { OnOk result ((frames : List Frame) → Follows R.form frames self.old frame.now → IsFound R.form frame.now.shape.format (frames ++ frame.now.frame ∷ []) self.new) }
+        requires { (frames : List Frame) × StandsNext R.form frames self.old frame.now }
+        ensures { OnOk result ((frames : List Frame) → StandsNext R.form frames self.old frame.now → IsFound R.form frame.now.shape.format (frames ++ frame.now.frame ∷ []) self.new) }
     {
         match frame.kind() {
             FrameKind::Group => self.take_group(frame),
@@ -329,7 +330,7 @@ impl<R: Record> Found<R> {
     /// Takes in a group: its records, and where they stand.
     fn take_group(&mut self, frame: &FrameReader<'_>) -> Result<(), AllocError>
         requires wide { frame.now.shape.width ≡ R.form.width }
-        requires few { length self.old.records.items + record_count frame.now.frame ≤ 2 ^ 32 }
+        requires few { length self.old.records.items + record_count frame.now.frame ≤ record_limit }
         ensures { OnOk result (IsGrown R.form frame.now self.old self.new) }
     {
         let place = frame.first_record() as u64;

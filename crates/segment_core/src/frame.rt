@@ -3,15 +3,18 @@
 ghost use Rattle.std.specs.Prelude.{◌≡◌, ◌≤◌, ◌<◌, ◌+◌, ◌*◌, ◌-◌, ◌/◌, ◌^◌, ◌++◌, ℕ, List, Some, true, false, length, take, drop, sum, slice_index, slice_get, nat_lt, MatchOption, IfOk};
 ghost use Rattle.std.specs.List.{list_all};
 ghost use Rattle.segment_core.specs.Shape.{version_of, limit_of};
-ghost use Rattle.segment_core.specs.Frame.{Run, Frame, Shrink, Fold, number_len, runs_len, records_of_runs, kind_of, payload_of, frame_text};
+ghost use Rattle.segment_core.specs.Frame.{Frame, Shrink, Fold, frame_head_len, kind_of, payload_of, frame_text};
 ghost use Rattle.segment_core.specs.Kind.{kind_byte};
 ghost use Rattle.segment_core.specs.Layout.{u32_at, u64_at, numbers_in, count_in, lengths_in, number_at, run_count_in, runs_in, frame_in, is_group_layout, is_change_layout, is_layout};
 ghost use Rattle.segment_core.specs.Reading.{IsNext, BeginsWith, lengths_of, runs_of, record_bytes_of, record_count, head_len};
 
 use crate::fault::{Cause, ScanFault};
-use crate::format::{FRAME_HEAD_LEN, Format, FrameKind, OPEN, Shape};
+use crate::format::{FRAME_HEAD_LEN, Format, FrameKind, OPEN_GATE, Shape};
+use payload::{counts, run_at, u32_at, u64_at};
 use std::alloc::{AllocError, Global};
 use std::marker::Model;
+
+pub(crate) mod payload;
 
 /// A whole open frame of an image.
 #[derive(Drop)]
@@ -224,21 +227,21 @@ impl<'a> FrameReader<'a> {
     {
         match self.kind {
             FrameKind::Group => 4 + self.heads * 4,
-            FrameKind::Change => runs_len(self.shape.format, self.heads),
+            FrameKind::Change => self.shape.format.runs_len(self.heads),
             FrameKind::Shrink | FrameKind::Fold => 8,
         }
     }
 
     /// Where its payload stands in the image.
     pub(crate) fn payload_at(&self) -> usize
-        ensures { result ≡ self.now.at + 6 }
+        ensures { result ≡ self.now.at + frame_head_len }
     {
         self.at + FRAME_HEAD_LEN
     }
 
     /// Where its first record stands in the image.
     pub(crate) fn first_record(&self) -> usize
-        ensures is { result ≡ self.now.at + 6 + head_len self.now.shape.format self.now.frame }
+        ensures is { result ≡ self.now.at + frame_head_len + head_len self.now.shape.format self.now.frame }
         ensures placed { result + length (record_bytes_of self.now.frame) < 2 ^ 64 }
     {
         self.at + FRAME_HEAD_LEN + self.head_len()
@@ -267,198 +270,6 @@ impl<'a> FrameReader<'a> {
     }
 }
 
-/// The number whose four bytes begin at `at`.
-#[tactic(auto, unfolding(crate::specs::Layout::u32_at))]
-pub(crate) fn u32_at(bytes: &[u8], at: usize) -> u32
-    requires { at + 4 ≤ length bytes.now }
-    ensures { result ≡ u32_at bytes.now at }
-{
-    let mut word = [0u8; 4];
-    word.copy_from_slice(&bytes[at..at + 4]);
-    u32::from_le_bytes(word)
-}
-
-/// The number whose eight bytes begin at `at`.
-#[tactic(auto, unfolding(crate::specs::Layout::u64_at))]
-fn u64_at(bytes: &[u8], at: usize) -> u64
-    requires { at + 8 ≤ length bytes.now }
-    ensures { result ≡ u64_at bytes.now at }
-{
-    let mut word = [0u8; 8];
-    word.copy_from_slice(&bytes[at..at + 8]);
-    u64::from_le_bytes(word)
-}
-
-/// The bytes of a number that version 1 leaves out.
-fn number_len(format: Format) -> usize
-    ensures { result ≡ number_len format }
-{
-    match format {
-        Format::One => 0,
-        Format::Two => 4,
-    }
-}
-
-/// The bytes before the records of a change of so many runs.
-fn runs_len(format: Format, runs: usize) -> usize
-    requires { runs < 2 ^ 32 }
-    ensures { result ≡ runs_len format runs }
-{
-    let number = number_len(format);
-    number + runs * (8 + number)
-}
-
-/// Run `k` of a change's payload: its start, and how many positions it has.
-fn run_at(payload: &[u8], shape: Shape, k: usize) -> (u64, usize)
-    requires wide { 0 < shape.width }
-    requires counted { k < run_count_in shape.format payload.now }
-    requires inside { runs_len shape.format (run_count_in shape.format payload.now) ≤ length payload.now }
-    requires small { length payload.now ≤ 2 ^ 24 }
-    ensures run { slice_get (runs_in shape payload.now) k ≡ Some (record { start = result.0; count = result.1 }) }
-    ensures small { result.1 < 2 ^ 32 }
-{
-    let number = number_len(shape.format);
-    let at = number + k * (8 + number);
-    (u64_at(payload, at), count_at(payload, shape, at + 8))
-}
-
-/// The number of positions of a run of a change's payload. In version 1 it doesn't stand there: the one run has
-/// all records.
-fn count_at(payload: &[u8], shape: Shape, at: usize) -> usize
-    requires wide { 0 < shape.width }
-    requires inside { at + number_len shape.format ≤ length payload.now }
-    requires started { 8 ≤ length payload.now }
-    ensures { result ≡ number_at shape.format ((length payload.now - 8) / shape.width) payload.now at }
-{
-    match shape.format {
-        Format::One => (payload.len() - 8) / shape.width,
-        Format::Two => u32_at(payload, at) as usize,
-    }
-}
-
-/// How many runs a change's payload has.
-fn run_count(payload: &[u8], format: Format) -> usize
-    requires { number_len format ≤ length payload.now }
-    ensures is { result ≡ run_count_in format payload.now }
-    ensures small { result < 2 ^ 32 }
-{
-    match format {
-        Format::One => 1,
-        Format::Two => u32_at(payload, 0) as usize,
-    }
-}
-
-/// The sum of the lengths that stand behind the count of growths, if each is above 0.
-fn sum_of_lengths(payload: &[u8], growths: usize) -> Option<usize>
-    requires inside { 4 + growths * 4 ≤ length payload.now }
-    requires small { length payload.now ≤ 2 ^ 24 }
-    ensures { MatchOption result
-        (list_all (nat_lt 0) (numbers_in growths (drop 4 payload.now)) ≡ false)
-        (λ records. (list_all (nat_lt 0) (numbers_in growths (drop 4 payload.now)) ≡ true) × (records ≡ sum (numbers_in growths (drop 4 payload.now)))) }
-{
-    let mut records = 0;
-    for k in 0..growths {
-        let length = u32_at(payload, 4 + k * 4) as usize;
-        if length == 0 {
-            return None;
-        }
-        records += length;
-    }
-    Some(records)
-}
-
-/// How many growths and how many records a group's payload has, if it has the form of one.
-fn group_counts(payload: &[u8], width: usize) -> Option<(usize, usize)>
-    requires { length payload.now ≤ 2 ^ 24 }
-    ensures { MatchOption result
-        (is_group_layout width payload.now ≡ false)
-        (λ counts. (is_group_layout width payload.now ≡ true) × (counts.0 ≡ count_in payload.now) × (counts.1 ≡ sum (lengths_in payload.now))) }
-{
-    if payload.len() < 4 {
-        return None;
-    }
-    let growths = u32_at(payload, 0) as usize;
-    if growths == 0 || payload.len() < 4 + growths * 4 {
-        return None;
-    }
-    let records = sum_of_lengths(payload, growths)?;
-    let filled = records.checked_mul(width)?;
-    if filled == payload.len() - (4 + growths * 4) {
-        Some((growths, records))
-    } else {
-        None
-    }
-}
-
-/// The sum of the counts of the first runs, if each is above 0.
-fn sum_of_runs(payload: &[u8], shape: Shape, runs: usize) -> Option<usize>
-    requires wide { 0 < shape.width }
-    requires counted { runs ≡ run_count_in shape.format payload.now }
-    requires inside { runs_len shape.format runs ≤ length payload.now }
-    requires small { length payload.now ≤ 2 ^ 24 }
-    ensures { MatchOption result
-        (list_all (λ run. nat_lt 0 run.count) (runs_in shape payload.now) ≡ false)
-        (λ records. (list_all (λ run. nat_lt 0 run.count) (runs_in shape payload.now) ≡ true) × (records ≡ records_of_runs (runs_in shape payload.now))) }
-{
-    let mut records = 0;
-    for k in 0..runs {
-        let (_, count) = run_at(payload, shape, k);
-        if count == 0 {
-            return None;
-        }
-        records += count;
-    }
-    Some(records)
-}
-
-/// How many runs and how many records a change's payload has, if it has the form of one.
-fn change_counts(payload: &[u8], shape: Shape) -> Option<(usize, usize)>
-    requires wide { 0 < shape.width }
-    requires small { length payload.now ≤ 2 ^ 24 }
-    ensures { MatchOption result
-        (is_change_layout shape payload.now ≡ false)
-        (λ counts. (is_change_layout shape payload.now ≡ true) × (counts.0 ≡ run_count_in shape.format payload.now) × (counts.1 ≡ records_of_runs (runs_in shape payload.now))) }
-{
-    if payload.len() < number_len(shape.format) {
-        return None;
-    }
-    let runs = run_count(payload, shape.format);
-    if runs == 0 || payload.len() < runs_len(shape.format, runs) {
-        return None;
-    }
-    let records = sum_of_runs(payload, shape, runs)?;
-    let filled = records.checked_mul(shape.width)?;
-    if filled == payload.len() - runs_len(shape.format, runs) {
-        Some((runs, records))
-    } else {
-        None
-    }
-}
-
-/// How many growths or runs, and how many records, a payload of this kind has, if it has the form of one.
-#[tactic(auto, using(crate::proofs::Reader::heads_of_change))]
-fn counts(payload: &[u8], kind: FrameKind, shape: Shape) -> Option<(usize, usize)>
-    requires wide { 0 < shape.width }
-    requires small { length payload.now ≤ 2 ^ 24 }
-    ensures { MatchOption result
-        (is_layout shape (kind_byte kind) payload.now ≡ false)
-        (λ counts. (is_layout shape (kind_byte kind) payload.now ≡ true)
-        × (counts.0 ≡ length (lengths_of (frame_in shape (kind_byte kind) payload.now)) + length (runs_of (frame_in shape (kind_byte kind) payload.now)))
-        × (counts.1 ≡ record_count (frame_in shape (kind_byte kind) payload.now))) }
-{
-    match kind {
-        FrameKind::Group => group_counts(payload, shape.width),
-        FrameKind::Change => change_counts(payload, shape),
-        FrameKind::Shrink | FrameKind::Fold => {
-            if payload.len() == 8 {
-                Some((0, 0))
-            } else {
-                None
-            }
-        }
-    }
-}
-
 /// Reads the frame whose gate is the first of these bytes, which stand at `at` of an image. `None`: the gate
 /// is closed.
 pub(crate) fn read_frame(
@@ -473,7 +284,7 @@ pub(crate) fn read_frame(
     if bytes.is_empty() {
         return Err(Unread::Short);
     }
-    if bytes[0] != OPEN {
+    if bytes[0] != OPEN_GATE {
         return Ok(None);
     }
     if bytes.len() < FRAME_HEAD_LEN {

@@ -5,11 +5,11 @@ ghost use Rattle.std.specs.List.{flat_map};
 ghost use Rattle.std.specs.Int.{w32, to_le_bytes};
 ghost use Rattle.record_core.specs.Cells.{AreReadAgain};
 ghost use Rattle.segment_core.specs.declared.format.Format.{Format};
-ghost use Rattle.segment_core.specs.Frame.{frame_text};
+ghost use Rattle.segment_core.specs.Frame.{open_gate, frame_text};
 ghost use Rattle.segment_core.specs.Written.{group_frame, joined, payload_len, IsGroupRefused};
 
 use crate::fault::GroupFault;
-use crate::format::{FrameKind, OPEN};
+use crate::format::{COUNT_LEN, FrameKind, OPEN_GATE};
 use crate::growth_list::GrowthList;
 use record_core::{Record, append_records, width_of};
 use std::alloc::AllocError;
@@ -26,14 +26,14 @@ pub(crate) fn payload_size<R: Record, G: GrowthList<R>>(group: &G, limit: usize)
         (λ len. (len ≡ payload_len R.form.width (G.growths group.now)) × (len ≤ limit)) }
 {
     let width = width_of::<R>();
-    let mut len = 4;
+    let mut len = COUNT_LEN;
     for k in 0..group.count() {
         let records = group.growth(k).len();
         // Past the limit already, and the product below might not fit.
         if records > limit {
             return None;
         }
-        len += 4 + records * width;
+        len += COUNT_LEN + records * width;
         if len > limit {
             return None;
         }
@@ -45,9 +45,9 @@ pub(crate) fn payload_size<R: Record, G: GrowthList<R>>(group: &G, limit: usize)
 fn append_head(payload_len: usize, growths: usize, file: &mut Vec<u8>) -> Result<(), AllocError>
     requires payload { payload_len < 2 ^ 32 }
     requires growths { growths < 2 ^ 32 }
-    ensures { OnOk result (file.new.items ≡ file.old.items ++ ((1 ∷ 1 ∷ to_le_bytes w32 payload_len) ++ to_le_bytes w32 growths)) }
+    ensures { OnOk result (file.new.items ≡ file.old.items ++ ((open_gate ∷ 1 ∷ to_le_bytes w32 payload_len) ++ to_le_bytes w32 growths)) }
 {
-    file.push(OPEN)?;
+    file.push(OPEN_GATE)?;
     file.push(FrameKind::Group as u8)?;
     file.extend_from_slice(&(payload_len as u32).to_le_bytes())?;
     file.extend_from_slice(&(growths as u32).to_le_bytes())

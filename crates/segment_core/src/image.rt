@@ -1,15 +1,16 @@
 //! The whole file of growths.
 
-ghost use Rattle.std.specs.Prelude.{◌≡◌, ◌≤◌, ◌^◌, ◌++◌, ◌∷◌, [], length, map, IfOk, OnOk, MatchResult};
+ghost use Rattle.std.specs.Prelude.{◌≡◌, ◌≤◌, ◌++◌, ◌∷◌, [], length, map, IfOk, OnOk, MatchResult};
 ghost use Rattle.record_core.specs.Cells.{AreReadAgain};
+ghost use Rattle.record_core.specs.Limits.{record_limit};
 ghost use Rattle.segment_core.specs.declared.format.Format.TheVariants.{One};
 ghost use Rattle.segment_core.specs.Shape.{shape_of};
-ghost use Rattle.segment_core.specs.Frame.{header};
+ghost use Rattle.segment_core.specs.Frame.{closed_gate, header};
 ghost use Rattle.segment_core.specs.Vector.{HasVector};
 ghost use Rattle.segment_core.specs.Written.{AreFilled, AllFit, groups_of, group_frame, file_of, all_records, IsImageRefused};
 
 use crate::fault::ImageFault;
-use crate::format::{CLOSED, FRAME_HEAD_LEN, Format, HEADER_LEN, MAGIC, OPEN};
+use crate::format::{CLOSED_GATE, FRAME_HEAD_LEN, Format, HEADER_LEN, MAGIC, OPEN_GATE};
 use crate::group::{append_group, payload_size};
 use record_core::{PAYLOAD_LIMIT, Record, width_of};
 use std::alloc::{AllocError, Global};
@@ -24,7 +25,7 @@ pub fn write_image<R: Record>(alloc: Global, groups: &[Vec<Vec<R>>]) -> Result<V
         (λ _. AllFit R.form.width (groups_of groups.now))
         (IsImageRefused R.form.width (groups_of groups.now)) }
     // The file is read as the records in their order, where they aren't too many for a vector.
-    ensures read_again { IfOk result (λ file. length (all_records (groups_of groups.now)) ≤ 2 ^ 32 →
+    ensures read_again { IfOk result (λ file. length (all_records (groups_of groups.now)) ≤ record_limit →
         HasVector One R.form file.items (map (group_frame R.form) (groups_of groups.now)) (all_records (groups_of groups.now))) }
 {
     let size = image_len(groups)?;
@@ -57,7 +58,7 @@ fn image_len<R: Record>(groups: &[Vec<Vec<R>>]) -> Result<usize, ImageFault>
 pub fn append_header<R: Record>(format: Format, file: &mut Vec<u8>) -> Result<(), AllocError>
     ensures { OnOk result (file.new.items ≡ file.old.items ++ header (shape_of format R.form)) }
 {
-    file.push(OPEN)?;
+    file.push(OPEN_GATE)?;
     file.extend_from_slice(MAGIC)?;
     file.push(format.version())?;
     file.extend_from_slice(&(width_of::<R>() as u16).to_le_bytes())
@@ -65,9 +66,9 @@ pub fn append_header<R: Record>(format: Format, file: &mut Vec<u8>) -> Result<()
 
 /// Appends the closed gate behind the last frame.
 pub fn append_last_gate(file: &mut Vec<u8>) -> Result<(), AllocError>
-    ensures { OnOk result (file.new.items ≡ file.old.items ++ 0 ∷ []) }
+    ensures { OnOk result (file.new.items ≡ file.old.items ++ closed_gate ∷ []) }
 {
-    file.push(CLOSED)?;
+    file.push(CLOSED_GATE)?;
     Ok(())
 }
 

@@ -21,15 +21,16 @@ mod tally;
 mod vector;
 mod walk;
 
-pub use change::{SHRINK_PAYLOAD_LEN, append_change, append_shrink};
+pub use change::{append_change, append_shrink};
 pub use fault::{Cause, GroupFault, ImageFault, ScanFault};
-pub use format::{Format, FrameKind, RECORD_LIMIT, Shape};
+pub use format::{CLOSED_GATE, Format, FrameKind, OPEN_GATE, SHRINK_PAYLOAD_LEN, Shape};
 pub use found::{Home, Homes};
 pub use frame::FrameReader;
 pub use group::append_group;
 pub use growth_list::GrowthList;
 pub use growth_row::Growths;
 pub use image::{append_header, append_last_gate, write_image};
+pub use record_core::RECORD_LIMIT;
 pub use scanner::Scanner;
 pub use tally::Tally;
 pub use vector::{Scanned, scan};

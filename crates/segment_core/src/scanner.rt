@@ -1,20 +1,22 @@
 //! Reading an image piece by piece.
 
-ghost use Rattle.std.specs.Prelude.{◌≡◌, ◌≤◌, ◌<◌, ◌+◌, ◌^◌, ◌++◌, ◌⊎◌, [], ℕ, List, Some, None, Err, length, take, drop, OnOk, OnErr, IfOk, IfErr, MatchResult, min, vec_capacity, ◌-◌, ◌/◌};
-ghost use Rattle.segment_core.specs.Shape.{shape_of, format_in};
-ghost use Rattle.segment_core.specs.Frame.{header};
+ghost use Rattle.std.specs.Prelude.{◌≡◌, ◌≤◌, ◌<◌, ◌+◌, ◌^◌, ◌++◌, ◌⊎◌, [], ℕ, List, Some, None, Err, length, take, drop, OnOk, OnErr, IfOk, IfErr, MatchResult, min, vec_capacity, ◌-◌, ◌/◌, true, false};
+ghost use Rattle.record_core.specs.Limits.{record_limit};
+ghost use Rattle.segment_core.specs.Shape.{shape_of, format_in, limit_of};
+ghost use Rattle.segment_core.specs.Frame.{header_len, header};
 ghost use Rattle.segment_core.specs.Fault.{header_fault, IsRefused};
 ghost use Rattle.segment_core.specs.Found.{AreHomesOf};
 ghost use Rattle.segment_core.specs.Scanned.{IsScanOf};
-ghost use Rattle.segment_core.specs.Scanner.{len_told, GoesOn, HasEnded, IsOn, IsRefusedFor, IsFedAt, IsFed, IsLost};
+ghost use Rattle.segment_core.specs.Scanner.{len_told, GoesOn, HasEnded, IsOn, IsRefusedFor, IsFedAt, IsFed, IsLost, IsDecided, IsCutShort, CanHold};
 
 use crate::fault::{Cause, ScanFault};
-use crate::format::{FRAME_HEAD_LEN, Format, HEADER_LEN, MAGIC, OPEN, RECORD_LIMIT, Shape};
+use crate::format::{FRAME_HEAD_LEN, Format, GROWTH_HEAD_LEN, HEADER_LEN, MAGIC, OPEN_GATE, Shape};
 use crate::found::Homes;
-use crate::frame::{damaged, u32_at};
+use crate::frame::damaged;
+use crate::frame::payload::u32_at;
 use crate::vector::Scanned;
 use crate::walk::{Tail, Walk};
-use record_core::{Record, width_of};
+use record_core::{RECORD_LIMIT, Record, width_of};
 use std::alloc::Global;
 
 /// How far an image has been read.
@@ -49,10 +51,10 @@ pub struct Scanner<R> {
 /// The format of the file, if the header is that of a file whose records have this width.
 fn check_header(bytes: &[u8], width: usize) -> Result<Format, ScanFault>
     ensures { MatchResult result
-        (λ format. (header_fault width bytes.now ≡ None) × (format_in bytes.now ≡ format) × (bytes.now ≡ header (record { format = format; width = width }) ++ drop 11 bytes.now))
+        (λ format. (header_fault width bytes.now ≡ None) × (format_in bytes.now ≡ format) × (bytes.now ≡ header (record { format = format; width = width }) ++ drop header_len bytes.now))
         (λ fault. header_fault width bytes.now ≡ Some fault) }
 {
-    if bytes.len() <= 1 || bytes[0] != OPEN {
+    if bytes.len() <= 1 || bytes[0] != OPEN_GATE {
         return Err(ScanFault::Unborn);
     }
     if bytes.len() < HEADER_LEN || !bytes[1..].starts_with(MAGIC) {
@@ -92,8 +94,9 @@ impl<R: Record> Scanner<R> {
         Scanner::of_length(alloc, 0)
     }
 
-    /// The same, where the whole image is known to have so many bytes: the memory of the vector is then taken
-    /// once, when the header has proved sound, for as many records as the image has bytes for. What no record
+    /// The same, where the whole image is known to have so many bytes. It takes no memory either: that of the
+    /// vector is taken once, when the header has proved sound, for as many records as groups can have in so many
+    /// bytes, and never more than `RECORD_LIMIT`; an image whose header has a fault takes none. What no record
     /// fills of it is address space alone. A length that is wrong, or too much to have memory for, changes no
     /// answer: the vector then grows as it does without.
     pub fn of_length(alloc: Global, bytes: u64) -> Scanner<R>
@@ -114,12 +117,20 @@ impl<R: Record> Scanner<R> {
         }
     }
 
-    /// How many records an image of the length that was told holds at most.
-    fn room(&self) -> usize
-        ensures { result ≡ min ((self.now.told - 11) / R.form.width) (2 ^ 32) }
+    /// How many records groups can have in an image of the length that was told, in a file of this format: those
+    /// of as many full groups as it has bytes for, and of one more. No group has more than one growth then.
+    fn room(&self, format: Format) -> usize
+        ensures few { result ≤ record_limit }
+        ensures held { 0 < result → CanHold (shape_of format R.form) self.now.told result }
+        ensures most { (records : ℕ) → CanHold (shape_of format R.form) self.now.told records → records ≤ record_limit → records ≤ result }
     {
-        let behind_header = self.told.saturating_sub(HEADER_LEN as u64);
-        (behind_header / width_of::<R>() as u64).min(RECORD_LIMIT) as usize
+        let width = width_of::<R>() as u64;
+        let head = (FRAME_HEAD_LEN + GROWTH_HEAD_LEN) as u64;
+        let in_group = (format.payload_limit() - GROWTH_HEAD_LEN) as u64 / width;
+        let group = head + in_group * width;
+        let bytes = self.told.saturating_sub(HEADER_LEN as u64 + 1);
+        let last = (bytes % group).saturating_sub(head) / width;
+        (bytes / group * in_group + last).min(RECORD_LIMIT) as usize
     }
 
     /// Takes in the next piece of the image. Only want of memory is refused here, and again by every later
@@ -133,6 +144,24 @@ impl<R: Record> Scanner<R> {
         let used = self.begin(piece);
         self.feed_rest(&piece[used..]);
         self.answer()
+    }
+
+    /// Whether what follows means nothing: the answer is known, and `end` answers of the image with any bytes
+    /// behind it what it answers of the image so far. So it is once a closed gate has ended the frames, and
+    /// once the first fault is known, but for those of an image that is cut short: they stand as long as the
+    /// image ends where it does. Where memory was refused the answer isn't known.
+    pub fn is_decided(&self) -> bool
+        // To the scanner the image is as good as fed with whatever follows.
+        ensures fed { result ≡ true → (image more : List ℕ) → IsFed R.form image self.now → IsFed R.form (image ++ more) self.now }
+        ensures same { result ≡ true → (image : List ℕ) → IsFed R.form image self.now → IsDecided R.form image }
+        ensures cut { result ≡ false → (image : List ℕ) → IsFed R.form image self.now → IsLost self.now ⊎ IsCutShort R.form image }
+        ensures lost { IsLost self.now → result ≡ false }
+    {
+        match self.stage {
+            Stage::Header | Stage::Open => false,
+            Stage::Closed => true,
+            Stage::Refused(fault) => !matches!(fault, ScanFault::Memory),
+        }
     }
 
     /// Whether memory was refused.
@@ -177,7 +206,7 @@ impl<R: Record> Scanner<R> {
             match check_header(&self.header[..self.filled], width_of::<R>()) {
                 Ok(format) => {
                     let width = width_of::<R>();
-                    self.walk = Walk::new(self.alloc, Shape { format, width }, self.room());
+                    self.walk = Walk::new(self.alloc, Shape { format, width }, self.room(format));
                     self.stage = Stage::Open;
                 }
                 Err(fault) => self.stage = Stage::Refused(fault),

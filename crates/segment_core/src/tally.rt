@@ -1,13 +1,15 @@
 //! What frames leave, and which frame may come then.
 
 ghost use Rattle.std.specs.Prelude.{◌≡◌, ◌≤◌, ◌<◌, ◌^◌, Some, MatchResult};
+ghost use Rattle.record_core.specs.Limits.{record_limit};
 ghost use Rattle.segment_core.specs.Tally.{after, are_ascending, are_inside, is_outside, is_unfolded, is_miscounted, is_too_long, MayFollow};
 ghost use Rattle.segment_core.specs.Fault.{first_line, order_lines};
 ghost use Rattle.segment_core.specs.Reading.{runs_of};
 
 use crate::fault::{Cause, ScanFault};
-use crate::format::{FrameKind, RECORD_LIMIT};
+use crate::format::FrameKind;
 use crate::frame::{FrameReader, damaged};
+use record_core::RECORD_LIMIT;
 
 /// What the frames so far leave.
 #[derive(Clone, Copy, Debug, PartialEq, Eq)]
@@ -86,7 +88,7 @@ impl Tally {
     /// Whether the frame is a group that brings the vector past `RECORD_LIMIT`.
     #[tactic(auto, using(crate::proofs::Tallied::too_long_group, crate::proofs::Tallied::short_otherwise))]
     fn is_too_long(&self, frame: &FrameReader<'_>) -> bool
-        requires { self.now.size ≤ 2 ^ 32 }
+        requires { self.now.size ≤ record_limit }
         ensures { result ≡ is_too_long self.now frame.now.frame }
     {
         match frame.kind() {
@@ -98,7 +100,7 @@ impl Tally {
     /// Whether the frame may come now. The fault is the first that it has after the frames before it.
     #[tactic(auto, using(crate::proofs::Tallied::disordered_by_runs, crate::proofs::Tallied::finds_runs, crate::proofs::Tallied::finds_range, crate::proofs::Tallied::finds_unfolded, crate::proofs::Tallied::finds_fold_count, crate::proofs::Tallied::finds_too_long))]
     pub(crate) fn check(&self, frame: &FrameReader<'_>) -> Result<(), ScanFault>
-        requires { self.now.size ≤ 2 ^ 32 }
+        requires { self.now.size ≤ record_limit }
         ensures { MatchResult result
             (λ _. MayFollow self.now frame.now.frame)
             (λ fault. first_line (order_lines frame.now.at self.now frame.now.frame) ≡ Some fault) }

@@ -216,10 +216,44 @@ fn worked_files_have_their_vectors(rt: HostRuntime) -> Result<(), Fail> {
 #[test]
 fn the_vector_of_a_known_length_has_its_memory_at_once(rt: HostRuntime) -> Result<(), Fail> {
     let scanned = scan::<u64>(rt.alloc(), &TWO_GROWTHS)?;
-    assert_eq!(rt; scanned.records.capacity(), (54 - 11) / 8);
+    assert_eq!(rt; scanned.records.capacity(), 3);
     let scanner = Scanner::of_length(rt.alloc(), 54);
     let scanned = in_pieces::<u64>(scanner, &TWO_GROWTHS, 7)?;
-    assert_eq!(rt; scanned.records.capacity(), (54 - 11) / 8);
+    assert_eq!(rt; scanned.records.capacity(), 3);
+    Ok(())
+}
+
+/// Whether a scanner of u64 knows the answer behind these bytes.
+fn knows(rt: &impl AllocGlobal, bytes: &[u8]) -> Result<bool, ScanFault> {
+    let mut scanner = Scanner::<u64>::new(rt.alloc());
+    scanner.feed(bytes)?;
+    Ok(scanner.is_decided())
+}
+
+#[test]
+fn a_closed_gate_decides_the_answer(rt: HostRuntime) -> Result<(), Fail> {
+    for len in 0..56usize {
+        assert!(rt; !knows(&rt, &CHANGED[..len])?);
+    }
+    assert!(rt; knows(&rt, &CHANGED)?);
+    Ok(())
+}
+
+#[test]
+fn a_fault_of_the_header_or_a_frame_decides_the_answer(rt: HostRuntime) -> Result<(), Fail> {
+    for (at, byte) in [(0, 0), (3, 0), (8, 3), (9, 4)] {
+        let mut file = FIVE;
+        file[at] = byte;
+        assert!(rt; !knows(&rt, &file[..10])?);
+        assert!(rt; knows(&rt, &file[..11])?);
+    }
+    // Another kind and too long a payload are seen by the frame's head, a wrong form where the frame ends.
+    for (at, byte, len) in [(12, 5, 17), (15, 0x11, 17), (13, 0x0f, 32)] {
+        let mut file = FIVE;
+        file[at] = byte;
+        assert!(rt; !knows(&rt, &file[..len - 1])?);
+        assert!(rt; knows(&rt, &file[..len])?);
+    }
     Ok(())
 }
 

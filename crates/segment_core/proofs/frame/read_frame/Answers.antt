@@ -20,12 +20,12 @@ opened bytes some gate = record { some = omega arith; opened = gate }
 
 pub returns-then-bytes-lt-FRAME_HEAD_LEN : goal.returns-then-bytes-lt-FRAME_HEAD_LEN
 returns-then-bytes-lt-FRAME_HEAD_LEN c =
-    let gate = opened c.args.bytes.now (eqb-false _ _ (sym c.is_empty.ensures ∙ c.if-is_empty.false)) c.if-bytes-ne-OPEN.false in
+    let gate = opened c.args.bytes.now (eqb-false _ _ (sym c.is_empty.ensures ∙ c.if-is_empty.false)) c.if-bytes-ne-OPEN_GATE.false in
     finds_short_head c.args.shape c.args.at c.args.bytes.now gate c.if-bytes-lt-FRAME_HEAD_LEN.true
 
 pub returns-in_default : goal.returns-in_default
 returns-in_default c =
-    let gate = opened c.args.bytes.now (eqb-false _ _ (sym c.is_empty.ensures ∙ c.if-is_empty.false)) c.if-bytes-ne-OPEN.false in
+    let gate = opened c.args.bytes.now (eqb-false _ _ (sym c.is_empty.ensures ∙ c.if-is_empty.false)) c.if-bytes-ne-OPEN_GATE.false in
     rw c.damaged.ensures (finds_kind c.args.shape c.args.at c.args.bytes.now gate c.if-bytes-lt-FRAME_HEAD_LEN.false c.in_default.ensures.unknown)
 
 -- the kind that was found is one
@@ -34,7 +34,7 @@ known kind byte is = ap is_kind (sym is) ∙ is_kind-kind_byte kind
 
 pub returns-then-payload_len-payload_limit : goal.returns-then-payload_len-payload_limit
 returns-then-payload_len-payload_limit c =
-    let gate = opened c.args.bytes.now (eqb-false _ _ (sym c.is_empty.ensures ∙ c.if-is_empty.false)) c.if-bytes-ne-OPEN.false in
+    let gate = opened c.args.bytes.now (eqb-false _ _ (sym c.is_empty.ensures ∙ c.if-is_empty.false)) c.if-bytes-ne-OPEN_GATE.false in
     let limit = c.payload_limit.ensures.is in
     let len = c.u32_at-payload_len.ensures in
     let past = c.if-payload_len-payload_limit.true in
@@ -42,7 +42,7 @@ returns-then-payload_len-payload_limit c =
 
 pub returns-then-bytes-payload_len : goal.returns-then-bytes-payload_len
 returns-then-bytes-payload_len c =
-    let gate = opened c.args.bytes.now (eqb-false _ _ (sym c.is_empty.ensures ∙ c.if-is_empty.false)) c.if-bytes-ne-OPEN.false in
+    let gate = opened c.args.bytes.now (eqb-false _ _ (sym c.is_empty.ensures ∙ c.if-is_empty.false)) c.if-bytes-ne-OPEN_GATE.false in
     let limit = c.payload_limit.ensures.is in
     let len = c.u32_at-payload_len.ensures in
     let small = c.if-payload_len-payload_limit.false in
@@ -51,7 +51,7 @@ returns-then-bytes-payload_len c =
 
 pub returns-in_default-counts : goal.returns-in_default-counts
 returns-in_default-counts c =
-    let gate = opened c.args.bytes.now (eqb-false _ _ (sym c.is_empty.ensures ∙ c.if-is_empty.false)) c.if-bytes-ne-OPEN.false in
+    let gate = opened c.args.bytes.now (eqb-false _ _ (sym c.is_empty.ensures ∙ c.if-is_empty.false)) c.if-bytes-ne-OPEN_GATE.false in
     let limit = c.payload_limit.ensures.is in
     let len = c.u32_at-payload_len.ensures in
     let small = c.if-payload_len-payload_limit.false in
@@ -78,7 +78,7 @@ whole_is shape bytes kind n is wide fits gate long kind_is small whole formed = 
 
 pub invariant_of-result : goal.invariant_of-result
 invariant_of-result c =
-    let gate = opened c.args.bytes.now (eqb-false _ _ (sym c.is_empty.ensures ∙ c.if-is_empty.false)) c.if-bytes-ne-OPEN.false in
+    let gate = opened c.args.bytes.now (eqb-false _ _ (sym c.is_empty.ensures ∙ c.if-is_empty.false)) c.if-bytes-ne-OPEN_GATE.false in
     let limit = c.payload_limit.ensures.is in
     let len = c.u32_at-payload_len.ensures in
     let small = c.if-payload_len-payload_limit.false in
@@ -92,7 +92,7 @@ invariant_of-result c =
 
 pub returns : goal.returns
 returns c =
-    let gate = opened c.args.bytes.now (eqb-false _ _ (sym c.is_empty.ensures ∙ c.if-is_empty.false)) c.if-bytes-ne-OPEN.false in
+    let gate = opened c.args.bytes.now (eqb-false _ _ (sym c.is_empty.ensures ∙ c.if-is_empty.false)) c.if-bytes-ne-OPEN_GATE.false in
     let limit = c.payload_limit.ensures.is in
     let len = c.u32_at-payload_len.ensures in
     let small = c.if-payload_len-payload_limit.false in

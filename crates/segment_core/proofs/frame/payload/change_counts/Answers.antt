@@ -2,8 +2,8 @@ use Rattle.std.proofs.Common.{◌≡◌, ◌-◌, length, sym, ap, ◌∙◌, ar
 use Rattle.std.proofs.lemmas.Bool.{false≢true}
 use Rattle.segment_core.specs.Frame.{runs_len}
 use Rattle.segment_core.proofs.Payload.{no_change, no_change_unfilled, is_change}
-use Rattle.segment_core.proofs.frame.change_counts.Goals as goal
-use Rattle.segment_core.proofs.frame.change_counts.Goals.{then-runs-eq0-via-then-runs-eq0, then-runs-eq0-via-else-runs-eq0+then-payload-runs_len}
+use Rattle.segment_core.proofs.frame.payload.change_counts.Goals as goal
+use Rattle.segment_core.proofs.frame.payload.change_counts.Goals.{then-runs-eq0-via-then-runs-eq0, then-runs-eq0-via-else-runs-eq0+then-payload-runs_len}
 
 pub returns-then-payload-number_len : goal.returns-then-payload-number_len
 returns-then-payload-number_len c =

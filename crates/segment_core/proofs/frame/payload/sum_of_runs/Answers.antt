@@ -8,7 +8,7 @@ use Rattle.segment_core.proofs.Numbers.{list_all-append, true_both}
 use Rattle.std.proofs.lemmas.List.{take_all}
 use Rattle.segment_core.proofs.RunRows.{length-runs_from, not_all, records_of_runs_push}
 use Rattle.segment_core.proofs.Written.{take_more}
-use Rattle.segment_core.proofs.frame.sum_of_runs.Goals as goal
+use Rattle.segment_core.proofs.frame.payload.sum_of_runs.Goals as goal
 
 pub returns-then-count-eq0 : goal.returns-then-count-eq0
 returns-then-count-eq0 c = not_all (λ run. nat_lt 0 run.count) (runs_in c.args.shape c.args.payload.now) c.loop-k.k _ c.run_at-count.ensures.run (ap (nat_lt 0) c.if-count-eq0.true)

@@ -3,7 +3,7 @@ use Rattle.std.specs.Prelude.{nat_lt}
 use Rattle.std.specs.List.{list_all}
 use Rattle.segment_core.specs.Frame.{records_of_runs}
 use Rattle.segment_core.specs.Layout.{runs_in}
-use Rattle.segment_core.proofs.frame.sum_of_runs.Given as goal
+use Rattle.segment_core.proofs.frame.payload.sum_of_runs.Given as goal
 
 abbrev pub invariant-loop-k : goal.invariant-loop-k
 invariant-loop-k l = record {

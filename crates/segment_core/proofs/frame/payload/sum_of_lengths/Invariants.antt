@@ -2,7 +2,7 @@ use Rattle.std.proofs.Common.{◌≡◌, ◌≤◌, ◌*◌, ◌^◌, true, drop
 use Rattle.std.specs.Prelude.{nat_lt}
 use Rattle.std.specs.List.{list_all}
 use Rattle.segment_core.specs.Layout.{numbers_in}
-use Rattle.segment_core.proofs.frame.sum_of_lengths.Given as goal
+use Rattle.segment_core.proofs.frame.payload.sum_of_lengths.Given as goal
 
 abbrev pub invariant-loop-k : goal.invariant-loop-k
 invariant-loop-k l = record {

@@ -5,7 +5,7 @@ use Rattle.std.proofs.lemmas.Bool.{lt-ltb}
 use Rattle.std.proofs.lemmas.List.Sums.{sum_by_push}
 use Rattle.segment_core.specs.Layout.{u32_at, numbers_in}
 use Rattle.segment_core.proofs.Numbers.{u32_at-drop, numbers_in_more, list_all-append, true_both, not_positive}
-use Rattle.segment_core.proofs.frame.sum_of_lengths.Goals as goal
+use Rattle.segment_core.proofs.frame.payload.sum_of_lengths.Goals as goal
 
 pub returns-then-length-eq0 : goal.returns-then-length-eq0
 returns-then-length-eq0 c =

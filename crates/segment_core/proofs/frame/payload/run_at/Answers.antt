@@ -4,7 +4,7 @@ use Rattle.segment_core.specs.Layout.{number_at}
 use Rattle.segment_core.proofs.Payload.{div_small}
 use Rattle.segment_core.proofs.RunRows.{run_read, number_small}
 use Rattle.segment_core.proofs.Reader.{run_found}
-use Rattle.segment_core.proofs.frame.run_at.Goals as goal
+use Rattle.segment_core.proofs.frame.payload.run_at.Goals as goal
 
 abbrev run_of : ℕ → ℕ → Run
 run_of start count = record { start = start; count = count }

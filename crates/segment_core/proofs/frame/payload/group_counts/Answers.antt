@@ -4,8 +4,8 @@ use Rattle.std.specs.List.{list_all}
 use Rattle.std.proofs.lemmas.Bool.{false≢true}
 use Rattle.segment_core.specs.Layout.{numbers_in, count_in, lengths_in}
 use Rattle.segment_core.proofs.Payload.{no_group, no_group_unfilled, is_group}
-use Rattle.segment_core.proofs.frame.group_counts.Goals as goal
-use Rattle.segment_core.proofs.frame.group_counts.Goals.{then-growths-eq0-via-then-growths-eq0, then-growths-eq0-via-else-growths-eq0+then-payload-growths}
+use Rattle.segment_core.proofs.frame.payload.group_counts.Goals as goal
+use Rattle.segment_core.proofs.frame.payload.group_counts.Goals.{then-growths-eq0-via-then-growths-eq0, then-growths-eq0-via-else-growths-eq0+then-payload-growths}
 
 pub returns-then-payload-lt4 : goal.returns-then-payload-lt4
 returns-then-payload-lt4 c = no_group c.args.width c.args.payload.now (λ p. let counted = p.counted in let short = c.if-payload-lt4.true in absurd (omega arith))
