@@ -35,29 +35,32 @@ ends_behind before calls n m cause is ends =
     (omega arith, ap (slice_get (before ++ calls)) at ∙ get_behind before calls (n - 1) ∙ ends.1)
 
 -- a refusal behind more calls
-pub until_behind : (before calls more : List DiskFault) (n m : ℕ) (fault : PenFault) → m ≡ length before + n → 0 < n → AreCallsUntil calls fault n → AreCallsUntil (before ++ calls ++ more) fault m
-until_behind before calls more n m (faults.Disk cause) is some until = ends_front (before ++ calls) more m cause (ends_behind before calls n m cause is until)
-until_behind before calls more n m faults.Exists is some (inl length) = inl (ends_front (before ++ calls) more m Length (ends_behind before calls n m Length is length))
-until_behind before calls more n m faults.Exists is some (inr read) = inr (ends_front (before ++ calls) more m Read (ends_behind before calls n m Read is read))
-until_behind before calls more n m faults.Memory is some until = absurd (omega arith)
-until_behind before calls more n m faults.Broken is some until = absurd until
-until_behind before calls more n m faults.Busy is some until = absurd until
-until_behind before calls more n m faults.OldFormat is some until = absurd until
-until_behind before calls more n m faults.Runs is some until = absurd until
-until_behind before calls more n m faults.OutOfRange is some until = absurd until
-until_behind before calls more n m faults.TooLarge is some until = absurd until
-until_behind before calls more n m faults.Unfolded is some until = absurd until
-until_behind before calls more n m faults.FileFull is some until = absurd until
+pub until_behind : (bytes : List ℕ) (before calls more : List DiskFault) (n m : ℕ) (fault : PenFault) → m ≡ length before + n → 0 < n → AreCallsUntil bytes calls fault n → AreCallsUntil bytes (before ++ calls ++ more) fault m
+until_behind bytes before calls more n m (faults.Disk cause) is some until = ends_front (before ++ calls) more m cause (ends_behind before calls n m cause is until)
+until_behind bytes before calls more n m faults.Exists is some (inl told) = inl (told.0, ends_front (before ++ calls) more m Length (ends_behind before calls n m Length is told.1))
+until_behind bytes before calls more n m faults.Exists is some (inr told) = inr (told.0, ends_front (before ++ calls) more m Read (ends_behind before calls n m Read is told.1))
+until_behind bytes before calls more n m faults.Memory is some until = absurd (omega arith)
+until_behind bytes before calls more n m faults.Broken is some until = absurd until
+until_behind bytes before calls more n m faults.Busy is some until = absurd until
+until_behind bytes before calls more n m faults.OldFormat is some until = absurd until
+until_behind bytes before calls more n m faults.Runs is some until = absurd until
+until_behind bytes before calls more n m faults.OutOfRange is some until = absurd until
+until_behind bytes before calls more n m faults.TooLarge is some until = absurd until
+until_behind bytes before calls more n m faults.Unfolded is some until = absurd until
+until_behind bytes before calls more n m faults.FileFull is some until = absurd until
 
--- the first calls of a disk with at most one byte, and with more
+-- the first calls of a disk with at most one byte, with no more than an empty file has, and with more
 pub first_blank : (bytes : List ℕ) → length bytes ≤ 1 → first_calls bytes ≡ Length ∷ write_calls
-first_blank bytes short = ap (λ b. Length ∷ cond b write_calls (Read ∷ [])) (le-leb (length bytes) 1 short)
+first_blank bytes short = ap (λ b. Length ∷ cond b write_calls (cond (nat_le (length bytes) 12) (Read ∷ []) [])) (le-leb (length bytes) 1 short)
 
-pub first_long : (bytes : List ℕ) → 1 < length bytes → first_calls bytes ≡ Length ∷ Read ∷ []
-first_long bytes long = elim (cases_Bool (nat_le (length bytes) 1)) [
-  | inr none ↦ ap (λ b. Length ∷ cond b write_calls (Read ∷ [])) none
+pub first_longer : (bytes : List ℕ) → 1 < length bytes → first_calls bytes ≡ Length ∷ cond (nat_le (length bytes) 12) (Read ∷ []) []
+first_longer bytes long = elim (cases_Bool (nat_le (length bytes) 1)) [
+  | inr none ↦ ap (λ b. Length ∷ cond b write_calls (cond (nat_le (length bytes) 12) (Read ∷ []) [])) none
   | inl is ↦ (let short = leb-true (length bytes) 1 is in absurd (omega arith))
 ]
+
+pub first_long : (bytes : List ℕ) → 1 < length bytes → length bytes ≤ 12 → first_calls bytes ≡ Length ∷ Read ∷ []
+first_long bytes long short = first_longer bytes long ∙ ap (λ b. Length ∷ cond b (Read ∷ []) []) (le-leb (length bytes) 12 short)
 
 -- the write has succeeded, and the sync is answered
 pub sync_ends : {T : Type 0} (r : Result T DiskFault) (before after old new : ℕ) → IsCounted Sync before after r → new ≡ old + 2 → MatchResult r (λ _. new ≡ old + 2) (λ cause. EndsAt write_calls cause (new - old))

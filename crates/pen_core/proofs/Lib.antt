@@ -12,7 +12,9 @@ pub mod Whole
 pub mod Listed
 pub mod InHand
 pub mod AtRest
+pub mod KeptPen
 pub mod LastTick
+pub mod FoldSeen
 pub mod HomeTick
 pub mod Filed
 pub mod BeingFolded
@@ -33,6 +35,9 @@ pub mod Pieces
 pub mod Opening
 pub mod PieceValues
 pub mod WorkedOpening
+pub mod WorkedCreation
+pub mod WorkedRefusals
+pub mod WorkedTicks
 pub mod WritesFor
 pub mod LiveRuns
 pub mod HomesTo
@@ -42,3 +47,4 @@ pub mod FoldPlanned
 pub mod FoldListed
 pub mod Taken
 pub mod Typed
+pub mod Settled

@@ -1,5 +1,5 @@
 -- What a pen knows of a file that was opened, and what opening leaves.
-use Rattle.std.proofs.Common.{◌≡◌, ℕ, zero, suc, ◌+◌, ◌≤◌, ◌<◌, ◌^◌, inl, inr, false, List, [], ◌∷◌, length, map, get_or, Option, Some, None, refl, sym, ap, subst, ◌∙◌, arith}
+use Rattle.std.proofs.Common.{◌≡◌, ℕ, zero, suc, ◌+◌, ◌≤◌, ◌<◌, ◌^◌, inl, inr, false, List, [], ◌∷◌, ◌++◌, length, map, get_or, Option, Some, None, refl, sym, ap, subst, ◌∙◌, arith}
 use Rattle.std.specs.Prelude.{slice_get}
 use Rattle.std.specs.List.{flat_map}
 use Rattle.std.specs.Option.{option_and_then}
@@ -18,12 +18,14 @@ use Rattle.segment_core.specs.declared.vector.Scanned.{Scanned}
 use Rattle.segment_core.specs.Shape.{version_of, shape_of}
 use Rattle.segment_core.specs.Frame.{Frame, frame_text, text}
 use Rattle.segment_core.specs.Tally.{nothing, after, tally_from, tally_of, AreLegalFrom}
-use Rattle.segment_core.specs.Image.{Begins}
+use Rattle.segment_core.specs.Image.{Begins, HasFrames}
 use Rattle.segment_core.specs.Vector.{place_of, record_in, IsVectorOf, HasVector}
 use Rattle.segment_core.specs.Blanked.{all_blanked}
 use Rattle.segment_core.specs.Raw.{raw, AreReadAs}
 use Rattle.segment_core.specs.Parsed.{vector_before}
 use Rattle.segment_core.proofs.Blanked.{tally_from-blanked}
+use Rattle.segment_core.proofs.Fed.{frames_more}
+use Rattle.segment_core.proofs.OneMore.{IsVectorOf_begins}
 use Rattle.segment_core.proofs.Payload.{length-frame_text}
 use Rattle.segment_core.proofs.Push.{length-text}
 use Rattle.segment_core.proofs.Raw.{IsVectorOf_raw}
@@ -90,7 +92,16 @@ AreReadAs_same {R} format form image frames cells records read typed = record { 
 
 -- ---- the file
 
-module _ {R : Type 0} (format : Format) (form : Encoding R) (image : List ℕ) (found : List Frame) (records : List R) (back : WritesBack form) (fits : IsBytes image) (has : HasVector format form image found records) where
+-- bytes behind the closed gate say nothing
+HasVector_more : {R : Type 0} (format : Format) (form : Encoding R) (image more : List ℕ) (found : List Frame) (records : List R) → HasVector format form image found records → HasVector format form (image ++ more) found records
+HasVector_more format form image more found records has =
+    let framed = frames_more (shape_of format form) image more found has.framed in
+    record { framed = framed; read = IsVectorOf_begins format form image (image ++ more) found records (begins_of (shape_of format form) image found has.framed) (begins_of (shape_of format form) (image ++ more) found framed) has.read }
+  where
+    begins_of : (shape : Shape) (image : List ℕ) (found : List Frame) → HasFrames shape image found → Begins shape image found
+    begins_of shape image found framed = record { legal = framed.legal; begins = (framed.closed.0 ∷ framed.closed.1, framed.closed.3) }
+
+module _ {R : Type 0} (format : Format) (form : Encoding R) (front more : List ℕ) (found : List Frame) (records : List R) (back : WritesBack form) (fits : IsBytes front) (read : HasVector format form front found records) where
   abbrev shape : Shape
   shape = shape_of format form
 
@@ -103,11 +114,21 @@ module _ {R : Type 0} (format : Format) (form : Encoding R) (image : List ℕ) (
   abbrev p : ℕ
   p = length (text shape found)
 
+  -- with all that stands behind what was read
+  abbrev image : List ℕ
+  image = front ++ more
+
+  has : HasVector format form image found records
+  has = HasVector_more format form front more found records read
+
+  begins_front : Begins shape front found
+  begins_front = record { legal = read.framed.legal; begins = (read.framed.closed.0 ∷ read.framed.closed.1, read.framed.closed.3) }
+
   begins : Begins shape image found
   begins = record { legal = has.framed.legal; begins = (has.framed.closed.0 ∷ has.framed.closed.1, has.framed.closed.3) }
 
   read_raw : IsVectorOf format (raw form.width) image found cells
-  read_raw = IsVectorOf_raw format form image found records back fits begins has.read
+  read_raw = IsVectorOf_begins format (raw form.width) front image found cells begins_front begins (IsVectorOf_raw format form front found records back fits begins_front read.read)
 
   holds : Holds shape frames cells image
   holds = record { found = found; alike = refl; begins = begins; read = read_raw }
@@ -117,6 +138,9 @@ module _ {R : Type 0} (format : Format) (form : Encoding R) (image : List ℕ) (
 
   inside : p < length image
   inside = omega (arith, ap length has.framed.closed.3, length-append (text shape found) (has.framed.closed.0 ∷ has.framed.closed.1))
+
+  inside_front : p < length front
+  inside_front = omega (arith, ap length read.framed.closed.3, length-append (text shape found) (read.framed.closed.0 ∷ read.framed.closed.1))
 
   file_is : IsFileOf shape 0 frames cells (settled image)
   file_is = record { holds = holds; gate_synced = omega (arith, gate_is, inside); pending_is_folded = λ j lt is. absurd cc }
@@ -176,25 +200,28 @@ module _ {R : Type 0} (form : Encoding R) (keeps : Type 0) (states : List State)
   legal : AreLegalFrom file nothing found
   legal = on.scan.vector.framed.legal
 
-  seen_same : keeps → bytes_of states ≡ on.image
-  seen_same model = ap (λ s. s.seen) (on.on_disk model)
+  abbrev more : keeps → List ℕ
+  more model = (on.on_disk model).0
+
+  seen_same : (model : keeps) → bytes_of states ≡ on.image ++ more model
+  seen_same model = ap (λ s. s.seen) (on.on_disk model).1
 
   has_seen : keeps → SeenAs told scanned.gate (all_blanked found) (map form.bytes_of records) (bytes_of states)
   has_seen model =
       subst (λ s. SeenAs s scanned.gate (all_blanked found) (map form.bytes_of records) (bytes_of states)) (sym shape_same)
       (subst (λ g. SeenAs file g (all_blanked found) (map form.bytes_of records) (bytes_of states)) (sym gate_same)
-      (subst (λ (bs : List ℕ). SeenAs file (length (text file found)) (all_blanked found) (map form.bytes_of records) bs) (sym (seen_same model)) (seen named form on.image found records back on.fits on.scan.vector)))
+      (subst (λ (bs : List ℕ). SeenAs file (length (text file found)) (all_blanked found) (map form.bytes_of records) bs) (sym (seen_same model)) (seen named form on.image (more model) found records back on.fits on.scan.vector)))
 
   has_known : (bytes : List ℕ) → keeps → Knows 0 told scanned.gate tally (all_blanked found) (map form.bytes_of records) bytes None false (now states)
   has_known bytes model =
       subst (λ s. Knows 0 s scanned.gate tally (all_blanked found) (map form.bytes_of records) bytes None false (now states)) (sym shape_same)
       (subst (λ g. Knows 0 file g tally (all_blanked found) (map form.bytes_of records) bytes None false (now states)) (sym gate_same)
       (subst (λ t. Knows 0 file (length (text file found)) t (all_blanked found) (map form.bytes_of records) bytes None false (now states)) (sym tally_same)
-      (subst (λ s. Knows 0 file (length (text file found)) (tally_of found) (all_blanked found) (map form.bytes_of records) bytes None false s) (sym (on.on_disk model)) (known_file named form on.image found records back on.fits on.scan.vector bytes))))
+      (subst (λ s. Knows 0 file (length (text file found)) (tally_of found) (all_blanked found) (map form.bytes_of records) bytes None false s) (sym (on.on_disk model).1) (known_file named form on.image (more model) found records back on.fits on.scan.vector bytes))))
 
   pub opened_pen : (next : Tally) (bytes : List ℕ) → (1 ≤ form.width) × (form.width < 2 ^ 16) → IsPen 0 keeps states told scanned.gate tally next bytes None false
   opened_pen next bytes wide =
-      let placed = inside named form on.image found records back on.fits on.scan.vector in
+      let placed = inside_front named form on.image [] found records back on.fits on.scan.vector in
       let long = length-text file found in
       let all = ap (λ t. t.changes) tally_same in
       let few = changes_short file nothing found in
@@ -233,14 +260,14 @@ module _ {R : Type 0} (form : Encoding R) (keeps : Type 0) (states : List State)
   pub opened_as : {D : Type 0} (disk : D) (bytes : List ℕ) (room places : ℕ) (fold : Option FoldOf) → keeps → IsOpened form (bytes_of states) (pen_of states disk told scanned.gate tally bytes room None false places fold) records
   opened_as disk bytes room places fold model =
       let seen = has_seen model in
-      let image : bytes_of states ≡ on.image = seen_same model in
+      let image : bytes_of states ≡ on.image ++ more model = seen_same model in
       record {
         format = named;
         found = found;
-        vector = subst (λ (bs : List ℕ). HasVector named form bs found records) (sym image) on.scan.vector;
+        vector = subst (λ (bs : List ℕ). HasVector named form bs found records) (sym image) (has named form on.image (more model) found records back on.fits on.scan.vector);
         shape_is = shape_same;
         frames_are = seen.frames_are;
-        cells_are = AreCellsOf_read form (vector_before told scanned.gate (bytes_of states)) records seen.vector_is (subst (λ cells. AreReadAs form cells records) (sym seen.vector_is) (AreReadAs_same named form on.image found (map form.bytes_of records) records (read_raw named form on.image found records back on.fits on.scan.vector) on.scan.vector.read));
+        cells_are = AreCellsOf_read form (vector_before told scanned.gate (bytes_of states)) records seen.vector_is (subst (λ cells. AreReadAs form cells records) (sym seen.vector_is) (AreReadAs_same named form (on.image ++ more model) found (map form.bytes_of records) records (read_raw named form on.image (more model) found records back on.fits on.scan.vector) (has named form on.image (more model) found records back on.fits on.scan.vector).read));
         tally_is = tally_same;
         gate_is = gate_same;
       }

@@ -1,8 +1,8 @@
 -- The bytes of a disk, read piece by piece into a scanner.
-use Rattle.std.proofs.Common.{◌≡◌, ℕ, ◌+◌, ◌-◌, ◌*◌, ◌≤◌, ◌<◌, ◌^◌, min, List, [], ◌++◌, length, take, drop, inl, inr, refl, sym, ap, subst, ◌∙◌, arith}
+use Rattle.std.proofs.Common.{◌≡◌, ℕ, ◌+◌, ◌-◌, ◌*◌, ◌≤◌, ◌<◌, ◌^◌, ◌⊎◌, min, List, [], ◌∷◌, ◌++◌, length, take, drop, inl, inr, refl, sym, ap, subst, ◌∙◌, arith}
 use Rattle.std.specs.Prelude.{slice_range}
 use Rattle.std.proofs.lemmas.Bool.{cases_lt}
-use Rattle.std.proofs.lemmas.List.{length-append, get_or_append_left, get_or-append_right, take-append-drop, take_all}
+use Rattle.std.proofs.lemmas.List.{length-append, get_or_append_left, get_or-append_right, take-append-drop, append-nil}
 use Rattle.record_core.specs.Bytes.{Encoding, IsBytes}
 use Rattle.disk_core.specs.declared.fault.DiskFault.{DiskFault}
 use Rattle.disk_core.specs.declared.fault.DiskFault.TheVariants as causes
@@ -14,16 +14,15 @@ use Rattle.disk_core.proofs.JoinedMoments.{LeavesOnly-start, LeavesOnly-more, Le
 use Rattle.segment_core.specs.declared.scanner.Scanner.{Scanner}
 use Rattle.segment_core.specs.declared.scanner.Stage.TheVariants as stages
 use Rattle.segment_core.specs.declared.fault.ScanFault.TheVariants.{Memory}
-use Rattle.segment_core.specs.declared.fault.ScanFault.{ScanFault}
 use Rattle.segment_core.specs.declared.found.Homes.{Homes}
 use Rattle.segment_core.specs.declared.vector.Scanned.{Scanned}
 use Rattle.segment_core.specs.Shape.{shape_of}
 use Rattle.segment_core.specs.Fault.{IsRefused}
 use Rattle.segment_core.specs.Found.{AreHomesOf}
 use Rattle.segment_core.specs.Scanned.{IsScanOf}
-use Rattle.segment_core.specs.Scanner.{IsFed, IsLost}
+use Rattle.segment_core.specs.Scanner.{IsFed, IsLost, IsDecided, IsCutShort}
 use Rattle.segment_core.proofs.Fed.{fed_at, next_part}
-use Rattle.pen_core.specs.Opening.{HasTaken, IsFoundOn, OnlySyncs, AreCallsMade, pieces_of}
+use Rattle.pen_core.specs.Opening.{HasTaken, HasRead, IsFoundOn, OnlySyncs, AreCallsMade, AreNeeded, pieces_of, pieces_front}
 use Rattle.pen_core.specs.declared.fault.OpenFault.TheVariants.{Disk}
 use Rattle.pen_core.proofs.Births.{stays_only}
 
@@ -83,6 +82,33 @@ pub record NextPiece (at n len : ℕ) : Type 0 where
 pub next_piece : (at n len : ℕ) → n ≡ min 4096 (len - at) → at < len → at ≡ 4096 * pieces_of at → NextPiece at n len
 next_piece at n len is lt whole = record { inside = omega arith; one_more = omega arith; whole = λ more. omega arith }
 
+-- ---- which pieces are needed
+
+module _ {R : Type 0} (form : Encoding R) (keeps : Type 0) (bytes : List ℕ) (at : ℕ) (scanner : Scanner R) (taken : HasTaken form keeps bytes at scanner) (model : keeps) where
+  front_is : at ≡ 4096 * pieces_of at → taken.image ≡ pieces_front (pieces_of at) bytes
+  front_is whole = taken.is model ∙ ap (λ n. take n bytes) whole
+
+  -- one more is
+  pub needed_more : at ≡ 4096 * pieces_of at → ((image : List ℕ) → IsFed form image scanner → IsLost scanner ⊎ IsCutShort form image) → (IsLost scanner → ⊥) → ((k : ℕ) → k < pieces_of at → IsCutShort form (pieces_front k bytes))
+      → (k : ℕ) → k < pieces_of at + 1 → IsCutShort form (pieces_front k bytes)
+  needed_more whole cut going before k lt = elim (cases_lt k (pieces_of at)) [
+    | inl less ↦ before k less
+    | inr last ↦ elim (cut taken.image taken.fed) [
+      | inl lost ↦ absurd (going lost)
+      | inr short ↦ (let here : k ≡ pieces_of at = omega arith in subst (λ n. IsCutShort form (pieces_front n bytes)) (sym here) (subst (IsCutShort form) (front_is whole) short))
+    ]
+  ]
+
+  -- no more is, where these tell the answer
+  pub needed_enough : at ≡ 4096 * pieces_of at → ((image : List ℕ) → IsFed form image scanner → IsDecided form image) → IsDecided form (pieces_front (pieces_of at) bytes)
+  needed_enough whole decided = subst (IsDecided form) (front_is whole) (decided taken.image taken.fed)
+
+-- behind the sync and the length
+pub needed_behind : {R : Type 0} (form : Encoding R) (old last new : List State) → bytes_of last ≡ bytes_of old → clock last ≡ clock old + 2 → AreNeeded form (bytes_of last) (clock new - clock last) → AreNeeded form (bytes_of old) (clock new - clock old - 2)
+needed_behind form old last new same time needed =
+    let n : clock new - clock last ≡ clock new - clock old - 2 = omega arith in
+    subst (λ (bs : List ℕ). AreNeeded form bs (clock new - clock old - 2)) same (subst (AreNeeded form (bytes_of last)) n needed)
+
 -- ---- a disk that is only synced and read
 
 -- the sync has failed
@@ -108,6 +134,12 @@ only_syncs_settled old mid new settles readable same leaves =
       stays_as_read = λ later image left. as_read image (leaves.each image (subst (λ t. LeftSince new t image) (sym time) left));
     }
 
+pub bytes_stay : (old new : List State) → OnlySyncs old new → bytes_of new ≡ bytes_of old
+bytes_stay old new only = elim only.stands [
+  | inl same ↦ ap (λ s. s.seen) same
+  | inr same ↦ ap (λ s. s.seen) same
+]
+
 -- the length and the reads behind it
 pub reads_behind : (mid last new : List State) → Stays mid last → now new ≡ now last → LeavesOnly last new (IsImage (now last)) → LeavesOnly mid new (IsImage (now mid))
 reads_behind mid last new stays same leaves =
@@ -127,21 +159,55 @@ made_a_sync len n cause is one = subst (λ f. AreCallsMade len (Disk f) n) (sym 
 pub made_a_length : (len n : ℕ) (cause : DiskFault) → cause ≡ causes.Length → n ≡ 2 → AreCallsMade len (Disk cause) n
 made_a_length len n cause is two = subst (λ f. AreCallsMade len (Disk f) n) (sym is) two
 
--- ---- all of the disk's bytes
+-- ---- what was read of the disk's bytes
 
-module _ {R : Type 0} (form : Encoding R) (keeps : Type 0) (old last new : List State) (len : ℕ) (scanner : Scanner R) (taken : HasTaken form keeps (bytes_of last) len scanner) (long : keeps → len ≡ length (bytes_of last)) (same : keeps → now new ≡ now last) where
-  all_taken : keeps → taken.image ≡ bytes_of last
-  all_taken model = taken.is model ∙ take_all len (bytes_of last) (let all = long model in omega arith)
-
-  pub found_on : (scanned : Scanned R) (homes : Homes) (scan : IsScanOf form taken.image scanned) → AreHomesOf (shape_of scan.format form) scan.frames homes → (keeps → now last ≡ settled (bytes_of last)) → IsFoundOn form keeps new scanned homes
-  found_on scanned homes scan homes_are on_disk = record {
+module _ {R : Type 0} (form : Encoding R) (keeps : Type 0) (bytes : List ℕ) (len at : ℕ) (scanner : Scanner R) (taken : HasTaken form keeps bytes at scanner) (inside : at ≤ len) (short : len < 2 ^ 64) where
+  -- all of it
+  pub read_all : len ≤ at → HasRead form keeps bytes len scanner
+  read_all past = record {
     image = taken.image;
-    short = omega (arith, taken.size, taken.short);
+    inside = omega (arith, taken.size);
+    short = short;
     fits = taken.fits;
-    scan = scan;
-    homes_are = homes_are;
-    on_disk = λ model. same model ∙ on_disk model ∙ ap settled (sym (all_taken model));
+    fed = taken.fed;
+    fed_all = λ more all. (
+        let none : more ≡ [] = nil_of more (omega (arith, taken.size)) in
+        subst (λ (bs : List ℕ). IsFed form bs scanner) (sym (append-nil taken.image) ∙ ap (λ (bs : List ℕ). taken.image ++ bs) (sym none)) taken.fed);
+    is = λ model. taken.is model ∙ ap (λ n. take n bytes) (sym taken.size);
+  }
+    where
+      nil_of : (more : List ℕ) → length more ≡ 0 → more ≡ []
+      nil_of [] none = refl
+      nil_of (b ∷ more) none = absurd (omega arith)
+
+  -- as much as tells the answer
+  pub read_enough : ((image more : List ℕ) → IsFed form image scanner → IsFed form (image ++ more) scanner) → HasRead form keeps bytes len scanner
+  read_enough decided = record {
+    image = taken.image;
+    inside = omega (arith, taken.size);
+    short = short;
+    fits = taken.fits;
+    fed = taken.fed;
+    fed_all = λ more all. decided taken.image more taken.fed;
+    is = λ model. taken.is model ∙ ap (λ n. take n bytes) (sym taken.size);
   }
 
-  pub refused_on : (fault : ScanFault) → IsRefused form taken.image fault → keeps → bytes_of last ≡ bytes_of old → IsRefused form (bytes_of old) fault
-  refused_on fault refused model is = subst (λ (bs : List ℕ). IsRefused form bs fault) (all_taken model ∙ is) refused
+module _ {R : Type 0} (form : Encoding R) (keeps : Type 0) (old last new : List State) (len : ℕ) (scanner : Scanner R) (read : HasRead form keeps (bytes_of last) len scanner) (long : keeps → len ≡ length (bytes_of last)) (same : keeps → now new ≡ now last) where
+  abbrev rest : List ℕ
+  rest = drop (length read.image) (bytes_of last)
+
+  whole : keeps → read.image ++ rest ≡ bytes_of last
+  whole model = ap (λ (bs : List ℕ). bs ++ rest) (read.is model) ∙ take-append-drop (length read.image) (bytes_of last)
+
+  pub found_on : (scanned : Scanned R) (homes : Homes) (scan : IsScanOf form read.image scanned) → AreHomesOf (shape_of scan.format form) scan.frames homes → (keeps → now last ≡ settled (bytes_of last)) → IsFoundOn form keeps new scanned homes
+  found_on scanned homes scan homes_are on_disk = record {
+    image = read.image;
+    short = omega (arith, read.inside, read.short);
+    fits = read.fits;
+    scan = scan;
+    homes_are = homes_are;
+    on_disk = λ model. (rest, same model ∙ on_disk model ∙ ap settled (sym (whole model)));
+  }
+
+  pub fed_whole : keeps → IsFed form (bytes_of last) scanner
+  fed_whole model = subst (λ (bs : List ℕ). IsFed form bs scanner) (whole model) (read.fed_all rest (omega (arith, length-append read.image rest, ap length (whole model), long model)))

@@ -33,7 +33,7 @@ use Rattle.pen_core.specs.PenOf.{FoldOf}
 use Rattle.pen_core.specs.Pen.{open_count, job_len}
 use Rattle.pen_core.proofs.Begun.{nothing_folded}
 use Rattle.pen_core.proofs.FoldListed.{some_runs, planned_pen, folding_pen, whole_pen}
-use Rattle.pen_core.proofs.HomeTick.{left_long}
+use Rattle.pen_core.proofs.FoldSeen.{left_long}
 use Rattle.pen_core.proofs.Listed.{live_counted}
 
 -- ---- where nothing is being folded, any count is known of
@@ -167,6 +167,9 @@ module _ {R : Type 0} (form : Encoding R) (records : List R) (keeps : Type 0) (s
           let made = folding_pen keeps states shape gate tally bytes o homes live listed plan.cover plan.covered plan.runs plan.at_home form records fold'.bytes.items fold'.writes.items (omega (arith, pen.wide.0)) plan.writes_are model (closed.knows model).file.holds (values model) in
           subst (λ n. IsFolding shape n (blanked_before shape gate (bytes_of states)) (vector_before shape gate (bytes_of states)) (left_of fold') (now states)) (sym count_is)
           (subst (λ d. IsFolding shape tally.changes (blanked_before shape gate (bytes_of states)) (vector_before shape gate (bytes_of states)) (map (write_of fold'.bytes.items) (drop d fold'.writes.items)) (now states)) (sym first) made)
+
+  pub some_left : 0 < length (left_of fold')
+  some_left = let some = some_writes in omega (arith, length_left fold' first)
 
   pub taken : IsPen (open_count fold'.stage fold'.count) keeps states shape gate tally next bytes o broken × IsListed keeps states shape gate tally bytes o homes live fold' × IsFold keeps states shape gate tally bytes o broken fold'
   taken = (pen_taken, listed_taken, fold_taken)

@@ -1,13 +1,14 @@
 -- What the definitions that stand only in conclusions say of a pen: which places aren't pending, what an image opens to,
 -- and what an unchanged pen is.
-use Rattle.std.proofs.Common.{◌∙◌, ◌≡◌, ℕ, ◌<◌, ◌⊎◌, inl, inr, List, Some, None, ap, subst, arith}
+use Rattle.std.proofs.Common.{◌∙◌, ◌≡◌, ℕ, ◌<◌, ◌⊎◌, inl, inr, List, length, Some, None, ap, subst, arith}
 use Rattle.segment_core.specs.Frame.{Frame}
 use Rattle.segment_core.specs.Raw.{after_frame}
 use Rattle.pen_core.specs.declared.step.Step.TheVariants as steps
+use Rattle.pen_core.specs.declared.stage.FoldStage.TheVariants as folds
 use Rattle.pen_core.specs.Held.{Opens, IsBeingFolded}
 use Rattle.pen_core.specs.Vectors.{frames_with}
 use Rattle.pen_core.specs.PenOf.{PenOf, JobOf}
-use Rattle.pen_core.specs.Pen.{MayOpen, MayBeOpening, MayBePending, OpensWith, CountsSame, IsUnchanged, Begins, fold_count}
+use Rattle.pen_core.specs.Pen.{MayOpen, MayBeOpening, MayBePending, OpensWith, CountsSame, IsUnchanged, Begins, BeginsFold, fold_count}
 use Rattle.pen_core.proofs.Begun.{nothing_folded}
 
 -- ---- what may be pending, where no fold is in hand
@@ -52,7 +53,7 @@ module _ {D : Type 0} (pen : PenOf D) (image : List ℕ) (may : MayOpen pen imag
 -- ---- what stays
 
 -- all but the memory
-unchanged_pen : {D : Type 0} (old new : PenOf D) → IsUnchanged old new → new ≡ record old { room = new.room; places = new.places }
+pub unchanged_pen : {D : Type 0} (old new : PenOf D) → IsUnchanged old new → new ≡ record old { room = new.room; places = new.places }
 unchanged_pen old new is =
     ap (λ x. record new { disk = x }) is.disk_same
     ∙ ap (λ x. record new { disk = old.disk; shape = x }) is.shape_same
@@ -65,7 +66,7 @@ unchanged_pen old new is =
     ∙ ap (λ x. record new { disk = old.disk; shape = old.shape; frames = old.frames; vector = old.vector; job = old.job; fold = old.fold; broken = old.broken; tally = old.tally; gate = x }) is.gate_same
 
 -- all but the memory and the job
-begun_pen : {D : Type 0} (frame : Frame) (old new : PenOf D) → Begins frame old new → new ≡ record old { job = Some (record { frame = frame; step = steps.Body }); room = new.room; places = new.places }
+pub begun_pen : {D : Type 0} (frame : Frame) (old new : PenOf D) → Begins frame old new → new ≡ record old { job = Some (record { frame = frame; step = steps.Body }); room = new.room; places = new.places }
 begun_pen frame old new is =
     ap (λ x. record new { disk = x }) is.disk_same
     ∙ ap (λ x. record new { disk = old.disk; shape = x }) is.shape_same
@@ -76,6 +77,22 @@ begun_pen frame old new is =
     ∙ ap (λ x. record new { disk = old.disk; shape = old.shape; frames = old.frames; vector = old.vector; job = (Some (record { frame = frame; step = steps.Body })); fold = old.fold; broken = x }) is.broken_same
     ∙ ap (λ x. record new { disk = old.disk; shape = old.shape; frames = old.frames; vector = old.vector; job = (Some (record { frame = frame; step = steps.Body })); fold = old.fold; broken = old.broken; tally = x }) is.tally_same
     ∙ ap (λ x. record new { disk = old.disk; shape = old.shape; frames = old.frames; vector = old.vector; job = (Some (record { frame = frame; step = steps.Body })); fold = old.fold; broken = old.broken; tally = old.tally; gate = x }) is.gate_same
+
+-- all but the fold
+pub folding_pen : {D : Type 0} (old new : PenOf D) (is : BeginsFold old new) → new ≡ record old { fold = Some (record { count = old.tally.changes; left = is.left; stage = folds.Home (length is.left) }) }
+folding_pen old new is =
+    let fold = Some (record { count = old.tally.changes; left = is.left; stage = folds.Home (length is.left) }) in
+    ap (λ x. record new { disk = x }) is.disk_same
+    ∙ ap (λ x. record new { disk = old.disk; shape = x }) is.shape_same
+    ∙ ap (λ x. record new { disk = old.disk; shape = old.shape; frames = x }) is.file_same.frames_same
+    ∙ ap (λ x. record new { disk = old.disk; shape = old.shape; frames = old.frames; vector = x }) is.file_same.vector_same
+    ∙ ap (λ x. record new { disk = old.disk; shape = old.shape; frames = old.frames; vector = old.vector; job = x }) is.job_same
+    ∙ ap (λ x. record new { disk = old.disk; shape = old.shape; frames = old.frames; vector = old.vector; job = old.job; fold = x }) is.fold_is
+    ∙ ap (λ x. record new { disk = old.disk; shape = old.shape; frames = old.frames; vector = old.vector; job = old.job; fold = fold; broken = x }) is.broken_same
+    ∙ ap (λ x. record new { disk = old.disk; shape = old.shape; frames = old.frames; vector = old.vector; job = old.job; fold = fold; broken = old.broken; tally = x }) is.tally_same
+    ∙ ap (λ x. record new { disk = old.disk; shape = old.shape; frames = old.frames; vector = old.vector; job = old.job; fold = fold; broken = old.broken; tally = old.tally; gate = x }) is.gate_same
+    ∙ ap (λ x. record new { disk = old.disk; shape = old.shape; frames = old.frames; vector = old.vector; job = old.job; fold = fold; broken = old.broken; tally = old.tally; gate = old.gate; room = x }) is.room_same
+    ∙ ap (λ x. record new { disk = old.disk; shape = old.shape; frames = old.frames; vector = old.vector; job = old.job; fold = fold; broken = old.broken; tally = old.tally; gate = old.gate; room = old.room; places = x }) is.places_same
 
 -- what the pen counts
 counts_stay : {D : Type 0} (old new : PenOf D) → CountsSame old new → new ≡ record new { shape = old.shape; fold = old.fold; tally = old.tally; gate = old.gate; room = old.room }

@@ -70,9 +70,10 @@ pub record IsEmpty {D : Type 0} (pen : PenOf D) : Type 0 where
 abbrev pub write_calls : List DiskFault
 write_calls = causes.Write ∷ causes.Sync ∷ []
 
--- behind the first sync: the length; then a closed byte is written where there is at most one, and else the first is read
+-- behind the first sync: the length; then a closed byte is written where there is at most one, and the first is read
+-- where there are no more than an empty file has
 abbrev pub first_calls : List ℕ → List DiskFault
-first_calls bytes = causes.Length ∷ (if nat_le (length bytes) 1 then write_calls else causes.Read ∷ [])
+first_calls bytes = causes.Length ∷ (if nat_le (length bytes) 1 then write_calls else (if nat_le (length bytes) 12 then causes.Read ∷ [] else []))
 
 -- all of them where there is no file, each by the fault that it may answer
 abbrev pub calls_of_creation : List ℕ → List DiskFault
@@ -82,26 +83,26 @@ calls_of_creation bytes = (causes.Sync ∷ []) ++ first_calls bytes ++ (write_ca
 abbrev pub EndsAt : List DiskFault → DiskFault → ℕ → Type 0
 EndsAt calls cause n = (0 < n) × (slice_get calls (n - 1) ≡ Some cause)
 
--- a file is told by the length, or by the first byte
-abbrev pub IsTold : List DiskFault → ℕ → Type 0
-IsTold calls n = EndsAt calls causes.Length n ⊎ EndsAt calls causes.Read n
+-- a file is told by the length where it is longer than an empty one, and else by the first byte
+abbrev pub IsTold : List ℕ → List DiskFault → ℕ → Type 0
+IsTold bytes calls n = ((12 < length bytes) × EndsAt calls causes.Length n) ⊎ ((length bytes ≤ 12) × EndsAt calls causes.Read n)
 
 -- so many were made where this is found of what the disk holds
-abbrev pub AreLooks : List DiskFault → Contents → ℕ → Type 0
-AreLooks calls File n = IsTold calls n
-AreLooks calls Blank n = n ≡ 1
-AreLooks calls Closed n = n ≡ 2
+abbrev pub AreLooks : List ℕ → List DiskFault → Contents → ℕ → Type 0
+AreLooks bytes calls File n = IsTold bytes calls n
+AreLooks bytes calls Blank n = n ≡ 1
+AreLooks bytes calls Closed n = n ≡ 2
 
 -- and where creation answers this
-abbrev pub AreCallsUntil : List DiskFault → PenFault → ℕ → Type 0
-AreCallsUntil calls (Disk cause) n = EndsAt calls cause n
-AreCallsUntil calls Exists n = IsTold calls n
-AreCallsUntil calls Memory n = n ≡ 0
-AreCallsUntil calls Broken n = ⊥
-AreCallsUntil calls Busy n = ⊥
-AreCallsUntil calls OldFormat n = ⊥
-AreCallsUntil calls Runs n = ⊥
-AreCallsUntil calls OutOfRange n = ⊥
-AreCallsUntil calls TooLarge n = ⊥
-AreCallsUntil calls Unfolded n = ⊥
-AreCallsUntil calls FileFull n = ⊥
+abbrev pub AreCallsUntil : List ℕ → List DiskFault → PenFault → ℕ → Type 0
+AreCallsUntil bytes calls (Disk cause) n = EndsAt calls cause n
+AreCallsUntil bytes calls Exists n = IsTold bytes calls n
+AreCallsUntil bytes calls Memory n = n ≡ 0
+AreCallsUntil bytes calls Broken n = ⊥
+AreCallsUntil bytes calls Busy n = ⊥
+AreCallsUntil bytes calls OldFormat n = ⊥
+AreCallsUntil bytes calls Runs n = ⊥
+AreCallsUntil bytes calls OutOfRange n = ⊥
+AreCallsUntil bytes calls TooLarge n = ⊥
+AreCallsUntil bytes calls Unfolded n = ⊥
+AreCallsUntil bytes calls FileFull n = ⊥

@@ -1,8 +1,9 @@
 -- A fold in hand, by a pen's fields.
-use Rattle.std.specs.Prelude.{◌≡◌, ℕ, ◌+◌, ◌-◌, ◌<◌, ◌≤◌, ◌^◌, List, [], ◌∷◌, ◌++◌, length, map, take, drop, Option, Some, None, Bool, true, false, nat_lt, if◌then◌else◌}
+use Rattle.std.specs.Prelude.{◌≡◌, ℕ, ◌+◌, ◌-◌, ◌<◌, ◌≤◌, ◌^◌, List, [], ◌∷◌, ◌++◌, length, map, take, drop, Option, Some, None, Bool, true, false, IfSome, nat_lt, if◌then◌else◌}
 use Rattle.std.specs.List.{AllByRecursion}
+use Rattle.std.specs.Option.{is_some}
 use Rattle.disk_core.specs.State.{State, now}
-use Rattle.disk_core.specs.Calls.{bytes_of, Stays, Writes, TearsWrite, Settles}
+use Rattle.disk_core.specs.Calls.{bytes_of}
 use Rattle.disk_core.specs.declared.fault.DiskFault.{DiskFault}
 use Rattle.disk_core.specs.declared.fault.DiskFault.TheVariants as disk_faults
 use Rattle.segment_core.specs.declared.format.Shape.{Shape}
@@ -16,6 +17,8 @@ use Rattle.pen_core.specs.declared.step.Step.{Step}
 use Rattle.pen_core.specs.declared.stage.FoldStage.{FoldStage}
 use Rattle.pen_core.specs.declared.stage.FoldStage.TheVariants.{Home, Sync, Ready, Filed}
 use Rattle.pen_core.specs.declared.stage.FoldStage.TheVariants as stages
+use Rattle.pen_core.specs.Call.{Call, Makes, Fails, cause_of}
+use Rattle.pen_core.specs.Call as calls
 use Rattle.pen_core.specs.PenOf.{FoldOf, HomeWrite}
 use Rattle.pen_core.specs.Vectors.{frame_at, blanked_before}
 use Rattle.pen_core.specs.Folds.{IsFolding}
@@ -44,36 +47,35 @@ abbrev pub first_write : List HomeWrite → HomeWrite
 first_write [] = record { place = 0; bytes = [] }
 first_write (write ∷ writes) = write
 
--- a call that succeeded
-abbrev pub HomeCalls : FoldStage → List HomeWrite → List State → List State → Type 0
-HomeCalls (Home n) left old new = Writes (first_write left).place (first_write left).bytes old new
-HomeCalls Sync left old new = Settles old new
-HomeCalls stages.None left old new = Settles old new
-HomeCalls Ready left old new = Settles old new
-HomeCalls Filed left old new = Settles old new
+-- the call that is due at this stage: the first write that is left, or the sync behind the last one
+abbrev pub due_at : FoldStage → List HomeWrite → Option Call
+due_at (Home n) left = Some (calls.Write (first_write left).place (first_write left).bytes)
+due_at Sync left = Some calls.Sync
+due_at stages.None left = None
+due_at Ready left = None
+due_at Filed left = None
 
--- a call that failed
+abbrev pub due : Option FoldOf → Option Call
+due None = None
+due (Some fold) = due_at fold.stage fold.left
+
+-- what it makes of the disk, and what it makes of it where it fails
+abbrev pub HomeCalls : FoldStage → List HomeWrite → List State → List State → Type 0
+HomeCalls stage left old new = IfSome (due_at stage left) (λ call. Makes call old new)
+
 abbrev pub FailsHomeCall : FoldStage → List HomeWrite → List State → List State → Type 0
-FailsHomeCall (Home n) left old new = TearsWrite (first_write left).place (length (first_write left).bytes) old new
-FailsHomeCall Sync left old new = Stays old new
-FailsHomeCall stages.None left old new = Stays old new
-FailsHomeCall Ready left old new = Stays old new
-FailsHomeCall Filed left old new = Stays old new
+FailsHomeCall stage left old new = IfSome (due_at stage left) (λ call. Fails call old new)
 
 -- the fault that it then answers
+abbrev pub cause_due : Option Call → DiskFault
+cause_due None = disk_faults.Sync
+cause_due (Some call) = cause_of call
+
 abbrev pub home_fault : FoldStage → DiskFault
-home_fault (Home n) = disk_faults.Write
-home_fault Sync = disk_faults.Sync
-home_fault stages.None = disk_faults.Sync
-home_fault Ready = disk_faults.Sync
-home_fault Filed = disk_faults.Sync
+home_fault stage = cause_due (due_at stage [])
 
 abbrev pub has_call : FoldStage → Bool
-has_call (Home n) = true
-has_call Sync = true
-has_call stages.None = false
-has_call Ready = false
-has_call Filed = false
+has_call stage = is_some (due_at stage [])
 
 abbrev pub is_unfolded : FoldStage → Bool
 is_unfolded stages.None = true

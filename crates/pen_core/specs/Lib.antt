@@ -1,3 +1,4 @@
+pub mod Call
 pub mod Step
 pub mod Held
 pub mod Vectors
@@ -16,3 +17,4 @@ pub mod Opening
 pub mod Values
 pub mod Plan
 pub mod Typed
+pub mod Settled

@@ -1,5 +1,5 @@
 -- A file that is opened.
-use Rattle.std.specs.Prelude.{◌≡◌, ◌⊎◌, ℕ, ◌+◌, ◌/◌, ◌≤◌, ◌<◌, ◌^◌, List, length, take, None, false}
+use Rattle.std.specs.Prelude.{◌≡◌, ◌⊎◌, ℕ, ◌+◌, ◌*◌, ◌/◌, ◌≤◌, ◌<◌, ◌^◌, ◌++◌, List, length, take, None, false}
 use Rattle.record_core.specs.Bytes.{Encoding, IsBytes}
 use Rattle.disk_core.specs.State.{State, now, settled, IsImage}
 use Rattle.disk_core.specs.Calls.{bytes_of}
@@ -14,7 +14,8 @@ use Rattle.segment_core.specs.Fault.{IsRefused}
 use Rattle.segment_core.specs.Raw.{AreCellsOf}
 use Rattle.segment_core.specs.Found.{AreHomesOf}
 use Rattle.segment_core.specs.Scanned.{IsScanOf}
-use Rattle.segment_core.specs.Scanner.{IsFed}
+use Rattle.segment_core.specs.Scanner.{IsFed, IsDecided, IsCutShort}
+use Rattle.segment_core.specs.declared.fault.ScanFault.TheVariants.{Memory}
 use Rattle.segment_core.specs.declared.found.Homes.{Homes}
 use Rattle.segment_core.specs.declared.scanner.Scanner.{Scanner}
 use Rattle.segment_core.specs.declared.vector.Scanned.{Scanned}
@@ -66,14 +67,25 @@ pub record HasTaken {R : Type 0} (form : Encoding R) (keeps : Type 0) (bytes : L
   pub fed : IsFed form image scanner
   pub is : keeps → image ≡ take len bytes
 
--- A scan of an image has found this: where the disk keeps the model, of the bytes that are all on it.
+-- The scanner has taken in what was read of so many bytes: all, or as many as tell the answer, whatever follows them.
+-- Where the disk keeps the model, they are the first of these.
+pub record HasRead {R : Type 0} (form : Encoding R) (keeps : Type 0) (bytes : List ℕ) (len : ℕ) (scanner : Scanner R) : Type 0 where
+  pub image : List ℕ
+  pub inside : length image ≤ len
+  pub short : len < 2 ^ 64
+  pub fits : IsBytes image
+  pub fed : IsFed form image scanner
+  pub fed_all : (more : List ℕ) → length image + length more ≡ len → IsFed form (image ++ more) scanner
+  pub is : keeps → image ≡ take (length image) bytes
+
+-- A scan of an image has found this: where the disk keeps the model, of the first of the bytes that are all on it.
 pub record IsFoundOn {R : Type 0} (form : Encoding R) (keeps : Type 0) (states : List State) (scanned : Scanned R) (homes : Homes) : Type 0 where
   pub image : List ℕ
   pub short : length image < 2 ^ 64
   pub fits : IsBytes image
   pub scan : IsScanOf form image scanned
   pub homes_are : AreHomesOf (shape_of scan.format form) scan.frames homes
-  pub on_disk : keeps → now states ≡ settled image
+  pub on_disk : keeps → (more : List ℕ) × (now states ≡ settled (image ++ more))
 
 -- ---- refusals
 
@@ -93,9 +105,14 @@ failed_openings (Disk cause) = 1
 abbrev pub pieces_of : ℕ → ℕ
 pieces_of len = (len + 4095) / 4096
 
--- the calls of the disk that opening makes: a sync, the length, and a read for each piece
+-- the calls of the disk that opening makes at most: a sync, the length, and a read for each piece
 abbrev pub calls_of : ℕ → ℕ
 calls_of len = 2 + pieces_of len
+
+-- so many it makes where the length is answered, and each read succeeds: the reads end where the bytes do, or sooner,
+-- where what follows can't change the answer
+abbrev pub AreCallsDone : ℕ → ℕ → Type 0
+AreCallsDone len n = (2 ≤ n) × (n ≤ calls_of len) × (len < 2 ^ 64)
 
 -- where it answers this at a read, or behind it
 abbrev pub IsReadFault : OpenFault → Type 0
@@ -105,10 +122,27 @@ IsReadFault (Disk causes.Sync) = ⊥
 IsReadFault (Disk causes.Length) = ⊥
 IsReadFault (Disk causes.Write) = ⊥
 
--- and how many it has made, the one that failed among them, where it answers this
+-- and how many it has made, the one that failed among them, where it answers this. The length was answered before a
+-- read.
 abbrev pub AreCallsMade : ℕ → OpenFault → ℕ → Type 0
-AreCallsMade len (Scan fault) n = (2 ≤ n) × (n ≤ calls_of len)
+AreCallsMade len (Scan fault) n = AreCallsDone len n
 AreCallsMade len (Disk causes.Sync) n = n ≡ 1
 AreCallsMade len (Disk causes.Length) n = n ≡ 2
-AreCallsMade len (Disk causes.Read) n = (2 < n) × (n ≤ calls_of len)
+AreCallsMade len (Disk causes.Read) n = (2 < n) × (n ≤ calls_of len) × (len < 2 ^ 64)
 AreCallsMade len (Disk causes.Write) n = ⊥
+
+-- ---- what is read
+
+-- the bytes of the first n pieces
+abbrev pub pieces_front : ℕ → List ℕ → List ℕ
+pieces_front n bytes = take (4096 * n) bytes
+
+-- So many pieces are read: all, or as many as tell the answer, whatever follows; and none before them told it.
+pub record AreNeeded {R : Type 0} (form : Encoding R) (bytes : List ℕ) (n : ℕ) : Type 0 where
+  pub enough : (n ≡ pieces_of (length bytes)) ⊎ IsDecided form (pieces_front n bytes)
+  pub needed : (k : ℕ) → k < n → IsCutShort form (pieces_front k bytes)
+
+-- how many reads were made where this is answered, the one that failed among them
+abbrev pub AreReadsMade : {R : Type 0} → Encoding R → List ℕ → OpenFault → ℕ → Type 0
+AreReadsMade form bytes (Scan fault) n = (fault ≡ Memory) ⊎ AreNeeded form bytes n
+AreReadsMade form bytes (Disk cause) n = (k : ℕ) → k + 1 < n → IsCutShort form (pieces_front k bytes)

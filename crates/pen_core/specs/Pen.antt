@@ -1,6 +1,6 @@
 -- What the calls of a pen promise.
-use Rattle.std.specs.Prelude.{◌≡◌, ◌⊎◌, ℕ, ◌+◌, ◌<◌, ◌≤◌, ◌^◌, List, length, Option, Some, None, Bool, true, false, IfSome, if◌then◌else◌}
-use Rattle.std.specs.Option.{is_some}
+use Rattle.std.specs.Prelude.{◌≡◌, ◌⊎◌, ℕ, ◌+◌, ◌<◌, ◌≤◌, ◌^◌, List, [], ◌∷◌, ◌++◌, length, Option, Some, None, Bool, true, false, IfSome, if◌then◌else◌}
+use Rattle.std.specs.Option.{is_some, option_map}
 use Rattle.disk_core.specs.State.{State, now, IsImage}
 use Rattle.disk_core.specs.Choice.{is_pending}
 use Rattle.segment_core.specs.declared.format.Shape.{Shape}
@@ -17,13 +17,14 @@ use Rattle.pen_core.specs.declared.stage.FoldStage.{FoldStage}
 use Rattle.pen_core.specs.declared.stage.FoldStage.TheVariants as folds
 use Rattle.pen_core.specs.declared.fault.PenFault.{PenFault}
 use Rattle.pen_core.specs.declared.fault.PenFault.TheVariants as faults
-use Rattle.pen_core.specs.Step.{step_after, steps_left, fault_of}
+use Rattle.pen_core.specs.Call.{Call, Makes, Fails, count_due}
+use Rattle.pen_core.specs.Step.{step_after, steps_left, fault_of, call_at}
 use Rattle.pen_core.specs.Held.{Opens, IsBeingFolded, gate_of}
 use Rattle.pen_core.specs.Known.{IsBeforeOrAfter}
 use Rattle.pen_core.specs.Vectors.{frames_with}
 use Rattle.segment_core.specs.Raw.{after_frame}
 use Rattle.pen_core.specs.PenOf.{PenOf, JobOf, FoldOf, HomeWrite}
-use Rattle.pen_core.specs.InHand.{has_call, called, home_fault, HomeCalls, FailsHomeCall}
+use Rattle.pen_core.specs.InHand.{due, has_call, called, home_fault}
 
 -- ---- what a crash may leave
 
@@ -119,6 +120,25 @@ FileTicked old new ticks.Idle = FileSame old new
 FileTicked old new ticks.Step = FileSame old new
 FileTicked old new ticks.Done = IfSome old.job (λ job. FileGains job.frame old new)
 
+-- what is written for a job: its frame, whose gate is open, and the next gate, closed
+abbrev pub job_bytes : Shape → JobOf → List ℕ
+job_bytes shape job = frame_text shape.format job.frame ++ 0 ∷ []
+
+-- the device call that is due of the log
+abbrev pub log_due : {D : Type 0} → PenOf D → Option Call
+log_due pen = option_map (λ job. call_at job.step pen.gate (job_bytes pen.shape job)) pen.job
+
+-- what a tick makes of the disk: what the call does that is due; else it makes none
+abbrev pub LogTickCalls : {D : Type 0} → PenOf D → Ticked → List State → List State → Type 0
+LogTickCalls pen ticks.Idle old new = new ≡ old
+LogTickCalls pen ticks.Step old new = IfSome (log_due pen) (λ call. Makes call old new)
+LogTickCalls pen ticks.Done old new = IfSome (log_due pen) (λ call. Makes call old new)
+
+-- and what it makes of it where the call fails; a pen that is broken makes none
+abbrev pub LogTickFails : {D : Type 0} → Bool → PenOf D → List State → List State → Type 0
+LogTickFails true pen old new = new ≡ old
+LogTickFails false pen old new = IfSome (log_due pen) (λ call. Fails call old new)
+
 -- a call of the device has failed: the job stands where it stood, and the pen is broken
 pub record IsBrokenBy {D : Type 0} (old new : PenOf D) : Type 0 where
   pub broken : new.broken ≡ true
@@ -133,9 +153,7 @@ IsTickFault old new fault =
 
 -- how many calls of the device a tick makes
 abbrev pub calls_due : Bool → Option JobOf → ℕ
-calls_due true job = 0
-calls_due false None = 0
-calls_due false (Some job) = 1
+calls_due broken job = count_due broken (option_map (λ job. call_at job.step 0 []) job)
 
 -- how many calls of the device have failed where this is answered
 abbrev pub failed_calls : PenFault → ℕ
@@ -199,17 +217,18 @@ IsHomeTicked old new home_ticks.Step = (fold : FoldOf) × (has_call fold.stage �
 IsHomeTicked old new home_ticks.Filed = (fold : FoldOf) × IsFiled fold old new
 IsHomeTicked old new home_ticks.Waiting = (fold : FoldOf) × IsWaiting fold old new
 
--- what its device call makes of the disk: the first write that is left, or their sync; else it makes none
+-- what a tick makes of the disk: what the call does that is due, the first write that is left, or their sync; else it
+-- makes none
 abbrev pub HomeTickCalls : Option FoldOf → HomeTicked → List State → List State → Type 0
 HomeTickCalls fold home_ticks.Idle old new = new ≡ old
-HomeTickCalls fold home_ticks.Step old new = IfSome fold (λ fold. HomeCalls fold.stage fold.left old new)
+HomeTickCalls fold home_ticks.Step old new = IfSome (due fold) (λ call. Makes call old new)
 HomeTickCalls fold home_ticks.Filed old new = new ≡ old
 HomeTickCalls fold home_ticks.Waiting old new = new ≡ old
 
--- and what it makes of it where it fails; a pen that is broken makes none
+-- and what it makes of it where the call fails; a pen that is broken makes none
 abbrev pub HomeTickFails : Bool → Option FoldOf → List State → List State → Type 0
 HomeTickFails true fold old new = new ≡ old
-HomeTickFails false fold old new = IfSome fold (λ fold. FailsHomeCall fold.stage fold.left old new)
+HomeTickFails false fold old new = IfSome (due fold) (λ call. Fails call old new)
 
 -- why it was refused
 abbrev pub IsHomeFault : {D : Type 0} → PenOf D → PenOf D → PenFault → Type 0
@@ -250,6 +269,7 @@ IsFoldBarred pen fault =
 pub record BeginsFold {D : Type 0} (old new : PenOf D) : Type 0 where
   pub ready : IsReadyToFold old true
   pub left : List HomeWrite
+  pub some : 0 < length left
   pub fold_is : new.fold ≡ Some (record { count = old.tally.changes; left = left; stage = folds.Home (length left) })
   pub disk_same : new.disk ≡ old.disk
   pub file_same : FileSame old new

@@ -1,10 +1,9 @@
 -- The four device calls of a commit.
-use Rattle.std.specs.Prelude.{ℕ, ◌+◌, List, [], ◌∷◌, length, drop, Option, Some, None}
+use Rattle.std.specs.Prelude.{ℕ, ◌+◌, List, [], ◌∷◌, drop, Option, Some, None}
 use Rattle.disk_core.specs.State.{State}
-use Rattle.disk_core.specs.Calls.{Stays, Writes, TearsWrite, Settles}
 use Rattle.disk_core.specs.declared.fault.DiskFault.{DiskFault}
-use Rattle.disk_core.specs.declared.fault.DiskFault.TheVariants.{Write, Sync}
 use Rattle.pen_core.specs.declared.step.Step.{Step}
+use Rattle.pen_core.specs.Call.{Call, Write, Sync, Makes, Fails, cause_of}
 use Rattle.pen_core.specs.declared.step.Step.TheVariants.{Body, BodySync, Gate, GateSync}
 
 abbrev pub step_after : Step → Option Step
@@ -24,23 +23,20 @@ steps_left GateSync = 1
 abbrev pub body_of : List ℕ → List ℕ
 body_of bytes = drop 1 bytes
 
--- a call that succeeded
-abbrev pub Calls : Step → ℕ → List ℕ → List State → List State → Type 0
-Calls Body gate bytes old new = Writes (gate + 1) (body_of bytes) old new
-Calls BodySync gate bytes old new = Settles old new
-Calls Gate gate bytes old new = Writes gate (1 ∷ []) old new
-Calls GateSync gate bytes old new = Settles old new
+-- the call that is due at this step
+abbrev pub call_at : Step → ℕ → List ℕ → Call
+call_at Body gate bytes = Write (gate + 1) (body_of bytes)
+call_at BodySync gate bytes = Sync
+call_at Gate gate bytes = Write gate (1 ∷ [])
+call_at GateSync gate bytes = Sync
 
--- a call that failed
+-- what it makes of the disk, and what it makes of it where it fails
+abbrev pub Calls : Step → ℕ → List ℕ → List State → List State → Type 0
+Calls step gate bytes old new = Makes (call_at step gate bytes) old new
+
 abbrev pub FailsCall : Step → ℕ → List ℕ → List State → List State → Type 0
-FailsCall Body gate bytes old new = TearsWrite (gate + 1) (length (body_of bytes)) old new
-FailsCall BodySync gate bytes old new = Stays old new
-FailsCall Gate gate bytes old new = TearsWrite gate 1 old new
-FailsCall GateSync gate bytes old new = Stays old new
+FailsCall step gate bytes old new = Fails (call_at step gate bytes) old new
 
 -- the fault that it then answers
 abbrev pub fault_of : Step → DiskFault
-fault_of Body = Write
-fault_of BodySync = Sync
-fault_of Gate = Write
-fault_of GateSync = Sync
+fault_of step = cause_of (call_at step 0 [])

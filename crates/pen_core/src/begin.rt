@@ -1,9 +1,9 @@
 //! The begin of a job: it tests all refusals and takes all memory, so that the ticks take none.
 
-ghost use Rattle.std.specs.Prelude.{◌≡◌, ◌≤◌, ◌<◌, ◌^◌, None, Some, false, take, OnOk, OnErr, IfErr};
+ghost use Rattle.std.specs.Prelude.{◌≡◌, ◌≤◌, ◌<◌, ◌^◌, None, Some, true, false, take, OnOk, OnErr, IfErr};
 ghost use Rattle.std.specs.Option.{is_some};
 ghost use Rattle.segment_core.specs.Frame.{Shrink};
-ghost use Rattle.pen_core.specs.Pen.{Begins, IsUnchanged, vector_after};
+ghost use Rattle.pen_core.specs.Pen.{Begins, IsKept, IsUnchanged, vector_after};
 ghost use Rattle.pen_core.specs.Refusals as refusals;
 ghost use Rattle.pen_core.specs.Refusals.{first_refusal, IsRefusal, ready_lines, shrink_lines};
 
@@ -18,6 +18,19 @@ use segment_core::{SHRINK_PAYLOAD_LEN, Tally};
 pub(crate) const GATE_LIMIT: u64 = 1 << 48;
 
 impl<D: Disk> Pen<D> {
+    /// Refused: `Broken`, where a call of the disk has failed.
+    pub(crate) fn whole(&self) -> Result<(), PenFault>
+        ensures whole { OnOk result (self.now.broken ≡ false) }
+        ensures short { self.now.tally.size ≤ 2 ^ 32 }
+        ensures refused { IfErr result (λ fault. (fault ≡ PenFault.Broken) × (self.now.broken ≡ true)) }
+        ensures kept { D.keeps self.now.disk → IsKept (D.states self.now.disk) self.now }
+    {
+        if self.broken {
+            return Err(PenFault::Broken);
+        }
+        Ok(())
+    }
+
     /// Whether a log job may be begun: what each begin tests first.
     ///
     /// Refused, in this order: `Broken`, where a call of the disk has failed; `Busy`, while a log job is in hand.
@@ -27,10 +40,9 @@ impl<D: Disk> Pen<D> {
         ensures short { self.now.tally.size ≤ 2 ^ 32 }
         ensures allowed { OnOk result (first_refusal (ready_lines self.now) ≡ None) }
         ensures refused { IfErr result (λ fault. first_refusal (ready_lines self.now) ≡ Some fault) }
+        ensures kept { D.keeps self.now.disk → IsKept (D.states self.now.disk) self.now }
     {
-        if self.broken {
-            return Err(PenFault::Broken);
-        }
+        self.whole()?;
         if self.step.is_some() {
             return Err(PenFault::Busy);
         }
@@ -56,6 +68,7 @@ impl<D: Disk> Pen<D> {
         ensures allowed { OnOk result (first_refusal (shrink_lines self.old n) ≡ None) }
         ensures refused { IfErr result (λ fault. IsRefusal (shrink_lines self.old n) fault) }
         ensures unchanged { OnErr result (IsUnchanged self.old self.new) }
+        ensures kept { D.keeps self.new.disk → IsKept (D.states self.new.disk) self.new }
     {
         self.ready()?;
         if n > self.tally.size {

@@ -9,7 +9,7 @@ ghost use Rattle.segment_core.specs.Command.{replaced};
 ghost use Rattle.segment_core.specs.Written.{joined};
 ghost use Rattle.segment_core.specs.Runs.{runs_given, change_len, change_frame};
 ghost use Rattle.segment_core.specs.Tally.{are_ascending, are_inside};
-ghost use Rattle.pen_core.specs.Pen.{Begins, IsUnchanged, vector_after};
+ghost use Rattle.pen_core.specs.Pen.{Begins, IsKept, IsUnchanged, vector_after};
 ghost use Rattle.pen_core.specs.Refusals.{first_refusal, IsRefusal, change_lines, one_run, room_for, IsReadied};
 
 use crate::fault::PenFault;
@@ -73,6 +73,7 @@ impl<D: Disk> Pen<D> {
         ensures idle { OnOk result (is_some self.now.job ≡ false) }
         ensures allowed { OnOk result (first_refusal (change_lines self.now (runs_given runs.now)) ≡ None) }
         ensures refused { IfErr result (λ fault. first_refusal (change_lines self.now (runs_given runs.now)) ≡ Some fault) }
+        ensures kept { D.keeps self.now.disk → IsKept (D.states self.now.disk) self.now }
     {
         self.ready()?;
         if matches!(self.shape.format, Format::One) && runs.len() > 1 {
@@ -109,8 +110,10 @@ impl<D: Disk> Pen<D> {
     pub fn ready_runs(&mut self, runs: &[(u64, u64)]) -> Result<(), PenFault>
         requires some { 0 < length runs.now }
         ensures ready { OnOk result (IsReadied self.new (runs_given runs.now)) }
+        ensures allowed { OnOk result (first_refusal (change_lines self.old (runs_given runs.now)) ≡ None) }
         ensures refused { IfErr result (λ fault. IsRefusal (change_lines self.old (runs_given runs.now)) fault) }
         ensures unchanged { IsUnchanged self.old self.new }
+        ensures kept { D.keeps self.new.disk → IsKept (D.states self.new.disk) self.new }
     {
         let payload = self.change_size(runs)?;
         if take_room(payload, &mut self.bytes).is_err() {
@@ -126,8 +129,10 @@ impl<D: Disk> Pen<D> {
     pub fn ready_change(&mut self, start: u64, count: u64) -> Result<(), PenFault>
         requires some { 0 < count }
         ensures ready { OnOk result (IsReadied self.new (one_run start count)) }
+        ensures allowed { OnOk result (first_refusal (change_lines self.old (one_run start count)) ≡ None) }
         ensures refused { IfErr result (λ fault. IsRefusal (change_lines self.old (one_run start count)) fault) }
         ensures unchanged { IsUnchanged self.old self.new }
+        ensures kept { D.keeps self.new.disk → IsKept (D.states self.new.disk) self.new }
     {
         self.ready_runs(&[(start, count)])
     }
@@ -150,6 +155,7 @@ impl<D: Disk> Pen<D> {
         ensures allowed { OnOk result (first_refusal (change_lines self.old (runs_given runs.now)) ≡ None) }
         ensures refused { IfErr result (λ fault. IsRefusal (change_lines self.old (runs_given runs.now)) fault) }
         ensures unchanged { OnErr result (IsUnchanged self.old self.new) }
+        ensures kept { D.keeps self.new.disk → IsKept (D.states self.new.disk) self.new }
         ensures sure { IsReadied self.old (runs_given runs.now) → IsOk result }
     {
         let payload = self.change_size(runs)?;
@@ -183,6 +189,7 @@ impl<D: Disk> Pen<D> {
         ensures allowed { OnOk result (first_refusal (change_lines self.old (runs_given runs.now)) ≡ None) }
         ensures refused { IfErr result (λ fault. IsRefusal (change_lines self.old (runs_given runs.now)) fault) }
         ensures unchanged { OnErr result (IsUnchanged self.old self.new) }
+        ensures kept { D.keeps self.new.disk → IsKept (D.states self.new.disk) self.new }
         ensures sure { IsReadied self.old (runs_given runs.now) → IsOk result }
     {
         self.begin_runs_from::<R, &[&[R]]>(runs, &pieces)
@@ -199,6 +206,7 @@ impl<D: Disk> Pen<D> {
         ensures allowed { OnOk result (first_refusal (change_lines self.old (one_run start (length (joined (map (λ piece. piece.now) pieces.now))))) ≡ None) }
         ensures refused { IfErr result (λ fault. IsRefusal (change_lines self.old (one_run start (length (joined (map (λ piece. piece.now) pieces.now))))) fault) }
         ensures unchanged { OnErr result (IsUnchanged self.old self.new) }
+        ensures kept { D.keeps self.new.disk → IsKept (D.states self.new.disk) self.new }
         ensures sure { IsReadied self.old (one_run start (length (joined (map (λ piece. piece.now) pieces.now)))) → IsOk result }
     {
         self.ready()?;

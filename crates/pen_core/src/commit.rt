@@ -5,7 +5,7 @@ ghost use Rattle.disk_core.specs.Calls.{bytes_of};
 ghost use Rattle.disk_core.specs.Moments.{LeavesOnly, clock};
 ghost use Rattle.disk_core.specs.Fault.{IsCounted};
 ghost use Rattle.pen_core.specs.Step.{Calls, FailsCall, fault_of};
-ghost use Rattle.pen_core.specs.Pen.{MayOpen, IsKept, IsTicked, FileTicked, FileSame, IsTickFault, calls_due, failed_calls};
+ghost use Rattle.pen_core.specs.Pen.{MayOpen, IsKept, LogTickCalls, LogTickFails, IsTicked, FileTicked, FileSame, IsTickFault, calls_due, failed_calls};
 
 use crate::fault::PenFault;
 use crate::pen::Pen;
@@ -45,6 +45,9 @@ impl<D: Disk> Pen<D> {
         ensures images { D.keeps self.new.disk
             → LeavesOnly (D.states self.old.disk) (D.states self.new.disk) (MayOpen self.old) }
         ensures kept { D.keeps self.new.disk → IsKept (D.states self.new.disk) self.new }
+        ensures calls { D.keeps self.new.disk → MatchResult result
+            (λ ticked. LogTickCalls self.old ticked (D.states self.old.disk) (D.states self.new.disk))
+            (λ _. LogTickFails self.old.broken self.old (D.states self.old.disk) (D.states self.new.disk)) }
         ensures ticked { IfOk result (λ ticked. IsTicked self.old self.new ticked) }
         ensures file { D.keeps self.new.disk → IfOk result (λ ticked. FileTicked self.old self.new ticked) }
         ensures refused { IfErr result (λ fault. IsTickFault self.old self.new fault) }

@@ -48,7 +48,7 @@ fn look<D: Disk>(disk: &mut D) -> Result<Contents, DiskFault>
     ensures blank_time { result ≡ Ok Contents.Blank → clock (D.states disk.new) ≡ clock (D.states disk.old) + 1 }
     ensures later { clock (D.states disk.old) < clock (D.states disk.new) }
     ensures calls { D.keeps disk.new → MatchResult result
-        (λ seen. AreLooks (first_calls (bytes_of (D.states disk.old))) seen (clock (D.states disk.new) - clock (D.states disk.old)))
+        (λ seen. AreLooks (bytes_of (D.states disk.old)) (first_calls (bytes_of (D.states disk.old))) seen (clock (D.states disk.new) - clock (D.states disk.old)))
         (λ cause. EndsAt (first_calls (bytes_of (D.states disk.old))) cause (clock (D.states disk.new) - clock (D.states disk.old))) }
     ensures faults { MatchResult result
         (λ _. D.faults disk.new ≡ D.faults disk.old)
@@ -105,7 +105,7 @@ fn close_first<D: Disk>(disk: &mut D) -> Result<(), PenFault>
     ensures later { clock (D.states disk.old) < clock (D.states disk.new) }
     ensures calls { D.keeps disk.new → MatchResult result
         (λ _. clock (D.states disk.new) ≡ clock (D.states disk.old) + length (first_calls (bytes_of (D.states disk.old))))
-        (λ fault. AreCallsUntil (first_calls (bytes_of (D.states disk.old))) fault (clock (D.states disk.new) - clock (D.states disk.old))) }
+        (λ fault. AreCallsUntil (bytes_of (D.states disk.old)) (first_calls (bytes_of (D.states disk.old))) fault (clock (D.states disk.new) - clock (D.states disk.old))) }
     ensures faults { MatchResult result
         (λ _. D.faults disk.new ≡ D.faults disk.old)
         (λ fault. D.faults disk.new ≡ D.faults disk.old + failed_calls fault) }
@@ -132,6 +132,7 @@ fn write_header<D: Disk>(disk: &mut D, shape: Shape, bytes: &[u8]) -> Result<(),
     ensures born { D.keeps disk.new → LeavesOnly (D.states disk.old) (D.states disk.new) (IsUnbornOrEmpty shape) }
     ensures done { D.keeps disk.new → OnOk result (now (D.states disk.new) ≡ settled (header shape ++ 0 ∷ [])) }
     ensures time { clock (D.states disk.new) ≤ clock (D.states disk.old) + 4 }
+    ensures later { clock (D.states disk.old) < clock (D.states disk.new) }
     ensures calls { MatchResult result
         (λ _. clock (D.states disk.new) ≡ clock (D.states disk.old) + 4)
         (λ cause. EndsAt (write_calls ++ write_calls) cause (clock (D.states disk.new) - clock (D.states disk.old))) }
@@ -154,9 +155,10 @@ fn make<D: Disk>(disk: &mut D, shape: Shape, bytes: &[u8]) -> Result<(), PenFaul
     ensures exists { D.keeps disk.new → result ≡ Err PenFault.Exists → IsExisting (bytes_of (D.states disk.old)) }
     ensures refused { IfErr result IsCreateFault }
     ensures time { clock (D.states disk.new) ≤ clock (D.states disk.old) + 8 }
+    ensures later { clock (D.states disk.old) < clock (D.states disk.new) }
     ensures calls { D.keeps disk.new → MatchResult result
         (λ _. clock (D.states disk.new) ≡ clock (D.states disk.old) + length (calls_of_creation (bytes_of (D.states disk.old))))
-        (λ fault. AreCallsUntil (calls_of_creation (bytes_of (D.states disk.old))) fault (clock (D.states disk.new) - clock (D.states disk.old))) }
+        (λ fault. AreCallsUntil (bytes_of (D.states disk.old)) (calls_of_creation (bytes_of (D.states disk.old))) fault (clock (D.states disk.new) - clock (D.states disk.old))) }
     ensures faults { MatchResult result
         (λ _. D.faults disk.new ≡ D.faults disk.old)
         (λ fault. D.faults disk.new ≡ D.faults disk.old + failed_calls fault) }
@@ -214,9 +216,12 @@ impl<D: Disk> Pen<D> {
         ensures time { MatchResult result
             (λ pen. clock (D.states pen.disk) ≤ clock (D.states disk) + 8)
             (λ r. clock (D.states r.0) ≤ clock (D.states disk) + 8) }
+        ensures later { MatchResult result
+            (λ pen. clock (D.states disk) < clock (D.states pen.disk))
+            (λ r. IsCreateFault r.1 → clock (D.states disk) < clock (D.states r.0)) }
         ensures calls { MatchResult result
             (λ pen. D.keeps pen.disk → clock (D.states pen.disk) ≡ clock (D.states disk) + length (calls_of_creation (bytes_of (D.states disk))))
-            (λ r. D.keeps r.0 → AreCallsUntil (calls_of_creation (bytes_of (D.states disk))) r.1 (clock (D.states r.0) - clock (D.states disk))) }
+            (λ r. D.keeps r.0 → AreCallsUntil (bytes_of (D.states disk)) (calls_of_creation (bytes_of (D.states disk))) r.1 (clock (D.states r.0) - clock (D.states disk))) }
         ensures faults { MatchResult result
             (λ pen. D.faults pen.disk ≡ D.faults disk)
             (λ r. D.faults r.0 ≡ D.faults disk + failed_calls r.1) }
@@ -269,9 +274,12 @@ impl<D: Disk> Pen<D> {
         ensures time { MatchResult result
             (λ pen. clock (D.states pen.disk) ≤ clock (D.states disk) + 8)
             (λ r. clock (D.states r.0) ≤ clock (D.states disk) + 8) }
+        ensures later { MatchResult result
+            (λ pen. clock (D.states disk) < clock (D.states pen.disk))
+            (λ r. IsCreateFault r.1 → clock (D.states disk) < clock (D.states r.0)) }
         ensures calls { MatchResult result
             (λ pen. D.keeps pen.disk → clock (D.states pen.disk) ≡ clock (D.states disk) + length (calls_of_creation (bytes_of (D.states disk))))
-            (λ r. D.keeps r.0 → AreCallsUntil (calls_of_creation (bytes_of (D.states disk))) r.1 (clock (D.states r.0) - clock (D.states disk))) }
+            (λ r. D.keeps r.0 → AreCallsUntil (bytes_of (D.states disk)) (calls_of_creation (bytes_of (D.states disk))) r.1 (clock (D.states r.0) - clock (D.states disk))) }
         ensures faults { MatchResult result
             (λ pen. D.faults pen.disk ≡ D.faults disk)
             (λ r. D.faults r.0 ≡ D.faults disk + failed_calls r.1) }

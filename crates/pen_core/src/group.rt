@@ -1,10 +1,10 @@
 //! The begin of a group of growths.
 
-ghost use Rattle.std.specs.Prelude.{◌≡◌, ◌≤◌, ◌<◌, ◌^◌, ◌++◌, None, List, length, map, OnOk, OnErr, IfErr, MatchOption};
+ghost use Rattle.std.specs.Prelude.{◌≡◌, ◌≤◌, ◌<◌, ◌^◌, ◌++◌, ◌+◌, ◌*◌, false, None, Some, List, length, map, OnOk, OnErr, IfErr, MatchOption};
 ghost use Rattle.std.specs.List.{AllByRecursion};
 ghost use Rattle.segment_core.specs.Raw.{AreCellsOf};
 ghost use Rattle.segment_core.specs.Written.{group_frame, joined, payload_len};
-ghost use Rattle.pen_core.specs.Pen.{Begins, IsUnchanged, vector_after};
+ghost use Rattle.pen_core.specs.Pen.{Begins, IsKept, IsUnchanged, vector_after};
 ghost use Rattle.pen_core.specs.Refusals.{first_refusal, IsRefusal, group_lines};
 
 use crate::fault::PenFault;
@@ -14,6 +14,9 @@ use crate::step::Step;
 use disk_core::Disk;
 use record_core::{Record, width_of};
 use segment_core::{GrowthList, Home, RECORD_LIMIT, Tally, append_group};
+
+/// The bytes that stand in a frame before the records of its one growth: the count of growths, and one length.
+const ONE_GROWTH_LEN: u64 = 8;
 
 /// How many records the growths have, if no vector is too short for them.
 pub(crate) fn count_records<R, G: GrowthList<R>>(growths: &G) -> Option<u64>
@@ -33,6 +36,27 @@ pub(crate) fn count_records<R, G: GrowthList<R>>(growths: &G) -> Option<u64>
 }
 
 impl<D: Disk> Pen<D> {
+    /// All refusals of a group of one growth of so many records but that of memory.
+    pub fn ready_growth<R: Record>(&self, records: u64) -> Result<(), PenFault>
+        ensures whole { OnOk result (self.now.broken ≡ false) }
+        ensures allowed { OnOk result (first_refusal (group_lines self.now records (8 + records * R.form.width)) ≡ None) }
+        ensures few { OnOk result (self.now.tally.size + records ≤ 2 ^ 32) }
+        ensures refused { IfErr result (λ fault. first_refusal (group_lines self.now records (8 + records * R.form.width)) ≡ Some fault) }
+    {
+        self.ready()?;
+        if records > RECORD_LIMIT - self.tally.size {
+            return Err(PenFault::OutOfRange);
+        }
+        let payload = ONE_GROWTH_LEN + records * width_of::<R>() as u64;
+        if payload > self.shape.format.payload_limit() as u64 {
+            return Err(PenFault::TooLarge);
+        }
+        if self.is_full(payload as usize) {
+            return Err(PenFault::FileFull);
+        }
+        Ok(())
+    }
+
     /// Begins to commit growths as one group, of which each lends its records as one slice.
     ///
     /// Refused, in this order: `Broken`; `Busy`; `OutOfRange`, where the vector would have more than 2^32 records;
@@ -50,6 +74,7 @@ impl<D: Disk> Pen<D> {
         ensures allowed { OnOk result (first_refusal (group_lines self.old (length (joined (G.growths growths.now))) (payload_len R.form.width (G.growths growths.now))) ≡ None) }
         ensures refused { IfErr result (λ fault. IsRefusal (group_lines self.old (length (joined (G.growths growths.now))) (payload_len R.form.width (G.growths growths.now))) fault) }
         ensures unchanged { OnErr result (IsUnchanged self.old self.new) }
+        ensures kept { D.keeps self.new.disk → IsKept (D.states self.new.disk) self.new }
     {
         self.ready()?;
         let Some(records) = count_records::<R, G>(growths) else {
@@ -100,6 +125,7 @@ impl<D: Disk> Pen<D> {
         ensures allowed { OnOk result (first_refusal (group_lines self.old (length (joined (map (λ growth. growth.now) growths.now))) (payload_len R.form.width (map (λ growth. growth.now) growths.now))) ≡ None) }
         ensures refused { IfErr result (λ fault. IsRefusal (group_lines self.old (length (joined (map (λ growth. growth.now) growths.now))) (payload_len R.form.width (map (λ growth. growth.now) growths.now))) fault) }
         ensures unchanged { OnErr result (IsUnchanged self.old self.new) }
+        ensures kept { D.keeps self.new.disk → IsKept (D.states self.new.disk) self.new }
     {
         self.begin_growths::<R, &[&[R]]>(&growths)
     }

@@ -37,10 +37,9 @@ impl<D: Disk> Pen<D> {
     pub fn ready_fold(&self) -> Result<bool, PenFault>
         ensures ready { IfOk result (λ ready. IsReadyToFold self.now ready) }
         ensures refused { IfErr result (λ fault. IsFoldBarred self.now fault) }
+        ensures kept { D.keeps self.now.disk → IsKept (D.states self.now.disk) self.now }
     {
-        if self.broken {
-            return Err(PenFault::Broken);
-        }
+        self.whole()?;
         if !self.fold.is_none() {
             return Err(PenFault::Busy);
         }
@@ -69,6 +68,7 @@ impl<D: Disk> Pen<D> {
         ensures plans { D.keeps self.old.disk → OnOk result (IfSome self.new.fold (λ fold. IsWholeFold self.old.shape self.old.frames self.old.vector fold.left)) }
         ensures refused { IfErr result (λ fault. IsFoldRefusal self.old fault) }
         ensures unchanged { OnErr result (IsUnchanged self.old self.new) }
+        ensures kept { D.keeps self.new.disk → IsKept (D.states self.new.disk) self.new }
     {
         if !self.ready_fold()? {
             return Ok(false);
@@ -100,6 +100,7 @@ impl<D: Disk> Pen<D> {
         ensures plans { D.keeps self.old.disk → OnOk result (IfSome self.new.fold (λ fold. IsWholeFold self.old.shape self.old.frames self.old.vector fold.left)) }
         ensures refused { IfErr result (λ fault. IsFoldRefusal self.old fault) }
         ensures unchanged { OnErr result (IsUnchanged self.old self.new) }
+        ensures kept { D.keeps self.new.disk → IsKept (D.states self.new.disk) self.new }
     {
         self.begin_fold_from::<R, &[&[R]]>(&pieces)
     }

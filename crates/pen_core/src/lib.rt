@@ -16,6 +16,7 @@ mod home_runs;
 mod noting;
 mod open;
 mod pen;
+mod settle;
 mod stage;
 mod step;
 mod values;

@@ -8,6 +8,7 @@ mod commits;
 mod creation;
 mod folds;
 mod folds_beside_commits;
+mod further_folds;
 mod replayed;
 mod scattered_folds;
 

@@ -5,6 +5,7 @@ use crate::noting::NotingDisk;
 use disk_core::{Blow, Choice, DiskFault, FuseDisk, ImageLength, PendingBytes, RamDisk};
 use record_core::Flagged;
 use segment_core::Cause;
+use std::alloc::AllocError;
 use std::fmt::Debug;
 use std::process::Abort;
 use std::test::Fail;
@@ -147,18 +148,107 @@ fn a_call_that_fails_is_told(rt: HostRuntime) -> Result<(), Fail> {
     Ok(())
 }
 
+/// A file of one growth of so many zeros.
+fn of_zeros(alloc: Global, count: u32) -> Result<Vec<u8>, Fail> {
+    let bytes = count.saturating_mul(8);
+    let mut file = Vec::from_slice(alloc, &EMPTY[..11])?;
+    file.extend_from_slice(&[1, 1])?;
+    file.extend_from_slice(&bytes.saturating_add(8).to_le_bytes())?;
+    file.extend_from_slice(&1u32.to_le_bytes())?;
+    file.extend_from_slice(&count.to_le_bytes())?;
+    file.resize(file.len().saturating_add(bytes as usize), 0)?;
+    file.push(0)?;
+    Ok(file)
+}
+
 #[test]
 fn a_long_file_is_read_in_pieces(rt: HostRuntime) -> Result<(), Fail> {
     let alloc = rt.alloc();
-    let mut file = Vec::from_slice(alloc, &FIVE)?;
-    file.resize(4097, 0xff)?;
+    // The frame ends at 8,185 bytes, its gate is in the second piece, and the third isn't read.
+    for (count, len, reads, end) in [
+        (508, 4090, 1, 4090),
+        (1020, 8186, 2, 8186),
+        (1020, 8193, 2, 8192),
+        (1021, 8194, 3, 8194),
+    ] {
+        let mut file = of_zeros(alloc, count)?;
+        file.resize(len, 0xff)?;
+        let disk = NotingDisk::new(RamDisk::from_bytes(alloc, file));
+        let (pen, records) = Pen::open::<u64>(alloc, disk).ok().ok_or("a file")?;
+        assert_eq!(rt; records.len(), count as usize);
+        let notes = pen.disk().notes();
+        assert_eq!(rt; (notes.syncs, notes.lengths, notes.writes), (1, 1, 0));
+        assert_eq!(rt; (notes.reads, notes.end), (reads, end));
+        assert!(rt; notes.longest <= 4096 && notes.in_turn);
+    }
+    Ok(())
+}
+
+/// The bytes of 1 MiB.
+const LONG: usize = 1 << 20;
+
+/// What opening a file of 1 MiB that begins with these bytes answers, and how many reads it makes.
+fn reads_of<R: Record>(
+    alloc: Global,
+    front: &[u8],
+) -> Result<(Result<usize, OpenFault>, u64), AllocError> {
+    let mut file = Vec::from_slice(alloc, front)?;
+    file.resize(LONG, 1)?;
     let disk = NotingDisk::new(RamDisk::from_bytes(alloc, file));
-    let (pen, records) = Pen::open::<u64>(alloc, disk).ok().ok_or("a file")?;
-    assert_eq!(rt; records.as_slice(), [5].as_slice());
-    let notes = pen.disk().notes();
-    assert_eq!(rt; (notes.syncs, notes.lengths, notes.writes), (1, 1, 0));
-    assert_eq!(rt; (notes.reads, notes.longest, notes.end), (2, 4096, 4097));
-    assert!(rt; notes.in_turn);
+    Ok(match Pen::open::<R>(alloc, disk) {
+        Ok((pen, records)) => (Ok(records.len()), pen.disk().notes().reads),
+        Err((disk, fault)) => (Err(fault), disk.notes().reads),
+    })
+}
+
+#[test]
+fn no_more_is_read_than_can_change_the_answer(rt: HostRuntime) -> Result<(), Fail> {
+    let alloc = rt.alloc();
+    let scan = |fault| Err(OpenFault::Scan(fault));
+    // Behind a closed gate stand open ones.
+    assert_eq!(rt; reads_of::<u64>(alloc, &FIVE)?, (Ok(1), 1));
+    assert_eq!(rt; reads_of::<u64>(alloc, &EMPTY)?, (Ok(0), 1));
+    assert_eq!(rt; reads_of::<u64>(alloc, &[0])?, (scan(ScanFault::Unborn), 1));
+    assert_eq!(rt;
+        reads_of::<u32>(alloc, &FIVE)?,
+        (scan(ScanFault::Width(8)), 1)
+    );
+    assert_eq!(rt;
+        reads_of::<Flagged>(alloc, &BAD)?,
+        (Err(damaged(25, Cause::BadRecord)), 1)
+    );
+    let mut file = FIVE;
+    file[12] = 5;
+    assert_eq!(rt;
+        reads_of::<u64>(alloc, &file)?,
+        (Err(damaged(12, Cause::Kind(5))), 1)
+    );
+    // A length past the limit is told by the head, and a wrong layout once the whole frame is read.
+    file[12] = 1;
+    file[16] = 1;
+    assert_eq!(rt;
+        reads_of::<u64>(alloc, &file)?,
+        (Err(damaged(13, Cause::TooLarge)), 1)
+    );
+    file[16] = 0;
+    file[14] = 0x20;
+    assert_eq!(rt;
+        reads_of::<u64>(alloc, &file)?,
+        (Err(damaged(17, Cause::Layout)), 3)
+    );
+    Ok(())
+}
+
+#[test]
+fn a_frame_that_is_cut_short_is_read_to_its_end(rt: HostRuntime) -> Result<(), Fail> {
+    // A frame of 1 MiB and a few bytes more: only the end of the file tells that it isn't whole.
+    let mut file = FIVE;
+    file[15] = 0x10;
+    file[13] = 0;
+    assert_eq!(rt;
+        reads_of::<u64>(rt.alloc(), &file)?,
+        (Err(damaged(11, Cause::ShortFrame)), 256)
+    );
     Ok(())
 }
 

@@ -58,12 +58,15 @@ const FOLDING: [(Call, Answer); 9] = [
 ];
 
 /// What a crash leaves of the pen's file, if nothing pending arrives.
-fn left(alloc: Global, pen: &Pen<TestDisk>) -> Result<Vec<u8>, Fail> {
+pub(super) fn left(alloc: Global, pen: &Pen<TestDisk>) -> Result<Vec<u8>, Fail> {
     Ok(pen.disk().replayed(alloc)?.image(&choice(0))?)
 }
 
 /// Begins to fold the pen's file.
-fn begin_fold(rt: &(impl AllocGlobal + Abort), pen: &mut Pen<TestDisk>) -> Result<(), Fail>
+pub(super) fn begin_fold(
+    rt: &(impl AllocGlobal + Abort),
+    pen: &mut Pen<TestDisk>,
+) -> Result<(), Fail>
     requires { pen.old.shape.width ≡ 8 }
     ensures { pen.new.shape ≡ pen.old.shape }
 {
@@ -275,7 +278,9 @@ const RUNS: [(Call, Answer); 20] = [
 ];
 
 /// Makes the calls of the fold in hand, and of its frame. Whether it is done then.
-fn finish<D: Disk>(pen: &mut Pen<D>) -> bool {
+pub(super) fn finish<D: Disk>(pen: &mut Pen<D>) -> bool
+    ensures { pen.new.shape ≡ pen.old.shape }
+{
     for _ in 0..u64::MAX {
         match pen.tick_home() {
             Ok(HomeTicked::Step) => {}

@@ -37,22 +37,22 @@ pub returns-in-File-clause-calls : goal.returns-in-File-clause-calls
 returns-in-File-clause-calls g c = λ model.
     let old = g.D.Disk.states c.args.disk.now in
     let n = clock (g.D.Disk.states c.look.new.disk) - clock old in
-    subst (λ seen. AreLooks (first_calls (bytes_of old)) seen n) c.in-File.is (c.in-Ok.ensures.calls model)
+    subst (λ seen. AreLooks (bytes_of old) (first_calls (bytes_of old)) seen n) c.in-File.is (c.in-Ok.ensures.calls model)
 
 pub returns-in-Closed-clause-calls : goal.returns-in-Closed-clause-calls
 returns-in-Closed-clause-calls g c = λ model.
     let old = g.D.Disk.states c.args.disk.now in
     let n = clock (g.D.Disk.states c.look.new.disk) - clock old in
-    let two = subst (λ seen. AreLooks (first_calls (bytes_of old)) seen n) c.in-Closed.is (c.in-Ok.ensures.calls model) in
+    let two = subst (λ seen. AreLooks (bytes_of old) (first_calls (bytes_of old)) seen n) c.in-Closed.is (c.in-Ok.ensures.calls model) in
     let long = subst (AreContents (bytes_of old)) c.in-Closed.is (c.in-Ok.ensures.found model) in
-    omega (arith, two, c.look.ensures.later, ap length (first_long (bytes_of old) long.0))
+    omega (arith, two, c.look.ensures.later, ap length (first_long (bytes_of old) long.0 long.1))
 
 pub returns-in-Ok-write_synced-clause-calls : goal.returns-in-Ok-write_synced-clause-calls
 returns-in-Ok-write_synced-clause-calls g c = λ model.
     let old = g.D.Disk.states c.args.disk.now in
     let m = c.write_synced.ensures.model model in
     let n = clock (g.D.Disk.states c.look.new.disk) - clock old in
-    let one = subst (λ seen. AreLooks (first_calls (bytes_of old)) seen n) c.in-Blank.is (c.in-Ok.ensures.calls m) in
+    let one = subst (λ seen. AreLooks (bytes_of old) (first_calls (bytes_of old)) seen n) c.in-Blank.is (c.in-Ok.ensures.calls m) in
     let short = subst (AreContents (bytes_of old)) c.in-Blank.is (c.in-Ok.ensures.found m) in
     omega (arith, one, c.look.ensures.later, c.in-Ok-write_synced.ensures.calls, ap length (first_blank (bytes_of old) short))
 
@@ -62,7 +62,7 @@ returns-in-Err-write_synced-clause-calls g c = λ model.
     let mid = g.D.Disk.states c.look.new.disk in
     let new = g.D.Disk.states c.write_synced.new.disk in
     let m = c.write_synced.ensures.model model in
-    let one = subst (λ seen. AreLooks (first_calls (bytes_of old)) seen (clock mid - clock old)) c.in-Blank.is (c.in-Ok.ensures.calls m) in
+    let one = subst (λ seen. AreLooks (bytes_of old) (first_calls (bytes_of old)) seen (clock mid - clock old)) c.in-Blank.is (c.in-Ok.ensures.calls m) in
     let short = subst (AreContents (bytes_of old)) c.in-Blank.is (c.in-Ok.ensures.found m) in
     let ends = c.in-Err-write_synced.ensures.calls in
     let some : 0 < clock new - clock mid = ends.0 in

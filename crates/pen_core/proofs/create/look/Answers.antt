@@ -1,5 +1,5 @@
 use Rattle.pen_core.proofs.Births.{stays_only, stays_twice}
-use Rattle.std.proofs.Common.{◌<◌, ◌-◌, length, refl, ap, inl, inr, arith}
+use Rattle.std.proofs.Common.{◌<◌, ◌≤◌, ◌-◌, length, refl, ap, inl, inr, arith}
 use Rattle.std.specs.Prelude.{slice_get}
 use Rattle.std.proofs.lemmas.Result.{err_from_is_err_and}
 use Rattle.disk_core.specs.declared.fault.DiskFault.TheVariants.{Length, Read}
@@ -43,19 +43,22 @@ returns-in_err-len-clause-calls g c = λ model.
 pub returns-then-len-gt-EMPTY_LEN-clause-calls : goal.returns-then-len-gt-EMPTY_LEN-clause-calls
 returns-then-len-gt-EMPTY_LEN-clause-calls g c = λ model.
     let old = g.D.Disk.states c.args.disk.now in
-    inl (ends_at (first_calls (bytes_of old)) 0 (clock (g.D.Disk.states c.len.new.self) - clock old) Length Length refl refl (omega (arith, c.len.ensures.time)))
+    let long : 12 < length (bytes_of old) = omega (arith, c.in_ok-len.ensures.value model, c.if-len-gt-EMPTY_LEN.true) in
+    inl (long, ends_at (first_calls (bytes_of old)) 0 (clock (g.D.Disk.states c.len.new.self) - clock old) Length Length refl refl (omega (arith, c.len.ensures.time)))
 
 pub returns-in_err-read_at-clause-calls : goal.returns-in_err-read_at-clause-calls
 returns-in_err-read_at-clause-calls g c = λ model.
     let old = g.D.Disk.states c.args.disk.now in
     let n = clock (g.D.Disk.states c.read_at.new.self) - clock old in
     let long : 1 < length (bytes_of old) = omega (arith, c.in_ok-len.ensures.value (c.read_at.ensures.model model), c.if-len-lt2.false) in
+    let short : length (bytes_of old) ≤ 12 = omega (arith, c.in_ok-len.ensures.value (c.read_at.ensures.model model), c.if-len-gt-EMPTY_LEN.false) in
     let p = err_from_is_err_and c.from_residual-in_err-read_at.result c.from_residual-in_err-read_at.ensures.1 in
-    rw (p.1, p.2) (ends_at (first_calls (bytes_of old)) 1 n Read c.in_err-read_at.field-0.0 (ap (λ cs. slice_get cs 1) (first_long (bytes_of old) long)) c.in_err-read_at.ensures.cause.0 (omega (arith, c.len.ensures.time, c.read_at.ensures.time)))
+    rw (p.1, p.2) (ends_at (first_calls (bytes_of old)) 1 n Read c.in_err-read_at.field-0.0 (ap (λ cs. slice_get cs 1) (first_long (bytes_of old) long short)) c.in_err-read_at.ensures.cause.0 (omega (arith, c.len.ensures.time, c.read_at.ensures.time)))
 
 pub returns-then-first-eq-OPEN-clause-calls : goal.returns-then-first-eq-OPEN-clause-calls
 returns-then-first-eq-OPEN-clause-calls g c = λ model.
     let old = g.D.Disk.states c.args.disk.now in
     let n = clock (g.D.Disk.states c.read_at.new.self) - clock old in
     let long : 1 < length (bytes_of old) = omega (arith, c.in_ok-len.ensures.value (c.read_at.ensures.model model), c.if-len-lt2.false) in
-    inr (ends_at (first_calls (bytes_of old)) 1 n Read Read (ap (λ cs. slice_get cs 1) (first_long (bytes_of old) long)) refl (omega (arith, c.len.ensures.time, c.read_at.ensures.time)))
+    let short : length (bytes_of old) ≤ 12 = omega (arith, c.in_ok-len.ensures.value (c.read_at.ensures.model model), c.if-len-gt-EMPTY_LEN.false) in
+    inr (short, ends_at (first_calls (bytes_of old)) 1 n Read Read (ap (λ cs. slice_get cs 1) (first_long (bytes_of old) long short)) refl (omega (arith, c.len.ensures.time, c.read_at.ensures.time)))

@@ -58,10 +58,10 @@ returns-in_err-close_first-clause-calls g c = λ model.
     let mid = g.D.Disk.states c.sync.new.self in
     let new = g.D.Disk.states c.close_first.new.disk in
     let seen : bytes_of mid ≡ bytes_of old = ap (λ ss. (now ss).seen) (c.in_default.ensures.done (c.sync.ensures.model (c.close_first.ensures.model model))) in
-    let until = subst (λ (bs : List ℕ). AreCallsUntil (first_calls bs) c.in_err-close_first.field-0.0 (clock new - clock mid)) seen (c.in_err-close_first.ensures.calls model) in
+    let until = subst (λ (bs : List ℕ). AreCallsUntil bs (first_calls bs) c.in_err-close_first.field-0.0 (clock new - clock mid)) seen (c.in_err-close_first.ensures.calls model) in
     let some : 0 < clock new - clock mid = omega (arith, c.close_first.ensures.later) in
     let p = err_from_is_err_and c.from_residual.result c.from_residual.ensures.1 in
-    rw (p.1, p.2) (until_behind (Sync ∷ []) (first_calls (bytes_of old)) (write_calls ++ write_calls) (clock new - clock mid) (clock new - clock old) c.in_err-close_first.field-0.0 (omega (arith, c.sync.ensures.time, c.close_first.ensures.later)) some until)
+    rw (p.1, p.2) (until_behind (bytes_of old) (Sync ∷ []) (first_calls (bytes_of old)) (write_calls ++ write_calls) (clock new - clock mid) (clock new - clock old) c.in_err-close_first.field-0.0 (omega (arith, c.sync.ensures.time, c.close_first.ensures.later)) some until)
 
 pub returns-in-Err-write_header-clause-calls : goal.returns-in-Err-write_header-clause-calls
 returns-in-Err-write_header-clause-calls g c = λ model.

@@ -2,7 +2,7 @@ use Rattle.std.proofs.Common.{◌≡◌, ◌+◌, length, take, length-take, ref
 use Rattle.disk_core.specs.State.{now, IsImage}
 use Rattle.disk_core.specs.Calls.{bytes_of}
 use Rattle.disk_core.proofs.JoinedMoments.{LeavesOnly-start}
-use Rattle.pen_core.proofs.Pieces.{taken_nothing, taken_same, one_more_stays, next_piece}
+use Rattle.pen_core.proofs.Pieces.{taken_nothing, taken_same, one_more_stays, next_piece, needed_more}
 use Rattle.pen_core.proofs.open.feed_all.Goals as goal
 
 pub loop-at-init : goal.loop-at-init
@@ -16,6 +16,7 @@ loop-at-init g c =
       same = λ model. refl;
       images = λ model. LeavesOnly-start old (IsImage (now old)) (λ image is. is);
       time = omega arith;
+      needed = λ model k lt. absurd (omega (arith, lt));
       faults = refl;
     }
 
@@ -42,5 +43,8 @@ loop-at-preserved g c =
       same = λ model. ap now (c.feed_piece.ensures.same model) ∙ c.loop-at.invariant.same (c.feed_piece.ensures.model model);
       images = λ model. (let m = c.feed_piece.ensures.model model in one_more_stays old mid new (c.loop-at.invariant.same m) (c.loop-at.invariant.images m) (c.feed_piece.ensures.same model));
       time = omega (arith, c.feed_piece.ensures.time, c.loop-at.invariant.time, next.one_more);
+      needed = λ model k lt. (
+          let m = c.feed_piece.ensures.model model in
+          needed_more g.R.Record.form (g.D.Disk.keeps c.loop-at.disk) (bytes_of old) c.loop-at.at c.loop-at.scanner c.loop-at.invariant.taken m (c.loop-at.invariant.whole c.loop-at-test.true) (c.if-not-is_decided.ensures.cut refl) c.in_ok-feed_piece.ensures.lost (c.loop-at.invariant.needed m) k (omega (arith, lt, next.one_more)));
       faults = c.in_ok-feed_piece.ensures.faults ∙ c.loop-at.invariant.faults;
     }

@@ -1,8 +1,9 @@
-use Rattle.std.proofs.Common.{◌≡◌, ◌≤◌, ◌<◌, ◌+◌, ◌-◌, ◌*◌}
+use Rattle.std.proofs.Common.{◌≡◌, ℕ, ◌≤◌, ◌<◌, ◌+◌, ◌-◌, ◌*◌}
 use Rattle.disk_core.specs.State.{now, IsImage}
 use Rattle.disk_core.specs.Calls.{bytes_of}
 use Rattle.disk_core.specs.Moments.{LeavesOnly, clock}
-use Rattle.pen_core.specs.Opening.{HasTaken, pieces_of}
+use Rattle.segment_core.specs.Scanner.{IsCutShort}
+use Rattle.pen_core.specs.Opening.{HasTaken, pieces_of, pieces_front}
 use Rattle.pen_core.proofs.open.feed_all.Given as goal
 
 abbrev pub invariant-loop-at : goal.invariant-loop-at
@@ -14,6 +15,7 @@ invariant-loop-at g l = record {
   same : g.D.Disk.keeps l.disk → now (g.D.Disk.states l.disk) ≡ now (g.D.Disk.states l.fn.disk);
   images : g.D.Disk.keeps l.disk → LeavesOnly (g.D.Disk.states l.fn.disk) (g.D.Disk.states l.disk) (IsImage (now (g.D.Disk.states l.fn.disk)));
   time : clock (g.D.Disk.states l.disk) ≡ clock (g.D.Disk.states l.fn.disk) + pieces_of l.at;
+  needed : g.D.Disk.keeps l.disk → (k : ℕ) → k < pieces_of l.at → IsCutShort g.R.Record.form (pieces_front k (bytes_of (g.D.Disk.states l.fn.disk)));
   faults : g.D.Disk.faults l.disk ≡ g.D.Disk.faults l.fn.disk;
 }
 

@@ -1,9 +1,10 @@
-use Rattle.std.proofs.Common.{◌-◌, length, refl, sym, ap, ◌∙◌, arith}
+use Rattle.std.proofs.Common.{ℕ, ◌-◌, List, length, inr, refl, sym, ap, subst, ◌∙◌, arith}
 use Rattle.disk_core.specs.State.{now}
 use Rattle.disk_core.specs.Calls.{bytes_of}
 use Rattle.disk_core.specs.Moments.{clock}
+use Rattle.segment_core.specs.Fault.{IsRefused}
 use Rattle.pen_core.proofs.Births.{stays_only}
-use Rattle.pen_core.proofs.Pieces.{only_syncs_failed, only_syncs_settled, reads_behind, made_a_sync, made_a_length, settled_behind, found_on, refused_on}
+use Rattle.pen_core.proofs.Pieces.{only_syncs_failed, only_syncs_settled, reads_behind, made_a_sync, made_a_length, settled_behind, found_on, fed_whole, needed_behind}
 use Rattle.pen_core.proofs.open.scan_disk.Goals as goal
 
 pub returns-in-Err-clause-only_syncs : goal.returns-in-Err-clause-only_syncs
@@ -71,9 +72,9 @@ pub returns-in-Ok-end_with-clause-found : goal.returns-in-Ok-end_with-clause-fou
 returns-in-Ok-end_with-clause-found g c =
     let mid = g.D.Disk.states c.sync.new.self in
     let last = g.D.Disk.states c.len.new.self in
-    let taken = c.in_ok-feed_all.ensures.taken in
-    let answer = c.in-Ok-end_with.ensures.answer taken.image taken.fed in
-    found_on g.R.Record.form (g.D.Disk.keeps c.feed_all.new.disk) (g.D.Disk.states c.args.disk.now) last (g.D.Disk.states c.feed_all.new.disk) c.in-Ok.len c.feed_all.new.scanner taken
+    let read = c.in_ok-feed_all.ensures.read in
+    let answer = c.in-Ok-end_with.ensures.answer read.image read.fed in
+    found_on g.R.Record.form (g.D.Disk.keeps c.feed_all.new.disk) (g.D.Disk.states c.args.disk.now) last (g.D.Disk.states c.feed_all.new.disk) c.in-Ok.len c.feed_all.new.scanner read
     (λ model. c.in-Ok.ensures.value (c.feed_all.ensures.model model) ∙ ap (λ ss. length (bytes_of ss)) (sym (c.len.ensures.same (c.len.ensures.model (c.feed_all.ensures.model model)))))
     c.feed_all.ensures.same c.in-Ok-end_with.found.0 c.in-Ok-end_with.found.1 answer.0 answer.1
     (λ model.
@@ -83,11 +84,26 @@ returns-in-Ok-end_with-clause-found g c =
 pub returns-in-Err-end_with-clause-refused : goal.returns-in-Err-end_with-clause-refused
 returns-in-Err-end_with-clause-refused g c = λ model.
     let old = g.D.Disk.states c.args.disk.now in
-    let mid = g.D.Disk.states c.sync.new.self in
     let last = g.D.Disk.states c.len.new.self in
-    let taken = c.in_ok-feed_all.ensures.taken in
     let behind = c.len.ensures.model (c.feed_all.ensures.model model) in
-    refused_on g.R.Record.form (g.D.Disk.keeps c.feed_all.new.disk) old last (g.D.Disk.states c.feed_all.new.disk) c.in-Ok.len c.feed_all.new.scanner taken
-    (λ model. c.in-Ok.ensures.value (c.feed_all.ensures.model model) ∙ ap (λ ss. length (bytes_of ss)) (sym (c.len.ensures.same (c.len.ensures.model (c.feed_all.ensures.model model)))))
-    c.feed_all.ensures.same c.in-Err-end_with.fault (c.in-Err-end_with.ensures.answer taken.image taken.fed) model
-    (ap (λ s. s.seen) (ap now (c.len.ensures.same behind) ∙ ap now (c.in_default.ensures.done (c.sync.ensures.model behind))))
+    let fed = fed_whole g.R.Record.form (g.D.Disk.keeps c.feed_all.new.disk) old last (g.D.Disk.states c.feed_all.new.disk) c.in-Ok.len c.feed_all.new.scanner c.in_ok-feed_all.ensures.read
+    (λ m. c.in-Ok.ensures.value (c.feed_all.ensures.model m) ∙ ap (λ ss. length (bytes_of ss)) (sym (c.len.ensures.same (c.len.ensures.model (c.feed_all.ensures.model m)))))
+    c.feed_all.ensures.same model in
+    subst (λ (bs : List ℕ). IsRefused g.R.Record.form bs c.in-Err-end_with.fault) (ap (λ s. s.seen) (ap now (c.len.ensures.same behind) ∙ ap now (c.in_default.ensures.done (c.sync.ensures.model behind))))
+    (c.in-Err-end_with.ensures.answer (bytes_of last) fed)
+
+pub returns-in-Ok-end_with-clause-reads : goal.returns-in-Ok-end_with-clause-reads
+returns-in-Ok-end_with-clause-reads g c = λ model.
+    let old = g.D.Disk.states c.args.disk.now in
+    let last = g.D.Disk.states c.len.new.self in
+    let behind = c.len.ensures.model (c.feed_all.ensures.model model) in
+    needed_behind g.R.Record.form old last (g.D.Disk.states c.feed_all.new.disk) (ap (λ s. s.seen) (ap now (c.len.ensures.same behind) ∙ ap now (c.in_default.ensures.done (c.sync.ensures.model behind))))
+    (omega (arith, c.sync.ensures.time, c.len.ensures.time)) (c.in_ok-feed_all.ensures.reads model)
+
+pub returns-in-Err-end_with-clause-reads : goal.returns-in-Err-end_with-clause-reads
+returns-in-Err-end_with-clause-reads g c = λ model.
+    let old = g.D.Disk.states c.args.disk.now in
+    let last = g.D.Disk.states c.len.new.self in
+    let behind = c.len.ensures.model (c.feed_all.ensures.model model) in
+    inr (needed_behind g.R.Record.form old last (g.D.Disk.states c.feed_all.new.disk) (ap (λ s. s.seen) (ap now (c.len.ensures.same behind) ∙ ap now (c.in_default.ensures.done (c.sync.ensures.model behind))))
+    (omega (arith, c.sync.ensures.time, c.len.ensures.time)) (c.in_ok-feed_all.ensures.reads model))

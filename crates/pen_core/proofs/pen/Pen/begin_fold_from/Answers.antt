@@ -9,9 +9,10 @@ use Rattle.pen_core.specs.Covered.{IsCover}
 use Rattle.pen_core.specs.HomeRuns.{AreHomesTo}
 use Rattle.pen_core.specs.Pen.{IsReadyToFold}
 use Rattle.pen_core.specs.Plan.{IsPlan}
+use Rattle.pen_core.proofs.KeptPen.{kept_folding}
 use Rattle.pen_core.proofs.FoldListed.{some_live, small_live, inside_cover}
 use Rattle.pen_core.proofs.HomesTo.{AreHomesTo-pen}
-use Rattle.pen_core.proofs.Taken.{plan_for, taken, whole_taken, length_left}
+use Rattle.pen_core.proofs.Taken.{plan_for, taken, some_left, whole_taken, length_left}
 use Rattle.pen_core.proofs.pen.Pen.begin_fold_from.Goals as goal
 
 on_ok : {A E P : Type 0} (r : Result A E) → is_err r ≡ false → OnOk r P → P
@@ -62,13 +63,25 @@ invariant_of-self-2 g c =
 pub returns-clause-begun : goal.returns-clause-begun
 returns-clause-begun g c = rw (← c.self.view_is) (
     let s = c.self.inside in
+    let form = g.R.Record.form in
+    let laws = g.met.R.Record g.world.𝓛 g.world.𝓜 g.world.𝓡 ((λ s x. x), (λ x. x), (λ x. x), λ x. x) in
+    let width : form.width ≡ s.shape.width = c.requires.width ∙ sym (ap (λ v. v.shape.width) c.self.view_is) in
+    let size : s.tally.size ≤ length (joined (g.G.GrowthList.growths c.args.pieces.now)) = subst (λ v. v.tally.size ≤ length (joined (g.G.GrowthList.growths c.args.pieces.now))) (sym c.self.view_is) c.requires.all in
+    let records = take s.tally.size (joined (g.G.GrowthList.growths c.args.pieces.now)) in
     let ready = subst (λ v. IsReadyToFold v true) (sym c.self.view_is) (subst (IsReadyToFold c.args.self.now) c.if-not-branch.false c.in_ok-ready_fold.ensures.ready) in
     let made = sym c.is_err.ensures.value ∙ c.if-is_err.false in
+    let done = on_ok c.plan.result made c.plan.ensures.from_first in
+    let spelled = on_ok c.put_fold.result (sym c.is_err-2.ensures.value ∙ c.if-is_err-2.false) c.put_fold.ensures.text s.shape.format in
+    let values = subst (λ v. g.D.Disk.keeps v.disk → v.vector ≡ map form.bytes_of (take v.tally.size (joined (g.G.GrowthList.growths c.args.pieces.now)))) (sym c.self.view_is) c.requires.values in
+    let planned = subst (λ runs. IsPlan form records s.shape.width s.tally.size (take s.live runs) s.homes.homes.items c.plan.new.self) c.deref.ensures.value (subst (λ hs. IsPlan form records s.shape.width s.tally.size (take s.live c.deref.result.now) hs c.plan.new.self) c.deref-2.ensures.value (on_ok c.plan.result made c.plan.ensures.planned)) in
     let begun : Fold = record { stage = Home c.len.result; count = s.tally.changes; runs = s.live; writes = c.plan.new.self.writes; done = c.plan.new.self.done; bytes = c.plan.new.self.bytes; frame = c.put_fold.new.bytes } in
     record {
       ready = ready;
       left = left_of begun;
-      fold_is = ap (λ n. Some (record { count = s.tally.changes; left = left_of begun; stage = Home n })) (c.len.ensures ∙ c.plan.new.self.writes.ok.0 ∙ sym (length_left begun (on_ok c.plan.result made c.plan.ensures.from_first)));
+      some = some_left form records (g.D.Disk.keeps s.disk) (g.D.Disk.states s.disk) s.shape s.gate s.tally s.next s.bytes.items s.step s.broken s.homes s.live s.fold begun c.self.invariant.0 c.self.invariant.1 ready
+          (plan_for form records s.shape.width s.tally.size (take s.live s.homes.live.items) s.homes.homes.items c.plan.new.self begun refl refl planned)
+          (λ r. laws.width_of_bytes r ∙ width) (length-take-le s.tally.size (joined (g.G.GrowthList.growths c.args.pieces.now)) size) values spelled (ap (λ n. Home n) (c.len.ensures ∙ c.plan.new.self.writes.ok.0)) refl refl done;
+      fold_is = ap (λ n. Some (record { count = s.tally.changes; left = left_of begun; stage = Home n })) (c.len.ensures ∙ c.plan.new.self.writes.ok.0 ∙ sym (length_left begun done));
       disk_same = refl;
       file_same = record { frames_same = refl; vector_same = refl };
       job_same = refl;
@@ -98,3 +111,6 @@ returns-clause-plans g c = rw (← c.self.view_is) (
     whole_taken form records (g.D.Disk.keeps s.disk) (g.D.Disk.states s.disk) s.shape s.gate s.tally s.next s.bytes.items s.step s.broken s.homes s.live s.fold begun c.self.invariant.0 c.self.invariant.1 ready
     (plan_for form records s.shape.width s.tally.size (take s.live s.homes.live.items) s.homes.homes.items c.plan.new.self begun refl refl planned)
     (λ r. laws.width_of_bytes r ∙ width) (length-take-le s.tally.size (joined (g.G.GrowthList.growths c.args.pieces.now)) size) values spelled (ap (λ n. Home n) (c.len.ensures ∙ c.plan.new.self.writes.ok.0)) refl refl done)
+
+pub returns-clause-kept : goal.returns-clause-kept
+returns-clause-kept g c = kept_folding g.D.Disk.keeps g.D.Disk.states c.args.self.now _ c.ready_fold.ensures.kept (returns-clause-begun g c)

@@ -1,5 +1,6 @@
 use Rattle.std.proofs.Common.{◌≡◌, ℕ, ◌+◌, ◌*◌, ◌^◌, ◌<◌, ◌≤◌, ◌∷◌, [], ◌++◌, List, length, Result, Ok, Err, OnOk, false, cond, Some, refl, sym, ap, subst, ◌∙◌, arith}
 use Rattle.std.proofs.lemmas.Nat.{mul-le}
+use Rattle.std.specs.Prelude.{vec_capacity}
 use Rattle.std.specs.Option.{is_some}
 use Rattle.std.specs.Result.{is_err, is_ok}
 use Rattle.disk_core.specs.Calls.{bytes_of}
@@ -16,6 +17,8 @@ use Rattle.pen_core.proofs.Growths.{few_growths, group_begun, group_at, group_te
 use Rattle.pen_core.specs.InHand.{fold_of}
 use Rattle.pen_core.proofs.InHand.{group_held}
 use Rattle.pen_core.proofs.AtRest.{at_rest}
+use Rattle.pen_core.proofs.KeptPen.{none_job, kept_begun}
+use Rattle.pen_core.proofs.Whole.{pen_kept}
 use Rattle.pen_core.proofs.Listed.{group_listed}
 use Rattle.pen_core.proofs.pen.Pen.begin_growths.Goals as goal
 
@@ -55,6 +58,12 @@ overflow_add-payload-2 g c =
     omega (arith, small.0, small.1)
 
 -- ---- the pen
+
+pub invariant_of-self-then-is_err-2 : goal.invariant_of-self-then-is_err-2
+invariant_of-self-then-is_err-2 g c =
+    let s = c.self.inside in
+    at_rest (g.D.Disk.keeps s.disk) (g.D.Disk.states s.disk) s.shape s.gate s.tally s.next s.bytes.items c.append_group.new.file.items s.step s.broken s.homes (record { homes = c.reserve.new.self; live = s.homes.live }) s.live s.fold c.self.invariant.0 c.self.invariant.1 c.self.invariant.2
+    (no_step s.shape s.bytes.items s.step (subst (λ v. is_some v.job ≡ false) (sym c.self.view_is) c.in_ok-ready.ensures.idle)) c.reserve.ensures.items refl
 
 pub invariant_of-self-then-is_err-3 : goal.invariant_of-self-then-is_err-3
 invariant_of-self-then-is_err-3 g c =
@@ -126,3 +135,18 @@ returns-clause-next g c = rw (← c.self.view_is) (
     λ records read. group_tells (g.D.Disk.keeps s.disk) (g.D.Disk.states s.disk) s.shape s.gate s.tally s.next s.bytes.items c.push.new.self.items s.step s.broken g.R.Record.form growths c.self.invariant.0
     (subst (λ v. v.broken ≡ false) (sym c.self.view_is) c.in_ok-ready.ensures.whole) (no_step s.shape s.bytes.items s.step (subst (λ v. is_some v.job ≡ false) (sym c.self.view_is) c.in_ok-ready.ensures.idle)) (g.met.D.Disk.reads_an_image s.disk)
     spelled laws.width_in_range.0 width laws.width_of_bytes c.requires.some c.requires.each short fits room (vector_before s.shape s.gate (bytes_of (g.D.Disk.states s.disk))) records (on_ok c.append_group.result (sym c.is_err-2.ensures.value ∙ c.if-is_err-2.false) c.append_group.ensures.read_again) read)
+
+-- ---- what may be pending
+
+pub returns-then-is_err-2-clause-kept : goal.returns-then-is_err-2-clause-kept
+returns-then-is_err-2-clause-kept g c =
+    let s = c.self.inside in
+    λ model. pen_kept s.fold (g.D.Disk.keeps s.disk) (g.D.Disk.states s.disk) s.shape s.gate s.tally s.next c.append_group.new.file.items s.step s.broken (invariant_of-self-then-is_err-2 g c).0 model s.disk (vec_capacity c.append_group.new.file)
+
+pub returns-then-is_err-3-clause-kept : goal.returns-then-is_err-3-clause-kept
+returns-then-is_err-3-clause-kept g c =
+    let s = c.self.inside in
+    λ model. pen_kept s.fold (g.D.Disk.keeps s.disk) (g.D.Disk.states s.disk) s.shape s.gate s.tally s.next c.push.new.self.items s.step s.broken (invariant_of-self-then-is_err-3 g c).0 model s.disk (vec_capacity c.push.new.self)
+
+pub returns-clause-kept : goal.returns-clause-kept
+returns-clause-kept g c = kept_begun g.D.Disk.keeps g.D.Disk.states c.args.self.now _ c.ready.ensures.kept (group_frame g.R.Record.form (g.G.GrowthList.growths c.args.growths.now)) (none_job c.args.self.now c.in_ok-ready.ensures.idle) (returns-clause-begun g c)

@@ -1,14 +1,17 @@
 use Rattle.std.proofs.Common.{◌≡◌, ◌+◌, ◌^◌, ◌<◌, ◌++◌, List, Result, Ok, Err, OnOk, true, false, cond, Some, refl, sym, ap, subst, ◌∙◌}
 use Rattle.std.specs.Result.{is_err, is_ok}
+use Rattle.std.specs.Prelude.{vec_capacity}
 use Rattle.std.specs.Option.{is_some}
 use Rattle.disk_core.specs.Calls.{bytes_of}
 use Rattle.segment_core.specs.Parsed.{vector_before}
-use Rattle.segment_core.specs.Runs.{runs_given}
+use Rattle.segment_core.specs.Runs.{runs_given, change_frame}
 use Rattle.pen_core.specs.declared.step.Step.TheVariants.{Body}
 use Rattle.segment_core.specs.Runs.{change_len}
 use Rattle.pen_core.specs.Pen.{open_count}
 use Rattle.pen_core.specs.Refusals.{fold_len}
 use Rattle.pen_core.proofs.AtRest.{at_rest}
+use Rattle.pen_core.proofs.KeptPen.{none_job, kept_begun}
+use Rattle.pen_core.proofs.Whole.{pen_kept}
 use Rattle.pen_core.proofs.Begins.{no_step}
 use Rattle.pen_core.proofs.RunsBegun.{Allows, allowed_space, allows, ChangeBegun, change_begun}
 use Rattle.pen_core.proofs.pen.Pen.begin_runs_from.Given.{Over}
@@ -71,3 +74,16 @@ returns-clause-begun g c = rw (← c.self.view_is) (record {
 
 pub returns-clause-next : goal.returns-clause-next
 returns-clause-next g c = rw (← c.self.view_is) (λ records are. (begins g (goal.at.returns-clause-next g c).Else-is_err-2).tells (vector_before c.self.inside.shape c.self.inside.gate (bytes_of (g.D.Disk.states c.self.inside.disk))) records are)
+
+pub returns-then-is_err-clause-kept : goal.returns-then-is_err-clause-kept
+returns-then-is_err-clause-kept g c =
+    let s = c.self.inside in
+    λ model. pen_kept s.fold (g.D.Disk.keeps s.disk) (g.D.Disk.states s.disk) s.shape s.gate s.tally s.next c.put_change.new.bytes.items s.step s.broken (invariant_of-self g c).0 model s.disk (vec_capacity c.put_change.new.bytes)
+
+pub returns-then-is_err-2-clause-kept : goal.returns-then-is_err-2-clause-kept
+returns-then-is_err-2-clause-kept g c =
+    let s = c.self.inside in
+    λ model. pen_kept s.fold (g.D.Disk.keeps s.disk) (g.D.Disk.states s.disk) s.shape s.gate s.tally s.next c.put_change.new.bytes.items s.step s.broken (invariant_of-self-then-is_err-2 g c).0 model s.disk (vec_capacity c.put_change.new.bytes)
+
+pub returns-clause-kept : goal.returns-clause-kept
+returns-clause-kept g c = kept_begun g.D.Disk.keeps g.D.Disk.states c.args.self.now _ c.change_size.ensures.kept (change_frame g.R.Record.form (runs_given c.args.runs.now) (g.G.GrowthList.growths c.args.pieces.now)) (none_job c.args.self.now c.in_ok-payload.ensures.idle) (returns-clause-begun g c)

@@ -1,4 +1,4 @@
-use Rattle.pen_core.proofs.HomeTick.{left_told}
+use Rattle.pen_core.proofs.FoldSeen.{left_told}
 use Rattle.pen_core.proofs.pen.Pen.stage.Goals as goal
 
 pub returns-clause-homes : goal.returns-clause-homes

@@ -9,7 +9,8 @@ use Rattle.pen_core.specs.Inside.{job_of, IsPen}
 use Rattle.pen_core.specs.Listed.{IsListed}
 use Rattle.pen_core.specs.Pen.{open_count}
 use Rattle.pen_core.proofs.Filed.{filed_frame, pen_filed, fold_filed, listed_filed}
-use Rattle.pen_core.proofs.HomeTick.{seen, fold_is_seen, calls_held, ready_or_filed, ready_at, none_at, job_some, called_seen, listed_called, can_call, home_leaves, home_broken, broken_stays, home_called, called_stays, fold_called}
+use Rattle.pen_core.proofs.FoldSeen.{seen, fold_is_seen, calls_held, ready_or_filed, ready_at, none_at, job_some, called_seen, listed_called}
+use Rattle.pen_core.proofs.HomeTick.{can_call, home_leaves, home_broken, broken_stays, home_called, called_stays, fold_called}
 use Rattle.pen_core.proofs.InHand.{fold_broken}
 use Rattle.pen_core.proofs.Listed.{listed_stays}
 use Rattle.pen_core.proofs.Whole.{pen_kept, whole_idle}
