@@ -13,8 +13,8 @@ use Rattle.book_core.specs.Marks.{MarkEnd}
 use Rattle.book_core.specs.Lists.{Phase}
 use Rattle.book_core.proofs.Owns.{take-begins}
 use Rattle.book_core.proofs.Steps.{begins-trans}
-use Rattle.flush_core.specs.Flusher.{FlusherOf, IsOf, GoesOn, KeepsFrom, KeepsSettled, SameGrowths, list_to}
-use Rattle.flush_core.specs.Serving.{Serves}
+use Rattle.flush_core.specs.Flusher.{FlusherOf, IsOf, GoesOn, KeepsFrom, KeepsJob, SameGrowths, list_to}
+use Rattle.flush_core.specs.Serving.{Serves, fold_with}
 
 module _ {R D : Type 0} where
   -- ---- from one to the other
@@ -94,14 +94,15 @@ module _ {R D : Type 0} where
   module _ (form : Encoding R) (keeps : D → Type 0) (states : D → List State) where
     -- one tick
     pub Serves-tick : (old new : FlusherOf R D) → SameGrowths old new → old.settled ≤ new.settled → (keeps new.pen.disk → new.opening ≡ old.opening)
-        → (keeps new.pen.disk → LeavesOnly (states old.pen.disk) (states new.pen.disk) (KeepsSettled form old)) → (keeps new.pen.disk → keeps old.pen.disk) → Serves form keeps states old new
-    Serves-tick old new same settled opening images model =
+        → (keeps new.pen.disk → LeavesOnly (states old.pen.disk) (states new.pen.disk) (KeepsJob form old)) → (keeps new.pen.disk → keeps old.pen.disk) → fold_with new.pen.job new.pen.fold ≡ fold_with old.pen.job old.pen.fold → Serves form keeps states old new
+    Serves-tick old new same settled opening images model fold =
         let taken = same.taken_same in
         let goes = GoesOn-same (keeps new.pen.disk) old new same.pass_same (ap (λ (m : _). m.of) same.mark_same) same.before_same (omega arith) settled opening in
         record {
           goes_on = goes;
-          images = λ now. LeavesOnly-weaker _ _ _ _ (λ image. KeepsFrom-later form (keeps new.pen.disk) old new old.settled old.settled image now goes (omega arith)) (images now);
+          images = λ now. LeavesOnly-weaker _ _ _ _ (λ image job. KeepsFrom-later form (keeps new.pen.disk) old new old.settled old.settled image now goes (omega arith) job.kept) (images now);
           model = model;
+          fold = fold;
         }
 
     -- one behind the other
@@ -113,11 +114,12 @@ module _ {R D : Type 0} where
           (LeavesOnly-weaker _ _ _ _ (λ image. KeepsFrom-later form (keeps new.pen.disk) mid new old.settled old.settled image now then.goes_on (omega arith)) (first.images (then.model now)))
           (LeavesOnly-weaker _ _ _ _ (λ image. KeepsFrom-later form (keeps new.pen.disk) new new old.settled mid.settled image now (GoesOn-refl (keeps new.pen.disk) new) first.goes_on.no_less_settled) (then.images now));
       model = λ now. first.model (then.model now);
+      fold = then.fold ∙ first.fold;
     }
 
     -- and then what calls no device
-    pub Serves-then : (old mid new : FlusherOf R D) → Serves form keeps states old mid → GoesOn (keeps new.pen.disk) mid new → new.pen.disk ≡ mid.pen.disk → Serves form keeps states old new
-    Serves-then old mid new first goes disk =
+    pub Serves-then : (old mid new : FlusherOf R D) → Serves form keeps states old mid → GoesOn (keeps new.pen.disk) mid new → new.pen.disk ≡ mid.pen.disk → fold_with new.pen.job new.pen.fold ≡ fold_with mid.pen.job mid.pen.fold → Serves form keeps states old new
+    Serves-then old mid new first goes disk fold =
         let back : keeps new.pen.disk → keeps mid.pen.disk = subst keeps disk in
         record {
           goes_on = GoesOn-join (keeps mid.pen.disk) (keeps new.pen.disk) old mid new back first.goes_on goes;
@@ -125,6 +127,7 @@ module _ {R D : Type 0} where
               subst (λ (d : D). LeavesOnly (states old.pen.disk) (states d) (KeepsFrom form old.settled new)) (sym disk)
               (LeavesOnly-weaker _ _ _ _ (λ image. KeepsFrom-later form (keeps new.pen.disk) mid new old.settled old.settled image now goes (omega arith)) (first.images (back now)));
           model = λ now. first.model (back now);
+          fold = fold ∙ first.fold;
         }
 
     -- where nothing may have been done before
@@ -136,11 +139,11 @@ module _ {R D : Type 0} where
 
     -- and then the mark is raised or set
     pub Serves-told : (old mid new : FlusherOf R D) (mark : MarkEnd) → Serves form keeps states old mid → mark.of ≡ mid.mark.of → new ≡ record mid { mark = mark } → Serves form keeps states old new
-    Serves-told old mid new mark first of is = Serves-then old mid new first (GoesOn-told (keeps new.pen.disk) mid new mark of is) (ap (λ (p : PenOf D). p.disk) (pen-told mid new mark is))
+    Serves-told old mid new mark first of is = Serves-then old mid new first (GoesOn-told (keeps new.pen.disk) mid new mark of is) (ap (λ (p : PenOf D). p.disk) (pen-told mid new mark is)) (ap (λ (p : PenOf D). fold_with p.job p.fold) (pen-told mid new mark is))
 
     -- and then a group is begun
-    pub Serves-begun : (old mid told new : FlusherOf R D) (mark : MarkEnd) → Serves form keeps states old mid → mark.of ≡ mid.mark.of → told ≡ record mid { mark = mark } → GoesOn (keeps new.pen.disk) told new → new.pen.disk ≡ told.pen.disk → Serves form keeps states old new
-    Serves-begun old mid told new mark first of is goes disk = Serves-then old told new (Serves-told old mid told mark first of is) goes disk
+    pub Serves-begun : (old mid told new : FlusherOf R D) (mark : MarkEnd) → Serves form keeps states old mid → mark.of ≡ mid.mark.of → told ≡ record mid { mark = mark } → GoesOn (keeps new.pen.disk) told new → new.pen.disk ≡ told.pen.disk → fold_with new.pen.job new.pen.fold ≡ fold_with told.pen.job told.pen.fold → Serves form keeps states old new
+    Serves-begun old mid told new mark first of is goes disk fold = Serves-then old told new (Serves-told old mid told mark first of is) goes disk fold
 
     -- it stays of its phase
     pub IsOf-served : (live : Phase R) (old new : FlusherOf R D) → Serves form keeps states old new → IsOf (keeps old.pen.disk) live old → IsOf (keeps new.pen.disk) live new

@@ -17,7 +17,7 @@ use Rattle.directory_core.specs.Chain.{total, joined}
 use Rattle.directory_core.specs.Known.{Known}
 use Rattle.directory_core.specs.Limits.{record_limit}
 use Rattle.book_core.specs.Marks.{MarkEnd, nothing}
-use Rattle.flush_core.specs.Flusher.{FlusherOf, IsFlusher, KeepsSettled, list_to, read_as, tally_with}
+use Rattle.flush_core.specs.Flusher.{FlusherOf, IsFlusher, KeepsJob, list_to, read_as, tally_with}
 
 -- what contracts see of a flusher that has these
 abbrev pub flusher_of : {R D : Type 0} → Encoding R → PenOf D → Known R → MarkEnd → ℕ → ℕ → ℕ → FlusherOf R D
@@ -118,14 +118,22 @@ module _ {R : Type 0} (form : Encoding R) where
         after model = ap (λ (s : _). vector_with s pen.vector pen.job) shape ∙ ap (λ (v : _). vector_with f.pen.shape v pen.job) (vector model) ∙ ap (λ (j : _). vector_with f.pen.shape f.pen.vector j) job
 
     -- what the disk may leave
-    pub keeps_settled : keeps → (image : List ℕ) → MayOpen f.pen image → KeepsSettled form f image
-    keeps_settled model image opens =
+    pub keeps_job : keeps → (image : List ℕ) → MayOpen f.pen image → KeepsJob form f image
+    keeps_job model image opens =
         let order = is.settled_taken in
         let known = is.taken_known in
         elim (MayOpen_typed form f.pen image (list_to f f.settled) (list_to f f.taken) is.one_width (is.file_is model) (is.file_then model) opens) [
-          | inl old ↦ record { count = f.settled; at_least = omega arith; known = omega (arith, order, known); opens = old }
-          | inr new ↦ record { count = f.taken; at_least = order; known = known; opens = new }
+          | inl old ↦ record {
+            pen_opens = opens;
+            kept = record { count = f.settled; at_least = omega arith; known = omega (arith, order, known); opens = old };
+            just = inl refl;
+          }
+          | inr new ↦ record {
+            pen_opens = opens;
+            kept = record { count = f.taken; at_least = order; known = known; opens = new };
+            just = inr refl;
+          }
         ]
 
-    pub leaves_settled : (old new : List State) → keeps → LeavesOnly old new (MayOpen f.pen) → LeavesOnly old new (KeepsSettled form f)
-    leaves_settled old new model leaves = LeavesOnly-weaker old new (MayOpen f.pen) (KeepsSettled form f) (keeps_settled model) leaves
+    pub leaves_job : (old new : List State) → keeps → LeavesOnly old new (MayOpen f.pen) → LeavesOnly old new (KeepsJob form f)
+    leaves_job old new model leaves = LeavesOnly-weaker old new (MayOpen f.pen) (KeepsJob form f) (keeps_job model) leaves

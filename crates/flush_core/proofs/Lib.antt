@@ -1,4 +1,5 @@
 pub mod Kept
+mod FoldsBehind
 mod Goes
 mod LogLeft
 mod ServeFaults
@@ -6,3 +7,4 @@ mod Next
 mod PiecesHeld
 mod Taken
 mod Worked
+mod WorkedServing

@@ -1,5 +1,5 @@
 -- Why serving ends before all is settled.
-use Rattle.std.proofs.Common.{◌≡◌, inl, inr, sym, subst, ◌∙◌}
+use Rattle.std.proofs.Common.{◌≡◌, ℕ, inl, inr, sym, subst, ◌∙◌}
 use Rattle.pen_core.specs.declared.fault.PenFault.{PenFault}
 use Rattle.pen_core.specs.declared.fault.PenFault.TheVariants as faults
 use Rattle.pen_core.specs.Pen.{IsTickFault}
@@ -10,9 +10,9 @@ use Rattle.flush_core.specs.Flusher.{FlusherOf}
 use Rattle.flush_core.specs.Refusals.{IsLaneFault}
 use Rattle.flush_core.specs.Serving.{IsServeFault}
 
-module _ {R D : Type 0} where
+module _ {R D : Type 0} (width : ℕ) where
   -- of a later stretch, where the pen broke in none before
-  pub IsServeFault-since : (old mid new : FlusherOf R D) (fault : FlushFault) → mid.pen.broken ≡ old.pen.broken → IsServeFault mid new fault → IsServeFault old new fault
+  pub IsServeFault-since : (old mid new : FlusherOf R D) (fault : FlushFault) → mid.pen.broken ≡ old.pen.broken → IsServeFault width mid new fault → IsServeFault width old new fault
   IsServeFault-since old mid new (Pen faults.Broken) same is = sym same ∙ is
   IsServeFault-since old mid new (Pen faults.FileFull) same is = is
   IsServeFault-since old mid new (Pen faults.Memory) same is = is
@@ -27,12 +27,12 @@ module _ {R D : Type 0} where
   IsServeFault-since old mid new (Pen faults.Exists) same is = is
 
   -- of a tick of the log
-  tick_fault : (old new : FlusherOf R D) (fault : PenFault) → IsTickFault old.pen new.pen fault → IsServeFault old new (Pen fault)
+  tick_fault : (old new : FlusherOf R D) (fault : PenFault) → IsTickFault old.pen new.pen fault → IsServeFault width old new (Pen fault)
   tick_fault old new fault is = elim is [
-    | inl was ↦ subst (λ (f : PenFault). IsServeFault old new (Pen f)) (sym was.0) was.1
-    | inr broke ↦ subst (λ (f : PenFault). IsServeFault old new (Pen f)) (sym broke.3) broke.4.broken
+    | inl was ↦ subst (λ (f : PenFault). IsServeFault width old new (Pen f)) (sym was.0) was.1
+    | inr broke ↦ subst (λ (f : PenFault). IsServeFault width old new (Pen f)) (sym broke.3) broke.4.broken
   ]
 
-  pub IsServeFault-tick : (old new : FlusherOf R D) (fault : FlushFault) → IsLaneFault Log old.pen new.pen fault → IsServeFault old new fault
+  pub IsServeFault-tick : (old new : FlusherOf R D) (fault : FlushFault) → IsLaneFault Log old.pen new.pen fault → IsServeFault width old new fault
   IsServeFault-tick old new (Pen fault) is = tick_fault old new fault is
   IsServeFault-tick old new (Strayed number) is = absurd is

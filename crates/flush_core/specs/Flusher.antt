@@ -1,11 +1,11 @@
 -- What contracts see of a flusher.
-use Rattle.std.specs.Prelude.{◌≡◌, ℕ, ◌+◌, ◌≤◌, List, [], ◌∷◌, ◌++◌, length, take, drop, map, Option, Some, None, option_to_list}
+use Rattle.std.specs.Prelude.{◌≡◌, ◌⊎◌, ℕ, ◌+◌, ◌≤◌, List, [], ◌∷◌, ◌++◌, length, take, drop, map, Option, Some, None, option_to_list}
 use Rattle.record_core.specs.Bytes.{Encoding}
 use Rattle.segment_core.specs.declared.tally.Tally.{Tally}
 use Rattle.segment_core.specs.Tally.{after}
 use Rattle.segment_core.specs.Raw.{AreCellsOf}
 use Rattle.pen_core.specs.PenOf.{PenOf, JobOf}
-use Rattle.pen_core.specs.Pen.{vector_after}
+use Rattle.pen_core.specs.Pen.{vector_after, MayOpen}
 use Rattle.pen_core.specs.Typed.{OpensTo}
 use Rattle.directory_core.specs.Chain.{total, joined}
 use Rattle.directory_core.specs.Chain as chains
@@ -77,8 +77,16 @@ pub record KeepsFrom {R D : Type 0} (form : Encoding R) (settled : ℕ) (f : Flu
   pub known : count ≤ length f.pass.entries
   pub opens : OpensTo form image (list_to f count)
 
+-- the settled ones now among them
 abbrev pub KeepsSettled : {R D : Type 0} → Encoding R → FlusherOf R D → List ℕ → Type 0
 KeepsSettled form f image = KeepsFrom form f.settled f image
+
+-- The image opens to what the pen says, its vector or that with its job: in growths, to just those that are settled or,
+-- with a group in hand, to just those that are taken.
+pub record KeepsJob {R D : Type 0} (form : Encoding R) (f : FlusherOf R D) (image : List ℕ) : Type 0 where
+  pub pen_opens : MayOpen f.pen image
+  pub kept : KeepsSettled form f image
+  pub just : (kept.count ≡ f.settled) ⊎ (kept.count ≡ f.taken)
 
 -- ---- what a call leaves as it is
 

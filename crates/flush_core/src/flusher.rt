@@ -1,17 +1,19 @@
 //! The owner of the pen while others grow.
 
-ghost use Rattle.std.specs.Prelude.{◌≡◌, ◌+◌, ◌≤◌, ℕ, List, [], None, length};
+ghost use Rattle.std.specs.Prelude.{◌≡◌, ◌+◌, ◌≤◌, ℕ, List, [], None, Some, MatchOption, length, take, map, slice_get, OnOk, IfErr};
 ghost use Rattle.disk_core.specs.State.{now, IsImage};
 ghost use Rattle.segment_core.specs.Raw.{AreCellsOf};
 ghost use Rattle.pen_core.specs.Pen.{vector_after, stage_of};
-ghost use Rattle.directory_core.specs.Limits.{record_limit};
+ghost use Rattle.pen_core.specs.Refusals.{first_refusal, ready_lines};
+ghost use Rattle.directory_core.specs.Limits.{record_limit, growth_limit};
+ghost use Rattle.directory_core.specs.Chain.{total, IsChained, AreBlocks};
 ghost use Rattle.book_core.specs.Marks.{nothing};
-ghost use Rattle.flush_core.specs.Flusher.{KeepsSettled, list_to};
+ghost use Rattle.flush_core.specs.Flusher.{KeepsJob, list_to, tally_with};
 
-use book_core::Writer;
+use book_core::{Live, Writer};
 use directory_core::Pass;
 use disk_core::Disk;
-use pen_core::{Pen, Stage};
+use pen_core::{Pen, PenFault, Stage};
 use record_core::Record;
 use std::alloc::Global;
 use std::marker::Model;
@@ -93,9 +95,33 @@ impl<R: Record, D: Disk> Flusher<R, D> {
 
     /// How many growths it knows.
     pub fn known(&self) -> u64
-        ensures { result ≡ length self.now.pass.entries }
+        ensures count { result ≡ length self.now.pass.entries }
+        ensures chained { IsChained self.now.pass.entries }
+        ensures in_a_frame { AreBlocks R.form.width self.now.pass.entries }
+        ensures in_room { (result ≤ self.now.pass.of.room) × (self.now.pass.of.room ≤ growth_limit) }
+        ensures in_limit { total self.now.pass.entries ≤ self.now.pass.of.limit }
     {
         self.pass.known()
+    }
+
+    /// How many records it knows, those from before the phase among them.
+    pub fn size(&self) -> u64
+        ensures size { result ≡ self.now.before + total self.now.pass.entries }
+        ensures in_limit { result ≤ record_limit }
+    {
+        self.before + self.pass.size()
+    }
+
+    /// The records of the growth of that number, lent for the life of the book. `None` where it doesn't know it.
+    pub fn growth<'a>(&mut self, live: &'a Live<R>, number: u64) -> Option<&'a [R]>
+        requires of { self.old.pass.of ≡ live.now.directory }
+        ensures same { self.new ≡ self.old }
+        ensures value { MatchOption result
+            (length self.old.pass.entries ≤ number)
+            (λ records. slice_get (map (λ e. e.records) self.old.pass.entries) number ≡ Some records.now) }
+    {
+        let entry = live.entry(&mut self.pass, number)?;
+        Some(entry.records())
     }
 
     /// How many growths of the phase are settled: the last sync of their commit has succeeded. The first ones are.
@@ -106,6 +132,14 @@ impl<R: Record, D: Disk> Flusher<R, D> {
         self.settled
     }
 
+    /// Whether a log job may be begun: `Broken`, where a call of the disk has failed, and else `Busy`, while one is in hand.
+    pub fn ready(&self) -> Result<(), PenFault>
+        ensures allowed { OnOk result (first_refusal (ready_lines self.now.pen) ≡ None) }
+        ensures refused { IfErr result (λ fault. first_refusal (ready_lines self.now.pen) ≡ Some fault) }
+    {
+        self.pen.ready()
+    }
+
     /// What is left of the job and of the fold in hand.
     pub fn stage(&self) -> Stage
         ensures { result ≡ stage_of self.now.pen }
@@ -113,21 +147,22 @@ impl<R: Record, D: Disk> Flusher<R, D> {
         self.pen.stage()
     }
 
-    /// The disk as it stands. Whatever a crash leaves of it opens to the records from before the phase and the first
-    /// growths, the settled ones among them.
+    /// The disk as it stands. Whatever a crash leaves of it opens to the records from before the phase and just the growths
+    /// that are settled, or, with a group in hand, just those that are taken.
     pub fn disk(&self) -> &D
         ensures disk { result.now ≡ self.now.pen.disk }
-        ensures images { D.keeps result.now → (image : List ℕ) → IsImage (now (D.states result.now)) image → KeepsSettled R.form self.now image }
+        ensures images { D.keeps result.now → (image : List ℕ) → IsImage (now (D.states result.now)) image → KeepsJob R.form self.now image }
     {
         self.pen.disk()
     }
 
     /// The disk, and how many growths are settled, also behind a fault of the pen. Whatever a crash leaves of the disk opens
-    /// to the records from before the phase and the first growths, the settled ones among them.
+    /// to the records from before the phase and just the growths that are settled, or, with a group in hand, just those that
+    /// are taken.
     pub fn into_parts(self) -> (D, u64)
         ensures disk { result.0 ≡ self.pen.disk }
         ensures count { result.1 ≡ self.settled }
-        ensures images { D.keeps result.0 → (image : List ℕ) → IsImage (now (D.states result.0)) image → KeepsSettled R.form self image }
+        ensures images { D.keeps result.0 → (image : List ℕ) → IsImage (now (D.states result.0)) image → KeepsJob R.form self image }
     {
         let settled = self.settled;
         (self.pen.into_disk(), settled)
@@ -139,6 +174,9 @@ impl<R: Record, D: Disk> Flusher<R, D> {
         ensures parts { (result.0 ≡ self.pen) × (result.1 ≡ self.pass) }
         ensures file { D.keeps self.pen.disk → AreCellsOf R.form self.pen.vector (list_to self self.settled) × AreCellsOf R.form (vector_after self.pen) (list_to self self.taken) }
         ensures idle { self.pen.job ≡ None → self.taken ≡ self.settled }
+        ensures size { self.pen.tally.size ≡ self.before + total (take self.settled self.pass.entries) }
+        ensures size_then { (tally_with self.pen.tally self.pen.job).size ≡ self.before + total (take self.taken self.pass.entries) }
+        ensures order { (self.settled ≤ self.taken) × (self.taken ≤ length self.pass.entries) }
         ensures width { R.form.width ≡ self.pen.shape.width }
     {
         (self.pen, self.pass)

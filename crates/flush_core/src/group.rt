@@ -1,11 +1,11 @@
 //! The begin of a group: the next growths that are known, as many as one payload holds.
 
-ghost use Rattle.std.specs.Prelude.{◌≡◌, ◌+◌, ◌-◌, ◌≤◌, ◌<◌, ◌^◌, None, List, length, take, drop, map, IfOk, IfErr, OnOk, OnErr};
+ghost use Rattle.std.specs.Prelude.{◌≡◌, ◌+◌, ◌-◌, ◌≤◌, ◌<◌, ◌^◌, None, false, List, length, take, drop, map, IfOk, IfErr, OnOk, OnErr};
 ghost use Rattle.std.specs.List.{AllByRecursion};
 ghost use Rattle.segment_core.specs.Shape.{limit_of};
 ghost use Rattle.segment_core.specs.Written.{group_frame, payload_len};
 ghost use Rattle.pen_core.specs.Pen.{Begins, IsUnchanged};
-ghost use Rattle.pen_core.specs.Refusals.{first_refusal, ready_lines};
+ghost use Rattle.pen_core.specs.Refusals.{first_refusal, ready_lines, is_full};
 ghost use Rattle.record_core.specs.Limits.{payload_limit};
 ghost use Rattle.directory_core.specs.Chain.{total};
 ghost use Rattle.directory_core.specs.Limits.{growth_limit};
@@ -92,6 +92,7 @@ impl<R: Record, D: Disk> Flusher<R, D> {
         ensures some { IfOk result (λ n. self.old.taken < length self.old.pass.entries → 0 < n) }
         ensures begun { IfOk result (λ n. 0 < n → Begins (group_frame R.form (take n (untaken self.old))) self.old.pen self.new.pen) }
         ensures none { IfOk result (λ n. n ≡ 0 → self.new ≡ self.old) }
+        ensures room { IfOk result (λ n. 0 < n → is_full self.old.pen (payload_len R.form.width (take n (untaken self.old))) ≡ false) }
         ensures idle { OnOk result (first_refusal (ready_lines self.old.pen) ≡ None) }
         ensures same { (self.new.pass ≡ self.old.pass) × (self.new.mark ≡ self.old.mark) × (self.new.settled ≡ self.old.settled) × (self.new.before ≡ self.old.before) }
         ensures opening { self.new.opening ≡ self.old.opening }

@@ -3,6 +3,7 @@
 ghost use Rattle.std.specs.Prelude.{◌≡◌, ◌≤◌, ◌+◌, length, IfOk, IfErr, MatchResult};
 ghost use Rattle.directory_core.specs.Chain.{Agree, Meets, total};
 ghost use Rattle.book_core.specs.Lists as lists;
+ghost use Rattle.book_core.specs.Growing as growing;
 ghost use Rattle.book_core.specs.Marks.{Rises};
 ghost use Rattle.flush_core.specs.Flusher.{IsOf, Learns};
 
@@ -39,6 +40,18 @@ impl<R: Record, D: Disk> Flusher<R, D> {
         ensures meets { Meets self.old.pass.entries seat.old.pass.entries self.new.pass.entries }
     {
         live.meet_by(&mut self.pass, seat);
+    }
+
+    /// A seat learns what it knows, and it is as it was. So who knows all growths can tell that it knows no other.
+    pub fn tell(&mut self, live: &Live<R>, seat: &mut Seat<R>)
+        requires of { IsOf (D.keeps self.old.pen.disk) live.now self.old × lists.IsOf live.now seat.old }
+        ensures same { self.new ≡ self.old }
+        ensures of { lists.IsOf live.now seat.new }
+        ensures learns { growing.Learns seat.old seat.new }
+        ensures agree { Agree seat.old.pass.entries self.old.pass.entries }
+        ensures meets { Meets seat.old.pass.entries self.old.pass.entries seat.new.pass.entries }
+    {
+        live.tell_by(seat, &mut self.pass);
     }
 
     /// The mark tells from now on how many growths are settled, which is answered. Its state stays. It wakes nobody:

@@ -4,7 +4,7 @@ ghost use Rattle.std.specs.Prelude.{◌≡◌, ◌+◌, length, None, OnOk, OnEr
 ghost use Rattle.disk_core.specs.Moments.{LeavesOnly};
 ghost use Rattle.flush_core.specs.Flusher.{IsOf, GoesOn, KeepsFrom};
 ghost use Rattle.flush_core.specs.Refusals.{failed};
-ghost use Rattle.flush_core.specs.Serving.{Serves, HasEnded, HasBroken, IsServeFault};
+ghost use Rattle.flush_core.specs.Serving.{Serves, HasEnded, HasBroken, IsServeFault, fold_with};
 
 use crate::fault::FlushFault;
 use crate::flusher::Flusher;
@@ -20,7 +20,7 @@ impl<R: Record, D: Disk> Flusher<R, D> {
         ensures serves { Serves R.form D.keeps D.states self.old self.new }
         ensures idle { OnOk result (self.new.pen.job ≡ None) }
         ensures whole { OnOk result (self.new.pen.broken ≡ self.old.pen.broken) }
-        ensures refused { IfErr result (λ fault. IsServeFault self.old self.new fault) }
+        ensures refused { IfErr result (λ fault. IsServeFault R.form.width self.old self.new fault) }
         ensures faults { MatchResult result
             (λ _. D.faults self.new.pen.disk ≡ D.faults self.old.pen.disk)
             (λ fault. D.faults self.new.pen.disk ≡ D.faults self.old.pen.disk + failed fault) }
@@ -36,7 +36,8 @@ impl<R: Record, D: Disk> Flusher<R, D> {
         ensures goes_on { GoesOn (D.keeps self.new.pen.disk) self.old self.new }
         ensures disk { self.new.pen.disk ≡ self.old.pen.disk }
         ensures whole { self.new.pen.broken ≡ self.old.pen.broken }
-        ensures refused { IfErr result (λ fault. IsServeFault self.old self.new fault × (failed fault ≡ 0)) }
+        ensures fold { fold_with self.new.pen.job self.new.pen.fold ≡ fold_with self.old.pen.job self.old.pen.fold }
+        ensures refused { IfErr result (λ fault. IsServeFault R.form.width self.old self.new fault × (failed fault ≡ 0)) }
     {
         self.look(live)?;
         self.take_group(live)?;
@@ -49,7 +50,7 @@ impl<R: Record, D: Disk> Flusher<R, D> {
         ensures serves { Serves R.form D.keeps D.states self.old self.new }
         ensures all { OnOk result (self.new.settled ≡ length self.new.pass.entries) }
         ensures idle { OnOk result (self.new.pen.job ≡ None) }
-        ensures refused { IfErr result (λ fault. IsServeFault self.old self.new fault) }
+        ensures refused { IfErr result (λ fault. IsServeFault R.form.width self.old self.new fault) }
         ensures faults { MatchResult result
             (λ _. D.faults self.new.pen.disk ≡ D.faults self.old.pen.disk)
             (λ fault. D.faults self.new.pen.disk ≡ D.faults self.old.pen.disk + failed fault) }
@@ -71,17 +72,20 @@ impl<R: Record, D: Disk> Flusher<R, D> {
 
     /// Commits what growers put, group by group, and tells by the mark what is settled and wakes those that wait for it,
     /// until the book is closed and every growth that it knows is settled; then the mark says Ended. While there is nothing
-    /// to commit it sleeps.
+    /// to commit it sleeps. It makes no call of a fold: one that is in hand stays as it is, but where its own frame is the
+    /// job in hand, which ends it.
     ///
-    /// On a refusal the mark says Broken. Refused: `Strayed`; `Pen(Broken)`, where the pen was; `Pen(FileFull)`; `Pen(Memory)`;
-    /// `Pen(Disk)`.
+    /// On a refusal the mark says Broken. Refused: `Strayed`; `Pen(Broken)`, where the pen was; `Pen(FileFull)`, where the file
+    /// has no room for the next group; `Pen(Memory)`; `Pen(Disk)`. None of them but `Pen(Broken)` and `Pen(Disk)` leaves a log
+    /// job in hand.
     pub fn serve<E: Wait>(&mut self, rt: &E, live: &Live<R>) -> Result<(), FlushFault>
         requires of { IsOf (D.keeps self.old.pen.disk) live.now self.old }
         ensures ended { OnOk result (HasEnded self.new) }
         ensures broken { OnErr result (HasBroken self.new) }
-        ensures refused { IfErr result (λ fault. IsServeFault self.old self.new fault) }
+        ensures refused { IfErr result (λ fault. IsServeFault R.form.width self.old self.new fault) }
         ensures goes_on { GoesOn (D.keeps self.new.pen.disk) self.old self.new }
         ensures images { D.keeps self.new.pen.disk → LeavesOnly (D.states self.old.pen.disk) (D.states self.new.pen.disk) (KeepsFrom R.form self.old.settled self.new) }
+        ensures fold { fold_with self.new.pen.job self.new.pen.fold ≡ fold_with self.old.pen.job self.old.pen.fold }
         ensures faults { MatchResult result
             (λ _. D.faults self.new.pen.disk ≡ D.faults self.old.pen.disk)
             (λ fault. D.faults self.new.pen.disk ≡ D.faults self.old.pen.disk + failed fault) }

@@ -19,11 +19,15 @@ use segment_core::scan;
 use std::alloc::{AllocError, Global};
 use std::sync::Wait;
 use std::test::Fail;
+use std::thread;
+use std::thread::Threads;
 
 mod broken;
+mod calls;
 mod crashes;
 mod folds;
 mod groups;
+mod several;
 mod threads;
 
 /// A phase over a file: its book, its seats, and who settles its growths.
@@ -38,6 +42,9 @@ struct Phase<D: Disk> {
 
 /// An empty file of version 1.
 const EMPTY: [u8; 12] = [1, 67, 86, 69, 67, 83, 69, 71, 1, 8, 0, 0];
+
+/// The same in version 2.
+const EMPTY_TWO: [u8; 12] = [1, 67, 86, 69, 67, 83, 69, 71, 2, 8, 0, 0];
 
 /// The most records of a vector.
 const RECORD_LIMIT: usize = 1 << 32;
@@ -95,10 +102,15 @@ fn phase_of<D: Disk + Drop>(
     })
 }
 
+/// A phase over a file of these bytes in memory.
+fn phase_of_file(alloc: Global, file: &[u8], room: u64, seats: u16) -> Option<Phase<RamDisk>> {
+    let bytes = Vec::from_slice(alloc, file).ok()?;
+    phase_over(alloc, RamDisk::from_bytes(alloc, bytes), room, seats)
+}
+
 /// A phase over an empty file in memory.
 fn empty_phase(alloc: Global, room: u64, seats: u16) -> Option<Phase<RamDisk>> {
-    let file = Vec::from_slice(alloc, &EMPTY).ok()?;
-    phase_over(alloc, RamDisk::from_bytes(alloc, file), room, seats)
+    phase_of_file(alloc, &EMPTY, room, seats)
 }
 
 /// The last seat of a row of new ones.
@@ -224,7 +236,19 @@ struct Served<D: Disk> {
     settled: u64,
 }
 
-/// Serves growers.
+/// Serves growers, as `serve` does, of a flusher of that phase.
+fn serve_on<D: Disk, E: Wait>(
+    rt: &E,
+    live: &Live<u64>,
+    flusher: &mut Flusher<u64, D>,
+) -> Result<(), FlushFault>
+    requires { IsOf (D.keeps flusher.old.pen.disk) live.now flusher.old }
+    ensures { IsOf (D.keeps flusher.new.pen.disk) live.now flusher.new }
+{
+    flusher.serve(rt, live)
+}
+
+/// Serves growers to their end.
 fn serve_to_end<D: Disk + Drop, E: Wait>(
     rt: &E,
     live: &Live<u64>,
@@ -232,13 +256,43 @@ fn serve_to_end<D: Disk + Drop, E: Wait>(
 ) -> Served<D>
     requires { IsOf (D.keeps flusher.pen.disk) live.now flusher }
 {
-    let ended = flusher.serve(rt, live).is_ok();
+    let ended = serve_on(rt, live, &mut flusher).is_ok();
     let (disk, settled) = flusher.into_parts();
     Served {
         ended,
         disk,
         settled,
     }
+}
+
+/// Serves in a thread of its own, which is started before anything grows, and calls the growers beside it. `None`, and
+/// they aren't called, where no thread can be started.
+fn serve_beside<D: Disk + Drop + Send, E: Threads + Wait + Sync, T: Drop, F: FnOnce() -> T>(
+    rt: &E,
+    live: &Live<u64>,
+    flusher: Flusher<u64, D>,
+    grow: F,
+) -> Option<(T, Served<D>)>
+    requires of { IsOf (D.keeps flusher.pen.disk) live.now flusher }
+    requires grow { F.pre grow }
+{
+    thread::scope(
+        thread::scope_env(),
+        rt,
+        move |scope| -> Option<(T, Served<D>)>
+            requires { IsOf (D.keeps flusher.pen.disk) live.now flusher × F.pre grow }
+        {
+            let serving = scope
+                .spawn(
+                    move || -> Served<D>
+                        requires { IsOf (D.keeps flusher.pen.disk) live.now flusher }
+                    { serve_to_end(rt, live, flusher) },
+                )
+                .ok()?;
+            let grown = grow();
+            Some((grown, serving.join(rt)))
+        },
+    )
 }
 
 /// Nothing that wasn't synced is left.

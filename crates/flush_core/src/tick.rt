@@ -2,7 +2,8 @@
 
 ghost use Rattle.std.specs.Prelude.{◌≡◌, ◌+◌, ◌≤◌, false, IfOk, IfErr, OnOk, OnErr, MatchResult};
 ghost use Rattle.disk_core.specs.Moments.{LeavesOnly, clock};
-ghost use Rattle.flush_core.specs.Flusher.{KeepsSettled, SameGrowths};
+ghost use Rattle.pen_core.specs.Pen.{IsKept};
+ghost use Rattle.flush_core.specs.Flusher.{KeepsJob, SameGrowths};
 ghost use Rattle.flush_core.specs.Refusals.{IsLaneTicked, IsLaneFault, lane_calls, settled_behind, failed};
 
 use crate::fault::FlushFault;
@@ -16,10 +17,12 @@ impl<R: Record, D: Disk> Flusher<R, D> {
     /// Makes the next device call of a lane, if there is one, or makes a fold whose homes are on the disk the log job. It
     /// takes no memory.
     ///
-    /// Each image that a crash may leave inside the call opens to the records from before the phase and the first growths,
-    /// those that were settled among them. Refused as the pen's ticks: `Pen(Disk)`, and from then on `Pen(Broken)`.
+    /// Each image that a crash may leave inside the call opens to the records from before the phase and just those growths
+    /// that were settled, or, with a group in hand, just those that were taken. Refused as the pen's ticks: `Pen(Disk)`, and
+    /// from then on `Pen(Broken)`.
     pub fn tick(&mut self, lane: Lane) -> Result<Tick, FlushFault>
-        ensures images { D.keeps self.new.pen.disk → LeavesOnly (D.states self.old.pen.disk) (D.states self.new.pen.disk) (KeepsSettled R.form self.old) }
+        ensures images { D.keeps self.new.pen.disk → LeavesOnly (D.states self.old.pen.disk) (D.states self.new.pen.disk) (KeepsJob R.form self.old) }
+        ensures kept { D.keeps self.new.pen.disk → IsKept (D.states self.new.pen.disk) self.new.pen }
         ensures ticked { IfOk result (λ tick. IsLaneTicked lane self.old.pen self.new.pen tick) }
         ensures settled { IfOk result (λ tick. self.new.settled ≡ settled_behind self.old tick) }
         ensures refused { IfErr result (λ fault. IsLaneFault lane self.old.pen self.new.pen fault) }
@@ -36,62 +39,22 @@ impl<R: Record, D: Disk> Flusher<R, D> {
         ensures goes_on { D.keeps self.old.pen.disk → OnOk result (D.keeps self.new.pen.disk) }
     {
         match lane {
-            Lane::Log => self.tick_log(),
-            Lane::Home => self.tick_home(),
-        }
-    }
-
-    /// The next device call of the log job.
-    fn tick_log(&mut self) -> Result<Tick, FlushFault>
-        ensures images { D.keeps self.new.pen.disk → LeavesOnly (D.states self.old.pen.disk) (D.states self.new.pen.disk) (KeepsSettled R.form self.old) }
-        ensures ticked { IfOk result (λ tick. IsLaneTicked Lane.Log self.old.pen self.new.pen tick) }
-        ensures settled { IfOk result (λ tick. self.new.settled ≡ settled_behind self.old tick) }
-        ensures refused { IfErr result (λ fault. IsLaneFault Lane.Log self.old.pen self.new.pen fault) }
-        ensures failed { OnErr result (self.new.settled ≡ self.old.settled) }
-        ensures no_less { self.old.settled ≤ self.new.settled }
-        ensures whole { OnOk result ((self.old.pen.broken ≡ false) × (self.new.pen.broken ≡ false)) }
-        ensures same { SameGrowths self.old self.new }
-        ensures opening { D.keeps self.new.pen.disk → self.new.opening ≡ self.old.opening }
-        ensures time { clock (D.states self.new.pen.disk) ≡ clock (D.states self.old.pen.disk) + lane_calls Lane.Log self.old.pen }
-        ensures faults { MatchResult result
-            (λ _. D.faults self.new.pen.disk ≡ D.faults self.old.pen.disk)
-            (λ fault. D.faults self.new.pen.disk ≡ D.faults self.old.pen.disk + failed fault) }
-        ensures model { D.keeps self.new.pen.disk → D.keeps self.old.pen.disk }
-        ensures goes_on { D.keeps self.old.pen.disk → OnOk result (D.keeps self.new.pen.disk) }
-    {
-        match self.pen.tick_log() {
-            Ok(Ticked::Idle) => Ok(Tick::Idle),
-            Ok(Ticked::Step) => Ok(Tick::Step),
-            Ok(Ticked::Done) => {
-                self.settled = self.taken;
-                Ok(Tick::Done)
-            }
-            Err(fault) => Err(FlushFault::Pen(fault)),
-        }
-    }
-
-    /// The next device call of a fold, or its filing.
-    fn tick_home(&mut self) -> Result<Tick, FlushFault>
-        ensures images { D.keeps self.new.pen.disk → LeavesOnly (D.states self.old.pen.disk) (D.states self.new.pen.disk) (KeepsSettled R.form self.old) }
-        ensures ticked { IfOk result (λ tick. IsLaneTicked Lane.Home self.old.pen self.new.pen tick) }
-        ensures settled { self.new.settled ≡ self.old.settled }
-        ensures refused { IfErr result (λ fault. IsLaneFault Lane.Home self.old.pen self.new.pen fault) }
-        ensures whole { OnOk result ((self.old.pen.broken ≡ false) × (self.new.pen.broken ≡ false)) }
-        ensures same { SameGrowths self.old self.new }
-        ensures opening { D.keeps self.new.pen.disk → self.new.opening ≡ self.old.opening }
-        ensures time { clock (D.states self.new.pen.disk) ≡ clock (D.states self.old.pen.disk) + lane_calls Lane.Home self.old.pen }
-        ensures faults { MatchResult result
-            (λ _. D.faults self.new.pen.disk ≡ D.faults self.old.pen.disk)
-            (λ fault. D.faults self.new.pen.disk ≡ D.faults self.old.pen.disk + failed fault) }
-        ensures model { D.keeps self.new.pen.disk → D.keeps self.old.pen.disk }
-        ensures goes_on { D.keeps self.old.pen.disk → OnOk result (D.keeps self.new.pen.disk) }
-    {
-        match self.pen.tick_home() {
-            Ok(HomeTicked::Idle) => Ok(Tick::Idle),
-            Ok(HomeTicked::Step) => Ok(Tick::Step),
-            Ok(HomeTicked::Filed) => Ok(Tick::Filed),
-            Ok(HomeTicked::Waiting) => Ok(Tick::Waiting),
-            Err(fault) => Err(FlushFault::Pen(fault)),
+            Lane::Log => match self.pen.tick_log() {
+                Ok(Ticked::Idle) => Ok(Tick::Idle),
+                Ok(Ticked::Step) => Ok(Tick::Step),
+                Ok(Ticked::Done) => {
+                    self.settled = self.taken;
+                    Ok(Tick::Done)
+                }
+                Err(fault) => Err(FlushFault::Pen(fault)),
+            },
+            Lane::Home => match self.pen.tick_home() {
+                Ok(HomeTicked::Idle) => Ok(Tick::Idle),
+                Ok(HomeTicked::Step) => Ok(Tick::Step),
+                Ok(HomeTicked::Filed) => Ok(Tick::Filed),
+                Ok(HomeTicked::Waiting) => Ok(Tick::Waiting),
+                Err(fault) => Err(FlushFault::Pen(fault)),
+            },
         }
     }
 }

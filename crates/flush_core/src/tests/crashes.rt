@@ -3,12 +3,10 @@
 ghost use Rattle.std.specs.Prelude.{IfSome};
 ghost use Rattle.book_core.specs.Lists as lists;
 ghost use Rattle.book_core.specs.Beginning.{AreNewSeats};
-ghost use Rattle.flush_core.specs.Flusher.{IsOf};
 
 use super::*;
 use disk_core::{Blow, FuseDisk};
 use std::process::Abort;
-use std::thread;
 use std::thread::Threads;
 
 type Stopping = FuseDisk<RamDisk>;
@@ -162,15 +160,14 @@ fn serve_four<D: Disk + Drop + Send, E: Threads + Wait + Sync>(
         ..
     } = phase;
     let shared = &live;
-    let (served, grown) = thread::join(
+    let (grown, served) = serve_beside(
         rt,
-        move || -> Served<D>
-            requires { IsOf (D.keeps flusher.pen.disk) shared.now flusher }
-        { serve_to_end(rt, shared, flusher) },
+        shared,
+        flusher,
         move || -> Option<Grown>
             requires { AreNewSeats shared.now.directory shared.now.mark seats.items }
         { put_and_close(rt, alloc, shared, seats) },
-    );
+    )?;
     Some(Left {
         served,
         grown: grown?,

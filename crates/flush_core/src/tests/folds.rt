@@ -104,8 +104,7 @@ fn fold_beside<D: Disk + Drop, E: Wait>(
 
 /// The same over a file of these bytes.
 fn fold_file<E: Wait>(rt: &E, alloc: Global, file: &[u8]) -> Option<Folded<RamDisk>> {
-    let bytes = Vec::from_slice(alloc, file).ok()?;
-    let phase = phase_over(alloc, RamDisk::from_bytes(alloc, bytes), 8, 1)?;
+    let phase = phase_of_file(alloc, file, 8, 1)?;
     fold_beside(rt, alloc, phase)
 }
 
@@ -137,6 +136,68 @@ fn a_change_is_folded_while_a_group_is_committed(rt: HostRuntime) -> Result<(), 
         assert_eq!(rt; folded.taken, 1);
         assert_eq!(rt; folded.ticks.as_slice(), want.as_slice());
         assert!(rt; is_folded(rt.alloc(), &folded.disk)?);
+    }
+    Ok(())
+}
+
+/// The lanes that fold the change where no group is in hand: a home write, the homes' sync, and the fold's frame.
+const ALONE: [Lane; 3] = [Lane::Home, Lane::Home, Lane::Home];
+
+/// What serving leaves of a fold that is in hand behind so many of its ticks: what is left of it, and the flusher.
+fn serve_beside_fold<D: Disk, E: Wait>(
+    rt: &E,
+    alloc: Global,
+    live: &Live<u64>,
+    flusher: &mut Flusher<u64, D>,
+    ticks: usize,
+) -> Option<FoldStage>
+    requires { IsOf (D.keeps flusher.old.pen.disk) live.now flusher.old }
+    ensures { IsOf (D.keeps flusher.new.pen.disk) live.now flusher.new }
+{
+    begin_folding(live, flusher).ok()?;
+    ticks_of(alloc, live, flusher, &ALONE[..ticks.min(3)])?;
+    serve_on(rt, live, flusher).ok()?;
+    Some(flusher.stage().fold)
+}
+
+/// Puts [8] and closes the book, serves behind so many ticks of a fold, and makes the calls that are left of it. What
+/// serving leaves of it, how many growths are settled, and the disk.
+fn serve_folding<E: Wait>(
+    rt: &E,
+    alloc: Global,
+    phase: Phase<RamDisk>,
+    ticks: usize,
+) -> Option<(FoldStage, u64, RamDisk)> {
+    let Phase {
+        live,
+        mut seats,
+        mut flusher,
+        ..
+    } = phase;
+    put_one(rt, alloc, &live, &mut seats, &[8])?;
+    live.close(rt);
+    let fold = serve_beside_fold(rt, alloc, &live, &mut flusher, ticks)?;
+    ticks_of(alloc, &live, &mut flusher, &ALONE)?;
+    ticks_of(alloc, &live, &mut flusher, &COMMIT)?;
+    let (disk, settled) = flusher.into_parts();
+    Some((fold, settled, disk))
+}
+
+#[test]
+fn serving_leaves_a_fold_as_it_is_and_ends_one_whose_frame_is_in_hand(
+    rt: HostRuntime,
+) -> Result<(), Fail> {
+    for (ticks, want) in [(0, FoldStage::Home(1)), (3, FoldStage::None)] {
+        let left = match phase_of_file(rt.alloc(), &ONE, 8, 1) {
+            Some(phase) => serve_folding(&rt, rt.alloc(), phase, ticks),
+            None => None,
+        };
+        let Some((fold, settled, disk)) = left else {
+            return Err(Fail::from("not served"));
+        };
+        assert_eq!(rt; fold, want);
+        assert_eq!(rt; settled, 1);
+        assert!(rt; is_folded(rt.alloc(), &disk)?);
     }
     Ok(())
 }

@@ -196,3 +196,58 @@ fn a_second_group_waits_for_the_first(rt: HostRuntime) -> Result<(), Fail> {
     assert_eq!(rt; answers, Some([Ok(0), Ok(1), busy]));
     Ok(())
 }
+
+/// The most records that one growth has: its group of one fills a payload of version 1.
+const MOST: u64 = 131_071;
+
+/// Makes a growth of each of these lengths.
+fn grow_each<E: Wait>(rt: &E, live: &Live<u64>, seat: &mut Seat<u64>, lengths: &[u64]) -> Option<()>
+    requires { lists.IsOf live.now seat.old }
+    ensures { lists.IsOf live.now seat.new }
+{
+    for records in lengths {
+        live.grow_by(rt, seat, *records, 1).ok()?;
+    }
+    Some(())
+}
+
+/// How many a group of version 2 takes of 16 of the longest growths, and of these behind them.
+fn taken_behind_the_longest<E: Wait>(
+    rt: &E,
+    phase: Phase<RamDisk>,
+    lengths: &[u64],
+) -> Option<u64> {
+    let Phase {
+        live,
+        mut seats,
+        mut flusher,
+        ..
+    } = phase;
+    let mut seat = take_seat(&live, &mut seats)?;
+    grow_each(rt, &live, &mut seat, &[MOST; 16])?;
+    grow_each(rt, &live, &mut seat, lengths)?;
+    let (_, taken) = look_and_take(&live, &mut flusher)?;
+    Some(taken)
+}
+
+/// A payload of version 2 has 16,777,216 bytes. The count takes 4 and 16 of the longest growths 16,777,152, each with its
+/// length: 60 are left.
+#[test]
+fn a_group_of_version_2_takes_as_many_as_a_payload_holds(rt: HostRuntime) -> Result<(), Fail> {
+    let wanted: [(&[u64], u64); 6] = [
+        (&[7], 17),
+        (&[8], 16),
+        (&[14], 16),
+        (&[15], 16),
+        (&[1, 1, 1, 1, 1, 1], 21),
+        (&[1, 1, 1, 1, 2], 20),
+    ];
+    for (lengths, want) in wanted {
+        let taken = match phase_of_file(rt.alloc(), &EMPTY_TWO, 32, 1) {
+            Some(phase) => taken_behind_the_longest(&rt, phase, lengths),
+            None => None,
+        };
+        assert_eq!(rt; taken, Some(want));
+    }
+    Ok(())
+}

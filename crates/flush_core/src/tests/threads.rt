@@ -1,10 +1,8 @@
 //! Growers beside one who serves them.
 
 ghost use Rattle.book_core.specs.Lists as lists;
-ghost use Rattle.flush_core.specs.Flusher.{IsOf};
 
 use super::*;
-use std::thread;
 use std::thread::Threads;
 
 /// Grows, waits for the growth, and grows again. What is told of the first, and the second's number.
@@ -50,15 +48,14 @@ fn served<D: Disk + Drop + Send, E: Threads + Wait + Sync>(
     } = phase;
     let seat = take_seat(&live, &mut seats)?;
     let shared = &live;
-    let (grown, left) = thread::join(
+    let (grown, left) = serve_beside(
         rt,
+        shared,
+        flusher,
         move || -> Option<(u64, MarkState, u64)>
             requires { lists.IsOf shared.now seat }
         { grow_and_close(rt, alloc, shared, seat) },
-        move || -> Served<D>
-            requires { IsOf (D.keeps flusher.pen.disk) shared.now flusher }
-        { serve_to_end(rt, shared, flusher) },
-    );
+    )?;
     Some((grown?, left))
 }
 

@@ -1,9 +1,9 @@
 use Rattle.std.proofs.Common.{subst}
-use Rattle.flush_core.proofs.Kept.{keeps_settled}
+use Rattle.flush_core.proofs.Kept.{keeps_job}
 use Rattle.flush_core.proofs.flusher.Flusher.into_parts.Goals as goal
 
 pub returns-clause-images : goal.returns-clause-images
 returns-clause-images g c = rw (← c.self.view_is) (λ model image is.
     let s = c.self.inside in
     let kept = c.into_disk.ensures.kept model in
-    keeps_settled g.R.Record.form (g.D.Disk.keeps s.pen.disk) _ c.self.invariant (subst g.D.Disk.keeps c.into_disk.ensures.disk model) image (kept.images_open image is))
+    keeps_job g.R.Record.form (g.D.Disk.keeps s.pen.disk) _ c.self.invariant (subst g.D.Disk.keeps c.into_disk.ensures.disk model) image (kept.images_open image is))

@@ -25,13 +25,13 @@ begin_next-requires-clause-idle g c κs within = ap (λ (p : PenOf _). p.job) (p
 pub returns-in_err-begin_next-clause-serves : goal.returns-in_err-begin_next-clause-serves
 returns-in_err-begin_next-clause-serves g c =
     let b = c.begin_next.ensures in
-    Serves-begun g.R.Record.form g.D.Disk.keeps g.D.Disk.states c.args.self.now c.loop.self c.raise.new.self c.begin_next.new.self _ c.loop.invariant.serves refl c.raise.ensures.raised b.goes_on b.disk
+    Serves-begun g.R.Record.form g.D.Disk.keeps g.D.Disk.states c.args.self.now c.loop.self c.raise.new.self c.begin_next.new.self _ c.loop.invariant.serves refl c.raise.ensures.raised b.goes_on b.disk b.fold
 
 pub returns-in_err-begin_next-clause-refused : goal.returns-in_err-begin_next-clause-refused
 returns-in_err-begin_next-clause-refused g c =
     let p = err_from_is_err_and c.from_residual-in_err-begin_next.result c.from_residual-in_err-begin_next.ensures.1 in
     let pen = pen-told c.loop.self c.raise.new.self _ c.raise.ensures.raised in
-    rw (p.1, p.2) (IsServeFault-since c.args.self.now c.raise.new.self c.begin_next.new.self c.in_err-begin_next.field-0.0 (ap (λ (p : PenOf _). p.broken) pen ∙ c.loop.invariant.whole) c.in_err-begin_next.ensures.refused.0)
+    rw (p.1, p.2) (IsServeFault-since g.R.Record.form.width c.args.self.now c.raise.new.self c.begin_next.new.self c.in_err-begin_next.field-0.0 (ap (λ (p : PenOf _). p.broken) pen ∙ c.loop.invariant.whole) c.in_err-begin_next.ensures.refused.0)
 
 pub returns-in_err-begin_next-clause-faults : goal.returns-in_err-begin_next-clause-faults
 returns-in_err-begin_next-clause-faults g c =
@@ -44,13 +44,13 @@ pub returns-in_err-settle_job-2-clause-serves : goal.returns-in_err-settle_job-2
 returns-in_err-settle_job-2-clause-serves g c =
     let b = c.begin_next.ensures in
     Serves-join g.R.Record.form g.D.Disk.keeps g.D.Disk.states c.args.self.now c.begin_next.new.self c.settle_job-in-loop.new.self
-    (Serves-begun g.R.Record.form g.D.Disk.keeps g.D.Disk.states c.args.self.now c.loop.self c.raise.new.self c.begin_next.new.self _ c.loop.invariant.serves refl c.raise.ensures.raised b.goes_on b.disk) c.settle_job-in-loop.ensures.serves
+    (Serves-begun g.R.Record.form g.D.Disk.keeps g.D.Disk.states c.args.self.now c.loop.self c.raise.new.self c.begin_next.new.self _ c.loop.invariant.serves refl c.raise.ensures.raised b.goes_on b.disk b.fold) c.settle_job-in-loop.ensures.serves
 
 pub returns-in_err-settle_job-2-clause-refused : goal.returns-in_err-settle_job-2-clause-refused
 returns-in_err-settle_job-2-clause-refused g c =
     let p = err_from_is_err_and c.from_residual-in_err-settle_job-2.result c.from_residual-in_err-settle_job-2.ensures.1 in
     let pen = pen-told c.loop.self c.raise.new.self _ c.raise.ensures.raised in
-    rw (p.1, p.2) (IsServeFault-since c.args.self.now c.begin_next.new.self c.settle_job-in-loop.new.self c.in_err-settle_job-2.field-0.0
+    rw (p.1, p.2) (IsServeFault-since g.R.Record.form.width c.args.self.now c.begin_next.new.self c.settle_job-in-loop.new.self c.in_err-settle_job-2.field-0.0
     (c.begin_next.ensures.whole ∙ ap (λ (p : PenOf _). p.broken) pen ∙ c.loop.invariant.whole) c.in_err-settle_job-2.ensures.refused)
 
 pub returns-in_err-settle_job-2-clause-faults : goal.returns-in_err-settle_job-2-clause-faults
@@ -67,7 +67,7 @@ loop-preserved g c =
     let pen = pen-told c.loop.self c.raise.new.self _ c.raise.ensures.raised in
     record {
       serves = Serves-join g.R.Record.form g.D.Disk.keeps g.D.Disk.states c.args.self.now c.begin_next.new.self c.settle_job-in-loop.new.self
-          (Serves-begun g.R.Record.form g.D.Disk.keeps g.D.Disk.states c.args.self.now c.loop.self c.raise.new.self c.begin_next.new.self _ c.loop.invariant.serves refl c.raise.ensures.raised b.goes_on b.disk) e.serves;
+          (Serves-begun g.R.Record.form g.D.Disk.keeps g.D.Disk.states c.args.self.now c.loop.self c.raise.new.self c.begin_next.new.self _ c.loop.invariant.serves refl c.raise.ensures.raised b.goes_on b.disk b.fold) e.serves;
       idle = e.idle;
       whole = e.whole ∙ b.whole ∙ ap (λ (p : PenOf _). p.broken) pen ∙ c.loop.invariant.whole;
       faults = e.faults ∙ ap g.D.Disk.faults (b.disk ∙ ap (λ (p : PenOf _). p.disk) pen) ∙ c.loop.invariant.faults;
@@ -79,7 +79,7 @@ returns-clause-serves g c = elim c.match-next.branch [
   | in-Some+in_ok-begin_next+in_ok-settle_job-2+then-closed+then-self-known w ↦
       let b = w.begin_next.ensures in
       rw w.self-is (Serves-join g.R.Record.form g.D.Disk.keeps g.D.Disk.states c.args.self.now w.begin_next.new.self w.settle_job-in-loop.new.self
-      (Serves-begun g.R.Record.form g.D.Disk.keeps g.D.Disk.states c.args.self.now c.loop.self w.raise.new.self w.begin_next.new.self _ c.loop.invariant.serves refl w.raise.ensures.raised b.goes_on b.disk) w.settle_job-in-loop.ensures.serves)
+      (Serves-begun g.R.Record.form g.D.Disk.keeps g.D.Disk.states c.args.self.now c.loop.self w.raise.new.self w.begin_next.new.self _ c.loop.invariant.serves refl w.raise.ensures.raised b.goes_on b.disk b.fold) w.settle_job-in-loop.ensures.serves)
 ]
 
 pub returns-clause-faults : goal.returns-clause-faults

@@ -2,6 +2,7 @@ use Rattle.std.proofs.Common.{◌≡◌, ◌+◌, inl, inr, refl, sym, ap, ◌�
 use Rattle.std.proofs.lemmas.Result.{err_from_is_err_and}
 use Rattle.flush_core.specs.declared.lane.Tick.TheVariants.{Step}
 use Rattle.flush_core.specs.Refusals.{failed}
+use Rattle.flush_core.proofs.FoldsBehind.{fold_ticked, fold_unticked}
 use Rattle.flush_core.proofs.Goes.{Serves-tick, Serves-first}
 use Rattle.flush_core.proofs.LogLeft.{log_left-step}
 use Rattle.flush_core.proofs.ServeFaults.{IsServeFault-since, IsServeFault-tick}
@@ -14,13 +15,14 @@ pub returns-in_err-tick-clause-serves : goal.returns-in_err-tick-clause-serves
 returns-in_err-tick-clause-serves g c =
     let e = c.tick.ensures in
     Serves-first g.R.Record.form g.D.Disk.keeps g.D.Disk.states c.args.self.now c.loop.self c.tick.new.self c.loop.invariant.so_far
-    (Serves-tick g.R.Record.form g.D.Disk.keeps g.D.Disk.states c.loop.self c.tick.new.self e.same e.no_less e.opening e.images e.model)
+    (Serves-tick g.R.Record.form g.D.Disk.keeps g.D.Disk.states c.loop.self c.tick.new.self e.same e.no_less e.opening e.images e.model
+    (fold_unticked c.loop.self.pen c.tick.new.self.pen c.in_err-tick.field-0.0 c.in_err-tick.ensures.refused))
 
 pub returns-in_err-tick-clause-refused : goal.returns-in_err-tick-clause-refused
 returns-in_err-tick-clause-refused g c =
     let p = err_from_is_err_and c.from_residual.result c.from_residual.ensures.1 in
-    rw (p.1, p.2) (IsServeFault-since c.args.self.now c.loop.self c.tick.new.self c.in_err-tick.field-0.0 c.loop.invariant.whole
-    (IsServeFault-tick c.loop.self c.tick.new.self c.in_err-tick.field-0.0 c.in_err-tick.ensures.refused))
+    rw (p.1, p.2) (IsServeFault-since g.R.Record.form.width c.args.self.now c.loop.self c.tick.new.self c.in_err-tick.field-0.0 c.loop.invariant.whole
+    (IsServeFault-tick g.R.Record.form.width c.loop.self c.tick.new.self c.in_err-tick.field-0.0 c.in_err-tick.ensures.refused))
 
 pub returns-in_err-tick-clause-faults : goal.returns-in_err-tick-clause-faults
 returns-in_err-tick-clause-faults g c =
@@ -38,7 +40,8 @@ loop-preserved g c =
     let whole = c.in_ok-tick.ensures.whole in
     record {
       so_far = inr (Serves-first g.R.Record.form g.D.Disk.keeps g.D.Disk.states c.args.self.now c.loop.self c.tick.new.self c.loop.invariant.so_far
-          (Serves-tick g.R.Record.form g.D.Disk.keeps g.D.Disk.states c.loop.self c.tick.new.self e.same e.no_less e.opening e.images e.model));
+          (Serves-tick g.R.Record.form g.D.Disk.keeps g.D.Disk.states c.loop.self c.tick.new.self e.same e.no_less e.opening e.images e.model
+          (fold_ticked c.loop.self.pen c.tick.new.self.pen c.in_ok-tick.field-0 c.in_ok-tick.ensures.ticked)));
       whole = whole.1 ∙ sym whole.0 ∙ c.loop.invariant.whole;
       faults = c.in_ok-tick.ensures.faults ∙ c.loop.invariant.faults;
     }
@@ -47,7 +50,8 @@ pub returns-clause-serves : goal.returns-clause-serves
 returns-clause-serves g c =
     let e = c.tick.ensures in
     Serves-first g.R.Record.form g.D.Disk.keeps g.D.Disk.states c.args.self.now c.loop.self c.tick.new.self c.loop.invariant.so_far
-    (Serves-tick g.R.Record.form g.D.Disk.keeps g.D.Disk.states c.loop.self c.tick.new.self e.same e.no_less e.opening e.images e.model)
+    (Serves-tick g.R.Record.form g.D.Disk.keeps g.D.Disk.states c.loop.self c.tick.new.self e.same e.no_less e.opening e.images e.model
+    (fold_ticked c.loop.self.pen c.tick.new.self.pen c.in_ok-tick.field-0 c.in_ok-tick.ensures.ticked))
 
 pub returns-clause-whole : goal.returns-clause-whole
 returns-clause-whole g c =
