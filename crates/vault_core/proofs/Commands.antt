@@ -1,0 +1,161 @@
+-- What every command promises.
+use Rattle.std.proofs.Common.{◌≡◌, ℕ, ◌+◌, ◌-◌, ◌*◌, List, Bool, true, false, [], ◌∷◌, length, Option, Some, None, inl, inr, refl, sym, ap, subst, ◌∙◌, arith}
+use Rattle.std.specs.Prelude.{Ok, Err, MatchOption, ◌≤◌}
+use Rattle.std.specs.Option.{is_some}
+use Rattle.std.specs.List.{AllByRecursion}
+use Rattle.std.proofs.lemmas.Option.{same_Some}
+use Rattle.record_core.specs.Bytes.{Encoding}
+use Rattle.disk_core.specs.State.{State}
+use Rattle.disk_core.specs.Moments.{LeavesOnly, clock}
+use Rattle.segment_core.specs.Frame.{Run, Frame}
+use Rattle.segment_core.specs.Tally.{after}
+use Rattle.segment_core.specs.Raw.{AreCellsOf}
+use Rattle.segment_core.specs.Written.{joined}
+use Rattle.pen_core.specs.declared.fault.PenFault.{PenFault}
+use Rattle.pen_core.specs.declared.fault.PenFault.TheVariants as faults
+use Rattle.pen_core.specs.declared.step.Step.{Step}
+use Rattle.pen_core.specs.declared.step.Step.TheVariants.{Body, BodySync, Gate, GateSync}
+use Rattle.pen_core.specs.Step.{steps_left}
+use Rattle.pen_core.specs.PenOf.{PenOf}
+use Rattle.pen_core.specs.Pen.{MayOpen, FileSame, Begins, IsUnchanged, vector_after, log_left, failed_calls}
+use Rattle.pen_core.specs.Refusals.{first_refusal, IsRefusal}
+use Rattle.vault_core.specs.declared.fault.VaultFault.TheVariants.{Pen}
+use Rattle.vault_core.specs.Vault.{VaultOf, IsVault, OpensToEither, list_of}
+use Rattle.pen_core.specs.Settled.{IsLogSettled, IsLogFault}
+use Rattle.vault_core.specs.Commands.{IsCommand, IsCommandFault, Stands, StandsBehind, calls_made, calls_if}
+use Rattle.vault_core.proofs.Kept.{vault_of, done_kept, done_sure, done_pen, failed_kept, failed_sure, failed_pen, failed_stands, stopped, command_images, sure_same}
+
+-- ---- tests
+
+-- none of the tests is of a call that failed
+abbrev pub AreQuiet : List (Bool × PenFault) → Type 0
+AreQuiet lines = AllByRecursion (λ line. failed_calls line.1 ≡ 0) lines
+
+quiet_first : (lines : List (Bool × PenFault)) → AreQuiet lines → (o : Option PenFault) → first_refusal lines ≡ o → (fault : PenFault) → MatchOption o (fault ≡ faults.Memory) (λ first. fault ≡ first) → failed_calls fault ≡ 0
+quiet_first [] quiet None is fault why = ap failed_calls why
+quiet_first [] quiet (Some f) is fault why = absurd cc
+quiet_first ((true, first) ∷ lines) quiet None is fault why = absurd cc
+quiet_first ((true, first) ∷ lines) quiet (Some f) is fault why = ap failed_calls (why ∙ sym (same_Some first f is)) ∙ quiet.0
+quiet_first ((false, first) ∷ lines) quiet o is fault why = quiet_first lines quiet.1 o is fault why
+
+pub quiet : (lines : List (Bool × PenFault)) (fault : PenFault) → AreQuiet lines → IsRefusal lines fault → failed_calls fault ≡ 0
+quiet lines fault are why = quiet_first lines are (first_refusal lines) refl fault why
+
+-- what was stands behind a fault that is none of a call
+pub stands_was : (made was : Type 0) (fault : PenFault) → failed_calls fault ≡ 0 → was → Stands made was (Pen fault)
+stands_was made was faults.Broken none it = it
+stands_was made was faults.Busy none it = it
+stands_was made was faults.OldFormat none it = it
+stands_was made was faults.Runs none it = it
+stands_was made was faults.OutOfRange none it = it
+stands_was made was faults.TooLarge none it = it
+stands_was made was faults.Unfolded none it = it
+stands_was made was faults.FileFull none it = it
+stands_was made was faults.Memory none it = it
+stands_was made was faults.Exists none it = it
+stands_was made was (faults.Disk cause) none it = absurd (omega (arith, none))
+
+-- a test that doesn't hold
+pub passes : (test : Bool) (fault : PenFault) (lines : List (Bool × PenFault)) → first_refusal ((test, fault) ∷ lines) ≡ None → (test ≡ false) × (first_refusal lines ≡ None)
+passes true fault lines none = absurd cc
+passes false fault lines none = (refl, none)
+
+pub memory_refused : (lines : List (Bool × PenFault)) → first_refusal lines ≡ None → IsRefusal lines faults.Memory
+memory_refused lines none = at (first_refusal lines) none
+  where
+    at : (o : Option PenFault) → o ≡ None → MatchOption o (faults.Memory ≡ faults.Memory) (λ first. faults.Memory ≡ first)
+    at None is = refl
+    at (Some f) is = absurd cc
+
+pub idle_is : {X : Type 0} (job : Option X) → is_some job ≡ false → job ≡ None
+idle_is None is = refl
+idle_is (Some job) is = absurd cc
+
+steps_left-most : (step : Step) → steps_left step ≤ 4
+steps_left-most Body = omega arith
+steps_left-most BodySync = omega arith
+steps_left-most Gate = omega arith
+steps_left-most GateSync = omega arith
+
+module _ {R D : Type 0} (form : Encoding R) (keeps : D → Type 0) (states : D → List State) (faults_of : D → ℕ) (v : VaultOf R D) (is : IsVault (keeps v.pen.disk) form v) (frame : Frame) (lines : List (Bool × PenFault)) where
+  -- ---- refused
+
+  pub refused_command : (pen : PenOf D) (fault : PenFault) → IsUnchanged v.pen pen → AreQuiet lines → IsRefusal lines fault
+      → IsCommand form keeps states faults_of frame lines v (vault_of form pen v.blocks) (Err (Pen fault))
+  refused_command pen fault same are why =
+      let none = quiet lines fault are why in
+      let disk : pen.disk ≡ v.pen.disk = same.disk_same in
+      record {
+        pen = inl (why, same);
+        allowed = tt;
+        sure = λ now. sure_same form (keeps v.pen.disk) v is pen same (subst keeps disk now);
+        images = λ now. stands_was _ (pen.disk ≡ v.pen.disk) fault none disk;
+        time = let calls : calls_if (failed_calls fault) (5 - log_left pen.job) ≡ 0 = ap (λ n. calls_if n (5 - log_left pen.job)) none in omega (arith, calls, ap (λ d. clock (states d)) disk);
+        failed_calls = omega (arith, none, ap faults_of disk);
+        model = subst keeps disk;
+        goes_on = λ _. tt;
+      }
+
+  -- ---- begun
+
+  module _ (whole : v.pen.broken ≡ false) (mid : PenOf D) (begun : Begins frame v.pen mid) (blocks : List (List R))
+      (size : (after v.pen.tally frame).size ≡ length (joined blocks)) (next : keeps v.pen.disk → AreCellsOf form (vector_after mid) (joined blocks)) (new : PenOf D)
+      (images : keeps new.disk → LeavesOnly (states mid.disk) (states new.disk) (MayOpen mid)) (model : keeps new.disk → keeps mid.disk) where
+    was : keeps mid.disk → keeps v.pen.disk
+    was = subst keeps begun.disk_same
+
+    back : keeps new.disk → keeps v.pen.disk
+    back now = was (model now)
+
+    left : log_left mid.job ≡ 4
+    left = ap log_left begun.job_is
+
+    leaves : keeps new.disk → LeavesOnly (states v.pen.disk) (states new.disk) (OpensToEither form v.sure (joined blocks))
+    leaves now =
+        command_images form (keeps v.pen.disk) v is whole frame mid begun blocks size next (states new.disk) (states v.pen.disk) (back now)
+        (subst (λ (d : D). LeavesOnly (states d) (states new.disk) (MayOpen mid)) begun.disk_same (images now))
+
+    module _ (settled : IsLogSettled mid new) (still : new.broken ≡ false) (file : keeps new.disk → new.vector ≡ vector_after mid) where
+      pub committed_kept : IsVault (keeps new.disk) form (vault_of form new blocks)
+      committed_kept = done_kept form (keeps v.pen.disk) v is whole frame mid begun blocks size next new (keeps new.disk) settled still back file
+
+      pub committed_command : first_refusal lines ≡ None → clock (states new.disk) ≡ clock (states mid.disk) + log_left mid.job → faults_of new.disk ≡ faults_of mid.disk → (keeps mid.disk → keeps new.disk)
+          → IsCommand form keeps states faults_of frame lines v (vault_of form new blocks) (Ok tt)
+      committed_command allowed time calls goes_on = record {
+        pen = done_pen form (keeps v.pen.disk) v is whole frame mid begun blocks size next new (keeps new.disk) settled still back file;
+        allowed = allowed;
+        sure = done_sure form (keeps v.pen.disk) v is whole frame mid begun blocks size next new (keeps new.disk) settled still back file;
+        images = leaves;
+        time = time ∙ ap (λ n. clock (states mid.disk) + n) left ∙ ap (λ d. clock (states d) + 4) begun.disk_same;
+        failed_calls = calls ∙ ap faults_of begun.disk_same;
+        model = back;
+        goes_on = λ now. goes_on (subst keeps (sym begun.disk_same) now);
+      }
+
+    module _ (fault : PenFault) (why : IsLogFault mid new fault) (file : keeps new.disk → FileSame mid new) where
+      pub stopped_kept : IsVault (keeps new.disk) form (vault_of form new blocks)
+      stopped_kept = failed_kept form (keeps v.pen.disk) v is whole frame mid begun blocks size next new (keeps new.disk) fault why back file
+
+      pub stopped_stands : (made was : Type 0) → made → Stands made was (Pen fault)
+      stopped_stands made was it = failed_stands form (keeps v.pen.disk) v is whole frame mid begun blocks size next new (keeps new.disk) fault why back file made was it
+
+      pub stopped_command : first_refusal lines ≡ None → clock (states new.disk) + log_left new.job ≡ clock (states mid.disk) + log_left mid.job + failed_calls fault → faults_of new.disk ≡ faults_of mid.disk + failed_calls fault
+          → IsCommand form keeps states faults_of frame lines v (vault_of form new blocks) (Err (Pen fault))
+      stopped_command allowed time calls =
+          let at = stopped form (keeps v.pen.disk) v is whole frame mid begun blocks size next new (keeps new.disk) fault why back file in
+          let one : failed_calls fault ≡ 1 = ap failed_calls at.1 in
+          let here : log_left new.job ≡ steps_left at.0 = ap log_left at.2.job_is in
+          let most = steps_left-most at.0 in
+          record {
+            pen = failed_pen form (keeps v.pen.disk) v is whole frame mid begun blocks size next new (keeps new.disk) fault why back file lines allowed;
+            allowed = tt;
+            sure = failed_sure form (keeps v.pen.disk) v is whole frame mid begun blocks size next new (keeps new.disk) fault why back file;
+            images = λ now. stopped_stands _ (new.disk ≡ v.pen.disk) (leaves now);
+            time =
+                let all : calls_if (failed_calls fault) (5 - log_left new.job) ≡ 5 - log_left new.job = ap (λ n. calls_if n (5 - log_left new.job)) one in
+                let disk : clock (states mid.disk) ≡ clock (states v.pen.disk) = ap (λ d. clock (states d)) begun.disk_same in
+                omega (arith, all, time, left, one, here, most);
+            failed_calls = calls ∙ ap (λ d. faults_of d + failed_calls fault) begun.disk_same;
+            model = back;
+            goes_on = λ _. tt;
+          }

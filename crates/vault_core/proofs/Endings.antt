@@ -1,0 +1,62 @@
+-- The end of a phase.
+use Rattle.std.proofs.Common.{◌≡◌, ◌≢◌, ℕ, zero, suc, ◌+◌, ◌<◌, ◌≤◌, ◌⊎◌, inl, inr, List, [], ◌∷◌, ◌++◌, length, map, get_or, max, All, Contains, refl, sym, ap, subst, ◌∙◌, rules, arith}
+use Rattle.std.specs.List.{AllByRecursion}
+use Rattle.std.proofs.lemmas.List.Elements.{All-from_recursion, recursion_from_All}
+use Rattle.block_core.specs.Growth.{Growth}
+use Rattle.directory_core.specs.Chain.{Begins, IsChained}
+use Rattle.book_core.specs.Lists.{Phase, Seated, own_of, StandInList}
+use Rattle.flush_core.specs.Flusher.{FlusherOf}
+use Rattle.vault_core.specs.Gathering.{AreDistinct, HasId, AreAll, IsWhole, MayGather, made_by, most_known}
+use Rattle.vault_core.proofs.Accounts.{AreApart, MadeFew, MadeAll, IsOneOf, exact}
+use Rattle.vault_core.proofs.Prefixes.{made_few, made_all}
+
+module _ {R : Type 0} where
+  -- the one that knows most knows no less than the flusher, and than each seat
+  pub most-flusher : (seats : List (Seated R)) (most : ℕ) → most ≤ most_known seats most
+  most-flusher [] most = omega arith
+  most-flusher (s ∷ ss) most = let rest = most-flusher ss (max most (length s.pass.entries)) in omega arith
+
+  most-more : (seats : List (Seated R)) (a b : ℕ) → a ≤ b → most_known seats a ≤ most_known seats b
+  most-more [] a b le = le
+  most-more (s ∷ ss) a b le = most-more ss (max a (length s.pass.entries)) (max b (length s.pass.entries)) (omega arith)
+
+  most-each : (seats : List (Seated R)) (most : ℕ) → AllByRecursion (λ s. length s.pass.entries ≤ most_known seats most) seats
+  most-each [] most = search rules
+  most-each (s ∷ ss) most =
+      let next = max most (length s.pass.entries) in
+      let rest = most-flusher ss next in
+      (omega arith, most-each ss next)
+
+  pub all_known : (seats : List (Seated R)) (most : ℕ) → All (λ s. length s.pass.entries ≤ most_known seats most) seats
+  all_known seats most = All-from_recursion (λ (s : Seated R). length s.pass.entries ≤ most_known seats most) seats (most-each seats most)
+
+  apart : (ss : List (Seated R)) → AreDistinct ss → AreApart ss
+  apart [] distinct = tt
+  apart (s ∷ ss) distinct = (
+    recursion_from_All (λ (t : Seated R). s.id ≢ t.id) ss (λ k d lt. distinct zero (suc k) d (omega arith) (omega arith)),
+    apart ss (λ i j d lt within. distinct (suc i) (suc j) d (omega arith) (omega arith)),
+  )
+
+  has-id : (ss : List (Seated R)) (id : ℕ) → IsOneOf ss id → HasId id ss
+  has-id [] id is = absurd is
+  has-id (s ∷ ss) id (inl same) = (zero, omega arith, sym same)
+  has-id (s ∷ ss) id (inr rest) = let there = has-id ss id rest in (suc there.0, (let lt = there.1 in omega arith), there.2)
+
+  module _ {D : Type 0} (live : Phase R) (seats : List (Seated R)) (f : FlusherOf R D) (may : MayGather live seats f)
+      (stand : All StandInList seats) (begin : All (λ s. Begins s.pass.entries f.pass.entries) seats) (chained : IsChained f.pass.entries) where
+    few : AllByRecursion (MadeFew f.pass.entries) seats
+    few = recursion_from_All (MadeFew f.pass.entries) seats (λ k d lt. made_few f.pass.entries (get_or seats k d) (begin k d lt) (stand k d lt))
+
+    exactly : AllByRecursion (MadeAll f.pass.entries) seats × AllByRecursion (λ e. IsOneOf seats e.seat) f.pass.entries
+    exactly = exact seats f.pass.entries (apart seats may.all.distinct) few (may.all.add_up ∙ may.known)
+
+    pub whole : IsWhole live seats f
+    whole = record {
+      pen_whole = may.whole;
+      all = may.all;
+      settled = may.settled;
+      longest = begin;
+      chained = chained;
+      by_seats = λ k d lt. has-id seats (get_or f.pass.entries k d).seat (All-from_recursion (λ (e : Growth R). IsOneOf seats e.seat) f.pass.entries exactly.1 k d lt);
+      made_once = λ k d lt. made_all f.pass.entries (get_or seats k d) (begin k d lt) (stand k d lt) (All-from_recursion (MadeAll f.pass.entries) seats exactly.0 k d lt);
+    }

@@ -1,0 +1,17 @@
+use Rattle.std.proofs.Crossing.{crosses}
+use denote.Param.Send.{sendable}
+use Rattle.std.proofs.Common.{refl, subst}
+use Rattle.segment_core.specs.Written.{joined}
+use Rattle.vault_core.specs.Search.{IsFirst}
+use Rattle.vault_core.proofs.Lent.{lends_few, lends_first}
+use Rattle.vault_core.proofs.vault.Vault.find_first.Goals as goal
+
+pub find_first-requires : goal.find_first-requires
+find_first-requires g c κs =
+    (search (sendable, crosses) depth 20, (search (sendable, crosses) depth 20, (search (sendable, crosses) depth 20, ((refl, tt), (tt, (tt, lends_few c.pieces.result c.pieces.ensures.few))))))
+
+pub returns : goal.returns
+returns g c =
+    let found = c.find_first.ensures in
+    let p = g.P.Pick.picks_of c.args.pick.now in
+    subst (λ pieces. IsFirst p (joined pieces) c.find_first.result) c.pieces.ensures.pieces (lends_first p c.pieces.result found.0 c.find_first.result found.1 found.2)

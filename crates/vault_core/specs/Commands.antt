@@ -1,0 +1,134 @@
+-- Commands: what each makes of the pen, and why it is refused.
+use Rattle.std.specs.Prelude.{◌≡◌, ◌⊎◌, ℕ, zero, suc, ◌+◌, ◌-◌, ◌*◌, Bool, true, false, List, [], ◌∷◌, ◌++◌, length, replicate, take, Option, Some, None, MatchOption, MatchResult, OnOk}
+use Rattle.std.specs.List.{flat_map}
+use Rattle.std.specs.declared.result.Result.{Result}
+use Rattle.record_core.specs.Bytes.{Encoding}
+use Rattle.disk_core.specs.State.{State}
+use Rattle.disk_core.specs.Moments.{LeavesOnly, clock}
+use Rattle.segment_core.specs.Frame.{Run, Frame, Change, frame_text}
+use Rattle.segment_core.specs.Tally.{after}
+use Rattle.pen_core.specs.declared.step.Step.{Step}
+use Rattle.pen_core.specs.Step.{fault_of}
+use Rattle.pen_core.specs.declared.fault.PenFault.{PenFault}
+use Rattle.pen_core.specs.declared.fault.PenFault.TheVariants as faults
+use Rattle.pen_core.specs.PenOf.{PenOf, JobOf}
+use Rattle.pen_core.specs.Pen.{CountsSame, CountsDone, FileSame, MayOpen, IsUnchanged, fold_behind, log_left, failed_calls, IsTickFault, IsHomeFault, IsFoldRefusal}
+use Rattle.pen_core.specs.Refusals.{IsRefusal, first_refusal, shrink_lines, group_lines}
+use Rattle.vault_core.specs.declared.fault.VaultFault.{VaultFault}
+use Rattle.vault_core.specs.declared.fault.VaultFault.TheVariants.{Pen, Unsettled, WrongPhase}
+use Rattle.flush_core.specs.declared.lane.Lane.{Lane}
+use Rattle.flush_core.specs.declared.lane.Lane.TheVariants.{Log, Home}
+use Rattle.vault_core.specs.Touched.{taken_at}
+use Rattle.vault_core.specs.Vault.{VaultOf, OpensToEither, list_of}
+
+-- ---- commands
+
+-- the command's frame stands in the file
+pub record IsCommitted {D : Type 0} (frame : Frame) (old new : PenOf D) : Type 0 where
+  pub shape_same : new.shape ≡ old.shape
+  pub fold_is : new.fold ≡ fold_behind frame old.fold
+  pub tally_is : new.tally ≡ after old.tally frame
+  pub gate_is : new.gate ≡ old.gate + length (frame_text old.shape.format frame)
+  pub idle : new.job ≡ None
+  pub whole : new.broken ≡ false
+
+-- Its commit stopped at this step, where a device call failed.
+pub record IsStopped {D : Type 0} (frame : Frame) (step : Step) (old new : PenOf D) : Type 0 where
+  pub job_is : new.job ≡ Some (record { frame = frame; step = step })
+  pub broken : new.broken ≡ true
+  pub shape_same : new.shape ≡ old.shape
+  pub fold_same : new.fold ≡ old.fold
+  pub tally_same : new.tally ≡ old.tally
+  pub gate_same : new.gate ≡ old.gate
+
+-- Why a command isn't settled: one of these tests refused it, or memory was refused, and nothing has changed; or none
+-- did, and its commit stopped.
+abbrev pub IsCommandFault : {D : Type 0} → Frame → List (Bool × PenFault) → PenOf D → PenOf D → VaultFault → Type 0
+IsCommandFault frame lines old new (Pen fault) =
+    (IsRefusal lines fault × IsUnchanged old new)
+    ⊎ ((step : Step) × (first_refusal lines ≡ None) × (fault ≡ faults.Disk (fault_of step)) × IsStopped frame step old new)
+IsCommandFault frame lines old new (Unsettled number) = ⊥
+IsCommandFault frame lines old new WrongPhase = ⊥
+
+-- what stands behind this answer of a command: what it makes, once its commit has begun, and else what was
+abbrev pub StandsBehind : Type 0 → Type 0 → PenFault → Type 0
+StandsBehind made was faults.Broken = was
+StandsBehind made was faults.Busy = was
+StandsBehind made was faults.OldFormat = was
+StandsBehind made was faults.Runs = was
+StandsBehind made was faults.OutOfRange = was
+StandsBehind made was faults.TooLarge = was
+StandsBehind made was faults.Unfolded = was
+StandsBehind made was faults.FileFull = was
+StandsBehind made was faults.Memory = was
+StandsBehind made was faults.Exists = was
+StandsBehind made was (faults.Disk cause) = made
+
+abbrev pub Stands : Type 0 → Type 0 → VaultFault → Type 0
+Stands made was (Pen fault) = StandsBehind made was fault
+Stands made was (Unsettled number) = ⊥
+Stands made was WrongPhase = ⊥
+
+-- how many calls of the device failed where this is answered
+abbrev pub failed : VaultFault → ℕ
+failed (Pen fault) = failed_calls fault
+failed (Unsettled number) = 0
+failed WrongPhase = 0
+
+-- how many calls a command has made that answers this and leaves this pen: all up to the one that failed
+abbrev pub calls_if : ℕ → ℕ → ℕ
+calls_if zero n = 0
+calls_if (suc k) n = n
+
+abbrev pub calls_made : {D : Type 0} → PenOf D → VaultFault → ℕ
+calls_made new fault = calls_if (failed fault) (5 - log_left new.job)
+
+-- nothing is to be written: only a broken pen refuses it
+abbrev pub IsNothingFault : {D : Type 0} → PenOf D → VaultFault → Type 0
+IsNothingFault pen fault = (fault ≡ Pen faults.Broken) × (pen.broken ≡ true)
+
+-- ---- changes
+
+-- the frame of a change of these runs to what stands there in this list
+abbrev pub changed_frame : {R : Type 0} → Encoding R → List Run → List R → Frame
+changed_frame form runs records = Change runs (flat_map form.bytes_of (taken_at runs records))
+
+-- ---- lengths
+
+-- the first n records, and copies where there are fewer
+abbrev pub resized : {R : Type 0} → ℕ → R → List R → List R
+resized n v records = take n records ++ replicate (n - length records) v
+
+-- ---- folds
+
+abbrev pub IsFoldFault : {D : Type 0} → PenOf D → VaultFault → Type 0
+IsFoldFault pen (Pen fault) = IsFoldRefusal pen fault
+IsFoldFault pen (Unsettled number) = ⊥
+IsFoldFault pen WrongPhase = ⊥
+
+abbrev pub IsLaneFault : {D : Type 0} → Lane → PenOf D → PenOf D → VaultFault → Type 0
+IsLaneFault Log old new (Pen fault) = IsTickFault old new fault
+IsLaneFault Home old new (Pen fault) = IsHomeFault old new fault
+IsLaneFault lane old new (Unsettled number) = ⊥
+IsLaneFault lane old new WrongPhase = ⊥
+
+-- ---- what every command promises
+
+-- A command with this frame, which these tests may refuse: what it makes of the pen, whatever the disk; that none of the
+-- tests holds where it is settled; what is sure
+-- behind it; and that each image that a crash may leave meanwhile opens to the list that was sure, or to the one behind it.
+pub record IsCommand {R D : Type 0} (form : Encoding R) (keeps : D → Type 0) (states : D → List State) (faults : D → ℕ) (frame : Frame) (lines : List (Bool × PenFault)) (old new : VaultOf R D) (result : Result (Unit {0}) VaultFault) : Type 0 where
+  pub pen : MatchResult result (λ _. IsCommitted frame old.pen new.pen) (λ fault. IsCommandFault frame lines old.pen new.pen fault)
+  pub allowed : OnOk result (first_refusal lines ≡ None)
+  pub sure : keeps new.pen.disk → MatchResult result (λ _. new.sure ≡ list_of new) (λ _. new.sure ≡ old.sure)
+  pub images : keeps new.pen.disk → MatchResult result
+      (λ _. LeavesOnly (states old.pen.disk) (states new.pen.disk) (OpensToEither form old.sure (list_of new)))
+      (Stands (LeavesOnly (states old.pen.disk) (states new.pen.disk) (OpensToEither form old.sure (list_of new))) (new.pen.disk ≡ old.pen.disk))
+  pub time : MatchResult result
+      (λ _. clock (states new.pen.disk) ≡ clock (states old.pen.disk) + 4)
+      (λ fault. clock (states new.pen.disk) ≡ clock (states old.pen.disk) + calls_made new.pen fault)
+  pub failed_calls : MatchResult result
+      (λ _. faults new.pen.disk ≡ faults old.pen.disk)
+      (λ fault. faults new.pen.disk ≡ faults old.pen.disk + failed fault)
+  pub model : keeps new.pen.disk → keeps old.pen.disk
+  pub goes_on : keeps old.pen.disk → OnOk result (keeps new.pen.disk)

@@ -1,0 +1,162 @@
+-- What a crew grows by, and what comes of it.
+use Rattle.std.specs.Prelude.{◌≡◌, ℕ, zero, suc, ◌+◌, ◌<◌, ◌≤◌, ◌⊎◌, List, [], ◌++◌, length, map, take, get_or, slice_get, All, Option, Some, IfSome}
+use Rattle.std.specs.Global.{Vec}
+use Rattle.record_core.specs.Bytes.{Encoding}
+use Rattle.record_core.specs.Limits.{payload_limit}
+use Rattle.disk_core.specs.State.{State}
+use Rattle.disk_core.specs.Moments.{LeavesOnly}
+use Rattle.pen_core.specs.Typed.{OpensTo}
+use Rattle.block_core.specs.Growth.{Growth}
+use Rattle.block_core.specs.Length.{payload_len}
+use Rattle.block_core.specs.declared.fault.FreshFault.{FreshFault}
+use Rattle.block_core.specs.declared.fault.FreshFault.TheVariants as fresh
+use Rattle.directory_core.specs.Chain.{joined, IsChained}
+use Rattle.directory_core.specs.Limits.{record_limit}
+use Rattle.book_core.specs.declared.fault.GrowFault.{GrowFault}
+use Rattle.book_core.specs.declared.fault.GrowFault.TheVariants.{Closed, Full, TooLong, Strayed, Memory, Empty, TooLarge}
+use Rattle.book_core.specs.declared.seat.Receipt.{Receipt}
+use Rattle.book_core.specs.Lists.{Phase, Seated, IsOf, opening_of, own_of, records_of}
+use Rattle.book_core.specs.Growing.{IsBookRefusal}
+use Rattle.vault_core.specs.declared.crewing.CrewFault.{CrewFault}
+use Rattle.vault_core.specs.declared.crewing.CrewFault.TheVariants.{Share, Gather}
+use Rattle.vault_core.specs.Vault.{VaultOf, list_of}
+use Rattle.vault_core.specs.Sharing.{IsShareFault}
+use Rattle.vault_core.specs.Gathering.{AreOf, IsGatherFault}
+
+-- ---- sources
+
+-- why a source gives no block of so many records
+abbrev pub IsSourceFault : ℕ → ℕ → FreshFault → Type 0
+IsSourceFault width n fresh.Empty = n ≡ 0
+IsSourceFault width n fresh.TooLarge = payload_limit < payload_len width n
+IsSourceFault width n fresh.Memory = Unit {0}
+
+-- for each grower the records of its blocks
+abbrev pub growths_of : {R : Type 0} → List (Vec (Vec R)) → List (List (List R))
+growths_of lists = map (λ blocks. records_of blocks.items) lists
+
+abbrev pub count_in : {R : Type 0} → List (List (List R)) → ℕ → ℕ
+count_in growths grower = length (get_or growths grower [])
+
+abbrev pub block_in : {R : Type 0} → List (List (List R)) → ℕ → ℕ → List R
+block_in growths grower k = get_or (get_or growths grower []) k []
+
+-- how many blocks the first n growers have together
+abbrev pub counts_to : (ℕ → ℕ) → ℕ → ℕ
+counts_to count zero = 0
+counts_to count (suc n) = counts_to count n + count n
+
+-- ---- one grower
+
+-- the receipt of a growth that stands behind so many records from before the phase
+abbrev pub receipt_of : {R : Type 0} → ℕ → Growth R → Receipt
+receipt_of before growth = record { number = growth.number; start = before + growth.start; len = length growth.records; seat = growth.seat; serial = growth.serial }
+
+-- why a growth of so many records isn't made: it has none, or too many for a block; or the book refuses it
+abbrev pub IsGrowerFault : {R : Type 0} → ℕ → Phase R → Seated R → ℕ → GrowFault → Type 0
+IsGrowerFault width live seat n Closed = Unit {0}
+IsGrowerFault width live seat n Full = IsBookRefusal live seat n Full
+IsGrowerFault width live seat n TooLong = IsBookRefusal live seat n TooLong
+IsGrowerFault width live seat n (Strayed k) = IsBookRefusal live seat n (Strayed k)
+IsGrowerFault width live seat n Memory = Unit {0}
+IsGrowerFault width live seat n Empty = n ≡ 0
+IsGrowerFault width live seat n TooLarge = payload_limit < payload_len width n
+
+-- why there is no such block, as the fault of a growth
+abbrev pub IsBlockFault : ℕ → ℕ → GrowFault → Type 0
+IsBlockFault width n Closed = ⊥
+IsBlockFault width n Full = ⊥
+IsBlockFault width n TooLong = ⊥
+IsBlockFault width n (Strayed k) = ⊥
+IsBlockFault width n Memory = Unit {0}
+IsBlockFault width n Empty = n ≡ 0
+IsBlockFault width n TooLarge = payload_limit < payload_len width n
+
+-- why a grower stopped: memory was refused, that of its thread among it; or the growth of the block that comes next wasn't
+-- made
+abbrev pub IsStop : {R : Type 0} → ℕ → Phase R → ℕ → (ℕ → List R) → Seated R → GrowFault → Type 0
+IsStop width live count block seat fault = (fault ≡ Memory) ⊎ ((length seat.made < count) × IsGrowerFault width live seat (length (block (length seat.made))) fault)
+
+-- The grower of that id has made growths of the first blocks that are named for it, in order, has their receipts, and, where
+-- it stopped by a fault, that.
+pub record HasGrown {R : Type 0} (width : ℕ) (live : Phase R) (count : ℕ) (block : ℕ → List R) (id : ℕ) (seat : Seated R) (receipts : List Receipt) (fault : Option GrowFault) : Type 0 where
+  pub of : IsOf live seat
+  pub id_is : seat.id ≡ id
+  pub few : length seat.made ≤ count
+  pub blocks_are : (k : ℕ) (growth : Growth R) → slice_get seat.made k ≡ Some growth → growth.records ≡ block k
+  pub receipts_are : receipts ≡ map (receipt_of (length (opening_of live))) seat.made
+  pub fault_is : IfSome fault (IsStop width live count block seat)
+
+-- ---- all of them
+
+-- what a grower was sent for: by which number it grows in which phase by which source
+pub record SentOf (R S : Type 0) : Type 0 where
+  pub live : Phase R
+  pub source : S
+  pub grower : ℕ
+
+-- Growers that were sent out, the last of n first: that at place k is grower n - 1 - k.
+abbrev pub AreSent : {R S : Type 0} → Phase R → S → ℕ → List (SentOf R S) → Type 0
+AreSent {R} {S} live source n sent = (k : ℕ) (s : SentOf R S) → slice_get sent k ≡ Some s → (s.live ≡ live) × (s.source ≡ source) × (s.grower + k + 1 ≡ n)
+
+-- the growers from 0 up to n have come home, each with its seat, its receipts and its fault
+pub record IsHome {R : Type 0} (width : ℕ) (live : Phase R) (count : ℕ → ℕ) (block : ℕ → ℕ → List R) (seats : List (Seated R)) (receipts : List (List Receipt)) (faults : List (Option GrowFault)) (k : ℕ) : Type 0 where
+  pub seat : Seated R
+  pub seat_is : slice_get seats k ≡ Some seat
+  pub its : List Receipt
+  pub its_are : slice_get receipts k ≡ Some its
+  pub fault : Option GrowFault
+  pub fault_is : slice_get faults k ≡ Some fault
+  pub grown : HasGrown width live (count k) (block k) k seat its fault
+
+pub record AreHome {R : Type 0} (width : ℕ) (live : Phase R) (count : ℕ → ℕ) (block : ℕ → ℕ → List R) (n : ℕ) (seats : List (Seated R)) (receipts : List (List Receipt)) (faults : List (Option GrowFault)) : Type 0 where
+  pub as_many_seats : length seats ≡ n
+  pub as_many_receipts : length receipts ≡ n
+  pub as_many_faults : length faults ≡ n
+  pub each : (k : ℕ) → k < n → IsHome width live count block seats receipts faults k
+
+-- Why a grower made no more growths than m, where the vector has in the end so many records: memory was refused, that of its
+-- thread among it; or, of the block that is named for it next, that it has no record, or more than a frame holds, or more than
+-- the vector had room for; or the book refused it.
+abbrev pub IsReason : {R : Type 0} → ℕ → ℕ → ℕ → (ℕ → List R) → ℕ → GrowFault → Type 0
+IsReason width size count block m Closed = m < count
+IsReason width size count block m Full = m < count
+IsReason width size count block m TooLong = (m < count) × (record_limit < size + length (block m))
+IsReason width size count block m (Strayed k) = m < count
+IsReason width size count block m Memory = Unit {0}
+IsReason width size count block m Empty = (m < count) × (length (block m) ≡ 0)
+IsReason width size count block m TooLarge = (m < count) × (payload_limit < payload_len width (length (block m)))
+
+-- What comes of a crew of n growers. The vault's list is the old one, and behind it the growths that were made, one after
+-- the other; each was made by one of the growers. Those of a grower have the first of the blocks that are named for it, in
+-- order, and its receipts are theirs: so each growth has one receipt, and stands where that says.
+pub record IsCrewed {R D : Type 0} (width : ℕ) (count : ℕ → ℕ) (block : ℕ → ℕ → List R) (n : ℕ) (old new : VaultOf R D) (receipts : List (List Receipt)) (faults : List (Option GrowFault)) (growths : List (Growth R)) : Type 0 where
+  pub list_is : list_of new ≡ list_of old ++ joined growths
+  pub chained : IsChained growths
+  pub by_growers : All (λ growth. growth.seat < n) growths
+  pub as_many : (length receipts ≡ n) × (length faults ≡ n)
+  pub few : (k : ℕ) → k < n → length (own_of k growths) ≤ count k
+  pub blocks_are : (k j : ℕ) (growth : Growth R) → k < n → slice_get (own_of k growths) j ≡ Some growth → growth.records ≡ block k j
+  pub receipts_are : (k : ℕ) → k < n → slice_get receipts k ≡ Some (map (receipt_of (length (list_of old))) (own_of k growths))
+  pub faults_are : (k : ℕ) (fault : GrowFault) → k < n → slice_get faults k ≡ Some (Some fault) → IsReason width (length (list_of new)) (count k) (block k) (length (own_of k growths)) fault
+
+-- the image opens to these records and those of the first of the growths
+pub record OpensToFirst {R : Type 0} (form : Encoding R) (before : List R) (growths : List (Growth R)) (image : List ℕ) : Type 0 where
+  pub count : ℕ
+  pub known : count ≤ length growths
+  pub opens : OpensTo form image (before ++ joined (take count growths))
+
+-- Some growths come of a crew, and whatever a crash may have left meanwhile opens to the old list and the first of them, each
+-- whole.
+abbrev pub HasCrewed : {R D : Type 0} → Encoding R → (D → Type 0) → (D → List State) → (ℕ → ℕ) → (ℕ → ℕ → List R) → ℕ → VaultOf R D → VaultOf R D → List (List Receipt) → List (Option GrowFault) → Type 0
+HasCrewed {R} form keeps states count block n old new receipts faults =
+    (growths : List (Growth R)) × IsCrewed form.width count block n old new receipts faults growths
+    × (keeps new.pen.disk → LeavesOnly (states old.pen.disk) (states new.pen.disk) (OpensToFirst form (list_of old) growths))
+
+-- Why a crew of n growers gave no vault: a phase with this room and a seat for each of them wasn't begun, and the vault is as
+-- it was; or the phase wasn't ended, and here are its parts, over the same blocks, and what a crash may have left meanwhile.
+abbrev pub IsCrewFault : {R D : Type 0} → Encoding R → (D → Type 0) → (D → List State) → VaultOf R D → ℕ → ℕ → CrewFault R D → Type 0
+IsCrewFault form keeps states vault room n (Share back fault) = (back ≡ vault) × IsShareFault vault room n fault
+IsCrewFault form keeps states vault room n (Gather g) =
+    (g.live.blocks ≡ vault.blocks) × AreOf (keeps g.flusher.pen.disk) g.live g.seats.items g.flusher × IsGatherFault g.live g.seats.items g.flusher g.fault
+    × (keeps g.flusher.pen.disk → LeavesOnly (states vault.pen.disk) (states g.flusher.pen.disk) (OpensToFirst form (list_of vault) g.flusher.pass.entries))

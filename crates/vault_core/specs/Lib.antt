@@ -1,0 +1,12 @@
+pub mod Blocks
+pub mod Parts
+pub mod Touched
+pub mod Vault
+pub mod Making
+pub mod Commands
+pub mod Settles
+pub mod Search
+pub mod Sharing
+pub mod Gathering
+pub mod Crewing
+pub mod Upgrading

@@ -1,0 +1,71 @@
+-- The work in hand, done to its end.
+use Rattle.std.specs.Prelude.{◌≡◌, ◌⊎◌, ℕ, ◌+◌, ◌*◌, ◌<◌, ◌≤◌, max, true, false, List, None}
+use Rattle.record_core.specs.Bytes.{Encoding}
+use Rattle.disk_core.specs.declared.fault.DiskFault.{DiskFault}
+use Rattle.disk_core.specs.State.{State}
+use Rattle.disk_core.specs.Moments.{LeavesOnly, clock}
+use Rattle.pen_core.specs.declared.stage.FoldStage.{FoldStage}
+use Rattle.pen_core.specs.declared.stage.FoldStage.TheVariants as stages
+use Rattle.pen_core.specs.declared.fault.PenFault.TheVariants as faults
+use Rattle.pen_core.specs.PenOf.{PenOf}
+use Rattle.pen_core.specs.Pen.{log_left, fold_stage}
+use Rattle.flush_core.specs.declared.lane.Tick.{Tick}
+use Rattle.flush_core.specs.declared.lane.Tick.TheVariants.{Idle, Step, Done, Filed, Waiting}
+use Rattle.vault_core.specs.declared.fault.VaultFault.{VaultFault}
+use Rattle.vault_core.specs.declared.fault.VaultFault.TheVariants.{Pen, Unsettled, WrongPhase}
+use Rattle.vault_core.specs.Vault.{VaultOf, MayHold, list_of}
+
+-- how many ticks a fold takes at most, up to the one that files it
+abbrev pub fold_ticks : FoldStage → ℕ
+fold_ticks stages.None = 0
+fold_ticks (stages.Home n) = n + 3
+fold_ticks stages.Sync = 2
+fold_ticks stages.Ready = 1
+fold_ticks stages.Filed = 0
+
+-- what is left to do: each tick leaves less
+abbrev pub work_left : {D : Type 0} → PenOf D → ℕ
+work_left pen = log_left pen.job + fold_ticks (fold_stage pen.fold) * 5
+
+-- how many calls of the device a fold in this stage makes at most: its home writes, their sync, and those of its frame
+abbrev pub fold_calls : FoldStage → ℕ
+fold_calls stages.None = 0
+fold_calls (stages.Home n) = max 1 n + 5
+fold_calls stages.Sync = 5
+fold_calls stages.Ready = 4
+fold_calls stages.Filed = 0
+
+-- and with those of the job in hand
+abbrev pub calls_left : {D : Type 0} → PenOf D → ℕ
+calls_left pen = log_left pen.job + fold_calls (fold_stage pen.fold)
+
+-- what a tick of the log, or, with no job in hand, of the homes makes of it
+abbrev pub HasAdvanced : {D : Type 0} → PenOf D → PenOf D → Tick → Type 0
+HasAdvanced old new Idle = (old.job ≡ None) × (old.fold ≡ None) × (new ≡ old)
+HasAdvanced old new Step = work_left new < work_left old
+HasAdvanced old new Done = work_left new < work_left old
+HasAdvanced old new Filed = work_left new < work_left old
+HasAdvanced old new Waiting = work_left new < work_left old
+
+-- nothing is in hand
+abbrev pub IsIdle : {D : Type 0} → PenOf D → Type 0
+IsIdle pen = (pen.job ≡ None) × (pen.fold ≡ None)
+
+-- why it isn't done: the pen was broken, and nothing has changed; or a call of the disk failed
+abbrev pub IsSettleFault : {D : Type 0} → PenOf D → PenOf D → VaultFault → Type 0
+IsSettleFault old new (Pen fault) =
+    ((fault ≡ faults.Broken) × (old.broken ≡ true) × (new ≡ old))
+    ⊎ ((cause : DiskFault) × (fault ≡ faults.Disk cause) × (old.broken ≡ false) × (new.broken ≡ true))
+IsSettleFault old new (Unsettled number) = ⊥
+IsSettleFault old new WrongPhase = ⊥
+
+-- a stretch of ticks, none of which failed
+pub record Settles {R D : Type 0} (form : Encoding R) (keeps : D → Type 0) (states : D → List State) (faults : D → ℕ) (old new : VaultOf R D) : Type 0 where
+  pub images : keeps new.pen.disk → LeavesOnly (states old.pen.disk) (states new.pen.disk) (MayHold form old)
+  pub blocks_same : new.blocks ≡ old.blocks
+  pub sure : keeps new.pen.disk → new.sure ≡ list_of new
+  pub whole : (old.pen.broken ≡ false) × (new.pen.broken ≡ false)
+  pub time : clock (states new.pen.disk) + calls_left new.pen ≤ clock (states old.pen.disk) + calls_left old.pen
+  pub no_fault : faults new.pen.disk ≡ faults old.pen.disk
+  pub model : keeps new.pen.disk → keeps old.pen.disk
+  pub goes_on : keeps old.pen.disk → keeps new.pen.disk

@@ -1,0 +1,142 @@
+-- Upgrades: what is copied from a file of version 1 into a new one of version 2, and why it isn't.
+use Rattle.std.specs.Prelude.{◌≡◌, ◌⊎◌, ℕ, ◌+◌, ◌-◌, ◌*◌, ◌<◌, ◌≤◌, ◌^◌, List, length, take, Some, None, Err, IfOk, IfErr, MatchResult, false}
+use Rattle.std.specs.Int.{div_ceil}
+use Rattle.std.specs.declared.result.Result.{Result}
+use Rattle.record_core.specs.Bytes.{Encoding}
+use Rattle.disk_core.specs.State.{State, now, IsImage}
+use Rattle.disk_core.specs.Calls.{bytes_of}
+use Rattle.disk_core.specs.Moments.{clock, LeftSince}
+use Rattle.segment_core.specs.declared.fault.ScanFault.TheVariants.{Unborn}
+use Rattle.segment_core.specs.declared.format.Format.{Format}
+use Rattle.segment_core.specs.declared.format.Format.TheVariants.{One, Two}
+use Rattle.segment_core.specs.Shape.{limit_of, shape_of}
+use Rattle.segment_core.specs.Frame.{Frame}
+use Rattle.segment_core.specs.Fault.{header_fault}
+use Rattle.segment_core.specs.Vector.{HasVector}
+use Rattle.pen_core.specs.declared.step.Step.{Step}
+use Rattle.pen_core.specs.declared.fault.PenFault.{PenFault}
+use Rattle.pen_core.specs.declared.fault.PenFault.TheVariants as faults
+use Rattle.pen_core.specs.Births.{IsExisting, IsCreateFault, WritesNothing, AreCallsUntil, calls_of_creation}
+use Rattle.pen_core.specs.Opening.{IsOpenRefusal, AreCallsDone, AreCallsMade, failed_openings}
+use Rattle.pen_core.specs.PenOf.{PenOf}
+use Rattle.pen_core.specs.Pen.{failed_calls}
+use Rattle.pen_core.specs.Step.{steps_left, fault_of}
+use Rattle.pen_core.specs.Typed.{OpensTo}
+use Rattle.vault_core.specs.declared.fault.VaultFault.TheVariants.{Pen, Unsettled, WrongPhase}
+use Rattle.vault_core.specs.declared.upgrading.UpgradeFault.{UpgradeFault}
+use Rattle.vault_core.specs.declared.upgrading.UpgradeFault.TheVariants.{Old, NotOld, New}
+use Rattle.vault_core.specs.Vault.{VaultOf, list_of}
+
+-- ---- what is copied
+
+-- the bytes are a file of this version, and these are its records
+abbrev pub IsFileOf : {R : Type 0} → Format → Encoding R → List ℕ → List R → Type 0
+IsFileOf format form bytes records = (frames : List Frame) × HasVector format form bytes frames records
+
+-- in how many growths so many records are copied: each has a piece of them, the last one maybe fewer
+abbrev pub growth_count : ℕ → ℕ → ℕ
+growth_count piece len = div_ceil len piece
+
+-- the records of the first so many growths
+abbrev pub copied : {R : Type 0} → ℕ → List R → ℕ → List R
+copied piece records growths = take (growths * piece) records
+
+-- where the closed gate stands behind so many frames of one growth each, with so many records in all
+abbrev pub gate_behind : ℕ → ℕ → ℕ → ℕ
+gate_behind width growths len = 11 + growths * 14 + len * width
+
+-- What a pen counts that has written the first so many growths into a new file, and has nothing in hand.
+pub record HasWritten {R D : Type 0} (form : Encoding R) (piece : ℕ) (records : List R) (growths : ℕ) (pen : PenOf D) : Type 0 where
+  pub shape_is : pen.shape ≡ shape_of Two form
+  pub tally_is : pen.tally ≡ record { size = length (copied piece records growths); changes = 0; folded = 0 }
+  pub gate_is : pen.gate ≡ gate_behind form.width growths (length (copied piece records growths))
+  pub no_job : pen.job ≡ None
+  pub no_fold : pen.fold ≡ None
+  pub whole : pen.broken ≡ false
+
+-- ---- what a crash may leave
+
+-- the image opens to the first so many growths
+abbrev pub OpensToCopied : {R : Type 0} → Encoding R → ℕ → List R → List ℕ → Type 0
+OpensToCopied form piece records image = (growths : ℕ) × OpensTo form image (copied piece records growths)
+
+-- or is no file yet
+abbrev pub IsUnbornOrCopied : {R : Type 0} → Encoding R → ℕ → List R → List ℕ → Type 0
+IsUnbornOrCopied form piece records image = (header_fault form.width image ≡ Some Unborn) ⊎ OpensToCopied form piece records image
+
+-- From the first sync on, where it succeeded and there was no file, each image is such. The next call, of the length,
+-- tells that it succeeded.
+abbrev pub StaysUnbornOrCopied : {R : Type 0} → Encoding R → ℕ → List R → List State → List State → Type 0
+StaysUnbornOrCopied form piece records old new = (IsExisting (bytes_of old) → ⊥) → clock old + 1 < clock new → (image : List ℕ) → LeftSince new (clock old + 1) image → IsUnbornOrCopied form piece records image
+
+-- ---- refusals
+
+-- the frame of the growth behind so many brings the gate to 2^48
+abbrev pub IsFilledBehind : {R : Type 0} → Encoding R → ℕ → List R → ℕ → Type 0
+IsFilledBehind form piece records growths = 2 ^ 48 ≤ gate_behind form.width (growths + 1) (length (copied piece records (growths + 1)))
+
+-- Why a growth isn't settled, behind so many that are, and so many calls: its frame fills the file, memory was refused,
+-- or a call of its commit failed.
+pub record IsCopyStop {R : Type 0} (form : Encoding R) (piece : ℕ) (records : List R) (calls : ℕ) (fault : PenFault) : Type 0 where
+  pub growths : ℕ
+  pub before : growths < growth_count piece (length records)
+  pub why : ((fault ≡ faults.FileFull) × IsFilledBehind form piece records growths × (calls ≡ growths * 4))
+      ⊎ ((IsFilledBehind form piece records growths → ⊥)
+      × (((fault ≡ faults.Memory) × (calls ≡ growths * 4))
+      ⊎ ((step : Step) × (fault ≡ faults.Disk (fault_of step)) × (calls ≡ growths * 4 + (5 - steps_left step)))))
+
+-- Why there is no new file, or not the whole one: a piece is past the longest payload; memory was refused; as a
+-- creation; or, behind its calls, as a commit.
+abbrev pub IsCopyRefusal : {R D : Type 0} → Encoding R → (D → Type 0) → (D → List State) → ℕ → List R → D → D → PenFault → Type 0
+IsCopyRefusal form keeps states piece records disk left fault =
+    ((fault ≡ faults.TooLarge) × (limit_of Two < 8 + piece * form.width) × (left ≡ disk))
+    ⊎ ((8 + piece * form.width ≤ limit_of Two)
+    × (((fault ≡ faults.Memory) × (left ≡ disk))
+    ⊎ ((IsCreateFault fault × (keeps left → AreCallsUntil (bytes_of (states disk)) (calls_of_creation (bytes_of (states disk))) fault (clock (states left) - clock (states disk))))
+    ⊎ ((calls : ℕ) × (keeps left → clock (states left) ≡ clock (states disk) + length (calls_of_creation (bytes_of (states disk))) + calls) × IsCopyStop form piece records calls fault))))
+
+-- ---- the new file
+
+-- What comes of copying these records into a new file on a disk: a vault with them, all settled; or the disk back, and
+-- why. Where there was a file nothing is written.
+pub record IsCopied {R D : Type 0} (form : Encoding R) (keeps : D → Type 0) (states : D → List State) (failures : D → ℕ) (piece : ℕ) (records : List R) (disk : D) (result : Result (VaultOf R D) (D × PenFault)) : Type 0 where
+  pub list : IfOk result (λ v. list_of v ≡ records)
+  pub written : IfOk result (λ v. HasWritten form piece records (growth_count piece (length records)) v.pen)
+  pub fits : IfOk result (λ _. 8 + piece * form.width ≤ limit_of Two)
+  pub sure : IfOk result (λ v. keeps v.pen.disk → v.sure ≡ records)
+  pub opens : IfOk result (λ v. keeps v.pen.disk → (image : List ℕ) → IsImage (now (states v.pen.disk)) image → OpensTo form image records)
+  pub stays : MatchResult result
+      (λ v. keeps v.pen.disk → StaysUnbornOrCopied form piece records (states disk) (states v.pen.disk))
+      (λ r. keeps r.0 → StaysUnbornOrCopied form piece records (states disk) (states r.0))
+  pub none_existed : IfOk result (λ v. keeps v.pen.disk → IsExisting (bytes_of (states disk)) → ⊥)
+  pub existed : IfErr result (λ r. keeps r.0 → IsExisting (bytes_of (states disk)) → (r.0 ≡ disk) ⊎ WritesNothing (states disk) (states r.0))
+  pub exists : IfErr result (λ r. keeps r.0 → r.1 ≡ faults.Exists → IsExisting (bytes_of (states disk)))
+  pub refused : IfErr result (λ r. IsCopyRefusal form keeps states piece records disk r.0 r.1)
+  pub calls : IfOk result (λ v. keeps v.pen.disk → clock (states v.pen.disk) ≡ clock (states disk) + length (calls_of_creation (bytes_of (states disk))) + growth_count piece (length records) * 4)
+  pub time : MatchResult result
+      (λ v. clock (states v.pen.disk) ≤ clock (states disk) + 8 + growth_count piece (length records) * 4)
+      (λ r. clock (states r.0) ≤ clock (states disk) + 8 + growth_count piece (length records) * 4)
+  pub failed : MatchResult result (λ v. failures v.pen.disk ≡ failures disk) (λ r. failures r.0 ≡ failures disk + failed_calls r.1)
+  pub model : MatchResult result (λ v. keeps v.pen.disk → keeps disk) (λ r. keeps r.0 → keeps disk)
+
+-- ---- the upgrade
+
+-- Why nothing was upgraded, by what the old file is, with what is left of the new disk.
+abbrev pub IsUpgradeFault : {R E : Type 0} → Encoding R → Type 0 → List ℕ → (E → Type 0) → (E → List State) → (E → ℕ) → ℕ → E → E → UpgradeFault → Type 0
+IsUpgradeFault form known bytes keeps states failures piece new left (Old fault) = (known → IsOpenRefusal form bytes fault) × (left ≡ new)
+IsUpgradeFault {R} form known bytes keeps states failures piece new left NotOld = (known → (records : List R) × IsFileOf Two form bytes records) × (left ≡ new)
+IsUpgradeFault {R} form known bytes keeps states failures piece new left (New (Pen fault)) = (records : List R) × (known → IsFileOf One form bytes records) × IsCopied form keeps states failures piece records new (Err (left, fault))
+IsUpgradeFault form known bytes keeps states failures piece new left (New (Unsettled number)) = ⊥
+IsUpgradeFault form known bytes keeps states failures piece new left (New WrongPhase) = ⊥
+
+-- how many calls of the old disk were made, in a file of so many bytes, where this is answered
+abbrev pub AreOldCalls : ℕ → UpgradeFault → ℕ → Type 0
+AreOldCalls len (Old fault) n = AreCallsMade len fault n
+AreOldCalls len NotOld n = AreCallsDone len n
+AreOldCalls len (New fault) n = AreCallsDone len n
+
+-- and how many of them failed
+abbrev pub failed_of_old : UpgradeFault → ℕ
+failed_of_old (Old fault) = failed_openings fault
+failed_of_old NotOld = 0
+failed_of_old (New fault) = 0

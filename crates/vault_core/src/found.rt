@@ -1,0 +1,29 @@
+//! Searches of a vault.
+
+ghost use Rattle.std.specs.Prelude.{◌≡◌};
+ghost use Rattle.std.specs.List.{count_by};
+ghost use Rattle.vault_core.specs.Search.{IsFirst};
+ghost use Rattle.vault_core.specs.Vault.{list_of};
+
+use crate::picking::Pick;
+use crate::search::{count_where, find_first};
+use crate::vault::Vault;
+use disk_core::Disk;
+use record_core::Record;
+use std::thread::Threads;
+
+impl<R: Record, D: Disk> Vault<R, D> {
+    /// How many of its records are picked: by several threads, where there are many.
+    pub fn count_where<P: Pick<R>, E: Threads + Sync>(&self, rt: &E, pick: &P) -> u64
+        ensures { result ≡ count_by (P.picks_of pick.now) (list_of self.now) }
+    {
+        count_where(rt, self.pieces(), pick)
+    }
+
+    /// The position of its first record that is picked, if one is: by several threads, where it doesn't stand in front.
+    pub fn find_first<P: Pick<R>, E: Threads + Sync>(&self, rt: &E, pick: &P) -> Option<u64>
+        ensures { IsFirst (P.picks_of pick.now) (list_of self.now) result }
+    {
+        find_first(rt, self.pieces(), pick)
+    }
+}

@@ -1,0 +1,158 @@
+//! An upgrade: the vector of a file of version 1 is copied into a new file of version 2.
+
+ghost use Rattle.std.specs.Prelude.{◌≡◌, ◌↔◌, ◌+◌, ◌*◌, ◌-◌, ◌≤◌, ◌<◌, ◌^◌, ℕ, length, Ok, Err, IfOk, IfErr, MatchResult};
+ghost use Rattle.disk_core.specs.Calls.{bytes_of};
+ghost use Rattle.disk_core.specs.Moments.{LeavesOnly, clock};
+ghost use Rattle.segment_core.specs.declared.format.Format.TheVariants.{One, Two};
+ghost use Rattle.segment_core.specs.Shape.{limit_of, shape_of};
+ghost use Rattle.segment_core.specs.Raw.{AreCellsOf};
+ghost use Rattle.pen_core.specs.Births.{IsNew, IsEmpty};
+ghost use Rattle.pen_core.specs.Opening.{OnlySyncs};
+ghost use Rattle.pen_core.specs.Pen.{IsKept, failed_calls};
+ghost use Rattle.vault_core.specs.Upgrading.{AreOldCalls, HasWritten, IsCopied, IsCopyStop, IsFileOf, IsUpgradeFault, OpensToCopied, failed_of_old, growth_count};
+ghost use Rattle.vault_core.specs.Vault.{list_of};
+
+use crate::blocks::Blocks;
+use crate::fault::VaultFault;
+use crate::vault::Vault;
+use disk_core::Disk;
+use pen_core::{OpenFault, Pen, PenFault};
+use record_core::{Record, width_of};
+use segment_core::Format;
+use std::alloc::Global;
+use thiserror::Error;
+
+/// The bytes that stand in a frame's payload before the records of its one growth.
+const ONE_GROWTH_LEN: u64 = 8;
+
+/// Why a file wasn't upgraded, in the order in which it is tested.
+#[derive(Clone, Copy, Debug, PartialEq, Eq, Error)]
+pub enum UpgradeFault {
+    /// The old file wasn't opened.
+    #[error("old {0}")]
+    Old(OpenFault),
+    /// The old file has version 2.
+    #[error("not version 1")]
+    NotOld,
+    /// The new file wasn't made or written: a piece is past the longest payload; then as a creation, and as a commit.
+    #[error("new {0}")]
+    New(VaultFault),
+}
+
+/// How many records one growth in a file of version 2 has at most.
+pub fn greatest_piece<R: Record>() -> u64
+    ensures { (piece : ℕ) → (piece ≤ result) ↔ (8 + piece * R.form.width ≤ limit_of Two) }
+{
+    (Format::Two.payload_limit() as u64 - ONE_GROWTH_LEN) / width_of::<R>() as u64
+}
+
+/// Commits the records as growths of `piece` records each, the last one maybe shorter, on a pen over an empty file.
+fn write_growths<R: Record, D: Disk>(
+    pen: &mut Pen<D>,
+    records: &[R],
+    piece: u64,
+) -> Result<(), PenFault>
+    requires some { 1 ≤ piece }
+    requires fits { 8 + piece * R.form.width ≤ limit_of Two }
+    requires few { length records.now ≤ 2 ^ 32 }
+    requires new { IsNew (shape_of Two R.form) pen.old }
+    requires empty { D.keeps pen.old.disk → IsEmpty pen.old }
+    requires kept { D.keeps pen.old.disk → IsKept (D.states pen.old.disk) pen.old }
+    ensures written { IfOk result (λ _. HasWritten R.form piece records.now (growth_count piece (length records.now)) pen.new) }
+    ensures cells { D.keeps pen.new.disk → IfOk result (λ _. AreCellsOf R.form pen.new.vector records.now) }
+    ensures images { D.keeps pen.new.disk → LeavesOnly (D.states pen.old.disk) (D.states pen.new.disk) (OpensToCopied R.form piece records.now) }
+    ensures refused { IfErr result (λ fault. IsCopyStop R.form piece records.now (clock (D.states pen.new.disk) - clock (D.states pen.old.disk)) fault) }
+    ensures time { IfOk result (λ _. clock (D.states pen.new.disk) ≡ clock (D.states pen.old.disk) + growth_count piece (length records.now) * 4) }
+    ensures faults { MatchResult result
+        (λ _. D.faults pen.new.disk ≡ D.faults pen.old.disk)
+        (λ fault. D.faults pen.new.disk ≡ D.faults pen.old.disk + failed_calls fault) }
+    ensures model { D.keeps pen.new.disk → D.keeps pen.old.disk }
+{
+    for growth in records.chunks(piece as usize) {
+        pen.begin_group(&[growth])?;
+        pen.settle_log()?;
+    }
+    Ok(())
+}
+
+/// Copies the records into a new file on the disk.
+fn copied_to<R: Record, D: Disk>(
+    alloc: Global,
+    records: Vec<R>,
+    disk: D,
+    piece: u64,
+) -> Result<Vault<R, D>, (D, PenFault)>
+    requires some { 1 ≤ piece }
+    requires few { length records.items ≤ 2 ^ 32 }
+    ensures { IsCopied R.form D.keeps D.states D.faults piece records.items disk result }
+{
+    if piece > greatest_piece::<R>() {
+        return Err((disk, PenFault::TooLarge));
+    }
+    let Ok(blocks) = Blocks::of(alloc, records) else {
+        return Err((disk, PenFault::Memory));
+    };
+    let mut pen = Pen::create_as(alloc, disk, width_of::<R>() as u16, Format::Two)?;
+    if let Err(fault) = write_growths::<R, D>(&mut pen, blocks.as_slice()[0].as_slice(), piece) {
+        return Err((pen.into_disk(), fault));
+    }
+    // Whatever a crash leaves now opens to the whole vector.
+    let _disk = pen.disk();
+    Ok(Vault {
+        pen,
+        blocks,
+        parts: Vec::new(alloc),
+        alloc,
+    })
+}
+
+/// Copies the vector of the version 1 file on the old disk into a new file of version 2 on the new one, as growths of
+/// `piece` records each, at least 1; the last one may be shorter, and the empty vector has none. It gives the old disk
+/// back and the vault of the new file, which has nothing in hand. Beside the vector it takes memory for one piece.
+///
+/// Nothing is written to the old disk. From the new disk's first sync on, where it succeeded and there was no file, each
+/// image that a crash may leave is no file yet, or opens to the first so many growths; after `Ok` each opens to the whole
+/// vector. One that was stopped is begun again on a disk with no file.
+///
+/// Refused, in this order, with both disks handed back: `Old`, as `Vault::open`; `NotOld`, where the old file has version
+/// 2; `New(TooLarge)`, where a piece is past the longest payload, with no call of the new disk; then `New` as
+/// `Vault::create_as` and each commit: `Memory`, `Disk`, `Exists` and `FileFull`.
+pub fn upgrade<R: Record, D: Disk, E: Disk>(
+    alloc: Global,
+    old: D,
+    new: E,
+    piece: u64,
+) -> Result<(D, Vault<R, E>), (D, E, UpgradeFault)>
+    requires { 1 ≤ piece }
+    ensures old_stays { MatchResult result
+        (λ r. D.keeps r.0 → OnlySyncs (D.states old) (D.states r.0))
+        (λ r. D.keeps r.0 → OnlySyncs (D.states old) (D.states r.0)) }
+    ensures upgraded { IfOk result (λ r. (D.keeps r.0 → IsFileOf One R.form (bytes_of (D.states old)) (list_of r.1))
+        × IsCopied R.form E.keeps E.states E.faults piece (list_of r.1) new (Ok r.1)) }
+    ensures refused { IfErr result (λ r. IsUpgradeFault R.form (D.keeps r.0) (bytes_of (D.states old)) E.keeps E.states E.faults piece new r.1 r.2) }
+    ensures old_calls { MatchResult result
+        (λ r. (len : ℕ) × (D.keeps r.0 → len ≡ length (bytes_of (D.states old))) × AreOldCalls len UpgradeFault.NotOld (clock (D.states r.0) - clock (D.states old)))
+        (λ r. (len : ℕ) × (D.keeps r.0 → len ≡ length (bytes_of (D.states old))) × AreOldCalls len r.2 (clock (D.states r.0) - clock (D.states old))) }
+    ensures old_faults { MatchResult result
+        (λ r. D.faults r.0 ≡ D.faults old)
+        (λ r. D.faults r.0 ≡ D.faults old + failed_of_old r.2) }
+    ensures old_model { MatchResult result (λ r. D.keeps r.0 → D.keeps old) (λ r. D.keeps r.0 → D.keeps old) }
+{
+    let (pen, records) = match Pen::open::<R>(alloc, old) {
+        Ok(opened) => opened,
+        Err((old, fault)) => return Err((old, new, UpgradeFault::Old(fault))),
+    };
+    // No vector is longer than its blocks may be.
+    let _size = pen.len();
+    if pen.format() == Format::Two {
+        return Err((pen.into_disk(), new, UpgradeFault::NotOld));
+    }
+    match copied_to(alloc, records, new, piece) {
+        Ok(vault) => Ok((pen.into_disk(), vault)),
+        Err((new, fault)) => Err((
+            pen.into_disk(),
+            new,
+            UpgradeFault::New(VaultFault::Pen(fault)),
+        )),
+    }
+}
