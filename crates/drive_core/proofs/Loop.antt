@@ -1,0 +1,75 @@
+-- What drive's loop keeps: a run goes on by one step.
+use Rattle.std.proofs.Common.{◌≡◌, ℕ, List, [], ◌∷◌, ◌++◌, refl}
+use Rattle.std.specs.Prelude.{Option, Some, None}
+use Rattle.std.proofs.Common.{inl, inr}
+use Rattle.pen_core.specs.declared.fault.PenFault.TheVariants as pen_fault
+use Rattle.drive_core.specs.declared.fault.Fault.{Fault}
+use Rattle.drive_core.specs.declared.fault.Fault.TheVariants.{Vault, Grow, Scan}
+use Rattle.vault_core.specs.declared.fault.VaultFault.TheVariants as vault
+use Rattle.record_core.specs.Bytes.{Encoding}
+use Rattle.segment_core.specs.declared.format.Format.{Format}
+use Rattle.drive_core.specs.Step.{Step, Answer}
+use Rattle.drive_core.specs.Step as step
+use Rattle.drive_core.specs.OpeningRows.{IsCreate, IsOpen, NotCreated, NotOpened}
+use Rattle.drive_core.specs.Rows.{ShutRow, PhaseRow, StrayRow}
+use Rattle.drive_core.specs.World.{World, Phase, Shut, Exclusive, Growing}
+use Rattle.drive_core.specs.Run.{Event, IsEvent, Run, last}
+use Rattle.drive_core.specs.Headline.{Inner, AllInner}
+
+module _ {R : Type 0} (form : Encoding R) where
+  pub last-more : (w : World R) (events : List (Event R)) (e : Event R) → last w (events ++ e ∷ []) ≡ e.after
+  last-more w [] e = refl
+  last-more w (first ∷ events) e = last-more first.after events e
+
+  pub Run-more : (keeps : Type 0) (w : World R) (events : List (Event R)) (e : Event R) → Run form keeps w events → IsEvent form keeps (last w events) e → Run form keeps w (events ++ e ∷ [])
+  Run-more keeps w [] e run is = (is, tt)
+  Run-more keeps w (first ∷ events) e run is = (run.0, Run-more keeps first.after events e run.1 is)
+
+  pub AllInner-more : (w : World R) (events : List (Event R)) (e : Event R) → AllInner form w events → Inner form (last w events) e → AllInner form w (events ++ e ∷ [])
+  AllInner-more w [] e inner is = (is, tt)
+  AllInner-more w (first ∷ events) e inner is = (inner.0, AllInner-more first.after events e inner.1 is)
+
+  -- a disk that keeps its model now kept it at each step before
+  module _ (before now : Type 0) (goes_back : now → before) where
+    create_weaker : (w : World R) (format : Format) (answer : Answer R) (w' : World R) → IsCreate form before w format answer w' → IsCreate form now w format answer w'
+    create_weaker w format answer w' row = elim row [
+      | inl ok ↦ inl (ok.0, (ok.1.0, (λ k. ok.1.1 (goes_back k)), ok.1.2))
+      | inr no_ ↦ inr (no_.0, no_.1, no_.2, refused no_.0 no_.3)
+    ]
+      where
+        refused : (fault : Fault) → NotCreated before w w' fault → NotCreated now w w' fault
+        refused (Vault (vault.Pen (pen_fault.Disk fault))) by = by
+        refused (Vault (vault.Pen pen_fault.Exists)) by = ((λ k. by.0 (goes_back k)), by.1)
+        refused (Vault other) by = by
+        refused (Grow fault) by = by
+        refused (Scan fault) by = by
+
+    open_weaker : (w : World R) (answer : Answer R) (w' : World R) → IsOpen form before w answer w' → IsOpen form now w answer w'
+    open_weaker w answer w' row = elim row [
+      | inl ok ↦ inl (ok.0, (ok.1.0, ok.1.1, ok.1.2, (λ k. ok.1.3 (goes_back k)), ok.1.4))
+      | inr no_ ↦ inr (no_.0, no_.1, no_.2, refused no_.0 no_.3)
+    ]
+      where
+        refused : (fault : Fault) → NotOpened form before w w' fault → NotOpened form now w w' fault
+        refused (Vault (vault.Pen (pen_fault.Disk fault))) by = by
+        refused (Vault other) by = by
+        refused (Grow fault) by = by
+        refused (Scan fault) by = ((λ k. by.0 (goes_back k)), by.1)
+
+    shut_weaker : (w : World R) (asked : Step R) (answer : Answer R) (w' : World R) → ShutRow form before w asked answer w' → ShutRow form now w asked answer w'
+    shut_weaker w (step.Create format) answer w' row = create_weaker w format answer w' row
+    shut_weaker w step.Open answer w' row = open_weaker w answer w' row
+    shut_weaker w other answer w' row = row
+
+    phase_weaker : (w : World R) (phase : Phase) (asked : Step R) (answer : Answer R) (w' : World R) → PhaseRow form before w phase asked answer w' → PhaseRow form now w phase asked answer w'
+    phase_weaker w Shut asked answer w' row = shut_weaker w asked answer w' row
+    phase_weaker w Exclusive asked answer w' row = row
+    phase_weaker w (Growing phase) asked answer w' row = row
+
+    stray_weaker : (w : World R) (stray : Option ℕ) (asked : Step R) (answer : Answer R) (w' : World R) → StrayRow form before w stray asked answer w' → StrayRow form now w stray asked answer w'
+    stray_weaker w None asked answer w' row = phase_weaker w w.phase asked answer w' row
+    stray_weaker w (Some n) asked answer w' row = row
+
+    pub Run-weaker : (w : World R) (events : List (Event R)) → Run form before w events → Run form now w events
+    Run-weaker w [] run = tt
+    Run-weaker w (e ∷ events) run = (record { row = stray_weaker w w.strayed e.asked e.answer e.after run.0.row; called = run.0.called; time = run.0.time; still = run.0.still }, Run-weaker e.after events run.1)

@@ -1,0 +1,138 @@
+-- The begin of a fold, from what a pen's begin promises.
+use Rattle.std.proofs.Common.{◌≡◌, ◌⊎◌, inl, inr, ℕ, ◌+◌, ◌≤◌, ◌<◌, ◌^◌, Bool, true, false, nat_lt, nat_le, List, length, Option, Some, None, refl, sym, ap, subst, ◌∙◌, arith, is_some, lt-ltb, le-leb, leb-true, ltb-true}
+use Rattle.pen_core.specs.PenOf.{PenOf}
+use Rattle.pen_core.specs.Pen.{IsFoldAnswer, IsFoldRefusal, IsFoldBarred, IsReadyToFold, BeginsFold, IsUnchanged, gate_behind_fold}
+use Rattle.pen_core.specs.declared.stage.FoldStage.TheVariants as stages
+use Rattle.pen_core.specs.declared.fault.PenFault.{PenFault}
+use Rattle.pen_core.specs.declared.fault.PenFault.TheVariants as pen
+use Rattle.drive_core.specs.declared.fault.Fault.{Fault}
+use Rattle.drive_core.specs.declared.fault.Fault.TheVariants.{Vault}
+use Rattle.vault_core.specs.declared.fault.VaultFault.TheVariants as vault
+use Rattle.drive_core.specs.Line.{Allows, Might, is_vault_memory}
+use Rattle.drive_core.specs.Step.{Answer}
+use Rattle.drive_core.specs.Step as step
+use Rattle.drive_core.specs.World.{World, Hand, hand_of, is_live}
+use Rattle.drive_core.specs.Outcome.{Outcome}
+use Rattle.drive_core.specs.LaneRows.{fold_lines, IsFold, HasBegun}
+use Rattle.drive_core.proofs.Tables.{passes, stops}
+
+-- a test that doesn't hold
+not_le : (a b : ℕ) → b < a → nat_le a b ≡ false
+not_le a b less = at (nat_le a b) refl
+  where
+    at : (c : Bool) → nat_le a b ≡ c → c ≡ false
+    at true is = let le = leb-true a b is in absurd (omega (arith, le, less))
+    at false is = refl
+
+pub not_lt : (a b : ℕ) → b ≤ a → nat_lt a b ≡ false
+not_lt a b le = at (nat_lt a b) refl
+  where
+    at : (c : Bool) → nat_lt a b ≡ c → c ≡ false
+    at true is = let less = ltb-true a b is in absurd (omega (arith, le, less))
+    at false is = refl
+
+module _ {D : Type 0} where
+  -- the same pen
+  pub hand_unchanged : (old new : PenOf D) → IsUnchanged old new → hand_of new ≡ hand_of old
+  hand_unchanged old new same i = record {
+    file = record { shape = same.shape_same i; gate = same.gate_same i; changes = (same.tally_same i).changes; folded = (same.tally_same i).folded };
+    job = same.job_same i;
+    fold = same.fold_same i;
+    broken = same.broken_same i;
+  }
+
+  hand_begun : (old new : PenOf D) (by : BeginsFold old new) → hand_of new ≡ record (hand_of old) { fold = Some (record { count = old.tally.changes; left = by.left; stage = stages.Home (length by.left) }) }
+  hand_begun old new by i = record {
+    file = record { shape = by.shape_same i; gate = by.gate_same i; changes = (by.tally_same i).changes; folded = (by.tally_same i).folded };
+    job = by.job_same i;
+    fold = by.fold_is i;
+    broken = by.broken_same i;
+  }
+
+  -- whether a change is live
+  live_of : (p : PenOf D) (ready : Bool) → IsReadyToFold p ready → is_live (hand_of p).file ≡ ready
+  live_of p true ready = lt-ltb p.tally.folded p.tally.changes ready.2
+  live_of p false ready = not_lt p.tally.folded p.tally.changes ready.2
+
+  no_fold : (p : PenOf D) → p.fold ≡ None → is_some p.fold ≡ false
+  no_fold p none = ap is_some none
+
+  ready_lines : (p : PenOf D) (ready : Bool) → IsReadyToFold p ready → Allows (fold_lines (hand_of p) ready) None
+  ready_lines p true ready =
+      passes p.broken (Vault (vault.Pen pen.Broken)) _ None ready.0 (passes _ (Vault (vault.Pen pen.Busy)) _ None (no_fold p ready.1) (passes _ (Vault (vault.Pen pen.FileFull)) _ None (not_le (2 ^ 48) (gate_behind_fold p) ready.3) (inr refl)))
+  ready_lines p false ready = passes p.broken (Vault (vault.Pen pen.Broken)) _ None ready.0 (passes _ (Vault (vault.Pen pen.Busy)) _ None (no_fold p ready.1) refl)
+
+  full_lines : (p : PenOf D) (live : Bool) → live ≡ true → p.broken ≡ false → p.fold ≡ None → 2 ^ 48 ≤ gate_behind_fold p → Allows (fold_lines (hand_of p) live) (Some (Vault (vault.Pen pen.FileFull)))
+  full_lines p true is whole none full =
+      passes p.broken (Vault (vault.Pen pen.Broken)) _ _ whole (passes _ (Vault (vault.Pen pen.Busy)) _ _ (no_fold p none) (stops _ (Vault (vault.Pen pen.FileFull)) _ (le-leb (2 ^ 48) (gate_behind_fold p) full)))
+  full_lines p false is whole none full = absurd cc
+
+  memory_lines : (p : PenOf D) (live : Bool) → live ≡ true → IsReadyToFold p true → Allows (fold_lines (hand_of p) live) (Some (Vault (vault.Pen pen.Memory)))
+  memory_lines p true is ready =
+      passes p.broken (Vault (vault.Pen pen.Broken)) _ _ ready.0 (passes _ (Vault (vault.Pen pen.Busy)) _ _ (no_fold p ready.1) (passes _ (Vault (vault.Pen pen.FileFull)) _ _ (not_le (2 ^ 48) (gate_behind_fold p) ready.3) (inl (Vault (vault.Pen pen.Memory), refl, refl))))
+  memory_lines p false is ready = absurd cc
+
+  broken_lines : (p : PenOf D) (live : Bool) → p.broken ≡ true → Allows (fold_lines (hand_of p) live) (Some (Vault (vault.Pen pen.Broken)))
+  broken_lines p true broken = stops p.broken (Vault (vault.Pen pen.Broken)) _ broken
+  broken_lines p false broken = stops p.broken (Vault (vault.Pen pen.Broken)) _ broken
+
+  busy_lines : (p : PenOf D) (live : Bool) → p.broken ≡ false → is_some p.fold ≡ true → Allows (fold_lines (hand_of p) live) (Some (Vault (vault.Pen pen.Busy)))
+  busy_lines p true whole busy = passes p.broken (Vault (vault.Pen pen.Broken)) _ _ whole (stops _ (Vault (vault.Pen pen.Busy)) _ busy)
+  busy_lines p false whole busy = passes p.broken (Vault (vault.Pen pen.Broken)) _ _ whole (stops _ (Vault (vault.Pen pen.Busy)) _ busy)
+
+  barred_lines : (p : PenOf D) (fault : PenFault) → IsFoldBarred p fault → Allows (fold_lines (hand_of p) (is_live (hand_of p).file)) (Some (Vault (vault.Pen fault)))
+  barred_lines p fault why = elim why [
+    | inl broken ↦ subst (λ f. Allows (fold_lines (hand_of p) (is_live (hand_of p).file)) (Some (Vault (vault.Pen f)))) (sym broken.0) (broken_lines p (is_live (hand_of p).file) broken.1)
+    | inr other ↦ elim other [
+      | inl busy ↦ subst (λ f. Allows (fold_lines (hand_of p) (is_live (hand_of p).file)) (Some (Vault (vault.Pen f)))) (sym busy.0) (busy_lines p (is_live (hand_of p).file) busy.1 busy.2)
+      | inr full ↦ subst (λ f. Allows (fold_lines (hand_of p) (is_live (hand_of p).file)) (Some (Vault (vault.Pen f)))) (sym full.0)
+          (full_lines p (is_live (hand_of p).file) (lt-ltb p.tally.folded p.tally.changes full.3) full.1 full.2 full.4)
+    ]
+  ]
+
+  refused_lines : (p : PenOf D) (fault : PenFault) → IsFoldRefusal p fault → Allows (fold_lines (hand_of p) (is_live (hand_of p).file)) (Some (Vault (vault.Pen fault)))
+  refused_lines p fault why = elim why [
+    | inl barred ↦ barred_lines p fault barred
+    | inr memory ↦ subst (λ f. Allows (fold_lines (hand_of p) (is_live (hand_of p).file)) (Some (Vault (vault.Pen f)))) (sym memory.0) (memory_lines p (is_live (hand_of p).file) (live_of p true memory.1) memory.1)
+  ]
+
+module _ {R D : Type 0} (w : World R) (old new : PenOf D) (hand_is : w.hand ≡ hand_of old) where
+  -- the world behind it
+  abbrev pub behind_fold : World R
+  behind_fold = record w { hand = hand_of new }
+
+  -- the same world, by the pen's hand
+  abbrev by_pen : World R
+  by_pen = record w { hand = hand_of old }
+
+  same : w ≡ by_pen
+  same i = record w { hand = hand_is i }
+
+  begun_is : (begun : Bool) → IsFoldAnswer old new begun → HasBegun by_pen begun behind_fold
+  begun_is true by = (by.left, λ i. record w { hand = hand_begun old new by i })
+  begun_is false by = λ i. record w { hand = hand_of (by.1 i) }
+
+  ready_of : (begun : Bool) → IsFoldAnswer old new begun → IsReadyToFold old begun
+  ready_of true by = by.ready
+  ready_of false by = by.0
+
+  abbrev FoldAt : Bool → Bool → Type 0
+  FoldAt begun live = Outcome {R = R} (fold_lines (hand_of old) live) (step.Begun begun) ((◌≡◌ {A = Answer R} (step.Begun begun) (step.Begun live)) × HasBegun by_pen live behind_fold) (λ fault. behind_fold ≡ by_pen)
+
+  at_live : (begun live : Bool) → live ≡ begun → IsFoldAnswer old new begun → FoldAt begun live
+  at_live begun live is by = subst (λ b. FoldAt begun b) (sym is) (inl (ready_lines old begun (ready_of begun by), (refl, begun_is begun by)))
+
+  pub fold_answered : (begun : Bool) → IsFoldAnswer old new begun → IsFold w (step.Begun begun) behind_fold
+  fold_answered begun by = subst (λ (x : World R). IsFold x (step.Begun begun) behind_fold) (sym same) (at_live begun (is_live (hand_of old).file) (live_of old begun (ready_of begun by)) by)
+
+  pub fold_refused : (fault : PenFault) → IsFoldRefusal old fault → IsFold w (step.Refused (Vault (vault.Pen fault))) w
+  fold_refused fault why = subst (λ (x : World R). IsFold x (step.Refused (Vault (vault.Pen fault))) x) (sym same) (inr (Vault (vault.Pen fault), refused_lines old fault why, refl, refl))
+
+  -- the disk is as it was
+  pub begun_disk : (begun : Bool) → IsFoldAnswer old new begun → new.disk ≡ old.disk
+  begun_disk true by = by.disk_same
+  begun_disk false by = ap (λ (p : PenOf D). p.disk) by.1
+
+  pub begun_job : (begun : Bool) → IsFoldAnswer old new begun → new.job ≡ old.job
+  begun_job true by = by.job_same
+  begun_job false by = ap (λ (p : PenOf D). p.job) by.1

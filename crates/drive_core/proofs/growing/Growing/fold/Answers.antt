@@ -1,0 +1,15 @@
+use Rattle.std.proofs.Common.{ap, refl, ◌∙◌}
+use Rattle.drive_core.specs.Step as step
+use Rattle.drive_core.specs.Asked.{answer_of}
+use Rattle.drive_core.proofs.Folds.{fold_answers, fold_refuses}
+use Rattle.drive_core.proofs.growing.Growing.fold.Goals as goal
+use Rattle.drive_core.proofs.growing.Growing.fold.Goals.{in-Ok, in-Err}
+
+pub returns-clause-steps : goal.returns-clause-steps
+returns-clause-steps g c = rw (← c.self.view_is) (
+    let new = c.begin_fold.new.self in
+    let e = c.begin_fold.ensures in
+    elim c.match-begin_fold.branch [
+      | in-Ok b ↦ λ w phase tie. fold_answers g.R.Record.form g.D.Disk.states g.D.Disk.faults _ w phase _ tie new e.same.0 e.same.3 e.same.4 b.in-Ok.begun _ (ap answer_of b.result-is) b.in-Ok.ensures.begun
+      | in-Err b ↦ λ w phase tie. fold_refuses g.R.Record.form g.D.Disk.states g.D.Disk.faults _ w phase _ tie new e.same.0 e.same.3 e.same.4 b.in-Err.fault _ (ap answer_of b.result-is ∙ ap step.Refused b.told_fault.ensures) b.in-Err.ensures.refused b.in-Err.ensures.unchanged
+    ])

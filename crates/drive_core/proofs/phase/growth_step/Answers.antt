@@ -1,0 +1,7 @@
+use Rattle.std.proofs.Common.{refl, ap}
+use Rattle.drive_core.specs.Asked.{step_of}
+use Rattle.drive_core.proofs.PhaseEvents.{same_step, steps_left, left_growth}
+use Rattle.drive_core.proofs.phase.growth_step.Goals as goal
+
+pub returns-clause-steps : goal.returns-clause-steps
+returns-clause-steps g c = λ w tie. steps_left g.R.Record.form g.D.Disk.states g.D.Disk.faults g.D.Disk.keeps w _ _ _ _ _ _ (λ w' tied. left_growth g.R.Record.form g.D.Disk.states g.D.Disk.faults g.D.Disk.keeps w w' _ tied) (c.answer-answer.ensures.steps w tie.0 tie.1)

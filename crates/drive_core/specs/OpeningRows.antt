@@ -1,0 +1,64 @@
+-- The rows where none is open. What is said of the bytes holds where the disk keeps its model.
+use Rattle.std.specs.Prelude.{◌≡◌, ℕ, false, List, [], ◌∷◌, length, None}
+use Rattle.record_core.specs.Bytes.{Encoding}
+use Rattle.disk_core.specs.Calls.{bytes_of}
+use Rattle.segment_core.specs.declared.format.Format.{Format}
+use Rattle.segment_core.specs.declared.format.Shape.{Shape}
+use Rattle.segment_core.specs.Shape.{shape_of}
+use Rattle.segment_core.specs.Frame.{Frame}
+use Rattle.segment_core.specs.Tally.{tally_of}
+use Rattle.segment_core.specs.Vector.{HasVector}
+use Rattle.segment_core.specs.Fault.{IsRefused}
+use Rattle.pen_core.specs.Held.{gate_of}
+use Rattle.pen_core.specs.Births.{IsExisting}
+use Rattle.pen_core.specs.declared.fault.PenFault.TheVariants as pen_fault
+use Rattle.drive_core.specs.declared.fault.Fault.{Fault}
+use Rattle.drive_core.specs.declared.fault.Fault.TheVariants.{Vault, Grow as InGrow, Scan}
+use Rattle.vault_core.specs.declared.fault.VaultFault.TheVariants as vault
+use Rattle.drive_core.specs.Line.{Might, is_vault_memory, is_disk, is_exists, is_scan}
+use Rattle.drive_core.specs.Step.{Step, Answer}
+use Rattle.drive_core.specs.Step as step
+use Rattle.drive_core.specs.World.{World, Exclusive, File, Hand}
+use Rattle.drive_core.specs.Outcome.{Outcome, HasFailed, elsewhere}
+
+-- with nothing in hand
+abbrev pub at_rest : File → Hand
+at_rest file = record { file = file; job = None; fold = None; broken = false }
+
+abbrev pub empty_file : Shape → File
+empty_file shape = record { shape = shape; gate = 11; changes = 0; folded = 0 }
+
+module _ {R : Type 0} where
+  abbrev pub NotCreated : Type 0 → World R → World R → Fault → Type 0
+  NotCreated keeps w w' (Vault (vault.Pen (pen_fault.Disk fault))) = HasFailed w w' × (w' ≡ elsewhere w w')
+  NotCreated keeps w w' (Vault (vault.Pen pen_fault.Exists)) = (keeps → IsExisting (bytes_of w.disk.states)) × (w' ≡ elsewhere w w')
+  NotCreated keeps w w' (Vault other) = w' ≡ w
+  NotCreated keeps w w' (InGrow fault) = ⊥
+  NotCreated keeps w w' (Scan fault) = ⊥
+
+  abbrev pub opened : World R → List R → File → World R
+  opened w base file = record w { phase = Exclusive; base = base; history = []; settled = 0; hand = at_rest file }
+
+module _ {R : Type 0} (form : Encoding R) where
+  abbrev pub IsCreate : Type 0 → World R → Format → Answer R → World R → Type 0
+  IsCreate keeps w format answer w' = Outcome (Might is_vault_memory ∷ Might is_disk ∷ Might is_exists ∷ []) answer
+      ((answer ≡ step.Fine) × (keeps → IsExisting (bytes_of w.disk.states) → ⊥) × (w' ≡ elsewhere (opened w [] (empty_file (shape_of format form))) w'))
+      (NotCreated keeps w w')
+
+  -- the vector of these bytes, and what a pen counts of them
+  pub record HasRead (bytes : List ℕ) (base : List R) (file : File) : Type 0 where
+    pub format : Format
+    pub frames : List Frame
+    pub vector : HasVector format form bytes frames base
+    pub file_is : file ≡ record { shape = shape_of format form; gate = gate_of (shape_of format form) frames; changes = (tally_of frames).changes; folded = (tally_of frames).folded }
+
+  abbrev pub NotOpened : Type 0 → World R → World R → Fault → Type 0
+  NotOpened keeps w w' (Vault (vault.Pen (pen_fault.Disk fault))) = HasFailed w w' × (w' ≡ elsewhere w w')
+  NotOpened keeps w w' (Vault other) = ⊥
+  NotOpened keeps w w' (InGrow fault) = ⊥
+  NotOpened keeps w w' (Scan fault) = (keeps → IsRefused form (bytes_of w.disk.states) fault) × (w' ≡ elsewhere w w')
+
+  abbrev pub IsOpen : Type 0 → World R → Answer R → World R → Type 0
+  IsOpen keeps w answer w' = Outcome (Might is_disk ∷ Might is_scan ∷ []) answer
+      ((base : List R) × (file : File) × (answer ≡ step.Size (length base)) × (keeps → HasRead (bytes_of w.disk.states) base file) × (w' ≡ elsewhere (opened w base file) w'))
+      (NotOpened keeps w w')

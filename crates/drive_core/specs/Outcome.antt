@@ -1,0 +1,39 @@
+-- How a step ends: it is accepted, or refused as its table allows.
+use Rattle.std.specs.Prelude.{◌≡◌, ◌⊎◌, ℕ, ◌<◌, List, Option, Some, None}
+use Rattle.pen_core.specs.declared.fault.PenFault.TheVariants as pen_fault
+use Rattle.drive_core.specs.declared.fault.Fault.{Fault}
+use Rattle.drive_core.specs.declared.fault.Fault.TheVariants.{Vault, Grow as InGrow, Scan}
+use Rattle.vault_core.specs.declared.fault.VaultFault.TheVariants as vault
+use Rattle.drive_core.specs.Line.{Line, Allows, stray_of}
+use Rattle.drive_core.specs.Step.{Step, Answer}
+use Rattle.drive_core.specs.Step as step
+use Rattle.drive_core.specs.World.{World}
+
+-- The step is accepted, or refused as one of the lines allows.
+abbrev pub Outcome : {R : Type 0} → List Line → Answer R → Type 0 → (Fault → Type 0) → Type 0
+Outcome lines answer Accepted RefusedBy =
+    (Allows lines None × Accepted) ⊎ ((fault : Fault) × Allows lines (Some fault) × (answer ≡ step.Refused fault) × RefusedBy fault)
+
+-- a device call failed, and was counted
+abbrev pub HasFailed : {R : Type 0} → World R → World R → Type 0
+HasFailed old new = old.disk.faults < new.disk.faults
+
+-- the growth that strayed, where the answer tells one
+abbrev pub stray_in : {R : Type 0} → Answer R → Option ℕ
+stray_in (step.Refused fault) = stray_of fault
+stray_in other = None
+
+abbrev pub struck : {R : Type 0} → World R → Fault → World R
+struck w fault = record w { strayed = stray_of fault }
+
+module _ {R : Type 0} where
+  -- the disk alone may be another
+  abbrev pub elsewhere : World R → World R → World R
+  elsewhere w w' = record w { disk = w'.disk }
+
+  -- what a device call's failure leaves, and any other refusal
+  abbrev pub RefusedAt : World R → World R → World R → Fault → Type 0
+  RefusedAt w failed w' (Vault (vault.Pen (pen_fault.Disk fault))) = HasFailed w w' × (w' ≡ elsewhere failed w')
+  RefusedAt w failed w' (Vault other) = w' ≡ w
+  RefusedAt w failed w' (InGrow fault) = w' ≡ w
+  RefusedAt w failed w' (Scan fault) = w' ≡ w

@@ -1,0 +1,103 @@
+-- What ties a world of the growth phase to what is in hand.
+use Rattle.std.specs.Prelude.{◌≡◌, ℕ, ◌+◌, ◌<◌, ◌^◌, ◌≤◌, Bool, List, ◌++◌, length, map, sum, slice_get, slice_set, Option, Some, None}
+use Rattle.record_core.specs.Bytes.{Encoding}
+use Rattle.disk_core.specs.State.{State}
+use Rattle.segment_core.specs.Command.{Command, Grow, content}
+use Rattle.pen_core.specs.PenOf.{JobOf}
+use Rattle.block_core.specs.Growth as block
+use Rattle.directory_core.specs.Chain.{Begins, Agree, Meets}
+use Rattle.book_core.specs.Lists as book
+use Rattle.book_core.specs.Lists.{Seated, opening_of}
+use Rattle.book_core.specs.Growing.{Learns}
+use Rattle.flush_core.specs.Flusher.{FlusherOf}
+use Rattle.drive_core.specs.Step.{Step, Answer}
+use Rattle.drive_core.specs.World.{World, Growth, Growing, DiskOf, growths_in, hand_of}
+use Rattle.drive_core.specs.Outcome.{stray_in}
+use Rattle.drive_core.specs.Run.{IsEvent}
+use Rattle.drive_core.specs.Headline.{Inner}
+
+-- What is in hand: the book, its seats and its flusher; how many growths were put, and the seat that made the last of
+-- them; what the mark was raised to; whether the book was closed.
+pub record GrowingOf (R D : Type 0) : Type 0 where
+  pub live : book.Phase R
+  pub seats : List (Seated R)
+  pub flusher : FlusherOf R D
+  pub puts : ℕ
+  pub last : ℕ
+  pub mark : ℕ
+  pub closed : Bool
+
+abbrev pub AreSeatsOf : {R : Type 0} → book.Phase R → List (Seated R) → Type 0
+AreSeatsOf {R} live seats = (k : ℕ) (seat : Seated R) → slice_get seats k ≡ Some seat → book.IsOf live seat
+
+-- One seat of a row has learnt what another knows: they know the same growth of each number that both know.
+pub record MeetsIn {R : Type 0} (old new : List (Seated R)) (k : ℕ) (mine theirs : Seated R) : Type 0 where
+  pub met : Seated R
+  pub row_is : new ≡ slice_set old k met
+  pub learns : Learns mine met
+  pub agree : Agree mine.pass.entries theirs.pass.entries
+  pub meets : Meets mine.pass.entries theirs.pass.entries met.pass.entries
+
+abbrev pub grow_of : {R : Type 0} → block.Growth R → Command R
+grow_of e = Grow e.records
+
+-- how many growths the job in hand brings
+abbrev pub growths_in_hand : Option JobOf → ℕ
+growths_in_hand None = 0
+growths_in_hand (Some job) = growths_in job.frame
+
+abbrev pub disk_of : {D : Type 0} → (D → List State) → (D → ℕ) → D → DiskOf
+disk_of states faults disk = record { states = states disk; faults = faults disk }
+
+pub record IsSeat {R : Type 0} (entries : List (block.Growth R)) (k : ℕ) (seat : Seated R) : Type 0 where
+  pub id_is : seat.id ≡ k
+  pub knows : Begins seat.pass.entries entries
+
+pub record IsGrowing {R D : Type 0} (states : D → List State) (faults : D → ℕ) (w : World R) (phase : Growth) (g : GrowingOf R D) : Type 0 where
+  pub phase_is : w.phase ≡ Growing phase
+  pub calm : w.strayed ≡ None
+  -- the commands from before the phase, and its growths
+  pub first : List (Command R)
+  pub entries : List (block.Growth R)
+  pub history_is : w.history ≡ first ++ map grow_of entries
+  pub before_is : phase.before ≡ length first
+  pub opening_is : content w.base first ≡ opening_of g.live
+  pub puts_is : g.puts ≡ length entries
+  pub room_is : g.live.directory.room ≡ phase.room
+  pub closed_is : g.closed ≡ phase.closed
+  pub mark_is : g.mark ≡ phase.mark
+  -- the seats, each of which knows the first of them; and one that knows all
+  pub known_are : phase.known ≡ map (λ seat. length seat.pass.entries) g.seats
+  pub made_are : phase.made ≡ map (λ seat. length seat.made) g.seats
+  pub told_are : phase.told ≡ map (λ seat. seat.mark.told.count) g.seats
+  -- as many seats as the book counts, which made all growths
+  pub seats_are : length phase.made ≡ g.live.seat_count
+  pub made_sum : sum phase.made ≡ length entries
+  pub each : (k : ℕ) (seat : Seated R) → slice_get g.seats k ≡ Some seat → IsSeat entries k seat
+  pub last_knows : 0 < length entries → (seat : Seated R) × (slice_get g.seats g.last ≡ Some seat) × (seat.pass.entries ≡ entries)
+  -- the flusher, and what the job in hand brings
+  pub flusher_knows : Begins g.flusher.pass.entries entries
+  pub flusher_is : phase.flusher ≡ length g.flusher.pass.entries
+  pub taken_is : phase.taken ≡ g.flusher.taken
+  pub taken_within : phase.taken ≤ length entries
+  pub job_brings : g.flusher.taken ≡ g.flusher.settled + growths_in_hand g.flusher.pen.job
+  pub settled_is : w.settled ≡ phase.before + g.flusher.settled
+  pub hand_is : w.hand ≡ hand_of g.flusher.pen
+  pub disk_is : w.disk ≡ disk_of states faults g.flusher.pen.disk
+
+-- Behind a step: the disk is the world's, and the rest too, unless something strayed.
+pub record IsBehind {R D : Type 0} (states : D → List State) (faults : D → ℕ) (w : World R) (g : GrowingOf R D) : Type 0 where
+  pub disk_is : w.disk ≡ disk_of states faults g.flusher.pen.disk
+  pub goes_on : w.strayed ≡ None → (phase : Growth) × IsGrowing states faults w phase g
+
+-- What a step's function promises: from each world that what was in hand is tied to, an event leads to one that what is
+-- in hand is tied to.
+pub record Steps {R : Type 0} (form : Encoding R) (keeps : Type 0) (Tied : World R → Type 0) (w : World R) (asked : Step R) (answer : Answer R) (calls : ℕ) : Type 0 where
+  pub after : World R
+  pub is_event : IsEvent form keeps w (record { asked = asked; answer = answer; calls = calls; after = after })
+  pub inner : keeps → Inner form w (record { asked = asked; answer = answer; calls = calls; after = after })
+  -- few enough for a count of 64 bits
+  pub few : calls < 2 ^ 64
+  -- it strays just where it answers so
+  pub stray_is : after.strayed ≡ stray_in answer
+  pub tied : Tied after
