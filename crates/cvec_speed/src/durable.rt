@@ -2,7 +2,6 @@
 
 ghost use Rattle.std.specs.Prelude.{◌<◌};
 ghost use Rattle.book_core.specs.Beginning.{AreNewSeats};
-ghost use Rattle.flush_core.specs.Flusher.{IsOf};
 
 use crate::fault::SpeedFault;
 use crate::figure::{Detail, Figure, Waits};
@@ -11,7 +10,7 @@ use crate::phase::take_seat;
 use crate::pool::Pool;
 use crate::producer::{Course, Pace, Produced, Producer};
 use crate::reading::Total;
-use crate::served::{Served, serve};
+use crate::served::{Served, serve_beside};
 use crate::store::{make_disk, open_disk, open_pen};
 use book_core::{Live, Seat};
 use directory_core::GROWTH_LIMIT;
@@ -97,21 +96,38 @@ fn producers_of<'a>(
     Ok(producers)
 }
 
-/// Runs a producer for each seat, and closes the phase.
+/// Runs a producer for each seat, each in a thread of its own. `Thread`, and none appends, where one can't be started.
 fn run_producers<E: Threads + Wait + Clock + Sync>(
     rt: &E,
     alloc: Global,
     live: &Live<u64>,
     seats: Vec<Seat<u64>>,
     course: &Course,
-) -> Result<Vec<Result<Produced, SpeedFault>>, AllocError>
+) -> Result<Vec<Result<Produced, SpeedFault>>, SpeedFault>
     requires { AreNewSeats live.now.directory live.now.mark seats.items }
 {
     let producers = producers_of(alloc, live, seats)?;
-    thread::map_vec(
+    thread::scope(
+        thread::scope_env(),
         rt,
-        producers,
-        &|producer: Producer| producer.run(rt, alloc, course),
+        move |scope| -> Result<Vec<Result<Produced, SpeedFault>>, SpeedFault> {
+            let mut running = Vec::with_capacity(alloc, producers.len())?;
+            let mut produced = Vec::with_capacity(alloc, producers.len())?;
+            for producer in producers {
+                let started = match scope.spawn(move || producer.run(rt, alloc, course)) {
+                    Ok(thread) => running.push(thread).is_ok(),
+                    Err(_) => false,
+                };
+                if !started {
+                    course.gate.give_up();
+                    return Err(SpeedFault::Thread);
+                }
+            }
+            for thread in running {
+                produced.push(thread.join(rt))?;
+            }
+            Ok(produced)
+        },
     )
 }
 
@@ -122,7 +138,7 @@ struct Outcome {
     ended: Instant,
 }
 
-/// Runs the producers, and beside them who commits.
+/// Runs the producers beside who commits, and closes the phase.
 fn run_all<E: Threads + Wait + Clock + Sync, D: Disk + Send + Drop>(
     rt: &E,
     alloc: Global,
@@ -135,22 +151,18 @@ fn run_all<E: Threads + Wait + Clock + Sync, D: Disk + Send + Drop>(
         flusher,
     } = phase;
     let shared = &live;
-    let (produced, ended) = thread::join(
+    let (produced, ended) = serve_beside(
         rt,
-        move || -> Result<Vec<Result<Produced, SpeedFault>>, AllocError>
+        shared,
+        flusher,
+        move || -> Result<Vec<Result<Produced, SpeedFault>>, SpeedFault>
             requires { AreNewSeats shared.now.directory shared.now.mark seats.items }
         {
             let produced = run_producers(rt, alloc, shared, seats, course);
             shared.close(rt);
             produced
         },
-        move || -> Result<Instant, SpeedFault>
-            requires { IsOf (D.keeps flusher.pen.disk) shared.now flusher }
-        {
-            let mut flusher = flusher;
-            serve(rt, shared, &mut flusher)
-        },
-    );
+    )?;
     Ok(Outcome {
         produced: produced?,
         ended: ended?,
@@ -254,7 +266,7 @@ fn append<E: Threads + Wait + Clock + Sync + Files<File = File> + AllocGlobal>(
 }
 
 /// Threads append blocks, and one more commits them by groups of all that is there. Then the file is opened, and its
-/// records are compared.
+/// records are compared. Refused `Thread`, where one of the threads can't be started.
 pub fn durable<E: Threads + Wait + Clock + Sync + Files<File = File> + AllocGlobal>(
     rt: &E,
     alloc: Global,

@@ -7,6 +7,7 @@ use pen_core::{OpenFault, PenFault};
 use std::alloc::{AllocError, AllocFailed};
 use std::io;
 use thiserror::Error;
+use vault_core::VaultFault;
 
 /// Why a work has no figure.
 #[derive(Clone, Copy, Debug, PartialEq, Eq, Error)]
@@ -38,14 +39,35 @@ pub enum SpeedFault {
     /// Who commits refused, or its disk failed.
     #[error("no commit: {0}")]
     Flush(FlushFault),
+    /// A vault refused, or its disk failed.
+    #[error("a vault refused: {0}")]
+    Vault(VaultFault),
     /// A growth won't be durable any more.
     #[error("not durable")]
     Unsettled,
+    /// The system starts no further thread.
+    #[error("a thread can't be started")]
+    Thread,
+    /// Threads that wait for each other stand still, in the phase of that number.
+    #[error("threads stand still in phase {0}")]
+    Still(u64),
 }
 
 impl From<PenFault> for SpeedFault {
     fn from(fault: PenFault) -> SpeedFault {
         SpeedFault::Pen(fault)
+    }
+}
+
+impl From<VaultFault> for SpeedFault {
+    fn from(fault: VaultFault) -> SpeedFault {
+        SpeedFault::Vault(fault)
+    }
+}
+
+impl From<FlushFault> for SpeedFault {
+    fn from(fault: FlushFault) -> SpeedFault {
+        SpeedFault::Flush(fault)
     }
 }
 

@@ -2,15 +2,20 @@
 
 use crate::fault::SpeedFault;
 use std::sync::Wait;
-use std::sync::atomic::{AtomicU64, Ordering};
+use std::sync::atomic::{AtomicBool, AtomicU64, Ordering};
 use std::thread;
 use std::time::{Clock, Duration, Instant};
+
+/// For how many seconds a thread waits for the others. They come within some milliseconds.
+const PATIENCE: u64 = 60;
 
 /// Where so many threads wait until all of them are there.
 #[derive(Drop)]
 pub struct Gate {
     there: AtomicU64,
     threads: u64,
+    /// Whether one of them never comes.
+    given_up: AtomicBool,
 }
 
 impl Gate {
@@ -18,21 +23,33 @@ impl Gate {
         Gate {
             there: AtomicU64::new(0),
             threads,
+            given_up: AtomicBool::new(false),
         }
     }
 
+    /// Tells those that wait, and those that come, that one of them can't be started.
+    pub fn give_up(&self) {
+        self.given_up.store(true, Ordering::SeqCst);
+    }
+
     /// Waits until all threads are there. It yields and asks again, so that all start at once. Answers when this
-    /// thread came.
+    /// thread came. `Thread`, where one never comes: as where threads that can't be started run one after the other.
     pub fn pass<E: Wait + Clock>(&self, rt: &E) -> Result<Instant, SpeedFault> {
-        let came = Instant::now(rt);
+        let came = Instant::now(rt)?;
         self.there.fetch_add(1, Ordering::SeqCst);
         for _ in rt.forever() {
             if self.there.load(Ordering::SeqCst) >= self.threads {
                 break;
             }
+            if came.elapsed(rt)? > Duration::from_secs(PATIENCE) {
+                self.give_up();
+            }
+            if self.given_up.load(Ordering::SeqCst) {
+                return Err(SpeedFault::Thread);
+            }
             thread::yield_now();
         }
-        Ok(came?)
+        Ok(came)
     }
 }
 

@@ -5,6 +5,7 @@
 mod beside;
 mod change;
 mod commit;
+mod crew;
 mod durable;
 mod fault;
 mod figure;
@@ -14,6 +15,7 @@ mod group;
 mod grow;
 mod memory;
 mod mix;
+mod owned;
 mod phase;
 mod pool;
 mod producer;
@@ -23,16 +25,21 @@ mod served;
 mod store;
 #[cfg(test)]
 mod tests;
+mod waits;
+mod watch;
 mod words;
 
 use crate::beside::beside;
+use crate::crew::crewed;
 use crate::durable::durable;
 use crate::fault::SpeedFault;
 use crate::fold::fold;
 use crate::grow::grow;
 use crate::memory::memory;
+use crate::owned::owned;
 use crate::read::read;
 use crate::store::{build, open};
+use crate::waits::waits;
 use crate::words::{WordsFault, Work, read_words};
 use std::fs::File;
 use std::process::ExitCode;
@@ -51,6 +58,9 @@ open-build dir= block= n=                    a vector's file is made in a folder
 open-read dir= block= n= work=               it is opened; work is open.warm or open.cold
 fold dir= run= n=                            changes of runs of positions are folded
 durable dir= mode= threads= block= n= box_ms=   threads append to a file; mode is wait1, wait64 or flow
+vault dir= n=                                one owner searches, changes, lengthens and lends out a file's vector
+crew dir= threads= block= n=                 a crew appends to a file, one thread for each grower
+waits threads= phases= rounds=               threads wait for each growth, in phase after phase, over a file in memory
 ";
 
 fn main(rt: HostRuntime) -> io::Result<ExitCode> {
@@ -83,6 +93,9 @@ fn measure<E: Threads + Wait + Clock + Files<File = File> + AllocGlobal + Print 
         Work::Open(sizes, work) => open(rt, rt.alloc(), sizes, work),
         Work::Fold(sizes) => fold(rt, rt.alloc(), sizes),
         Work::Durable(sizes) => durable(rt, rt.alloc(), sizes),
+        Work::Owned(sizes) => owned(rt, rt.alloc(), sizes),
+        Work::Crew(sizes) => crewed(rt, rt.alloc(), sizes),
+        Work::Waits(sizes) => waits(rt, rt.alloc(), sizes),
     };
     match done {
         Ok(figures) => {

@@ -47,7 +47,7 @@ pub struct Produced {
 }
 
 /// Appends a block. Its number.
-fn put<E: Wait>(
+pub fn put<E: Wait>(
     rt: &E,
     alloc: Global,
     live: &Live<u64>,
@@ -87,7 +87,7 @@ fn put_all<E: Wait>(
 }
 
 /// Waits until the growth of that number is durable.
-fn wait_for<E: Wait>(
+pub fn wait_for<E: Wait>(
     rt: &E,
     live: &Live<u64>,
     seat: &mut Seat<u64>,

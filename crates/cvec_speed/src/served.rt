@@ -16,6 +16,8 @@ use flush_core::Flusher;
 use pen_core::Pen;
 use std::alloc::Global;
 use std::sync::Wait;
+use std::thread;
+use std::thread::Threads;
 use std::time::{Clock, Instant};
 
 /// A phase, its new seats, and who commits its growths.
@@ -72,15 +74,52 @@ impl<D: Disk + Drop> Served<D> {
 }
 
 /// Commits what others grow until the phase is closed and all of it is durable. Answers when that was.
-pub fn serve<E: Wait + Clock, D: Disk>(
+fn serve<E: Wait + Clock, D: Disk + Drop>(
     rt: &E,
     live: &Live<u64>,
-    flusher: &mut Flusher<u64, D>,
+    mut flusher: Flusher<u64, D>,
 ) -> Result<Instant, SpeedFault>
-    requires { IsOf (D.keeps flusher.old.pen.disk) live.now flusher.old }
+    requires { IsOf (D.keeps flusher.pen.disk) live.now flusher }
 {
     match flusher.serve(rt, live) {
         Ok(()) => Ok(Instant::now(rt)?),
         Err(fault) => Err(SpeedFault::Flush(fault)),
     }
+}
+
+/// Commits in a thread of its own, which is started before anything grows, and calls the growers beside it, who close the
+/// phase. What these answer, and when all was durable. `Thread`, and they aren't called, where that thread can't be
+/// started: a grower that waits for its growth would wait for ever.
+pub fn serve_beside<
+    E: Threads + Wait + Clock + Sync,
+    D: Disk + Send + Drop,
+    T: Drop,
+    F: FnOnce() -> T,
+>(
+    rt: &E,
+    live: &Live<u64>,
+    flusher: Flusher<u64, D>,
+    grow: F,
+) -> Result<(T, Result<Instant, SpeedFault>), SpeedFault>
+    requires of { IsOf (D.keeps flusher.pen.disk) live.now flusher }
+    requires grow { F.pre grow }
+{
+    thread::scope(
+        thread::scope_env(),
+        rt,
+        move |scope| -> Result<(T, Result<Instant, SpeedFault>), SpeedFault>
+            requires { IsOf (D.keeps flusher.pen.disk) live.now flusher × F.pre grow }
+        {
+            let started = scope.spawn(
+                move || -> Result<Instant, SpeedFault>
+                    requires { IsOf (D.keeps flusher.pen.disk) live.now flusher }
+                { serve(rt, live, flusher) },
+            );
+            let Ok(serving) = started else {
+                return Err(SpeedFault::Thread);
+            };
+            let grown = grow();
+            Ok((grown, serving.join(rt)))
+        },
+    )
 }

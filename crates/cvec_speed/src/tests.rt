@@ -10,6 +10,7 @@ use crate::memory::{MemorySizes, memory};
 use crate::mix::{below, mix};
 use crate::read::{ReadSizes, read};
 use crate::store::{StoreSizes, build, open};
+use crate::waits::{WaitsSizes, waits};
 use std::alloc::{AllocError, Global};
 use std::fs;
 use std::fs::File;
@@ -163,5 +164,37 @@ fn threads_append_to_a_file(rt: HostRuntime) -> Result<(), Fail> {
     assert_eq!(rt; appended(&rt, Mode::Flow)?, 1600);
     assert!(rt; appended(&rt, Mode::Wait1)? >= 32);
     assert!(rt; appended(&rt, Mode::Wait64)? >= 2048);
+    Ok(())
+}
+
+#[test]
+fn a_thread_that_waits_is_woken(rt: HostRuntime) -> Result<(), Fail> {
+    let sizes = WaitsSizes {
+        threads: 1,
+        phases: 1,
+        rounds: 10_000,
+    };
+    let figures = waits(&rt, rt.alloc(), sizes)?;
+    assert_eq!(rt;
+        counts_of(rt.alloc(), figures.as_slice())?.as_slice(),
+        [10_000].as_slice()
+    );
+    Ok(())
+}
+
+#[test]
+fn threads_that_wait_are_woken_in_each_phase(rt: HostRuntime) -> Result<(), Fail> {
+    for threads in [1, 2, 4, 8] {
+        let sizes = WaitsSizes {
+            threads,
+            phases: 20,
+            rounds: 20,
+        };
+        let figures = waits(&rt, rt.alloc(), sizes)?;
+        assert_eq!(rt;
+            counts_of(rt.alloc(), figures.as_slice())?.as_slice(),
+            [400 * threads as u64].as_slice()
+        );
+    }
     Ok(())
 }

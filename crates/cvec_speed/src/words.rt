@@ -3,12 +3,15 @@
 ghost use Rattle.std.specs.Prelude.{◌<◌, IfSome};
 
 use crate::beside::BesideSizes;
+use crate::crew::CrewSizes;
 use crate::durable::{DurableSizes, Mode};
 use crate::fold::FoldSizes;
 use crate::grow::GrowSizes;
 use crate::memory::MemorySizes;
+use crate::owned::OwnedSizes;
 use crate::read::ReadSizes;
 use crate::store::StoreSizes;
+use crate::waits::WaitsSizes;
 use std::time::Duration;
 
 /// What is to be measured.
@@ -24,6 +27,9 @@ pub enum Work<'a> {
     Open(StoreSizes<'a>, &'static str),
     Fold(FoldSizes<'a>),
     Durable(DurableSizes<'a>),
+    Owned(OwnedSizes<'a>),
+    Crew(CrewSizes<'a>),
+    Waits(WaitsSizes),
 }
 
 /// Why words name no work.
@@ -161,6 +167,42 @@ fn durable_sizes(words: &[String]) -> Option<DurableSizes<'_>> {
     })
 }
 
+fn waits_sizes(words: &[String]) -> Option<WaitsSizes> {
+    let threads = u16::try_from(size_of(words, "threads")?).ok()?;
+    let phases = size_of(words, "phases")?;
+    let rounds = size_of(words, "rounds")?;
+    if threads == 0 {
+        return None;
+    }
+    Some(WaitsSizes {
+        threads,
+        phases,
+        rounds,
+    })
+}
+
+fn owned_sizes(words: &[String]) -> Option<OwnedSizes<'_>> {
+    let dir = text_of(words, "dir")?;
+    let n = size_of(words, "n")?;
+    Some(OwnedSizes { dir, n })
+}
+
+fn crew_sizes(words: &[String]) -> Option<CrewSizes<'_>> {
+    let dir = text_of(words, "dir")?;
+    let threads = u16::try_from(size_of(words, "threads")?).ok()?;
+    let block = u32::try_from(size_of(words, "block")?).ok()?;
+    let n = size_of(words, "n")?;
+    if threads == 0 || block == 0 {
+        return None;
+    }
+    Some(CrewSizes {
+        dir,
+        threads,
+        block,
+        n,
+    })
+}
+
 /// What the words ask for.
 pub fn read_words(words: &[String]) -> Result<Work<'_>, WordsFault> {
     let Some((work, sizes)) = words.split_first() else {
@@ -174,7 +216,10 @@ pub fn read_words(words: &[String]) -> Result<Work<'_>, WordsFault> {
         "open-build" => store_sizes(sizes).map(|sizes| Work::Build(sizes)),
         "open-read" => open_work(sizes),
         "fold" => fold_sizes(sizes).map(|sizes| Work::Fold(sizes)),
+        "vault" => owned_sizes(sizes).map(|sizes| Work::Owned(sizes)),
+        "crew" => crew_sizes(sizes).map(|sizes| Work::Crew(sizes)),
         "durable" => durable_sizes(sizes).map(|sizes| Work::Durable(sizes)),
+        "waits" => waits_sizes(sizes).map(|sizes| Work::Waits(sizes)),
         _ => return Err(WordsFault::NoWork),
     };
     work.ok_or(WordsFault::NoSize)

@@ -1,0 +1,5 @@
+use Rattle.book_core.specs.Lists.{IsOf}
+use Rattle.cvec_speed.proofs.waits.make_rounds.Given as goal
+
+abbrev pub invariant-loop : goal.invariant-loop
+invariant-loop g l = IsOf l.live l.seat
