@@ -194,7 +194,7 @@ fn odd_lists(alloc: Global) -> Result<Vec<Vec<Vec<u64>>>, AllocError> {
 #[test]
 fn blocks_with_no_record_or_too_many_are_refused(rt: HostRuntime) -> Result<(), Fail> {
     let lists = odd_lists(rt.alloc())?;
-    let source = Lists::checked(lists.as_slice()).ok_or("too many")?;
+    let source = Lists::try_new(lists.as_slice()).ok_or("too many")?;
     let crewed = grow(&rt, rt.alloc(), &source, &Open)?;
     let faults = [Some(GrowFault::Empty), None, Some(GrowFault::TooLarge)];
     assert_eq!(rt; crewed.faults.as_slice(), faults.as_slice());
@@ -262,23 +262,23 @@ fn lists_of_each_record_type_are_sources(rt: HostRuntime) -> Result<(), Fail> {
     let flagged = Flagged { key: 8, flag: true };
     let alloc = rt.alloc();
     let lists = lists_of(alloc, 5u32)?;
-    let source = Lists::checked(lists.as_slice()).ok_or("too many")?;
+    let source = Lists::try_new(lists.as_slice()).ok_or("too many")?;
     let found = first_of(&rt, alloc, &source);
     assert_eq!(rt; found, Some(5u32));
     let lists = lists_of(alloc, 6u64)?;
-    let source = Lists::checked(lists.as_slice()).ok_or("too many")?;
+    let source = Lists::try_new(lists.as_slice()).ok_or("too many")?;
     let found = first_of(&rt, alloc, &source);
     assert_eq!(rt; found, Some(6u64));
     let lists = lists_of(alloc, -6i64)?;
-    let source = Lists::checked(lists.as_slice()).ok_or("too many")?;
+    let source = Lists::try_new(lists.as_slice()).ok_or("too many")?;
     let found = first_of(&rt, alloc, &source);
     assert_eq!(rt; found, Some(-6i64));
     let lists = lists_of(alloc, pair)?;
-    let source = Lists::checked(lists.as_slice()).ok_or("too many")?;
+    let source = Lists::try_new(lists.as_slice()).ok_or("too many")?;
     let found = first_of(&rt, alloc, &source);
     assert_eq!(rt; found, Some(pair));
     let lists = lists_of(alloc, flagged)?;
-    let source = Lists::checked(lists.as_slice()).ok_or("too many")?;
+    let source = Lists::try_new(lists.as_slice()).ok_or("too many")?;
     let found = first_of(&rt, alloc, &source);
     assert_eq!(rt; found, Some(flagged));
     Ok(())

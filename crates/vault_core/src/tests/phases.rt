@@ -61,7 +61,7 @@ fn two_growers_grow_beside_each_other(rt: HostRuntime) -> Result<(), Fail> {
         here: [AtomicU64::new(0), AtomicU64::new(0)],
         starts: [AtomicU64::new(9), AtomicU64::new(9)],
     };
-    let source = Lists::checked(lists.as_slice()).ok_or("too many")?;
+    let source = Lists::try_new(lists.as_slice()).ok_or("too many")?;
     let Ok(crewed) = crew(&rt, alloc, vault, &source, &gate) else {
         return Err(Fail::from("no vault"));
     };
