@@ -10,7 +10,7 @@ use Rattle.block_core.specs.Growth.{Growth}
 use Rattle.directory_core.specs.Chain.{total, joined, Begins}
 use Rattle.directory_core.specs.Identity.{Identity}
 use Rattle.book_core.specs.Marks.{MarkName, MarkEnd}
-use Rattle.book_core.specs.Lists.{Phase, Seated, IsOf, own_of}
+use Rattle.book_core.specs.Lists.{Phase, Seated, IsSeatOf, own_of}
 use Rattle.book_core.specs.Beginning.{IsNewSeat, AreNewSeats}
 
 -- a list that begins another has its first elements
@@ -68,7 +68,7 @@ seats-pop directory mark seats rest None all is = (λ k s at. all k s (ap (λ (x
 seats-pop directory mark seats rest (Some seat) all is = (λ k s at. all k s (ap (λ (xs : List _). slice_get xs k) is ∙ get-push rest seat k s at), all (length rest) seat (ap (λ (xs : List _). slice_get xs (length rest)) is ∙ get-last rest seat))
 
 -- a new seat is of its book
-pub new-is_of : {R : Type 0} (live : Phase R) (id : ℕ) (last : Option (Seated R)) → IfSome last (λ seat. IsNewSeat live.directory live.mark id seat) → IfSome last (λ seat. IsOf live seat)
+pub new-is_of : {R : Type 0} (live : Phase R) (id : ℕ) (last : Option (Seated R)) → IfSome last (λ seat. IsNewSeat live.directory live.mark id seat) → IfSome last (λ seat. IsSeatOf live seat)
 new-is_of live id None new = tt
 new-is_of live id (Some seat) new = record { directory = new.of; mark = ap (λ (m : MarkEnd). m.of) new.marked }
 

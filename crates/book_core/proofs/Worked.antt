@@ -16,7 +16,7 @@ use Rattle.book_core.specs.Lists.{Phase, Seated, IsRestOfPiece, joined_pieces, o
 use Rattle.book_core.specs.Pieces.{from_place, IsLeftOf}
 use Rattle.book_core.specs.Snapshots.{AreLaid, full_of, Shows}
 use Rattle.book_core.specs.Beginning.{IsNewSeat, MayBegin, IsBeginRefusal}
-use Rattle.book_core.specs.Growing.{Learns, IsPast, IsTold, IsToldOf}
+use Rattle.book_core.specs.Growing.{SeatLearns, IsPast, IsTold, IsToldOf}
 use Rattle.book_core.proofs.PieceLists.{length-from_place}
 
 -- a growth isn't past while as many are settled as stand before it, and the mark runs
@@ -34,7 +34,7 @@ no_restart : (m n : ℕ) → Rises (record { count = m; state = Ended }) (record
 no_restart m n rises = rises.state tt
 
 -- a seat that knew a growth doesn't learn that there is none
-no_forgetting : {R : Type 0} (old new : Seated R) (e : Growth R) → old.pass.entries ≡ e ∷ [] → new.pass.entries ≡ [] → Learns old new → ⊥
+no_forgetting : {R : Type 0} (old new : Seated R) (e : Growth R) → old.pass.entries ≡ e ∷ [] → new.pass.entries ≡ [] → SeatLearns old new → ⊥
 no_forgetting old new e knew none learns = let begins = learns.begins in grind (arith, ap length knew, ap length none, begins)
 
 -- position 2 of [1, 2], none and [3] is the third piece's first place

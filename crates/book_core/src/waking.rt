@@ -9,7 +9,7 @@
 //! and is woken.
 
 ghost use Rattle.std.specs.Prelude.{◌≡◌, ◌<◌, ◌≤◌, ◌↔◌, IsTrue};
-ghost use Rattle.book_core.specs.Lists.{IsOf};
+ghost use Rattle.book_core.specs.Lists.{IsSeatOf};
 ghost use Rattle.book_core.specs.Growing.{IsTold, IsPast, IsToldOf};
 
 use crate::fault::SettleFault;
@@ -97,8 +97,8 @@ impl<R: Record> Live<R> {
     /// How many growths are settled as the mark tells now, and whether more may be. It may lag behind the flusher
     /// and never leads. For a seat no count falls, and no state goes back to Running.
     pub fn settled(&self, seat: &mut Seat<R>) -> (u64, MarkState)
-        requires of { IsOf self.now seat.old }
-        ensures of { IsOf self.now seat.new }
+        requires of { IsSeatOf self.now seat.old }
+        ensures of { IsSeatOf self.now seat.new }
         ensures told { IsTold seat.old seat.new result.0 result.1 }
     {
         let told = seat.mark.settled(&self.mark);
@@ -113,8 +113,8 @@ impl<R: Record> Live<R> {
         seat: &mut Seat<R>,
         number: u64,
     ) -> (u64, MarkState)
-        requires of { IsOf self.now seat.old }
-        ensures of { IsOf self.now seat.new }
+        requires of { IsSeatOf self.now seat.old }
+        ensures of { IsSeatOf self.now seat.new }
         ensures told { IsTold seat.old seat.new result.0 result.1 }
         ensures past { IsPast number result.0 result.1 }
     {
@@ -144,8 +144,8 @@ impl<R: Record> Live<R> {
         seat: &mut Seat<R>,
         receipt: &Receipt,
     ) -> Result<u64, SettleFault>
-        requires of { IsOf self.now seat.old }
-        ensures of { IsOf self.now seat.new }
+        requires of { IsSeatOf self.now seat.old }
+        ensures of { IsSeatOf self.now seat.new }
         ensures told { IsTold seat.old seat.new seat.new.mark.told.count seat.new.mark.told.state }
         ensures settled { IsToldOf receipt.now.number seat.new.mark.told result }
     {

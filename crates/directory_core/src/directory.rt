@@ -4,7 +4,7 @@ ghost use Rattle.std.specs.Prelude.{◌≡◌, ◌+◌, ◌<◌, ◌≤◌, ◌�
 ghost use Rattle.directory_core.specs.Limits.{growth_limit, record_limit};
 ghost use Rattle.directory_core.specs.Spot.{span};
 ghost use Rattle.directory_core.specs.Chain.{total, joined, IsNext, Begins};
-ghost use Rattle.directory_core.specs.Fault.{IsRefusal};
+ghost use Rattle.directory_core.specs.Fault.{IsPublishRefusal};
 ghost use Rattle.directory_core.specs.Finding.{IsPieceAt, IsRestAt};
 
 use crate::address::{BUCKETS, spot};
@@ -116,7 +116,7 @@ impl<R: Record> Directory<R> {
             (λ _. pass.new.entries ≡ pass.old.entries ++ entry.value ∷ [])
             (λ refused. (refused.0.value ≡ entry.value) × (pass.new.entries ≡ pass.old.entries)) }
         ensures fault { IfErr result (λ refused.
-            IsRefusal self.now pass.old.entries entry.value refused.1) }
+            IsPublishRefusal self.now pass.old.entries entry.value refused.1) }
     {
         let number = pass.known();
         if number >= self.room {

@@ -10,7 +10,7 @@ use Rattle.directory_core.proofs.Chains.{length-joined}
 use Rattle.book_core.specs.Lists.{Seated, opening_of}
 use Rattle.book_core.specs.Growing as growing
 use Rattle.book_core.specs.declared.fault.GrowFault.TheVariants as grow
-use Rattle.flush_core.specs.Flusher.{FlusherOf, Learns, IsOf}
+use Rattle.flush_core.specs.Flusher.{FlusherOf, FlusherLearns, IsFlusherOf}
 use Rattle.book_core.specs.Lists as book
 use Rattle.drive_core.specs.declared.fault.Fault.TheVariants as told
 use Rattle.drive_core.specs.Step.{Answer}
@@ -53,7 +53,7 @@ module _ {R D : Type 0} (form : Encoding R) (states : D → List State) (faults 
       none : Some n ≡ None → ⊥
       none is = absurd cc
 
-  module _ (learns : Learns g.flusher new) (few : length new.pass.entries ≤ g.puts) (learnt : growing.Learns t t') (agree : Agree t.pass.entries new.pass.entries) (meets : Meets t.pass.entries new.pass.entries t'.pass.entries) where
+  module _ (learns : FlusherLearns g.flusher new) (few : length new.pass.entries ≤ g.puts) (learnt : growing.SeatLearns t t') (agree : Agree t.pass.entries new.pass.entries) (meets : Meets t.pass.entries new.pass.entries t'.pass.entries) where
     within_all : length new.pass.entries ≤ length tie.entries
     within_all = let puts = tie.puts_is in omega (arith, few, puts)
 
@@ -126,8 +126,8 @@ module _ {R D : Type 0} (form : Encoding R) (states : D → List State) (faults 
         refl refl (tie.calm ∙ sym (ap stray_in is)) (record { disk_is = tie.disk_is ∙ ap (λ (p : PenOf D). disk_of states faults p.disk) (sym learns.pen_same); goes_on = λ still. (_, look_tie) })
 
 -- what is of a phase stays of it
-pub IsOf-learns : {R D : Type 0} (keeps : D → Type 0) (live : book.Phase R) (old new : FlusherOf R D) → Learns old new → IsOf (keeps old.pen.disk) live old → IsOf (keeps new.pen.disk) live new
-IsOf-learns {D = D} keeps live old new learns is = record {
+pub IsFlusherOf-learns : {R D : Type 0} (keeps : D → Type 0) (live : book.Phase R) (old new : FlusherOf R D) → FlusherLearns old new → IsFlusherOf (keeps old.pen.disk) live old → IsFlusherOf (keeps new.pen.disk) live new
+IsFlusherOf-learns {D = D} keeps live old new learns is = record {
   directory = learns.of_same ∙ is.directory;
   mark = ap (λ (m : _). m.of) learns.mark_same ∙ is.mark;
   before = learns.before_same ∙ is.before;

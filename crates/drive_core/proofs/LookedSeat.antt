@@ -6,7 +6,7 @@ use Rattle.disk_core.specs.State.{State}
 use Rattle.directory_core.specs.Chain.{Begins, joined}
 use Rattle.directory_core.proofs.Chains.{length-joined}
 use Rattle.book_core.specs.Lists.{Seated, opening_of}
-use Rattle.book_core.specs.Growing.{Learns, size_of}
+use Rattle.book_core.specs.Growing.{SeatLearns, size_of}
 use Rattle.book_core.specs.declared.fault.GrowFault.TheVariants as grow
 use Rattle.drive_core.specs.declared.fault.Fault.TheVariants as told
 use Rattle.drive_core.specs.Step.{Answer}
@@ -34,7 +34,7 @@ module _ {R D : Type 0} (form : Encoding R) (states : D → List State) (faults 
       none : Some n ≡ None → ⊥
       none is = absurd cc
 
-  module _ (learns : Learns m0 m1) (few : length m1.pass.entries ≤ g.puts) (at_t : slice_get (slice_set g.seats k m1) g.last ≡ Some t) (met : MeetsIn (slice_set g.seats k m1) row g.last t m1) where
+  module _ (learns : SeatLearns m0 m1) (few : length m1.pass.entries ≤ g.puts) (at_t : slice_get (slice_set g.seats k m1) g.last ≡ Some t) (met : MeetsIn (slice_set g.seats k m1) row g.last t m1) where
     seats1 : List (Seated R)
     seats1 = slice_set g.seats k m1
 

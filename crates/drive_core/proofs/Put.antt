@@ -19,7 +19,7 @@ use Rattle.book_core.specs.declared.fault.GrowFault.{GrowFault}
 use Rattle.book_core.specs.declared.fault.GrowFault.TheVariants as grow
 use Rattle.book_core.specs.Lists as book
 use Rattle.book_core.specs.Lists.{Seated, opening_of}
-use Rattle.book_core.specs.Growing.{Learns, Grown, growth_of, IsBookRefusal, size_of}
+use Rattle.book_core.specs.Growing.{SeatLearns, Grown, growth_of, IsBookRefusal, size_of}
 use Rattle.drive_core.specs.declared.fault.Fault.{Fault}
 use Rattle.drive_core.specs.declared.fault.Fault.TheVariants as told
 use Rattle.drive_core.specs.Line.{put_fault_of, Line, When, Might, Allows, is_grow_memory, is_strayed}
@@ -82,7 +82,7 @@ sum-raised (n ∷ ns) (suc k) less =
 
 module _ {R D : Type 0} (form : Encoding R) (states : D → List State) (faults : D → ℕ) (keeps : Type 0) (w : World R) (phase : Growth) (g : GrowingOf R D) (tie : IsGrowing states faults w phase g)
     (k : ℕ) (m0 m1 t : Seated R) (row : List (Seated R)) (inside : k < length g.seats) (at0 : slice_get g.seats k ≡ Some m0) (at_t : slice_get (slice_set g.seats k m1) g.last ≡ Some t) (met : MeetsIn (slice_set g.seats k m1) row k m1 t)
-    (records : List R) (not_closed : g.closed ≡ false) (block_is : IsBlockLength form.width (length records)) (of1 : book.IsOf g.live m1) where
+    (records : List R) (not_closed : g.closed ≡ false) (block_is : IsBlockLength form.width (length records)) (of1 : book.IsSeatOf g.live m1) where
   row_is : row ≡ slice_set g.seats k met.met
   row_is = met.row_is ∙ set-twice g.seats k m1 met.met
 
@@ -282,7 +282,7 @@ module _ {R D : Type 0} (form : Encoding R) (states : D → List State) (faults 
       none : Some n ≡ None → ⊥
       none is = absurd cc
 
-  module _ (learns : Learns m0 m1) (known : ℕ) (known_is : known ≡ length m1.pass.entries) (all : known ≡ g.puts) where
+  module _ (learns : SeatLearns m0 m1) (known : ℕ) (known_is : known ≡ length m1.pass.entries) (all : known ≡ g.puts) where
     m1_all : m1.pass.entries ≡ tie.entries
     m1_all = first_are m1.pass.entries [] learns.begins (sym (append-nil m1.pass.entries)) (let puts = tie.puts_is in omega (arith, known_is, all, puts))
 
@@ -386,7 +386,7 @@ module _ {R D : Type 0} (form : Encoding R) (states : D → List State) (faults 
   stray_fault (grow.Strayed n) = (n, refl)
   stray_fault other = (g.puts, refl)
 
-  pub put_errs : (fault : GrowFault) (all_known : Bool) (known : ℕ) (answer : Answer R) → answer ≡ step.Refused (told.Grow (put_fault_of fault all_known g.puts)) → Learns m0 m1 → IsBookRefusal g.live m1 (length records) fault
+  pub put_errs : (fault : GrowFault) (all_known : Bool) (known : ℕ) (answer : Answer R) → answer ≡ step.Refused (told.Grow (put_fault_of fault all_known g.puts)) → SeatLearns m0 m1 → IsBookRefusal g.live m1 (length records) fault
       → known ≡ length m1.pass.entries → (all_known ≡ true → known ≡ g.puts)
       → Steps form keeps (λ w'. IsBehind states faults w' (record g { seats = row })) w (step.Put k records) answer 0
   put_errs fault true known answer is learns why known_is all = put_told learns known known_is (all refl) fault true answer is why refl

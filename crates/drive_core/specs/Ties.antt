@@ -8,7 +8,7 @@ use Rattle.block_core.specs.Growth as block
 use Rattle.directory_core.specs.Chain.{Begins, Agree, Meets}
 use Rattle.book_core.specs.Lists as book
 use Rattle.book_core.specs.Lists.{Seated, opening_of}
-use Rattle.book_core.specs.Growing.{Learns}
+use Rattle.book_core.specs.Growing.{SeatLearns}
 use Rattle.flush_core.specs.Flusher.{FlusherOf}
 use Rattle.drive_core.specs.Step.{Step, Answer}
 use Rattle.drive_core.specs.World.{World, Growth, Growing, DiskOf, growths_in, hand_of}
@@ -28,13 +28,13 @@ pub record GrowingOf (R D : Type 0) : Type 0 where
   pub closed : Bool
 
 abbrev pub AreSeatsOf : {R : Type 0} → book.Phase R → List (Seated R) → Type 0
-AreSeatsOf {R} live seats = (k : ℕ) (seat : Seated R) → slice_get seats k ≡ Some seat → book.IsOf live seat
+AreSeatsOf {R} live seats = (k : ℕ) (seat : Seated R) → slice_get seats k ≡ Some seat → book.IsSeatOf live seat
 
 -- One seat of a row has learnt what another knows: they know the same growth of each number that both know.
 pub record MeetsIn {R : Type 0} (old new : List (Seated R)) (k : ℕ) (mine theirs : Seated R) : Type 0 where
   pub met : Seated R
   pub row_is : new ≡ slice_set old k met
-  pub learns : Learns mine met
+  pub learns : SeatLearns mine met
   pub agree : Agree mine.pass.entries theirs.pass.entries
   pub meets : Meets mine.pass.entries theirs.pass.entries met.pass.entries
 

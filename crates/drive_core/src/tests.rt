@@ -24,7 +24,9 @@ fn crashed(alloc: Global, disk: &RamDisk, choice: &Choice) -> Result<RamDisk, Al
 fn words_of_fault(alloc: Global, fault: &Fault) -> Result<String, AllocError> {
     match fault {
         Fault::Vault(VaultFault::Pen(PenFault::Unfolded)) => format!(in alloc; "refused unfolded"),
-        Fault::Vault(VaultFault::Pen(PenFault::OldFormat)) => format!(in alloc; "refused old format"),
+        Fault::Vault(VaultFault::Pen(PenFault::OldFormat)) => format!(in alloc;
+            "refused old format"
+        ),
         Fault::Vault(VaultFault::Pen(PenFault::Runs)) => format!(in alloc; "refused runs"),
         Fault::Vault(VaultFault::Unsettled(n)) => format!(in alloc; "refused unsettled {n}"),
         Fault::Vault(VaultFault::WrongPhase) => format!(in alloc; "refused wrong phase"),
@@ -56,7 +58,10 @@ fn words(alloc: Global, answer: &Answer<u64>) -> Result<String, AllocError> {
     match answer {
         Answer::Fine => format!(in alloc; "ok"),
         Answer::Size(n) => format!(in alloc; "size {n}"),
-        Answer::Growth(receipt) => format!(in alloc; "growth {} start {} len {}", receipt.number, receipt.start, receipt.len),
+        Answer::Growth(receipt) => format!(in alloc;
+            "growth {} start {} len {}",
+            receipt.number, receipt.start, receipt.len
+        ),
         Answer::Listed(records) => words_of_list(alloc, records.as_slice()),
         Answer::Settled(n, MarkState::Running) => format!(in alloc; "settled {n} running"),
         Answer::Settled(n, _) => format!(in alloc; "settled {n}"),
@@ -115,7 +120,7 @@ fn growths_are_settled_by_a_flusher(rt: HostRuntime) -> Result<(), Fail> {
         Step::Log,
         Step::Settled(1),
         Step::Raise,
-        Step::Settled(1)
+        Step::Settled(1),
     ]?;
     let expected = [
         "ok",
@@ -133,10 +138,19 @@ fn growths_are_settled_by_a_flusher(rt: HostRuntime) -> Result<(), Fail> {
         "raised 2",
         "settled 2 running",
     ];
-    let disk = answers(alloc, &rt, RamDisk::new(alloc), steps.as_slice(), &expected)?.ok_or("answers")?;
+    let disk = answers(alloc, &rt, RamDisk::new(alloc), steps.as_slice(), &expected)?.ok_or(
+        "answers",
+    )?;
     let again = vec![in alloc; Step::Open, Step::List]?;
     let left = crashed(alloc, &disk, &OLD)?;
-    answers(alloc, &rt, left, again.as_slice(), &["size 3", "list 1 2 3"])?.ok_or("behind the crash")?;
+    answers(
+        alloc,
+        &rt,
+        left,
+        again.as_slice(),
+        &["size 3", "list 1 2 3"],
+    )?
+    .ok_or("behind the crash")?;
     Ok(())
 }
 
@@ -156,13 +170,15 @@ fn a_newer_change_stays_over_an_unfinished_fold(rt: HostRuntime) -> Result<(), F
         Step::Log,
         Step::Log,
         Step::Log,
-        Step::Log
+        Step::Log,
     ]?;
     let expected = [
-        "ok", "ok", "ok", "begun", "step", "ok", "step", "filed", "waiting", "step", "step", "step",
-        "done",
+        "ok", "ok", "ok", "begun", "step", "ok", "step", "filed", "waiting", "step", "step",
+        "step", "done",
     ];
-    let disk = answers(alloc, &rt, RamDisk::new(alloc), steps.as_slice(), &expected)?.ok_or("answers")?;
+    let disk = answers(alloc, &rt, RamDisk::new(alloc), steps.as_slice(), &expected)?.ok_or(
+        "answers",
+    )?;
     let left = crashed(alloc, &disk, &OLD)?;
     let again = vec![in alloc; Step::Open, Step::List]?;
     answers(alloc, &rt, left, again.as_slice(), &["size 1", "list 9"])?.ok_or("behind the crash")?;
@@ -186,13 +202,27 @@ fn a_shrink_waits_for_the_fold(rt: HostRuntime) -> Result<(), Fail> {
         Step::Log,
         Step::Log,
         Step::Log,
-        Step::Resize(1, 0)
+        Step::Resize(1, 0),
     ]?;
     let expected = [
-        "ok", "ok", "ok", "refused unfolded", "list 5 6", "begun", "step", "step", "filed", "step",
-        "step", "step", "done", "ok",
+        "ok",
+        "ok",
+        "ok",
+        "refused unfolded",
+        "list 5 6",
+        "begun",
+        "step",
+        "step",
+        "filed",
+        "step",
+        "step",
+        "step",
+        "done",
+        "ok",
     ];
-    let disk = answers(alloc, &rt, RamDisk::new(alloc), steps.as_slice(), &expected)?.ok_or("answers")?;
+    let disk = answers(alloc, &rt, RamDisk::new(alloc), steps.as_slice(), &expected)?.ok_or(
+        "answers",
+    )?;
     let left = crashed(alloc, &disk, &OLD)?;
     let again = vec![in alloc; Step::Open, Step::List]?;
     answers(alloc, &rt, left, again.as_slice(), &["size 1", "list 5"])?.ok_or("behind the crash")?;
@@ -209,13 +239,22 @@ fn several_runs_are_one_command(rt: HostRuntime) -> Result<(), Fail> {
         Step::Resize(4, 5),
         Step::Changes(turned),
         Step::Changes(runs),
-        Step::List
+        Step::List,
     ]?;
     let expected = ["ok", "ok", "refused runs", "ok", "list 7 5 8 9"];
-    let disk = answers(alloc, &rt, RamDisk::new(alloc), steps.as_slice(), &expected)?.ok_or("answers")?;
+    let disk = answers(alloc, &rt, RamDisk::new(alloc), steps.as_slice(), &expected)?.ok_or(
+        "answers",
+    )?;
     let left = crashed(alloc, &disk, &OLD)?;
     let again = vec![in alloc; Step::Open, Step::List]?;
-    answers(alloc, &rt, left, again.as_slice(), &["size 4", "list 7 5 8 9"])?.ok_or("behind the crash")?;
+    answers(
+        alloc,
+        &rt,
+        left,
+        again.as_slice(),
+        &["size 4", "list 7 5 8 9"],
+    )?
+    .ok_or("behind the crash")?;
     Ok(())
 }
 
@@ -229,7 +268,7 @@ fn a_step_of_another_phase_changes_nothing(rt: HostRuntime) -> Result<(), Fail> 
         Step::Share(1, 1),
         Step::View(1),
         Step::Clear,
-        Step::View(0)
+        Step::View(0),
     ]?;
     let expected = [
         "refused wrong phase",

@@ -9,7 +9,7 @@ ghost use Rattle.pen_core.specs.Refusals.{first_refusal, ready_lines, is_full};
 ghost use Rattle.record_core.specs.Limits.{payload_limit};
 ghost use Rattle.directory_core.specs.Chain.{total};
 ghost use Rattle.directory_core.specs.Limits.{growth_limit};
-ghost use Rattle.flush_core.specs.Flusher.{IsOf, untaken};
+ghost use Rattle.flush_core.specs.Flusher.{IsFlusherOf, untaken};
 ghost use Rattle.flush_core.specs.Group.{IsGreatest};
 ghost use Rattle.flush_core.specs.Refusals.{IsTakeFault};
 
@@ -86,7 +86,7 @@ impl<R: Record, D: Disk> Flusher<R, D> {
     /// Refused, in this order: `Pen(Broken)`; `Pen(Busy)`, while a log job is in hand; then, where there is one to take,
     /// `Pen(FileFull)`; `Pen(Memory)`.
     pub fn take_group(&mut self, live: &Live<R>) -> Result<u64, FlushFault>
-        requires of { IsOf (D.keeps self.old.pen.disk) live.now self.old }
+        requires of { IsFlusherOf (D.keeps self.old.pen.disk) live.now self.old }
         ensures taken { IfOk result (λ n. self.new.taken ≡ self.old.taken + n) }
         ensures greatest { IfOk result (λ n. IsGreatest R.form.width (limit_of self.old.pen.shape.format) (untaken self.old) n) }
         ensures some { IfOk result (λ n. self.old.taken < length self.old.pass.entries → 0 < n) }

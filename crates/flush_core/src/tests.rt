@@ -8,7 +8,7 @@ ghost use Rattle.pen_core.specs.Opening.{IsAtRest};
 ghost use Rattle.directory_core.specs.Limits.{record_limit};
 ghost use Rattle.book_core.specs.Lists as lists;
 ghost use Rattle.book_core.specs.Beginning.{AreNewSeats};
-ghost use Rattle.flush_core.specs.Flusher.{IsOf};
+ghost use Rattle.flush_core.specs.Flusher.{IsFlusherOf};
 
 use super::*;
 use block_core::Fresh;
@@ -36,7 +36,7 @@ struct Phase<D: Disk> {
     live: Live<u64>,
     seats: Vec<Seat<u64>>,
     flusher: Flusher<u64, D>,
-    ghost of: { IsOf (D.keeps flusher.pen.disk) live flusher },
+    ghost of: { IsFlusherOf (D.keeps flusher.pen.disk) live flusher },
     ghost seated: { AreNewSeats live.directory live.mark seats.items },
 }
 
@@ -117,7 +117,7 @@ fn empty_phase(alloc: Global, room: u64, seats: u16) -> Option<Phase<RamDisk>> {
 fn take_seat(live: &Live<u64>, seats: &mut Vec<Seat<u64>>) -> Option<Seat<u64>>
     requires { AreNewSeats live.now.directory live.now.mark seats.old.items }
     ensures rest { AreNewSeats live.now.directory live.now.mark seats.new.items }
-    ensures seat { IfSome result (λ seat. lists.IsOf live.now seat) }
+    ensures seat { IfSome result (λ seat. lists.IsSeatOf live.now seat) }
 {
     seats.pop()
 }
@@ -130,8 +130,8 @@ fn put<E: Wait>(
     seat: &mut Seat<u64>,
     records: &[u64],
 ) -> Option<u64>
-    requires { lists.IsOf live.now seat.old }
-    ensures { lists.IsOf live.now seat.new }
+    requires { lists.IsSeatOf live.now seat.old }
+    ensures { lists.IsSeatOf live.now seat.new }
 {
     let fresh = Fresh::from_slice(alloc, records).ok()?;
     match live.grow(rt, seat, fresh) {
@@ -149,7 +149,7 @@ fn put_one<E: Wait>(
     records: &[u64],
 ) -> Option<Seat<u64>>
     requires { AreNewSeats live.now.directory live.now.mark seats.old.items }
-    ensures { IfSome result (λ seat. lists.IsOf live.now seat) }
+    ensures { IfSome result (λ seat. lists.IsSeatOf live.now seat) }
 {
     let mut seat = take_seat(live, seats)?;
     put(rt, alloc, live, &mut seat, records)?;
@@ -158,16 +158,16 @@ fn put_one<E: Wait>(
 
 /// Learns what was put, as `look` does.
 fn find_growths<D: Disk>(live: &Live<u64>, flusher: &mut Flusher<u64, D>) -> Result<u64, FlushFault>
-    requires { IsOf (D.keeps flusher.old.pen.disk) live.now flusher.old }
-    ensures { IsOf (D.keeps flusher.new.pen.disk) live.now flusher.new }
+    requires { IsFlusherOf (D.keeps flusher.old.pen.disk) live.now flusher.old }
+    ensures { IsFlusherOf (D.keeps flusher.new.pen.disk) live.now flusher.new }
 {
     flusher.look(live)
 }
 
 /// Begins to commit what is known, as `take_group` does.
 fn begin_commit<D: Disk>(live: &Live<u64>, flusher: &mut Flusher<u64, D>) -> Result<u64, FlushFault>
-    requires { IsOf (D.keeps flusher.old.pen.disk) live.now flusher.old }
-    ensures { IsOf (D.keeps flusher.new.pen.disk) live.now flusher.new }
+    requires { IsFlusherOf (D.keeps flusher.old.pen.disk) live.now flusher.old }
+    ensures { IsFlusherOf (D.keeps flusher.new.pen.disk) live.now flusher.new }
 {
     flusher.take_group(live)
 }
@@ -177,8 +177,8 @@ fn begin_folding<D: Disk>(
     live: &Live<u64>,
     flusher: &mut Flusher<u64, D>,
 ) -> Result<bool, FlushFault>
-    requires { IsOf (D.keeps flusher.old.pen.disk) live.now flusher.old }
-    ensures { IsOf (D.keeps flusher.new.pen.disk) live.now flusher.new }
+    requires { IsFlusherOf (D.keeps flusher.old.pen.disk) live.now flusher.old }
+    ensures { IsFlusherOf (D.keeps flusher.new.pen.disk) live.now flusher.new }
 {
     flusher.begin_fold(live)
 }
@@ -189,16 +189,16 @@ fn tick_lane<D: Disk>(
     flusher: &mut Flusher<u64, D>,
     lane: Lane,
 ) -> Result<Tick, FlushFault>
-    requires { IsOf (D.keeps flusher.old.pen.disk) _live.now flusher.old }
-    ensures { IsOf (D.keeps flusher.new.pen.disk) _live.now flusher.new }
+    requires { IsFlusherOf (D.keeps flusher.old.pen.disk) _live.now flusher.old }
+    ensures { IsFlusherOf (D.keeps flusher.new.pen.disk) _live.now flusher.new }
 {
     flusher.tick(lane)
 }
 
 /// Learns what was put, and begins to commit it. How many records are known, and how many growths are taken.
 fn look_and_take<D: Disk>(live: &Live<u64>, flusher: &mut Flusher<u64, D>) -> Option<(u64, u64)>
-    requires { IsOf (D.keeps flusher.old.pen.disk) live.now flusher.old }
-    ensures { IsOf (D.keeps flusher.new.pen.disk) live.now flusher.new }
+    requires { IsFlusherOf (D.keeps flusher.old.pen.disk) live.now flusher.old }
+    ensures { IsFlusherOf (D.keeps flusher.new.pen.disk) live.now flusher.new }
 {
     let size = find_growths(live, flusher).ok()?;
     let taken = begin_commit(live, flusher).ok()?;
@@ -212,8 +212,8 @@ fn ticks_of<D: Disk>(
     flusher: &mut Flusher<u64, D>,
     lanes: &[Lane],
 ) -> Option<Vec<Tick>>
-    requires { IsOf (D.keeps flusher.old.pen.disk) live.now flusher.old }
-    ensures { IsOf (D.keeps flusher.new.pen.disk) live.now flusher.new }
+    requires { IsFlusherOf (D.keeps flusher.old.pen.disk) live.now flusher.old }
+    ensures { IsFlusherOf (D.keeps flusher.new.pen.disk) live.now flusher.new }
 {
     let mut ticks = Vec::new(alloc);
     for lane in lanes {
@@ -242,8 +242,8 @@ fn serve_on<D: Disk, E: Wait>(
     live: &Live<u64>,
     flusher: &mut Flusher<u64, D>,
 ) -> Result<(), FlushFault>
-    requires { IsOf (D.keeps flusher.old.pen.disk) live.now flusher.old }
-    ensures { IsOf (D.keeps flusher.new.pen.disk) live.now flusher.new }
+    requires { IsFlusherOf (D.keeps flusher.old.pen.disk) live.now flusher.old }
+    ensures { IsFlusherOf (D.keeps flusher.new.pen.disk) live.now flusher.new }
 {
     flusher.serve(rt, live)
 }
@@ -254,7 +254,7 @@ fn serve_to_end<D: Disk + Drop, E: Wait>(
     live: &Live<u64>,
     mut flusher: Flusher<u64, D>,
 ) -> Served<D>
-    requires { IsOf (D.keeps flusher.pen.disk) live.now flusher }
+    requires { IsFlusherOf (D.keeps flusher.pen.disk) live.now flusher }
 {
     let ended = serve_on(rt, live, &mut flusher).is_ok();
     let (disk, settled) = flusher.into_parts();
@@ -273,19 +273,19 @@ fn serve_beside<D: Disk + Drop + Send, E: Threads + Wait + Sync, T: Drop, F: FnO
     flusher: Flusher<u64, D>,
     grow: F,
 ) -> Option<(T, Served<D>)>
-    requires of { IsOf (D.keeps flusher.pen.disk) live.now flusher }
+    requires of { IsFlusherOf (D.keeps flusher.pen.disk) live.now flusher }
     requires grow { F.pre grow }
 {
     thread::scope(
         thread::scope_env(),
         rt,
         move |scope| -> Option<(T, Served<D>)>
-            requires { IsOf (D.keeps flusher.pen.disk) live.now flusher × F.pre grow }
+            requires { IsFlusherOf (D.keeps flusher.pen.disk) live.now flusher × F.pre grow }
         {
             let serving = scope
                 .spawn(
                     move || -> Served<D>
-                        requires { IsOf (D.keeps flusher.pen.disk) live.now flusher }
+                        requires { IsFlusherOf (D.keeps flusher.pen.disk) live.now flusher }
                     { serve_to_end(rt, live, flusher) },
                 )
                 .ok()?;

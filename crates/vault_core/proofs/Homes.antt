@@ -177,8 +177,8 @@ at_home {R} {S} width live count block source n s same_live same_source number s
 -- ---- the seats of those that are home
 
 module _ {R : Type 0} (width : ℕ) (live : Phase R) (count : ℕ → ℕ) (block : ℕ → ℕ → List R) (n : ℕ) (seats : List (Seated R)) (receipts : List (List Receipt)) (faults : List (Option GrowFault)) where
-  pub all-of : AreHome width live count block n seats receipts faults → All (lists.IsOf live) seats
+  pub all-of : AreHome width live count block n seats receipts faults → All (lists.IsSeatOf live) seats
   all-of home k d lt =
       let there = home.each k (let long = home.as_many_seats in omega arith) in
       let same = get_or_from_slice_get seats k there.seat d there.seat_is in
-      subst (lists.IsOf live) (sym same) there.grown.of
+      subst (lists.IsSeatOf live) (sym same) there.grown.of

@@ -1,7 +1,7 @@
 //! What a flusher still does once its disk has failed.
 
 ghost use Rattle.book_core.specs.Lists as lists;
-ghost use Rattle.flush_core.specs.Flusher.{IsOf};
+ghost use Rattle.flush_core.specs.Flusher.{IsFlusherOf};
 
 use super::*;
 use disk_core::{Blow, DiskFault, FuseDisk};
@@ -28,8 +28,8 @@ fn stopping(alloc: Global) -> Option<Phase<Stopping>> {
 
 /// Ticks until a call fails, and asks again.
 fn ask_again<D: Disk>(live: &Live<u64>, flusher: &mut Flusher<u64, D>) -> Answers
-    requires { IsOf (D.keeps flusher.old.pen.disk) live.now flusher.old }
-    ensures { IsOf (D.keeps flusher.new.pen.disk) live.now flusher.new }
+    requires { IsFlusherOf (D.keeps flusher.old.pen.disk) live.now flusher.old }
+    ensures { IsFlusherOf (D.keeps flusher.new.pen.disk) live.now flusher.new }
 {
     let failed = tick_lane(live, flusher, Lane::Log);
     let tick = tick_lane(live, flusher, Lane::Home);
@@ -53,7 +53,7 @@ fn take_seat_in<D: Disk + Drop>(
     mut flusher: Flusher<u64, D>,
     seat: Seat<u64>,
 ) -> (u64, u64)
-    requires { IsOf (D.keeps flusher.pen.disk) live.now flusher × lists.IsOf live.now seat }
+    requires { IsFlusherOf (D.keeps flusher.pen.disk) live.now flusher × lists.IsSeatOf live.now seat }
 {
     flusher.take_in(live, seat);
     let known = flusher.known();

@@ -2,7 +2,7 @@
 
 ghost use Rattle.std.specs.Prelude.{◌≡◌};
 ghost use Rattle.book_core.specs.Beginning.{AreNewSeats};
-ghost use Rattle.flush_core.specs.Flusher.{IsOf};
+ghost use Rattle.flush_core.specs.Flusher.{IsFlusherOf};
 
 use super::*;
 
@@ -15,8 +15,8 @@ fn put_and_find<D: Disk, E: Wait>(
     flusher: &mut Flusher<u64, D>,
 ) -> Option<()>
     requires seats { AreNewSeats live.now.directory live.now.mark seats.old.items }
-    requires of { IsOf (D.keeps flusher.old.pen.disk) live.now flusher.old }
-    ensures { IsOf (D.keeps flusher.new.pen.disk) live.now flusher.new }
+    requires of { IsFlusherOf (D.keeps flusher.old.pen.disk) live.now flusher.old }
+    ensures { IsFlusherOf (D.keeps flusher.new.pen.disk) live.now flusher.new }
 {
     let mut seat = put_one(rt, alloc, live, seats, &[1, 2])?;
     put(rt, alloc, live, &mut seat, &[3])?;
@@ -31,7 +31,7 @@ fn is_growth<D: Disk>(
     number: u64,
     records: &[u64],
 ) -> bool
-    requires { IsOf (D.keeps flusher.old.pen.disk) live.now flusher.old }
+    requires { IsFlusherOf (D.keeps flusher.old.pen.disk) live.now flusher.old }
     ensures { flusher.new ≡ flusher.old }
 {
     match flusher.growth(live, number) {

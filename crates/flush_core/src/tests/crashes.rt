@@ -22,8 +22,8 @@ fn put_and_await<E: Wait>(
     live: &Live<u64>,
     mut seat: Seat<u64>,
 ) -> Option<(Seat<u64>, u64)>
-    requires { lists.IsOf live.now seat }
-    ensures { IfSome result (λ grown. lists.IsOf live.now grown.0) }
+    requires { lists.IsSeatOf live.now seat }
+    ensures { IfSome result (λ grown. lists.IsSeatOf live.now grown.0) }
 {
     let first = (seat.id() as u64).wrapping_mul(10_000);
     for k in 0..GROWTHS {
@@ -45,18 +45,18 @@ fn put_by_two<E: Threads + Wait + Sync>(
     first: Seat<u64>,
     second: Seat<u64>,
 ) -> Option<(Seat<u64>, u64)>
-    requires { lists.IsOf live.now first × lists.IsOf live.now second }
-    ensures { IfSome result (λ grown. lists.IsOf live.now grown.0) }
+    requires { lists.IsSeatOf live.now first × lists.IsSeatOf live.now second }
+    ensures { IfSome result (λ grown. lists.IsSeatOf live.now grown.0) }
 {
     let (one, other) = thread::join(
         rt,
         move || -> Option<(Seat<u64>, u64)>
-            requires { lists.IsOf live.now first }
-            ensures { IfSome result (λ grown. lists.IsOf live.entry.now grown.0) }
+            requires { lists.IsSeatOf live.now first }
+            ensures { IfSome result (λ grown. lists.IsSeatOf live.entry.now grown.0) }
         { put_and_await(rt, alloc, live, first) },
         move || -> Option<(Seat<u64>, u64)>
-            requires { lists.IsOf live.now second }
-            ensures { IfSome result (λ grown. lists.IsOf live.entry.now grown.0) }
+            requires { lists.IsSeatOf live.now second }
+            ensures { IfSome result (λ grown. lists.IsSeatOf live.entry.now grown.0) }
         { put_and_await(rt, alloc, live, second) },
     );
     let (seat, told) = one?;
@@ -68,7 +68,7 @@ fn put_by_two<E: Threads + Wait + Sync>(
 fn take_two(live: &Live<u64>, seats: &mut Vec<Seat<u64>>) -> Option<(Seat<u64>, Seat<u64>)>
     requires { AreNewSeats live.now.directory live.now.mark seats.old.items }
     ensures rest { AreNewSeats live.now.directory live.now.mark seats.new.items }
-    ensures two { IfSome result (λ two. lists.IsOf live.now two.0 × lists.IsOf live.now two.1) }
+    ensures two { IfSome result (λ two. lists.IsSeatOf live.now two.0 × lists.IsSeatOf live.now two.1) }
 {
     let first = take_seat(live, seats)?;
     let second = take_seat(live, seats)?;
@@ -83,19 +83,19 @@ fn put_by_four<E: Threads + Wait + Sync>(
     mut seats: Vec<Seat<u64>>,
 ) -> Option<(Seat<u64>, u64)>
     requires { AreNewSeats live.now.directory live.now.mark seats.items }
-    ensures { IfSome result (λ grown. lists.IsOf live.now grown.0) }
+    ensures { IfSome result (λ grown. lists.IsSeatOf live.now grown.0) }
 {
     let (a, b) = take_two(live, &mut seats)?;
     let (c, d) = take_two(live, &mut seats)?;
     let (one, other) = thread::join(
         rt,
         move || -> Option<(Seat<u64>, u64)>
-            requires { lists.IsOf live.now a × lists.IsOf live.now b }
-            ensures { IfSome result (λ grown. lists.IsOf live.entry.now grown.0) }
+            requires { lists.IsSeatOf live.now a × lists.IsSeatOf live.now b }
+            ensures { IfSome result (λ grown. lists.IsSeatOf live.entry.now grown.0) }
         { put_by_two(rt, alloc, live, a, b) },
         move || -> Option<(Seat<u64>, u64)>
-            requires { lists.IsOf live.now c × lists.IsOf live.now d }
-            ensures { IfSome result (λ grown. lists.IsOf live.entry.now grown.0) }
+            requires { lists.IsSeatOf live.now c × lists.IsSeatOf live.now d }
+            ensures { IfSome result (λ grown. lists.IsSeatOf live.entry.now grown.0) }
         { put_by_two(rt, alloc, live, c, d) },
     );
     let (seat, told) = one?;
@@ -105,7 +105,7 @@ fn put_by_four<E: Threads + Wait + Sync>(
 
 /// The records of all growths.
 fn all_records(alloc: Global, live: &Live<u64>, mut seat: Seat<u64>) -> Option<Vec<u64>>
-    requires { lists.IsOf live.now seat }
+    requires { lists.IsSeatOf live.now seat }
 {
     let size = live.look(&mut seat).ok()?;
     let mut records = Vec::new(alloc);

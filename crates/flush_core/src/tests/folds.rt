@@ -1,6 +1,6 @@
 //! A fold beside groups, in files of both versions.
 
-ghost use Rattle.flush_core.specs.Flusher.{IsOf};
+ghost use Rattle.flush_core.specs.Flusher.{IsFlusherOf};
 
 use super::*;
 use pen_core::FoldStage;
@@ -43,8 +43,8 @@ struct Folded<D: Disk> {
 
 /// Begins a fold, and a group behind it.
 fn begin_both<D: Disk>(live: &Live<u64>, flusher: &mut Flusher<u64, D>) -> Option<(bool, u64)>
-    requires { IsOf (D.keeps flusher.old.pen.disk) live.now flusher.old }
-    ensures { IsOf (D.keeps flusher.new.pen.disk) live.now flusher.new }
+    requires { IsFlusherOf (D.keeps flusher.old.pen.disk) live.now flusher.old }
+    ensures { IsFlusherOf (D.keeps flusher.new.pen.disk) live.now flusher.new }
 {
     find_growths(live, flusher).ok()?;
     let begun = begin_folding(live, flusher).ok()?;
@@ -58,7 +58,7 @@ fn settle_fold<D: Disk + Drop>(
     live: &Live<u64>,
     mut flusher: Flusher<u64, D>,
 ) -> Option<D>
-    requires { IsOf (D.keeps flusher.pen.disk) live.now flusher }
+    requires { IsFlusherOf (D.keeps flusher.pen.disk) live.now flusher }
 {
     ticks_of(alloc, live, &mut flusher, &COMMIT)?;
     match flusher.stage().fold {
@@ -73,7 +73,7 @@ fn fold_and_commit<D: Disk + Drop>(
     live: &Live<u64>,
     mut flusher: Flusher<u64, D>,
 ) -> Option<Folded<D>>
-    requires { IsOf (D.keeps flusher.pen.disk) live.now flusher }
+    requires { IsFlusherOf (D.keeps flusher.pen.disk) live.now flusher }
 {
     let (begun, taken) = begin_both(live, &mut flusher)?;
     let ticks = ticks_of(alloc, live, &mut flusher, &BESIDE)?;
@@ -151,8 +151,8 @@ fn serve_beside_fold<D: Disk, E: Wait>(
     flusher: &mut Flusher<u64, D>,
     ticks: usize,
 ) -> Option<FoldStage>
-    requires { IsOf (D.keeps flusher.old.pen.disk) live.now flusher.old }
-    ensures { IsOf (D.keeps flusher.new.pen.disk) live.now flusher.new }
+    requires { IsFlusherOf (D.keeps flusher.old.pen.disk) live.now flusher.old }
+    ensures { IsFlusherOf (D.keeps flusher.new.pen.disk) live.now flusher.new }
 {
     begin_folding(live, flusher).ok()?;
     ticks_of(alloc, live, flusher, &ALONE[..ticks.min(3)])?;

@@ -3,7 +3,7 @@
 ghost use Rattle.std.specs.Prelude.{IfSome};
 ghost use Rattle.book_core.specs.Lists as lists;
 ghost use Rattle.book_core.specs.Beginning.{AreNewSeats};
-ghost use Rattle.flush_core.specs.Flusher.{IsOf};
+ghost use Rattle.flush_core.specs.Flusher.{IsFlusherOf};
 
 use super::*;
 
@@ -25,7 +25,7 @@ fn put_two<E: Wait>(
     mut seats: Vec<Seat<u64>>,
 ) -> Option<Seat<u64>>
     requires { AreNewSeats live.now.directory live.now.mark seats.items }
-    ensures { IfSome result (λ seat. lists.IsOf live.now seat) }
+    ensures { IfSome result (λ seat. lists.IsSeatOf live.now seat) }
 {
     let mut second = take_seat(live, &mut seats)?;
     put_one(rt, alloc, live, &mut seats, &[1, 2])?;
@@ -58,7 +58,7 @@ fn settle_known<D: Disk>(
     seat: &mut Seat<u64>,
     flusher: &mut Flusher<u64, D>,
 ) -> Option<(Told, Vec<Tick>)>
-    requires { IsOf (D.keeps flusher.old.pen.disk) live.now flusher.old × lists.IsOf live.now seat.old }
+    requires { IsFlusherOf (D.keeps flusher.old.pen.disk) live.now flusher.old × lists.IsSeatOf live.now seat.old }
 {
     let before = live.settled(seat);
     let (size, taken) = look_and_take(live, flusher)?;
@@ -79,7 +79,7 @@ fn raise_and_tell<D: Disk>(
     seat: &mut Seat<u64>,
     flusher: &mut Flusher<u64, D>,
 ) -> ((u64, MarkState), u64, (u64, MarkState))
-    requires { IsOf (D.keeps flusher.old.pen.disk) live.now flusher.old × lists.IsOf live.now seat.old }
+    requires { IsFlusherOf (D.keeps flusher.old.pen.disk) live.now flusher.old × lists.IsSeatOf live.now seat.old }
 {
     let behind = live.settled(seat);
     let raised = flusher.raise(live);
@@ -179,7 +179,7 @@ fn begin_twice<D: Disk>(
     live: &Live<u64>,
     flusher: &mut Flusher<u64, D>,
 ) -> Option<(Result<u64, FlushFault>, Result<u64, FlushFault>)>
-    requires { IsOf (D.keeps flusher.old.pen.disk) live.now flusher.old }
+    requires { IsFlusherOf (D.keeps flusher.old.pen.disk) live.now flusher.old }
 {
     find_growths(live, flusher).ok()?;
     let one = begin_commit(live, flusher);
@@ -202,8 +202,8 @@ const MOST: u64 = 131_071;
 
 /// Makes a growth of each of these lengths.
 fn grow_each<E: Wait>(rt: &E, live: &Live<u64>, seat: &mut Seat<u64>, lengths: &[u64]) -> Option<()>
-    requires { lists.IsOf live.now seat.old }
-    ensures { lists.IsOf live.now seat.new }
+    requires { lists.IsSeatOf live.now seat.old }
+    ensures { lists.IsSeatOf live.now seat.new }
 {
     for records in lengths {
         live.grow_by(rt, seat, *records, 1).ok()?;

@@ -3,7 +3,7 @@
 ghost use Rattle.std.specs.Prelude.{IfSome};
 ghost use Rattle.book_core.specs.Lists as lists;
 ghost use Rattle.book_core.specs.Beginning.{AreNewSeats};
-ghost use Rattle.flush_core.specs.Flusher.{IsOf};
+ghost use Rattle.flush_core.specs.Flusher.{IsFlusherOf};
 
 use super::*;
 use std::thread::Threads;
@@ -14,7 +14,7 @@ const LONG: u64 = 100_000;
 /// Puts a long growth of 1, the growth [2], and a long growth of 3. Their seat.
 fn put_three<E: Wait>(rt: &E, live: &Live<u64>, seats: &mut Vec<Seat<u64>>) -> Option<Seat<u64>>
     requires { AreNewSeats live.now.directory live.now.mark seats.old.items }
-    ensures { IfSome result (λ seat. lists.IsOf live.now seat) }
+    ensures { IfSome result (λ seat. lists.IsSeatOf live.now seat) }
 {
     let mut seat = take_seat(live, seats)?;
     live.grow_by(rt, &mut seat, LONG, 1).ok()?;
@@ -63,7 +63,7 @@ fn all_groups_are_settled_once_the_book_is_closed(rt: HostRuntime) -> Result<(),
 
 /// Waits for the third growth, and closes the book. What is told of it.
 fn await_third<E: Wait>(rt: &E, live: &Live<u64>, mut seat: Seat<u64>) -> (u64, MarkState)
-    requires { lists.IsOf live.now seat }
+    requires { lists.IsSeatOf live.now seat }
 {
     let told = live.await_settled(rt, &mut seat, 2);
     live.close(rt);
@@ -89,7 +89,7 @@ fn serve_waiting<E: Threads + Wait + Sync>(
         shared,
         flusher,
         move || -> (u64, MarkState)
-            requires { lists.IsOf shared.now seat }
+            requires { lists.IsSeatOf shared.now seat }
         { await_third(rt, shared, seat) },
     )
 }

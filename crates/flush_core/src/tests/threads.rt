@@ -12,7 +12,7 @@ fn grow_await_grow<E: Wait>(
     live: &Live<u64>,
     mut seat: Seat<u64>,
 ) -> Option<(u64, MarkState, u64)>
-    requires { lists.IsOf live.now seat }
+    requires { lists.IsSeatOf live.now seat }
 {
     let number = put(rt, alloc, live, &mut seat, &[1, 2])?;
     let (count, state) = live.await_settled(rt, &mut seat, number);
@@ -27,7 +27,7 @@ fn grow_and_close<E: Wait>(
     live: &Live<u64>,
     seat: Seat<u64>,
 ) -> Option<(u64, MarkState, u64)>
-    requires { lists.IsOf live.now seat }
+    requires { lists.IsSeatOf live.now seat }
 {
     let grown = grow_await_grow(rt, alloc, live, seat);
     live.close(rt);
@@ -53,7 +53,7 @@ fn served<D: Disk + Drop + Send, E: Threads + Wait + Sync>(
         shared,
         flusher,
         move || -> Option<(u64, MarkState, u64)>
-            requires { lists.IsOf shared.now seat }
+            requires { lists.IsSeatOf shared.now seat }
         { grow_and_close(rt, alloc, shared, seat) },
     )?;
     Some((grown?, left))

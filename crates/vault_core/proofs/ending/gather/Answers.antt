@@ -4,7 +4,7 @@ use Rattle.pen_core.specs.PenOf.{PenOf}
 use Rattle.directory_core.specs.Chain.{Begins, joined, total}
 use Rattle.directory_core.specs.Limits.{record_limit}
 use Rattle.book_core.specs.Lists.{Seated, StandInList, records_of, joined_pieces, opening_of}
-use Rattle.flush_core.specs.Flusher.{FlusherOf, Learns, read_as}
+use Rattle.flush_core.specs.Flusher.{FlusherOf, FlusherLearns, read_as}
 use Rattle.vault_core.specs.Vault.{VaultOf}
 use Rattle.vault_core.specs.Gathering.{MayGather}
 use Rattle.vault_core.proofs.Endings.{all_known, whole}
@@ -36,7 +36,7 @@ invariant_of-vault g c =
     rw c.with_ends.ensures (
     gathered_kept g.D.Disk.keeps g.R.Record.form c.args.live c.args.flusher c.take_in_all.new.flusher (records_of c.put_behind-blocks.result.items) c.into_pen-pen.result.0
     c.requires.flusher_of may.settled limit list
-    (subst (λ (f : FlusherOf _ _). Learns f c.take_in_all.new.flusher) same c.take_in_all.ensures.learns)
+    (subst (λ (f : FlusherOf _ _). FlusherLearns f c.take_in_all.new.flusher) same c.take_in_all.ensures.learns)
     (c.take_in_all.ensures.entries ∙ ap (λ (f : FlusherOf _ _). f.pass.entries) same)
     c.into_pen-pen.ensures.parts.0 c.into_pen-pen.ensures.order (c.into_pen-pen.ensures.size, c.into_pen-pen.ensures.size_then) c.into_pen-pen.ensures.file c.into_pen-pen.ensures.width)
 

@@ -2,4 +2,4 @@ use Rattle.book_core.specs.Lists as lists
 use Rattle.flush_core.proofs.tests.crashes.all_records.Given as goal
 
 abbrev pub invariant-loop-i : goal.invariant-loop-i
-invariant-loop-i l = lists.IsOf l.live l.seat
+invariant-loop-i l = lists.IsSeatOf l.live l.seat
