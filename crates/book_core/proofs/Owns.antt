@@ -7,14 +7,14 @@ use Rattle.std.proofs.lemmas.List.Concat.{length-flat_map}
 use Rattle.std.proofs.lemmas.List.Elements.{filter-append, filter_more}
 use Rattle.std.proofs.lemmas.Option.{slice_get_within, get_or_from_slice_get}
 use Rattle.block_core.specs.Growth.{Growth}
-use Rattle.directory_core.specs.Chain.{total, joined, Begins}
+use Rattle.directory_core.specs.Chain.{total, joined, IsPrefix}
 use Rattle.directory_core.specs.Identity.{Identity}
 use Rattle.book_core.specs.Marks.{MarkName, MarkEnd}
 use Rattle.book_core.specs.Lists.{Phase, Seated, IsSeatOf, own_of}
 use Rattle.book_core.specs.Beginning.{IsNewSeat, AreNewSeats}
 
 -- a list that begins another has its first elements
-pub take-begins : {X : Type 0} (xs ys : List X) (n : ℕ) → Begins xs ys → n ≤ length xs → take n ys ≡ take n xs
+pub take-begins : {X : Type 0} (xs ys : List X) (n : ℕ) → IsPrefix xs ys → n ≤ length xs → take n ys ≡ take n xs
 take-begins xs ys n begins le = sym (take-take n (length xs) ys le) ∙ ap (λ (zs : List _). take n zs) begins
 
 -- a growth that bears the id is one more

@@ -3,7 +3,7 @@ use Rattle.std.proofs.Common.{◌≡◌, ℕ, ◌-◌, ◌<◌, ◌≤◌, List,
 use Rattle.std.proofs.lemmas.List.{length-take, take-take}
 use Rattle.block_core.specs.Growth.{Growth}
 use Rattle.block_core.specs.Length.{IsBlockLength}
-use Rattle.directory_core.specs.Chain.{total, Begins}
+use Rattle.directory_core.specs.Chain.{total, IsPrefix}
 use Rattle.directory_core.specs.Limits.{record_limit}
 use Rattle.book_core.specs.declared.fault.GrowFault.{GrowFault}
 use Rattle.book_core.specs.declared.fault.GrowFault.TheVariants.{Closed, Full, TooLong, Strayed, Memory, Empty, TooLarge}
@@ -11,7 +11,7 @@ use Rattle.book_core.specs.declared.seat.Receipt.{Receipt}
 use Rattle.book_core.specs.Lists.{Phase, Seated}
 use Rattle.book_core.specs.Growing.{SeatLearns, growth_of, Grown, FillsOrReaches, size_of, IsBookRefusal, IsFillRefusal}
 
-pub begins-trans : {X : Type 0} (xs ys zs : List X) → Begins xs ys → Begins ys zs → Begins xs zs
+pub begins-trans : {X : Type 0} (xs ys zs : List X) → IsPrefix xs ys → IsPrefix ys zs → IsPrefix xs zs
 begins-trans xs ys zs a b =
     let long : length xs ≤ length ys = let l = ap length a in omega (arith, length-take (length xs) ys) in
     sym (take-take (length xs) (length ys) zs long) ∙ (ap (λ (ws : List _). take (length xs) ws) b ∙ a)

@@ -3,7 +3,7 @@ use Rattle.std.specs.Prelude.{◌≡◌, ℕ, ◌+◌, ◌-◌, ◌<◌, ◌≤�
 use Rattle.record_core.specs.Limits.{payload_limit}
 use Rattle.block_core.specs.Growth.{Growth}
 use Rattle.block_core.specs.Length.{IsBlockLength, payload_len}
-use Rattle.directory_core.specs.Chain.{total, Begins}
+use Rattle.directory_core.specs.Chain.{total, IsPrefix}
 use Rattle.directory_core.specs.Limits.{record_limit}
 use Rattle.book_core.specs.declared.fault.GrowFault.{GrowFault}
 use Rattle.book_core.specs.declared.fault.GrowFault.TheVariants.{Closed, Full, TooLong, Strayed, Memory, Empty, TooLarge}
@@ -21,7 +21,7 @@ pub record SeatLearns {R : Type 0} (old new : Seated R) : Type 0 where
   pub mark : new.mark ≡ old.mark
   pub of : new.pass.of ≡ old.pass.of
   pub made : new.made ≡ old.made
-  pub begins : Begins old.pass.entries new.pass.entries
+  pub begins : IsPrefix old.pass.entries new.pass.entries
 
 -- the seat's growth of these records, behind those before it
 abbrev pub growth_of : {R : Type 0} → Seated R → List (Growth R) → List R → Growth R
@@ -32,7 +32,7 @@ growth_of seat before records = record { number = length before; start = total b
 -- from before the phase among them, its length, the seat's id and how many growths the seat had made
 pub record Grown {R : Type 0} (live : Phase R) (old new : Seated R) (records : List R) (receipt : Receipt) : Type 0 where
   pub before : List (Growth R)
-  pub begins : Begins old.pass.entries before
+  pub begins : IsPrefix old.pass.entries before
   pub ends : new.pass.entries ≡ before ++ growth_of old before records ∷ []
   pub number : receipt.number ≡ length before
   pub start : receipt.start ≡ length (opening_of live) + total before
@@ -123,7 +123,7 @@ IsFillRefusal width live seat n Memory = HasJustItsOwn seat × PhaseHasRoom live
 IsFillRefusal width live seat n Empty = ⊥
 
 -- the seat was told this by the mark, and nothing else changed. No count falls, and what is over doesn't run again
-pub record IsTold {R : Type 0} (old new : Seated R) (count : ℕ) (state : MarkState) : Type 0 where
+pub record SeatIsTold {R : Type 0} (old new : Seated R) (count : ℕ) (state : MarkState) : Type 0 where
   pub same : (new.id ≡ old.id) × (new.made ≡ old.made) × (new.pass ≡ old.pass)
   pub mark : new.mark ≡ record { of = old.mark.of; told = record { count = count; state = state } }
   pub rises : Rises old.mark.told (record { count = count; state = state })

@@ -1,7 +1,7 @@
 //! What a phase lends to who settles its growths, by a pass of its own.
 
 ghost use Rattle.std.specs.Prelude.{◌≡◌, ◌<◌, ◌≤◌, length, slice_get, Some, IfErr, MatchOption, MatchResult};
-ghost use Rattle.directory_core.specs.Chain.{Begins, Agree, Meets};
+ghost use Rattle.directory_core.specs.Chain.{IsPrefix, Agree, Meets};
 ghost use Rattle.book_core.specs.Marks.{Rises};
 ghost use Rattle.book_core.specs.Lists.{IsSeatOf};
 ghost use Rattle.book_core.specs.Growing.{SeatLearns};
@@ -25,7 +25,7 @@ impl<R: Record> Live<R> {
     pub fn look_by(&self, pass: &mut Pass<R>) -> Result<u64, DirFault>
         requires of { pass.old.of ≡ self.now.directory }
         ensures of { pass.new.of ≡ self.now.directory }
-        ensures longer { Begins pass.old.entries pass.new.entries }
+        ensures longer { IsPrefix pass.old.entries pass.new.entries }
         ensures count { MatchResult result
             (λ known. known ≡ length pass.new.entries)
             (λ fault. fault ≡ DirFault.Strayed (length pass.new.entries)) }

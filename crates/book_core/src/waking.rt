@@ -10,7 +10,7 @@
 
 ghost use Rattle.std.specs.Prelude.{◌≡◌, ◌<◌, ◌≤◌, ◌↔◌, IsTrue};
 ghost use Rattle.book_core.specs.Lists.{IsSeatOf};
-ghost use Rattle.book_core.specs.Growing.{IsTold, IsPast, IsToldOf};
+ghost use Rattle.book_core.specs.Growing.{SeatIsTold, IsPast, IsToldOf};
 
 use crate::fault::SettleFault;
 use crate::live::{Book, Live};
@@ -99,7 +99,7 @@ impl<R: Record> Live<R> {
     pub fn settled(&self, seat: &mut Seat<R>) -> (u64, MarkState)
         requires of { IsSeatOf self.now seat.old }
         ensures of { IsSeatOf self.now seat.new }
-        ensures told { IsTold seat.old seat.new result.0 result.1 }
+        ensures told { SeatIsTold seat.old seat.new result.0 result.1 }
     {
         let told = seat.mark.settled(&self.mark);
         (told.count, told.state)
@@ -115,7 +115,7 @@ impl<R: Record> Live<R> {
     ) -> (u64, MarkState)
         requires of { IsSeatOf self.now seat.old }
         ensures of { IsSeatOf self.now seat.new }
-        ensures told { IsTold seat.old seat.new result.0 result.1 }
+        ensures told { SeatIsTold seat.old seat.new result.0 result.1 }
         ensures past { IsPast number result.0 result.1 }
     {
         let (mut count, mut state) = self.settled(seat);
@@ -146,7 +146,7 @@ impl<R: Record> Live<R> {
     ) -> Result<u64, SettleFault>
         requires of { IsSeatOf self.now seat.old }
         ensures of { IsSeatOf self.now seat.new }
-        ensures told { IsTold seat.old seat.new seat.new.mark.told.count seat.new.mark.told.state }
+        ensures told { SeatIsTold seat.old seat.new seat.new.mark.told.count seat.new.mark.told.state }
         ensures settled { IsToldOf receipt.now.number seat.new.mark.told result }
     {
         let (count, state) = self.await_settled(rt, seat, receipt.number);

@@ -3,7 +3,7 @@ use Rattle.std.proofs.Common.{◌≡◌, ℕ, zero, suc, ◌+◌, inl, inr, List
 use Rattle.block_core.specs.Growth.{Growth}
 use Rattle.directory_core.specs.declared.fault.DirFault.{DirFault}
 use Rattle.directory_core.specs.declared.fault.DirFault.TheVariants.{Taken, Full, Strayed, Memory}
-use Rattle.directory_core.specs.Chain.{total, joined, IsNext, IsChained, AreBlocks, Begins, Agree, Meets}
+use Rattle.directory_core.specs.Chain.{total, joined, IsNext, IsChained, AreBlocks, IsPrefix, Agree, Meets}
 use Rattle.directory_core.specs.Fault.{DirectoryKeepsLimit, IsPublishRefusal}
 use Rattle.directory_core.specs.Finding.{IsPlaceOf, IsRestAt, IsPieceAt}
 use Rattle.directory_core.specs.Identity.{Name, Identity}
@@ -63,10 +63,10 @@ no_empty_growth blocks = let some = (blocks 1 one (omega arith)).some in omega a
 
 -- ---- lists that agree
 
-not_begun : Begins {X = ℕ} (8 ∷ []) (7 ∷ 8 ∷ []) → ⊥
+not_begun : IsPrefix {X = ℕ} (8 ∷ []) (7 ∷ 8 ∷ []) → ⊥
 not_begun begins = absurd cc
 
-not_begun_by_more : Begins {X = ℕ} (7 ∷ 8 ∷ []) (7 ∷ []) → ⊥
+not_begun_by_more : IsPrefix {X = ℕ} (7 ∷ 8 ∷ []) (7 ∷ []) → ⊥
 not_begun_by_more begins = absurd cc
 
 no_agreement : Agree {X = ℕ} (7 ∷ 8 ∷ []) (7 ∷ 9 ∷ []) → ⊥

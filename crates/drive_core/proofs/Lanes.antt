@@ -27,7 +27,7 @@ use Rattle.flush_core.specs.declared.fault.FlushFault.{FlushFault}
 use Rattle.flush_core.specs.declared.fault.FlushFault.TheVariants as flush
 use Rattle.drive_core.specs.declared.fault.Fault.TheVariants.{Vault}
 use Rattle.vault_core.specs.declared.fault.VaultFault.TheVariants as vault
-use Rattle.directory_core.specs.Chain.{Begins}
+use Rattle.directory_core.specs.Chain.{IsPrefix}
 use Rattle.drive_core.specs.Line.{Allows, Might, is_disk, of_flush}
 use Rattle.drive_core.specs.Step.{Step, Answer}
 use Rattle.drive_core.specs.Step as step
@@ -74,7 +74,7 @@ module _ {R D : Type 0} (states : D → List State) (faults : D → ℕ) (w : Wo
     made_sum = tie.made_sum;
     each = tie.each;
     last_knows = tie.last_knows;
-    flusher_knows = subst (λ (p : _). Begins p.entries tie.entries) (sym same.pass_same) tie.flusher_knows;
+    flusher_knows = subst (λ (p : _). IsPrefix p.entries tie.entries) (sym same.pass_same) tie.flusher_knows;
     flusher_is = tie.flusher_is ∙ ap (λ (p : _). length p.entries) (sym same.pass_same);
     taken_is = tie.taken_is ∙ sym same.taken_same;
     taken_within = tie.taken_within;

@@ -5,7 +5,7 @@ use Rattle.std.proofs.lemmas.Option.{same_Some}
 use Rattle.record_core.specs.Bytes.{Encoding}
 use Rattle.disk_core.specs.State.{State}
 use Rattle.pen_core.specs.PenOf.{PenOf}
-use Rattle.directory_core.specs.Chain.{Begins, Agree, Meets, total, joined}
+use Rattle.directory_core.specs.Chain.{IsPrefix, Agree, Meets, total, joined}
 use Rattle.directory_core.proofs.Chains.{length-joined}
 use Rattle.book_core.specs.Lists.{Seated, opening_of}
 use Rattle.book_core.specs.Growing as growing
@@ -57,7 +57,7 @@ module _ {R D : Type 0} (form : Encoding R) (states : D → List State) (faults 
     within_all : length new.pass.entries ≤ length tie.entries
     within_all = let puts = tie.puts_is in omega (arith, few, puts)
 
-    found : Begins new.pass.entries tie.entries
+    found : IsPrefix new.pass.entries tie.entries
     found = agree-begins new.pass.entries tie.entries within_all (λ n less. elim (none-or tie.entries) [
       | inl none ↦ absurd (omega (arith, none, less, within_all))
       | inr some ↦
@@ -99,7 +99,7 @@ module _ {R D : Type 0} (form : Encoding R) (states : D → List State) (faults 
       seats_are = tie.seats_are;
       made_sum = tie.made_sum;
       each = λ j seat there. each_replaced tie.entries g.seats g.last t t' at tie.each
-          (let was = tie.each g.last t at in record { id_is = learnt.id ∙ was.id_is; knows = subst (λ xs. Begins xs tie.entries) (sym t_same) was.knows })
+          (let was = tie.each g.last t at in record { id_is = learnt.id ∙ was.id_is; knows = subst (λ xs. IsPrefix xs tie.entries) (sym t_same) was.knows })
           j seat (ap (λ xs. slice_get xs j) (sym row_is) ∙ there);
       last_knows = λ some. let there = last_replaced tie.entries g.seats g.last t t' at g.last (tie.last_knows some) (λ was. t_same ∙ was) in (there.0, ap (λ xs. slice_get xs g.last) row_is ∙ there.1, there.2);
       flusher_knows = found;

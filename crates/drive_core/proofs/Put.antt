@@ -11,7 +11,7 @@ use Rattle.disk_core.specs.State.{State}
 use Rattle.segment_core.specs.Command.{Grow, content}
 use Rattle.block_core.specs.Growth as block
 use Rattle.block_core.specs.Length.{IsBlockLength}
-use Rattle.directory_core.specs.Chain.{Begins, total, joined}
+use Rattle.directory_core.specs.Chain.{IsPrefix, total, joined}
 use Rattle.directory_core.specs.Limits.{record_limit}
 use Rattle.directory_core.proofs.Chains.{length-joined}
 use Rattle.book_core.specs.declared.seat.Receipt.{Receipt}
@@ -39,10 +39,10 @@ use Rattle.drive_core.proofs.Tables.{passes, stops}
 -- ---- lists that begin one another
 
 module _ {X : Type 0} where
-  pub begins-whole : (xs ys : List X) → Begins xs ys → length ys ≤ length xs → ys ≡ xs
+  pub begins-whole : (xs ys : List X) → IsPrefix xs ys → length ys ≤ length xs → ys ≡ xs
   begins-whole xs ys begins le = sym (take_all (length xs) ys le) ∙ begins
 
-  begins-more : (xs ys zs : List X) → Begins xs ys → Begins xs (ys ++ zs)
+  begins-more : (xs ys zs : List X) → IsPrefix xs ys → IsPrefix xs (ys ++ zs)
   begins-more xs ys zs begins = take-append-le (length xs) ys zs (begins-le xs ys begins) ∙ begins
 
   -- lists of one length that agree
@@ -102,11 +102,11 @@ module _ {R D : Type 0} (form : Encoding R) (states : D → List State) (faults 
   nil_or_some (x ∷ xs) = inr (omega arith)
 
   -- the lists that a seat knew before are the first ones
-  pub first_are : (known more : List (block.Growth R)) → Begins m0.pass.entries known → m1.pass.entries ≡ known ++ more → length known ≡ length tie.entries → known ≡ tie.entries
+  pub first_are : (known more : List (block.Growth R)) → IsPrefix m0.pass.entries known → m1.pass.entries ≡ known ++ more → length known ≡ length tie.entries → known ≡ tie.entries
   first_are known more begins is long = elim (nil_or_some tie.entries) [
     | inl none ↦ same-lists known tie.entries long (λ g less. absurd (omega (arith, less, long, none)))
     | inr some ↦ elim (knows_all some) [
-      | inl mine ↦ begins-whole tie.entries known (subst (λ xs. Begins xs known) mine.0 begins) (omega (arith, long))
+      | inl mine ↦ begins-whole tie.entries known (subst (λ xs. IsPrefix xs known) mine.0 begins) (omega (arith, long))
       | inr theirs ↦ same-lists known tie.entries long (λ j less.
           let mine : j < length m1.pass.entries = (let all = ap length is ∙ length-append known more in omega (arith, all, less)) in
           let there : j < length t.pass.entries = (let all = ap length theirs in omega (arith, all, less, long)) in
@@ -189,7 +189,7 @@ module _ {R D : Type 0} (form : Encoding R) (states : D → List State) (faults 
     seat_new : IsSeat (tie.entries ++ growth_of m0 grown.before records ∷ []) k met.met
     seat_new = record {
       id_is = met.learns.id ∙ grown.same.0 ∙ (tie.each k m0 at0).id_is;
-      knows = subst (λ xs. Begins xs (tie.entries ++ growth_of m0 grown.before records ∷ [])) (sym (met_same ∙ entries_are)) (take-length (tie.entries ++ growth_of m0 grown.before records ∷ []));
+      knows = subst (λ xs. IsPrefix xs (tie.entries ++ growth_of m0 grown.before records ∷ [])) (sym (met_same ∙ entries_are)) (take-length (tie.entries ++ growth_of m0 grown.before records ∷ []));
     }
 
     answer_is : step.Grown receipt ≡ receipt_of w phase k records
@@ -314,7 +314,7 @@ module _ {R D : Type 0} (form : Encoding R) (states : D → List State) (faults 
       seats_are = tie.seats_are;
       made_sum = tie.made_sum;
       each = λ j seat there. each_replaced tie.entries g.seats k m0 met.met at0 tie.each
-          (record { id_is = met.learns.id ∙ learns.id ∙ (tie.each k m0 at0).id_is; knows = subst (λ xs. Begins xs tie.entries) (sym met_all) (take-length tie.entries) })
+          (record { id_is = met.learns.id ∙ learns.id ∙ (tie.each k m0 at0).id_is; knows = subst (λ xs. IsPrefix xs tie.entries) (sym met_all) (take-length tie.entries) })
           j seat (ap (λ xs. slice_get xs j) (sym row_is) ∙ there);
       last_knows = λ some. let there = last_replaced tie.entries g.seats k m0 met.met at0 g.last (tie.last_knows some) (λ was. met_all) in (there.0, ap (λ xs. slice_get xs g.last) row_is ∙ there.1, there.2);
       flusher_knows = tie.flusher_knows;

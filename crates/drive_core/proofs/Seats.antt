@@ -3,7 +3,7 @@ use Rattle.std.proofs.Common.{◌≡◌, ◌⊎◌, inl, inr, ℕ, zero, suc, �
 use Rattle.std.proofs.lemmas.Option.{same_Some}
 use Rattle.std.proofs.Math.Seq.{take-append_seam, take-length}
 use Rattle.block_core.specs.Growth as block
-use Rattle.directory_core.specs.Chain.{Begins, Agree, Meets}
+use Rattle.directory_core.specs.Chain.{IsPrefix, Agree, Meets}
 use Rattle.book_core.specs.Lists as book
 use Rattle.book_core.specs.Lists.{Seated}
 use Rattle.book_core.specs.Growing.{SeatLearns}
@@ -103,7 +103,7 @@ module _ {X : Type 0} where
   row_back : (n : ℕ) (xs old : List X) → length xs ≡ n → take n (xs ++ drop (length xs) old) ≡ xs
   row_back n xs old long = ap (λ k. take k (xs ++ drop (length xs) old)) (sym long) ∙ take-append_seam xs (drop (length xs) old)
 
-  pub begins-le : (xs ys : List X) → Begins xs ys → length xs ≤ length ys
+  pub begins-le : (xs ys : List X) → IsPrefix xs ys → length xs ≤ length ys
   begins-le [] ys begins = omega arith
   begins-le (x ∷ xs) [] begins = absurd cc
   begins-le (x ∷ xs) (y ∷ ys) begins = let rest = begins-le xs ys (ap tail begins) in omega (arith, rest)

@@ -9,7 +9,7 @@ use Rattle.disk_core.proofs.JoinedMoments.{LeavesOnly-weaker}
 use Rattle.segment_core.specs.Command.{Command, content, after_command}
 use Rattle.pen_core.specs.Typed.{OpensTo}
 use Rattle.block_core.specs.Growth as block
-use Rattle.directory_core.specs.Chain.{Begins, joined}
+use Rattle.directory_core.specs.Chain.{IsPrefix, joined}
 use Rattle.book_core.specs.Lists.{opening_of}
 use Rattle.book_core.proofs.Owns.{take-begins}
 use Rattle.flush_core.specs.Flusher.{IsFlusherOf, OpensToFirst, OpensToSettled, list_to}
@@ -17,7 +17,7 @@ use Rattle.drive_core.specs.World.{World, Growth, growths_of}
 use Rattle.drive_core.specs.Headline.{OpensToPrefix, Rests, Leaves}
 use Rattle.drive_core.specs.Ties.{GrowingOf, IsGrowing, grow_of, disk_of}
 
-begins-le : {X : Type 0} (xs ys : List X) → Begins xs ys → length xs ≤ length ys
+begins-le : {X : Type 0} (xs ys : List X) → IsPrefix xs ys → length xs ≤ length ys
 begins-le xs ys begins = let long = ap length begins in omega (arith, long, length-take (length xs) ys)
 
 drop-append : {X : Type 0} (xs ys : List X) → drop (length xs) (xs ++ ys) ≡ ys

@@ -99,7 +99,7 @@ pub record SameGrowths {R D : Type 0} (old new : FlusherOf R D) : Type 0 where
 
 -- nothing has changed but what it knows, and it knows no less
 pub record FlusherLearns {R D : Type 0} (old new : FlusherOf R D) : Type 0 where
-  pub begins : chains.Begins old.pass.entries new.pass.entries
+  pub begins : chains.IsPrefix old.pass.entries new.pass.entries
   pub of_same : new.pass.of ≡ old.pass.of
   pub pen_same : new.pen ≡ old.pen
   pub mark_same : new.mark ≡ old.mark
@@ -110,7 +110,7 @@ pub record FlusherLearns {R D : Type 0} (old new : FlusherOf R D) : Type 0 where
 
 -- From one to the other: of the same phase, it knows no less and has settled no less.
 pub record GoesOn {R D : Type 0} (keeps : Type 0) (old new : FlusherOf R D) : Type 0 where
-  pub begins : chains.Begins old.pass.entries new.pass.entries
+  pub begins : chains.IsPrefix old.pass.entries new.pass.entries
   pub of_same : new.pass.of ≡ old.pass.of
   pub mark_of_same : new.mark.of ≡ old.mark.of
   pub before_same : new.before ≡ old.before

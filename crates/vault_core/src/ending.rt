@@ -4,7 +4,7 @@ ghost use Rattle.std.specs.Prelude.{◌≡◌, ◌≢◌, ℕ, ◌≤◌, ◌<�
 ghost use Rattle.std.specs.List.{AllWithin};
 ghost use Rattle.disk_core.specs.State.{now, IsImage};
 ghost use Rattle.pen_core.specs.Typed.{OpensTo};
-ghost use Rattle.directory_core.specs.Chain.{joined, total, Begins, IsChained};
+ghost use Rattle.directory_core.specs.Chain.{joined, total, IsPrefix, IsChained};
 ghost use Rattle.directory_core.specs.Limits.{record_limit};
 ghost use Rattle.book_core.specs.Lists.{records_of, joined_pieces, opening_of, StandInList};
 ghost use Rattle.flush_core.specs.Flusher.{IsFlusherOf, FlusherLearns};
@@ -152,7 +152,7 @@ fn take_in_all<R: Record, D: Disk>(live: &Live<R>, flusher: &mut Flusher<R, D>, 
     requires known { All (λ seat. length seat.pass.entries ≤ length flusher.old.pass.entries) seats.items }
     ensures learns { FlusherLearns flusher.old flusher.new }
     ensures entries { flusher.new.pass.entries ≡ flusher.old.pass.entries }
-    ensures begin { All (λ seat. Begins seat.pass.entries flusher.old.pass.entries) seats.items }
+    ensures begin { All (λ seat. IsPrefix seat.pass.entries flusher.old.pass.entries) seats.items }
     ensures told { All (λ seat. seat.mark.told.count ≤ flusher.old.settled) seats.items }
 {
     let mut seats = seats;

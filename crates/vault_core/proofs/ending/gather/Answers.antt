@@ -1,7 +1,7 @@
 use Rattle.std.proofs.Common.{◌≡◌, ℕ, ◌+◌, ◌≤◌, List, ◌++◌, length, All, sym, ap, subst, ◌∙◌, rules, arith}
 use Rattle.disk_core.specs.State.{now, IsImage}
 use Rattle.pen_core.specs.PenOf.{PenOf}
-use Rattle.directory_core.specs.Chain.{Begins, joined, total}
+use Rattle.directory_core.specs.Chain.{IsPrefix, joined, total}
 use Rattle.directory_core.specs.Limits.{record_limit}
 use Rattle.book_core.specs.Lists.{Seated, StandInList, records_of, joined_pieces, opening_of}
 use Rattle.flush_core.specs.Flusher.{FlusherOf, FlusherLearns, read_as}
@@ -44,7 +44,7 @@ pub returns-clause-whole : goal.returns-clause-whole
 returns-clause-whole g c =
     let may = subst (λ (ss : List (Seated _)). MayGather c.args.live ss c.args.flusher) c.as_slice.ensures.value c.in_default.ensures.may in
     let stand = subst (λ (ss : List (Seated _)). All StandInList ss) c.as_slice.ensures.value c.in_default.ensures.stand in
-    let begin = subst (λ (f : FlusherOf _ _). All (λ s. Begins s.pass.entries f.pass.entries) c.args.seats.items) c.copy_growths-copied.ensures.same c.take_in_all.ensures.begin in
+    let begin = subst (λ (f : FlusherOf _ _). All (λ s. IsPrefix s.pass.entries f.pass.entries) c.args.seats.items) c.copy_growths-copied.ensures.same c.take_in_all.ensures.begin in
     whole c.args.live c.args.seats.items c.args.flusher may stand begin c.in_default.ensures.chained
 
 pub returns-clause-told : goal.returns-clause-told
