@@ -1,6 +1,5 @@
 //! What no clause says: that a crew grows in threads beside one another, and what it gives then.
 
-use crate::*;
 use block_core::{Fresh, FreshFault};
 use book_core::{GrowFault, Receipt};
 use disk_core::{Choice, ImageLength, PendingBytes, RamDisk};
@@ -10,6 +9,7 @@ use std::sync::Wait;
 use std::sync::atomic::{AtomicU64, Ordering};
 use std::test::Fail;
 use std::thread::Threads;
+use vault_core::{Crewed, Gate, Lists, Vault, crew};
 
 /// A gate at which each of two growers waits for the other, and that notes their receipts.
 #[derive(Drop)]

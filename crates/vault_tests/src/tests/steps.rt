@@ -1,8 +1,8 @@
 //! What no clause says: scripts of steps with their answers, and what is read behind a crash.
 
-use crate::{Answer, Fault, Step, drive};
 use book_core::{GrowFault, MarkState};
 use disk_core::{Choice, ImageLength, PendingBytes, RamDisk};
+use drive_core::{Answer, Fault, Step, drive};
 use flush_core::Tick;
 use pen_core::PenFault;
 use std::alloc::{AllocError, Global};

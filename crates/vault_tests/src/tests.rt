@@ -13,10 +13,10 @@ mod refusals;
 mod scripts;
 mod searches;
 mod sharing;
+mod steps;
 mod threads;
 mod upgrades;
 
-use crate::*;
 use block_core::Touch;
 use disk_core::{Blow, Choice, Disk, FuseDisk, ImageLength, PendingBytes, RamDisk};
 use flush_core::{Lane, Tick};
@@ -26,6 +26,10 @@ use std::alloc::{AllocError, Global};
 use std::process::Abort;
 use std::test::Fail;
 use std::thread::Threads;
+use vault_core::{
+    CrewFault, Crewed, Equals, Gate, Lists, Pick, Source, Vault, VaultFault, count_where, crew,
+    find_first,
+};
 
 type Stopping = FuseDisk<RamDisk>;
 

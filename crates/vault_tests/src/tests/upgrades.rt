@@ -1,12 +1,12 @@
 //! Files of version 1 that are copied into new ones, on disks that stop working.
 
 use super::*;
-use crate::{UpgradeFault, greatest_piece, upgrade};
 use disk_core::{Blow, Disk, DiskFault, FuseDisk};
 use pen_core::OpenFault;
 use record_core::{Flagged, Pair, Record};
 use segment_core::{Cause, ScanFault, Scanned, scan};
 use std::alloc::{AllocError, Global};
+use vault_core::{UpgradeFault, greatest_piece, upgrade};
 
 /// A file of one record, 5, that a live change makes 7.
 const CHANGED: [u8; 56] = [
