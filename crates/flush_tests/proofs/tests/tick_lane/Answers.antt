@@ -1,6 +1,6 @@
 use Rattle.std.proofs.Common.{ap, ◌∙◌}
 use Rattle.book_core.specs.Marks.{MarkEnd}
-use Rattle.flush_core.proofs.tests.tick_lane.Goals as goal
+use Rattle.flush_tests.proofs.tests.tick_lane.Goals as goal
 
 pub returns : goal.returns
 returns g c =

@@ -1,7 +1,7 @@
 use Rattle.std.proofs.Common.{ap, subst, ◌∙◌}
 use Rattle.book_core.specs.Marks.{MarkEnd}
 use Rattle.pen_core.specs.PenOf.{PenOf}
-use Rattle.flush_core.proofs.tests.find_growths.Goals as goal
+use Rattle.flush_tests.proofs.tests.find_growths.Goals as goal
 
 pub returns : goal.returns
 returns g c =

@@ -10,10 +10,10 @@ ghost use Rattle.book_core.specs.Lists as lists;
 ghost use Rattle.book_core.specs.Beginning.{AreNewSeats};
 ghost use Rattle.flush_core.specs.Flusher.{IsFlusherOf};
 
-use super::*;
 use block_core::Fresh;
 use book_core::{Begun, Live, MarkState, Seat};
 use disk_core::{Choice, Disk, ImageLength, PendingBytes, RamDisk};
+use flush_core::{FlushFault, Flusher, Lane, Tick};
 use pen_core::{Pen, PenFault};
 use segment_core::scan;
 use std::alloc::{AllocError, Global};
