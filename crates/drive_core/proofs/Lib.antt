@@ -8,6 +8,7 @@ pub mod PenLanes
 pub mod PenFolds
 pub mod Lanes
 pub mod Seats
+pub mod Fitting
 pub mod Quiet
 pub mod Told
 pub mod LoopRuns
