@@ -72,10 +72,14 @@ IsBlockFault width n Memory = Unit {0}
 IsBlockFault width n Empty = n ≡ 0
 IsBlockFault width n TooLarge = payload_limit < payload_len width n
 
+-- memory for the next growth, or for its thread, may be what a grower wants that has made so many growths
+abbrev pub MayStarve : ℕ → ℕ → Type 0
+MayStarve count m = (m < count) ⊎ (m ≡ 0)
+
 -- why a grower stopped: memory was refused, that of its thread among it; or the growth of the block that comes next wasn't
 -- made
 abbrev pub IsStop : {R : Type 0} → ℕ → Phase R → ℕ → (ℕ → List R) → Seated R → GrowFault → Type 0
-IsStop width live count block seat fault = (fault ≡ Memory) ⊎ ((length seat.made < count) × IsGrowerFault width live seat (length (block (length seat.made))) fault)
+IsStop width live count block seat fault = ((fault ≡ Memory) × MayStarve count (length seat.made)) ⊎ ((length seat.made < count) × IsGrowerFault width live seat (length (block (length seat.made))) fault)
 
 -- The grower of that id has made growths of the first blocks that are named for it, in order, has their receipts, and, where
 -- it stopped by a fault, that.
@@ -123,7 +127,7 @@ IsReason width size count block m Closed = m < count
 IsReason width size count block m Full = m < count
 IsReason width size count block m TooLong = (m < count) × (record_limit < size + length (block m))
 IsReason width size count block m (Strayed k) = m < count
-IsReason width size count block m Memory = Unit {0}
+IsReason width size count block m Memory = MayStarve count m
 IsReason width size count block m Empty = (m < count) × (length (block m) ≡ 0)
 IsReason width size count block m TooLarge = (m < count) × (payload_limit < payload_len width (length (block m)))
 
