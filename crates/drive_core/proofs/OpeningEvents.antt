@@ -16,7 +16,7 @@ use Rattle.segment_core.specs.Shape.{shape_of}
 use Rattle.segment_core.specs.Written.{joined}
 use Rattle.segment_core.specs.Fault.{IsRefused}
 use Rattle.pen_core.specs.PenOf.{PenOf}
-use Rattle.pen_core.specs.Births.{IsExisting, IsNew}
+use Rattle.pen_core.specs.Births.{IsExisting, IsNew, IsCreateFault, StaysUnbornOrEmpty, WritesNothing}
 use Rattle.pen_core.specs.Opening.{IsAtRest, IsOpened, IsOpenRefusal, AreCallsDone, AreCallsMade, calls_of, failed_openings}
 use Rattle.pen_core.specs.Pen.{failed_calls}
 use Rattle.pen_core.specs.Typed.{OpensTo}
@@ -35,7 +35,7 @@ use Rattle.drive_core.specs.Step as step
 use Rattle.drive_core.specs.World.{World, File, Hand, DiskOf, hand_of, vector}
 use Rattle.drive_core.specs.World as worlds
 use Rattle.drive_core.specs.Outcome.{stray_in}
-use Rattle.drive_core.specs.OpeningRows.{opened, empty_file, at_rest, IsCreate, IsOpen, HasRead}
+use Rattle.drive_core.specs.OpeningRows.{opened, empty_file, at_rest, IsMaking, IsCreate, IsOpen, HasRead}
 use Rattle.drive_core.specs.Rows.{ShutRow}
 use Rattle.drive_core.specs.Run.{HasCalls}
 use Rattle.drive_core.specs.Headline.{HasFile, Rests}
@@ -90,12 +90,26 @@ module _ {R D : Type 0} (form : Encoding R) (states : D → List State) (faults 
     rose : (new : D) → faults new ≡ faults disk + 1 → w.disk.faults < (with_disk new).disk.faults
     rose new more = let was = ap (λ (d : DiskOf). d.faults) tie.disk_is in omega (arith, more, was)
 
+    states_are : w.disk.states ≡ states disk
+    states_are = ap (λ (d : DiskOf). d.states) tie.disk_is
+
     bytes_are : bytes_of w.disk.states ≡ bytes_of (states disk)
     bytes_are = ap (λ (d : DiskOf). bytes_of d.states) tie.disk_is
 
     -- ---- a file is made
 
     module _ (format : Format) where
+      -- what the vault promises of the calls, by the world's disk
+      tried : (new : D) → (IsExisting (bytes_of (states disk)) → WritesNothing (states disk) (states new)) → StaysUnbornOrEmpty (shape_of format form) (states disk) (states new) → IsMaking (shape_of format form) w.disk.states (states new)
+      tried new existed born = subst (λ old. IsMaking (shape_of format form) old (states new)) (sym states_are) (record { existed = existed; born = born })
+
+      -- a call was made: so nothing was written where there was a file
+      wrote_nothing : (new : D) → clock (states disk) < clock (states new) → (new ≡ disk) ⊎ WritesNothing (states disk) (states new) → WritesNothing (states disk) (states new)
+      wrote_nothing new some is = elim is [
+        | inl same ↦ absurd (let clocks = ap (λ d. clock (states d)) same in omega (arith, some, clocks))
+        | inr nothing ↦ nothing
+      ]
+
       pub create_answers : (v : VaultOf R D) (answer : Answer R) → answer ≡ step.Fine → IsMade keeps states faults (record { format = format; width = form.width }) disk (Ok v) → (keeps v.pen.disk → (image : List ℕ) → IsImage (now (states v.pen.disk)) image → MayHold form v image)
           → Steps form (keeps v.pen.disk) (λ w'. IsLeft states faults keeps w' (hands.Exclusive v)) w (step.Create format) answer (calls_between (states disk) (states v.pen.disk))
       create_answers v answer is made rests =
@@ -115,7 +129,7 @@ module _ {R D : Type 0} (form : Encoding R) (states : D → List State) (faults 
             disk_is = refl;
           } in
           called v.pen.disk (λ w'. IsLeft states faults keeps w' (hands.Exclusive v)) w' (step.Create format) step.Fine answer n is
-          (inl (inr (inr (inr refl)), (refl, (λ kept existing. made.none_existed kept (subst IsExisting bytes_are existing)), refl)))
+          (inl (inr (inr (inr refl)), (refl, (λ kept existing. made.none_existed kept (subst IsExisting bytes_are existing)), (λ kept. tried v.pen.disk (λ existing. absurd (made.none_existed kept existing)) (made.born kept)), refl)))
           (omega (arith, some), omega (arith, most)) (omega (arith, some)) (omega (arith, most)) (omega (arith, some)) refl tie.calm
           (left_exclusive form states faults keeps w w' v tied) (λ kept has. vault_rests w' v tied kept rests)
         where
@@ -136,27 +150,30 @@ module _ {R D : Type 0} (form : Encoding R) (states : D → List State) (faults 
           (at_phase form states faults keeps w (keeps new) worlds.Shut (step.Create format) (step.Refused (Vault (vault.Pen pen.Memory))) w tie.calm tie.phase_is (inr (Vault (vault.Pen pen.Memory), inl (Vault (vault.Pen pen.Memory), refl, refl), refl, refl)))
           refl refl same tie.calm (left_shut form states faults keeps w w new (record { phase_is = tie.phase_is; calm = tie.calm; disk_is = tie.disk_is ∙ ap (disk_of states faults) (sym same) }))
 
-      existed : (new : D) → clock (states disk) < clock (states new) → clock (states new) ≤ clock (states disk) + 8 → (keeps new → IsExisting (bytes_of (states disk))) → NotMade new (step.Refused (Vault (vault.Pen pen.Exists)))
-      existed new some most existing =
+      existed : (new : D) → clock (states disk) < clock (states new) → clock (states new) ≤ clock (states disk) + 8 → (keeps new → IsExisting (bytes_of (states disk))) → (keeps new → IsMaking (shape_of format form) w.disk.states (states new)) → NotMade new (step.Refused (Vault (vault.Pen pen.Exists)))
+      existed new some most existing making =
           let n : ℕ = clock (states new) - clock (states disk) in
           called new (λ w'. IsLeft states faults keeps w' (hands.Shut new)) (with_disk new) (step.Create format) (step.Refused (Vault (vault.Pen pen.Exists))) (step.Refused (Vault (vault.Pen pen.Exists))) n refl
-          (inr (Vault (vault.Pen pen.Exists), inr (inr (inl (Vault (vault.Pen pen.Exists), refl, refl))), refl, ((λ kept. subst IsExisting (sym bytes_are) (existing kept)), refl)))
+          (inr (Vault (vault.Pen pen.Exists), inr (inr (inl (Vault (vault.Pen pen.Exists), refl, refl))), refl, ((λ kept. subst IsExisting (sym bytes_are) (existing kept)), making, refl)))
           (omega (arith, most)) (omega (arith, some)) (omega (arith, most)) (omega (arith, some)) refl tie.calm (still_shut new) (no_file new)
 
-      disk_failed : (new : D) (cause : DiskFault) → clock (states disk) < clock (states new) → clock (states new) ≤ clock (states disk) + 8 → faults new ≡ faults disk + 1 → NotMade new (step.Refused (Vault (vault.Pen (pen.Disk cause))))
-      disk_failed new cause some most more =
+      disk_failed : (new : D) (cause : DiskFault) → clock (states disk) < clock (states new) → clock (states new) ≤ clock (states disk) + 8 → faults new ≡ faults disk + 1 → (keeps new → IsMaking (shape_of format form) w.disk.states (states new)) → NotMade new (step.Refused (Vault (vault.Pen (pen.Disk cause))))
+      disk_failed new cause some most more making =
           let n : ℕ = clock (states new) - clock (states disk) in
           called new (λ w'. IsLeft states faults keeps w' (hands.Shut new)) (with_disk new) (step.Create format) (step.Refused (Vault (vault.Pen (pen.Disk cause)))) (step.Refused (Vault (vault.Pen (pen.Disk cause)))) n refl
-          (inr (Vault (vault.Pen (pen.Disk cause)), inr (inl (Vault (vault.Pen (pen.Disk cause)), refl, refl)), refl, (rose new more, refl)))
+          (inr (Vault (vault.Pen (pen.Disk cause)), inr (inl (Vault (vault.Pen (pen.Disk cause)), refl, refl)), refl, (rose new more, making, refl)))
           (omega (arith, some), omega (arith, most)) (omega (arith, some)) (omega (arith, most)) (omega (arith, some)) refl tie.calm (still_shut new) (no_file new)
+
+      making : (new : D) (fault : PenFault) → IsMade {R = R} keeps states faults (record { format = format; width = form.width }) disk (Err (new, fault)) → IsCreateFault fault → keeps new → IsMaking (shape_of format form) w.disk.states (states new)
+      making new fault made is kept = tried new (λ existing. wrote_nothing new (made.later is) (made.existed kept existing)) (made.born kept)
 
       pub create_refuses : (new : D) (fault : PenFault) (answer : Answer R) → answer ≡ step.Refused (Vault (vault.Pen fault)) → IsMade {R = R} keeps states faults (record { format = format; width = form.width }) disk (Err (new, fault)) → NotMade new answer
       create_refuses new fault answer is made = elim made.refused [
         | inl memory ↦ subst (NotMade new) (sym (is ∙ ap (λ f. step.Refused (Vault (vault.Pen f))) memory.0)) (no_memory new memory.1)
         | inr other ↦ elim other [
-          | inl exists ↦ subst (NotMade new) (sym (is ∙ ap (λ f. step.Refused (Vault (vault.Pen f))) exists)) (existed new (made.later (inl exists)) made.time (λ kept. made.exists kept exists))
+          | inl exists ↦ subst (NotMade new) (sym (is ∙ ap (λ f. step.Refused (Vault (vault.Pen f))) exists)) (existed new (made.later (inl exists)) made.time (λ kept. made.exists kept exists) (making new fault made (inl exists)))
           | inr failed ↦ subst (NotMade new) (sym (is ∙ ap (λ f. step.Refused (Vault (vault.Pen f))) failed.1))
-              (disk_failed new failed.0 (made.later (inr (failed.0, failed.1))) made.time (made.failed ∙ ap (λ f. faults disk + failed_calls f) failed.1))
+              (disk_failed new failed.0 (made.later (inr (failed.0, failed.1))) made.time (made.failed ∙ ap (λ f. faults disk + failed_calls f) failed.1) (making new fault made (inr (failed.0, failed.1))))
         ]
       ]
 
