@@ -35,7 +35,7 @@ use Rattle.drive_core.specs.Step as step
 use Rattle.drive_core.specs.World.{World, File, Hand, DiskOf, hand_of, vector}
 use Rattle.drive_core.specs.World as worlds
 use Rattle.drive_core.specs.Outcome.{stray_in}
-use Rattle.drive_core.specs.OpeningRows.{opened, empty_file, at_rest, IsMaking, IsCreate, IsOpen, HasRead}
+use Rattle.drive_core.specs.OpeningRows.{opened, empty_file, at_rest, IsMaking, AreCallsTo, IsCreate, IsOpen, HasRead}
 use Rattle.drive_core.specs.Rows.{ShutRow}
 use Rattle.drive_core.specs.Run.{HasCalls}
 use Rattle.drive_core.specs.Headline.{HasFile, Rests}
@@ -100,8 +100,8 @@ module _ {R D : Type 0} (form : Encoding R) (states : D → List State) (faults 
 
     module _ (format : Format) where
       -- what the vault promises of the calls, by the world's disk
-      tried : (new : D) → (IsExisting (bytes_of (states disk)) → WritesNothing (states disk) (states new)) → StaysUnbornOrEmpty (shape_of format form) (states disk) (states new) → IsMaking (shape_of format form) w.disk.states (states new)
-      tried new existed born = subst (λ old. IsMaking (shape_of format form) old (states new)) (sym states_are) (record { existed = existed; born = born })
+      tried : (new : D) (ended : Option PenFault) → (IsExisting (bytes_of (states disk)) → WritesNothing (states disk) (states new)) → StaysUnbornOrEmpty (shape_of format form) (states disk) (states new) → AreCallsTo (bytes_of (states disk)) ended (clock (states new) - clock (states disk)) → IsMaking (shape_of format form) ended w.disk.states (states new)
+      tried new ended existed born calls = subst (λ old. IsMaking (shape_of format form) ended old (states new)) (sym states_are) (record { existed = existed; born = born; calls = calls })
 
       -- a call was made: so nothing was written where there was a file
       wrote_nothing : (new : D) → clock (states disk) < clock (states new) → (new ≡ disk) ⊎ WritesNothing (states disk) (states new) → WritesNothing (states disk) (states new)
@@ -129,7 +129,7 @@ module _ {R D : Type 0} (form : Encoding R) (states : D → List State) (faults 
             disk_is = refl;
           } in
           called v.pen.disk (λ w'. IsLeft states faults keeps w' (hands.Exclusive v)) w' (step.Create format) step.Fine answer n is
-          (inl (inr (inr (inr refl)), (refl, (λ kept existing. made.none_existed kept (subst IsExisting bytes_are existing)), (λ kept. tried v.pen.disk (λ existing. absurd (made.none_existed kept existing)) (made.born kept)), refl)))
+          (inl (inr (inr (inr refl)), (refl, (λ kept existing. made.none_existed kept (subst IsExisting bytes_are existing)), (λ kept. tried v.pen.disk None (λ existing. absurd (made.none_existed kept existing)) (made.born kept) (let all = made.calls kept in omega (arith, all))), refl)))
           (omega (arith, some), omega (arith, most)) (omega (arith, some)) (omega (arith, most)) (omega (arith, some)) refl tie.calm
           (left_exclusive form states faults keeps w w' v tied) (λ kept has. vault_rests w' v tied kept rests)
         where
@@ -150,30 +150,32 @@ module _ {R D : Type 0} (form : Encoding R) (states : D → List State) (faults 
           (at_phase form states faults keeps w (keeps new) worlds.Shut (step.Create format) (step.Refused (Vault (vault.Pen pen.Memory))) w tie.calm tie.phase_is (inr (Vault (vault.Pen pen.Memory), inl (Vault (vault.Pen pen.Memory), refl, refl), refl, refl)))
           refl refl same tie.calm (left_shut form states faults keeps w w new (record { phase_is = tie.phase_is; calm = tie.calm; disk_is = tie.disk_is ∙ ap (disk_of states faults) (sym same) }))
 
-      existed : (new : D) → clock (states disk) < clock (states new) → clock (states new) ≤ clock (states disk) + 8 → (keeps new → IsExisting (bytes_of (states disk))) → (keeps new → IsMaking (shape_of format form) w.disk.states (states new)) → NotMade new (step.Refused (Vault (vault.Pen pen.Exists)))
+      existed : (new : D) → clock (states disk) < clock (states new) → clock (states new) ≤ clock (states disk) + 8 → (keeps new → IsExisting (bytes_of (states disk))) → (keeps new → IsMaking (shape_of format form) (Some pen.Exists) w.disk.states (states new)) → NotMade new (step.Refused (Vault (vault.Pen pen.Exists)))
       existed new some most existing making =
           let n : ℕ = clock (states new) - clock (states disk) in
           called new (λ w'. IsLeft states faults keeps w' (hands.Shut new)) (with_disk new) (step.Create format) (step.Refused (Vault (vault.Pen pen.Exists))) (step.Refused (Vault (vault.Pen pen.Exists))) n refl
           (inr (Vault (vault.Pen pen.Exists), inr (inr (inl (Vault (vault.Pen pen.Exists), refl, refl))), refl, ((λ kept. subst IsExisting (sym bytes_are) (existing kept)), making, refl)))
           (omega (arith, most)) (omega (arith, some)) (omega (arith, most)) (omega (arith, some)) refl tie.calm (still_shut new) (no_file new)
 
-      disk_failed : (new : D) (cause : DiskFault) → clock (states disk) < clock (states new) → clock (states new) ≤ clock (states disk) + 8 → faults new ≡ faults disk + 1 → (keeps new → IsMaking (shape_of format form) w.disk.states (states new)) → NotMade new (step.Refused (Vault (vault.Pen (pen.Disk cause))))
+      disk_failed : (new : D) (cause : DiskFault) → clock (states disk) < clock (states new) → clock (states new) ≤ clock (states disk) + 8 → faults new ≡ faults disk + 1 → (keeps new → IsMaking (shape_of format form) (Some (pen.Disk cause)) w.disk.states (states new)) → NotMade new (step.Refused (Vault (vault.Pen (pen.Disk cause))))
       disk_failed new cause some most more making =
           let n : ℕ = clock (states new) - clock (states disk) in
           called new (λ w'. IsLeft states faults keeps w' (hands.Shut new)) (with_disk new) (step.Create format) (step.Refused (Vault (vault.Pen (pen.Disk cause)))) (step.Refused (Vault (vault.Pen (pen.Disk cause)))) n refl
           (inr (Vault (vault.Pen (pen.Disk cause)), inr (inl (Vault (vault.Pen (pen.Disk cause)), refl, refl)), refl, (rose new more, making, refl)))
           (omega (arith, some), omega (arith, most)) (omega (arith, some)) (omega (arith, most)) (omega (arith, some)) refl tie.calm (still_shut new) (no_file new)
 
-      making : (new : D) (fault : PenFault) → IsMade {R = R} keeps states faults (record { format = format; width = form.width }) disk (Err (new, fault)) → IsCreateFault fault → keeps new → IsMaking (shape_of format form) w.disk.states (states new)
-      making new fault made is kept = tried new (λ existing. wrote_nothing new (made.later is) (made.existed kept existing)) (made.born kept)
+      making : (new : D) (fault told : PenFault) → fault ≡ told → IsMade {R = R} keeps states faults (record { format = format; width = form.width }) disk (Err (new, fault)) → IsCreateFault fault → keeps new → IsMaking (shape_of format form) (Some told) w.disk.states (states new)
+      making new fault told same made is kept =
+          subst (λ f. IsMaking (shape_of format form) (Some f) w.disk.states (states new)) same
+          (tried new (Some fault) (λ existing. wrote_nothing new (made.later is) (made.existed kept existing)) (made.born kept) (made.calls kept))
 
       pub create_refuses : (new : D) (fault : PenFault) (answer : Answer R) → answer ≡ step.Refused (Vault (vault.Pen fault)) → IsMade {R = R} keeps states faults (record { format = format; width = form.width }) disk (Err (new, fault)) → NotMade new answer
       create_refuses new fault answer is made = elim made.refused [
         | inl memory ↦ subst (NotMade new) (sym (is ∙ ap (λ f. step.Refused (Vault (vault.Pen f))) memory.0)) (no_memory new memory.1)
         | inr other ↦ elim other [
-          | inl exists ↦ subst (NotMade new) (sym (is ∙ ap (λ f. step.Refused (Vault (vault.Pen f))) exists)) (existed new (made.later (inl exists)) made.time (λ kept. made.exists kept exists) (making new fault made (inl exists)))
+          | inl exists ↦ subst (NotMade new) (sym (is ∙ ap (λ f. step.Refused (Vault (vault.Pen f))) exists)) (existed new (made.later (inl exists)) made.time (λ kept. made.exists kept exists) (making new fault pen.Exists exists made (inl exists)))
           | inr failed ↦ subst (NotMade new) (sym (is ∙ ap (λ f. step.Refused (Vault (vault.Pen f))) failed.1))
-              (disk_failed new failed.0 (made.later (inr (failed.0, failed.1))) made.time (made.failed ∙ ap (λ f. faults disk + failed_calls f) failed.1) (making new fault made (inr (failed.0, failed.1))))
+              (disk_failed new failed.0 (made.later (inr (failed.0, failed.1))) made.time (made.failed ∙ ap (λ f. faults disk + failed_calls f) failed.1) (making new fault (pen.Disk failed.0) failed.1 made (inr (failed.0, failed.1))))
         ]
       ]
 

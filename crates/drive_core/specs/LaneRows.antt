@@ -37,7 +37,7 @@ module _ {R : Type 0} where
   abbrev pub folding : World R → FoldOf → World R
   folding w fold = record w { hand = record w.hand { fold = Some fold } }
 
-  -- The writes fold all live changes of the file: of the frames and the vector that a crash now leaves, with or without the
+  -- The writes fold all live changes of the file: of the frames and the vector to which each image of now opens, but for the
   -- job in hand.
   pub record FoldsFile (w : World R) (left : List HomeWrite) : Type 0 where
     pub frames : List Frame
