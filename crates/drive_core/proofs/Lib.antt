@@ -20,6 +20,7 @@ pub mod Viewed
 pub mod Worked
 pub mod WorkedSteps
 pub mod WorkedLines
+pub mod Stopped
 pub mod WorkedHeadline
 pub mod Looked
 pub mod LookedSeat
