@@ -59,10 +59,10 @@ module _ {R : Type 0} (form : Encoding R) where
     not_created shape w w' (Scan fault) shut by = absurd by
 
     not_opened : (w w' : World R) (fault : Fault) → w.phase ≡ Shut → NotOpened form keeps w w' fault → w'.phase ≡ Shut
-    not_opened w w' (Vault (vault.Pen (pen_fault.Disk fault))) shut by = ap (λ x. x.phase) by.1 ∙ shut
+    not_opened w w' (Vault (vault.Pen (pen_fault.Disk fault))) shut by = ap (λ x. x.phase) by.2 ∙ shut
     not_opened w w' (Vault other) shut by = absurd by
     not_opened w w' (Grow fault) shut by = absurd by
-    not_opened w w' (Scan fault) shut by = ap (λ x. x.phase) by.1 ∙ shut
+    not_opened w w' (Scan fault) shut by = ap (λ x. x.phase) by.2 ∙ shut
 
     shut_row : (w w' : World R) (n : ℕ) (asked : Step R) (answer : Answer R) → w.phase ≡ Shut → HasCalls w asked answer n → ShutRow form keeps w asked answer w' → (w'.phase ≡ Shut) ⊎ (0 < n)
     shut_row w w' n (step.Create format) answer shut calls row = elim row [

@@ -48,15 +48,15 @@ module _ {R : Type 0} (form : Encoding R) where
 
     open_weaker : (w : World R) (answer : Answer R) (w' : World R) → IsOpen form before w answer w' → IsOpen form now w answer w'
     open_weaker w answer w' row = elim row [
-      | inl ok ↦ inl (ok.0, (ok.1.0, ok.1.1, ok.1.2, (λ k. ok.1.3 (goes_back k)), ok.1.4))
+      | inl ok ↦ inl (ok.0, (ok.1.0, ok.1.1, ok.1.2, (λ k. ok.1.3 (goes_back k)), (λ k. ok.1.4 (goes_back k)), ok.1.5))
       | inr no_ ↦ inr (no_.0, no_.1, no_.2, refused no_.0 no_.3)
     ]
       where
         refused : (fault : Fault) → NotOpened form before w w' fault → NotOpened form now w w' fault
-        refused (Vault (vault.Pen (pen_fault.Disk fault))) by = by
+        refused (Vault (vault.Pen (pen_fault.Disk fault))) by = (by.0, (λ k. by.1 (goes_back k)), by.2)
         refused (Vault other) by = by
         refused (Grow fault) by = by
-        refused (Scan fault) by = ((λ k. by.0 (goes_back k)), by.1)
+        refused (Scan fault) by = ((λ k. by.0 (goes_back k)), (λ k. by.1 (goes_back k)), by.2)
 
     shut_weaker : (w : World R) (asked : Step R) (answer : Answer R) (w' : World R) → ShutRow form before w asked answer w' → ShutRow form now w asked answer w'
     shut_weaker w (step.Create format) answer w' row = create_weaker w format answer w' row

@@ -17,7 +17,7 @@ use Rattle.segment_core.specs.Written.{joined}
 use Rattle.segment_core.specs.Fault.{IsRefused}
 use Rattle.pen_core.specs.PenOf.{PenOf}
 use Rattle.pen_core.specs.Births.{IsExisting, IsNew, IsCreateFault, StaysUnbornOrEmpty, WritesNothing}
-use Rattle.pen_core.specs.Opening.{IsAtRest, IsOpened, IsOpenRefusal, AreCallsDone, AreCallsMade, calls_of, failed_openings}
+use Rattle.pen_core.specs.Opening.{OnlySyncs, IsAtRest, IsOpened, IsOpenRefusal, AreCallsDone, AreCallsMade, calls_of, failed_openings}
 use Rattle.pen_core.specs.Pen.{failed_calls}
 use Rattle.pen_core.specs.Typed.{OpensTo}
 use Rattle.pen_core.specs.declared.fault.PenFault.{PenFault}
@@ -181,6 +181,9 @@ module _ {R D : Type 0} (form : Encoding R) (states : D → List State) (faults 
 
     -- ---- a file is opened
 
+    looked : (new : D) → (keeps new → OnlySyncs (states disk) (states new)) → keeps new → OnlySyncs w.disk.states (states new)
+    looked new syncs kept = subst (λ old. OnlySyncs old (states new)) (sym states_are) (syncs kept)
+
     read_file : (format : Format) (p : PenOf D) (bytes : List ℕ) (base : List R) → (o : IsOpened form bytes p base) → HasRead form bytes base (hand_of p).file
     read_file format p bytes base o = record {
       format = o.format;
@@ -189,10 +192,10 @@ module _ {R D : Type 0} (form : Encoding R) (states : D → List State) (faults 
       file_is = λ i. record { shape = o.shape_is i; gate = o.gate_is i; changes = (o.tally_is i).changes; folded = (o.tally_is i).folded };
     }
 
-    pub open_answers : (v : VaultOf R D) (size : ℕ) (answer : Answer R) → answer ≡ step.Size size → size ≡ length (list_of v) → IsAtRest form.width (length (list_of v)) v.pen → (keeps v.pen.disk → IsOpened form (bytes_of (states disk)) v.pen (list_of v)) → (keeps v.pen.disk → v.sure ≡ list_of v)
+    pub open_answers : (v : VaultOf R D) (size : ℕ) (answer : Answer R) → answer ≡ step.Size size → size ≡ length (list_of v) → IsAtRest form.width (length (list_of v)) v.pen → (keeps v.pen.disk → IsOpened form (bytes_of (states disk)) v.pen (list_of v)) → (keeps v.pen.disk → v.sure ≡ list_of v) → (keeps v.pen.disk → OnlySyncs (states disk) (states v.pen.disk))
         → (len : ℕ) → AreCallsDone len (clock (states v.pen.disk) - clock (states disk)) → (keeps v.pen.disk → (image : List ℕ) → IsImage (now (states v.pen.disk)) image → MayHold form v image)
         → Steps form (keeps v.pen.disk) (λ w'. IsLeft states faults keeps w' (hands.Exclusive v)) w step.Open answer (calls_between (states disk) (states v.pen.disk))
-    open_answers v size answer is long rest read sure len calls rests =
+    open_answers v size answer is long rest read sure syncs len calls rests =
         let n : ℕ = clock (states v.pen.disk) - clock (states disk) in
         let two = calls.0 in
         let w' : World R = record (opened w (list_of v) (hand_of v.pen).file) { disk = disk_of states faults v.pen.disk } in
@@ -208,19 +211,19 @@ module _ {R D : Type 0} (form : Encoding R) (states : D → List State) (faults 
           disk_is = refl;
         } in
         called v.pen.disk (λ w'. IsLeft states faults keeps w' (hands.Exclusive v)) w' step.Open (step.Size size) answer n is
-        (inl (inr (inr refl), (list_of v, (hand_of v.pen).file, ap step.Size long, (λ kept. subst (λ bytes. HasRead form bytes (list_of v) (hand_of v.pen).file) (sym bytes_are) (let o = read kept in read_file o.format v.pen (bytes_of (states disk)) (list_of v) o)), refl)))
+        (inl (inr (inr refl), (list_of v, (hand_of v.pen).file, ap step.Size long, (λ kept. subst (λ bytes. HasRead form bytes (list_of v) (hand_of v.pen).file) (sym bytes_are) (let o = read kept in read_file o.format v.pen (bytes_of (states disk)) (list_of v) o)), looked v.pen.disk syncs, refl)))
         (omega (arith, two)) (omega (arith, two)) (few_pieces len n calls.1 calls.2) (omega (arith, two)) refl tie.calm
         (left_exclusive form states faults keeps w w' v tied) (λ kept has. vault_rests w' v tied kept rests)
 
     abbrev NotOpen : D → Answer R → Type 0
     NotOpen new answer = Steps form (keeps new) (λ w'. IsLeft states faults keeps w' (hands.Shut new)) w step.Open answer (calls_between (states disk) (states new))
 
-    pub open_scans : (new : D) (fault : ScanFault) (answer : Answer R) → answer ≡ step.Refused (Scan fault) → (keeps new → IsRefused form (bytes_of (states disk)) fault) → (len : ℕ) → AreCallsMade len (openings.Scan fault) (clock (states new) - clock (states disk)) → NotOpen new answer
-    open_scans new fault answer is refused len calls =
+    pub open_scans : (new : D) (fault : ScanFault) (answer : Answer R) → answer ≡ step.Refused (Scan fault) → (keeps new → IsRefused form (bytes_of (states disk)) fault) → (keeps new → OnlySyncs (states disk) (states new)) → (len : ℕ) → AreCallsMade len (openings.Scan fault) (clock (states new) - clock (states disk)) → NotOpen new answer
+    open_scans new fault answer is refused syncs len calls =
         let n : ℕ = clock (states new) - clock (states disk) in
         let two = calls.0 in
         called new (λ w'. IsLeft states faults keeps w' (hands.Shut new)) (with_disk new) step.Open (step.Refused (Scan fault)) answer n is
-        (inr (Scan fault, inr (inl (Scan fault, refl, refl)), refl, ((λ kept. subst (λ bytes. IsRefused form bytes fault) (sym bytes_are) (refused kept)), refl)))
+        (inr (Scan fault, inr (inl (Scan fault, refl, refl)), refl, ((λ kept. subst (λ bytes. IsRefused form bytes fault) (sym bytes_are) (refused kept)), looked new syncs, refl)))
         (omega (arith, two)) (omega (arith, two)) (few_pieces len n calls.1 calls.2) (omega (arith, two)) refl tie.calm (still_shut new) (no_file new)
 
     calls_made : (len n : ℕ) (cause : DiskFault) → AreCallsMade len (openings.Disk cause) n → (0 < n) × (n < 2 ^ 64)
@@ -229,15 +232,15 @@ module _ {R D : Type 0} (form : Encoding R) (states : D → List State) (faults 
     calls_made len n causes.Read is = (let more = is.0 in omega (arith, more), few_pieces len n is.1 is.2)
     calls_made len n causes.Write is = absurd is
 
-    pub open_fails : (new : D) (cause : DiskFault) (answer : Answer R) → answer ≡ step.Refused (Vault (vault.Pen (pen.Disk cause))) → faults new ≡ faults disk + 1 → (len : ℕ) → AreCallsMade len (openings.Disk cause) (clock (states new) - clock (states disk)) → NotOpen new answer
-    open_fails new cause answer is more len calls =
+    pub open_fails : (new : D) (cause : DiskFault) (answer : Answer R) → answer ≡ step.Refused (Vault (vault.Pen (pen.Disk cause))) → faults new ≡ faults disk + 1 → (keeps new → OnlySyncs (states disk) (states new)) → (len : ℕ) → AreCallsMade len (openings.Disk cause) (clock (states new) - clock (states disk)) → NotOpen new answer
+    open_fails new cause answer is more syncs len calls =
         let n : ℕ = clock (states new) - clock (states disk) in
         let made = calls_made len n cause calls in
         let some = made.0 in
         called new (λ w'. IsLeft states faults keeps w' (hands.Shut new)) (with_disk new) step.Open (step.Refused (Vault (vault.Pen (pen.Disk cause)))) answer n is
-        (inr (Vault (vault.Pen (pen.Disk cause)), inl (Vault (vault.Pen (pen.Disk cause)), refl, refl), refl, (rose new more, refl)))
+        (inr (Vault (vault.Pen (pen.Disk cause)), inl (Vault (vault.Pen (pen.Disk cause)), refl, refl), refl, (rose new more, looked new syncs, refl)))
         (omega (arith, some)) (omega (arith, some)) made.1 some refl tie.calm (still_shut new) (no_file new)
 
-    pub open_refuses : (new : D) (fault : OpenFault) (answer : Answer R) → answer ≡ step.Refused (of_open fault) → (keeps new → IsOpenRefusal form (bytes_of (states disk)) fault) → faults new ≡ faults disk + failed_openings fault → (len : ℕ) → AreCallsMade len fault (clock (states new) - clock (states disk)) → NotOpen new answer
-    open_refuses new (openings.Scan fault) answer is refused more len calls = open_scans new fault answer is refused len calls
-    open_refuses new (openings.Disk cause) answer is refused more len calls = open_fails new cause answer is more len calls
+    pub open_refuses : (new : D) (fault : OpenFault) (answer : Answer R) → answer ≡ step.Refused (of_open fault) → (keeps new → IsOpenRefusal form (bytes_of (states disk)) fault) → faults new ≡ faults disk + failed_openings fault → (keeps new → OnlySyncs (states disk) (states new)) → (len : ℕ) → AreCallsMade len fault (clock (states new) - clock (states disk)) → NotOpen new answer
+    open_refuses new (openings.Scan fault) answer is refused more syncs len calls = open_scans new fault answer is refused syncs len calls
+    open_refuses new (openings.Disk cause) answer is refused more syncs len calls = open_fails new cause answer is more syncs len calls

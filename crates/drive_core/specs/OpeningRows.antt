@@ -12,6 +12,7 @@ use Rattle.segment_core.specs.Tally.{tally_of}
 use Rattle.segment_core.specs.Vector.{HasVector}
 use Rattle.segment_core.specs.Fault.{IsRefused}
 use Rattle.pen_core.specs.Held.{gate_of}
+use Rattle.pen_core.specs.Opening.{OnlySyncs}
 use Rattle.pen_core.specs.Births.{IsExisting, StaysUnbornOrEmpty, WritesNothing, AreCallsUntil, calls_of_creation}
 use Rattle.pen_core.specs.declared.fault.PenFault.{PenFault}
 use Rattle.pen_core.specs.declared.fault.PenFault.TheVariants as pen_fault
@@ -70,13 +71,17 @@ module _ {R : Type 0} (form : Encoding R) where
     pub vector : HasVector format form bytes frames base
     pub file_is : file ≡ record { shape = shape_of format form; gate = gate_of (shape_of format form) frames; changes = (tally_of frames).changes; folded = (tally_of frames).folded }
 
+  -- nothing is written: a crash within the opening leaves what it might have left before
+  abbrev pub HasLooked : Type 0 → World R → World R → Type 0
+  HasLooked keeps w w' = keeps → OnlySyncs w.disk.states w'.disk.states
+
   abbrev pub NotOpened : Type 0 → World R → World R → Fault → Type 0
-  NotOpened keeps w w' (Vault (vault.Pen (pen_fault.Disk fault))) = HasFailed w w' × (w' ≡ elsewhere w w')
+  NotOpened keeps w w' (Vault (vault.Pen (pen_fault.Disk fault))) = HasFailed w w' × HasLooked keeps w w' × (w' ≡ elsewhere w w')
   NotOpened keeps w w' (Vault other) = ⊥
   NotOpened keeps w w' (InGrow fault) = ⊥
-  NotOpened keeps w w' (Scan fault) = (keeps → IsRefused form (bytes_of w.disk.states) fault) × (w' ≡ elsewhere w w')
+  NotOpened keeps w w' (Scan fault) = (keeps → IsRefused form (bytes_of w.disk.states) fault) × HasLooked keeps w w' × (w' ≡ elsewhere w w')
 
   abbrev pub IsOpen : Type 0 → World R → Answer R → World R → Type 0
   IsOpen keeps w answer w' = Outcome (Might is_disk ∷ Might is_scan ∷ []) answer
-      ((base : List R) × (file : File) × (answer ≡ step.Size (length base)) × (keeps → HasRead (bytes_of w.disk.states) base file) × (w' ≡ elsewhere (opened w base file) w'))
+      ((base : List R) × (file : File) × (answer ≡ step.Size (length base)) × (keeps → HasRead (bytes_of w.disk.states) base file) × HasLooked keeps w w' × (w' ≡ elsewhere (opened w base file) w'))
       (NotOpened keeps w w')
