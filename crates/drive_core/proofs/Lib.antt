@@ -19,6 +19,8 @@ pub mod Folds
 pub mod Viewed
 pub mod Worked
 pub mod WorkedSteps
+pub mod WorkedLines
+pub mod Stopped
 pub mod WorkedHeadline
 pub mod Looked
 pub mod LookedSeat

@@ -50,7 +50,7 @@ idle_job p is = at p.broken p.job is
 -- ---- a step without a device call
 
 module _ {R D : Type 0} (form : Encoding R) (states : D → List State) (faults : D → ℕ) (keeps : Type 0) (w : World R) (phase : Growth) (calm : w.strayed ≡ None) (phase_is : w.phase ≡ Growing phase) where
-  pub quiet_steps : (w' : World R) (g' : GrowingOf R D) (asked : Step R) (answer : Answer R) → GrowthRow form w phase asked answer w' → HasCalls w asked answer 0 → w'.disk ≡ w.disk → w'.strayed ≡ stray_in answer → IsBehind states faults w' g'
+  pub quiet_steps : (w' : World R) (g' : GrowingOf R D) (asked : Step R) (answer : Answer R) → GrowthRow form keeps w phase asked answer w' → HasCalls w asked answer 0 → w'.disk ≡ w.disk → w'.strayed ≡ stray_in answer → IsBehind states faults w' g'
       → Steps form keeps (λ w'. IsBehind states faults w' g') w asked answer 0
   quiet_steps w' g' asked answer row calls same stray tied = record {
     after = w';
