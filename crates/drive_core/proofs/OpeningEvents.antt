@@ -1,5 +1,5 @@
 -- Files that are made and opened.
-use Rattle.std.proofs.Common.{◌≡◌, ◌⊎◌, inl, inr, ℕ, ◌+◌, ◌-◌, ◌/◌, ◌≤◌, ◌<◌, ◌^◌, List, [], ◌∷◌, length, take, Option, Some, None, refl, sym, ap, subst, ◌∙◌, arith}
+use Rattle.std.proofs.Common.{◌≡◌, ◌⊎◌, inl, inr, ℕ, ◌+◌, ◌-◌, ◌≤◌, ◌<◌, ◌^◌, List, [], length, Option, Some, None, refl, sym, ap, subst, ◌∙◌, arith}
 use Rattle.std.specs.Prelude.{Ok, Err}
 use Rattle.std.proofs.Math.Seq.{take-length}
 use Rattle.record_core.specs.Bytes.{Encoding}
@@ -10,7 +10,6 @@ use Rattle.disk_core.specs.declared.fault.DiskFault.{DiskFault}
 use Rattle.disk_core.specs.declared.fault.DiskFault.TheVariants as causes
 use Rattle.segment_core.specs.declared.format.Format.{Format}
 use Rattle.segment_core.specs.declared.fault.ScanFault.{ScanFault}
-use Rattle.segment_core.specs.declared.tally.Tally.{Tally}
 use Rattle.segment_core.specs.Command.{content}
 use Rattle.segment_core.specs.Shape.{shape_of}
 use Rattle.segment_core.specs.Written.{joined}
@@ -35,7 +34,7 @@ use Rattle.drive_core.specs.Step as step
 use Rattle.drive_core.specs.World.{World, File, Hand, DiskOf, hand_of, vector}
 use Rattle.drive_core.specs.World as worlds
 use Rattle.drive_core.specs.Outcome.{stray_in}
-use Rattle.drive_core.specs.OpeningRows.{opened, empty_file, at_rest, IsMaking, AreCallsTo, IsCreate, IsOpen, HasRead}
+use Rattle.drive_core.specs.OpeningRows.{opened, empty_file, at_rest, IsMaking, AreCallsTo, HasRead}
 use Rattle.drive_core.specs.Rows.{ShutRow}
 use Rattle.drive_core.specs.Run.{HasCalls}
 use Rattle.drive_core.specs.Headline.{HasFile, Rests}

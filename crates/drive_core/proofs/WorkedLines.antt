@@ -1,5 +1,5 @@
 -- Worked lines: which faults each kind has, which answers a row may give, and which counts of calls.
-use Rattle.std.proofs.Common.{◌≡◌, ◌⊎◌, inl, inr, ℕ, zero, suc, ◌+◌, ◌-◌, ◌≤◌, Bool, true, false, List, [], ◌∷◌, length, Option, Some, None, refl, ap, sym, ◌∙◌, arith}
+use Rattle.std.proofs.Common.{◌≡◌, ◌⊎◌, inl, inr, ℕ, zero, suc, ◌-◌, ◌≤◌, Bool, true, false, List, [], ◌∷◌, length, Option, Some, None, refl, ap, ◌∙◌, arith}
 use Rattle.std.proofs.lemmas.Option.{same_Some}
 use Rattle.std.specs.Prelude.{replicate, slice_get}
 use Rattle.disk_core.specs.declared.fault.DiskFault.{DiskFault}
@@ -8,7 +8,6 @@ use Rattle.segment_core.specs.declared.fault.ScanFault.{ScanFault}
 use Rattle.pen_core.specs.Births.{calls_of_creation}
 use Rattle.pen_core.specs.declared.fault.PenFault.TheVariants as pen
 use Rattle.book_core.specs.declared.fault.GrowFault.TheVariants as grow
-use Rattle.book_core.specs.declared.mark.MarkState.{MarkState}
 use Rattle.book_core.specs.declared.mark.MarkState.TheVariants.{Running, Ended}
 use Rattle.vault_core.specs.declared.fault.VaultFault.TheVariants as vault
 use Rattle.drive_core.specs.declared.fault.Fault.{Fault}
