@@ -21,7 +21,7 @@ use Rattle.drive_core.specs.World.{World, Hand, Growth, vector_at}
 use Rattle.drive_core.specs.Outcome.{elsewhere}
 use Rattle.drive_core.specs.GrowthRows.{within, knowing, put_lines, IsLook, IsSettled}
 use Rattle.drive_core.specs.LaneRows.{device_lines}
-use Rattle.drive_core.specs.OpeningRows.{AreCallsTo}
+use Rattle.drive_core.specs.OpeningRows.{AreCallsOfMaking}
 use Rattle.drive_core.specs.Run.{CreateCalls, OpenFaultCalls}
 use Rattle.drive_core.proofs.WorkedSteps.{shared, two, phase_of}
 
@@ -224,13 +224,13 @@ fails_at_a_call : (cause : DiskFault) → OpenFaultCalls (Vault (vault.Pen (pen.
 fails_at_a_call cause calls = omega (arith, calls)
 
 -- where the disk has no byte a creation makes eight calls, and where it has thirteen it finds the file by the second
-creates_in : (n : ℕ) → AreCallsTo [] None n → n ≡ 8
+creates_in : (n : ℕ) → AreCallsOfMaking [] None n → n ≡ 8
 creates_in n calls = calls
 
 abbrev thirteen : List ℕ
 thirteen = replicate 13 0
 
-finds_by_length : (n : ℕ) → AreCallsTo thirteen (Some pen.Exists) n → n ≡ 2
+finds_by_length : (n : ℕ) → AreCallsOfMaking thirteen (Some pen.Exists) n → n ≡ 2
 finds_by_length n calls = elim calls [
   | inl length ↦ (let place = the_second (n - 1) length.1.1 in let some = length.1.0 in omega (arith, place, some))
   | inr read ↦ absurd (let few = read.0 in omega (arith, few))
