@@ -1,5 +1,5 @@
 -- A change to given records, as the command that it is.
-use Rattle.std.proofs.Common.{◌≡◌, ◌⊎◌, inl, inr, ℕ, zero, suc, ◌+◌, ◌≤◌, ◌<◌, Bool, true, false, ◌&&◌, not, List, [], ◌∷◌, ◌++◌, length, map, Option, Some, None, refl, sym, ap, subst, ◌∙◌, arith}
+use Rattle.std.proofs.Common.{◌≡◌, ℕ, Bool, true, false, not, List, length, map, Some, None, refl, sym, ap, ◌∙◌}
 use Rattle.std.specs.Prelude.{Ok, Err, nat_lt}
 use Rattle.std.specs.List.{list_all, flat_map}
 use Rattle.std.proofs.lemmas.Bool.{and_parts}
@@ -9,12 +9,11 @@ use Rattle.disk_core.specs.State.{State, IsImage, now}
 use Rattle.segment_core.specs.Frame.{Run, Frame}
 use Rattle.segment_core.specs.Frame as frames
 use Rattle.segment_core.specs.Tally.{are_ascending, are_inside}
-use Rattle.segment_core.specs.Command.{Command, Change, after_command}
+use Rattle.segment_core.specs.Command.{Change, after_command}
 use Rattle.segment_core.specs.Written.{joined}
-use Rattle.pen_core.specs.PenOf.{PenOf}
 use Rattle.pen_core.specs.Refusals.{first_refusal, change_lines}
 use Rattle.vault_core.specs.declared.fault.VaultFault.{VaultFault}
-use Rattle.vault_core.specs.Touched.{IsTouched, taken_at}
+use Rattle.vault_core.specs.Touched.{IsTouched}
 use Rattle.vault_core.specs.Vault.{VaultOf, list_of, MayHold}
 use Rattle.vault_core.specs.Commands as commands
 use Rattle.vault_core.specs.Commands.{Stands, changed_frame}

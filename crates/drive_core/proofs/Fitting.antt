@@ -1,6 +1,5 @@
 -- What one payload holds, and cuts of lists.
-use Rattle.std.proofs.Common.{◌≡◌, ◌⊎◌, inl, inr, ℕ, zero, suc, ◌+◌, ◌-◌, ◌*◌, ◌≤◌, ◌<◌, Bool, true, false, if◌then◌else◌, nat_le, List, [], ◌∷◌, ◌++◌, length, map, take, drop, Option, Some, None, refl, sym, ap, subst, ◌∙◌, arith, is_some, length-append, leb-true, leb-false}
-use Rattle.std.proofs.lemmas.List.{take-map, length-take-le, length-map, length-drop}
+use Rattle.std.proofs.Common.{◌≡◌, ◌⊎◌, inl, inr, ℕ, zero, suc, ◌+◌, ◌-◌, ◌*◌, ◌≤◌, ◌<◌, Bool, true, false, if◌then◌else◌, nat_le, List, [], ◌∷◌, ◌++◌, length, map, take, drop, refl, sym, ap, ◌∙◌, arith, length-append, leb-true, leb-false}
 use Rattle.segment_core.specs.Written.{joined, payload_len}
 use Rattle.block_core.specs.Growth as block
 use Rattle.flush_core.specs.Group.{IsGreatest}

@@ -1,5 +1,5 @@
 -- The begin of a fold beside growth.
-use Rattle.std.proofs.Common.{◌≡◌, ℕ, ◌+◌, List, length, Bool, true, false, Some, None, refl, sym, ap, subst, ◌∙◌, arith}
+use Rattle.std.proofs.Common.{◌≡◌, ℕ, ◌+◌, List, length, Bool, refl, sym, ap, subst, ◌∙◌, arith}
 use Rattle.record_core.specs.Bytes.{Encoding}
 use Rattle.disk_core.specs.State.{State, IsImage, now}
 use Rattle.pen_core.specs.Pen.{MayOpen, IsFoldAnswer, IsUnchanged}
@@ -14,9 +14,8 @@ use Rattle.drive_core.specs.Line.{of_flush}
 use Rattle.drive_core.specs.Step.{Answer}
 use Rattle.drive_core.specs.Step as step
 use Rattle.drive_core.specs.World.{World, Growth, DiskOf, hand_of}
-use Rattle.drive_core.specs.Outcome.{stray_in}
 use Rattle.drive_core.specs.Ties.{GrowingOf, IsGrowing, IsBehind, Steps, growths_in_hand, disk_of}
-use Rattle.drive_core.proofs.PenFolds.{behind_fold, Plans, Opening, fold_answered, fold_refused, begun_disk, begun_job, hand_unchanged}
+use Rattle.drive_core.proofs.PenFolds.{Plans, Opening, fold_answered, fold_refused, begun_disk, begun_job, hand_unchanged}
 use Rattle.drive_core.proofs.Quiet.{quiet_steps}
 
 module _ {R D : Type 0} (form : Encoding R) (states : D → List State) (faults : D → ℕ) (keeps : Type 0) (w : World R) (phase : Growth) (g : GrowingOf R D) (tie : IsGrowing states faults w phase g)

@@ -1,5 +1,5 @@
 -- Steps of a growth phase: by their number of calls, and those that fit no phase or name no seat.
-use Rattle.std.proofs.Common.{◌≡◌, ℕ, ◌+◌, ◌≤◌, ◌<◌, Bool, true, false, nat_lt, List, length, map, Option, Some, None, refl, sym, ap, subst, ◌∙◌, arith}
+use Rattle.std.proofs.Common.{◌≡◌, ℕ, ◌≤◌, Bool, true, false, nat_lt, List, length, Option, Some, None, refl, sym, ap, subst, ◌∙◌, arith}
 use Rattle.std.proofs.lemmas.List.{length-map}
 use Rattle.record_core.specs.Bytes.{Encoding}
 use Rattle.disk_core.specs.State.{State}
@@ -13,7 +13,7 @@ use Rattle.drive_core.specs.Asked.{step_of}
 use Rattle.drive_core.specs.Step.{Step, Answer}
 use Rattle.drive_core.specs.Step as step
 use Rattle.drive_core.specs.World.{World, Growth, DiskOf, vector, changed, changed_runs, resized, cleared}
-use Rattle.drive_core.specs.Rows.{GrowthRow, OfSeat, has_seat, IsMisplaced}
+use Rattle.drive_core.specs.Rows.{GrowthRow, OfSeat, has_seat}
 use Rattle.drive_core.specs.Run.{HasCalls, CommandCalls}
 use Rattle.drive_core.specs.Ties.{GrowingOf, IsGrowing, IsBehind, Steps}
 use Rattle.drive_core.specs.VaultTies.{calls_between}

@@ -1,23 +1,11 @@
 -- The two lanes of device calls, from what a flusher's ticks promise.
-use Rattle.std.proofs.Common.{if◌then◌else◌, ◌≡◌, ◌⊎◌, inl, inr, ℕ, ◌+◌, ◌≤◌, ◌<◌, Bool, true, false, List, [], ◌∷◌, length, Option, Some, None, refl, sym, ap, subst, ◌∙◌, arith, is_some}
+use Rattle.std.proofs.Common.{◌≡◌, inl, inr, ℕ, ◌+◌, ◌≤◌, false, List, length, None, refl, sym, ap, subst, ◌∙◌, arith}
 use Rattle.record_core.specs.Bytes.{Encoding}
 use Rattle.disk_core.specs.State.{State, IsImage, now}
 use Rattle.disk_core.specs.Moments.{LeavesOnly, clock}
 use Rattle.disk_core.proofs.JoinedMoments.{LeavesOnly-weaker}
-use Rattle.disk_core.specs.declared.fault.DiskFault.{DiskFault}
-use Rattle.segment_core.specs.Frame.{Frame, Group, Change, Shrink, Fold}
-use Rattle.segment_core.specs.declared.tally.Tally.{Tally}
-use Rattle.segment_core.specs.Tally.{after}
-use Rattle.pen_core.specs.PenOf.{PenOf, JobOf, FoldOf}
-use Rattle.pen_core.specs.Pen.{IsTicked, CountsSame, CountsDone, IsTickFault, IsBrokenBy, calls_due, IsHomeTicked, HomesCalled, IsHomeFault, home_calls_due}
-use Rattle.pen_core.specs.Pen as pens
-use Rattle.pen_core.specs.InHand.{has_call, called, home_fault}
-use Rattle.pen_core.specs.declared.step.Step.TheVariants.{Body}
-use Rattle.pen_core.specs.declared.stage.FoldStage.TheVariants as stages
-use Rattle.pen_core.specs.Step.{step_after, fault_of}
-use Rattle.pen_core.specs.declared.step.Step as pen_step
-use Rattle.pen_core.specs.declared.fault.PenFault.{PenFault}
-use Rattle.pen_core.specs.declared.fault.PenFault.TheVariants as pen
+use Rattle.pen_core.specs.PenOf.{PenOf}
+use Rattle.pen_core.specs.Pen.{calls_due, home_calls_due}
 use Rattle.flush_core.specs.declared.lane.Tick.{Tick}
 use Rattle.flush_core.specs.declared.lane.Tick.TheVariants as ticks
 use Rattle.flush_core.specs.declared.lane.Lane.TheVariants as lanes
@@ -28,18 +16,16 @@ use Rattle.flush_core.specs.declared.fault.FlushFault.TheVariants as flush
 use Rattle.drive_core.specs.declared.fault.Fault.TheVariants.{Vault}
 use Rattle.vault_core.specs.declared.fault.VaultFault.TheVariants as vault
 use Rattle.directory_core.specs.Chain.{IsPrefix}
-use Rattle.drive_core.specs.Line.{Allows, Might, is_disk, of_flush}
+use Rattle.drive_core.specs.Line.{of_flush}
 use Rattle.drive_core.specs.Step.{Step, Answer}
 use Rattle.drive_core.specs.Step as step
-use Rattle.drive_core.specs.World.{World, Growth, Hand, DiskOf, hand_of, file_with, growths_in}
-use Rattle.drive_core.specs.Outcome.{RefusedAt, elsewhere, stray_in}
-use Rattle.drive_core.specs.LaneRows.{device_lines, home_calls, done, broken_by, IsJobLogged, IsLogged, IsFoldHomed, IsFiled, IsHomed}
-use Rattle.drive_core.specs.Run.{LaneCalls, HasCalls, RefusedCalls}
+use Rattle.drive_core.specs.World.{World, Growth, DiskOf, hand_of}
+use Rattle.drive_core.specs.Outcome.{stray_in}
+use Rattle.drive_core.specs.Run.{LaneCalls, HasCalls}
 use Rattle.book_core.specs.Lists as book
 use Rattle.drive_core.specs.Headline.{Inner}
 use Rattle.drive_core.specs.Ties.{GrowingOf, IsGrowing, IsBehind, Steps, growths_in_hand, disk_of}
 use Rattle.drive_core.specs.Rows.{GrowthRow, PhaseRow, StrayRow, IsStep}
-use Rattle.drive_core.proofs.Tables.{passes, stops}
 use Rattle.drive_core.proofs.Ties.{flusher_leaves, flusher_rests}
 use Rattle.drive_core.proofs.PenLanes.{behind_call, brought, IsLaneEvent, log_answered, log_refused, home_answered, home_refused}
 

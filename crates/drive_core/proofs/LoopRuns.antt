@@ -1,5 +1,5 @@
 -- The loop over steps.
-use Rattle.std.proofs.Common.{if◌then◌else◌, Bool, true, false, ◌≤◌, ◌≡◌, ℕ, ◌+◌, List, [], ◌∷◌, ◌++◌, map, length, take, slice_get, ◌-◌, Option, Some, None, refl, sym, ap, subst, ◌∙◌, arith}
+use Rattle.std.proofs.Common.{◌≤◌, ◌≡◌, ℕ, ◌+◌, List, [], ◌∷◌, ◌++◌, map, length, take, slice_get, ◌-◌, Option, Some, None, refl, sym, ap, subst, ◌∙◌, arith}
 use Rattle.record_core.specs.Bytes.{Encoding}
 use Rattle.disk_core.specs.State.{State}
 use Rattle.disk_core.specs.Moments.{clock}
@@ -12,7 +12,7 @@ use Rattle.segment_core.proofs.Written.{take_more}
 use Rattle.std.proofs.lemmas.List.{take_all}
 use Rattle.drive_core.specs.Step.{Step, Answer}
 use Rattle.drive_core.specs.Step as step
-use Rattle.drive_core.specs.World.{World, Growth, DiskOf}
+use Rattle.drive_core.specs.World.{World, DiskOf}
 use Rattle.drive_core.specs.Outcome.{stray_in}
 use Rattle.drive_core.specs.Rows.{StrayRow}
 use Rattle.drive_core.specs.Run.{Event, HasCalls, last}
@@ -22,7 +22,7 @@ use Rattle.drive_core.specs.World.{vector, changed, changed_runs, resized, clear
 use Rattle.drive_core.specs.Run.{CommandCalls}
 use Rattle.drive_core.specs.Driving.{IsDriver, HasRun}
 use Rattle.drive_core.specs.Phases.{disk_in, IsInHand, IsLeft}
-use Rattle.drive_core.specs.Ties.{Steps, disk_of}
+use Rattle.drive_core.specs.Ties.{Steps}
 use Rattle.drive_core.specs.VaultTies.{calls_between}
 use Rattle.drive_core.proofs.PhaseEvents.{still}
 use Rattle.drive_core.proofs.Loop.{last-more, Run-more, Run-weaker, AllInner-more}

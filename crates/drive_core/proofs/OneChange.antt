@@ -1,12 +1,11 @@
 -- A change of one run, and one of several, as their steps.
-use Rattle.std.proofs.Common.{◌≡◌, ◌⊎◌, inl, inr, ℕ, zero, suc, ◌+◌, ◌≤◌, ◌<◌, false, List, [], ◌∷◌, ◌++◌, length, map, Option, Some, None, refl, sym, ap, subst, ◌∙◌, arith}
+use Rattle.std.proofs.Common.{◌≡◌, inl, inr, ℕ, ◌<◌, false, List, [], ◌∷◌, length, map, refl, sym, ap, subst, ◌∙◌, arith}
 use Rattle.std.specs.Prelude.{Ok, Err}
 use Rattle.std.proofs.lemmas.List.{append-nil, length-map}
 use Rattle.record_core.specs.Bytes.{Encoding}
 use Rattle.disk_core.specs.State.{State, IsImage, now}
 use Rattle.segment_core.specs.Runs.{runs_given}
 use Rattle.segment_core.specs.Written.{joined}
-use Rattle.segment_core.specs.Command.{Command}
 use Rattle.pen_core.specs.Refusals.{change_lines, one_run}
 use Rattle.pen_core.specs.declared.fault.PenFault.TheVariants as pen
 use Rattle.vault_core.specs.declared.fault.VaultFault.{VaultFault}
@@ -20,7 +19,7 @@ use Rattle.std.specs.Global.{Vec}
 use Rattle.drive_core.specs.Given.{given, pieces_of}
 use Rattle.drive_core.specs.Step.{Step, Answer}
 use Rattle.drive_core.specs.Step as step
-use Rattle.drive_core.specs.World.{World, runs_of, changed, changed_runs}
+use Rattle.drive_core.specs.World.{World, runs_of}
 use Rattle.drive_core.specs.Ties.{Steps}
 use Rattle.drive_core.specs.VaultTies.{IsExclusive, calls_between}
 use Rattle.drive_core.proofs.Changed.{change_answers, change_refuses}

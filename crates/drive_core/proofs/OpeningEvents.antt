@@ -1,5 +1,5 @@
 -- Files that are made and opened.
-use Rattle.std.proofs.Common.{◌≡◌, ◌⊎◌, inl, inr, ℕ, ◌+◌, ◌-◌, ◌/◌, ◌≤◌, ◌<◌, ◌^◌, List, [], ◌∷◌, length, take, Option, Some, None, refl, sym, ap, subst, ◌∙◌, arith}
+use Rattle.std.proofs.Common.{◌≡◌, ◌⊎◌, inl, inr, ℕ, ◌+◌, ◌-◌, ◌≤◌, ◌<◌, ◌^◌, List, [], length, Option, Some, None, refl, sym, ap, subst, ◌∙◌, arith}
 use Rattle.std.specs.Prelude.{Ok, Err}
 use Rattle.std.proofs.Math.Seq.{take-length}
 use Rattle.record_core.specs.Bytes.{Encoding}
@@ -10,7 +10,6 @@ use Rattle.disk_core.specs.declared.fault.DiskFault.{DiskFault}
 use Rattle.disk_core.specs.declared.fault.DiskFault.TheVariants as causes
 use Rattle.segment_core.specs.declared.format.Format.{Format}
 use Rattle.segment_core.specs.declared.fault.ScanFault.{ScanFault}
-use Rattle.segment_core.specs.declared.tally.Tally.{Tally}
 use Rattle.segment_core.specs.Command.{content}
 use Rattle.segment_core.specs.Shape.{shape_of}
 use Rattle.segment_core.specs.Written.{joined}
@@ -35,7 +34,7 @@ use Rattle.drive_core.specs.Step as step
 use Rattle.drive_core.specs.World.{World, File, Hand, DiskOf, hand_of, vector}
 use Rattle.drive_core.specs.World as worlds
 use Rattle.drive_core.specs.Outcome.{stray_in}
-use Rattle.drive_core.specs.OpeningRows.{opened, empty_file, at_rest, IsMaking, AreCallsTo, IsCreate, IsOpen, HasRead}
+use Rattle.drive_core.specs.OpeningRows.{IsOpening, AreCallsOfOpening, opened, empty_file, at_rest, IsMaking, AreCallsOfMaking, HasRead}
 use Rattle.drive_core.specs.Rows.{ShutRow}
 use Rattle.drive_core.specs.Run.{HasCalls}
 use Rattle.drive_core.specs.Headline.{HasFile, Rests}
@@ -100,7 +99,7 @@ module _ {R D : Type 0} (form : Encoding R) (states : D → List State) (faults 
 
     module _ (format : Format) where
       -- what the vault promises of the calls, by the world's disk
-      tried : (new : D) (ended : Option PenFault) → (IsExisting (bytes_of (states disk)) → WritesNothing (states disk) (states new)) → StaysUnbornOrEmpty (shape_of format form) (states disk) (states new) → AreCallsTo (bytes_of (states disk)) ended (clock (states new) - clock (states disk)) → IsMaking (shape_of format form) ended w.disk.states (states new)
+      tried : (new : D) (ended : Option PenFault) → (IsExisting (bytes_of (states disk)) → WritesNothing (states disk) (states new)) → StaysUnbornOrEmpty (shape_of format form) (states disk) (states new) → AreCallsOfMaking (bytes_of (states disk)) ended (clock (states new) - clock (states disk)) → IsMaking (shape_of format form) ended w.disk.states (states new)
       tried new ended existed born calls = subst (λ old. IsMaking (shape_of format form) ended old (states new)) (sym states_are) (record { existed = existed; born = born; calls = calls })
 
       -- a call was made: so nothing was written where there was a file
@@ -181,8 +180,10 @@ module _ {R D : Type 0} (form : Encoding R) (states : D → List State) (faults 
 
     -- ---- a file is opened
 
-    looked : (new : D) → (keeps new → OnlySyncs (states disk) (states new)) → keeps new → OnlySyncs w.disk.states (states new)
-    looked new syncs kept = subst (λ old. OnlySyncs old (states new)) (sym states_are) (syncs kept)
+    looked : (new : D) (ended : Option OpenFault) → (keeps new → OnlySyncs (states disk) (states new)) → (len : ℕ) → (keeps new → len ≡ length (bytes_of (states disk))) → AreCallsOfOpening len ended (clock (states new) - clock (states disk))
+        → keeps new → IsOpening ended w.disk.states (states new)
+    looked new ended syncs len all calls kept = subst (λ old. IsOpening ended old (states new)) (sym states_are)
+        (record { syncs = syncs kept; calls = subst (λ k. AreCallsOfOpening k ended (clock (states new) - clock (states disk))) (all kept) calls })
 
     read_file : (format : Format) (p : PenOf D) (bytes : List ℕ) (base : List R) → (o : IsOpened form bytes p base) → HasRead form bytes base (hand_of p).file
     read_file format p bytes base o = record {
@@ -193,9 +194,9 @@ module _ {R D : Type 0} (form : Encoding R) (states : D → List State) (faults 
     }
 
     pub open_answers : (v : VaultOf R D) (size : ℕ) (answer : Answer R) → answer ≡ step.Size size → size ≡ length (list_of v) → IsAtRest form.width (length (list_of v)) v.pen → (keeps v.pen.disk → IsOpened form (bytes_of (states disk)) v.pen (list_of v)) → (keeps v.pen.disk → v.sure ≡ list_of v) → (keeps v.pen.disk → OnlySyncs (states disk) (states v.pen.disk))
-        → (len : ℕ) → AreCallsDone len (clock (states v.pen.disk) - clock (states disk)) → (keeps v.pen.disk → (image : List ℕ) → IsImage (now (states v.pen.disk)) image → MayHold form v image)
+        → (len : ℕ) → (keeps v.pen.disk → len ≡ length (bytes_of (states disk))) → AreCallsDone len (clock (states v.pen.disk) - clock (states disk)) → (keeps v.pen.disk → (image : List ℕ) → IsImage (now (states v.pen.disk)) image → MayHold form v image)
         → Steps form (keeps v.pen.disk) (λ w'. IsLeft states faults keeps w' (hands.Exclusive v)) w step.Open answer (calls_between (states disk) (states v.pen.disk))
-    open_answers v size answer is long rest read sure syncs len calls rests =
+    open_answers v size answer is long rest read sure syncs len all calls rests =
         let n : ℕ = clock (states v.pen.disk) - clock (states disk) in
         let two = calls.0 in
         let w' : World R = record (opened w (list_of v) (hand_of v.pen).file) { disk = disk_of states faults v.pen.disk } in
@@ -211,19 +212,19 @@ module _ {R D : Type 0} (form : Encoding R) (states : D → List State) (faults 
           disk_is = refl;
         } in
         called v.pen.disk (λ w'. IsLeft states faults keeps w' (hands.Exclusive v)) w' step.Open (step.Size size) answer n is
-        (inl (inr (inr refl), (list_of v, (hand_of v.pen).file, ap step.Size long, (λ kept. subst (λ bytes. HasRead form bytes (list_of v) (hand_of v.pen).file) (sym bytes_are) (let o = read kept in read_file o.format v.pen (bytes_of (states disk)) (list_of v) o)), looked v.pen.disk syncs, refl)))
+        (inl (inr (inr refl), (list_of v, (hand_of v.pen).file, ap step.Size long, (λ kept. subst (λ bytes. HasRead form bytes (list_of v) (hand_of v.pen).file) (sym bytes_are) (let o = read kept in read_file o.format v.pen (bytes_of (states disk)) (list_of v) o)), looked v.pen.disk None syncs len all calls, refl)))
         (omega (arith, two)) (omega (arith, two)) (few_pieces len n calls.1 calls.2) (omega (arith, two)) refl tie.calm
         (left_exclusive form states faults keeps w w' v tied) (λ kept has. vault_rests w' v tied kept rests)
 
     abbrev NotOpen : D → Answer R → Type 0
     NotOpen new answer = Steps form (keeps new) (λ w'. IsLeft states faults keeps w' (hands.Shut new)) w step.Open answer (calls_between (states disk) (states new))
 
-    pub open_scans : (new : D) (fault : ScanFault) (answer : Answer R) → answer ≡ step.Refused (Scan fault) → (keeps new → IsRefused form (bytes_of (states disk)) fault) → (keeps new → OnlySyncs (states disk) (states new)) → (len : ℕ) → AreCallsMade len (openings.Scan fault) (clock (states new) - clock (states disk)) → NotOpen new answer
-    open_scans new fault answer is refused syncs len calls =
+    pub open_scans : (new : D) (fault : ScanFault) (answer : Answer R) → answer ≡ step.Refused (Scan fault) → (keeps new → IsRefused form (bytes_of (states disk)) fault) → (keeps new → OnlySyncs (states disk) (states new)) → (len : ℕ) → (keeps new → len ≡ length (bytes_of (states disk))) → AreCallsMade len (openings.Scan fault) (clock (states new) - clock (states disk)) → NotOpen new answer
+    open_scans new fault answer is refused syncs len all calls =
         let n : ℕ = clock (states new) - clock (states disk) in
         let two = calls.0 in
         called new (λ w'. IsLeft states faults keeps w' (hands.Shut new)) (with_disk new) step.Open (step.Refused (Scan fault)) answer n is
-        (inr (Scan fault, inr (inl (Scan fault, refl, refl)), refl, ((λ kept. subst (λ bytes. IsRefused form bytes fault) (sym bytes_are) (refused kept)), looked new syncs, refl)))
+        (inr (Scan fault, inr (inl (Scan fault, refl, refl)), refl, ((λ kept. subst (λ bytes. IsRefused form bytes fault) (sym bytes_are) (refused kept)), looked new (Some (openings.Scan fault)) syncs len all calls, refl)))
         (omega (arith, two)) (omega (arith, two)) (few_pieces len n calls.1 calls.2) (omega (arith, two)) refl tie.calm (still_shut new) (no_file new)
 
     calls_made : (len n : ℕ) (cause : DiskFault) → AreCallsMade len (openings.Disk cause) n → (0 < n) × (n < 2 ^ 64)
@@ -232,15 +233,15 @@ module _ {R D : Type 0} (form : Encoding R) (states : D → List State) (faults 
     calls_made len n causes.Read is = (let more = is.0 in omega (arith, more), few_pieces len n is.1 is.2)
     calls_made len n causes.Write is = absurd is
 
-    pub open_fails : (new : D) (cause : DiskFault) (answer : Answer R) → answer ≡ step.Refused (Vault (vault.Pen (pen.Disk cause))) → faults new ≡ faults disk + 1 → (keeps new → OnlySyncs (states disk) (states new)) → (len : ℕ) → AreCallsMade len (openings.Disk cause) (clock (states new) - clock (states disk)) → NotOpen new answer
-    open_fails new cause answer is more syncs len calls =
+    pub open_fails : (new : D) (cause : DiskFault) (answer : Answer R) → answer ≡ step.Refused (Vault (vault.Pen (pen.Disk cause))) → faults new ≡ faults disk + 1 → (keeps new → OnlySyncs (states disk) (states new)) → (len : ℕ) → (keeps new → len ≡ length (bytes_of (states disk))) → AreCallsMade len (openings.Disk cause) (clock (states new) - clock (states disk)) → NotOpen new answer
+    open_fails new cause answer is more syncs len all calls =
         let n : ℕ = clock (states new) - clock (states disk) in
         let made = calls_made len n cause calls in
         let some = made.0 in
         called new (λ w'. IsLeft states faults keeps w' (hands.Shut new)) (with_disk new) step.Open (step.Refused (Vault (vault.Pen (pen.Disk cause)))) answer n is
-        (inr (Vault (vault.Pen (pen.Disk cause)), inl (Vault (vault.Pen (pen.Disk cause)), refl, refl), refl, (rose new more, looked new syncs, refl)))
+        (inr (Vault (vault.Pen (pen.Disk cause)), inl (Vault (vault.Pen (pen.Disk cause)), refl, refl), refl, (rose new more, looked new (Some (openings.Disk cause)) syncs len all calls, refl)))
         (omega (arith, some)) (omega (arith, some)) made.1 some refl tie.calm (still_shut new) (no_file new)
 
-    pub open_refuses : (new : D) (fault : OpenFault) (answer : Answer R) → answer ≡ step.Refused (of_open fault) → (keeps new → IsOpenRefusal form (bytes_of (states disk)) fault) → faults new ≡ faults disk + failed_openings fault → (keeps new → OnlySyncs (states disk) (states new)) → (len : ℕ) → AreCallsMade len fault (clock (states new) - clock (states disk)) → NotOpen new answer
-    open_refuses new (openings.Scan fault) answer is refused more syncs len calls = open_scans new fault answer is refused syncs len calls
-    open_refuses new (openings.Disk cause) answer is refused more syncs len calls = open_fails new cause answer is more syncs len calls
+    pub open_refuses : (new : D) (fault : OpenFault) (answer : Answer R) → answer ≡ step.Refused (of_open fault) → (keeps new → IsOpenRefusal form (bytes_of (states disk)) fault) → faults new ≡ faults disk + failed_openings fault → (keeps new → OnlySyncs (states disk) (states new)) → (len : ℕ) → (keeps new → len ≡ length (bytes_of (states disk))) → AreCallsMade len fault (clock (states new) - clock (states disk)) → NotOpen new answer
+    open_refuses new (openings.Scan fault) answer is refused more syncs len all calls = open_scans new fault answer is refused syncs len all calls
+    open_refuses new (openings.Disk cause) answer is refused more syncs len all calls = open_fails new cause answer is more syncs len all calls

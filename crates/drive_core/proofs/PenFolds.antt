@@ -1,5 +1,5 @@
 -- The begin of a fold, from what a pen's begin promises.
-use Rattle.std.proofs.Common.{◌≡◌, ◌⊎◌, inl, inr, ℕ, ◌+◌, ◌≤◌, ◌<◌, ◌^◌, Bool, true, false, nat_lt, nat_le, List, length, Option, Some, None, refl, sym, ap, subst, ◌∙◌, arith, is_some, lt-ltb, le-leb, leb-true, ltb-true}
+use Rattle.std.proofs.Common.{◌≡◌, inl, inr, ℕ, ◌≤◌, ◌<◌, ◌^◌, Bool, true, false, nat_lt, nat_le, List, length, Option, Some, None, refl, sym, ap, subst, arith, is_some, lt-ltb, le-leb, leb-true, ltb-true}
 use Rattle.std.specs.Prelude.{IfSome}
 use Rattle.disk_core.specs.State.{IsImage, now}
 use Rattle.pen_core.specs.PenOf.{PenOf, FoldOf}
@@ -8,13 +8,12 @@ use Rattle.pen_core.specs.Pen.{MayOpen, IsFoldAnswer, IsFoldRefusal, IsFoldBarre
 use Rattle.pen_core.specs.declared.stage.FoldStage.TheVariants as stages
 use Rattle.pen_core.specs.declared.fault.PenFault.{PenFault}
 use Rattle.pen_core.specs.declared.fault.PenFault.TheVariants as pen
-use Rattle.drive_core.specs.declared.fault.Fault.{Fault}
 use Rattle.drive_core.specs.declared.fault.Fault.TheVariants.{Vault}
 use Rattle.vault_core.specs.declared.fault.VaultFault.TheVariants as vault
-use Rattle.drive_core.specs.Line.{Allows, Might, is_vault_memory}
+use Rattle.drive_core.specs.Line.{Allows}
 use Rattle.drive_core.specs.Step.{Answer}
 use Rattle.drive_core.specs.Step as step
-use Rattle.drive_core.specs.World.{World, Hand, hand_of, is_live}
+use Rattle.drive_core.specs.World.{World, hand_of, is_live}
 use Rattle.drive_core.specs.Outcome.{Outcome}
 use Rattle.drive_core.specs.LaneRows.{fold_lines, FoldsFile, IsFold, HasBegun}
 use Rattle.drive_core.proofs.Tables.{passes, stops}

@@ -1,8 +1,6 @@
 -- The two lanes of device calls, from what a pen's ticks promise.
-use Rattle.std.proofs.Common.{if◌then◌else◌, ◌≡◌, ◌⊎◌, inl, inr, ℕ, ◌+◌, ◌≤◌, ◌<◌, Bool, true, false, List, [], ◌∷◌, length, Option, Some, None, refl, sym, ap, subst, ◌∙◌, arith, is_some}
-use Rattle.record_core.specs.Bytes.{Encoding}
-use Rattle.disk_core.specs.State.{State, IsImage, now}
-use Rattle.disk_core.specs.Moments.{LeavesOnly, clock}
+use Rattle.std.proofs.Common.{if◌then◌else◌, ◌≡◌, ◌⊎◌, inl, inr, ℕ, ◌+◌, ◌≤◌, ◌<◌, Bool, true, false, List, [], ◌∷◌, Option, Some, None, refl, sym, ap, subst, ◌∙◌, arith, is_some}
+use Rattle.disk_core.specs.State.{State}
 use Rattle.disk_core.specs.declared.fault.DiskFault.{DiskFault}
 use Rattle.segment_core.specs.Frame.{Frame, Group, Change, Shrink, Fold}
 use Rattle.segment_core.specs.declared.tally.Tally.{Tally}
@@ -20,23 +18,17 @@ use Rattle.pen_core.specs.declared.fault.PenFault.TheVariants as pen
 use Rattle.flush_core.specs.declared.lane.Tick.{Tick}
 use Rattle.flush_core.specs.declared.lane.Tick.TheVariants as ticks
 use Rattle.flush_core.specs.declared.lane.Lane.TheVariants as lanes
-use Rattle.flush_core.specs.Refusals.{IsLaneTicked, IsLaneFault, settled_behind, failed}
-use Rattle.flush_core.specs.declared.fault.FlushFault.{FlushFault}
-use Rattle.flush_core.specs.declared.fault.FlushFault.TheVariants as flush
+use Rattle.flush_core.specs.Refusals.{IsLaneTicked}
 use Rattle.drive_core.specs.declared.fault.Fault.TheVariants.{Vault}
 use Rattle.vault_core.specs.declared.fault.VaultFault.TheVariants as vault
-use Rattle.directory_core.specs.Chain.{IsPrefix}
-use Rattle.drive_core.specs.Line.{Allows, Might, is_disk, of_flush}
+use Rattle.drive_core.specs.Line.{Allows, Might, is_disk}
 use Rattle.drive_core.specs.Step.{Step, Answer}
 use Rattle.drive_core.specs.Step as step
-use Rattle.drive_core.specs.World.{World, Growth, Hand, DiskOf, hand_of, file_with, growths_in}
-use Rattle.drive_core.specs.Outcome.{RefusedAt, elsewhere, stray_in}
+use Rattle.drive_core.specs.World.{World, Hand, DiskOf, hand_of, file_with, growths_in}
+use Rattle.drive_core.specs.Outcome.{RefusedAt, elsewhere}
 use Rattle.drive_core.specs.LaneRows.{IsLog, IsHome, device_lines, home_calls, done, broken_by, IsJobLogged, IsLogged, IsFoldHomed, IsFiled, IsHomed}
-use Rattle.drive_core.specs.Run.{LaneCalls, HasCalls, RefusedCalls}
-use Rattle.book_core.specs.Lists as book
-use Rattle.drive_core.specs.Headline.{Inner}
-use Rattle.drive_core.specs.Ties.{GrowingOf, IsGrowing, IsBehind, Steps, growths_in_hand, disk_of}
-use Rattle.drive_core.specs.Rows.{GrowthRow, PhaseRow, StrayRow, IsStep}
+use Rattle.drive_core.specs.Run.{LaneCalls, RefusedCalls}
+use Rattle.drive_core.specs.Ties.{growths_in_hand, disk_of}
 use Rattle.drive_core.proofs.Tables.{passes, stops}
 
 -- ---- a world with other parts

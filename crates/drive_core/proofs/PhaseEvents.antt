@@ -1,34 +1,32 @@
 -- The steps that lead from one phase to another.
-use Rattle.std.proofs.Common.{◌≡◌, ◌⊎◌, inl, inr, ℕ, zero, suc, ◌+◌, ◌-◌, ◌≤◌, ◌<◌, ◌^◌, ◌==◌, ◌||◌, Bool, true, false, nat_lt, List, [], ◌∷◌, ◌++◌, length, map, take, Option, Some, None, refl, sym, ap, subst, ◌∙◌, arith, is_some, lt-ltb, get_or, slice_get, ne_eqb}
-use Rattle.std.specs.Prelude.{replicate, sum, sum_by, All, max}
+use Rattle.std.proofs.Common.{◌≡◌, ◌⊎◌, inl, inr, ℕ, zero, suc, ◌+◌, ◌-◌, ◌≤◌, ◌<◌, ◌==◌, ◌||◌, Bool, true, false, nat_lt, List, [], ◌∷◌, ◌++◌, length, map, take, Option, Some, None, refl, sym, ap, subst, ◌∙◌, arith, lt-ltb, slice_get, ne_eqb}
+use Rattle.std.specs.Prelude.{replicate, sum, All, max}
 use Rattle.std.proofs.lemmas.List.{append-nil, take_all, length-replicate, length-map}
 use Rattle.std.proofs.lemmas.List.Sums.{sum_by-cons}
 use Rattle.std.proofs.lemmas.Option.{slice_get-get_or, get_or_from_slice_get, slice_get_within, same_Some}
 use Rattle.std.proofs.Math.Seq.{take-length}
 use Rattle.record_core.specs.Bytes.{Encoding}
-use Rattle.disk_core.specs.State.{State, IsImage, now}
+use Rattle.disk_core.specs.State.{State}
 use Rattle.disk_core.specs.Moments.{clock}
-use Rattle.segment_core.specs.Command.{Command, content}
+use Rattle.segment_core.specs.Command.{content}
 use Rattle.segment_core.specs.Written.{joined}
-use Rattle.pen_core.specs.PenOf.{PenOf, JobOf}
+use Rattle.pen_core.specs.PenOf.{PenOf}
 use Rattle.pen_core.specs.Refusals.{first_refusal, ready_lines}
 use Rattle.pen_core.specs.declared.fault.PenFault.{PenFault}
 use Rattle.pen_core.specs.declared.fault.PenFault.TheVariants as pen
 use Rattle.directory_core.specs.Chain as chains
 use Rattle.directory_core.specs.Chain.{IsPrefix}
 use Rattle.directory_core.specs.Limits.{growth_limit}
-use Rattle.block_core.specs.Growth as block
 use Rattle.book_core.specs.Beginning.{AreNewSeats, MayBegin, seat_limit}
-use Rattle.book_core.specs.Lists.{Phase, Seated, opening_of, joined_pieces}
+use Rattle.book_core.specs.Lists.{Phase, Seated, opening_of}
 use Rattle.flush_core.specs.Flusher.{FlusherOf}
 use Rattle.vault_core.specs.declared.fault.VaultFault.{VaultFault}
 use Rattle.vault_core.specs.declared.fault.VaultFault.TheVariants as vault
-use Rattle.vault_core.specs.Vault.{VaultOf, list_of, MayHold}
+use Rattle.vault_core.specs.Vault.{VaultOf, list_of}
 use Rattle.vault_core.specs.Sharing.{Shares, MayShare, IsShareFault, IsTooLarge}
-use Rattle.vault_core.specs.Gathering.{IsWhole, IsGatherFault, AreAll, AreDistinct, MayGather, made_by, most_known}
+use Rattle.vault_core.specs.Gathering.{IsWhole, IsGatherFault, AreAll, AreDistinct, made_by, most_known}
 use Rattle.drive_core.specs.declared.fault.Fault.{Fault}
 use Rattle.drive_core.specs.declared.fault.Fault.TheVariants.{Vault}
-use Rattle.drive_core.specs.declared.phase.Phase as code
 use Rattle.drive_core.specs.declared.phase.Phase.TheVariants as hands
 use Rattle.drive_core.specs.Line.{Allows, When, Might, is_vault_memory}
 use Rattle.drive_core.specs.Step.{Step, Answer}
@@ -36,13 +34,13 @@ use Rattle.drive_core.specs.Step as step
 use Rattle.drive_core.specs.World.{World, Growth, DiskOf, Hand, hand_of, as_pen, vector}
 use Rattle.drive_core.specs.World as worlds
 use Rattle.drive_core.specs.Outcome.{stray_in}
-use Rattle.drive_core.specs.GrowthRows.{within, IsGather}
-use Rattle.drive_core.specs.ExclusiveRows.{share_lines, is_outside_limits, first_growth, IsShare}
-use Rattle.drive_core.specs.Rows.{ShutRow, ExclusiveRow, GrowthRow, PhaseRow, StrayRow, IsStep}
+use Rattle.drive_core.specs.GrowthRows.{within}
+use Rattle.drive_core.specs.ExclusiveRows.{share_lines, is_outside_limits, first_growth}
+use Rattle.drive_core.specs.Rows.{ShutRow, ExclusiveRow, PhaseRow, StrayRow, IsStep}
 use Rattle.drive_core.specs.Run.{HasCalls}
-use Rattle.drive_core.specs.Ties.{GrowingOf, IsGrowing, IsBehind, Steps, growths_in_hand, grow_of, disk_of}
+use Rattle.drive_core.specs.Ties.{GrowingOf, IsGrowing, IsBehind, Steps, growths_in_hand, disk_of}
 use Rattle.drive_core.specs.VaultTies.{IsExclusive, calls_between}
-use Rattle.drive_core.specs.Phases.{disk_in, IsShut, IsInHand, IsLeft}
+use Rattle.drive_core.specs.Phases.{IsShut, IsLeft}
 use Rattle.drive_core.proofs.PenFolds.{not_lt}
 use Rattle.drive_core.proofs.Put.{begins-whole}
 use Rattle.drive_core.proofs.Seats.{begins-le}

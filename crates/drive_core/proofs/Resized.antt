@@ -1,14 +1,13 @@
 -- A resize and a clear, as the command that they are.
-use Rattle.std.proofs.Common.{if◌then◌else◌, ◌≡◌, ◌⊎◌, inl, inr, ℕ, zero, suc, ◌+◌, ◌-◌, ◌*◌, ◌≤◌, ◌<◌, Bool, true, false, nat_lt, List, [], ◌∷◌, ◌++◌, length, take, Option, Some, None, refl, sym, ap, subst, ◌∙◌, arith, length-append, lt-ltb, ltb-true, ltb-false}
-use Rattle.std.specs.Prelude.{replicate, Ok, Err, MatchResult}
-use Rattle.std.specs.declared.result.Result.{Result}
+use Rattle.std.proofs.Common.{if◌then◌else◌, ◌≡◌, ◌⊎◌, inl, inr, ℕ, ◌+◌, ◌-◌, ◌*◌, ◌<◌, Bool, true, false, nat_lt, List, [], ◌∷◌, ◌++◌, length, take, Option, Some, None, refl, sym, ap, subst, ◌∙◌, arith, lt-ltb, ltb-true, ltb-false}
+use Rattle.std.specs.Prelude.{replicate, Ok, Err}
 use Rattle.std.proofs.lemmas.List.{append-nil, take_all, length-replicate}
 use Rattle.record_core.specs.Bytes.{Encoding}
 use Rattle.disk_core.specs.State.{State, IsImage, now}
 use Rattle.segment_core.specs.Command.{Command, Grow, Shrink, after_command}
 use Rattle.segment_core.specs.Frame as frames
-use Rattle.segment_core.specs.Written.{group_frame, payload_len, joined}
-use Rattle.pen_core.specs.Refusals.{first_refusal, group_lines, shrink_lines}
+use Rattle.segment_core.specs.Written.{group_frame, payload_len}
+use Rattle.pen_core.specs.Refusals.{group_lines, shrink_lines}
 use Rattle.vault_core.specs.declared.fault.VaultFault.{VaultFault}
 use Rattle.vault_core.specs.Vault.{VaultOf, list_of, MayHold}
 use Rattle.vault_core.specs.Commands as commands
@@ -16,7 +15,7 @@ use Rattle.vault_core.specs.Commands.{Stands}
 use Rattle.drive_core.specs.declared.fault.Fault.TheVariants.{Vault}
 use Rattle.drive_core.specs.Step.{Step, Answer}
 use Rattle.drive_core.specs.Step as step
-use Rattle.drive_core.specs.World.{World, vector, resized, cleared, frame_of}
+use Rattle.drive_core.specs.World.{World, vector, resized, cleared}
 use Rattle.drive_core.specs.ExclusiveRows.{IsCommand}
 use Rattle.drive_core.specs.Rows.{ExclusiveRow}
 use Rattle.drive_core.specs.Run.{HasCalls, CommandCalls}

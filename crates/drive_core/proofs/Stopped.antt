@@ -9,7 +9,7 @@ use Rattle.segment_core.specs.Command.{Command}
 use Rattle.segment_core.specs.Command as commands
 use Rattle.pen_core.specs.declared.fault.PenFault.TheVariants as pen
 use Rattle.drive_core.specs.declared.fault.Fault.{Fault}
-use Rattle.drive_core.specs.declared.fault.Fault.TheVariants.{Vault, Grow, Scan}
+use Rattle.drive_core.specs.declared.fault.Fault.TheVariants.{Vault, Grow}
 use Rattle.vault_core.specs.declared.fault.VaultFault.TheVariants as vault
 use Rattle.book_core.specs.declared.fault.GrowFault.TheVariants as grow
 use Rattle.drive_core.specs.Line.{Line, When, Might, Allows, is_vault_memory}

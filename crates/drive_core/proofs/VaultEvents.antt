@@ -1,6 +1,6 @@
 -- A vault's commands as steps of the exclusive phase, from what the vault promises of each.
-use Rattle.std.proofs.Common.{◌≡◌, ◌⊎◌, inl, inr, ℕ, zero, suc, ◌+◌, ◌-◌, ◌≤◌, ◌<◌, ◌^◌, Bool, true, false, List, [], ◌∷◌, ◌++◌, length, take, Option, Some, None, refl, sym, ap, subst, ◌∙◌, arith, length-append, is_some}
-use Rattle.std.specs.Prelude.{Ok, Err, MatchResult, MatchOption}
+use Rattle.std.proofs.Common.{◌≡◌, ◌⊎◌, inl, inr, ℕ, ◌+◌, ◌-◌, ◌≤◌, ◌<◌, ◌^◌, Bool, true, false, List, [], ◌∷◌, ◌++◌, length, take, Option, Some, None, refl, sym, ap, subst, ◌∙◌, arith, length-append, is_some}
+use Rattle.std.specs.Prelude.{Ok, Err, MatchOption}
 use Rattle.std.specs.List.{AllByRecursion}
 use Rattle.std.specs.declared.result.Result.{Result}
 use Rattle.std.proofs.lemmas.List.{take-append-le}
@@ -9,15 +9,14 @@ use Rattle.record_core.specs.Bytes.{Encoding}
 use Rattle.disk_core.specs.State.{State, IsImage, now}
 use Rattle.disk_core.specs.Moments.{LeavesOnly, clock}
 use Rattle.disk_core.proofs.JoinedMoments.{LeavesOnly-weaker}
-use Rattle.disk_core.specs.declared.fault.DiskFault.{DiskFault}
 use Rattle.segment_core.specs.Command.{Command, Grow, Shrink, Change, content, after_command}
 use Rattle.segment_core.specs.Frame.{Frame}
 use Rattle.segment_core.specs.Written.{joined}
 use Rattle.segment_core.specs.declared.tally.Tally.{Tally}
-use Rattle.pen_core.specs.PenOf.{PenOf, JobOf, FoldOf}
+use Rattle.pen_core.specs.PenOf.{PenOf, FoldOf}
 use Rattle.pen_core.specs.Pen.{IsUnchanged, fold_behind, failed_calls, log_left}
 use Rattle.pen_core.specs.Typed.{OpensTo}
-use Rattle.pen_core.specs.Refusals.{first_refusal, IsRefusal, group_lines, shrink_lines, change_lines}
+use Rattle.pen_core.specs.Refusals.{first_refusal, IsRefusal}
 use Rattle.pen_core.specs.declared.step.Step as pen_step
 use Rattle.pen_core.specs.declared.step.Step.TheVariants.{Body, BodySync, Gate, GateSync}
 use Rattle.pen_core.specs.Step.{fault_of, steps_left}
@@ -33,11 +32,11 @@ use Rattle.drive_core.specs.declared.fault.Fault.TheVariants.{Vault}
 use Rattle.drive_core.specs.Line.{Allows, When, Might, is_vault_memory, is_disk, pen_table}
 use Rattle.drive_core.specs.Step.{Step, Answer}
 use Rattle.drive_core.specs.Step as step
-use Rattle.drive_core.specs.World.{World, Exclusive, Hand, DiskOf, hand_of, as_pen, vector, file_with, frame_of}
-use Rattle.drive_core.specs.Outcome.{elsewhere, stray_in}
-use Rattle.drive_core.specs.ExclusiveRows.{tests_of, command_lines, committed, torn, TornAt, IsCommand}
+use Rattle.drive_core.specs.World.{World, Hand, DiskOf, hand_of, vector, file_with, frame_of}
+use Rattle.drive_core.specs.Outcome.{stray_in}
+use Rattle.drive_core.specs.ExclusiveRows.{tests_of, torn, TornAt, IsCommand}
 use Rattle.drive_core.specs.Rows.{ExclusiveRow, PhaseRow, StrayRow, IsStep}
-use Rattle.drive_core.specs.Run.{HasCalls, CommandCalls, RefusedCalls, IsEvent}
+use Rattle.drive_core.specs.Run.{HasCalls, CommandCalls, RefusedCalls}
 use Rattle.drive_core.specs.Headline.{OpensToPrefix, Leaves, Rests}
 use Rattle.drive_core.specs.Ties.{Steps, growths_in_hand, disk_of}
 use Rattle.drive_core.specs.VaultTies.{IsExclusive, calls_between}

@@ -1,5 +1,5 @@
 -- The ticks and the fold of a vault as steps of the exclusive phase.
-use Rattle.std.proofs.Common.{◌≡◌, ◌⊎◌, inl, inr, ℕ, ◌+◌, ◌≤◌, ◌<◌, ◌^◌, Bool, true, false, List, [], ◌∷◌, ◌++◌, length, take, Option, Some, None, refl, sym, ap, subst, ◌∙◌, arith}
+use Rattle.std.proofs.Common.{◌≡◌, inl, inr, ℕ, ◌+◌, Bool, true, false, List, length, take, refl, sym, ap, subst, ◌∙◌, arith}
 use Rattle.std.proofs.Math.Seq.{take-length}
 use Rattle.record_core.specs.Bytes.{Encoding}
 use Rattle.disk_core.specs.State.{State, IsImage, now}
@@ -7,12 +7,10 @@ use Rattle.disk_core.specs.Moments.{LeavesOnly, clock}
 use Rattle.disk_core.proofs.JoinedMoments.{LeavesOnly-weaker}
 use Rattle.segment_core.specs.Command.{content}
 use Rattle.segment_core.specs.Written.{joined}
-use Rattle.pen_core.specs.PenOf.{PenOf, JobOf}
-use Rattle.pen_core.specs.Pen.{MayOpen, IsKept, IsFoldAnswer, IsUnchanged, IsTickFault, IsHomeFault}
+use Rattle.pen_core.specs.PenOf.{PenOf}
+use Rattle.pen_core.specs.Pen.{MayOpen, IsKept, IsFoldAnswer, IsUnchanged}
 use Rattle.pen_core.specs.Typed.{OpensTo}
-use Rattle.pen_core.specs.declared.fault.PenFault.{PenFault}
 use Rattle.pen_core.specs.declared.fault.PenFault.TheVariants as pen
-use Rattle.flush_core.specs.declared.lane.Lane.{Lane}
 use Rattle.flush_core.specs.declared.lane.Lane.TheVariants as lanes
 use Rattle.flush_core.specs.declared.lane.Tick.{Tick}
 use Rattle.flush_core.specs.declared.lane.Tick.TheVariants as ticks
@@ -22,16 +20,14 @@ use Rattle.vault_core.specs.declared.fault.VaultFault.TheVariants as vault
 use Rattle.vault_core.specs.Vault.{VaultOf, list_of, MayHold}
 use Rattle.vault_core.specs.Commands as commands
 use Rattle.drive_core.specs.declared.fault.Fault.TheVariants.{Vault}
-use Rattle.drive_core.specs.Line.{is_vault_memory}
 use Rattle.drive_core.specs.Step.{Step, Answer}
 use Rattle.drive_core.specs.Step as step
-use Rattle.drive_core.specs.World.{World, DiskOf, hand_of, vector}
-use Rattle.drive_core.specs.LaneRows.{IsLog, IsHome}
+use Rattle.drive_core.specs.World.{World, DiskOf, hand_of}
 use Rattle.drive_core.specs.Headline.{OpensToPrefix, Leaves}
 use Rattle.drive_core.specs.Ties.{Steps, growths_in_hand, disk_of}
 use Rattle.drive_core.specs.VaultTies.{IsExclusive, calls_between}
-use Rattle.drive_core.proofs.PenLanes.{behind_call, brought, IsLaneEvent, log_answered, log_refused, home_answered, home_refused, due_few, home_few}
-use Rattle.drive_core.proofs.PenFolds.{behind_fold, Plans, Opening, fold_answered, fold_refused, begun_disk, begun_job, hand_unchanged}
+use Rattle.drive_core.proofs.PenLanes.{behind_call, brought, log_answered, log_refused, home_answered, home_refused, due_few, home_few}
+use Rattle.drive_core.proofs.PenFolds.{Plans, Opening, fold_answered, fold_refused, begun_disk, begun_job, hand_unchanged}
 use Rattle.drive_core.proofs.VaultEvents.{vault_steps, still_steps, differ}
 
 module _ {R D : Type 0} (form : Encoding R) (states : D → List State) (faults : D → ℕ) (keeps : D → Type 0) (w : World R) (v : VaultOf R D) (tie : IsExclusive states faults keeps w v) (new : VaultOf R D) where

@@ -1,5 +1,5 @@
 -- The list as a seat knows it.
-use Rattle.std.proofs.Common.{◌≡◌, inl, inr, ℕ, zero, suc, [], ◌∷◌, slice_set, ◌+◌, ◌<◌, List, ◌++◌, length, take, Some, None, refl, sym, ap, subst, ◌∙◌, slice_get, slice_index}
+use Rattle.std.proofs.Common.{◌≡◌, inl, inr, ℕ, zero, suc, [], ◌∷◌, slice_set, ◌<◌, List, ◌++◌, length, Some, refl, sym, ap, subst, ◌∙◌, slice_get, slice_index}
 use Rattle.std.proofs.lemmas.Option.{same_Some}
 use Rattle.record_core.specs.Bytes.{Encoding}
 use Rattle.disk_core.specs.State.{State}

@@ -1,5 +1,5 @@
 -- Worked prefixes: what a crash may leave of a history of which all, a part or nothing is settled.
-use Rattle.std.proofs.Common.{◌≡◌, ◌⊎◌, inl, inr, ℕ, zero, suc, ◌≤◌, List, [], ◌∷◌, length, take, subst, arith}
+use Rattle.std.proofs.Common.{◌⊎◌, inl, inr, ℕ, zero, suc, ◌≤◌, List, [], ◌∷◌, length, take, subst, arith}
 use Rattle.std.proofs.lemmas.List.{take_all}
 use Rattle.record_core.specs.Bytes.{Encoding}
 use Rattle.segment_core.specs.Command.{Command, content}

@@ -1,11 +1,13 @@
 -- Worked lines: which faults each kind has, which answers a row may give, and which counts of calls.
-use Rattle.std.proofs.Common.{◌≡◌, ◌⊎◌, inl, inr, ℕ, zero, suc, ◌+◌, ◌≤◌, Bool, true, false, List, [], ◌∷◌, length, Option, Some, None, refl, ap, sym, ◌∙◌, arith}
+use Rattle.std.proofs.Common.{◌≡◌, ◌⊎◌, inl, inr, ℕ, zero, suc, ◌-◌, ◌≤◌, Bool, true, false, List, [], ◌∷◌, length, Option, Some, None, refl, ap, ◌∙◌, arith}
 use Rattle.std.proofs.lemmas.Option.{same_Some}
+use Rattle.std.specs.Prelude.{replicate, slice_get}
 use Rattle.disk_core.specs.declared.fault.DiskFault.{DiskFault}
+use Rattle.disk_core.specs.declared.fault.DiskFault.TheVariants as causes
 use Rattle.segment_core.specs.declared.fault.ScanFault.{ScanFault}
+use Rattle.pen_core.specs.Births.{calls_of_creation}
 use Rattle.pen_core.specs.declared.fault.PenFault.TheVariants as pen
 use Rattle.book_core.specs.declared.fault.GrowFault.TheVariants as grow
-use Rattle.book_core.specs.declared.mark.MarkState.{MarkState}
 use Rattle.book_core.specs.declared.mark.MarkState.TheVariants.{Running, Ended}
 use Rattle.vault_core.specs.declared.fault.VaultFault.TheVariants as vault
 use Rattle.drive_core.specs.declared.fault.Fault.{Fault}
@@ -19,6 +21,7 @@ use Rattle.drive_core.specs.World.{World, Hand, Growth, vector_at}
 use Rattle.drive_core.specs.Outcome.{elsewhere}
 use Rattle.drive_core.specs.GrowthRows.{within, knowing, put_lines, IsLook, IsSettled}
 use Rattle.drive_core.specs.LaneRows.{device_lines}
+use Rattle.drive_core.specs.OpeningRows.{AreCallsOfMaking}
 use Rattle.drive_core.specs.Run.{CreateCalls, OpenFaultCalls}
 use Rattle.drive_core.proofs.WorkedSteps.{shared, two, phase_of}
 
@@ -219,3 +222,25 @@ finds_in_eight calls = omega (arith, calls)
 
 fails_at_a_call : (cause : DiskFault) → OpenFaultCalls (Vault (vault.Pen (pen.Disk cause))) 0 → ⊥
 fails_at_a_call cause calls = omega (arith, calls)
+
+-- where the disk has no byte a creation makes eight calls, and where it has thirteen it finds the file by the second
+creates_in : (n : ℕ) → AreCallsOfMaking [] None n → n ≡ 8
+creates_in n calls = calls
+
+abbrev thirteen : List ℕ
+thirteen = replicate 13 0
+
+finds_by_length : (n : ℕ) → AreCallsOfMaking thirteen (Some pen.Exists) n → n ≡ 2
+finds_by_length n calls = elim calls [
+  | inl length ↦ (let place = the_second (n - 1) length.1.1 in let some = length.1.0 in omega (arith, place, some))
+  | inr read ↦ absurd (let few = read.0 in omega (arith, few))
+]
+  where
+    the_second : (k : ℕ) → slice_get (calls_of_creation thirteen) k ≡ Some causes.Length → k ≡ 1
+    the_second zero is = absurd cc
+    the_second (suc zero) is = refl
+    the_second (suc (suc zero)) is = absurd cc
+    the_second (suc (suc (suc zero))) is = absurd cc
+    the_second (suc (suc (suc (suc zero)))) is = absurd cc
+    the_second (suc (suc (suc (suc (suc zero))))) is = absurd cc
+    the_second (suc (suc (suc (suc (suc (suc k)))))) is = absurd cc

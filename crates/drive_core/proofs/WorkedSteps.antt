@@ -1,5 +1,5 @@
 -- Worked steps: growths that a flusher settles, and answers that no table allows.
-use Rattle.std.proofs.Common.{◌≡◌, ◌⊎◌, inl, inr, ℕ, Bool, true, false, List, [], ◌∷◌, length, Option, Some, None, refl, ap, sym, ◌∙◌}
+use Rattle.std.proofs.Common.{◌≡◌, inl, inr, ℕ, Bool, true, false, [], ◌∷◌, Some, None, refl, ap, sym, ◌∙◌}
 use Rattle.std.proofs.lemmas.Option.{same_Some}
 use Rattle.std.specs.Int.{w64}
 use Rattle.record_core.specs.Bytes.{unsigned}
@@ -12,13 +12,13 @@ use Rattle.book_core.specs.declared.fault.GrowFault.TheVariants as grow
 use Rattle.vault_core.specs.declared.fault.VaultFault.TheVariants as vault
 use Rattle.drive_core.specs.declared.fault.Fault.{Fault}
 use Rattle.drive_core.specs.declared.fault.Fault.TheVariants.{Vault, Grow}
-use Rattle.drive_core.specs.Line.{Line, Might, Allows, is_vault_memory}
+use Rattle.drive_core.specs.Line.{Might, Allows, is_vault_memory}
 use Rattle.drive_core.specs.Step as step
 use Rattle.drive_core.specs.World.{World, Growth, Phase, Shut, Exclusive, Growing, start, vector, next_group}
 use Rattle.drive_core.specs.OpeningRows.{opened, empty_file}
-use Rattle.drive_core.specs.GrowthRows.{within, knowing, with_growth, receipt_of, with_group, put_lines}
+use Rattle.drive_core.specs.GrowthRows.{within, knowing, with_growth, receipt_of, with_group}
 use Rattle.drive_core.specs.ExclusiveRows.{share_lines, first_growth}
-use Rattle.drive_core.specs.LaneRows.{done, device_lines, fold_lines}
+use Rattle.drive_core.specs.LaneRows.{done, fold_lines}
 
 -- ---- two seats put two growths, and the flusher settles them
 

@@ -1,5 +1,5 @@
 -- The steps and answers of the code as those of the machine.
-use Rattle.std.specs.Prelude.{ℕ, List, map}
+use Rattle.std.specs.Prelude.{ℕ, List}
 use Rattle.disk_core.specs.State.{State}
 use Rattle.segment_core.specs.declared.format.Format.TheVariants.{One, Two}
 use Rattle.drive_core.specs.declared.step.Step as code

@@ -12,8 +12,10 @@ use Rattle.segment_core.specs.Tally.{tally_of}
 use Rattle.segment_core.specs.Vector.{HasVector}
 use Rattle.segment_core.specs.Fault.{IsRefused}
 use Rattle.pen_core.specs.Held.{gate_of}
-use Rattle.pen_core.specs.Opening.{OnlySyncs}
+use Rattle.pen_core.specs.Opening.{OnlySyncs, AreCallsDone, AreCallsMade}
 use Rattle.pen_core.specs.Births.{IsExisting, StaysUnbornOrEmpty, WritesNothing, AreCallsUntil, calls_of_creation}
+use Rattle.pen_core.specs.declared.fault.OpenFault.{OpenFault}
+use Rattle.pen_core.specs.declared.fault.OpenFault.TheVariants as openings
 use Rattle.pen_core.specs.declared.fault.PenFault.{PenFault}
 use Rattle.pen_core.specs.declared.fault.PenFault.TheVariants as pen_fault
 use Rattle.drive_core.specs.declared.fault.Fault.{Fault}
@@ -33,24 +35,34 @@ abbrev pub empty_file : Shape → File
 empty_file shape = record { shape = shape; gate = 11; changes = 0; folded = 0 }
 
 -- how many device calls a creation has made that ended so
-abbrev pub AreCallsTo : List ℕ → Option PenFault → ℕ → Type 0
-AreCallsTo bytes None n = n ≡ length (calls_of_creation bytes)
-AreCallsTo bytes (Some fault) n = AreCallsUntil bytes (calls_of_creation bytes) fault n
+abbrev pub AreCallsOfMaking : List ℕ → Option PenFault → ℕ → Type 0
+AreCallsOfMaking bytes None n = n ≡ length (calls_of_creation bytes)
+AreCallsOfMaking bytes (Some fault) n = AreCallsUntil bytes (calls_of_creation bytes) fault n
 
 -- What a creation leaves. Where there was a file nothing is written; else, from the first sync on that succeeded, each
 -- image is no file yet or the empty one.
 pub record IsMaking (shape : Shape) (ended : Option PenFault) (old new : List State) : Type 0 where
   pub existed : IsExisting (bytes_of old) → WritesNothing old new
   pub born : StaysUnbornOrEmpty shape old new
-  pub calls : AreCallsTo (bytes_of old) ended (clock new - clock old)
+  pub calls : AreCallsOfMaking (bytes_of old) ended (clock new - clock old)
+
+-- how many device calls an opening has made that ended so, of so many bytes
+abbrev pub AreCallsOfOpening : ℕ → Option OpenFault → ℕ → Type 0
+AreCallsOfOpening len None n = AreCallsDone len n
+AreCallsOfOpening len (Some fault) n = AreCallsMade len fault n
+
+-- What an opening leaves: nothing is written, and a crash within it leaves what it might have left before.
+pub record IsOpening (ended : Option OpenFault) (old new : List State) : Type 0 where
+  pub syncs : OnlySyncs old new
+  pub calls : AreCallsOfOpening (length (bytes_of old)) ended (clock new - clock old)
 
 module _ {R : Type 0} where
-  abbrev pub HasTried : Type 0 → Shape → Option PenFault → World R → World R → Type 0
-  HasTried keeps shape ended w w' = keeps → IsMaking shape ended w.disk.states w'.disk.states
+  abbrev pub HasTriedToMake : Type 0 → Shape → Option PenFault → World R → World R → Type 0
+  HasTriedToMake keeps shape ended w w' = keeps → IsMaking shape ended w.disk.states w'.disk.states
 
   abbrev pub NotCreated : Type 0 → Shape → World R → World R → Fault → Type 0
-  NotCreated keeps shape w w' (Vault (vault.Pen (pen_fault.Disk fault))) = HasFailed w w' × HasTried keeps shape (Some (pen_fault.Disk fault)) w w' × (w' ≡ elsewhere w w')
-  NotCreated keeps shape w w' (Vault (vault.Pen pen_fault.Exists)) = (keeps → IsExisting (bytes_of w.disk.states)) × HasTried keeps shape (Some pen_fault.Exists) w w' × (w' ≡ elsewhere w w')
+  NotCreated keeps shape w w' (Vault (vault.Pen (pen_fault.Disk fault))) = HasFailed w w' × HasTriedToMake keeps shape (Some (pen_fault.Disk fault)) w w' × (w' ≡ elsewhere w w')
+  NotCreated keeps shape w w' (Vault (vault.Pen pen_fault.Exists)) = (keeps → IsExisting (bytes_of w.disk.states)) × HasTriedToMake keeps shape (Some pen_fault.Exists) w w' × (w' ≡ elsewhere w w')
   NotCreated keeps shape w w' (Vault other) = w' ≡ w
   NotCreated keeps shape w w' (InGrow fault) = ⊥
   NotCreated keeps shape w w' (Scan fault) = ⊥
@@ -61,7 +73,7 @@ module _ {R : Type 0} where
 module _ {R : Type 0} (form : Encoding R) where
   abbrev pub IsCreate : Type 0 → World R → Format → Answer R → World R → Type 0
   IsCreate keeps w format answer w' = Outcome (Might is_vault_memory ∷ Might is_disk ∷ Might is_exists ∷ []) answer
-      ((answer ≡ step.Fine) × (keeps → IsExisting (bytes_of w.disk.states) → ⊥) × HasTried keeps (shape_of format form) None w w' × (w' ≡ elsewhere (opened w [] (empty_file (shape_of format form))) w'))
+      ((answer ≡ step.Fine) × (keeps → IsExisting (bytes_of w.disk.states) → ⊥) × HasTriedToMake keeps (shape_of format form) None w w' × (w' ≡ elsewhere (opened w [] (empty_file (shape_of format form))) w'))
       (NotCreated keeps (shape_of format form) w w')
 
   -- the vector of these bytes, and what a pen counts of them
@@ -71,17 +83,16 @@ module _ {R : Type 0} (form : Encoding R) where
     pub vector : HasVector format form bytes frames base
     pub file_is : file ≡ record { shape = shape_of format form; gate = gate_of (shape_of format form) frames; changes = (tally_of frames).changes; folded = (tally_of frames).folded }
 
-  -- nothing is written: a crash within the opening leaves what it might have left before
-  abbrev pub HasLooked : Type 0 → World R → World R → Type 0
-  HasLooked keeps w w' = keeps → OnlySyncs w.disk.states w'.disk.states
+  abbrev pub HasTriedToOpen : Type 0 → Option OpenFault → World R → World R → Type 0
+  HasTriedToOpen keeps ended w w' = keeps → IsOpening ended w.disk.states w'.disk.states
 
   abbrev pub NotOpened : Type 0 → World R → World R → Fault → Type 0
-  NotOpened keeps w w' (Vault (vault.Pen (pen_fault.Disk fault))) = HasFailed w w' × HasLooked keeps w w' × (w' ≡ elsewhere w w')
+  NotOpened keeps w w' (Vault (vault.Pen (pen_fault.Disk fault))) = HasFailed w w' × HasTriedToOpen keeps (Some (openings.Disk fault)) w w' × (w' ≡ elsewhere w w')
   NotOpened keeps w w' (Vault other) = ⊥
   NotOpened keeps w w' (InGrow fault) = ⊥
-  NotOpened keeps w w' (Scan fault) = (keeps → IsRefused form (bytes_of w.disk.states) fault) × HasLooked keeps w w' × (w' ≡ elsewhere w w')
+  NotOpened keeps w w' (Scan fault) = (keeps → IsRefused form (bytes_of w.disk.states) fault) × HasTriedToOpen keeps (Some (openings.Scan fault)) w w' × (w' ≡ elsewhere w w')
 
   abbrev pub IsOpen : Type 0 → World R → Answer R → World R → Type 0
   IsOpen keeps w answer w' = Outcome (Might is_disk ∷ Might is_scan ∷ []) answer
-      ((base : List R) × (file : File) × (answer ≡ step.Size (length base)) × (keeps → HasRead (bytes_of w.disk.states) base file) × HasLooked keeps w w' × (w' ≡ elsewhere (opened w base file) w'))
+      ((base : List R) × (file : File) × (answer ≡ step.Size (length base)) × (keeps → HasRead (bytes_of w.disk.states) base file) × HasTriedToOpen keeps None w w' × (w' ≡ elsewhere (opened w base file) w'))
       (NotOpened keeps w w')

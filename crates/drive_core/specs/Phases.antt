@@ -1,5 +1,5 @@
 -- What is in hand between two steps, and what ties a world to it.
-use Rattle.std.specs.Prelude.{◌≡◌, ℕ, List, Option, None}
+use Rattle.std.specs.Prelude.{◌≡◌, ℕ, List, None}
 use Rattle.record_core.specs.Bytes.{Encoding}
 use Rattle.disk_core.specs.State.{State}
 use Rattle.drive_core.specs.declared.phase.Phase as code

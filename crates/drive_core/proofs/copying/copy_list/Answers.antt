@@ -1,5 +1,4 @@
-use Rattle.std.proofs.Common.{◌∙◌, ap, sym, ◌++◌, ◌∷◌, [], arith, ◌≤◌, length}
-use Rattle.std.proofs.lemmas.List.{take_all}
+use Rattle.std.proofs.Common.{◌∙◌, ap, sym, ◌++◌, ◌∷◌, []}
 use Rattle.segment_core.proofs.Written.{take_more}
 use Rattle.vault_core.specs.Vault as vaults
 use Rattle.drive_core.proofs.copying.copy_list.Goals as goal

@@ -1,6 +1,6 @@
-use Rattle.std.proofs.Common.{◌∙◌, ap, sym, subst, ◌≡◌, Some, slice_get, length, ◌≤◌, arith}
+use Rattle.std.proofs.Common.{◌∙◌, ap, sym, subst, ◌≡◌, Some, slice_get}
 use Rattle.book_core.specs.Lists.{pieces_of, IsSeatOf}
-use Rattle.drive_core.proofs.Copies.{pieces_more, pieces_all}
+use Rattle.drive_core.proofs.Copies.{pieces_more}
 use Rattle.drive_core.proofs.copying.copy_view.Goals as goal
 
 pub piece_at-requires-clause-of : goal.piece_at-requires-clause-of

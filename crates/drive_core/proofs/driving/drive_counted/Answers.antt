@@ -1,4 +1,4 @@
-use Rattle.std.proofs.Common.{arith, ◌≡◌, ◌-◌, ◌%◌, ◌^◌, ℕ, refl, sym, ap, subst, ◌∙◌, map, None}
+use Rattle.std.proofs.Common.{arith, ◌-◌, ◌%◌, ◌^◌, ℕ, refl, sym, ap, subst, ◌∙◌, map}
 use Rattle.disk_core.specs.Moments.{clock}
 use Rattle.drive_core.specs.Asked.{step_of, answer_of}
 use Rattle.drive_core.specs.Counted.{below}

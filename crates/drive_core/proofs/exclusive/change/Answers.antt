@@ -1,4 +1,4 @@
-use Rattle.std.proofs.Common.{refl, sym, ◌∙◌}
+use Rattle.std.proofs.Common.{refl, ◌∙◌}
 use Rattle.drive_core.proofs.VaultEvents.{rests_lent}
 use Rattle.drive_core.proofs.OneChange.{one_answers, one_refuses}
 use Rattle.drive_core.proofs.exclusive.change.Goals as goal

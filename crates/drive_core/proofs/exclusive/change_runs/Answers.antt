@@ -1,4 +1,4 @@
-use Rattle.std.proofs.Common.{refl, sym, ap, ◌∙◌, subst, ◌<◌, ◌≡◌, length, arith}
+use Rattle.std.proofs.Common.{refl, ap, ◌∙◌, arith}
 use Rattle.segment_core.specs.Runs as run_lists
 use Rattle.drive_core.specs.Given.{pieces_of}
 use Rattle.drive_core.proofs.VaultEvents.{rests_lent}

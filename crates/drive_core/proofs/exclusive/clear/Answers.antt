@@ -1,4 +1,4 @@
-use Rattle.std.proofs.Common.{refl, sym, ◌∙◌}
+use Rattle.std.proofs.Common.{refl, ◌∙◌}
 use Rattle.drive_core.proofs.VaultEvents.{rests_lent}
 use Rattle.drive_core.proofs.Resized.{clear_answers, clear_refuses}
 use Rattle.drive_core.proofs.exclusive.clear.Goals as goal

@@ -1,5 +1,4 @@
-use Rattle.std.proofs.Common.{refl}
-use Rattle.drive_core.proofs.GrowthEvents.{asked_steps, misplaced_steps}
+use Rattle.drive_core.proofs.GrowthEvents.{asked_steps}
 use Rattle.drive_core.proofs.growth.answer.Goals as goal
 
 pub returns-in-Take-clause-steps : goal.returns-in-Take-clause-steps

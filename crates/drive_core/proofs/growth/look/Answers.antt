@@ -1,4 +1,4 @@
-use Rattle.std.proofs.Common.{refl, ap, Some, None}
+use Rattle.std.proofs.Common.{ap, Some, None}
 use Rattle.drive_core.specs.Step as step
 use Rattle.drive_core.specs.GrowthRows.{IsLook}
 use Rattle.drive_core.proofs.GrowthEvents.{seat_steps, misplaced_steps, of_none, wrong, by_clock, same_asked}

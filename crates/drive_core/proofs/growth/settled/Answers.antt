@@ -1,4 +1,3 @@
-use Rattle.std.proofs.Common.{refl}
 use Rattle.drive_core.specs.Step as step
 use Rattle.drive_core.specs.GrowthRows.{IsSettled}
 use Rattle.drive_core.proofs.GrowthEvents.{seat_steps, misplaced_steps, of_none, wrong}

@@ -1,8 +1,8 @@
-use Rattle.std.proofs.Common.{refl, sym, ap, ◌∙◌}
+use Rattle.std.proofs.Common.{sym, ap, ◌∙◌}
 use Rattle.drive_core.specs.Asked.{step_of}
 use Rattle.drive_core.specs.Step as step
 use Rattle.drive_core.specs.Given.{pieces_of}
-use Rattle.drive_core.proofs.PhaseEvents.{same_step, exclusive_misplaced}
+use Rattle.drive_core.proofs.PhaseEvents.{same_step}
 use Rattle.drive_core.proofs.phase.command.Goals as goal
 
 pub returns-in-Fold-clause-steps : goal.returns-in-Fold-clause-steps

@@ -1,6 +1,4 @@
-use Rattle.std.proofs.Common.{refl, ap}
-use Rattle.drive_core.specs.Asked.{step_of}
-use Rattle.drive_core.proofs.PhaseEvents.{same_step, steps_left, left_exclusive}
+use Rattle.drive_core.proofs.PhaseEvents.{steps_left, left_exclusive}
 use Rattle.drive_core.proofs.phase.exclusive_step.Goals as goal
 
 pub returns-clause-steps : goal.returns-clause-steps

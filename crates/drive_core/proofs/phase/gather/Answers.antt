@@ -1,5 +1,4 @@
-use Rattle.std.proofs.Common.{refl, sym, subst, ◌∙◌}
-use Rattle.vault_core.specs.Vault.{list_of}
+use Rattle.std.proofs.Common.{refl, sym, subst}
 use Rattle.drive_core.proofs.PhaseEvents.{gather_answers, gather_refuses}
 use Rattle.drive_core.proofs.phase.gather.Goals as goal
 

@@ -1,6 +1,6 @@
-use Rattle.std.proofs.Common.{refl, ap}
+use Rattle.std.proofs.Common.{ap}
 use Rattle.drive_core.specs.Asked.{step_of}
-use Rattle.drive_core.proofs.PhaseEvents.{same_step, shut_misplaced}
+use Rattle.drive_core.proofs.PhaseEvents.{same_step}
 use Rattle.drive_core.proofs.phase.shut_step.Goals as goal
 
 pub returns-in-Create-clause-steps : goal.returns-in-Create-clause-steps

@@ -1,5 +1,5 @@
-use Rattle.std.proofs.Common.{refl, sym, ap, ◌∙◌, ◌≡◌, Some, None, slice_get}
-use Rattle.drive_core.specs.Given.{given, pieces_of, record_at, or_else}
+use Rattle.std.proofs.Common.{sym, ap, ◌∙◌, ◌≡◌, Some, None}
+use Rattle.drive_core.specs.Given.{record_at}
 use Rattle.drive_core.proofs.Seats.{lent_at}
 use Rattle.drive_core.proofs.Givens.{given_some, given_none, given_past}
 use Rattle.drive_core.proofs.given.GivenRunsTouch.one.Goals as goal

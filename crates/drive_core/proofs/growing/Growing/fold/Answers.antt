@@ -1,4 +1,4 @@
-use Rattle.std.proofs.Common.{ap, refl, subst, ◌∙◌}
+use Rattle.std.proofs.Common.{ap, subst, ◌∙◌}
 use Rattle.drive_core.specs.Step as step
 use Rattle.drive_core.specs.Asked.{answer_of}
 use Rattle.drive_core.proofs.Folds.{fold_answers, fold_refuses, opens_lent}

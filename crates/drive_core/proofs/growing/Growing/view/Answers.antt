@@ -1,6 +1,6 @@
-use Rattle.std.proofs.Common.{ap, arith, refl, sym, subst, ◌<◌, ◌∙◌, length}
+use Rattle.std.proofs.Common.{ap, sym, subst, ◌<◌, length}
 use Rattle.drive_core.specs.Asked.{answer_of}
-use Rattle.drive_core.proofs.Seats.{of_replaced, lent_at, length_set}
+use Rattle.drive_core.proofs.Seats.{lent_at}
 use Rattle.drive_core.proofs.Viewed.{view_answers, view_refuses}
 use Rattle.drive_core.proofs.growing.Growing.view.Goals as goal
 use Rattle.drive_core.proofs.growing.Growing.view.Goals.{in-Ok, in-Err}
