@@ -1,5 +1,6 @@
 -- Small facts on results and lists.
-use Rattle.std.proofs.Common.{◌≡◌, ◌≢◌, ◌<◌, Bool, true, false, List, [], ◌∷◌, length, Option, Some, None, Result, Ok, Err, refl, sym, ◌∙◌, arith}
+use Rattle.std.proofs.Common.{◌≡◌, ◌≢◌, ◌<◌, Bool, true, false, List, [], ◌∷◌, ◌++◌, length, Option, Some, None, Result, Ok, Err, refl, sym, ◌∙◌, arith}
+use Rattle.std.specs.List.{AllByRecursion}
 use Rattle.std.specs.Prelude.{is_ok, OnOk, IfSome, IfNone, IsErrAnd, IsTrue}
 
 pub OnOk_from : {T E : Type 0} (r : Result T E) (P : Type 0) → (is_ok r ≡ true → P) → OnOk r P
@@ -38,3 +39,7 @@ nil_from_test (x ∷ xs) b none some = let is : false ≡ true = sym none ∙ so
 pub some_from_test : {X : Type 0} (xs : List X) (b : Bool) → b ≡ true → (IsTrue b → xs ≢ []) → 0 < length xs
 some_from_test [] b is some = absurd (some is refl)
 some_from_test (x ∷ xs) b is some = omega arith
+
+pub push_all : {X : Type 0} (P : X → Type 0) (xs : List X) (x : X) → AllByRecursion P xs → P x → AllByRecursion P (xs ++ x ∷ [])
+push_all P [] x all one = (one, tt)
+push_all P (y ∷ xs) x all one = (all.0, push_all P xs x all.1 one)

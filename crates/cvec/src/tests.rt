@@ -2,6 +2,7 @@
 
 mod record_types;
 mod worked_files;
+mod worked_scripts;
 
 use crate::image::image;
 use crate::input::INPUT_LIMIT;
@@ -504,7 +505,13 @@ fn words_choose_the_engine(rt: HostRuntime) -> Result<(), Fail> {
     for (words, input, code, text) in runs {
         let mut reader = input;
         let mut written = Vec::new(alloc);
-        let status = run::<&str, &[u8], Vec<u8>>(alloc, words, &mut reader, &mut written);
+        let status = run::<&str, &[u8], Vec<u8>, HostRuntime>(
+            alloc,
+            &rt,
+            words,
+            &mut reader,
+            &mut written,
+        );
         assert_eq!(rt; status.code(), code);
         assert_eq!(rt; written.as_slice(), text);
     }
