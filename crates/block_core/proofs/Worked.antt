@@ -4,7 +4,7 @@ use Rattle.block_core.specs.declared.fault.FreshFault.{FreshFault}
 use Rattle.block_core.specs.declared.fault.FreshFault.TheVariants.{Empty, TooLarge, Memory}
 use Rattle.block_core.specs.Growth.{labelled}
 use Rattle.block_core.specs.Left.{left_in}
-use Rattle.block_core.specs.Length.{IsBlockLength, IsLengthFault, IsRefusal}
+use Rattle.block_core.specs.Length.{IsBlockLength, IsLengthFault, IsBlockRefusal}
 use Rattle.block_core.specs.Touched.{TouchedFrom}
 
 -- what is left in three records of which two were lent, and in two of which no more are taken back
@@ -27,17 +27,17 @@ too_many block = let fits = block.fits in omega arith
 none_is_no_block : IsBlockLength 8 0 → ⊥
 none_is_no_block block = let some = block.some in omega arith
 
-refused_none : (fault : FreshFault) → IsRefusal 8 0 fault → fault ≡ Empty
+refused_none : (fault : FreshFault) → IsBlockRefusal 8 0 fault → fault ≡ Empty
 refused_none Empty is = refl
 refused_none TooLarge is = absurd (omega arith)
 refused_none Memory is = absurd (none_is_no_block is)
 
-refused_many : (fault : FreshFault) → IsRefusal 8 131072 fault → fault ≡ TooLarge
+refused_many : (fault : FreshFault) → IsBlockRefusal 8 131072 fault → fault ≡ TooLarge
 refused_many Empty is = absurd (omega arith)
 refused_many TooLarge is = refl
 refused_many Memory is = absurd (too_many is)
 
-refused_greatest : (fault : FreshFault) → IsRefusal 8 131071 fault → fault ≡ Memory
+refused_greatest : (fault : FreshFault) → IsBlockRefusal 8 131071 fault → fault ≡ Memory
 refused_greatest Empty is = absurd (omega arith)
 refused_greatest TooLarge is = absurd (omega arith)
 refused_greatest Memory is = refl

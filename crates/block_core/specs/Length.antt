@@ -21,7 +21,7 @@ IsLengthFault width n TooLarge = payload_limit < payload_len width n
 IsLengthFault width n Memory = ⊥
 
 -- the fault with which a block of so many records is refused
-abbrev pub IsRefusal : ℕ → ℕ → FreshFault → Type 0
-IsRefusal width n Empty = n ≡ 0
-IsRefusal width n TooLarge = payload_limit < payload_len width n
-IsRefusal width n Memory = IsBlockLength width n
+abbrev pub IsBlockRefusal : ℕ → ℕ → FreshFault → Type 0
+IsBlockRefusal width n Empty = n ≡ 0
+IsBlockRefusal width n TooLarge = payload_limit < payload_len width n
+IsBlockRefusal width n Memory = IsBlockLength width n

@@ -34,7 +34,7 @@ impl<R: Record> Fresh<R> {
     ghost use Rattle.std.specs.Borrow.{sem};
     ghost use Rattle.std.specs.Slice.Iter.{chunks_mut_rest, chunks_mut_size};
     ghost use Rattle.block_core.specs.Growth.{labelled};
-    ghost use Rattle.block_core.specs.Length.{IsBlockLength, IsLengthFault, IsRefusal};
+    ghost use Rattle.block_core.specs.Length.{IsBlockLength, IsLengthFault, IsBlockRefusal};
     ghost use Rattle.block_core.specs.Lent.{LendsRecords, LendsHalves};
     ghost use Rattle.block_core.specs.Touched.{TouchedFrom};
 
@@ -56,7 +56,7 @@ impl<R: Record> Fresh<R> {
     pub fn new(alloc: Global, n: u64) -> Result<Fresh<R>, FreshFault>
         ensures { MatchResult result
             (λ fresh. (fresh ≡ replicate n R.blank_value) × IsBlockLength R.form.width n)
-            (IsRefusal R.form.width n) }
+            (IsBlockRefusal R.form.width n) }
     {
         Fresh::filled(alloc, n, R::blank())
     }
@@ -65,7 +65,7 @@ impl<R: Record> Fresh<R> {
     pub fn from_slice(alloc: Global, records: &[R]) -> Result<Fresh<R>, FreshFault>
         ensures { MatchResult result
             (λ fresh. (fresh ≡ records.now) × IsBlockLength R.form.width (length records.now))
-            (IsRefusal R.form.width (length records.now)) }
+            (IsBlockRefusal R.form.width (length records.now)) }
     {
         Fresh::<R>::check_len(records.len() as u64)?;
         let copies = Vec::from_slice(alloc, records)?;
@@ -76,7 +76,7 @@ impl<R: Record> Fresh<R> {
     pub fn filled(alloc: Global, n: u64, v: R) -> Result<Fresh<R>, FreshFault>
         ensures { MatchResult result
             (λ fresh. (fresh ≡ replicate n v) × IsBlockLength R.form.width n)
-            (IsRefusal R.form.width n) }
+            (IsBlockRefusal R.form.width n) }
     {
         Fresh::<R>::check_len(n)?;
         let len = n as usize;

@@ -7,14 +7,14 @@ use Rattle.std.proofs.lemmas.List.Concat.{length-flat_map}
 use Rattle.std.proofs.lemmas.List.Elements.{filter-append, filter_more}
 use Rattle.std.proofs.lemmas.Option.{slice_get_within, get_or_from_slice_get}
 use Rattle.block_core.specs.Growth.{Growth}
-use Rattle.directory_core.specs.Chain.{total, joined, Begins}
+use Rattle.directory_core.specs.Chain.{total, joined, IsPrefix}
 use Rattle.directory_core.specs.Identity.{Identity}
 use Rattle.book_core.specs.Marks.{MarkName, MarkEnd}
-use Rattle.book_core.specs.Lists.{Phase, Seated, IsOf, own_of}
+use Rattle.book_core.specs.Lists.{Phase, Seated, IsSeatOf, own_of}
 use Rattle.book_core.specs.Beginning.{IsNewSeat, AreNewSeats}
 
 -- a list that begins another has its first elements
-pub take-begins : {X : Type 0} (xs ys : List X) (n : ℕ) → Begins xs ys → n ≤ length xs → take n ys ≡ take n xs
+pub take-begins : {X : Type 0} (xs ys : List X) (n : ℕ) → IsPrefix xs ys → n ≤ length xs → take n ys ≡ take n xs
 take-begins xs ys n begins le = sym (take-take n (length xs) ys le) ∙ ap (λ (zs : List _). take n zs) begins
 
 -- a growth that bears the id is one more
@@ -68,7 +68,7 @@ seats-pop directory mark seats rest None all is = (λ k s at. all k s (ap (λ (x
 seats-pop directory mark seats rest (Some seat) all is = (λ k s at. all k s (ap (λ (xs : List _). slice_get xs k) is ∙ get-push rest seat k s at), all (length rest) seat (ap (λ (xs : List _). slice_get xs (length rest)) is ∙ get-last rest seat))
 
 -- a new seat is of its book
-pub new-is_of : {R : Type 0} (live : Phase R) (id : ℕ) (last : Option (Seated R)) → IfSome last (λ seat. IsNewSeat live.directory live.mark id seat) → IfSome last (λ seat. IsOf live seat)
+pub new-is_of : {R : Type 0} (live : Phase R) (id : ℕ) (last : Option (Seated R)) → IfSome last (λ seat. IsNewSeat live.directory live.mark id seat) → IfSome last (λ seat. IsSeatOf live seat)
 new-is_of live id None new = tt
 new-is_of live id (Some seat) new = record { directory = new.of; mark = ap (λ (m : MarkEnd). m.of) new.marked }
 

@@ -4,7 +4,7 @@ use Rattle.std.proofs.lemmas.Grind.{flat_map-append}
 use Rattle.std.proofs.lemmas.List.{append-nil, append_assoc, length-append, length-map, length-take-le, get_or-map, take_all, take_more, take-map, take-append-drop, drop-append-le}
 use Rattle.std.proofs.lemmas.Option.{slice_get_within, get_or_from_slice_get}
 use Rattle.block_core.specs.Growth.{Growth}
-use Rattle.directory_core.specs.Chain.{total, joined, Agree, Begins}
+use Rattle.directory_core.specs.Chain.{total, joined, Agree, IsPrefix}
 use Rattle.book_core.specs.Lists.{Phase, Seated, opening_of, joined_pieces}
 use Rattle.book_core.specs.Snapshots.{Shown, Shows, full_of, growths_of}
 use Rattle.book_core.proofs.Owns.{length-list}
@@ -12,7 +12,7 @@ use Rattle.book_core.proofs.PieceLists.{joined_pieces-growths}
 use Rattle.book_core.proofs.Slices.{joined-full_of}
 
 -- of two lists that agree the one that isn't longer begins the other
-agree_begins : {X : Type 0} (xs ys : List X) → Agree xs ys → length xs ≤ length ys → Begins xs ys
+agree_begins : {X : Type 0} (xs ys : List X) → Agree xs ys → length xs ≤ length ys → IsPrefix xs ys
 agree_begins [] ys agree le = refl
 agree_begins (x ∷ xs) [] agree le = absurd (omega arith)
 agree_begins (x ∷ xs) (y ∷ ys) agree le =

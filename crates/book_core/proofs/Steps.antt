@@ -3,20 +3,20 @@ use Rattle.std.proofs.Common.{◌≡◌, ℕ, ◌-◌, ◌<◌, ◌≤◌, List,
 use Rattle.std.proofs.lemmas.List.{length-take, take-take}
 use Rattle.block_core.specs.Growth.{Growth}
 use Rattle.block_core.specs.Length.{IsBlockLength}
-use Rattle.directory_core.specs.Chain.{total, Begins}
+use Rattle.directory_core.specs.Chain.{total, IsPrefix}
 use Rattle.directory_core.specs.Limits.{record_limit}
 use Rattle.book_core.specs.declared.fault.GrowFault.{GrowFault}
 use Rattle.book_core.specs.declared.fault.GrowFault.TheVariants.{Closed, Full, TooLong, Strayed, Memory, Empty, TooLarge}
 use Rattle.book_core.specs.declared.seat.Receipt.{Receipt}
 use Rattle.book_core.specs.Lists.{Phase, Seated}
-use Rattle.book_core.specs.Growing.{Learns, growth_of, Grown, FillsOrReaches, size_of, IsBookRefusal, IsFillRefusal}
+use Rattle.book_core.specs.Growing.{SeatLearns, growth_of, Grown, FillsOrReaches, size_of, IsBookRefusal, IsFillRefusal}
 
-pub begins-trans : {X : Type 0} (xs ys zs : List X) → Begins xs ys → Begins ys zs → Begins xs zs
+pub begins-trans : {X : Type 0} (xs ys zs : List X) → IsPrefix xs ys → IsPrefix ys zs → IsPrefix xs zs
 begins-trans xs ys zs a b =
     let long : length xs ≤ length ys = let l = ap length a in omega (arith, length-take (length xs) ys) in
     sym (take-take (length xs) (length ys) zs long) ∙ (ap (λ (ws : List _). take (length xs) ws) b ∙ a)
 
-pub learns-trans : {R : Type 0} (a b c : Seated R) → Learns a b → Learns b c → Learns a c
+pub learns-trans : {R : Type 0} (a b c : Seated R) → SeatLearns a b → SeatLearns b c → SeatLearns a c
 learns-trans a b c ab bc = record {
   id = bc.id ∙ ab.id;
   mark = bc.mark ∙ ab.mark;
@@ -25,7 +25,7 @@ learns-trans a b c ab bc = record {
   begins = begins-trans a.pass.entries b.pass.entries c.pass.entries ab.begins bc.begins;
 }
 
-pub grown-after : {R : Type 0} (live : Phase R) (a b c : Seated R) (records : List R) (receipt : Receipt) → Learns a b → Grown live b c records receipt → Grown live a c records receipt
+pub grown-after : {R : Type 0} (live : Phase R) (a b c : Seated R) (records : List R) (receipt : Receipt) → SeatLearns a b → Grown live b c records receipt → Grown live a c records receipt
 grown-after live a b c records receipt ab grown =
     let same : growth_of b grown.before records ≡ growth_of a grown.before records = λ i. record { number = length grown.before; start = total grown.before; seat = ab.id i; serial = length (ab.made i); records = records } in
     record {
@@ -42,7 +42,7 @@ grown-after live a b c records receipt ab grown =
       same = (grown.same.0 ∙ ab.id, grown.same.1 ∙ ab.mark, grown.same.2 ∙ ab.of);
     }
 
-pub fill-after : {R : Type 0} (live : Phase R) (a b c : Seated R) (n : ℕ) (v : R) (r : Result (Option Receipt) GrowFault) → Learns a b
+pub fill-after : {R : Type 0} (live : Phase R) (a b c : Seated R) (n : ℕ) (v : R) (r : Result (Option Receipt) GrowFault) → SeatLearns a b
     → FillsOrReaches live b c n v r → FillsOrReaches live a c n v r
 fill-after live a b c n v (Ok None) ab told = (learns-trans a b c ab told.0, told.1)
 fill-after live a b c n v (Ok (Some receipt)) ab told = record { count = told.count; grown = grown-after live a b c (replicate told.count v) receipt ab told.grown; some = told.some; ends = told.ends }

@@ -16,7 +16,7 @@ use Rattle.book_core.specs.Lists.{Phase, Seated, IsRestOfPiece, joined_pieces, o
 use Rattle.book_core.specs.Pieces.{from_place, IsLeftOf}
 use Rattle.book_core.specs.Snapshots.{AreLaid, full_of, Shows}
 use Rattle.book_core.specs.Beginning.{IsNewSeat, MayBegin, IsBeginRefusal}
-use Rattle.book_core.specs.Growing.{Learns, IsPast, IsTold, IsToldOf}
+use Rattle.book_core.specs.Growing.{SeatLearns, IsPast, SeatIsTold, IsToldOf}
 use Rattle.book_core.proofs.PieceLists.{length-from_place}
 
 -- a growth isn't past while as many are settled as stand before it, and the mark runs
@@ -34,7 +34,7 @@ no_restart : (m n : ℕ) → Rises (record { count = m; state = Ended }) (record
 no_restart m n rises = rises.state tt
 
 -- a seat that knew a growth doesn't learn that there is none
-no_forgetting : {R : Type 0} (old new : Seated R) (e : Growth R) → old.pass.entries ≡ e ∷ [] → new.pass.entries ≡ [] → Learns old new → ⊥
+no_forgetting : {R : Type 0} (old new : Seated R) (e : Growth R) → old.pass.entries ≡ e ∷ [] → new.pass.entries ≡ [] → SeatLearns old new → ⊥
 no_forgetting old new e knew none learns = let begins = learns.begins in grind (arith, ap length knew, ap length none, begins)
 
 -- position 2 of [1, 2], none and [3] is the third piece's first place
@@ -96,20 +96,20 @@ module _ (name : Name) (mark : MarkName) (held : Held) where
   not_behind stand = own_in stand.first stand.are
 
   -- of the mark alone: neither what a seat knows nor what the mark was doesn't tell
-  told_no_growth : (count : ℕ) (state : MarkState) → IsTold (seat [] []) (seat [] (mine 0 ∷ [])) count state → ⊥
+  told_no_growth : (count : ℕ) (state : MarkState) → SeatIsTold (seat [] []) (seat [] (mine 0 ∷ [])) count state → ⊥
   told_no_growth count state told = absurd (let same = ap (λ (known : Known ℕ). length known.entries) told.same.2 in omega arith)
 
-  told_none_made : (count : ℕ) (state : MarkState) → IsTold (seat [] []) (seat (mine 0 ∷ []) []) count state → ⊥
+  told_none_made : (count : ℕ) (state : MarkState) → SeatIsTold (seat [] []) (seat (mine 0 ∷ []) []) count state → ⊥
   told_none_made count state told = let same = ap length told.same.1 in omega arith
 
-  told_nothing : (count : ℕ) (state : MarkState) → IsTold (seat [] []) (seat [] []) count state → count ≡ 0
+  told_nothing : (count : ℕ) (state : MarkState) → SeatIsTold (seat [] []) (seat [] []) count state → count ≡ 0
   told_nothing count state told = sym (ap (λ (end : MarkEnd). end.told.count) told.mark)
 
   -- once one growth was told, none is told of no growth, and the seat is no new one
   abbrev told_one : Seated ℕ
   told_one = record (seat [] []) { mark = record { of = mark; told = record { count = 1; state = Running } } }
 
-  told_no_less : (new : Seated ℕ) (state : MarkState) → IsTold told_one new 0 state → ⊥
+  told_no_less : (new : Seated ℕ) (state : MarkState) → SeatIsTold told_one new 0 state → ⊥
   told_no_less new state told = let up = told.rises.count in omega arith
 
   not_new : IsNewSeat of mark 0 told_one → ⊥

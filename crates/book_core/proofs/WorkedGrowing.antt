@@ -10,7 +10,7 @@ use Rattle.book_core.specs.declared.fault.GrowFault.TheVariants.{Closed, Full, T
 use Rattle.book_core.specs.declared.seat.Receipt.{Receipt}
 use Rattle.book_core.specs.Marks.{MarkName, nothing}
 use Rattle.book_core.specs.Lists.{Phase, Seated}
-use Rattle.book_core.specs.Growing.{Grown, FillsUp, growth_of, HasRoom, KeepsLimit, IsForeign, IsStray, IsBookRefusal, StraysInLimit, IsLookFault, IsCopiesRefusal, IsFillRefusal}
+use Rattle.book_core.specs.Growing.{Grown, FillsUp, growth_of, PhaseHasRoom, PhaseKeepsLimit, IsForeign, IsStray, IsBookRefusal, StraysInLimit, IsLookFault, IsCopiesRefusal, IsFillRefusal}
 
 -- a list that grew by one at its end
 front_is : {X : Type 0} (xs before : List X) (x y : X) → xs ++ x ∷ [] ≡ before ++ y ∷ [] → before ≡ xs
@@ -102,16 +102,16 @@ module _ (name : Name) (mark : MarkName) where
 
   -- ---- what there is room for
 
-  room_for_one : HasRoom live (seat [] (other ∷ []))
+  room_for_one : PhaseHasRoom live (seat [] (other ∷ []))
   room_for_one = omega arith
 
-  no_room : HasRoom live (seat (mine ∷ []) (other ∷ mine ∷ [])) → ⊥
+  no_room : PhaseHasRoom live (seat (mine ∷ []) (other ∷ mine ∷ [])) → ⊥
   no_room room = omega arith
 
-  just_in_limit : KeepsLimit live (seat [] (other ∷ [])) (2 ^ 32 - 5)
+  just_in_limit : PhaseKeepsLimit live (seat [] (other ∷ [])) (2 ^ 32 - 5)
   just_in_limit = omega arith
 
-  past_the_limit : KeepsLimit live (seat [] (other ∷ [])) (2 ^ 32 - 4) → ⊥
+  past_the_limit : PhaseKeepsLimit live (seat [] (other ∷ [])) (2 ^ 32 - 4) → ⊥
   past_the_limit keeps = omega arith
 
   -- ---- what strays

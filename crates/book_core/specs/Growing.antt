@@ -3,7 +3,7 @@ use Rattle.std.specs.Prelude.{◌≡◌, ℕ, ◌+◌, ◌-◌, ◌<◌, ◌≤�
 use Rattle.record_core.specs.Limits.{payload_limit}
 use Rattle.block_core.specs.Growth.{Growth}
 use Rattle.block_core.specs.Length.{IsBlockLength, payload_len}
-use Rattle.directory_core.specs.Chain.{total, Begins}
+use Rattle.directory_core.specs.Chain.{total, IsPrefix}
 use Rattle.directory_core.specs.Limits.{record_limit}
 use Rattle.book_core.specs.declared.fault.GrowFault.{GrowFault}
 use Rattle.book_core.specs.declared.fault.GrowFault.TheVariants.{Closed, Full, TooLong, Strayed, Memory, Empty, TooLarge}
@@ -16,12 +16,12 @@ use Rattle.book_core.specs.Marks.{Rises, IsOver}
 use Rattle.book_core.specs.Lists.{Phase, opening_of, Seated, own_of, HasJustItsOwn}
 
 -- the same seat, which made no growth and knows at least what it knew
-pub record Learns {R : Type 0} (old new : Seated R) : Type 0 where
+pub record SeatLearns {R : Type 0} (old new : Seated R) : Type 0 where
   pub id : new.id ≡ old.id
   pub mark : new.mark ≡ old.mark
   pub of : new.pass.of ≡ old.pass.of
   pub made : new.made ≡ old.made
-  pub begins : Begins old.pass.entries new.pass.entries
+  pub begins : IsPrefix old.pass.entries new.pass.entries
 
 -- the seat's growth of these records, behind those before it
 abbrev pub growth_of : {R : Type 0} → Seated R → List (Growth R) → List R → Growth R
@@ -32,7 +32,7 @@ growth_of seat before records = record { number = length before; start = total b
 -- from before the phase among them, its length, the seat's id and how many growths the seat had made
 pub record Grown {R : Type 0} (live : Phase R) (old new : Seated R) (records : List R) (receipt : Receipt) : Type 0 where
   pub before : List (Growth R)
-  pub begins : Begins old.pass.entries before
+  pub begins : IsPrefix old.pass.entries before
   pub ends : new.pass.entries ≡ before ++ growth_of old before records ∷ []
   pub number : receipt.number ≡ length before
   pub start : receipt.start ≡ length (opening_of live) + total before
@@ -60,27 +60,27 @@ abbrev pub size_of : {R : Type 0} → Phase R → Seated R → ℕ
 size_of live seat = length (opening_of live) + total seat.pass.entries
 
 -- the phase has room for a growth behind those that the seat knows
-abbrev pub HasRoom : {R : Type 0} → Phase R → Seated R → Type 0
-HasRoom live seat = length seat.pass.entries < live.directory.room
+abbrev pub PhaseHasRoom : {R : Type 0} → Phase R → Seated R → Type 0
+PhaseHasRoom live seat = length seat.pass.entries < live.directory.room
 
 -- with so many records more the vector keeps within its limit
-abbrev pub KeepsLimit : {R : Type 0} → Phase R → Seated R → ℕ → Type 0
-KeepsLimit live seat len = size_of live seat + len ≤ record_limit
+abbrev pub PhaseKeepsLimit : {R : Type 0} → Phase R → Seated R → ℕ → Type 0
+PhaseKeepsLimit live seat len = size_of live seat + len ≤ record_limit
 
 -- the fault with which a growth of so many records is refused by the book, which by then has no stray growth but
 -- the one that it names
 abbrev pub IsBookRefusal : {R : Type 0} → Phase R → Seated R → ℕ → GrowFault → Type 0
 IsBookRefusal live seat len Closed = Unit {0}
 IsBookRefusal live seat len Full = HasJustItsOwn seat × (live.directory.room ≤ length seat.pass.entries)
-IsBookRefusal live seat len TooLong = HasJustItsOwn seat × HasRoom live seat × (record_limit < size_of live seat + len)
+IsBookRefusal live seat len TooLong = HasJustItsOwn seat × PhaseHasRoom live seat × (record_limit < size_of live seat + len)
 IsBookRefusal live seat len (Strayed n) = IsStray seat n
-IsBookRefusal live seat len Memory = HasJustItsOwn seat × HasRoom live seat × KeepsLimit live seat len
+IsBookRefusal live seat len Memory = HasJustItsOwn seat × PhaseHasRoom live seat × PhaseKeepsLimit live seat len
 IsBookRefusal live seat len Empty = ⊥
 IsBookRefusal live seat len TooLarge = ⊥
 
 -- a growth that strays behind the tests of a put would have kept the limit
 abbrev pub StraysInLimit : {R : Type 0} → Phase R → Seated R → ℕ → GrowFault → Type 0
-StraysInLimit live seat len (Strayed n) = KeepsLimit live seat len
+StraysInLimit live seat len (Strayed n) = PhaseKeepsLimit live seat len
 StraysInLimit live seat len other = Unit {0}
 
 -- the fault of a look
@@ -98,7 +98,7 @@ IsCopiesRefusal width live seat n other = IsBlockLength width n × IsBookRefusal
 
 -- a growth of these records is made, or is refused
 abbrev pub GrowsBy : {R : Type 0} → Phase R → Seated R → Seated R → List R → Result Receipt GrowFault → Type 0
-GrowsBy live old new records result = MatchResult result (Grown live old new records) (λ _. Learns old new)
+GrowsBy live old new records result = MatchResult result (Grown live old new records) (λ _. SeatLearns old new)
 
 -- the seat made one growth of copies, whose range ends at n, which the size before it didn't reach
 pub record FillsUp {R : Type 0} (live : Phase R) (old new : Seated R) (n : ℕ) (v : R) (receipt : Receipt) : Type 0 where
@@ -110,20 +110,20 @@ pub record FillsUp {R : Type 0} (live : Phase R) (old new : Seated R) (n : ℕ) 
 -- the size is n at least, a growth of copies brings it there, or that is refused
 abbrev pub FillsOrReaches : {R : Type 0} → Phase R → Seated R → Seated R → ℕ → R → Result (Option Receipt) GrowFault → Type 0
 FillsOrReaches live old new n v result =
-    MatchResult result (λ made. MatchOption made (Learns old new × (n ≤ size_of live new)) (FillsUp live old new n v)) (λ _. Learns old new)
+    MatchResult result (λ made. MatchOption made (SeatLearns old new × (n ≤ size_of live new)) (FillsUp live old new n v)) (λ _. SeatLearns old new)
 
 -- the fault with which no growth to n is made: by the book, or by the number of records that the size is short of n
 abbrev pub IsFillRefusal : {R : Type 0} → ℕ → Phase R → Seated R → ℕ → GrowFault → Type 0
 IsFillRefusal width live seat n Closed = Unit {0}
 IsFillRefusal width live seat n (Strayed k) = IsStray seat k
 IsFillRefusal width live seat n Full = HasJustItsOwn seat × (size_of live seat < n) × (live.directory.room ≤ length seat.pass.entries)
-IsFillRefusal width live seat n TooLarge = HasJustItsOwn seat × HasRoom live seat × (size_of live seat < n) × (payload_limit < payload_len width (n - size_of live seat))
-IsFillRefusal width live seat n TooLong = HasJustItsOwn seat × HasRoom live seat × (size_of live seat < n) × IsBlockLength width (n - size_of live seat) × (record_limit < n)
-IsFillRefusal width live seat n Memory = HasJustItsOwn seat × HasRoom live seat × (size_of live seat < n) × IsBlockLength width (n - size_of live seat) × (n ≤ record_limit)
+IsFillRefusal width live seat n TooLarge = HasJustItsOwn seat × PhaseHasRoom live seat × (size_of live seat < n) × (payload_limit < payload_len width (n - size_of live seat))
+IsFillRefusal width live seat n TooLong = HasJustItsOwn seat × PhaseHasRoom live seat × (size_of live seat < n) × IsBlockLength width (n - size_of live seat) × (record_limit < n)
+IsFillRefusal width live seat n Memory = HasJustItsOwn seat × PhaseHasRoom live seat × (size_of live seat < n) × IsBlockLength width (n - size_of live seat) × (n ≤ record_limit)
 IsFillRefusal width live seat n Empty = ⊥
 
 -- the seat was told this by the mark, and nothing else changed. No count falls, and what is over doesn't run again
-pub record IsTold {R : Type 0} (old new : Seated R) (count : ℕ) (state : MarkState) : Type 0 where
+pub record SeatIsTold {R : Type 0} (old new : Seated R) (count : ℕ) (state : MarkState) : Type 0 where
   pub same : (new.id ≡ old.id) × (new.made ≡ old.made) × (new.pass ≡ old.pass)
   pub mark : new.mark ≡ record { of = old.mark.of; told = record { count = count; state = state } }
   pub rises : Rises old.mark.told (record { count = count; state = state })

@@ -35,7 +35,7 @@ pub record Seated (R : Type 0) : Type 0 where
   pub mark : MarkEnd
 
 -- the seat is of that book
-pub record IsOf {R : Type 0} (live : Phase R) (seat : Seated R) : Type 0 where
+pub record IsSeatOf {R : Type 0} (live : Phase R) (seat : Seated R) : Type 0 where
   pub directory : seat.pass.of ≡ live.directory
   pub mark : seat.mark.of ≡ live.mark
 

@@ -3,7 +3,7 @@
 ghost use Rattle.std.specs.Prelude.{◌≡◌, ◌≤◌, [], ◌++◌, length, option_to_list, IfOk, IfErr, IfSome, MatchOption, OnOk};
 ghost use Rattle.directory_core.specs.Limits.{record_limit};
 ghost use Rattle.book_core.specs.Marks.{nothing};
-ghost use Rattle.book_core.specs.Lists.{records_of, joined_pieces, IsOf};
+ghost use Rattle.book_core.specs.Lists.{records_of, joined_pieces, IsSeatOf};
 ghost use Rattle.book_core.specs.Beginning.{IsNewSeat, AreNewSeats, IsBeginRefusal, MayBegin};
 
 use crate::fault::GrowFault;
@@ -155,7 +155,7 @@ impl<R: Record> Live<R> {
         requires { AreNewSeats self.now.directory self.now.mark seats.old.items }
         ensures rest { AreNewSeats self.now.directory self.now.mark seats.new.items }
         ensures one_less { seats.old.items ≡ seats.new.items ++ option_to_list result }
-        ensures of { IfSome result (λ seat. IsOf self.now seat) }
+        ensures of { IfSome result (λ seat. IsSeatOf self.now seat) }
         ensures seat { MatchOption result
             (length seats.old.items ≡ 0)
             (λ seat. IsNewSeat self.now.directory self.now.mark (length seats.new.items) seat) }

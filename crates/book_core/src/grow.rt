@@ -3,8 +3,8 @@
 ghost use Rattle.std.specs.Prelude.{◌≡◌, ◌+◌, ◌<◌, ◌≤◌, [], ◌∷◌, ◌++◌, length, replicate, IfOk, IfErr, IfSome, MatchOption, MatchResult};
 ghost use Rattle.directory_core.specs.Limits.{record_limit};
 ghost use Rattle.directory_core.specs.Chain.{total, IsChained};
-ghost use Rattle.book_core.specs.Lists.{IsOf, HasJustItsOwn};
-ghost use Rattle.book_core.specs.Growing.{Learns, Grown, GrowsBy, FillsOrReaches, IsBookRefusal, StraysInLimit, IsCopiesRefusal, IsFillRefusal};
+ghost use Rattle.book_core.specs.Lists.{IsSeatOf, HasJustItsOwn};
+ghost use Rattle.book_core.specs.Growing.{SeatLearns, Grown, GrowsBy, FillsOrReaches, IsBookRefusal, StraysInLimit, IsCopiesRefusal, IsFillRefusal};
 
 use crate::fault::GrowFault;
 use crate::live::Live;
@@ -17,12 +17,12 @@ use std::sync::Wait;
 impl<R: Record> Live<R> {
     /// Publishes the block behind all that the seat knows. For a grower that has the lock and has just caught up.
     fn put(&self, seat: &mut Seat<R>, fresh: Fresh<R>) -> Result<Receipt, (Fresh<R>, GrowFault)>
-        requires of { IsOf self.now seat.old }
+        requires of { IsSeatOf self.now seat.old }
         requires own { HasJustItsOwn seat.old }
         ensures list { MatchResult result
             (λ receipt. Grown self.now seat.old seat.new fresh receipt)
-            (λ refused. (refused.0 ≡ fresh) × Learns seat.old seat.new) }
-        ensures of { IsOf self.now seat.new }
+            (λ refused. (refused.0 ≡ fresh) × SeatLearns seat.old seat.new) }
+        ensures of { IsSeatOf self.now seat.new }
         ensures known { IfErr result (λ _. seat.new.pass.entries ≡ seat.old.pass.entries) }
         ensures at_once { IfOk result (λ receipt. receipt.number ≡ length seat.old.pass.entries) }
         ensures fault { IfErr result (λ refused. IsBookRefusal self.now seat.new (length fresh) refused.1) }
@@ -76,11 +76,11 @@ impl<R: Record> Live<R> {
         seat: &mut Seat<R>,
         fresh: Fresh<R>,
     ) -> Result<Receipt, (Fresh<R>, GrowFault)>
-        requires of { IsOf self.now seat.old }
-        ensures of { IsOf self.now seat.new }
+        requires of { IsSeatOf self.now seat.old }
+        ensures of { IsSeatOf self.now seat.new }
         ensures list { MatchResult result
             (λ receipt. Grown self.now seat.old seat.new fresh receipt)
-            (λ refused. (refused.0 ≡ fresh) × Learns seat.old seat.new) }
+            (λ refused. (refused.0 ≡ fresh) × SeatLearns seat.old seat.new) }
         ensures fault { IfErr result (λ refused. IsBookRefusal self.now seat.new (length fresh) refused.1) }
     {
         let _ = self.catch_up(seat);
@@ -105,8 +105,8 @@ impl<R: Record> Live<R> {
         n: u64,
         v: R,
     ) -> Result<Receipt, GrowFault>
-        requires of { IsOf self.now seat.old }
-        ensures of { IsOf self.now seat.new }
+        requires of { IsSeatOf self.now seat.old }
+        ensures of { IsSeatOf self.now seat.new }
         ensures list { GrowsBy self.now seat.old seat.new (replicate n v) result }
         ensures fault { IfErr result (IsCopiesRefusal R.form.width self.now seat.new n) }
     {
@@ -121,8 +121,8 @@ impl<R: Record> Live<R> {
         seat: &mut Seat<R>,
         records: &[R],
     ) -> Result<Receipt, GrowFault>
-        requires of { IsOf self.now seat.old }
-        ensures of { IsOf self.now seat.new }
+        requires of { IsSeatOf self.now seat.old }
+        ensures of { IsSeatOf self.now seat.new }
         ensures list { GrowsBy self.now seat.old seat.new records.now result }
         ensures fault { IfErr result (IsCopiesRefusal R.form.width self.now seat.new (length records.now)) }
     {
@@ -132,8 +132,8 @@ impl<R: Record> Live<R> {
 
     /// Grows by one record.
     pub fn push_back<E: Wait>(&self, rt: &E, seat: &mut Seat<R>, v: R) -> Result<Receipt, GrowFault>
-        requires of { IsOf self.now seat.old }
-        ensures of { IsOf self.now seat.new }
+        requires of { IsSeatOf self.now seat.old }
+        ensures of { IsSeatOf self.now seat.new }
         ensures list { GrowsBy self.now seat.old seat.new (v ∷ []) result }
         ensures fault { IfErr result (IsCopiesRefusal R.form.width self.now seat.new 1) }
     {
@@ -150,8 +150,8 @@ impl<R: Record> Live<R> {
         n: u64,
         v: R,
     ) -> Result<Option<Receipt>, GrowFault>
-        requires of { IsOf self.now seat.old }
-        ensures of { IsOf self.now seat.new }
+        requires of { IsSeatOf self.now seat.old }
+        ensures of { IsSeatOf self.now seat.new }
         ensures list { FillsOrReaches self.now seat.old seat.new n v result }
         ensures fault { IfErr result (IsFillRefusal R.form.width self.now seat.new n) }
     {
@@ -169,9 +169,9 @@ impl<R: Record> Live<R> {
 
     /// As `grow_to_at_least`, for a grower that has the lock and has just caught up.
     fn fill_up(&self, seat: &mut Seat<R>, n: u64, v: R) -> Result<Option<Receipt>, GrowFault>
-        requires of { IsOf self.now seat.old }
+        requires of { IsSeatOf self.now seat.old }
         requires own { HasJustItsOwn seat.old }
-        ensures of { IsOf self.now seat.new }
+        ensures of { IsSeatOf self.now seat.new }
         ensures list { FillsOrReaches self.now seat.old seat.new n v result }
         ensures fault { IfErr result (IsFillRefusal R.form.width self.now seat.new n) }
     {

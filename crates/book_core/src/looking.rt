@@ -3,8 +3,8 @@
 ghost use Rattle.std.specs.Prelude.{◌≡◌, ◌+◌, ◌≤◌, length, take, IfErr, OnOk, MatchOption, MatchResult};
 ghost use Rattle.directory_core.specs.Limits.{record_limit};
 ghost use Rattle.directory_core.specs.Chain.{Agree, Meets};
-ghost use Rattle.book_core.specs.Lists.{IsOf, own_of, HasJustItsOwn, IsFirstOf, list_of};
-ghost use Rattle.book_core.specs.Growing.{Learns, IsLookFault, size_of};
+ghost use Rattle.book_core.specs.Lists.{IsSeatOf, own_of, HasJustItsOwn, IsFirstOf, list_of};
+ghost use Rattle.book_core.specs.Growing.{SeatLearns, IsLookFault, size_of};
 
 use crate::fault::GrowFault;
 use crate::live::Live;
@@ -36,12 +36,12 @@ impl<R: Record> Live<R> {
         None
     }
 
-    /// Learns what others have published, and finds that of the seat's own growths its list has just those that it
+    /// SeatLearns what others have published, and finds that of the seat's own growths its list has just those that it
     /// made.
     pub(crate) fn catch_up(&self, seat: &mut Seat<R>) -> Result<(), GrowFault>
-        requires of { IsOf self.now seat.old }
-        ensures of { IsOf self.now seat.new }
-        ensures learns { Learns seat.old seat.new }
+        requires of { IsSeatOf self.now seat.old }
+        ensures of { IsSeatOf self.now seat.new }
+        ensures learns { SeatLearns seat.old seat.new }
         ensures own { OnOk result (HasJustItsOwn seat.new) }
         ensures fault { IfErr result (IsLookFault seat.new) }
     {
@@ -56,12 +56,12 @@ impl<R: Record> Live<R> {
         }
     }
 
-    /// Learns what others have published, and answers the size that the seat then knows. `Strayed` names the first
+    /// SeatLearns what others have published, and answers the size that the seat then knows. `Strayed` names the first
     /// number whose growth doesn't follow those before it, or bears the seat's id and is none of its growths.
     pub fn look(&self, seat: &mut Seat<R>) -> Result<u64, GrowFault>
-        requires of { IsOf self.now seat.old }
-        ensures of { IsOf self.now seat.new }
-        ensures learns { Learns seat.old seat.new }
+        requires of { IsSeatOf self.now seat.old }
+        ensures of { IsSeatOf self.now seat.new }
+        ensures learns { SeatLearns seat.old seat.new }
         ensures size { MatchResult result
             (λ size. (size ≡ size_of self.now seat.new) × HasJustItsOwn seat.new)
             (IsLookFault seat.new) }
@@ -72,7 +72,7 @@ impl<R: Record> Live<R> {
 
     /// How many records the seat knows, those from before the phase among them.
     pub fn size(&self, seat: &Seat<R>) -> u64
-        requires of { IsOf self.now seat.now }
+        requires of { IsSeatOf self.now seat.now }
         ensures size { result ≡ size_of self.now seat.now }
         ensures is { result ≡ length (list_of self.now seat.now) }
         ensures in_limit { result ≤ record_limit }
@@ -82,10 +82,10 @@ impl<R: Record> Live<R> {
 
     /// The seat learns what the other knows. It then knows what either knew; one of the two lists begins the other.
     pub fn meet(&self, seat: &mut Seat<R>, other: &mut Seat<R>)
-        requires of { IsOf self.now seat.old × IsOf self.now other.old }
-        ensures of { IsOf self.now seat.new }
+        requires of { IsSeatOf self.now seat.old × IsSeatOf self.now other.old }
+        ensures of { IsSeatOf self.now seat.new }
         ensures same { other.new ≡ other.old }
-        ensures learns { Learns seat.old seat.new }
+        ensures learns { SeatLearns seat.old seat.new }
         ensures agree { Agree seat.old.pass.entries other.old.pass.entries }
         ensures meets { Meets seat.old.pass.entries other.old.pass.entries seat.new.pass.entries }
     {

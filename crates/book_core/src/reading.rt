@@ -3,7 +3,7 @@
 
 ghost use Rattle.std.specs.Prelude.{◌≡◌, ◌≤◌, List, length, drop, slice_get, Some, MatchOption, IfSome};
 ghost use Rattle.directory_core.specs.Finding.{IsPieceAt};
-ghost use Rattle.book_core.specs.Lists.{IsOf, joined_pieces, list_of, pieces_of, IsPlaceIn, IsRestOfPiece};
+ghost use Rattle.book_core.specs.Lists.{IsSeatOf, joined_pieces, list_of, pieces_of, IsPlaceIn, IsRestOfPiece};
 
 use crate::live::Live;
 use crate::seat::Seat;
@@ -12,7 +12,7 @@ use record_core::Record;
 impl<R: Record> Live<R> {
     /// The number of the piece that has position `i`, and the place there. `None` past the end.
     fn find(&self, seat: &Seat<R>, i: u64) -> Option<(u64, usize)>
-        requires of { IsOf self.now seat.now }
+        requires of { IsSeatOf self.now seat.now }
         ensures { MatchOption result
             (length (list_of self.now seat.now) ≤ i)
             (λ found. IsPlaceIn (pieces_of self.now seat.now) i found.0 found.1) }
@@ -28,7 +28,7 @@ impl<R: Record> Live<R> {
 
     /// The record at position `i`, lent for the life of the book. `None` past the end.
     pub fn get<'a>(&'a self, seat: &mut Seat<R>, i: u64) -> Option<&'a R>
-        requires of { IsOf self.now seat.old }
+        requires of { IsSeatOf self.now seat.old }
         ensures same { seat.new ≡ seat.old }
         ensures value { MatchOption result
             (length (list_of self.now seat.old) ≤ i)
@@ -41,7 +41,7 @@ impl<R: Record> Live<R> {
     /// The records from position `i` to the end of the piece that has it, lent for the life of the book. `None`
     /// past the end.
     pub fn piece<'a>(&'a self, seat: &mut Seat<R>, i: u64) -> Option<&'a [R]>
-        requires of { IsOf self.now seat.old }
+        requires of { IsSeatOf self.now seat.old }
         ensures same { seat.new ≡ seat.old }
         ensures value { MatchOption result
             (length (list_of self.now seat.old) ≤ i)
@@ -55,7 +55,7 @@ impl<R: Record> Live<R> {
 
     /// In how many pieces the list stands as the seat knows it: the blocks from before the phase, and the growths.
     pub fn piece_count(&self, seat: &Seat<R>) -> u64
-        requires of { IsOf self.now seat.now }
+        requires of { IsSeatOf self.now seat.now }
         ensures count { result ≡ length (pieces_of self.now seat.now) }
         ensures joined { joined_pieces (pieces_of self.now seat.now) ≡ list_of self.now seat.now }
     {
@@ -66,7 +66,7 @@ impl<R: Record> Live<R> {
     /// the growths by their numbers. `None` past the last one. A growth's piece has records; a block from before the
     /// phase may have none.
     pub fn piece_at<'a>(&'a self, seat: &mut Seat<R>, number: u64) -> Option<&'a [R]>
-        requires of { IsOf self.now seat.old }
+        requires of { IsSeatOf self.now seat.old }
         ensures same { seat.new ≡ seat.old }
         ensures value { MatchOption result
             (length (pieces_of self.now seat.old) ≤ number)
@@ -91,7 +91,7 @@ pub struct Pieces<'a, 's, R: Record> {
     /// Of the next piece so many records are left out.
     place: usize,
     count: u64,
-    ghost of: { IsOf live.now seat.now },
+    ghost of: { IsSeatOf live.now seat.now },
     ghost counted: { count ≡ length (pieces_of live.now seat.now) },
     ghost inside: { next ≤ count },
     ghost placed: { (piece : List R) → slice_get (pieces_of live.now seat.now) next ≡ Some piece → place ≤ length piece },
@@ -103,7 +103,7 @@ impl<R: Record> Live<R> {
     /// The pieces of the list as the seat knows it, in order, lent for the life of the book: the blocks from before
     /// the phase, then the growths by their numbers.
     pub fn pieces<'a, 's>(&'a self, seat: &'s mut Seat<R>) -> Pieces<'a, 's, R>
-        requires of { IsOf self.now seat.old }
+        requires of { IsSeatOf self.now seat.old }
         ensures pieces { pieces_left result ≡ pieces_of self.now seat.old }
         ensures seat { (result.seat.ghost_name ≡ seat.entry.ghost_name) × (result.seat.now ≡ seat.old) }
     {
@@ -120,7 +120,7 @@ impl<R: Record> Live<R> {
     /// As `pieces`, from position `i` on: the records from there to the end of the piece that has it, then the pieces
     /// behind it. None past the end.
     pub fn pieces_from<'a, 's>(&'a self, seat: &'s mut Seat<R>, i: u64) -> Pieces<'a, 's, R>
-        requires of { IsOf self.now seat.old }
+        requires of { IsSeatOf self.now seat.old }
         ensures list { joined_pieces (pieces_left result) ≡ drop i (list_of self.now seat.old) }
         ensures pieces { IsLeftOf (pieces_of self.now seat.old) (pieces_left result) }
         ensures seat { (result.seat.ghost_name ≡ seat.entry.ghost_name) × (result.seat.now ≡ seat.old) }

@@ -1,10 +1,10 @@
 //! What a phase lends to who settles its growths, by a pass of its own.
 
 ghost use Rattle.std.specs.Prelude.{◌≡◌, ◌<◌, ◌≤◌, length, slice_get, Some, IfErr, MatchOption, MatchResult};
-ghost use Rattle.directory_core.specs.Chain.{Begins, Agree, Meets};
+ghost use Rattle.directory_core.specs.Chain.{IsPrefix, Agree, Meets};
 ghost use Rattle.book_core.specs.Marks.{Rises};
-ghost use Rattle.book_core.specs.Lists.{IsOf};
-ghost use Rattle.book_core.specs.Growing.{Learns};
+ghost use Rattle.book_core.specs.Lists.{IsSeatOf};
+ghost use Rattle.book_core.specs.Growing.{SeatLearns};
 
 use crate::live::Live;
 use crate::mark::{Mark, Writer};
@@ -25,7 +25,7 @@ impl<R: Record> Live<R> {
     pub fn look_by(&self, pass: &mut Pass<R>) -> Result<u64, DirFault>
         requires of { pass.old.of ≡ self.now.directory }
         ensures of { pass.new.of ≡ self.now.directory }
-        ensures longer { Begins pass.old.entries pass.new.entries }
+        ensures longer { IsPrefix pass.old.entries pass.new.entries }
         ensures count { MatchResult result
             (λ known. known ≡ length pass.new.entries)
             (λ fault. fault ≡ DirFault.Strayed (length pass.new.entries)) }
@@ -49,7 +49,7 @@ impl<R: Record> Live<R> {
     /// The pass of who settles the growths learns what a seat knows. It then knows what either knew; one of the two
     /// lists begins the other.
     pub fn meet_by(&self, pass: &mut Pass<R>, seat: &mut Seat<R>)
-        requires of { (pass.old.of ≡ self.now.directory) × IsOf self.now seat.old }
+        requires of { (pass.old.of ≡ self.now.directory) × IsSeatOf self.now seat.old }
         ensures of { pass.new.of ≡ self.now.directory }
         ensures same { seat.new ≡ seat.old }
         ensures agree { Agree pass.old.entries seat.old.pass.entries }
@@ -60,10 +60,10 @@ impl<R: Record> Live<R> {
 
     /// A seat learns what the pass of who settles the growths knows, which is as it was.
     pub fn tell_by(&self, seat: &mut Seat<R>, pass: &mut Pass<R>)
-        requires of { IsOf self.now seat.old × (pass.old.of ≡ self.now.directory) }
-        ensures of { IsOf self.now seat.new }
+        requires of { IsSeatOf self.now seat.old × (pass.old.of ≡ self.now.directory) }
+        ensures of { IsSeatOf self.now seat.new }
         ensures same { pass.new ≡ pass.old }
-        ensures learns { Learns seat.old seat.new }
+        ensures learns { SeatLearns seat.old seat.new }
         ensures agree { Agree seat.old.pass.entries pass.old.entries }
         ensures meets { Meets seat.old.pass.entries pass.old.entries seat.new.pass.entries }
     {
@@ -73,7 +73,7 @@ impl<R: Record> Live<R> {
     /// Takes in a seat that is given up, for who settles the growths: the pass learns what the seat knew, and what
     /// the seat was told rises to what the mark tells.
     pub fn take_in(&self, pass: &mut Pass<R>, mark: &mut Writer, seat: Seat<R>)
-        requires of { (pass.old.of ≡ self.now.directory) × (mark.old.of ≡ self.now.mark) × IsOf self.now seat }
+        requires of { (pass.old.of ≡ self.now.directory) × (mark.old.of ≡ self.now.mark) × IsSeatOf self.now seat }
         ensures of { pass.new.of ≡ self.now.directory }
         ensures agree { Agree pass.old.entries seat.pass.entries }
         ensures meets { Meets pass.old.entries seat.pass.entries pass.new.entries }

@@ -4,7 +4,7 @@ ghost use Rattle.std.specs.Prelude.{◌≡◌, ◌+◌, ◌-◌, ◌<◌, ◌≤
 ghost use Rattle.directory_core.specs.Limits.{record_limit};
 ghost use Rattle.directory_core.specs.Chain.{Agree, total};
 ghost use Rattle.directory_core.specs.Finding.{IsPieceAt};
-ghost use Rattle.book_core.specs.Lists.{IsOf, IsRestOfPiece, opening_of, joined_pieces};
+ghost use Rattle.book_core.specs.Lists.{IsSeatOf, IsRestOfPiece, opening_of, joined_pieces};
 ghost use Rattle.book_core.specs.Snapshots.{Shows, AreFull, HasRoomFor, pieces_in, list_in, growths_of};
 
 use crate::fault::GrowFault;
@@ -79,7 +79,7 @@ impl<R: Record> Live<R> {
     /// Lays out what the seat knows, for reads at random. It takes 20 bytes for each block from before the phase and
     /// each growth; `Memory` where they weren't there.
     pub fn snapshot<'a>(&'a self, seat: &mut Seat<R>) -> Result<Snapshot<'a, R>, GrowFault>
-        requires of { IsOf self.now seat.old }
+        requires of { IsSeatOf self.now seat.old }
         ensures same { seat.new ≡ seat.old }
         ensures list { MatchResult result (Shows self.now seat.old) (λ fault. fault ≡ GrowFault.Memory) }
     {
@@ -100,7 +100,7 @@ impl<'a, R: Record> Snapshot<'a, R> {
     /// on the growths that both have, as they do where the seat is the one that it was made from, or has met that.
     /// Where the seat knows no more, and on `Memory`, it stays as it is.
     pub fn update(&mut self, seat: &mut Seat<R>) -> Result<(), GrowFault>
-        requires of { IsOf self.old.of seat.old }
+        requires of { IsSeatOf self.old.of seat.old }
         requires agree { Agree self.old.growths (growths_of seat.old) }
         ensures same { seat.new ≡ seat.old }
         ensures more { OnOk result (

@@ -2,7 +2,7 @@
 
 ghost use Rattle.std.specs.Prelude.{◌≡◌, ◌≤◌, length};
 ghost use Rattle.directory_core.specs.Limits.{record_limit};
-ghost use Rattle.book_core.specs.Lists.{IsOf, records_of, joined_pieces};
+ghost use Rattle.book_core.specs.Lists.{IsSeatOf, records_of, joined_pieces};
 
 use super::*;
 use block_core::Fresh;
@@ -23,7 +23,7 @@ struct Two {
     first: Seat<u64>,
     second: Seat<u64>,
     mark: Writer,
-    ghost of: { IsOf live first × IsOf live second },
+    ghost of: { IsSeatOf live first × IsSeatOf live second },
     ghost marked: { mark.of ≡ live.mark },
     ghost unsettled: { mark.told.count ≡ 0 },
 }

@@ -9,8 +9,8 @@
 //! and is woken.
 
 ghost use Rattle.std.specs.Prelude.{◌≡◌, ◌<◌, ◌≤◌, ◌↔◌, IsTrue};
-ghost use Rattle.book_core.specs.Lists.{IsOf};
-ghost use Rattle.book_core.specs.Growing.{IsTold, IsPast, IsToldOf};
+ghost use Rattle.book_core.specs.Lists.{IsSeatOf};
+ghost use Rattle.book_core.specs.Growing.{SeatIsTold, IsPast, IsToldOf};
 
 use crate::fault::SettleFault;
 use crate::live::{Book, Live};
@@ -97,9 +97,9 @@ impl<R: Record> Live<R> {
     /// How many growths are settled as the mark tells now, and whether more may be. It may lag behind the flusher
     /// and never leads. For a seat no count falls, and no state goes back to Running.
     pub fn settled(&self, seat: &mut Seat<R>) -> (u64, MarkState)
-        requires of { IsOf self.now seat.old }
-        ensures of { IsOf self.now seat.new }
-        ensures told { IsTold seat.old seat.new result.0 result.1 }
+        requires of { IsSeatOf self.now seat.old }
+        ensures of { IsSeatOf self.now seat.new }
+        ensures told { SeatIsTold seat.old seat.new result.0 result.1 }
     {
         let told = seat.mark.settled(&self.mark);
         (told.count, told.state)
@@ -113,9 +113,9 @@ impl<R: Record> Live<R> {
         seat: &mut Seat<R>,
         number: u64,
     ) -> (u64, MarkState)
-        requires of { IsOf self.now seat.old }
-        ensures of { IsOf self.now seat.new }
-        ensures told { IsTold seat.old seat.new result.0 result.1 }
+        requires of { IsSeatOf self.now seat.old }
+        ensures of { IsSeatOf self.now seat.new }
+        ensures told { SeatIsTold seat.old seat.new result.0 result.1 }
         ensures past { IsPast number result.0 result.1 }
     {
         let (mut count, mut state) = self.settled(seat);
@@ -144,9 +144,9 @@ impl<R: Record> Live<R> {
         seat: &mut Seat<R>,
         receipt: &Receipt,
     ) -> Result<u64, SettleFault>
-        requires of { IsOf self.now seat.old }
-        ensures of { IsOf self.now seat.new }
-        ensures told { IsTold seat.old seat.new seat.new.mark.told.count seat.new.mark.told.state }
+        requires of { IsSeatOf self.now seat.old }
+        ensures of { IsSeatOf self.now seat.new }
+        ensures told { SeatIsTold seat.old seat.new seat.new.mark.told.count seat.new.mark.told.state }
         ensures settled { IsToldOf receipt.now.number seat.new.mark.told result }
     {
         let (count, state) = self.await_settled(rt, seat, receipt.number);

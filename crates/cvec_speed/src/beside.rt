@@ -1,7 +1,7 @@
 //! One thread grows a vector while others sum it.
 
 ghost use Rattle.std.specs.Prelude.{◌<◌, IfOk};
-ghost use Rattle.book_core.specs.Lists.{IsOf};
+ghost use Rattle.book_core.specs.Lists.{IsSeatOf};
 ghost use Rattle.book_core.specs.Beginning.{AreNewSeats};
 
 use crate::fault::SpeedFault;
@@ -67,7 +67,7 @@ struct Worker<'a> {
     live: &'a Live<u64>,
     seat: Seat<u64>,
     task: Task,
-    ghost of: { IsOf live.now seat },
+    ghost of: { IsSeatOf live.now seat },
 }
 
 impl<'a> Worker<'a> {
@@ -105,7 +105,7 @@ fn grow_on<E: Wait + Clock>(
     course: &Course,
     growths: u64,
 ) -> Result<u64, SpeedFault>
-    requires { IsOf live.now seat }
+    requires { IsSeatOf live.now seat }
 {
     let mut seat = seat;
     let start = Instant::now(rt)?;
@@ -129,7 +129,7 @@ fn sum_on<E: Wait + Clock>(
     seat: Seat<u64>,
     course: &Course,
 ) -> Result<u64, SpeedFault>
-    requires { IsOf live.now seat }
+    requires { IsSeatOf live.now seat }
 {
     let mut seat = seat;
     let start = Instant::now(rt)?;
@@ -241,7 +241,7 @@ fn begin_filled<E: Wait>(
     block: &[u64],
 ) -> Result<(Live<u64>, Vec<Seat<u64>>, Seat<u64>), SpeedFault>
     ensures { IfOk result (λ begun.
-        AreNewSeats begun.0.directory begun.0.mark begun.1.items × IsOf begun.0 begun.2) }
+        AreNewSeats begun.0.directory begun.0.mark begun.1.items × IsSeatOf begun.0 begun.2) }
 {
     let before = sizes.before / sizes.block as u64;
     let more = sizes.n / sizes.block as u64;

@@ -1,7 +1,7 @@
 //! Many threads grow one vector.
 
 ghost use Rattle.std.specs.Prelude.{◌<◌, IfOk};
-ghost use Rattle.book_core.specs.Lists.{IsOf};
+ghost use Rattle.book_core.specs.Lists.{IsSeatOf};
 ghost use Rattle.book_core.specs.Beginning.{AreNewSeats};
 
 use crate::fault::SpeedFault;
@@ -33,7 +33,7 @@ struct Grower<'a> {
     seat: Seat<u64>,
     block: &'a [u64],
     growths: u64,
-    ghost of: { IsOf live.now seat },
+    ghost of: { IsSeatOf live.now seat },
 }
 
 impl<'a> Grower<'a> {
@@ -108,7 +108,7 @@ fn begin_empty(
     growths: u64,
 ) -> Result<(Live<u64>, Vec<Seat<u64>>, Seat<u64>), SpeedFault>
     ensures { IfOk result (λ begun.
-        AreNewSeats begun.0.directory begun.0.mark begun.1.items × IsOf begun.0 begun.2) }
+        AreNewSeats begun.0.directory begun.0.mark begun.1.items × IsSeatOf begun.0 begun.2) }
 {
     let room = growths.saturating_mul(threads as u64);
     let (live, mut seats) = begin(alloc, room, threads.saturating_add(1))?;

@@ -23,8 +23,6 @@ mod read;
 mod reading;
 mod served;
 mod store;
-#[cfg(test)]
-mod tests;
 mod waits;
 mod watch;
 mod words;

@@ -1,7 +1,7 @@
 //! One owner searches a vector, changes it, makes it longer, joins its blocks, and lends it out and takes it back.
 
 ghost use Rattle.std.specs.Prelude.{◌+◌, ◌*◌, ◌%◌, ◌^◌, nat_eq, IfOk, IfErr};
-ghost use Rattle.flush_core.specs.Flusher.{IsOf};
+ghost use Rattle.flush_core.specs.Flusher.{IsFlusherOf};
 ghost use Rattle.book_core.specs.Lists as lists;
 
 use crate::commit::create;
@@ -158,10 +158,10 @@ fn grow_all<E: Wait, D: Disk + Drop>(
     seat: &mut Seat<u64>,
     growths: u64,
 ) -> Result<(), SpeedFault>
-    requires of { IsOf (D.keeps flusher.old.pen.disk) live.now flusher.old }
-    requires seat { lists.IsOf live.now seat.old }
-    ensures of { IsOf (D.keeps flusher.new.pen.disk) live.now flusher.new }
-    ensures seat { lists.IsOf live.now seat.new }
+    requires of { IsFlusherOf (D.keeps flusher.old.pen.disk) live.now flusher.old }
+    requires seat { lists.IsSeatOf live.now seat.old }
+    ensures of { IsFlusherOf (D.keeps flusher.new.pen.disk) live.now flusher.new }
+    ensures seat { lists.IsSeatOf live.now seat.new }
 {
     for growth in 0..growths {
         let fresh = Fresh::filled(alloc, GATHERED, mix(growth))?;

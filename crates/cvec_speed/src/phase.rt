@@ -1,7 +1,7 @@
 //! A growth phase that is measured.
 
 ghost use Rattle.std.specs.Prelude.{◌≡◌, IfSome, IfOk};
-ghost use Rattle.book_core.specs.Lists.{IsOf};
+ghost use Rattle.book_core.specs.Lists.{IsSeatOf};
 ghost use Rattle.book_core.specs.Beginning.{AreNewSeats};
 
 use crate::fault::SpeedFault;
@@ -32,7 +32,7 @@ pub fn begin(
 pub fn take_seat(live: &Live<u64>, seats: &mut Vec<Seat<u64>>) -> Option<Seat<u64>>
     requires { AreNewSeats live.now.directory live.now.mark seats.old.items }
     ensures rest { AreNewSeats live.now.directory live.now.mark seats.new.items }
-    ensures seat { IfSome result (λ seat. IsOf live.now seat) }
+    ensures seat { IfSome result (λ seat. IsSeatOf live.now seat) }
 {
     seats.pop()
 }
@@ -46,8 +46,8 @@ pub fn put_blocks<E: Wait>(
     block: &[u64],
     growths: u64,
 ) -> Result<(), SpeedFault>
-    requires { IsOf live.now seat.old }
-    ensures { IsOf live.now seat.new }
+    requires { IsSeatOf live.now seat.old }
+    ensures { IsSeatOf live.now seat.new }
 {
     for _ in 0..growths {
         let fresh = Fresh::from_slice(alloc, block)?;
@@ -66,8 +66,8 @@ pub fn put_records<E: Wait>(
     record: u64,
     growths: u64,
 ) -> Result<(), SpeedFault>
-    requires { IsOf live.now seat.old }
-    ensures { IsOf live.now seat.new }
+    requires { IsSeatOf live.now seat.old }
+    ensures { IsSeatOf live.now seat.new }
 {
     for _ in 0..growths {
         live.push_back(rt, seat, record)?;

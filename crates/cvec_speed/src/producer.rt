@@ -1,6 +1,6 @@
 //! A thread that appends blocks, and waits until they are durable.
 
-ghost use Rattle.book_core.specs.Lists.{IsOf};
+ghost use Rattle.book_core.specs.Lists.{IsSeatOf};
 
 use crate::fault::SpeedFault;
 use crate::gate::{Gate, Span};
@@ -34,7 +34,7 @@ pub struct Producer<'a> {
     pub live: &'a Live<u64>,
     pub seat: Seat<u64>,
     pub thread: u64,
-    ghost of: { IsOf live.now seat },
+    ghost of: { IsSeatOf live.now seat },
 }
 
 /// How many blocks a thread appended, when, and how long each of its rounds took.
@@ -54,8 +54,8 @@ pub fn put<E: Wait>(
     seat: &mut Seat<u64>,
     block: &[u64],
 ) -> Result<u64, SpeedFault>
-    requires { IsOf live.now seat.old }
-    ensures { IsOf live.now seat.new }
+    requires { IsSeatOf live.now seat.old }
+    ensures { IsSeatOf live.now seat.new }
 {
     let fresh = Fresh::from_slice(alloc, block)?;
     match live.grow(rt, seat, fresh) {
@@ -75,8 +75,8 @@ fn put_all<E: Wait>(
     first: u64,
     blocks: u64,
 ) -> Result<u64, SpeedFault>
-    requires { IsOf live.now seat.old }
-    ensures { IsOf live.now seat.new }
+    requires { IsSeatOf live.now seat.old }
+    ensures { IsSeatOf live.now seat.new }
 {
     let mut last = 0;
     for k in 0..blocks {
@@ -93,8 +93,8 @@ pub fn wait_for<E: Wait>(
     seat: &mut Seat<u64>,
     number: u64,
 ) -> Result<(), SpeedFault>
-    requires { IsOf live.now seat.old }
-    ensures { IsOf live.now seat.new }
+    requires { IsSeatOf live.now seat.old }
+    ensures { IsSeatOf live.now seat.new }
 {
     let (settled, _) = live.await_settled(rt, seat, number);
     if settled <= number {
@@ -114,7 +114,7 @@ fn put_in_rounds<E: Wait + Clock>(
     batch: u64,
     most: Duration,
 ) -> Result<Vec<Duration>, SpeedFault>
-    requires { IsOf live.now seat.old }
+    requires { IsSeatOf live.now seat.old }
 {
     let mut rounds = Vec::new(alloc);
     let start = Instant::now(rt)?;

@@ -1,7 +1,7 @@
 //! Reading a vector in order, and at places without a pattern.
 
 ghost use Rattle.std.specs.Prelude.{◌≡◌, ◌<◌, IfOk};
-ghost use Rattle.book_core.specs.Lists.{IsOf};
+ghost use Rattle.book_core.specs.Lists.{IsSeatOf};
 
 use crate::fault::SpeedFault;
 use crate::figure::Figure;
@@ -36,8 +36,8 @@ fn fill<E: Wait>(
     seat: &mut Seat<u64>,
     sizes: ReadSizes,
 ) -> Result<(), SpeedFault>
-    requires { IsOf live.now seat.old }
-    ensures { IsOf live.now seat.new }
+    requires { IsSeatOf live.now seat.old }
+    ensures { IsSeatOf live.now seat.new }
 {
     let block = sizes.block as u64;
     for growth in 0..sizes.n.div_ceil(block) {
@@ -152,7 +152,7 @@ fn read_in_order<E: Clock>(
     seat: &mut Seat<u64>,
     n: u64,
 ) -> Result<Figure, SpeedFault>
-    requires { IsOf live.now seat.old }
+    requires { IsSeatOf live.now seat.old }
     ensures { seat.new ≡ seat.old }
 {
     let start = Instant::now(rt)?;
@@ -190,7 +190,7 @@ fn begin_filled<E: Wait>(
     alloc: Global,
     sizes: ReadSizes,
 ) -> Result<(Live<u64>, Seat<u64>), SpeedFault>
-    ensures { IfOk result (λ begun. IsOf begun.0 begun.1) }
+    ensures { IfOk result (λ begun. IsSeatOf begun.0 begun.1) }
 {
     let room = sizes.n.div_ceil(sizes.block as u64);
     let (live, mut seats) = begin(alloc, room, 1)?;

@@ -1,7 +1,7 @@
 //! Reading all that a seat knows, piece by piece.
 
 ghost use Rattle.std.specs.Prelude.{◌≡◌};
-ghost use Rattle.book_core.specs.Lists.{IsOf};
+ghost use Rattle.book_core.specs.Lists.{IsSeatOf};
 
 use crate::mix::sum_of;
 use book_core::{Live, Seat};
@@ -43,7 +43,7 @@ impl Total {
 
 /// All that the seat knows, read piece by piece.
 pub fn total_of(live: &Live<u64>, seat: &mut Seat<u64>) -> Total
-    requires { IsOf live.now seat.old }
+    requires { IsSeatOf live.now seat.old }
     ensures { seat.new ≡ seat.old }
 {
     let mut total = Total::NOTHING;

@@ -6,7 +6,7 @@ ghost use Rattle.record_core.specs.Bytes.{unsigned};
 ghost use Rattle.segment_core.specs.Raw.{AreCellsOf};
 ghost use Rattle.pen_core.specs.Opening.{IsAtRest};
 ghost use Rattle.book_core.specs.Beginning.{AreNewSeats};
-ghost use Rattle.flush_core.specs.Flusher.{IsOf};
+ghost use Rattle.flush_core.specs.Flusher.{IsFlusherOf};
 
 use crate::fault::SpeedFault;
 use book_core::{Begun, Live, Seat};
@@ -26,7 +26,7 @@ pub struct Served<D: Disk> {
     pub live: Live<u64>,
     pub seats: Vec<Seat<u64>>,
     pub flusher: Flusher<u64, D>,
-    ghost of: { IsOf (D.keeps flusher.pen.disk) live flusher },
+    ghost of: { IsFlusherOf (D.keeps flusher.pen.disk) live flusher },
     ghost seated: { AreNewSeats live.directory live.mark seats.items },
 }
 
@@ -79,7 +79,7 @@ fn serve<E: Wait + Clock, D: Disk + Drop>(
     live: &Live<u64>,
     mut flusher: Flusher<u64, D>,
 ) -> Result<Instant, SpeedFault>
-    requires { IsOf (D.keeps flusher.pen.disk) live.now flusher }
+    requires { IsFlusherOf (D.keeps flusher.pen.disk) live.now flusher }
 {
     match flusher.serve(rt, live) {
         Ok(()) => Ok(Instant::now(rt)?),
@@ -101,18 +101,18 @@ pub fn serve_beside<
     flusher: Flusher<u64, D>,
     grow: F,
 ) -> Result<(T, Result<Instant, SpeedFault>), SpeedFault>
-    requires of { IsOf (D.keeps flusher.pen.disk) live.now flusher }
+    requires of { IsFlusherOf (D.keeps flusher.pen.disk) live.now flusher }
     requires grow { F.pre grow }
 {
     thread::scope(
         thread::scope_env(),
         rt,
         move |scope| -> Result<(T, Result<Instant, SpeedFault>), SpeedFault>
-            requires { IsOf (D.keeps flusher.pen.disk) live.now flusher × F.pre grow }
+            requires { IsFlusherOf (D.keeps flusher.pen.disk) live.now flusher × F.pre grow }
         {
             let started = scope.spawn(
                 move || -> Result<Instant, SpeedFault>
-                    requires { IsOf (D.keeps flusher.pen.disk) live.now flusher }
+                    requires { IsFlusherOf (D.keeps flusher.pen.disk) live.now flusher }
                 { serve(rt, live, flusher) },
             );
             let Ok(serving) = started else {

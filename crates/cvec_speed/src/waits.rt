@@ -1,7 +1,7 @@
 //! Threads wait for each of their growths, in phase after phase, while one more commits them: is each of them woken?
 
 ghost use Rattle.std.specs.Prelude.{◌<◌};
-ghost use Rattle.book_core.specs.Lists.{IsOf};
+ghost use Rattle.book_core.specs.Lists.{IsSeatOf};
 ghost use Rattle.book_core.specs.Beginning.{AreNewSeats};
 
 use crate::fault::SpeedFault;
@@ -63,7 +63,7 @@ struct Waiter<'a> {
     live: &'a Live<u64>,
     seat: Seat<u64>,
     first: u64,
-    ghost of: { IsOf live.now seat },
+    ghost of: { IsSeatOf live.now seat },
 }
 
 /// Makes so many rounds: a growth, a pause, and the wait for the growth.
@@ -76,8 +76,8 @@ fn make_rounds<E: Wait>(
     rounds: u64,
     watch: &Watch,
 ) -> Result<(), SpeedFault>
-    requires { IsOf live.now seat.old }
-    ensures { IsOf live.now seat.new }
+    requires { IsSeatOf live.now seat.old }
+    ensures { IsSeatOf live.now seat.new }
 {
     let mut record = first;
     let mut draws = below(first, FIRST_PAUSE);

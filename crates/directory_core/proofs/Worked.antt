@@ -3,8 +3,8 @@ use Rattle.std.proofs.Common.{◌≡◌, ℕ, zero, suc, ◌+◌, inl, inr, List
 use Rattle.block_core.specs.Growth.{Growth}
 use Rattle.directory_core.specs.declared.fault.DirFault.{DirFault}
 use Rattle.directory_core.specs.declared.fault.DirFault.TheVariants.{Taken, Full, Strayed, Memory}
-use Rattle.directory_core.specs.Chain.{total, joined, IsNext, IsChained, AreBlocks, Begins, Agree, Meets}
-use Rattle.directory_core.specs.Fault.{KeepsLimit, IsRefusal}
+use Rattle.directory_core.specs.Chain.{total, joined, IsNext, IsChained, AreBlocks, IsPrefix, Agree, Meets}
+use Rattle.directory_core.specs.Fault.{DirectoryKeepsLimit, IsPublishRefusal}
 use Rattle.directory_core.specs.Finding.{IsPlaceOf, IsRestAt, IsPieceAt}
 use Rattle.directory_core.specs.Identity.{Name, Identity}
 use Rattle.directory_core.specs.Limits.{growth_limit, record_limit}
@@ -63,10 +63,10 @@ no_empty_growth blocks = let some = (blocks 1 one (omega arith)).some in omega a
 
 -- ---- lists that agree
 
-not_begun : Begins {X = ℕ} (8 ∷ []) (7 ∷ 8 ∷ []) → ⊥
+not_begun : IsPrefix {X = ℕ} (8 ∷ []) (7 ∷ 8 ∷ []) → ⊥
 not_begun begins = absurd cc
 
-not_begun_by_more : Begins {X = ℕ} (7 ∷ 8 ∷ []) (7 ∷ []) → ⊥
+not_begun_by_more : IsPrefix {X = ℕ} (7 ∷ 8 ∷ []) (7 ∷ []) → ⊥
 not_begun_by_more begins = absurd cc
 
 no_agreement : Agree {X = ℕ} (7 ∷ 8 ∷ []) (7 ∷ 9 ∷ []) → ⊥
@@ -120,18 +120,18 @@ abbrev next : Growth ℕ
 next = record { number = 2; start = 3; seat = 3; serial = 1; records = 1 ∷ 2 ∷ [] }
 
 module _ (name : Name) where
-  where_full : (fault : DirFault) → IsRefusal (bounded name 2 5) (one ∷ other ∷ []) next fault → fault ≡ Full
+  where_full : (fault : DirFault) → IsPublishRefusal (bounded name 2 5) (one ∷ other ∷ []) next fault → fault ≡ Full
   where_full Taken is = absurd (let room = is.0 in omega arith)
   where_full Full is = refl
   where_full (Strayed n) is = absurd (let room = is.0 in omega arith)
   where_full Memory is = absurd (let room = is.0 in omega arith)
 
-  past_the_limit : (fault : DirFault) → IsRefusal (bounded name 3 4) (one ∷ other ∷ []) next fault → fault ≡ Strayed 2
+  past_the_limit : (fault : DirFault) → IsPublishRefusal (bounded name 3 4) (one ∷ other ∷ []) next fault → fault ≡ Strayed 2
   past_the_limit Taken is = absurd (let limit = is.1 in omega arith)
   past_the_limit Full is = absurd (omega arith)
   past_the_limit (Strayed n) is = ap Strayed is.1
   past_the_limit Memory is = absurd (let limit = is.1 in omega arith)
 
   -- to the limit
-  just_in_limit : KeepsLimit (bounded name 3 5) (one ∷ other ∷ []) next
+  just_in_limit : DirectoryKeepsLimit (bounded name 3 5) (one ∷ other ∷ []) next
   just_in_limit = omega arith

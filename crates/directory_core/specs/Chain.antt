@@ -25,8 +25,8 @@ abbrev pub AreBlocks : {R : Type 0} → ℕ → List (Growth R) → Type 0
 AreBlocks width entries = All (λ e. IsBlockLength width (length e.records)) entries
 
 -- the first list begins the second
-abbrev pub Begins : {X : Type 0} → List X → List X → Type 0
-Begins xs ys = take (length xs) ys ≡ xs
+abbrev pub IsPrefix : {X : Type 0} → List X → List X → Type 0
+IsPrefix xs ys = take (length xs) ys ≡ xs
 
 -- at each number that both have, the two lists have the same growth
 abbrev pub Agree : {X : Type 0} → List X → List X → Type 0
@@ -34,6 +34,6 @@ Agree xs ys = (g : ℕ) → g < length xs → g < length ys → slice_get xs g �
 
 -- what two lists give together where they agree: it is one of them, and both begin it
 pub record Meets {X : Type 0} (mine theirs both : List X) : Type 0 where
-  pub begins_mine : Begins mine both
-  pub begins_theirs : Begins theirs both
+  pub begins_mine : IsPrefix mine both
+  pub begins_theirs : IsPrefix theirs both
   pub is_one : (both ≡ mine) ⊎ (both ≡ theirs)

@@ -3,8 +3,8 @@
 ghost use Rattle.std.specs.Prelude.{◌≡◌, ◌+◌, ◌<◌, ◌≤◌, ◌∷◌, [], ◌++◌, if◌then◌else◌, length, slice_get, Some, MatchOption, MatchResult, IfOk, IfErr, IfSome};
 ghost use Rattle.directory_core.specs.Limits.{growth_limit, record_limit};
 ghost use Rattle.directory_core.specs.Spot.{span};
-ghost use Rattle.directory_core.specs.Chain.{total, joined, IsNext, Begins};
-ghost use Rattle.directory_core.specs.Fault.{IsRefusal};
+ghost use Rattle.directory_core.specs.Chain.{total, joined, IsNext, IsPrefix};
+ghost use Rattle.directory_core.specs.Fault.{IsPublishRefusal};
 ghost use Rattle.directory_core.specs.Finding.{IsPieceAt, IsRestAt};
 
 use crate::address::{BUCKETS, spot};
@@ -116,7 +116,7 @@ impl<R: Record> Directory<R> {
             (λ _. pass.new.entries ≡ pass.old.entries ++ entry.value ∷ [])
             (λ refused. (refused.0.value ≡ entry.value) × (pass.new.entries ≡ pass.old.entries)) }
         ensures fault { IfErr result (λ refused.
-            IsRefusal self.now pass.old.entries entry.value refused.1) }
+            IsPublishRefusal self.now pass.old.entries entry.value refused.1) }
     {
         let number = pass.known();
         if number >= self.room {
@@ -156,7 +156,7 @@ impl<R: Record> Directory<R> {
     fn learn(&self, pass: &mut Pass<R>) -> Result<bool, DirFault>
         requires of { pass.old.of ≡ self.now }
         ensures of { pass.new.of ≡ self.now }
-        ensures longer { Begins pass.old.entries pass.new.entries }
+        ensures longer { IsPrefix pass.old.entries pass.new.entries }
         ensures more { IfOk result (λ found.
             length pass.new.entries ≡ length pass.old.entries + (if found then 1 else 0)) }
         ensures fault { IfErr result (λ fault. fault ≡ DirFault.Strayed (length pass.new.entries)) }
@@ -195,7 +195,7 @@ impl<R: Record> Directory<R> {
     pub fn look(&self, pass: &mut Pass<R>) -> Result<u64, DirFault>
         requires of { pass.old.of ≡ self.now }
         ensures of { pass.new.of ≡ self.now }
-        ensures longer { Begins pass.old.entries pass.new.entries }
+        ensures longer { IsPrefix pass.old.entries pass.new.entries }
         ensures count { MatchResult result
             (λ known. known ≡ length pass.new.entries)
             (λ fault. fault ≡ DirFault.Strayed (length pass.new.entries)) }

@@ -1,13 +1,13 @@
 -- A crash inside a commit leaves the disk before or the disk after.
 use Rattle.std.proofs.Common.{◌≡◌, ◌≢◌, ℕ, ◌<◌, inl, inr, false, List, [], ◌∷◌, length, refl, sym, subst, arith}
 use Rattle.std.proofs.lemmas.Bool.Decides.{nat_tests}
-use Rattle.disk_core.specs.State.{State, now, covers, overlay, settled, touched, written, IsImage}
+use Rattle.disk_core.specs.State.{State, now, has_place, overlay, settled, touched, written, IsImage}
 use Rattle.disk_core.specs.Moments.{LeavesOnly}
 use Rattle.disk_core.specs.Commit.{IsNewButGate, IsOldOrNew, body_written, body_synced, gate_written, IsCommit, body_failed, body_not_synced, gate_failed, gate_not_synced, all_done}
 use Rattle.disk_core.proofs.JoinedMoments.{LeavesOnly-start, LeavesOnly-more}
 use Rattle.disk_core.proofs.ImageLemmas.{IsImage-settled, settled_image, IsImage-touched, touched_more, torn_images, written_image}
 
-not_covered : (gate i : ℕ) → i ≢ gate → covers (record { at = gate; len = 1 }) i ≡ false
+not_covered : (gate i : ℕ) → i ≢ gate → has_place (record { at = gate; len = 1 }) i ≡ false
 not_covered gate i other = grind (arith, nat_tests)
 
 -- all bytes are on the disk but the one at the gate, which is inside

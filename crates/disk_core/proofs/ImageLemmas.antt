@@ -3,7 +3,7 @@ use Rattle.std.proofs.Common.{◌≡◌, ℕ, ◌+◌, ◌≤◌, ◌<◌, ◌-�
 use Rattle.std.proofs.lemmas.List.{length-take, length-drop, length-take-le, get_or_append_left, get_or-take, get_or-append_right, get_or-drop}
 use Rattle.std.proofs.lemmas.Grind.{same_number_lists}
 use Rattle.std.proofs.lemmas.Bool.Decides.{nat_tests}
-use Rattle.disk_core.specs.State.{State, now, covers, is_within, overlay, settled, touched, written, IsTorn, IsTornWrite, IsImage}
+use Rattle.disk_core.specs.State.{State, now, has_place, is_within, overlay, settled, touched, written, IsTorn, IsTornWrite, IsImage}
 use Rattle.disk_core.specs.Calls.{TearsWrite}
 use Rattle.disk_core.specs.declared.fault.DiskFault.{DiskFault}
 use Rattle.disk_core.specs.declared.extent.Extent.{Extent}
@@ -28,14 +28,14 @@ both true b first is = cc
 both false b first is = is
 
 -- outside of these extents and of one more
-is_within-push : (es : List Extent) (e : Extent) (i : ℕ) → is_within (es ++ e ∷ []) i ≡ false → (is_within es i ≡ false) × (covers e i ≡ false)
+is_within-push : (es : List Extent) (e : Extent) (i : ℕ) → is_within (es ++ e ∷ []) i ≡ false → (is_within es i ≡ false) × (has_place e i ≡ false)
 is_within-push [] e i out = (refl, (neither _ _ out).0)
 is_within-push (x ∷ es) e i out =
     let parts = neither _ _ out in
     let rest = is_within-push es e i parts.1 in
     (both _ _ parts.0 rest.0, rest.1)
 
-push-is_within : (es : List Extent) (e : Extent) (i : ℕ) → is_within es i ≡ false → covers e i ≡ false → is_within (es ++ e ∷ []) i ≡ false
+push-is_within : (es : List Extent) (e : Extent) (i : ℕ) → is_within es i ≡ false → has_place e i ≡ false → is_within (es ++ e ∷ []) i ≡ false
 push-is_within [] e i out past = both _ _ past refl
 push-is_within (x ∷ es) e i out past =
     let parts = neither _ _ out in
@@ -102,7 +102,7 @@ torn_image s at len seen is torn = record {
 pub length-overlay : (old : List ℕ) (at : ℕ) (bytes : List ℕ) → at ≤ length old → length (overlay old at bytes) ≡ max (length old) (at + length bytes)
 length-overlay old at bytes le = omega (arith, length-append (take at old ++ bytes) (drop (at + length bytes) old), length-append (take at old) bytes, length-take at old, length-drop (at + length bytes) old)
 
-outside : (at len i : ℕ) → covers (record { at = at; len = len }) i ≡ false → (i < at) ⊎ (at + len ≤ i)
+outside : (at len i : ℕ) → has_place (record { at = at; len = len }) i ≡ false → (i < at) ⊎ (at + len ≤ i)
 outside at len i out = grind (arith, nat_tests)
 
 -- outside its extent a write changes nothing
@@ -135,7 +135,7 @@ pub half_done_image : (at len : ℕ) (before after : State) → IsImage before b
 half_done_image at len before after readable (inl is) = subst (λ s. IsImage s s.seen) (sym is) readable
 half_done_image at len before after readable (inr is) = subst (λ s. IsImage s s.seen) (sym is) (torn_image before at len before.seen readable (torn_same at len before.seen))
 
-part_outside : (at part len i : ℕ) → part ≤ len → covers (record { at = at; len = len }) i ≡ false → covers (record { at = at; len = part }) i ≡ false
+part_outside : (at part len i : ℕ) → part ≤ len → has_place (record { at = at; len = len }) i ≡ false → has_place (record { at = at; len = part }) i ≡ false
 part_outside at part len i le out = grind (arith, nat_tests)
 
 -- of a write that failed a part may have been tried alone

@@ -3,7 +3,7 @@ use Rattle.std.proofs.Common.{◌≡◌, ℕ, zero, suc, ◌≤◌, ◌<◌, Lis
 use Rattle.std.specs.Prelude.{nat_le, slice_index}
 use Rattle.std.proofs.lemmas.Bool.Decides.{nat_tests}
 use Rattle.disk_core.specs.declared.extent.Extent.{Extent}
-use Rattle.disk_core.specs.State.{State, now, covers, is_within, overlay, settled, touched, IsImage, IsTornWrite}
+use Rattle.disk_core.specs.State.{State, now, has_place, is_within, overlay, settled, touched, IsImage, IsTornWrite}
 use Rattle.disk_core.specs.declared.fault.DiskFault.{DiskFault}
 use Rattle.disk_core.specs.Calls.{bytes_of, Stays, Writes, TearsWrite, Settles}
 use Rattle.disk_core.specs.Choice.{is_pending, pending_below, pending_count}
@@ -28,21 +28,21 @@ or_assoc : (a b c : Bool) → (a || (b || c)) ≡ (a || b || c)
 or_assoc true b c = refl
 or_assoc false b c = refl
 
-is_within-more : (es : List Extent) (e : Extent) (i : ℕ) → is_within (es ++ e ∷ []) i ≡ (is_within es i || covers e i)
-is_within-more [] e i = or_false (covers e i)
-is_within-more (x ∷ es) e i = ap (λ b. covers x i || b) (is_within-more es e i) ∙ or_assoc (covers x i) (is_within es i) (covers e i)
+is_within-more : (es : List Extent) (e : Extent) (i : ℕ) → is_within (es ++ e ∷ []) i ≡ (is_within es i || has_place e i)
+is_within-more [] e i = or_false (has_place e i)
+is_within-more (x ∷ es) e i = ap (λ b. has_place x i || b) (is_within-more es e i) ∙ or_assoc (has_place x i) (is_within es i) (has_place e i)
 
 -- a write adds its extent, and no other place
-pub is_within-touched : (s : State) (at len : ℕ) (seen : List ℕ) (i : ℕ) → is_within (touched s at len seen).pending i ≡ (is_within s.pending i || covers (record { at = at; len = len }) i)
+pub is_within-touched : (s : State) (at len : ℕ) (seen : List ℕ) (i : ℕ) → is_within (touched s at len seen).pending i ≡ (is_within s.pending i || has_place (record { at = at; len = len }) i)
 is_within-touched s at len seen i = is_within-more s.pending (record { at = at; len = len }) i
 
-pub is_pending-touched : (s : State) (at len : ℕ) (seen : List ℕ) (i : ℕ) → is_pending (touched s at len seen) i ≡ (is_pending s i || covers (record { at = at; len = len }) i)
+pub is_pending-touched : (s : State) (at len : ℕ) (seen : List ℕ) (i : ℕ) → is_pending (touched s at len seen) i ≡ (is_pending s i || has_place (record { at = at; len = len }) i)
 is_pending-touched s at len seen i =
     let e : Extent = record { at = at; len = len } in
-    ap (λ b. nat_le (length s.synced) i || b) (is_within-more s.pending e i) ∙ or_assoc (nat_le (length s.synced) i) (is_within s.pending i) (covers e i)
+    ap (λ b. nat_le (length s.synced) i || b) (is_within-more s.pending e i) ∙ or_assoc (nat_le (length s.synced) i) (is_within s.pending i) (has_place e i)
 
 -- a write that failed adds no place outside its extent
-pub is_pending-torn : (at len : ℕ) (before after : State) (i : ℕ) → IsTornWrite at len before after → is_pending before i ≡ false → covers (record { at = at; len = len }) i ≡ false → is_pending after i ≡ false
+pub is_pending-torn : (at len : ℕ) (before after : State) (i : ℕ) → IsTornWrite at len before after → is_pending before i ≡ false → has_place (record { at = at; len = len }) i ≡ false → is_pending after i ≡ false
 is_pending-torn at len before after i torn out past =
     let parts = neither _ _ out in
     both _ _ (rw torn.synced parts.0) (torn.pending i parts.1 past)
@@ -69,7 +69,7 @@ module _ (old new : List State) (i : ℕ) (out : is_pending (now old) i ≡ fals
   unpending-stays stays = subst (λ states. is_pending (now states) i ≡ false) (sym stays) out
 
   pub unpending-write : {T : Type 0} (r : Result T DiskFault) (at : ℕ) (bytes : List ℕ) → OnOk r (Writes at bytes old new) → OnErr r (TearsWrite at (length bytes) old new)
-      → covers (record { at = at; len = length bytes }) i ≡ false → is_pending (now new) i ≡ false
+      → has_place (record { at = at; len = length bytes }) i ≡ false → is_pending (now new) i ≡ false
   unpending-write (Ok value) at bytes done torn past =
       subst (λ states. is_pending (now states) i ≡ false) (sym done) (is_pending-touched (now old) at (length bytes) (overlay (bytes_of old) at bytes) i ∙ both _ _ out past)
   unpending-write (Err fault) at bytes done torn past =

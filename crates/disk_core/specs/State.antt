@@ -14,12 +14,12 @@ pub record State : Type 0 where
 abbrev pub made_of : List ℕ → List ℕ → List Extent → ℕ → State
 made_of seen synced pending greatest = record { seen = seen; synced = synced; pending = pending; greatest = greatest }
 
-abbrev pub covers : Extent → ℕ → Bool
-covers e i = nat_le e.at i && nat_lt i (e.at + e.len)
+abbrev pub has_place : Extent → ℕ → Bool
+has_place e i = nat_le e.at i && nat_lt i (e.at + e.len)
 
 -- whether one of the extents has this place
 abbrev pub is_within : List Extent → ℕ → Bool
-is_within extents i = list_any (λ e. covers e i) extents
+is_within extents i = list_any (λ e. has_place e i) extents
 
 -- the bytes with others laid over them from a place on
 abbrev pub overlay : List ℕ → ℕ → List ℕ → List ℕ
@@ -46,7 +46,7 @@ written s at bytes = touched s at (length bytes) (overlay s.seen at bytes)
 pub record IsTorn (at len : ℕ) (old new : List ℕ) : Type 0 where
   pub no_shorter : length old ≤ length new
   pub no_longer : length new ≤ max (length old) (at + len)
-  pub each : (i : ℕ) → i < length old → covers (record { at = at; len = len }) i ≡ false → slice_index new i ≡ slice_index old i
+  pub each : (i : ℕ) → i < length old → has_place (record { at = at; len = len }) i ≡ false → slice_index new i ≡ slice_index old i
 
 -- A crash may leave these bytes: each synced byte that was not written since stays, all others are anything.
 pub record IsImage (s : State) (image : List ℕ) : Type 0 where
@@ -64,7 +64,7 @@ now (s ∷ earlier) = s
 pub record IsTornWrite (at len : ℕ) (before after : State) : Type 0 where
   pub seen : IsTorn at len before.seen after.seen
   pub synced : after.synced ≡ before.synced
-  pub pending : (i : ℕ) → is_within before.pending i ≡ false → covers (record { at = at; len = len }) i ≡ false → is_within after.pending i ≡ false
+  pub pending : (i : ℕ) → is_within before.pending i ≡ false → has_place (record { at = at; len = len }) i ≡ false → is_within after.pending i ≡ false
   pub still_pending : (i : ℕ) → is_within after.pending i ≡ false → is_within before.pending i ≡ false
   pub greatest : after.greatest ≤ max before.greatest (at + len)
   pub no_less : before.greatest ≤ after.greatest

@@ -10,10 +10,10 @@ pub struct Extent {
 }
 
 impl Extent {
-    ghost use Rattle.disk_core.specs.State.{covers};
+    ghost use Rattle.disk_core.specs.State.{has_place};
 
-    pub(crate) fn covers(&self, place: u64) -> bool
-        ensures { result ≡ covers self.now place }
+    pub(crate) fn has_place(&self, place: u64) -> bool
+        ensures { result ≡ has_place self.now place }
     {
         self.at <= place && place - self.at < self.len
     }

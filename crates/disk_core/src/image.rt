@@ -74,7 +74,7 @@ fn is_free(synced: &[u8], pending: &[Extent], place: usize) -> bool
 fn is_within(extents: &[Extent], place: u64) -> bool
     ensures { result ≡ is_within extents.now place }
 {
-    extents.iter().any(|extent| extent.covers(place))
+    extents.iter().any(|extent| extent.has_place(place))
 }
 
 /// The byte at a place that is free or not, with so many free places below it.

@@ -3,7 +3,7 @@ use Rattle.std.proofs.Common.{◌≡◌, inl, inr, ℕ, zero, suc, ◌+◌, ◌*
 use Rattle.record_core.specs.Bytes.{Encoding}
 use Rattle.record_core.specs.Limits.{payload_limit}
 use Rattle.disk_core.specs.State.{State}
-use Rattle.block_core.specs.Length.{IsBlockLength, IsRefusal}
+use Rattle.block_core.specs.Length.{IsBlockLength, IsBlockRefusal}
 use Rattle.block_core.specs.declared.fault.FreshFault.{FreshFault}
 use Rattle.block_core.specs.declared.fault.FreshFault.TheVariants as fresh
 use Rattle.book_core.specs.declared.fault.GrowFault.TheVariants as grow
@@ -70,7 +70,7 @@ module _ {R D : Type 0} (form : Encoding R) (states : D → List State) (faults 
   large : payload_limit < 8 + length records * form.width → (length records == 0) ≡ false
   large more = ne_eqb (length records) 0 (λ none. let nothing : length records * form.width ≡ 0 = ap (λ n. n * form.width) none ∙ grind arith in absurd (omega (arith, more, nothing)))
 
-  pub block_refuses : (fault : FreshFault) (answer : Answer R) → answer ≡ step.Refused (told.Grow (of_block fault)) → IsRefusal form.width (length records) fault → Steps form keeps (λ w'. IsBehind states faults w' g) w (step.Put k records) answer 0
+  pub block_refuses : (fault : FreshFault) (answer : Answer R) → answer ≡ step.Refused (told.Grow (of_block fault)) → IsBlockRefusal form.width (length records) fault → Steps form keeps (λ w'. IsBehind states faults w' g) w (step.Put k records) answer 0
   block_refuses fresh.Empty answer is why = refused_with (told.Grow grow.Empty) answer is refl (stops _ (told.Grow grow.Empty) _ (zero-eqb (length records) why))
   block_refuses fresh.TooLarge answer is why = refused_with (told.Grow grow.TooLarge) answer is refl (passes _ (told.Grow grow.Empty) _ _ (large why) (stops _ (told.Grow grow.TooLarge) _ (lt-ltb payload_limit (8 + length records * form.width) why)))
   block_refuses fresh.Memory answer is why = refused_with (told.Grow grow.Memory) answer is refl (passes _ (told.Grow grow.Empty) _ _ (not_empty why) (passes _ (told.Grow grow.TooLarge) _ _ (not_large why) (inl (told.Grow grow.Memory, refl, refl))))

@@ -3,7 +3,7 @@ use Rattle.std.proofs.Common.{◌≡◌, ℕ, ◌+◌, List, length, Bool, true,
 use Rattle.record_core.specs.Bytes.{Encoding}
 use Rattle.disk_core.specs.State.{State}
 use Rattle.pen_core.specs.Pen.{IsFoldAnswer, IsUnchanged}
-use Rattle.directory_core.specs.Chain.{Begins}
+use Rattle.directory_core.specs.Chain.{IsPrefix}
 use Rattle.flush_core.specs.Flusher.{FlusherOf}
 use Rattle.flush_core.specs.Refusals.{IsFoldFault}
 use Rattle.flush_core.specs.declared.fault.FlushFault.{FlushFault}
@@ -48,7 +48,7 @@ module _ {R D : Type 0} (form : Encoding R) (states : D → List State) (faults 
     made_sum = tie.made_sum;
     each = tie.each;
     last_knows = tie.last_knows;
-    flusher_knows = subst (λ (p : _). Begins p.entries tie.entries) (sym pass_same) tie.flusher_knows;
+    flusher_knows = subst (λ (p : _). IsPrefix p.entries tie.entries) (sym pass_same) tie.flusher_knows;
     flusher_is = tie.flusher_is ∙ ap (λ (p : _). length p.entries) (sym pass_same);
     taken_is = tie.taken_is ∙ sym taken_same;
     taken_within = tie.taken_within;

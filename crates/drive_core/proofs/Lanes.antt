@@ -21,13 +21,13 @@ use Rattle.pen_core.specs.declared.fault.PenFault.TheVariants as pen
 use Rattle.flush_core.specs.declared.lane.Tick.{Tick}
 use Rattle.flush_core.specs.declared.lane.Tick.TheVariants as ticks
 use Rattle.flush_core.specs.declared.lane.Lane.TheVariants as lanes
-use Rattle.flush_core.specs.Flusher.{FlusherOf, SameGrowths, IsOf, KeepsSettled, KeepsJob}
+use Rattle.flush_core.specs.Flusher.{FlusherOf, SameGrowths, IsFlusherOf, OpensToSettled, OpensToJob}
 use Rattle.flush_core.specs.Refusals.{IsLaneTicked, IsLaneFault, settled_behind, failed}
 use Rattle.flush_core.specs.declared.fault.FlushFault.{FlushFault}
 use Rattle.flush_core.specs.declared.fault.FlushFault.TheVariants as flush
 use Rattle.drive_core.specs.declared.fault.Fault.TheVariants.{Vault}
 use Rattle.vault_core.specs.declared.fault.VaultFault.TheVariants as vault
-use Rattle.directory_core.specs.Chain.{Begins}
+use Rattle.directory_core.specs.Chain.{IsPrefix}
 use Rattle.drive_core.specs.Line.{Allows, Might, is_disk, of_flush}
 use Rattle.drive_core.specs.Step.{Step, Answer}
 use Rattle.drive_core.specs.Step as step
@@ -74,7 +74,7 @@ module _ {R D : Type 0} (states : D → List State) (faults : D → ℕ) (w : Wo
     made_sum = tie.made_sum;
     each = tie.each;
     last_knows = tie.last_knows;
-    flusher_knows = subst (λ (p : _). Begins p.entries tie.entries) (sym same.pass_same) tie.flusher_knows;
+    flusher_knows = subst (λ (p : _). IsPrefix p.entries tie.entries) (sym same.pass_same) tie.flusher_knows;
     flusher_is = tie.flusher_is ∙ ap (λ (p : _). length p.entries) (sym same.pass_same);
     taken_is = tie.taken_is ∙ sym same.taken_same;
     taken_within = tie.taken_within;
@@ -106,9 +106,9 @@ module _ {R D : Type 0} (states : D → List State) (faults : D → ℕ) (w : Wo
 
   -- ---- what stands behind each event of a lane
 
-  module _ (form : Encoding R) (keeps : D → Type 0) (is : IsOf (keeps g.flusher.pen.disk) g.live g.flusher) (is' : IsOf (keeps new.pen.disk) g.live new) (model : keeps new.pen.disk → keeps g.flusher.pen.disk)
-      (leaves : keeps new.pen.disk → LeavesOnly (states g.flusher.pen.disk) (states new.pen.disk) (KeepsSettled form g.flusher))
-      (rests : keeps new.pen.disk → (image : List ℕ) → IsImage (now (states new.pen.disk)) image → KeepsSettled form new image)
+  module _ (form : Encoding R) (keeps : D → Type 0) (is : IsFlusherOf (keeps g.flusher.pen.disk) g.live g.flusher) (is' : IsFlusherOf (keeps new.pen.disk) g.live new) (model : keeps new.pen.disk → keeps g.flusher.pen.disk)
+      (leaves : keeps new.pen.disk → LeavesOnly (states g.flusher.pen.disk) (states new.pen.disk) (OpensToSettled form g.flusher))
+      (rests : keeps new.pen.disk → (image : List ℕ) → IsImage (now (states new.pen.disk)) image → OpensToSettled form new image)
       (same : SameGrowths g.flusher new) (brings : new.taken ≡ new.settled + growths_in_hand new.pen.job)
       (n : ℕ) (time : clock (states new.pen.disk) ≡ clock (states g.flusher.pen.disk) + n) (few : n ≤ 1) where
     lane_inner : (asked : Step R) (answer : Answer R) → keeps new.pen.disk → Inner form w (record { asked = asked; answer = answer; calls = n; after = behind })
@@ -177,17 +177,17 @@ module _ {R D : Type 0} (states : D → List State) (faults : D → ℕ) (w : Wo
         by_event step.Home (step.Refused (Vault (vault.Pen fault))) answer is (home_refused states faults w g.flusher.pen new.pen tie.hand_is tie.disk_is (phase.before + new.settled) fault why (settled_same settled) counted n calls) (λ row. row) (λ called. called) refl
 
 -- what a crash may leave of the disk as it is lent
-pub rests-lent : {R D : Type 0} (form : Encoding R) (keeps : D → Type 0) (states : D → List State) (new : FlusherOf R D) (lent : D) → lent ≡ new.pen.disk → (keeps lent → (image : List ℕ) → IsImage (now (states lent)) image → KeepsJob form new image)
-    → keeps new.pen.disk → (image : List ℕ) → IsImage (now (states new.pen.disk)) image → KeepsSettled form new image
-rests-lent {D = D} form keeps states new lent is images kept image left = (subst (λ (d : D). keeps d → (image : List ℕ) → IsImage (now (states d)) image → KeepsJob form new image) is images kept image left).kept
+pub rests-lent : {R D : Type 0} (form : Encoding R) (keeps : D → Type 0) (states : D → List State) (new : FlusherOf R D) (lent : D) → lent ≡ new.pen.disk → (keeps lent → (image : List ℕ) → IsImage (now (states lent)) image → OpensToJob form new image)
+    → keeps new.pen.disk → (image : List ℕ) → IsImage (now (states new.pen.disk)) image → OpensToSettled form new image
+rests-lent {D = D} form keeps states new lent is images kept image left = (subst (λ (d : D). keeps d → (image : List ℕ) → IsImage (now (states d)) image → OpensToJob form new image) is images kept image left).kept
 
 -- and within a tick
-pub leaves-kept : {R D : Type 0} (form : Encoding R) (f : FlusherOf R D) (old new : List State) → LeavesOnly old new (KeepsJob form f) → LeavesOnly old new (KeepsSettled form f)
-leaves-kept form f old new leaves = LeavesOnly-weaker old new (KeepsJob form f) (KeepsSettled form f) (λ image kept. kept.kept) leaves
+pub leaves-kept : {R D : Type 0} (form : Encoding R) (f : FlusherOf R D) (old new : List State) → LeavesOnly old new (OpensToJob form f) → LeavesOnly old new (OpensToSettled form f)
+leaves-kept form f old new leaves = LeavesOnly-weaker old new (OpensToJob form f) (OpensToSettled form f) (λ image kept. kept.kept) leaves
 
 -- what is of a phase stays of it
-pub IsOf-ticked : {R D : Type 0} (keeps : D → Type 0) (live : book.Phase R) (old new : FlusherOf R D) → SameGrowths old new → (keeps new.pen.disk → new.opening ≡ old.opening) → (keeps new.pen.disk → keeps old.pen.disk) → IsOf (keeps old.pen.disk) live old → IsOf (keeps new.pen.disk) live new
-IsOf-ticked keeps live old new same opening model is = record {
+pub IsFlusherOf-ticked : {R D : Type 0} (keeps : D → Type 0) (live : book.Phase R) (old new : FlusherOf R D) → SameGrowths old new → (keeps new.pen.disk → new.opening ≡ old.opening) → (keeps new.pen.disk → keeps old.pen.disk) → IsFlusherOf (keeps old.pen.disk) live old → IsFlusherOf (keeps new.pen.disk) live new
+IsFlusherOf-ticked keeps live old new same opening model is = record {
   directory = ap (λ (p : _). p.of) same.pass_same ∙ is.directory;
   mark = ap (λ (m : _). m.of) same.mark_same ∙ is.mark;
   before = same.before_same ∙ is.before;

@@ -18,6 +18,7 @@ pub mod Folds
 pub mod Viewed
 pub mod Worked
 pub mod WorkedSteps
+pub mod WorkedHeadline
 pub mod Looked
 pub mod LookedSeat
 pub mod VaultEvents

@@ -5,12 +5,12 @@ use Rattle.std.proofs.lemmas.Option.{same_Some}
 use Rattle.record_core.specs.Bytes.{Encoding}
 use Rattle.disk_core.specs.State.{State}
 use Rattle.pen_core.specs.PenOf.{PenOf}
-use Rattle.directory_core.specs.Chain.{Begins, Agree, Meets, total, joined}
+use Rattle.directory_core.specs.Chain.{IsPrefix, Agree, Meets, total, joined}
 use Rattle.directory_core.proofs.Chains.{length-joined}
 use Rattle.book_core.specs.Lists.{Seated, opening_of}
 use Rattle.book_core.specs.Growing as growing
 use Rattle.book_core.specs.declared.fault.GrowFault.TheVariants as grow
-use Rattle.flush_core.specs.Flusher.{FlusherOf, Learns, IsOf}
+use Rattle.flush_core.specs.Flusher.{FlusherOf, FlusherLearns, IsFlusherOf}
 use Rattle.book_core.specs.Lists as book
 use Rattle.drive_core.specs.declared.fault.Fault.TheVariants as told
 use Rattle.drive_core.specs.Step.{Answer}
@@ -53,11 +53,11 @@ module _ {R D : Type 0} (form : Encoding R) (states : D → List State) (faults 
       none : Some n ≡ None → ⊥
       none is = absurd cc
 
-  module _ (learns : Learns g.flusher new) (few : length new.pass.entries ≤ g.puts) (learnt : growing.Learns t t') (agree : Agree t.pass.entries new.pass.entries) (meets : Meets t.pass.entries new.pass.entries t'.pass.entries) where
+  module _ (learns : FlusherLearns g.flusher new) (few : length new.pass.entries ≤ g.puts) (learnt : growing.SeatLearns t t') (agree : Agree t.pass.entries new.pass.entries) (meets : Meets t.pass.entries new.pass.entries t'.pass.entries) where
     within_all : length new.pass.entries ≤ length tie.entries
     within_all = let puts = tie.puts_is in omega (arith, few, puts)
 
-    found : Begins new.pass.entries tie.entries
+    found : IsPrefix new.pass.entries tie.entries
     found = agree-begins new.pass.entries tie.entries within_all (λ n less. elim (none-or tie.entries) [
       | inl none ↦ absurd (omega (arith, none, less, within_all))
       | inr some ↦
@@ -99,7 +99,7 @@ module _ {R D : Type 0} (form : Encoding R) (states : D → List State) (faults 
       seats_are = tie.seats_are;
       made_sum = tie.made_sum;
       each = λ j seat there. each_replaced tie.entries g.seats g.last t t' at tie.each
-          (let was = tie.each g.last t at in record { id_is = learnt.id ∙ was.id_is; knows = subst (λ xs. Begins xs tie.entries) (sym t_same) was.knows })
+          (let was = tie.each g.last t at in record { id_is = learnt.id ∙ was.id_is; knows = subst (λ xs. IsPrefix xs tie.entries) (sym t_same) was.knows })
           j seat (ap (λ xs. slice_get xs j) (sym row_is) ∙ there);
       last_knows = λ some. let there = last_replaced tie.entries g.seats g.last t t' at g.last (tie.last_knows some) (λ was. t_same ∙ was) in (there.0, ap (λ xs. slice_get xs g.last) row_is ∙ there.1, there.2);
       flusher_knows = found;
@@ -126,8 +126,8 @@ module _ {R D : Type 0} (form : Encoding R) (states : D → List State) (faults 
         refl refl (tie.calm ∙ sym (ap stray_in is)) (record { disk_is = tie.disk_is ∙ ap (λ (p : PenOf D). disk_of states faults p.disk) (sym learns.pen_same); goes_on = λ still. (_, look_tie) })
 
 -- what is of a phase stays of it
-pub IsOf-learns : {R D : Type 0} (keeps : D → Type 0) (live : book.Phase R) (old new : FlusherOf R D) → Learns old new → IsOf (keeps old.pen.disk) live old → IsOf (keeps new.pen.disk) live new
-IsOf-learns {D = D} keeps live old new learns is = record {
+pub IsFlusherOf-learns : {R D : Type 0} (keeps : D → Type 0) (live : book.Phase R) (old new : FlusherOf R D) → FlusherLearns old new → IsFlusherOf (keeps old.pen.disk) live old → IsFlusherOf (keeps new.pen.disk) live new
+IsFlusherOf-learns {D = D} keeps live old new learns is = record {
   directory = learns.of_same ∙ is.directory;
   mark = ap (λ (m : _). m.of) learns.mark_same ∙ is.mark;
   before = learns.before_same ∙ is.before;

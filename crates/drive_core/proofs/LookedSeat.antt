@@ -3,10 +3,10 @@ use Rattle.std.proofs.Common.{◌≡◌, ◌⊎◌, inl, inr, ℕ, ◌+◌, ◌�
 use Rattle.std.proofs.lemmas.Option.{same_Some}
 use Rattle.record_core.specs.Bytes.{Encoding}
 use Rattle.disk_core.specs.State.{State}
-use Rattle.directory_core.specs.Chain.{Begins, joined}
+use Rattle.directory_core.specs.Chain.{IsPrefix, joined}
 use Rattle.directory_core.proofs.Chains.{length-joined}
 use Rattle.book_core.specs.Lists.{Seated, opening_of}
-use Rattle.book_core.specs.Growing.{Learns, size_of}
+use Rattle.book_core.specs.Growing.{SeatLearns, size_of}
 use Rattle.book_core.specs.declared.fault.GrowFault.TheVariants as grow
 use Rattle.drive_core.specs.declared.fault.Fault.TheVariants as told
 use Rattle.drive_core.specs.Step.{Answer}
@@ -34,7 +34,7 @@ module _ {R D : Type 0} (form : Encoding R) (states : D → List State) (faults 
       none : Some n ≡ None → ⊥
       none is = absurd cc
 
-  module _ (learns : Learns m0 m1) (few : length m1.pass.entries ≤ g.puts) (at_t : slice_get (slice_set g.seats k m1) g.last ≡ Some t) (met : MeetsIn (slice_set g.seats k m1) row g.last t m1) where
+  module _ (learns : SeatLearns m0 m1) (few : length m1.pass.entries ≤ g.puts) (at_t : slice_get (slice_set g.seats k m1) g.last ≡ Some t) (met : MeetsIn (slice_set g.seats k m1) row g.last t m1) where
     seats1 : List (Seated R)
     seats1 = slice_set g.seats k m1
 
@@ -53,7 +53,7 @@ module _ {R D : Type 0} (form : Encoding R) (states : D → List State) (faults 
       | inr other ↦ inr (ap (λ (s : Seated R). s.pass.entries) (same_Some t knows.0 (sym at_t ∙ get_set_other g.seats k g.last m1 other ∙ knows.1)) ∙ knows.2)
     ]
 
-    found : Begins m1.pass.entries tie.entries
+    found : IsPrefix m1.pass.entries tie.entries
     found = agree-begins m1.pass.entries tie.entries within_all (λ n less. elim (none-or tie.entries) [
       | inl none ↦ absurd (omega (arith, none, less, within_all))
       | inr some ↦ elim (knew some) [
@@ -62,9 +62,9 @@ module _ {R D : Type 0} (form : Encoding R) (states : D → List State) (faults 
       ]
     ])
 
-    t_begins : Begins t.pass.entries tie.entries
+    t_begins : IsPrefix t.pass.entries tie.entries
     t_begins = elim (same_or_not g.last k) [
-      | inl same ↦ subst (λ (s : Seated R). Begins s.pass.entries tie.entries) (sym (same_Some t m1 (sym at_t ∙ ap (slice_get (slice_set g.seats k m1)) same ∙ get_set_same g.seats k m0 m1 at0))) found
+      | inl same ↦ subst (λ (s : Seated R). IsPrefix s.pass.entries tie.entries) (sym (same_Some t m1 (sym at_t ∙ ap (slice_get (slice_set g.seats k m1)) same ∙ get_set_same g.seats k m0 m1 at0))) found
       | inr other ↦ (tie.each g.last t (sym (get_set_other g.seats k g.last m1 other) ∙ at_t)).knows
     ]
 
@@ -105,7 +105,7 @@ module _ {R D : Type 0} (form : Encoding R) (states : D → List State) (faults 
       seats_are = tie.seats_are;
       made_sum = tie.made_sum;
       each = λ j seat there. each_replaced tie.entries (slice_set g.seats k m1) g.last t met.met at_t id_of
-          (record { id_is = met.learns.id ∙ (id_of g.last t at_t).id_is; knows = subst (λ xs. Begins xs tie.entries) (sym met_same) t_begins })
+          (record { id_is = met.learns.id ∙ (id_of g.last t at_t).id_is; knows = subst (λ xs. IsPrefix xs tie.entries) (sym met_same) t_begins })
           j seat (ap (λ xs. slice_get xs j) (sym met.row_is) ∙ there);
       last_knows = λ some. (
         met.met,

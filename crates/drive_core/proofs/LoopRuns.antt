@@ -56,7 +56,7 @@ module _ {R D : Type 0} (form : Encoding R) (states : D → List State) (faults 
   stray_steps phase strayed number asked answer some is tie =
       subst (λ s. Steps form (keeps (disk_in phase)) (λ w'. IsDriver states faults keeps w' phase s) w asked answer (calls_between (states (disk_in phase)) (states (disk_in phase)))) (sym some)
       (subst (λ a. Steps form (keeps (disk_in phase)) (λ w'. IsDriver states faults keeps w' phase (Some number)) w asked a (calls_between (states (disk_in phase)) (states (disk_in phase)))) (sym is)
-          (stray_at phase number asked (stray_calls w asked number) (subst (IsDriver states faults keeps w phase) some tie)))
+      (stray_at phase number asked (stray_calls w asked number) (subst (IsDriver states faults keeps w phase) some tie)))
 
   -- as the driver's step answers
   pub driver_steps : (phase new : phases.Phase R D) (asked : Step R) (answer : Answer R) (strayed strayed' : Option ℕ) → strayed ≡ None → strayed' ≡ stray_in answer → IsDriver states faults keeps w phase strayed

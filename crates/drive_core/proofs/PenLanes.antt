@@ -25,7 +25,7 @@ use Rattle.flush_core.specs.declared.fault.FlushFault.{FlushFault}
 use Rattle.flush_core.specs.declared.fault.FlushFault.TheVariants as flush
 use Rattle.drive_core.specs.declared.fault.Fault.TheVariants.{Vault}
 use Rattle.vault_core.specs.declared.fault.VaultFault.TheVariants as vault
-use Rattle.directory_core.specs.Chain.{Begins}
+use Rattle.directory_core.specs.Chain.{IsPrefix}
 use Rattle.drive_core.specs.Line.{Allows, Might, is_disk, of_flush}
 use Rattle.drive_core.specs.Step.{Step, Answer}
 use Rattle.drive_core.specs.Step as step

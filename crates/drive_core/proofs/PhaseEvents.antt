@@ -15,7 +15,7 @@ use Rattle.pen_core.specs.Refusals.{first_refusal, ready_lines}
 use Rattle.pen_core.specs.declared.fault.PenFault.{PenFault}
 use Rattle.pen_core.specs.declared.fault.PenFault.TheVariants as pen
 use Rattle.directory_core.specs.Chain as chains
-use Rattle.directory_core.specs.Chain.{Begins}
+use Rattle.directory_core.specs.Chain.{IsPrefix}
 use Rattle.directory_core.specs.Limits.{growth_limit}
 use Rattle.block_core.specs.Growth as block
 use Rattle.book_core.specs.Beginning.{AreNewSeats, MayBegin, seat_limit}
@@ -196,9 +196,9 @@ module _ {R D : Type 0} (form : Encoding R) (states : D → List State) (faults 
       told_are = ap (λ n. replicate n 0) (sym seats_long) ∙ zeros (λ (s : Seated R). s.mark.told.count) row (λ k s at. ap (λ (m : _). m.told.count) (new k s at).marked);
       seats_are = length-replicate seats 0 ∙ sym (inside_limits may.bounds).0 ∙ sym shares.seats_are;
       made_sum = none_sum seats;
-      each = λ k s at. record { id_is = (new k s at).id_is; knows = subst (λ es. Begins es []) (sym (new k s at).knows) refl };
+      each = λ k s at. record { id_is = (new k s at).id_is; knows = subst (λ es. IsPrefix es []) (sym (new k s at).knows) refl };
       last_knows = λ some. absurd (omega (arith, some));
-      flusher_knows = subst (λ es. Begins es []) (sym shares.knows) refl;
+      flusher_knows = subst (λ es. IsPrefix es []) (sym shares.knows) refl;
       flusher_is = sym (ap length shares.knows);
       taken_is = sym shares.counts.0;
       taken_within = omega arith;
@@ -310,7 +310,7 @@ module _ {R D : Type 0} (form : Encoding R) (states : D → List State) (faults 
 
   module _ (v : VaultOf R D) (pen_is : v.pen ≡ g.flusher.pen) (list : list_of v ≡ opening_of g.live ++ chains.joined g.flusher.pass.entries) (whole : IsWhole g.live g.seats g.flusher) (sure : keeps v.pen.disk → v.pen.broken ≡ false → v.sure ≡ list_of v) where
     all_known : length g.flusher.pass.entries ≡ length tie.entries
-    all_known = sym (all_most g.seats (length g.flusher.pass.entries) (λ k s at. begins-le s.pass.entries g.flusher.pass.entries (at_all (λ (s : Seated R). Begins s.pass.entries g.flusher.pass.entries) g.seats k s at whole.longest))) ∙ all_there
+    all_known = sym (all_most g.seats (length g.flusher.pass.entries) (λ k s at. begins-le s.pass.entries g.flusher.pass.entries (at_all (λ (s : Seated R). IsPrefix s.pass.entries g.flusher.pass.entries) g.seats k s at whole.longest))) ∙ all_there
       where
         at_all : (P : Seated R → Type 0) (seats : List (Seated R)) (k : ℕ) (s : Seated R) → slice_get seats k ≡ Some s → All P seats → P s
         at_all P seats k s at all = subst P (get_or_from_slice_get seats k s s at) (all k s (slice_get_within seats k s at))

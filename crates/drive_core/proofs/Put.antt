@@ -11,7 +11,7 @@ use Rattle.disk_core.specs.State.{State}
 use Rattle.segment_core.specs.Command.{Grow, content}
 use Rattle.block_core.specs.Growth as block
 use Rattle.block_core.specs.Length.{IsBlockLength}
-use Rattle.directory_core.specs.Chain.{Begins, total, joined}
+use Rattle.directory_core.specs.Chain.{IsPrefix, total, joined}
 use Rattle.directory_core.specs.Limits.{record_limit}
 use Rattle.directory_core.proofs.Chains.{length-joined}
 use Rattle.book_core.specs.declared.seat.Receipt.{Receipt}
@@ -19,7 +19,7 @@ use Rattle.book_core.specs.declared.fault.GrowFault.{GrowFault}
 use Rattle.book_core.specs.declared.fault.GrowFault.TheVariants as grow
 use Rattle.book_core.specs.Lists as book
 use Rattle.book_core.specs.Lists.{Seated, opening_of}
-use Rattle.book_core.specs.Growing.{Learns, Grown, growth_of, IsBookRefusal, size_of}
+use Rattle.book_core.specs.Growing.{SeatLearns, Grown, growth_of, IsBookRefusal, size_of}
 use Rattle.drive_core.specs.declared.fault.Fault.{Fault}
 use Rattle.drive_core.specs.declared.fault.Fault.TheVariants as told
 use Rattle.drive_core.specs.Line.{put_fault_of, Line, When, Might, Allows, is_grow_memory, is_strayed}
@@ -39,10 +39,10 @@ use Rattle.drive_core.proofs.Tables.{passes, stops}
 -- ---- lists that begin one another
 
 module _ {X : Type 0} where
-  pub begins-whole : (xs ys : List X) → Begins xs ys → length ys ≤ length xs → ys ≡ xs
+  pub begins-whole : (xs ys : List X) → IsPrefix xs ys → length ys ≤ length xs → ys ≡ xs
   begins-whole xs ys begins le = sym (take_all (length xs) ys le) ∙ begins
 
-  begins-more : (xs ys zs : List X) → Begins xs ys → Begins xs (ys ++ zs)
+  begins-more : (xs ys zs : List X) → IsPrefix xs ys → IsPrefix xs (ys ++ zs)
   begins-more xs ys zs begins = take-append-le (length xs) ys zs (begins-le xs ys begins) ∙ begins
 
   -- lists of one length that agree
@@ -82,7 +82,7 @@ sum-raised (n ∷ ns) (suc k) less =
 
 module _ {R D : Type 0} (form : Encoding R) (states : D → List State) (faults : D → ℕ) (keeps : Type 0) (w : World R) (phase : Growth) (g : GrowingOf R D) (tie : IsGrowing states faults w phase g)
     (k : ℕ) (m0 m1 t : Seated R) (row : List (Seated R)) (inside : k < length g.seats) (at0 : slice_get g.seats k ≡ Some m0) (at_t : slice_get (slice_set g.seats k m1) g.last ≡ Some t) (met : MeetsIn (slice_set g.seats k m1) row k m1 t)
-    (records : List R) (not_closed : g.closed ≡ false) (block_is : IsBlockLength form.width (length records)) (of1 : book.IsOf g.live m1) where
+    (records : List R) (not_closed : g.closed ≡ false) (block_is : IsBlockLength form.width (length records)) (of1 : book.IsSeatOf g.live m1) where
   row_is : row ≡ slice_set g.seats k met.met
   row_is = met.row_is ∙ set-twice g.seats k m1 met.met
 
@@ -102,11 +102,11 @@ module _ {R D : Type 0} (form : Encoding R) (states : D → List State) (faults 
   nil_or_some (x ∷ xs) = inr (omega arith)
 
   -- the lists that a seat knew before are the first ones
-  pub first_are : (known more : List (block.Growth R)) → Begins m0.pass.entries known → m1.pass.entries ≡ known ++ more → length known ≡ length tie.entries → known ≡ tie.entries
+  pub first_are : (known more : List (block.Growth R)) → IsPrefix m0.pass.entries known → m1.pass.entries ≡ known ++ more → length known ≡ length tie.entries → known ≡ tie.entries
   first_are known more begins is long = elim (nil_or_some tie.entries) [
     | inl none ↦ same-lists known tie.entries long (λ g less. absurd (omega (arith, less, long, none)))
     | inr some ↦ elim (knows_all some) [
-      | inl mine ↦ begins-whole tie.entries known (subst (λ xs. Begins xs known) mine.0 begins) (omega (arith, long))
+      | inl mine ↦ begins-whole tie.entries known (subst (λ xs. IsPrefix xs known) mine.0 begins) (omega (arith, long))
       | inr theirs ↦ same-lists known tie.entries long (λ j less.
           let mine : j < length m1.pass.entries = (let all = ap length is ∙ length-append known more in omega (arith, all, less)) in
           let there : j < length t.pass.entries = (let all = ap length theirs in omega (arith, all, less, long)) in
@@ -189,7 +189,7 @@ module _ {R D : Type 0} (form : Encoding R) (states : D → List State) (faults 
     seat_new : IsSeat (tie.entries ++ growth_of m0 grown.before records ∷ []) k met.met
     seat_new = record {
       id_is = met.learns.id ∙ grown.same.0 ∙ (tie.each k m0 at0).id_is;
-      knows = subst (λ xs. Begins xs (tie.entries ++ growth_of m0 grown.before records ∷ [])) (sym (met_same ∙ entries_are)) (take-length (tie.entries ++ growth_of m0 grown.before records ∷ []));
+      knows = subst (λ xs. IsPrefix xs (tie.entries ++ growth_of m0 grown.before records ∷ [])) (sym (met_same ∙ entries_are)) (take-length (tie.entries ++ growth_of m0 grown.before records ∷ []));
     }
 
     answer_is : step.Grown receipt ≡ receipt_of w phase k records
@@ -282,7 +282,7 @@ module _ {R D : Type 0} (form : Encoding R) (states : D → List State) (faults 
       none : Some n ≡ None → ⊥
       none is = absurd cc
 
-  module _ (learns : Learns m0 m1) (known : ℕ) (known_is : known ≡ length m1.pass.entries) (all : known ≡ g.puts) where
+  module _ (learns : SeatLearns m0 m1) (known : ℕ) (known_is : known ≡ length m1.pass.entries) (all : known ≡ g.puts) where
     m1_all : m1.pass.entries ≡ tie.entries
     m1_all = first_are m1.pass.entries [] learns.begins (sym (append-nil m1.pass.entries)) (let puts = tie.puts_is in omega (arith, known_is, all, puts))
 
@@ -314,7 +314,7 @@ module _ {R D : Type 0} (form : Encoding R) (states : D → List State) (faults 
       seats_are = tie.seats_are;
       made_sum = tie.made_sum;
       each = λ j seat there. each_replaced tie.entries g.seats k m0 met.met at0 tie.each
-          (record { id_is = met.learns.id ∙ learns.id ∙ (tie.each k m0 at0).id_is; knows = subst (λ xs. Begins xs tie.entries) (sym met_all) (take-length tie.entries) })
+          (record { id_is = met.learns.id ∙ learns.id ∙ (tie.each k m0 at0).id_is; knows = subst (λ xs. IsPrefix xs tie.entries) (sym met_all) (take-length tie.entries) })
           j seat (ap (λ xs. slice_get xs j) (sym row_is) ∙ there);
       last_knows = λ some. let there = last_replaced tie.entries g.seats k m0 met.met at0 g.last (tie.last_knows some) (λ was. met_all) in (there.0, ap (λ xs. slice_get xs g.last) row_is ∙ there.1, there.2);
       flusher_knows = tie.flusher_knows;
@@ -386,7 +386,7 @@ module _ {R D : Type 0} (form : Encoding R) (states : D → List State) (faults 
   stray_fault (grow.Strayed n) = (n, refl)
   stray_fault other = (g.puts, refl)
 
-  pub put_errs : (fault : GrowFault) (all_known : Bool) (known : ℕ) (answer : Answer R) → answer ≡ step.Refused (told.Grow (put_fault_of fault all_known g.puts)) → Learns m0 m1 → IsBookRefusal g.live m1 (length records) fault
+  pub put_errs : (fault : GrowFault) (all_known : Bool) (known : ℕ) (answer : Answer R) → answer ≡ step.Refused (told.Grow (put_fault_of fault all_known g.puts)) → SeatLearns m0 m1 → IsBookRefusal g.live m1 (length records) fault
       → known ≡ length m1.pass.entries → (all_known ≡ true → known ≡ g.puts)
       → Steps form keeps (λ w'. IsBehind states faults w' (record g { seats = row })) w (step.Put k records) answer 0
   put_errs fault true known answer is learns why known_is all = put_told learns known known_is (all refl) fault true answer is why refl

@@ -9,7 +9,7 @@ use Rattle.segment_core.specs.Shape.{limit_of}
 use Rattle.segment_core.specs.declared.format.Format.{Format}
 use Rattle.segment_core.specs.declared.format.Format.TheVariants.{One, Two}
 use Rattle.pen_core.specs.PenOf.{PenOf, JobOf}
-use Rattle.pen_core.specs.Pen.{Begins, IsUnchanged}
+use Rattle.pen_core.specs.Pen.{BeginsFrame, IsUnchanged}
 use Rattle.pen_core.specs.Refusals.{first_refusal, IsRefusal, ready_lines, is_full}
 use Rattle.pen_core.specs.declared.step.Step.TheVariants.{Body}
 use Rattle.pen_core.specs.declared.fault.PenFault.{PenFault}
@@ -256,7 +256,7 @@ module _ {R D : Type 0} (form : Encoding R) (states : D → List State) (faults 
       omega (arith, some, there, long, left, known, taken)
 
   module _ (new : FlusherOf R D) (pass_same : new.pass ≡ g.flusher.pass) (settled_same : new.settled ≡ g.flusher.settled) where
-    group_tie : (growths : List (List R)) → new.taken ≡ g.flusher.taken + length growths → phase.taken + length growths ≤ length tie.entries → 0 < length growths → g.flusher.pen.job ≡ None → Begins (group_frame form growths) g.flusher.pen new.pen
+    group_tie : (growths : List (List R)) → new.taken ≡ g.flusher.taken + length growths → phase.taken + length growths ≤ length tie.entries → 0 < length growths → g.flusher.pen.job ≡ None → BeginsFrame (group_frame form growths) g.flusher.pen new.pen
         → IsBehind states faults (with_group form w phase growths) (record g { flusher = new })
     group_tie growths more within_all some idle begun =
         subst (λ x. IsBehind states faults x (record g { flusher = new })) (sym (group_some growths some)) (record {
@@ -282,7 +282,7 @@ module _ {R D : Type 0} (form : Encoding R) (states : D → List State) (faults 
               made_sum = tie.made_sum;
               each = tie.each;
               last_knows = tie.last_knows;
-              flusher_knows = subst (λ (p : _). chains.Begins p.entries tie.entries) (sym pass_same) tie.flusher_knows;
+              flusher_knows = subst (λ (p : _). chains.IsPrefix p.entries tie.entries) (sym pass_same) tie.flusher_knows;
               flusher_is = tie.flusher_is ∙ ap (λ (p : _). length p.entries) (sym pass_same);
               taken_is = ap (λ t. t + length growths) tie.taken_is ∙ sym more;
               taken_within = within_all;
@@ -334,7 +334,7 @@ module _ {R D : Type 0} (form : Encoding R) (states : D → List State) (faults 
           made_sum = tie.made_sum;
           each = tie.each;
           last_knows = tie.last_knows;
-          flusher_knows = subst (λ (p : _). chains.Begins p.entries tie.entries) (sym pass_same) tie.flusher_knows;
+          flusher_knows = subst (λ (p : _). chains.IsPrefix p.entries tie.entries) (sym pass_same) tie.flusher_knows;
           flusher_is = tie.flusher_is ∙ ap (λ (p : _). length p.entries) (sym pass_same);
           taken_is = tie.taken_is ∙ sym taken;
           taken_within = tie.taken_within;
@@ -370,7 +370,7 @@ module _ {R D : Type 0} (form : Encoding R) (states : D → List State) (faults 
         ]
 
     pub take_answers : (n : ℕ) (answer : Answer R) → answer ≡ step.Took n → new.taken ≡ g.flusher.taken + n → IsGreatest form.width (limit_of g.flusher.pen.shape.format) (untaken g.flusher) n
-        → (0 < n → Begins (group_frame form (take n (untaken g.flusher))) g.flusher.pen new.pen) → (n ≡ 0 → new ≡ g.flusher) → (0 < n → is_full g.flusher.pen (payload_len form.width (take n (untaken g.flusher))) ≡ false)
+        → (0 < n → BeginsFrame (group_frame form (take n (untaken g.flusher))) g.flusher.pen new.pen) → (n ≡ 0 → new ≡ g.flusher) → (0 < n → is_full g.flusher.pen (payload_len form.width (take n (untaken g.flusher))) ≡ false)
         → first_refusal (ready_lines g.flusher.pen) ≡ None → g.flusher.pen.job ≡ None
         → Steps form keeps (λ w'. IsBehind states faults w' (record g { flusher = new })) w step.Take answer 0
     take_answers n answer is more greatest begun none room ready idle = elim (zero_or_more n) [

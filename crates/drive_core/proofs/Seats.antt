@@ -3,10 +3,10 @@ use Rattle.std.proofs.Common.{◌≡◌, ◌⊎◌, inl, inr, ℕ, zero, suc, �
 use Rattle.std.proofs.lemmas.Option.{same_Some}
 use Rattle.std.proofs.Math.Seq.{take-append_seam, take-length}
 use Rattle.block_core.specs.Growth as block
-use Rattle.directory_core.specs.Chain.{Begins, Agree, Meets}
+use Rattle.directory_core.specs.Chain.{IsPrefix, Agree, Meets}
 use Rattle.book_core.specs.Lists as book
 use Rattle.book_core.specs.Lists.{Seated}
-use Rattle.book_core.specs.Growing.{Learns}
+use Rattle.book_core.specs.Growing.{SeatLearns}
 use Rattle.drive_core.specs.Ties.{IsSeat, AreSeatsOf, MeetsIn}
 
 pub same_or_not : (a b : ℕ) → (a ≡ b) ⊎ (a ≡ b → ⊥)
@@ -103,7 +103,7 @@ module _ {X : Type 0} where
   row_back : (n : ℕ) (xs old : List X) → length xs ≡ n → take n (xs ++ drop (length xs) old) ≡ xs
   row_back n xs old long = ap (λ k. take k (xs ++ drop (length xs) old)) (sym long) ∙ take-append_seam xs (drop (length xs) old)
 
-  pub begins-le : (xs ys : List X) → Begins xs ys → length xs ≤ length ys
+  pub begins-le : (xs ys : List X) → IsPrefix xs ys → length xs ≤ length ys
   begins-le [] ys begins = omega arith
   begins-le (x ∷ xs) [] begins = absurd cc
   begins-le (x ∷ xs) (y ∷ ys) begins = let rest = begins-le xs ys (ap tail begins) in omega (arith, rest)
@@ -127,9 +127,9 @@ module _ {R : Type 0} (entries : List (block.Growth R)) (seats : List (Seated R)
   ]
 
 -- seats of a book
-pub of_replaced : {R : Type 0} (seats : List (Seated R)) (k : ℕ) (new : Seated R) (live : book.Phase R) → AreSeatsOf live seats → book.IsOf live new → AreSeatsOf live (slice_set seats k new)
+pub of_replaced : {R : Type 0} (seats : List (Seated R)) (k : ℕ) (new : Seated R) (live : book.Phase R) → AreSeatsOf live seats → book.IsSeatOf live new → AreSeatsOf live (slice_set seats k new)
 of_replaced seats k new live are is j seat there = elim (get_set seats k j new seat there) [
-  | inl here ↦ subst (book.IsOf live) here.1 is
+  | inl here ↦ subst (book.IsSeatOf live) here.1 is
   | inr other ↦ are j seat other
 ]
 
@@ -144,7 +144,7 @@ module _ {R : Type 0} (items front back : List (Seated R)) (n k : ℕ) (items_ar
       (let all = length-append (slice_set front k f) (slice_set back 0 b) in let one = length_set front k f in let two = length_set back 0 b in let parts = ap length items_are ∙ length-append front back in omega (arith, all, one, two, parts, long))
 
   -- the first stands in front
-  pub meets_front : (mine theirs mine' theirs' m t : Seated R) → slice_get front k ≡ Some mine → slice_get back 0 ≡ Some theirs → theirs' ≡ theirs → Learns mine mine' → Agree mine.pass.entries theirs.pass.entries → Meets mine.pass.entries theirs.pass.entries mine'.pass.entries
+  pub meets_front : (mine theirs mine' theirs' m t : Seated R) → slice_get front k ≡ Some mine → slice_get back 0 ≡ Some theirs → theirs' ≡ theirs → SeatLearns mine mine' → Agree mine.pass.entries theirs.pass.entries → Meets mine.pass.entries theirs.pass.entries mine'.pass.entries
       → slice_get items k ≡ Some m → slice_get items (length front) ≡ Some t
       → MeetsIn items (take n ((slice_set front k mine' ++ slice_set back 0 theirs') ++ drop (length (slice_set front k mine' ++ slice_set back 0 theirs')) items)) k m t
   meets_front mine theirs mine' theirs' m t at_mine at_theirs same learns agree meets at_m at_t =
@@ -159,7 +159,7 @@ module _ {R : Type 0} (items front back : List (Seated R)) (n k : ℕ) (items_ar
       }))
 
   -- or behind
-  pub meets_back : (mine theirs mine' theirs' m t : Seated R) → slice_get back 0 ≡ Some mine → slice_get front k ≡ Some theirs → theirs' ≡ theirs → Learns mine mine' → Agree mine.pass.entries theirs.pass.entries → Meets mine.pass.entries theirs.pass.entries mine'.pass.entries
+  pub meets_back : (mine theirs mine' theirs' m t : Seated R) → slice_get back 0 ≡ Some mine → slice_get front k ≡ Some theirs → theirs' ≡ theirs → SeatLearns mine mine' → Agree mine.pass.entries theirs.pass.entries → Meets mine.pass.entries theirs.pass.entries mine'.pass.entries
       → slice_get items (length front) ≡ Some m → slice_get items k ≡ Some t
       → MeetsIn items (take n ((slice_set front k theirs' ++ slice_set back 0 mine') ++ drop (length (slice_set front k theirs' ++ slice_set back 0 mine')) items)) (length front) m t
   meets_back mine theirs mine' theirs' m t at_mine at_theirs same learns agree meets at_m at_t =
@@ -173,7 +173,7 @@ module _ {R : Type 0} (items front back : List (Seated R)) (n k : ℕ) (items_ar
         meets = meets;
       }))
 
-  pub meets_back_at : (j : ℕ) (mine theirs mine' theirs' m t : Seated R) → length front ≡ j → slice_get back 0 ≡ Some mine → slice_get front k ≡ Some theirs → theirs' ≡ theirs → Learns mine mine' → Agree mine.pass.entries theirs.pass.entries → Meets mine.pass.entries theirs.pass.entries mine'.pass.entries
+  pub meets_back_at : (j : ℕ) (mine theirs mine' theirs' m t : Seated R) → length front ≡ j → slice_get back 0 ≡ Some mine → slice_get front k ≡ Some theirs → theirs' ≡ theirs → SeatLearns mine mine' → Agree mine.pass.entries theirs.pass.entries → Meets mine.pass.entries theirs.pass.entries mine'.pass.entries
       → slice_get items j ≡ Some m → slice_get items k ≡ Some t
       → MeetsIn items (take n ((slice_set front k theirs' ++ slice_set back 0 mine') ++ drop (length (slice_set front k theirs' ++ slice_set back 0 mine')) items)) j m t
   meets_back_at j mine theirs mine' theirs' m t at at_mine at_theirs same learns agree meets at_m at_t =
@@ -190,7 +190,7 @@ meets_self items k m t at_m at_t = subst (MeetsIn items items k m) (same_Some m 
 })
 
 -- what has learnt is of the same book
-pub of_learns : {R : Type 0} (live : book.Phase R) (old new : Seated R) → book.IsOf live old → Learns old new → book.IsOf live new
+pub of_learns : {R : Type 0} (live : book.Phase R) (old new : Seated R) → book.IsSeatOf live old → SeatLearns old new → book.IsSeatOf live new
 of_learns live old new is learns = record { directory = learns.of ∙ is.directory; mark = ap (λ (m : _). m.of) learns.mark ∙ is.mark }
 
 -- a row of seats of a book stays one

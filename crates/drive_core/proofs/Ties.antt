@@ -9,15 +9,15 @@ use Rattle.disk_core.proofs.JoinedMoments.{LeavesOnly-weaker}
 use Rattle.segment_core.specs.Command.{Command, content, after_command}
 use Rattle.pen_core.specs.Typed.{OpensTo}
 use Rattle.block_core.specs.Growth as block
-use Rattle.directory_core.specs.Chain.{Begins, joined}
+use Rattle.directory_core.specs.Chain.{IsPrefix, joined}
 use Rattle.book_core.specs.Lists.{opening_of}
 use Rattle.book_core.proofs.Owns.{take-begins}
-use Rattle.flush_core.specs.Flusher.{IsOf, KeepsFrom, KeepsSettled, list_to}
+use Rattle.flush_core.specs.Flusher.{IsFlusherOf, OpensToFirst, OpensToSettled, list_to}
 use Rattle.drive_core.specs.World.{World, Growth, growths_of}
 use Rattle.drive_core.specs.Headline.{OpensToPrefix, Rests, Leaves}
 use Rattle.drive_core.specs.Ties.{GrowingOf, IsGrowing, grow_of, disk_of}
 
-begins-le : {X : Type 0} (xs ys : List X) → Begins xs ys → length xs ≤ length ys
+begins-le : {X : Type 0} (xs ys : List X) → IsPrefix xs ys → length xs ≤ length ys
 begins-le xs ys begins = let long = ap length begins in omega (arith, long, length-take (length xs) ys)
 
 drop-append : {X : Type 0} (xs ys : List X) → drop (length xs) (xs ++ ys) ≡ ys
@@ -54,7 +54,7 @@ module _ {R D : Type 0} (states : D → List State) (faults : D → ℕ) (w : Wo
 
   -- ---- what a crash leaves
 
-  pub flusher_prefix : (form : Encoding R) (keeps : Type 0) → keeps → IsOf keeps g.live g.flusher → (settled : ℕ) (image : List ℕ) → KeepsFrom form settled g.flusher image → OpensToPrefix form w.base w.history (phase.before + settled) image
+  pub flusher_prefix : (form : Encoding R) (keeps : Type 0) → keeps → IsFlusherOf keeps g.live g.flusher → (settled : ℕ) (image : List ℕ) → OpensToFirst form settled g.flusher image → OpensToPrefix form w.base w.history (phase.before + settled) image
   flusher_prefix form keeps model is settled image kept =
       let f = g.flusher in
       let least = kept.at_least in
@@ -71,17 +71,17 @@ module _ {R D : Type 0} (states : D → List State) (faults : D → ℕ) (w : Wo
         opens = subst (OpensTo form image) list kept.opens;
       }
 
-  pub flusher_rests : (form : Encoding R) (keeps : Type 0) → keeps → IsOf keeps g.live g.flusher → ((image : List ℕ) → IsImage (now (states g.flusher.pen.disk)) image → KeepsSettled form g.flusher image) → Rests form w
+  pub flusher_rests : (form : Encoding R) (keeps : Type 0) → keeps → IsFlusherOf keeps g.live g.flusher → ((image : List ℕ) → IsImage (now (states g.flusher.pen.disk)) image → OpensToSettled form g.flusher image) → Rests form w
   flusher_rests form keeps model is images image left =
       subst (λ n. OpensToPrefix form w.base w.history n image) (sym tie.settled_is)
       (flusher_prefix form keeps model is g.flusher.settled image (images image (subst (λ (d : _). IsImage (now d.states) image) tie.disk_is left)))
 
   -- within a tick of either lane
-  pub flusher_leaves : (form : Encoding R) (keeps : Type 0) (w' : World R) (new : D) → keeps → IsOf keeps g.live g.flusher → w'.base ≡ w.base → w'.history ≡ w.history → w'.disk ≡ disk_of states faults new
-      → LeavesOnly (states g.flusher.pen.disk) (states new) (KeepsSettled form g.flusher) → Leaves form w w'
+  pub flusher_leaves : (form : Encoding R) (keeps : Type 0) (w' : World R) (new : D) → keeps → IsFlusherOf keeps g.live g.flusher → w'.base ≡ w.base → w'.history ≡ w.history → w'.disk ≡ disk_of states faults new
+      → LeavesOnly (states g.flusher.pen.disk) (states new) (OpensToSettled form g.flusher) → Leaves form w w'
   flusher_leaves form keeps w' new model is base history disk leaves =
       subst (λ (d : _). LeavesOnly d.states w'.disk.states Kept) (sym tie.disk_is) (subst (λ (d : _). LeavesOnly (states g.flusher.pen.disk) d.states Kept) (sym disk)
-      (LeavesOnly-weaker (states g.flusher.pen.disk) (states new) (KeepsSettled form g.flusher) Kept
+      (LeavesOnly-weaker (states g.flusher.pen.disk) (states new) (OpensToSettled form g.flusher) Kept
       (λ image kept. subst (λ b. OpensToPrefix form b w'.history w.settled image) (sym base) (subst (λ h. OpensToPrefix form w.base h w.settled image) (sym history)
       (subst (λ n. OpensToPrefix form w.base w.history n image) (sym tie.settled_is) (flusher_prefix form keeps model is g.flusher.settled image kept)))) leaves))
     where

@@ -3,9 +3,9 @@ use Rattle.std.proofs.Common.{◌≡◌, inl, inr, ℕ, ◌≤◌, ◌<◌, Bool
 use Rattle.std.proofs.lemmas.List.{length-map}
 use Rattle.record_core.specs.Bytes.{Encoding}
 use Rattle.disk_core.specs.State.{State}
-use Rattle.directory_core.specs.Chain.{Begins}
+use Rattle.directory_core.specs.Chain.{IsPrefix}
 use Rattle.book_core.specs.Lists.{Seated}
-use Rattle.book_core.specs.Growing.{IsTold}
+use Rattle.book_core.specs.Growing.{SeatIsTold}
 use Rattle.book_core.specs.declared.mark.MarkState.{MarkState}
 use Rattle.book_core.specs.declared.mark.MarkState.TheVariants.{Running}
 use Rattle.book_core.specs.declared.fault.GrowFault.TheVariants as grow
@@ -34,13 +34,13 @@ module _ {R D : Type 0} (form : Encoding R) (states : D → List State) (faults 
   abbrev pub with_seat : GrowingOf R D
   with_seat = record g { seats = slice_set g.seats k new }
 
-  seat_is : (count : ℕ) (state : MarkState) → IsTold old new count state → IsSeat tie.entries k new
+  seat_is : (count : ℕ) (state : MarkState) → SeatIsTold old new count state → IsSeat tie.entries k new
   seat_is count state told = let was = tie.each k old at in record {
     id_is = told.same.0 ∙ was.id_is;
-    knows = subst (λ (p : _). Begins p.entries tie.entries) (sym told.same.2) was.knows;
+    knows = subst (λ (p : _). IsPrefix p.entries tie.entries) (sym told.same.2) was.knows;
   }
 
-  told_tie : (count : ℕ) (state : MarkState) → IsTold old new count state → IsGrowing states faults (within w (record phase { told = slice_set phase.told k count })) (record phase { told = slice_set phase.told k count }) with_seat
+  told_tie : (count : ℕ) (state : MarkState) → SeatIsTold old new count state → IsGrowing states faults (within w (record phase { told = slice_set phase.told k count })) (record phase { told = slice_set phase.told k count }) with_seat
   told_tie count state told = record {
     phase_is = refl;
     calm = tie.calm;
@@ -70,7 +70,7 @@ module _ {R D : Type 0} (form : Encoding R) (states : D → List State) (faults 
     disk_is = tie.disk_is;
   }
 
-  pub told_answers : (count : ℕ) (state : MarkState) (answer : Answer R) → answer ≡ step.Told count Running → IsTold old new count state → count ≤ g.mark
+  pub told_answers : (count : ℕ) (state : MarkState) (answer : Answer R) → answer ≡ step.Told count Running → SeatIsTold old new count state → count ≤ g.mark
       → Steps form keeps (λ w'. IsBehind states faults w' with_seat) w (step.Settled k) answer 0
   told_answers count state answer is told most =
       let least : slice_index phase.told k ≤ count = (let rises = told.rises.count in let was = ap (λ ts. slice_index ts k) tie.told_are ∙ index_map (λ (s : Seated R). s.mark.told.count) g.seats k old at in omega (arith, rises, was)) in

@@ -28,4 +28,4 @@ pub end_run : {R D : Type 0} (form : Encoding R) (states : D → List State) (fa
 end_run {D = D} form states faults keeps old mine new is Tied steps all answers calls same r ends =
     subst (λ (d : D). IsDriven form (keeps d) (disk_of states faults old) all answers calls (disk_of states faults d)) (sym is)
     (subst (λ ss. IsDriven form (keeps mine) (disk_of states faults old) ss answers calls (disk_of states faults mine)) (sym same)
-        (driven form (keeps mine) (disk_of states faults old) (disk_of states faults mine) steps answers calls r.events r.are_of r.run (ends _ r.tied) r.inner))
+    (driven form (keeps mine) (disk_of states faults old) (disk_of states faults mine) steps answers calls r.events r.are_of r.run (ends _ r.tied) r.inner))

@@ -105,7 +105,6 @@ shares_busy = refl
 lists_not_strayed : Allows (Might is_vault_memory ∷ []) (Some (Grow (grow.Strayed 3))) → ⊥
 lists_not_strayed = not_kind is_vault_memory (Grow (grow.Strayed 3)) refl
 
-
 -- a fold of a file without a change wants no room
 folds_nothing : Allows (fold_lines made.hand false) None
 folds_nothing = refl

@@ -5,10 +5,10 @@ use Rattle.disk_core.specs.State.{State}
 use Rattle.segment_core.specs.Command.{Command, Grow, content}
 use Rattle.pen_core.specs.PenOf.{JobOf}
 use Rattle.block_core.specs.Growth as block
-use Rattle.directory_core.specs.Chain.{Begins, Agree, Meets}
+use Rattle.directory_core.specs.Chain.{IsPrefix, Agree, Meets}
 use Rattle.book_core.specs.Lists as book
 use Rattle.book_core.specs.Lists.{Seated, opening_of}
-use Rattle.book_core.specs.Growing.{Learns}
+use Rattle.book_core.specs.Growing.{SeatLearns}
 use Rattle.flush_core.specs.Flusher.{FlusherOf}
 use Rattle.drive_core.specs.Step.{Step, Answer}
 use Rattle.drive_core.specs.World.{World, Growth, Growing, DiskOf, growths_in, hand_of}
@@ -28,13 +28,13 @@ pub record GrowingOf (R D : Type 0) : Type 0 where
   pub closed : Bool
 
 abbrev pub AreSeatsOf : {R : Type 0} → book.Phase R → List (Seated R) → Type 0
-AreSeatsOf {R} live seats = (k : ℕ) (seat : Seated R) → slice_get seats k ≡ Some seat → book.IsOf live seat
+AreSeatsOf {R} live seats = (k : ℕ) (seat : Seated R) → slice_get seats k ≡ Some seat → book.IsSeatOf live seat
 
 -- One seat of a row has learnt what another knows: they know the same growth of each number that both know.
 pub record MeetsIn {R : Type 0} (old new : List (Seated R)) (k : ℕ) (mine theirs : Seated R) : Type 0 where
   pub met : Seated R
   pub row_is : new ≡ slice_set old k met
-  pub learns : Learns mine met
+  pub learns : SeatLearns mine met
   pub agree : Agree mine.pass.entries theirs.pass.entries
   pub meets : Meets mine.pass.entries theirs.pass.entries met.pass.entries
 
@@ -51,7 +51,7 @@ disk_of states faults disk = record { states = states disk; faults = faults disk
 
 pub record IsSeat {R : Type 0} (entries : List (block.Growth R)) (k : ℕ) (seat : Seated R) : Type 0 where
   pub id_is : seat.id ≡ k
-  pub knows : Begins seat.pass.entries entries
+  pub knows : IsPrefix seat.pass.entries entries
 
 pub record IsGrowing {R D : Type 0} (states : D → List State) (faults : D → ℕ) (w : World R) (phase : Growth) (g : GrowingOf R D) : Type 0 where
   pub phase_is : w.phase ≡ Growing phase
@@ -76,7 +76,7 @@ pub record IsGrowing {R D : Type 0} (states : D → List State) (faults : D → 
   pub each : (k : ℕ) (seat : Seated R) → slice_get g.seats k ≡ Some seat → IsSeat entries k seat
   pub last_knows : 0 < length entries → (seat : Seated R) × (slice_get g.seats g.last ≡ Some seat) × (seat.pass.entries ≡ entries)
   -- the flusher, and what the job in hand brings
-  pub flusher_knows : Begins g.flusher.pass.entries entries
+  pub flusher_knows : IsPrefix g.flusher.pass.entries entries
   pub flusher_is : phase.flusher ≡ length g.flusher.pass.entries
   pub taken_is : phase.taken ≡ g.flusher.taken
   pub taken_within : phase.taken ≤ length entries

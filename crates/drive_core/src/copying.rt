@@ -1,7 +1,7 @@
 //! Lists in pieces, copied into one.
 
 ghost use Rattle.std.specs.Prelude.{◌≡◌, IfOk};
-ghost use Rattle.book_core.specs.Lists.{IsOf, list_of};
+ghost use Rattle.book_core.specs.Lists.{IsSeatOf, list_of};
 ghost use Rattle.vault_core.specs.Vault as vaults;
 
 use book_core::{Live, Seat};
@@ -16,7 +16,7 @@ pub(crate) fn copy_view<R: Record>(
     live: &Live<R>,
     seat: &mut Seat<R>,
 ) -> Result<Vec<R>, AllocError>
-    requires of { IsOf live.now seat.old }
+    requires of { IsSeatOf live.now seat.old }
     ensures same { seat.new ≡ seat.old }
     ensures list { IfOk result (λ records. records.items ≡ list_of live.now seat.old) }
 {
@@ -31,7 +31,10 @@ pub(crate) fn copy_view<R: Record>(
 }
 
 /// The list of a vault.
-pub(crate) fn copy_list<R: Record, D: Disk>(alloc: Global, vault: &Vault<R, D>) -> Result<Vec<R>, AllocError>
+pub(crate) fn copy_list<R: Record, D: Disk>(
+    alloc: Global,
+    vault: &Vault<R, D>,
+) -> Result<Vec<R>, AllocError>
     ensures { IfOk result (λ records. records.items ≡ vaults.list_of vault.now) }
 {
     let mut records = Vec::new(alloc);

@@ -43,13 +43,21 @@ fn stray_of<R>(answer: &Answer<R>) -> Option<u64>
 
 impl<R: Record, D: Disk> Driver<R, D> {
     /// The answer to one step, and what is in hand then.
-    fn step<E: Threads + Wait + Sync>(self, alloc: Global, rt: &E, asked: &Step<R>) -> (Driver<R, D>, Answer<R>)
+    fn step<E: Threads + Wait + Sync>(
+        self,
+        alloc: Global,
+        rt: &E,
+        asked: &Step<R>,
+    ) -> (Driver<R, D>, Answer<R>)
         ensures steps { (w : World R) → IsDriver D.states D.faults D.keeps w self.phase self.strayed
             → Steps R.form (D.keeps (disk_in result.0.phase)) (λ w'. IsDriver D.states D.faults D.keeps w' result.0.phase result.0.strayed) w (step_of asked.now) (answer_of result.1) (calls_between (D.states (disk_in self.phase)) (D.states (disk_in result.0.phase))) }
         ensures model { D.keeps (disk_in result.0.phase) → D.keeps (disk_in self.phase) }
     {
         if let Some(number) = self.strayed {
-            return (self, Answer::Refused(Fault::Grow(GrowFault::Strayed(number))));
+            return (
+                self,
+                Answer::Refused(Fault::Grow(GrowFault::Strayed(number))),
+            );
         }
         let (phase, answered) = self.phase.step(alloc, rt, asked);
         let strayed = stray_of(&answered);

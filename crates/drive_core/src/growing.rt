@@ -84,7 +84,7 @@ pub struct Growing<R: Record, D: Disk> {
 
 impl<R: Record, D: Disk> Model for Growing<R, D> {
     ghost use Rattle.std.specs.Prelude.{◌<◌, length};
-    ghost use Rattle.flush_core.specs.Flusher.{IsOf};
+    ghost use Rattle.flush_core.specs.Flusher.{IsFlusherOf};
     ghost use Rattle.drive_core.specs.Ties.{GrowingOf, AreSeatsOf};
 
     ghost Value = { GrowingOf R D };
@@ -99,7 +99,7 @@ impl<R: Record, D: Disk> Model for Growing<R, D> {
       closed = g.closed;
     } };
 
-    ghost invariant = { λ g. IsOf (D.keeps g.flusher.pen.disk) g.live g.flusher × AreSeatsOf g.live g.seats.items × (g.last < length g.seats.items) };
+    ghost invariant = { λ g. IsFlusherOf (D.keeps g.flusher.pen.disk) g.live g.flusher × AreSeatsOf g.live g.seats.items × (g.last < length g.seats.items) };
 }
 
 impl<R: Record, D: Disk> Growing<R, D> {
@@ -107,7 +107,7 @@ impl<R: Record, D: Disk> Growing<R, D> {
     ghost use Rattle.book_core.specs.Beginning.{AreNewSeats};
     ghost use Rattle.directory_core.specs.Chain.{joined};
     ghost use Rattle.book_core.specs.Lists.{opening_of};
-    ghost use Rattle.flush_core.specs.Flusher.{IsOf};
+    ghost use Rattle.flush_core.specs.Flusher.{IsFlusherOf};
     ghost use Rattle.vault_core.specs.Gathering.{IsWhole, IsGatherFault};
     ghost use Rattle.vault_core.specs.Vault.{list_of};
 
@@ -118,7 +118,7 @@ impl<R: Record, D: Disk> Growing<R, D> {
         flusher: Flusher<R, D>,
         seats: Vec<Seat<R>>,
     ) -> Growing<R, D>
-        requires of { IsOf (D.keeps flusher.pen.disk) live flusher }
+        requires of { IsFlusherOf (D.keeps flusher.pen.disk) live flusher }
         requires new { AreNewSeats live.directory live.mark seats.items }
         requires some { 0 < length seats.items }
         ensures { result ≡ record { live = live; seats = seats.items; flusher = flusher; puts = 0; last = 0; mark = 0; closed = false } }

@@ -16,6 +16,3 @@ mod step;
 pub use driving::{Driven, drive};
 pub use fault::Fault;
 pub use step::{Answer, Step};
-
-#[cfg(test)]
-mod tests;

@@ -13,7 +13,7 @@ use Rattle.book_core.specs.Marks.{MarkEnd}
 use Rattle.book_core.specs.Lists.{Phase}
 use Rattle.book_core.proofs.Owns.{take-begins}
 use Rattle.book_core.proofs.Steps.{begins-trans}
-use Rattle.flush_core.specs.Flusher.{FlusherOf, IsOf, GoesOn, KeepsFrom, KeepsJob, SameGrowths, list_to}
+use Rattle.flush_core.specs.Flusher.{FlusherOf, IsFlusherOf, GoesOn, OpensToFirst, OpensToJob, SameGrowths, list_to}
 use Rattle.flush_core.specs.Serving.{Serves, fold_with}
 
 module _ {R D : Type 0} where
@@ -59,8 +59,8 @@ module _ {R D : Type 0} where
   pen-told old new mark is = ap (λ (f : FlusherOf R D). f.pen) is
 
   -- it stays of its phase
-  pub IsOf-later : (keeps keeps' : Type 0) (live : Phase R) (old new : FlusherOf R D) → (keeps' → keeps) → GoesOn keeps' old new → IsOf keeps live old → IsOf keeps' live new
-  IsOf-later keeps keeps' live old new back goes is = record {
+  pub IsFlusherOf-later : (keeps keeps' : Type 0) (live : Phase R) (old new : FlusherOf R D) → (keeps' → keeps) → GoesOn keeps' old new → IsFlusherOf keeps live old → IsFlusherOf keeps' live new
+  IsFlusherOf-later keeps keeps' live old new back goes is = record {
     directory = goes.of_same ∙ is.directory;
     mark = goes.mark_of_same ∙ is.mark;
     before = goes.before_same ∙ is.before;
@@ -77,8 +77,8 @@ module _ {R D : Type 0} where
   length-begins keeps old new goes = let long = ap length goes.begins in omega (arith, length-take (length old.pass.entries) new.pass.entries)
 
   -- an image that keeps what an earlier flusher knows keeps what a later one does
-  pub KeepsFrom-later : (form : Encoding R) (keeps : Type 0) (old new : FlusherOf R D) (least settled : ℕ) (image : List ℕ) → keeps → GoesOn keeps old new → least ≤ settled → KeepsFrom form settled old image → KeepsFrom form least new image
-  KeepsFrom-later form keeps old new least settled image model goes le kept =
+  pub OpensToFirst-later : (form : Encoding R) (keeps : Type 0) (old new : FlusherOf R D) (least settled : ℕ) (image : List ℕ) → keeps → GoesOn keeps old new → least ≤ settled → OpensToFirst form settled old image → OpensToFirst form least new image
+  OpensToFirst-later form keeps old new least settled image model goes le kept =
       let at_least = kept.at_least in
       let known = kept.known in
       let longer = length-begins keeps old new goes in
@@ -94,13 +94,13 @@ module _ {R D : Type 0} where
   module _ (form : Encoding R) (keeps : D → Type 0) (states : D → List State) where
     -- one tick
     pub Serves-tick : (old new : FlusherOf R D) → SameGrowths old new → old.settled ≤ new.settled → (keeps new.pen.disk → new.opening ≡ old.opening)
-        → (keeps new.pen.disk → LeavesOnly (states old.pen.disk) (states new.pen.disk) (KeepsJob form old)) → (keeps new.pen.disk → keeps old.pen.disk) → fold_with new.pen.job new.pen.fold ≡ fold_with old.pen.job old.pen.fold → Serves form keeps states old new
+        → (keeps new.pen.disk → LeavesOnly (states old.pen.disk) (states new.pen.disk) (OpensToJob form old)) → (keeps new.pen.disk → keeps old.pen.disk) → fold_with new.pen.job new.pen.fold ≡ fold_with old.pen.job old.pen.fold → Serves form keeps states old new
     Serves-tick old new same settled opening images model fold =
         let taken = same.taken_same in
         let goes = GoesOn-same (keeps new.pen.disk) old new same.pass_same (ap (λ (m : _). m.of) same.mark_same) same.before_same (omega arith) settled opening in
         record {
           goes_on = goes;
-          images = λ now. LeavesOnly-weaker _ _ _ _ (λ image job. KeepsFrom-later form (keeps new.pen.disk) old new old.settled old.settled image now goes (omega arith) job.kept) (images now);
+          images = λ now. LeavesOnly-weaker _ _ _ _ (λ image job. OpensToFirst-later form (keeps new.pen.disk) old new old.settled old.settled image now goes (omega arith) job.kept) (images now);
           model = model;
           fold = fold;
         }
@@ -110,9 +110,9 @@ module _ {R D : Type 0} where
     Serves-join old mid new first then = record {
       goes_on = GoesOn-join (keeps mid.pen.disk) (keeps new.pen.disk) old mid new then.model first.goes_on then.goes_on;
       images = λ now.
-          LeavesOnly-join (states old.pen.disk) (states mid.pen.disk) (states new.pen.disk) (KeepsFrom form old.settled new)
-          (LeavesOnly-weaker _ _ _ _ (λ image. KeepsFrom-later form (keeps new.pen.disk) mid new old.settled old.settled image now then.goes_on (omega arith)) (first.images (then.model now)))
-          (LeavesOnly-weaker _ _ _ _ (λ image. KeepsFrom-later form (keeps new.pen.disk) new new old.settled mid.settled image now (GoesOn-refl (keeps new.pen.disk) new) first.goes_on.no_less_settled) (then.images now));
+          LeavesOnly-join (states old.pen.disk) (states mid.pen.disk) (states new.pen.disk) (OpensToFirst form old.settled new)
+          (LeavesOnly-weaker _ _ _ _ (λ image. OpensToFirst-later form (keeps new.pen.disk) mid new old.settled old.settled image now then.goes_on (omega arith)) (first.images (then.model now)))
+          (LeavesOnly-weaker _ _ _ _ (λ image. OpensToFirst-later form (keeps new.pen.disk) new new old.settled mid.settled image now (GoesOn-refl (keeps new.pen.disk) new) first.goes_on.no_less_settled) (then.images now));
       model = λ now. first.model (then.model now);
       fold = then.fold ∙ first.fold;
     }
@@ -124,8 +124,8 @@ module _ {R D : Type 0} where
         record {
           goes_on = GoesOn-join (keeps mid.pen.disk) (keeps new.pen.disk) old mid new back first.goes_on goes;
           images = λ now.
-              subst (λ (d : D). LeavesOnly (states old.pen.disk) (states d) (KeepsFrom form old.settled new)) (sym disk)
-              (LeavesOnly-weaker _ _ _ _ (λ image. KeepsFrom-later form (keeps new.pen.disk) mid new old.settled old.settled image now goes (omega arith)) (first.images (back now)));
+              subst (λ (d : D). LeavesOnly (states old.pen.disk) (states d) (OpensToFirst form old.settled new)) (sym disk)
+              (LeavesOnly-weaker _ _ _ _ (λ image. OpensToFirst-later form (keeps new.pen.disk) mid new old.settled old.settled image now goes (omega arith)) (first.images (back now)));
           model = λ now. first.model (back now);
           fold = fold ∙ first.fold;
         }
@@ -146,5 +146,5 @@ module _ {R D : Type 0} where
     Serves-begun old mid told new mark first of is goes disk fold = Serves-then old told new (Serves-told old mid told mark first of is) goes disk fold
 
     -- it stays of its phase
-    pub IsOf-served : (live : Phase R) (old new : FlusherOf R D) → Serves form keeps states old new → IsOf (keeps old.pen.disk) live old → IsOf (keeps new.pen.disk) live new
-    IsOf-served live old new serves is = IsOf-later (keeps old.pen.disk) (keeps new.pen.disk) live old new serves.model serves.goes_on is
+    pub IsFlusherOf-served : (live : Phase R) (old new : FlusherOf R D) → Serves form keeps states old new → IsFlusherOf (keeps old.pen.disk) live old → IsFlusherOf (keeps new.pen.disk) live new
+    IsFlusherOf-served live old new serves is = IsFlusherOf-later (keeps old.pen.disk) (keeps new.pen.disk) live old new serves.model serves.goes_on is

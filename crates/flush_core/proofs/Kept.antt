@@ -17,7 +17,7 @@ use Rattle.directory_core.specs.Chain.{total, joined}
 use Rattle.directory_core.specs.Known.{Known}
 use Rattle.directory_core.specs.Limits.{record_limit}
 use Rattle.book_core.specs.Marks.{MarkEnd, nothing}
-use Rattle.flush_core.specs.Flusher.{FlusherOf, IsFlusher, KeepsJob, list_to, read_as, tally_with}
+use Rattle.flush_core.specs.Flusher.{FlusherOf, IsFlusher, OpensToJob, list_to, read_as, tally_with}
 
 -- what contracts see of a flusher that has these
 abbrev pub flusher_of : {R D : Type 0} → Encoding R → PenOf D → Known R → MarkEnd → ℕ → ℕ → ℕ → FlusherOf R D
@@ -118,7 +118,7 @@ module _ {R : Type 0} (form : Encoding R) where
         after model = ap (λ (s : _). vector_with s pen.vector pen.job) shape ∙ ap (λ (v : _). vector_with f.pen.shape v pen.job) (vector model) ∙ ap (λ (j : _). vector_with f.pen.shape f.pen.vector j) job
 
     -- what the disk may leave
-    pub keeps_job : keeps → (image : List ℕ) → MayOpen f.pen image → KeepsJob form f image
+    pub keeps_job : keeps → (image : List ℕ) → MayOpen f.pen image → OpensToJob form f image
     keeps_job model image opens =
         let order = is.settled_taken in
         let known = is.taken_known in
@@ -135,5 +135,5 @@ module _ {R : Type 0} (form : Encoding R) where
           }
         ]
 
-    pub leaves_job : (old new : List State) → keeps → LeavesOnly old new (MayOpen f.pen) → LeavesOnly old new (KeepsJob form f)
-    leaves_job old new model leaves = LeavesOnly-weaker old new (MayOpen f.pen) (KeepsJob form f) (keeps_job model) leaves
+    pub leaves_job : (old new : List State) → keeps → LeavesOnly old new (MayOpen f.pen) → LeavesOnly old new (OpensToJob form f)
+    leaves_job old new model leaves = LeavesOnly-weaker old new (MayOpen f.pen) (OpensToJob form f) (keeps_job model) leaves

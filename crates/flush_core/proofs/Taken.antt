@@ -13,7 +13,7 @@ use Rattle.segment_core.proofs.Written.{size-group_frame}
 use Rattle.pen_core.specs.declared.fault.PenFault.{PenFault}
 use Rattle.pen_core.specs.declared.fault.PenFault.TheVariants.{Broken, Busy, OutOfRange, TooLarge, FileFull, Memory}
 use Rattle.pen_core.specs.PenOf.{PenOf}
-use Rattle.pen_core.specs.Pen.{Begins, vector_after}
+use Rattle.pen_core.specs.Pen.{BeginsFrame, vector_after}
 use Rattle.pen_core.specs.Refusals.{IsRefusal, group_lines, room_lines, is_full}
 use Rattle.block_core.specs.Growth.{Growth}
 use Rattle.directory_core.specs.Chain.{total}
@@ -55,7 +55,7 @@ module _ {R D : Type 0} (form : Encoding R) (keeps : Type 0) (f : FlusherOf R D)
       ∙ ap (λ (rs : List R). f.opening ++ rs) (sym (joined-take_on entries f.taken n))
 
   -- a group of the next n growths is begun
-  pub taken_kept : (pen : PenOf D) (keeps' : Type 0) → Begins (group_frame form (take n (untaken f))) f.pen pen → (keeps' → keeps)
+  pub taken_kept : (pen : PenOf D) (keeps' : Type 0) → BeginsFrame (group_frame form (take n (untaken f))) f.pen pen → (keeps' → keeps)
       → ((records : List R) → AreCellsOf form f.pen.vector records → AreCellsOf form (vector_after pen) (records ++ joined (take n (untaken f))))
       → IsFlusher keeps' form (flusher_of form pen f.pass f.mark f.before (f.taken + n) f.settled)
   taken_kept pen keeps' begun back adds =

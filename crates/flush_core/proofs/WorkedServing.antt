@@ -25,7 +25,7 @@ use Rattle.book_core.specs.declared.mark.MarkState.TheVariants.{Ended, Broken}
 use Rattle.flush_core.specs.declared.lane.Lane.TheVariants.{Log, Home}
 use Rattle.flush_core.specs.declared.lane.Tick.TheVariants as ticks
 use Rattle.flush_core.specs.declared.fault.FlushFault.TheVariants.{Pen, Strayed}
-use Rattle.flush_core.specs.Flusher.{FlusherOf, GoesOn, KeepsFrom, KeepsSettled, KeepsJob, list_to, read_as, tally_with, untaken}
+use Rattle.flush_core.specs.Flusher.{FlusherOf, GoesOn, OpensToFirst, OpensToSettled, OpensToJob, list_to, read_as, tally_with, untaken}
 use Rattle.flush_core.specs.Group.{IsGreatest}
 use Rattle.flush_core.specs.Refusals.{settled_behind, lane_calls}
 use Rattle.flush_core.specs.Serving.{Serves, HasEnded, HasBroken, IsServeFault, fold_with}
@@ -131,17 +131,17 @@ module _ {D : Type 0} (pen : PenOf D) (of : Identity) (held : Held) (mark : Mark
     opens_to n records count opens is same = subst (λ rs. OpensTo form image rs) (ap (list_to one_of_three) is ∙ same) opens
 
     -- from two settled ones on: to two growths or to all three
-    keeps_two : KeepsFrom form 2 one_of_three image → OpensTo form image (4 ∷ 5 ∷ 6 ∷ []) ⊎ OpensTo form image (4 ∷ 5 ∷ 6 ∷ 7 ∷ [])
+    keeps_two : OpensToFirst form 2 one_of_three image → OpensTo form image (4 ∷ 5 ∷ 6 ∷ []) ⊎ OpensTo form image (4 ∷ 5 ∷ 6 ∷ 7 ∷ [])
     keeps_two kept = elim (two_or_three kept.count kept.at_least kept.known) [
       | inl two ↦ inl (opens_to 2 (4 ∷ 5 ∷ 6 ∷ []) kept.count kept.opens two refl)
       | inr three ↦ inr (opens_to 3 (4 ∷ 5 ∷ 6 ∷ 7 ∷ []) kept.count kept.opens three refl)
     ]
 
-    two_are_kept : OpensTo form image (4 ∷ 5 ∷ 6 ∷ []) → KeepsFrom form 2 one_of_three image
+    two_are_kept : OpensTo form image (4 ∷ 5 ∷ 6 ∷ []) → OpensToFirst form 2 one_of_three image
     two_are_kept opens = record { count = 2; at_least = omega arith; known = omega arith; opens = opens }
 
     -- one is settled
-    settled_is_kept : KeepsSettled form one_of_three image → OpensTo form image (4 ∷ 5 ∷ []) ⊎ (OpensTo form image (4 ∷ 5 ∷ 6 ∷ []) ⊎ OpensTo form image (4 ∷ 5 ∷ 6 ∷ 7 ∷ []))
+    settled_is_kept : OpensToSettled form one_of_three image → OpensTo form image (4 ∷ 5 ∷ []) ⊎ (OpensTo form image (4 ∷ 5 ∷ 6 ∷ []) ⊎ OpensTo form image (4 ∷ 5 ∷ 6 ∷ 7 ∷ []))
     settled_is_kept kept = elim (one_to_three kept.count kept.at_least kept.known) [
       | inl one ↦ inl (opens_to 1 (4 ∷ 5 ∷ []) kept.count kept.opens one refl)
       | inr (inl two) ↦ inr (inl (opens_to 2 (4 ∷ 5 ∷ 6 ∷ []) kept.count kept.opens two refl))
@@ -149,7 +149,7 @@ module _ {D : Type 0} (pen : PenOf D) (of : Identity) (held : Held) (mark : Mark
     ]
 
     -- with the three in hand: to the one or to all, and not to two
-    just_one_or_all : KeepsJob form one_of_three image → MayOpen pen image × (OpensTo form image (4 ∷ 5 ∷ []) ⊎ OpensTo form image (4 ∷ 5 ∷ 6 ∷ 7 ∷ []))
+    just_one_or_all : OpensToJob form one_of_three image → MayOpen pen image × (OpensTo form image (4 ∷ 5 ∷ []) ⊎ OpensTo form image (4 ∷ 5 ∷ 6 ∷ 7 ∷ []))
     just_one_or_all is = (
       is.pen_opens,
       elim is.just [
@@ -158,7 +158,7 @@ module _ {D : Type 0} (pen : PenOf D) (of : Identity) (held : Held) (mark : Mark
       ],
     )
 
-    all_in_hand : MayOpen pen image → OpensTo form image (4 ∷ 5 ∷ 6 ∷ 7 ∷ []) → KeepsJob form one_of_three image
+    all_in_hand : MayOpen pen image → OpensTo form image (4 ∷ 5 ∷ 6 ∷ 7 ∷ []) → OpensToJob form one_of_three image
     all_in_hand pen_opens opens = record { pen_opens = pen_opens; kept = record { count = 3; at_least = omega arith; known = omega arith; opens = opens }; just = inr refl }
 
   -- ---- how serving ends
@@ -251,7 +251,7 @@ goes_on keeps pen pen' pass mark mark' opening of = record {
 
 module _ {R D : Type 0} (form : Encoding R) (keeps : D → Type 0) (states : D → List State) (old new : FlusherOf R D) (served : Serves form keeps states old new) where
   -- a crash at its end keeps what was settled before it, of what is known behind it
-  kept_at_end : keeps new.pen.disk → (image : List ℕ) → IsImage (now (states new.pen.disk)) image → KeepsFrom form old.settled new image
+  kept_at_end : keeps new.pen.disk → (image : List ℕ) → IsImage (now (states new.pen.disk)) image → OpensToFirst form old.settled new image
   kept_at_end model image is = (served.images model).newest image is
 
   -- with no job in hand before and behind it a fold stays, and one whose own frame was in hand ends

@@ -61,7 +61,7 @@ pub record IsFlusher {R D : Type 0} (keeps : Type 0) (form : Encoding R) (f : Fl
   pub file_then : keeps → AreCellsOf form (vector_after f.pen) (list_to f f.taken)
 
 -- it is of that phase
-pub record IsOf {R D : Type 0} (keeps : Type 0) (live : Phase R) (f : FlusherOf R D) : Type 0 where
+pub record IsFlusherOf {R D : Type 0} (keeps : Type 0) (live : Phase R) (f : FlusherOf R D) : Type 0 where
   pub directory : f.pass.of ≡ live.directory
   pub mark : f.mark.of ≡ live.mark
   pub before : f.before ≡ length (opening_of live)
@@ -71,21 +71,21 @@ pub record IsOf {R D : Type 0} (keeps : Type 0) (live : Phase R) (f : FlusherOf 
 
 -- The image opens to the records from before the phase and the first growths that it knows, those that were settled
 -- among them.
-pub record KeepsFrom {R D : Type 0} (form : Encoding R) (settled : ℕ) (f : FlusherOf R D) (image : List ℕ) : Type 0 where
+pub record OpensToFirst {R D : Type 0} (form : Encoding R) (settled : ℕ) (f : FlusherOf R D) (image : List ℕ) : Type 0 where
   pub count : ℕ
   pub at_least : settled ≤ count
   pub known : count ≤ length f.pass.entries
   pub opens : OpensTo form image (list_to f count)
 
 -- the settled ones now among them
-abbrev pub KeepsSettled : {R D : Type 0} → Encoding R → FlusherOf R D → List ℕ → Type 0
-KeepsSettled form f image = KeepsFrom form f.settled f image
+abbrev pub OpensToSettled : {R D : Type 0} → Encoding R → FlusherOf R D → List ℕ → Type 0
+OpensToSettled form f image = OpensToFirst form f.settled f image
 
 -- The image opens to what the pen says, its vector or that with its job: in growths, to just those that are settled or,
 -- with a group in hand, to just those that are taken.
-pub record KeepsJob {R D : Type 0} (form : Encoding R) (f : FlusherOf R D) (image : List ℕ) : Type 0 where
+pub record OpensToJob {R D : Type 0} (form : Encoding R) (f : FlusherOf R D) (image : List ℕ) : Type 0 where
   pub pen_opens : MayOpen f.pen image
-  pub kept : KeepsSettled form f image
+  pub kept : OpensToSettled form f image
   pub just : (kept.count ≡ f.settled) ⊎ (kept.count ≡ f.taken)
 
 -- ---- what a call leaves as it is
@@ -98,8 +98,8 @@ pub record SameGrowths {R D : Type 0} (old new : FlusherOf R D) : Type 0 where
   pub taken_same : new.taken ≡ old.taken
 
 -- nothing has changed but what it knows, and it knows no less
-pub record Learns {R D : Type 0} (old new : FlusherOf R D) : Type 0 where
-  pub begins : chains.Begins old.pass.entries new.pass.entries
+pub record FlusherLearns {R D : Type 0} (old new : FlusherOf R D) : Type 0 where
+  pub begins : chains.IsPrefix old.pass.entries new.pass.entries
   pub of_same : new.pass.of ≡ old.pass.of
   pub pen_same : new.pen ≡ old.pen
   pub mark_same : new.mark ≡ old.mark
@@ -110,7 +110,7 @@ pub record Learns {R D : Type 0} (old new : FlusherOf R D) : Type 0 where
 
 -- From one to the other: of the same phase, it knows no less and has settled no less.
 pub record GoesOn {R D : Type 0} (keeps : Type 0) (old new : FlusherOf R D) : Type 0 where
-  pub begins : chains.Begins old.pass.entries new.pass.entries
+  pub begins : chains.IsPrefix old.pass.entries new.pass.entries
   pub of_same : new.pass.of ≡ old.pass.of
   pub mark_of_same : new.mark.of ≡ old.mark.of
   pub before_same : new.before ≡ old.before

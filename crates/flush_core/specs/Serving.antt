@@ -9,7 +9,7 @@ use Rattle.pen_core.specs.Pen.{fold_behind}
 use Rattle.book_core.specs.declared.mark.MarkState.TheVariants.{Ended, Broken}
 use Rattle.flush_core.specs.declared.fault.FlushFault.{FlushFault}
 use Rattle.flush_core.specs.declared.fault.FlushFault.TheVariants.{Pen, Strayed}
-use Rattle.flush_core.specs.Flusher.{FlusherOf, GoesOn, KeepsFrom}
+use Rattle.flush_core.specs.Flusher.{FlusherOf, GoesOn, OpensToFirst}
 use Rattle.flush_core.specs.Refusals.{IsNotBegun}
 
 -- the fold that is in hand once the job in hand is done
@@ -22,7 +22,7 @@ fold_with (Some job) fold = fold_behind job.frame fold
 -- call of a fold, which ends with its own frame where that was the job in hand.
 pub record Serves {R D : Type 0} (form : Encoding R) (keeps : D → Type 0) (states : D → List State) (old new : FlusherOf R D) : Type 0 where
   pub goes_on : GoesOn (keeps new.pen.disk) old new
-  pub images : keeps new.pen.disk → LeavesOnly (states old.pen.disk) (states new.pen.disk) (KeepsFrom form old.settled new)
+  pub images : keeps new.pen.disk → LeavesOnly (states old.pen.disk) (states new.pen.disk) (OpensToFirst form old.settled new)
   pub model : keeps new.pen.disk → keeps old.pen.disk
   pub fold : fold_with new.pen.job new.pen.fold ≡ fold_with old.pen.job old.pen.fold
 

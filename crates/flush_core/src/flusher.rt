@@ -8,7 +8,7 @@ ghost use Rattle.pen_core.specs.Refusals.{first_refusal, ready_lines};
 ghost use Rattle.directory_core.specs.Limits.{record_limit, growth_limit};
 ghost use Rattle.directory_core.specs.Chain.{total, IsChained, AreBlocks};
 ghost use Rattle.book_core.specs.Marks.{nothing};
-ghost use Rattle.flush_core.specs.Flusher.{KeepsJob, list_to, tally_with};
+ghost use Rattle.flush_core.specs.Flusher.{OpensToJob, list_to, tally_with};
 
 use book_core::{Live, Writer};
 use directory_core::Pass;
@@ -151,7 +151,7 @@ impl<R: Record, D: Disk> Flusher<R, D> {
     /// that are settled, or, with a group in hand, just those that are taken.
     pub fn disk(&self) -> &D
         ensures disk { result.now ≡ self.now.pen.disk }
-        ensures images { D.keeps result.now → (image : List ℕ) → IsImage (now (D.states result.now)) image → KeepsJob R.form self.now image }
+        ensures images { D.keeps result.now → (image : List ℕ) → IsImage (now (D.states result.now)) image → OpensToJob R.form self.now image }
     {
         self.pen.disk()
     }
@@ -162,7 +162,7 @@ impl<R: Record, D: Disk> Flusher<R, D> {
     pub fn into_parts(self) -> (D, u64)
         ensures disk { result.0 ≡ self.pen.disk }
         ensures count { result.1 ≡ self.settled }
-        ensures images { D.keeps result.0 → (image : List ℕ) → IsImage (now (D.states result.0)) image → KeepsJob R.form self image }
+        ensures images { D.keeps result.0 → (image : List ℕ) → IsImage (now (D.states result.0)) image → OpensToJob R.form self image }
     {
         let settled = self.settled;
         (self.pen.into_disk(), settled)

@@ -3,7 +3,7 @@
 ghost use Rattle.std.specs.Prelude.{◌≡◌, ◌≤◌, ◌++◌, List, length, take, map, IfOk, IfErr, IfSome, OnOk, OnErr};
 ghost use Rattle.pen_core.specs.Folds.{IsWholeFold};
 ghost use Rattle.pen_core.specs.Pen.{IsFoldAnswer, IsUnchanged};
-ghost use Rattle.flush_core.specs.Flusher.{IsOf};
+ghost use Rattle.flush_core.specs.Flusher.{IsFlusherOf};
 ghost use Rattle.flush_core.specs.Refusals.{IsFoldFault};
 
 use crate::fault::FlushFault;
@@ -43,7 +43,7 @@ impl<R: Record, D: Disk> Flusher<R, D> {
     /// Refused, in this order: `Pen(Broken)`; `Pen(Busy)`, while a fold is in hand; then, where a change is live,
     /// `Pen(FileFull)`; `Pen(Memory)`.
     pub fn begin_fold(&mut self, live: &Live<R>) -> Result<bool, FlushFault>
-        requires of { IsOf (D.keeps self.old.pen.disk) live.now self.old }
+        requires of { IsFlusherOf (D.keeps self.old.pen.disk) live.now self.old }
         ensures begun { IfOk result (λ begun. IsFoldAnswer self.old.pen self.new.pen begun) }
         ensures plans { D.keeps self.old.pen.disk → OnOk result (IfSome self.new.pen.fold (λ fold. IsWholeFold self.old.pen.shape self.old.pen.frames self.old.pen.vector fold.left)) }
         ensures refused { IfErr result (λ fault. IsFoldFault self.old fault) }

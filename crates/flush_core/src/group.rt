@@ -4,12 +4,12 @@ ghost use Rattle.std.specs.Prelude.{◌≡◌, ◌+◌, ◌-◌, ◌≤◌, ◌<
 ghost use Rattle.std.specs.List.{AllByRecursion};
 ghost use Rattle.segment_core.specs.Shape.{limit_of};
 ghost use Rattle.segment_core.specs.Written.{group_frame, payload_len};
-ghost use Rattle.pen_core.specs.Pen.{Begins, IsUnchanged};
+ghost use Rattle.pen_core.specs.Pen.{BeginsFrame, IsUnchanged};
 ghost use Rattle.pen_core.specs.Refusals.{first_refusal, ready_lines, is_full};
 ghost use Rattle.record_core.specs.Limits.{payload_limit};
 ghost use Rattle.directory_core.specs.Chain.{total};
 ghost use Rattle.directory_core.specs.Limits.{growth_limit};
-ghost use Rattle.flush_core.specs.Flusher.{IsOf, untaken};
+ghost use Rattle.flush_core.specs.Flusher.{IsFlusherOf, untaken};
 ghost use Rattle.flush_core.specs.Group.{IsGreatest};
 ghost use Rattle.flush_core.specs.Refusals.{IsTakeFault};
 
@@ -80,17 +80,17 @@ fn next_growths<'a, R: Record>(
 }
 
 impl<R: Record, D: Disk> Flusher<R, D> {
-    /// Begins to commit the next growths that it knows and hasn't taken as one group: in order, as many as one payload of
+    /// BeginsFrame to commit the next growths that it knows and hasn't taken as one group: in order, as many as one payload of
     /// the file holds. Answers how many; 0, and nothing is begun, where it knows none. It looks for none: `look` does.
     ///
     /// Refused, in this order: `Pen(Broken)`; `Pen(Busy)`, while a log job is in hand; then, where there is one to take,
     /// `Pen(FileFull)`; `Pen(Memory)`.
     pub fn take_group(&mut self, live: &Live<R>) -> Result<u64, FlushFault>
-        requires of { IsOf (D.keeps self.old.pen.disk) live.now self.old }
+        requires of { IsFlusherOf (D.keeps self.old.pen.disk) live.now self.old }
         ensures taken { IfOk result (λ n. self.new.taken ≡ self.old.taken + n) }
         ensures greatest { IfOk result (λ n. IsGreatest R.form.width (limit_of self.old.pen.shape.format) (untaken self.old) n) }
         ensures some { IfOk result (λ n. self.old.taken < length self.old.pass.entries → 0 < n) }
-        ensures begun { IfOk result (λ n. 0 < n → Begins (group_frame R.form (take n (untaken self.old))) self.old.pen self.new.pen) }
+        ensures begun { IfOk result (λ n. 0 < n → BeginsFrame (group_frame R.form (take n (untaken self.old))) self.old.pen self.new.pen) }
         ensures none { IfOk result (λ n. n ≡ 0 → self.new ≡ self.old) }
         ensures room { IfOk result (λ n. 0 < n → is_full self.old.pen (payload_len R.form.width (take n (untaken self.old))) ≡ false) }
         ensures idle { OnOk result (first_refusal (ready_lines self.old.pen) ≡ None) }

@@ -5,7 +5,7 @@ ghost use Rattle.directory_core.specs.Chain.{Agree, Meets, total};
 ghost use Rattle.book_core.specs.Lists as lists;
 ghost use Rattle.book_core.specs.Growing as growing;
 ghost use Rattle.book_core.specs.Marks.{Rises};
-ghost use Rattle.flush_core.specs.Flusher.{IsOf, Learns};
+ghost use Rattle.flush_core.specs.Flusher.{IsFlusherOf, FlusherLearns};
 
 use crate::fault::FlushFault;
 use crate::flusher::Flusher;
@@ -15,11 +15,11 @@ use disk_core::Disk;
 use record_core::Record;
 
 impl<R: Record, D: Disk> Flusher<R, D> {
-    /// Learns what growers have published, and answers how many records it then knows, those from before the phase among
+    /// FlusherLearns what growers have published, and answers how many records it then knows, those from before the phase among
     /// them. `Strayed` names the growth that doesn't follow those before it; what stands before that one is known then.
     pub fn look(&mut self, live: &Live<R>) -> Result<u64, FlushFault>
-        requires of { IsOf (D.keeps self.old.pen.disk) live.now self.old }
-        ensures learns { Learns self.old self.new }
+        requires of { IsFlusherOf (D.keeps self.old.pen.disk) live.now self.old }
+        ensures learns { FlusherLearns self.old self.new }
         ensures size { MatchResult result
             (λ size. size ≡ self.new.before + total self.new.pass.entries)
             (λ fault. fault ≡ FlushFault.Strayed (length self.new.pass.entries)) }
@@ -31,10 +31,10 @@ impl<R: Record, D: Disk> Flusher<R, D> {
         }
     }
 
-    /// Learns what a seat knows, which finds no growth that the other doesn't have in the same place.
+    /// FlusherLearns what a seat knows, which finds no growth that the other doesn't have in the same place.
     pub fn meet(&mut self, live: &Live<R>, seat: &mut Seat<R>)
-        requires of { IsOf (D.keeps self.old.pen.disk) live.now self.old × lists.IsOf live.now seat.old }
-        ensures learns { Learns self.old self.new }
+        requires of { IsFlusherOf (D.keeps self.old.pen.disk) live.now self.old × lists.IsSeatOf live.now seat.old }
+        ensures learns { FlusherLearns self.old self.new }
         ensures same { seat.new ≡ seat.old }
         ensures agree { Agree self.old.pass.entries seat.old.pass.entries }
         ensures meets { Meets self.old.pass.entries seat.old.pass.entries self.new.pass.entries }
@@ -44,10 +44,10 @@ impl<R: Record, D: Disk> Flusher<R, D> {
 
     /// A seat learns what it knows, and it is as it was. So who knows all growths can tell that it knows no other.
     pub fn tell(&mut self, live: &Live<R>, seat: &mut Seat<R>)
-        requires of { IsOf (D.keeps self.old.pen.disk) live.now self.old × lists.IsOf live.now seat.old }
+        requires of { IsFlusherOf (D.keeps self.old.pen.disk) live.now self.old × lists.IsSeatOf live.now seat.old }
         ensures same { self.new ≡ self.old }
-        ensures of { lists.IsOf live.now seat.new }
-        ensures learns { growing.Learns seat.old seat.new }
+        ensures of { lists.IsSeatOf live.now seat.new }
+        ensures learns { growing.SeatLearns seat.old seat.new }
         ensures agree { Agree seat.old.pass.entries self.old.pass.entries }
         ensures meets { Meets seat.old.pass.entries self.old.pass.entries seat.new.pass.entries }
     {
@@ -57,7 +57,7 @@ impl<R: Record, D: Disk> Flusher<R, D> {
     /// The mark tells from now on how many growths are settled, which is answered. Its state stays. It wakes nobody:
     /// `Live::wake_settled` does.
     pub fn raise(&mut self, live: &Live<R>) -> u64
-        requires of { IsOf (D.keeps self.old.pen.disk) live.now self.old }
+        requires of { IsFlusherOf (D.keeps self.old.pen.disk) live.now self.old }
         ensures raised { self.new ≡ record self.old { mark = record self.old.mark { told = record { count = self.old.settled; state = self.old.mark.told.state } } } }
         ensures count { result ≡ self.old.settled }
     {
@@ -71,8 +71,8 @@ impl<R: Record, D: Disk> Flusher<R, D> {
     /// Gives a seat up: what it knows is known, and what it was told by the mark is settled. So also behind a fault of the
     /// pen.
     pub fn take_in(&mut self, live: &Live<R>, seat: Seat<R>)
-        requires of { IsOf (D.keeps self.old.pen.disk) live.now self.old × lists.IsOf live.now seat }
-        ensures learns { Learns self.old self.new }
+        requires of { IsFlusherOf (D.keeps self.old.pen.disk) live.now self.old × lists.IsSeatOf live.now seat }
+        ensures learns { FlusherLearns self.old self.new }
         ensures agree { Agree self.old.pass.entries seat.pass.entries }
         ensures meets { Meets self.old.pass.entries seat.pass.entries self.new.pass.entries }
         ensures told { seat.mark.told.count ≤ self.new.settled }

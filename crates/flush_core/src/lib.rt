@@ -15,6 +15,3 @@ mod tick;
 pub use fault::FlushFault;
 pub use flusher::Flusher;
 pub use lane::{Lane, Tick};
-
-#[cfg(test)]
-mod tests;

@@ -2,7 +2,7 @@
 
 ghost use Rattle.std.specs.Prelude.{◌≡◌, ◌+◌, length, None, OnOk, OnErr, IfErr, MatchResult};
 ghost use Rattle.disk_core.specs.Moments.{LeavesOnly};
-ghost use Rattle.flush_core.specs.Flusher.{IsOf, GoesOn, KeepsFrom};
+ghost use Rattle.flush_core.specs.Flusher.{IsFlusherOf, GoesOn, OpensToFirst};
 ghost use Rattle.flush_core.specs.Refusals.{failed};
 ghost use Rattle.flush_core.specs.Serving.{Serves, HasEnded, HasBroken, IsServeFault, fold_with};
 
@@ -31,7 +31,7 @@ impl<R: Record, D: Disk> Flusher<R, D> {
 
     /// Learns what growers have published, and begins to commit the next growths.
     fn begin_next(&mut self, live: &Live<R>) -> Result<(), FlushFault>
-        requires of { IsOf (D.keeps self.old.pen.disk) live.now self.old }
+        requires of { IsFlusherOf (D.keeps self.old.pen.disk) live.now self.old }
         requires idle { self.old.pen.job ≡ None }
         ensures goes_on { GoesOn (D.keeps self.new.pen.disk) self.old self.new }
         ensures disk { self.new.pen.disk ≡ self.old.pen.disk }
@@ -46,7 +46,7 @@ impl<R: Record, D: Disk> Flusher<R, D> {
 
     /// Commits and tells, until the book is closed and all is settled.
     fn serve_all<E: Wait>(&mut self, rt: &E, live: &Live<R>) -> Result<(), FlushFault>
-        requires of { IsOf (D.keeps self.old.pen.disk) live.now self.old }
+        requires of { IsFlusherOf (D.keeps self.old.pen.disk) live.now self.old }
         ensures serves { Serves R.form D.keeps D.states self.old self.new }
         ensures all { OnOk result (self.new.settled ≡ length self.new.pass.entries) }
         ensures idle { OnOk result (self.new.pen.job ≡ None) }
@@ -79,12 +79,12 @@ impl<R: Record, D: Disk> Flusher<R, D> {
     /// has no room for the next group; `Pen(Memory)`; `Pen(Disk)`. None of them but `Pen(Broken)` and `Pen(Disk)` leaves a log
     /// job in hand.
     pub fn serve<E: Wait>(&mut self, rt: &E, live: &Live<R>) -> Result<(), FlushFault>
-        requires of { IsOf (D.keeps self.old.pen.disk) live.now self.old }
+        requires of { IsFlusherOf (D.keeps self.old.pen.disk) live.now self.old }
         ensures ended { OnOk result (HasEnded self.new) }
         ensures broken { OnErr result (HasBroken self.new) }
         ensures refused { IfErr result (λ fault. IsServeFault R.form.width self.old self.new fault) }
         ensures goes_on { GoesOn (D.keeps self.new.pen.disk) self.old self.new }
-        ensures images { D.keeps self.new.pen.disk → LeavesOnly (D.states self.old.pen.disk) (D.states self.new.pen.disk) (KeepsFrom R.form self.old.settled self.new) }
+        ensures images { D.keeps self.new.pen.disk → LeavesOnly (D.states self.old.pen.disk) (D.states self.new.pen.disk) (OpensToFirst R.form self.old.settled self.new) }
         ensures fold { fold_with self.new.pen.job self.new.pen.fold ≡ fold_with self.old.pen.job self.old.pen.fold }
         ensures faults { MatchResult result
             (λ _. D.faults self.new.pen.disk ≡ D.faults self.old.pen.disk)

@@ -3,7 +3,7 @@
 ghost use Rattle.std.specs.Prelude.{◌≡◌, ◌+◌, ◌≤◌, false, IfOk, IfErr, OnOk, OnErr, MatchResult};
 ghost use Rattle.disk_core.specs.Moments.{LeavesOnly, clock};
 ghost use Rattle.pen_core.specs.Pen.{IsKept};
-ghost use Rattle.flush_core.specs.Flusher.{KeepsJob, SameGrowths};
+ghost use Rattle.flush_core.specs.Flusher.{OpensToJob, SameGrowths};
 ghost use Rattle.flush_core.specs.Refusals.{IsLaneTicked, IsLaneFault, lane_calls, settled_behind, failed};
 
 use crate::fault::FlushFault;
@@ -21,7 +21,7 @@ impl<R: Record, D: Disk> Flusher<R, D> {
     /// that were settled, or, with a group in hand, just those that were taken. Refused as the pen's ticks: `Pen(Disk)`, and
     /// from then on `Pen(Broken)`.
     pub fn tick(&mut self, lane: Lane) -> Result<Tick, FlushFault>
-        ensures images { D.keeps self.new.pen.disk → LeavesOnly (D.states self.old.pen.disk) (D.states self.new.pen.disk) (KeepsJob R.form self.old) }
+        ensures images { D.keeps self.new.pen.disk → LeavesOnly (D.states self.old.pen.disk) (D.states self.new.pen.disk) (OpensToJob R.form self.old) }
         ensures kept { D.keeps self.new.pen.disk → IsKept (D.states self.new.pen.disk) self.new.pen }
         ensures ticked { IfOk result (λ tick. IsLaneTicked lane self.old.pen self.new.pen tick) }
         ensures settled { IfOk result (λ tick. self.new.settled ≡ settled_behind self.old tick) }

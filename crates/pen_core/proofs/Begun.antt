@@ -14,7 +14,7 @@ use Rattle.segment_core.specs.Tally.{nothing, after, tally_of, MayFollow, AreLeg
 use Rattle.segment_core.specs.Vector.{last_from, change_in, home_of}
 use Rattle.segment_core.specs.Folding.{HomesHold}
 use Rattle.segment_core.specs.Blanked.{blanked}
-use Rattle.segment_core.proofs.Push.{Begins_push, Begins_before}
+use Rattle.segment_core.proofs.Push.{Begins_push, BeginsImage_before}
 use Rattle.segment_core.proofs.Blanked.{tally_from-blanked, same_legal}
 use Rattle.segment_core.proofs.PlaceOf.{home_of_between}
 use Rattle.segment_core.proofs.Loose.{take_same}
@@ -126,7 +126,7 @@ module _ (count : ℕ) (shape : Shape) (frames : List Frame) (vector : List (Lis
   body_holds : Holds shape (frames_with frames f) (after_frame shape.width vector f) image
   body_holds =
       let begins = Begins_push shape image has.found f (0 ∷ tail) has.begins.legal whole may' image_is in
-      let before = IsVectorOf_begins shape.format (raw shape.width) s.seen image has.found vector has.begins (Begins_before shape image has.found f begins) has.read in
+      let before = IsVectorOf_begins shape.format (raw shape.width) s.seen image has.found vector has.begins (BeginsImage_before shape image has.found f begins) has.read in
       record {
         found = has.found ++ f ∷ [];
         alike = map_push blanked has.found f ∙ ap (λ (fs : List Frame). fs ++ blanked f ∷ []) has.alike;

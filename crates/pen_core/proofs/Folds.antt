@@ -7,7 +7,7 @@ use Rattle.disk_core.proofs.ImageLemmas.{length-overlay, get_or-overlay}
 use Rattle.segment_core.specs.declared.format.Shape.{Shape}
 use Rattle.segment_core.specs.Frame.{Frame, Group, Change, Shrink, Fold}
 use Rattle.segment_core.specs.Tally.{tally_of, AreLegal}
-use Rattle.segment_core.specs.Image.{Begins}
+use Rattle.segment_core.specs.Image.{BeginsImage}
 use Rattle.segment_core.specs.Vector.{IsVectorOf}
 use Rattle.segment_core.specs.Folding.{HomesHold}
 use Rattle.segment_core.specs.Blanked.{blanked, all_blanked}
@@ -15,7 +15,7 @@ use Rattle.segment_core.specs.Raw.{raw}
 use Rattle.segment_core.specs.Parsed.{frames_before}
 use Rattle.segment_core.proofs.PlaceOf.{home_of_between}
 use Rattle.segment_core.proofs.Loose.{take_same}
-use Rattle.segment_core.proofs.Push.{Begins_before}
+use Rattle.segment_core.proofs.Push.{BeginsImage_before}
 use Rattle.segment_core.proofs.Blanked.{all_blanked-all_blanked, same_tally, same_gate}
 use Rattle.segment_core.proofs.HomesHold.{Appends, HomesHold_push, HomesHold_same, HomesHold_blanked}
 use Rattle.segment_core.proofs.Parsed.{frames_before-text}
@@ -120,8 +120,8 @@ module _ (shape : Shape) (count : ℕ) (frames : List Frame) (f : Frame) (vector
   ends : Ends more.found frames (blanked f)
   ends = ends_with more.found frames (blanked f) more.alike
 
-  begins : Begins shape bytes (ends.init ++ ends.end ∷ [])
-  begins = subst (Begins shape bytes) ends.is more.begins
+  begins : BeginsImage shape bytes (ends.init ++ ends.end ∷ [])
+  begins = subst (BeginsImage shape bytes) ends.is more.begins
 
   -- the frames that were held begin those that are
   init_is : has.found ≡ ends.init
@@ -130,8 +130,8 @@ module _ (shape : Shape) (count : ℕ) (frames : List Frame) (f : Frame) (vector
       sym (frames_before-text shape bytes has.found has.begins) ∙ ap (λ n. frames_before shape n bytes) (same_gate has.found ends.init same shape)
       ∙ frames_before-text shape bytes ends.init (begins_before)
     where
-      begins_before : Begins shape bytes ends.init
-      begins_before = Begins_before shape bytes ends.init ends.end begins
+      begins_before : BeginsImage shape bytes ends.init
+      begins_before = BeginsImage_before shape bytes ends.init ends.end begins
 
   pub HomesHold_more : HomesHold shape.format (raw shape.width) held frames count vector → HomesHold shape.format (raw shape.width) held (frames_with frames f) count then
   HomesHold_more hold =

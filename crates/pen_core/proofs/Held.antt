@@ -4,7 +4,7 @@ use Rattle.std.proofs.lemmas.Bool.{cases_eq, cases_order, cases_Bool, or_cases, 
 use Rattle.std.proofs.lemmas.List.{length-append, length-take-le, get_or_append_left, get_or_push}
 use Rattle.std.proofs.lemmas.Bool.Decides.{nat_tests}
 use Rattle.disk_core.specs.declared.extent.Extent.{Extent}
-use Rattle.disk_core.specs.State.{State, covers, is_within, overlay, IsImage}
+use Rattle.disk_core.specs.State.{State, has_place, is_within, overlay, IsImage}
 use Rattle.disk_core.proofs.ImageLemmas.{get_or-overlay}
 use Rattle.segment_core.specs.declared.format.Shape.{Shape}
 use Rattle.segment_core.specs.Frame.{Frame}
@@ -14,18 +14,18 @@ use Rattle.pen_core.proofs.Again.{folded_loose, Holds-again, Holds-opens}
 
 -- ---- pending places
 
-pub pending_push : (es : List Extent) (e : Extent) (j : ℕ) → is_within (es ++ e ∷ []) j ≡ true → (is_within es j ≡ true) ⊎ (covers e j ≡ true)
-pending_push [] e j is = elim (or_cases (covers e j) false is) [ inl here ↦ inr here | inr never ↦ absurd cc ]
-pending_push (x ∷ es) e j is = elim (or_cases (covers x j) (is_within (es ++ e ∷ []) j) is) [
+pub pending_push : (es : List Extent) (e : Extent) (j : ℕ) → is_within (es ++ e ∷ []) j ≡ true → (is_within es j ≡ true) ⊎ (has_place e j ≡ true)
+pending_push [] e j is = elim (or_cases (has_place e j) false is) [ inl here ↦ inr here | inr never ↦ absurd cc ]
+pending_push (x ∷ es) e j is = elim (or_cases (has_place x j) (is_within (es ++ e ∷ []) j) is) [
   | inl first ↦ inl (ap (λ b. b || is_within es j) first)
-  | inr later ↦ elim (pending_push es e j later) [ inl old ↦ inl (or_later (covers x j) (is_within es j) old) | inr new ↦ inr new ]
+  | inr later ↦ elim (pending_push es e j later) [ inl old ↦ inl (or_later (has_place x j) (is_within es j) old) | inr new ↦ inr new ]
 ]
   where
     or_later : (a b : Bool) → b ≡ true → (a || b) ≡ true
     or_later true b is = refl
     or_later false b is = is
 
-pub covered_inside : (at len j : ℕ) → covers (record { at = at; len = len }) j ≡ true → (at ≤ j) × (j < at + len)
+pub covered_inside : (at len j : ℕ) → has_place (record { at = at; len = len }) j ≡ true → (at ≤ j) × (j < at + len)
 covered_inside at len j is = (grind (arith, nat_tests), grind (arith, nat_tests))
 
 -- a place that stays out of an extent isn't in it

@@ -4,7 +4,7 @@ use Rattle.std.specs.Prelude.{nat_lt}
 use Rattle.std.specs.List.{AllByRecursion}
 use Rattle.std.proofs.lemmas.Bool.{cases_Bool, both_ways, ltb-true, ltb-false}
 use Rattle.disk_core.specs.declared.fault.DiskFault.{DiskFault}
-use Rattle.disk_core.specs.State.{State, now, settled, touched, written, covers, is_within, IsImage, IsTornWrite}
+use Rattle.disk_core.specs.State.{State, now, settled, touched, written, has_place, is_within, IsImage, IsTornWrite}
 use Rattle.disk_core.specs.Calls.{bytes_of}
 use Rattle.disk_core.specs.Moments.{LeavesOnly}
 use Rattle.disk_core.proofs.CallLemmas.{LeavesOnly-write, LeavesOnly-sync}
@@ -84,7 +84,7 @@ module _ (count : ℕ) (shape : Shape) (gate : ℕ) (tally : Tally) (frames : Li
       gate_synced = subst (λ bs. gate_of shape frames < length bs) (sym torn.synced) file.gate_synced;
       pending_is_folded = λ j lt is. elim (cases_Bool (is_within s.pending j)) [
         | inl old ↦ file.pending_is_folded j lt old
-        | inr out ↦ elim (cases_Bool (covers (record { at = at; len = length ws }) j)) [
+        | inr out ↦ elim (cases_Bool (has_place (record { at = at; len = length ws }) j)) [
           | inl new ↦ (let i = covered_inside at (length ws) j new in folded j i.0 i.1)
           | inr apart ↦ absurd (both_ways (is_within left.pending j) (torn.pending j out apart) is)
         ]
@@ -102,7 +102,7 @@ module _ (count : ℕ) (shape : Shape) (gate : ℕ) (tally : Tally) (frames : Li
           images_open = λ image is. write_images o broken later k whole image (torn_images at (length ws) s left s.seen image torn is);
           gate_pending = λ is. elim (cases_Bool (is_within s.pending gate)) [
             | inl old ↦ k.gate_pending old
-            | inr out ↦ elim (cases_Bool (covers (record { at = at; len = length ws }) gate)) [
+            | inr out ↦ elim (cases_Bool (has_place (record { at = at; len = length ws }) gate)) [
               | inl new ↦ (let i = covered_inside at (length ws) gate new in absurd (omega (arith, i.0, i.1)))
               | inr apart ↦ absurd (both_ways (is_within left.pending gate) (torn.pending gate out apart) is)
             ]

@@ -5,7 +5,7 @@ use Rattle.disk_core.specs.State.{State}
 use Rattle.segment_core.specs.Frame.{Frame}
 use Rattle.pen_core.specs.Held.{IsBeingFolded}
 use Rattle.pen_core.specs.PenOf.{PenOf, JobOf}
-use Rattle.pen_core.specs.Pen.{OpensWith, MayBeOpening, IsKept, IsUnchanged, Begins, BeginsFold, fold_count}
+use Rattle.pen_core.specs.Pen.{OpensWith, MayBeOpening, IsKept, IsUnchanged, BeginsFrame, BeginsFold, fold_count}
 use Rattle.pen_core.proofs.Begun.{nothing_folded}
 use Rattle.pen_core.proofs.Worked.{unchanged_pen, begun_pen, folding_pen}
 
@@ -30,7 +30,7 @@ module _ {D : Type 0} (keeps : D → Type 0) (states : D → List State) (old ne
   })
 
   -- a job is in hand whose body is not written yet
-  pub kept_begun : (frame : Frame) → old.job ≡ None → Begins frame old new → Kept new
+  pub kept_begun : (frame : Frame) → old.job ≡ None → BeginsFrame frame old new → Kept new
   kept_begun frame idle is = subst Kept (sym (begun_pen frame old new is)) (λ model. let k = kept model in record {
     images_open = λ image left. inl (subst (λ job. OpensWith old.shape old.frames old.vector job image) idle (k.images_open image left));
     pending_is_told = λ j there. elim (k.pending_is_told j there) [

@@ -18,7 +18,7 @@ use Rattle.segment_core.specs.declared.vector.Scanned.{Scanned}
 use Rattle.segment_core.specs.Shape.{version_of, shape_of}
 use Rattle.segment_core.specs.Frame.{Frame, frame_text, text}
 use Rattle.segment_core.specs.Tally.{nothing, after, tally_from, tally_of, AreLegalFrom}
-use Rattle.segment_core.specs.Image.{Begins, HasFrames}
+use Rattle.segment_core.specs.Image.{BeginsImage, HasFrames}
 use Rattle.segment_core.specs.Vector.{place_of, record_in, IsVectorOf, HasVector}
 use Rattle.segment_core.specs.Blanked.{all_blanked}
 use Rattle.segment_core.specs.Raw.{raw, AreReadAs}
@@ -98,7 +98,7 @@ HasVector_more format form image more found records has =
     let framed = frames_more (shape_of format form) image more found has.framed in
     record { framed = framed; read = IsVectorOf_begins format form image (image ++ more) found records (begins_of (shape_of format form) image found has.framed) (begins_of (shape_of format form) (image ++ more) found framed) has.read }
   where
-    begins_of : (shape : Shape) (image : List ℕ) (found : List Frame) → HasFrames shape image found → Begins shape image found
+    begins_of : (shape : Shape) (image : List ℕ) (found : List Frame) → HasFrames shape image found → BeginsImage shape image found
     begins_of shape image found framed = record { legal = framed.legal; begins = (framed.closed.0 ∷ framed.closed.1, framed.closed.3) }
 
 module _ {R : Type 0} (format : Format) (form : Encoding R) (front more : List ℕ) (found : List Frame) (records : List R) (back : WritesBack form) (fits : IsBytes front) (read : HasVector format form front found records) where
@@ -121,10 +121,10 @@ module _ {R : Type 0} (format : Format) (form : Encoding R) (front more : List �
   has : HasVector format form image found records
   has = HasVector_more format form front more found records read
 
-  begins_front : Begins shape front found
+  begins_front : BeginsImage shape front found
   begins_front = record { legal = read.framed.legal; begins = (read.framed.closed.0 ∷ read.framed.closed.1, read.framed.closed.3) }
 
-  begins : Begins shape image found
+  begins : BeginsImage shape image found
   begins = record { legal = has.framed.legal; begins = (has.framed.closed.0 ∷ has.framed.closed.1, has.framed.closed.3) }
 
   read_raw : IsVectorOf format (raw form.width) image found cells

@@ -3,7 +3,7 @@ use Rattle.std.proofs.Common.{◌≡◌, ℕ, ◌+◌, ◌≤◌, ◌<◌, ◌�
 use Rattle.std.proofs.lemmas.Bool.{cases_Bool, both_ways}
 use Rattle.std.proofs.lemmas.Option.{same_Some}
 use Rattle.disk_core.specs.declared.fault.DiskFault.{DiskFault}
-use Rattle.disk_core.specs.State.{State, now, settled, touched, written, covers, is_within, IsImage, IsTornWrite}
+use Rattle.disk_core.specs.State.{State, now, settled, touched, written, has_place, is_within, IsImage, IsTornWrite}
 use Rattle.disk_core.specs.Calls.{bytes_of}
 use Rattle.disk_core.specs.Moments.{LeavesOnly}
 use Rattle.disk_core.proofs.CallLemmas.{LeavesOnly-write, LeavesOnly-sync}
@@ -31,7 +31,7 @@ torn_file shape count frames vector at len s left file torn holds past = record 
   gate_synced = subst (λ bs. gate_of shape frames < length bs) (sym torn.synced) file.gate_synced;
   pending_is_folded = λ j lt is. elim (cases_Bool (is_within s.pending j)) [
     | inl old ↦ file.pending_is_folded j lt old
-    | inr out ↦ elim (cases_Bool (covers (record { at = at; len = len }) j)) [
+    | inr out ↦ elim (cases_Bool (has_place (record { at = at; len = len }) j)) [
       | inl new ↦ (let i = covered_inside at len j new in absurd (omega (arith, i.0)))
       | inr apart ↦ absurd (both_ways (is_within left.pending j) (torn.pending j out apart) is)
     ]
@@ -126,7 +126,7 @@ module _ (shape : Shape) (count : ℕ) (frames next : List Frame) (before after 
       subst (λ t. Failed Body t) (sym made) (record {
         file = torn_file shape count frames before (p + 1) (length body) s left file torn.2 (holds_of_body shape count frames next before after s body file at.0 readable left.seen (before_it left.seen reads')) (omega arith);
         images = λ image is. inl (images_of_body shape count frames next before after s body file at.0 readable image (before_it image is));
-        gate_pending = λ is. elim (cases_Bool (covers (record { at = p + 1; len = length body }) p)) [
+        gate_pending = λ is. elim (cases_Bool (has_place (record { at = p + 1; len = length body }) p)) [
           | inl new ↦ (let i = covered_inside (p + 1) (length body) p new in absurd (omega (arith, i.0)))
           | inr apart ↦ absurd (both_ways (is_within left.pending p) (torn.2.pending p at.0.kept apart) is)
         ];

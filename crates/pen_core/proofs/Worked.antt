@@ -8,7 +8,7 @@ use Rattle.pen_core.specs.declared.stage.FoldStage.TheVariants as folds
 use Rattle.pen_core.specs.Held.{Opens, IsBeingFolded}
 use Rattle.pen_core.specs.Vectors.{frames_with}
 use Rattle.pen_core.specs.PenOf.{PenOf, JobOf}
-use Rattle.pen_core.specs.Pen.{MayOpen, MayBeOpening, MayBePending, OpensWith, CountsSame, IsUnchanged, Begins, BeginsFold, fold_count}
+use Rattle.pen_core.specs.Pen.{MayOpen, MayBeOpening, MayBePending, OpensWith, CountsSame, IsUnchanged, BeginsFrame, BeginsFold, fold_count}
 use Rattle.pen_core.proofs.Begun.{nothing_folded}
 
 -- ---- what may be pending, where no fold is in hand
@@ -66,7 +66,7 @@ unchanged_pen old new is =
     ∙ ap (λ x. record new { disk = old.disk; shape = old.shape; frames = old.frames; vector = old.vector; job = old.job; fold = old.fold; broken = old.broken; tally = old.tally; gate = x }) is.gate_same
 
 -- all but the memory and the job
-pub begun_pen : {D : Type 0} (frame : Frame) (old new : PenOf D) → Begins frame old new → new ≡ record old { job = Some (record { frame = frame; step = steps.Body }); room = new.room; places = new.places }
+pub begun_pen : {D : Type 0} (frame : Frame) (old new : PenOf D) → BeginsFrame frame old new → new ≡ record old { job = Some (record { frame = frame; step = steps.Body }); room = new.room; places = new.places }
 begun_pen frame old new is =
     ap (λ x. record new { disk = x }) is.disk_same
     ∙ ap (λ x. record new { disk = old.disk; shape = x }) is.shape_same

@@ -4,7 +4,7 @@ use Rattle.disk_core.specs.declared.fault.DiskFault.TheVariants.{Sync, Length, R
 use Rattle.disk_core.specs.State.{settled, written, is_within, IsImage}
 use Rattle.pen_core.specs.declared.create.Contents.TheVariants.{Blank, Closed}
 use Rattle.pen_core.specs.declared.fault.PenFault.TheVariants as faults
-use Rattle.pen_core.specs.Births.{IsExisting, AreContents, WritesNothing, IsTold, AreLooks, AreCallsUntil, first_calls, calls_of_creation}
+use Rattle.pen_core.specs.Births.{IsExisting, AreContents, WritesNothing, IsFoundOut, AreLooks, AreCallsUntil, first_calls, calls_of_creation}
 
 -- eleven, twelve and thirteen bytes, by the first
 abbrev eleven : ℕ → List ℕ
@@ -87,13 +87,13 @@ looks_at_thirteen = refl
 told_by_length : AreCallsUntil (thirteen 1) (calls_of_creation (thirteen 1)) faults.Exists 2
 told_by_length = inl (omega arith, (omega arith, refl))
 
-not_told_by_length : IsTold (twelve 1) (calls_of_creation (twelve 1)) 2 → ⊥
+not_told_by_length : IsFoundOut (twelve 1) (calls_of_creation (twelve 1)) 2 → ⊥
 not_told_by_length told = elim told [ inl long ↦ absurd (omega (arith, long.0)) | inr read ↦ absurd (let clash : Some Length ≡ Some Read = read.1.1 in cc) ]
 
 told_by_byte : AreCallsUntil (twelve 1) (calls_of_creation (twelve 1)) faults.Exists 3
 told_by_byte = inr (omega arith, (omega arith, refl))
 
-not_told_by_byte : IsTold (thirteen 1) (calls_of_creation (thirteen 1)) 3 → ⊥
+not_told_by_byte : IsFoundOut (thirteen 1) (calls_of_creation (thirteen 1)) 3 → ⊥
 not_told_by_byte told = elim told [ inl long ↦ absurd (let clash : Some Write ≡ Some Length = long.1.1 in cc) | inr read ↦ absurd (omega (arith, read.0)) ]
 
 one_look_at_none : AreLooks [] (first_calls []) Blank 1

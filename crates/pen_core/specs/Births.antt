@@ -84,19 +84,19 @@ abbrev pub EndsAt : List DiskFault → DiskFault → ℕ → Type 0
 EndsAt calls cause n = (0 < n) × (slice_get calls (n - 1) ≡ Some cause)
 
 -- a file is told by the length where it is longer than an empty one, and else by the first byte
-abbrev pub IsTold : List ℕ → List DiskFault → ℕ → Type 0
-IsTold bytes calls n = ((12 < length bytes) × EndsAt calls causes.Length n) ⊎ ((length bytes ≤ 12) × EndsAt calls causes.Read n)
+abbrev pub IsFoundOut : List ℕ → List DiskFault → ℕ → Type 0
+IsFoundOut bytes calls n = ((12 < length bytes) × EndsAt calls causes.Length n) ⊎ ((length bytes ≤ 12) × EndsAt calls causes.Read n)
 
 -- so many were made where this is found of what the disk holds
 abbrev pub AreLooks : List ℕ → List DiskFault → Contents → ℕ → Type 0
-AreLooks bytes calls File n = IsTold bytes calls n
+AreLooks bytes calls File n = IsFoundOut bytes calls n
 AreLooks bytes calls Blank n = n ≡ 1
 AreLooks bytes calls Closed n = n ≡ 2
 
 -- and where creation answers this
 abbrev pub AreCallsUntil : List ℕ → List DiskFault → PenFault → ℕ → Type 0
 AreCallsUntil bytes calls (Disk cause) n = EndsAt calls cause n
-AreCallsUntil bytes calls Exists n = IsTold bytes calls n
+AreCallsUntil bytes calls Exists n = IsFoundOut bytes calls n
 AreCallsUntil bytes calls Memory n = n ≡ 0
 AreCallsUntil bytes calls Broken n = ⊥
 AreCallsUntil bytes calls Busy n = ⊥

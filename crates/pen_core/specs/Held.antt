@@ -4,7 +4,7 @@ use Rattle.segment_core.specs.declared.format.Shape.{Shape}
 use Rattle.segment_core.specs.declared.tally.Tally.{Tally}
 use Rattle.segment_core.specs.Frame.{Frame, header, text}
 use Rattle.segment_core.specs.Tally.{nothing, tally_of}
-use Rattle.segment_core.specs.Image.{Begins}
+use Rattle.segment_core.specs.Image.{BeginsImage}
 use Rattle.segment_core.specs.Vector.{HasVector, IsVectorOf, last_from, change_in, home_of}
 use Rattle.segment_core.specs.Blanked.{all_blanked}
 use Rattle.segment_core.specs.Raw.{raw}
@@ -19,7 +19,7 @@ pub record Opens (shape : Shape) (frames : List Frame) (vector : List (List ℕ)
 pub record Holds (shape : Shape) (frames : List Frame) (vector : List (List ℕ)) (bytes : List ℕ) : Type 0 where
   pub found : List Frame
   pub alike : all_blanked found ≡ frames
-  pub begins : Begins shape bytes found
+  pub begins : BeginsImage shape bytes found
   pub read : IsVectorOf shape.format (raw shape.width) bytes found vector
 
 -- the place of the gate behind these frames

@@ -304,7 +304,7 @@ pub record IsUnchanged {D : Type 0} (old new : PenOf D) : Type 0 where
   pub gate_same : new.gate ≡ old.gate
 
 -- A job is in hand, and nothing else has changed but the memory for it.
-pub record Begins {D : Type 0} (frame : Frame) (old new : PenOf D) : Type 0 where
+pub record BeginsFrame {D : Type 0} (frame : Frame) (old new : PenOf D) : Type 0 where
   pub job_is : new.job ≡ Some (record { frame = frame; step = steps.Body })
   pub disk_same : new.disk ≡ old.disk
   pub file_same : FileSame old new

@@ -3,7 +3,7 @@
 ghost use Rattle.std.specs.Prelude.{◌≡◌, ◌≤◌, ◌<◌, ◌^◌, None, Some, true, false, take, OnOk, OnErr, IfErr};
 ghost use Rattle.std.specs.Option.{is_some};
 ghost use Rattle.segment_core.specs.Frame.{Shrink};
-ghost use Rattle.pen_core.specs.Pen.{Begins, IsKept, IsUnchanged, vector_after};
+ghost use Rattle.pen_core.specs.Pen.{BeginsFrame, IsKept, IsUnchanged, vector_after};
 ghost use Rattle.pen_core.specs.Refusals as refusals;
 ghost use Rattle.pen_core.specs.Refusals.{first_refusal, IsRefusal, ready_lines, shrink_lines};
 
@@ -58,12 +58,12 @@ impl<D: Disk> Pen<D> {
             || self.gate + (HEAD_LEN + payload) as u64 + self.fold.frame_len() >= GATE_LIMIT
     }
 
-    /// Begins to shrink the vector to its first `n` records.
+    /// BeginsFrame to shrink the vector to its first `n` records.
     ///
     /// Refused, in this order: `Broken`; `Busy`; `OutOfRange`, where it has fewer; `Unfolded`, while a change is live;
     /// `FileFull`; `Memory`.
     pub fn begin_shrink(&mut self, n: u64) -> Result<(), PenFault>
-        ensures begun { OnOk result (Begins (Shrink n) self.old self.new) }
+        ensures begun { OnOk result (BeginsFrame (Shrink n) self.old self.new) }
         ensures vector { OnOk result (vector_after self.new ≡ take n self.old.vector) }
         ensures allowed { OnOk result (first_refusal (shrink_lines self.old n) ≡ None) }
         ensures refused { IfErr result (λ fault. IsRefusal (shrink_lines self.old n) fault) }

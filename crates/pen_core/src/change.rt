@@ -9,7 +9,7 @@ ghost use Rattle.segment_core.specs.Command.{replaced};
 ghost use Rattle.segment_core.specs.Written.{joined};
 ghost use Rattle.segment_core.specs.Runs.{runs_given, change_len, change_frame};
 ghost use Rattle.segment_core.specs.Tally.{are_ascending, are_inside};
-ghost use Rattle.pen_core.specs.Pen.{Begins, IsKept, IsUnchanged, vector_after};
+ghost use Rattle.pen_core.specs.Pen.{BeginsFrame, IsKept, IsUnchanged, vector_after};
 ghost use Rattle.pen_core.specs.Refusals.{first_refusal, IsRefusal, change_lines, one_run, room_for, IsReadied};
 
 use crate::fault::PenFault;
@@ -137,7 +137,7 @@ impl<D: Disk> Pen<D> {
         self.ready_runs(&[(start, count)])
     }
 
-    /// Begins to change the records of runs of positions, by start and count, to those that the pieces lend, in order,
+    /// BeginsFrame to change the records of runs of positions, by start and count, to those that the pieces lend, in order,
     /// each piece as one slice. At least one run; the pieces have as many records as the runs.
     ///
     /// Refused as `ready_runs` is, in the same order. Directly after that of the same runs it isn't refused.
@@ -149,7 +149,7 @@ impl<D: Disk> Pen<D> {
         requires width { R.form.width ≡ self.old.shape.width }
         requires some { 0 < length runs.now }
         requires filled { length (joined (G.growths pieces.now)) ≡ records_of_runs (runs_given runs.now) }
-        ensures begun { OnOk result (Begins (change_frame R.form (runs_given runs.now) (G.growths pieces.now)) self.old self.new) }
+        ensures begun { OnOk result (BeginsFrame (change_frame R.form (runs_given runs.now) (G.growths pieces.now)) self.old self.new) }
         ensures next { (records : List R) → AreCellsOf R.form self.old.vector records
             → OnOk result (AreCellsOf R.form (vector_after self.new) (replaced records (runs_given runs.now) (joined (G.growths pieces.now)))) }
         ensures allowed { OnOk result (first_refusal (change_lines self.old (runs_given runs.now)) ≡ None) }
@@ -174,7 +174,7 @@ impl<D: Disk> Pen<D> {
         Ok(())
     }
 
-    /// Begins to change the records of runs. `begin_runs_from` says more.
+    /// BeginsFrame to change the records of runs. `begin_runs_from` says more.
     pub fn begin_runs<R: Record>(
         &mut self,
         runs: &[(u64, u64)],
@@ -183,7 +183,7 @@ impl<D: Disk> Pen<D> {
         requires width { R.form.width ≡ self.old.shape.width }
         requires some { 0 < length runs.now }
         requires filled { length (joined (map (λ piece. piece.now) pieces.now)) ≡ records_of_runs (runs_given runs.now) }
-        ensures begun { OnOk result (Begins (change_frame R.form (runs_given runs.now) (map (λ piece. piece.now) pieces.now)) self.old self.new) }
+        ensures begun { OnOk result (BeginsFrame (change_frame R.form (runs_given runs.now) (map (λ piece. piece.now) pieces.now)) self.old self.new) }
         ensures next { (records : List R) → AreCellsOf R.form self.old.vector records
             → OnOk result (AreCellsOf R.form (vector_after self.new) (replaced records (runs_given runs.now) (joined (map (λ piece. piece.now) pieces.now)))) }
         ensures allowed { OnOk result (first_refusal (change_lines self.old (runs_given runs.now)) ≡ None) }
@@ -195,12 +195,12 @@ impl<D: Disk> Pen<D> {
         self.begin_runs_from::<R, &[&[R]]>(runs, &pieces)
     }
 
-    /// Begins to change the records from `start` on to those of the pieces, at least one. Directly after `ready_change`
+    /// BeginsFrame to change the records from `start` on to those of the pieces, at least one. Directly after `ready_change`
     /// of the same start and count it isn't refused. `begin_runs_from` says more.
     pub fn begin_change<R: Record>(&mut self, start: u64, pieces: &[&[R]]) -> Result<(), PenFault>
         requires width { R.form.width ≡ self.old.shape.width }
         requires some { 0 < length (joined (map (λ piece. piece.now) pieces.now)) }
-        ensures begun { OnOk result (Begins (change_frame R.form (one_run start (length (joined (map (λ piece. piece.now) pieces.now)))) (map (λ piece. piece.now) pieces.now)) self.old self.new) }
+        ensures begun { OnOk result (BeginsFrame (change_frame R.form (one_run start (length (joined (map (λ piece. piece.now) pieces.now)))) (map (λ piece. piece.now) pieces.now)) self.old self.new) }
         ensures next { (records : List R) → AreCellsOf R.form self.old.vector records
             → OnOk result (AreCellsOf R.form (vector_after self.new) (replaced records (one_run start (length (joined (map (λ piece. piece.now) pieces.now)))) (joined (map (λ piece. piece.now) pieces.now)))) }
         ensures allowed { OnOk result (first_refusal (change_lines self.old (one_run start (length (joined (map (λ piece. piece.now) pieces.now))))) ≡ None) }

@@ -4,7 +4,7 @@ ghost use Rattle.std.specs.Prelude.{◌≡◌, ◌≤◌, ◌<◌, ◌^◌, ◌+
 ghost use Rattle.std.specs.List.{AllByRecursion};
 ghost use Rattle.segment_core.specs.Raw.{AreCellsOf};
 ghost use Rattle.segment_core.specs.Written.{group_frame, joined, payload_len};
-ghost use Rattle.pen_core.specs.Pen.{Begins, IsKept, IsUnchanged, vector_after};
+ghost use Rattle.pen_core.specs.Pen.{BeginsFrame, IsKept, IsUnchanged, vector_after};
 ghost use Rattle.pen_core.specs.Refusals.{first_refusal, IsRefusal, group_lines};
 
 use crate::fault::PenFault;
@@ -57,7 +57,7 @@ impl<D: Disk> Pen<D> {
         Ok(())
     }
 
-    /// Begins to commit growths as one group, of which each lends its records as one slice.
+    /// BeginsFrame to commit growths as one group, of which each lends its records as one slice.
     ///
     /// Refused, in this order: `Broken`; `Busy`; `OutOfRange`, where the vector would have more than 2^32 records;
     /// `TooLarge`, past the limit of the format's payloads; `FileFull`; `Memory`.
@@ -68,7 +68,7 @@ impl<D: Disk> Pen<D> {
         requires width { R.form.width ≡ self.old.shape.width }
         requires some { 0 < length (G.growths growths.now) }
         requires each { AllByRecursion (λ growth. 0 < length growth) (G.growths growths.now) }
-        ensures begun { OnOk result (Begins (group_frame R.form (G.growths growths.now)) self.old self.new) }
+        ensures begun { OnOk result (BeginsFrame (group_frame R.form (G.growths growths.now)) self.old self.new) }
         ensures next { (records : List R) → AreCellsOf R.form self.old.vector records
             → OnOk result (AreCellsOf R.form (vector_after self.new) (records ++ joined (G.growths growths.now))) }
         ensures allowed { OnOk result (first_refusal (group_lines self.old (length (joined (G.growths growths.now))) (payload_len R.form.width (G.growths growths.now))) ≡ None) }
@@ -114,12 +114,12 @@ impl<D: Disk> Pen<D> {
         Ok(())
     }
 
-    /// Begins to commit growths as one group: at least one, and none empty. `begin_growths` says more.
+    /// BeginsFrame to commit growths as one group: at least one, and none empty. `begin_growths` says more.
     pub fn begin_group<R: Record>(&mut self, growths: &[&[R]]) -> Result<(), PenFault>
         requires width { R.form.width ≡ self.old.shape.width }
         requires some { 0 < length growths.now }
         requires each { AllByRecursion (λ growth. 0 < length growth) (map (λ growth. growth.now) growths.now) }
-        ensures begun { OnOk result (Begins (group_frame R.form (map (λ growth. growth.now) growths.now)) self.old self.new) }
+        ensures begun { OnOk result (BeginsFrame (group_frame R.form (map (λ growth. growth.now) growths.now)) self.old self.new) }
         ensures next { (records : List R) → AreCellsOf R.form self.old.vector records
             → OnOk result (AreCellsOf R.form (vector_after self.new) (records ++ joined (map (λ growth. growth.now) growths.now))) }
         ensures allowed { OnOk result (first_refusal (group_lines self.old (length (joined (map (λ growth. growth.now) growths.now))) (payload_len R.form.width (map (λ growth. growth.now) growths.now))) ≡ None) }

@@ -12,8 +12,6 @@ mod frame_bytes;
 mod group;
 mod home;
 mod home_runs;
-#[cfg(test)]
-mod noting;
 mod open;
 mod pen;
 mod settle;
@@ -24,6 +22,3 @@ mod values;
 pub use fault::{OpenFault, PenFault};
 pub use pen::Pen;
 pub use stage::{FoldStage, HomeTicked, Stage, Ticked};
-
-#[cfg(test)]
-mod tests;

@@ -204,6 +204,3 @@ impl<D: Disk> Pen<D> {
         }
     }
 }
-
-#[cfg(test)]
-mod tests;

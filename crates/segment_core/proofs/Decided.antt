@@ -17,7 +17,7 @@ use Rattle.segment_core.specs.declared.vector.Scanned.{Scanned}
 use Rattle.segment_core.specs.Shape.{version_of, shape_of, format_in}
 use Rattle.segment_core.specs.Frame.{Frame, header, frame_text, text}
 use Rattle.segment_core.specs.Tally.{nothing, after, tally_of, AreLegalFrom}
-use Rattle.segment_core.specs.Image.{Begins, HasFrames, IsLongest}
+use Rattle.segment_core.specs.Image.{BeginsImage, HasFrames, IsLongest}
 use Rattle.segment_core.specs.Vector.{place_of, record_in, record_at, IsVectorOf, HasVector}
 use Rattle.segment_core.specs.Fault.{header_fault, IsSound, frame_fault, IsBadRecord, EndsWith, IsFrameFault, IsFirstFault, IsRefused, damaged}
 use Rattle.segment_core.specs.Scanned.{IsScanOf}
@@ -198,7 +198,7 @@ scan_again {R} format form frames image other scanned small says scan = record {
     read = subst (λ fs. IsVectorOf format form image fs scanned.records.items) same here.read
 
 -- bytes behind the frames say nothing of a position
-record_more : {R : Type 0} (format : Format) (form : Encoding R) (frames : List Frame) (image more : List ℕ) → Begins (shape_of format form) image frames → (i : ℕ) → record_at format form (image ++ more) frames i ≡ record_at format form image frames i
+record_more : {R : Type 0} (format : Format) (form : Encoding R) (frames : List Frame) (image more : List ℕ) → BeginsImage (shape_of format form) image frames → (i : ℕ) → record_at format form (image ++ more) frames i ≡ record_at format form image frames i
 record_more format form frames image more begins i = by_place (place_of shape frames i) refl
   where
     shape : Shape

@@ -9,11 +9,11 @@ use Rattle.segment_core.specs.declared.tally.Tally.{Tally}
 use Rattle.segment_core.specs.Shape.{shape_of}
 use Rattle.segment_core.specs.Frame.{Frame, Group, Change, Shrink, Fold, text}
 use Rattle.segment_core.specs.Tally.{nothing, after, tally_of, AreLegal}
-use Rattle.segment_core.specs.Image.{Begins}
+use Rattle.segment_core.specs.Image.{BeginsImage}
 use Rattle.segment_core.specs.Vector.{home_in, change_in, home_of, change_of, record_in, IsVectorOf}
 use Rattle.segment_core.specs.Folding.{HomesHold}
 use Rattle.segment_core.specs.Blanked.{all_blanked}
-use Rattle.segment_core.proofs.Push.{tally_from_push, Begins_before}
+use Rattle.segment_core.proofs.Push.{tally_from_push, BeginsImage_before}
 use Rattle.segment_core.proofs.LastFrom.{both_none, place_is, home_push, change_push}
 use Rattle.segment_core.proofs.PlaceAmong.{place_among_below}
 use Rattle.segment_core.proofs.PlaceOf.{live_inside, change_in_past}
@@ -59,11 +59,11 @@ module _ {R : Type 0} (format : Format) (form : Encoding R) (image held : List �
       sym (read.each i (omega arith)) ∙ ap (option_and_then (record_in form image)) where_is
 
   -- a Group, or a Change that the fold's count doesn't reach
-  pub HomesHold_push : (frame : Frame) → Begins shape image (frames ++ frame ∷ []) → Appends frame → tally.folded ≤ count → count ≤ tally.changes
+  pub HomesHold_push : (frame : Frame) → BeginsImage shape image (frames ++ frame ∷ []) → Appends frame → tally.folded ≤ count → count ≤ tally.changes
       → IsVectorOf format form image frames records → IsVectorOf format form image (frames ++ frame ∷ []) after_records → HomesHold format form held frames count records → HomesHold format form held (frames ++ frame ∷ []) count after_records
   HomesHold_push frame begins appends from upto read read' hold i covered since =
       let gate : ℕ = length (text shape frames) in
-      let legal = (Begins_before shape image frames frame begins).legal in
+      let legal = (BeginsImage_before shape image frames frame begins).legal in
       let same : (tally_of (frames ++ frame ∷ [])).folded ≡ tally.folded = ap (λ t. t.folded) (tally_from_push nothing frames frame) ∙ same_count tally frame appends in
       let none = both_none (change_in shape count i gate tally frame) (change_of shape count frames i) (sym (change_push shape count frames frame i) ∙ since) in
       let still : change_of shape (tally_of (frames ++ frame ∷ [])).folded (frames ++ frame ∷ []) i ≡ change_of shape tally.folded frames i =

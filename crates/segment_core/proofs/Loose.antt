@@ -9,7 +9,7 @@ use Rattle.segment_core.specs.declared.format.Shape.{Shape}
 use Rattle.segment_core.specs.Shape.{shape_of}
 use Rattle.segment_core.specs.Frame.{Frame, header, frame_text, text}
 use Rattle.segment_core.specs.Tally.{nothing, tally_of, AreLegal}
-use Rattle.segment_core.specs.Image.{Begins}
+use Rattle.segment_core.specs.Image.{BeginsImage}
 use Rattle.segment_core.specs.Vector.{change_of, place_of, record_in, record_at, IsVectorOf}
 use Rattle.segment_core.specs.Folding.{IsLoose}
 use Rattle.segment_core.specs.Blanked.{all_blanked}
@@ -48,10 +48,10 @@ pub record AgreesButLoose (shape : Shape) (frames : List Frame) (image other : L
 pub record SaysAgain {R : Type 0} (format : Format) (form : Encoding R) (other : List ℕ) (frames : List Frame) (records : List R) : Type 0 where
   pub others : List Frame
   pub alike : all_blanked others ≡ all_blanked frames
-  pub begins : Begins (shape_of format form) other others
+  pub begins : BeginsImage (shape_of format form) other others
   pub read : IsVectorOf format form other others records
 
-module _ {R : Type 0} (format : Format) (form : Encoding R) (image other : List ℕ) (frames : List Frame) (records : List R) (begins : Begins (shape_of format form) image frames) (same : AgreesButLoose (shape_of format form) frames image other) where
+module _ {R : Type 0} (format : Format) (form : Encoding R) (image other : List ℕ) (frames : List Frame) (records : List R) (begins : BeginsImage (shape_of format form) image frames) (same : AgreesButLoose (shape_of format form) frames image other) where
   abbrev shape : Shape
   shape = shape_of format form
 

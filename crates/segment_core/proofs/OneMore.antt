@@ -16,14 +16,14 @@ use Rattle.segment_core.specs.Shape.{shape_of}
 use Rattle.segment_core.specs.Frame.{Run, Frame, Group, Change, Shrink, Fold, runs_len, records_of_runs, text}
 use Rattle.segment_core.specs.Layout.{IsFrame}
 use Rattle.segment_core.specs.Tally.{nothing, after, tally_of, are_inside, MayFollow, AreLegal}
-use Rattle.segment_core.specs.Image.{Begins}
+use Rattle.segment_core.specs.Image.{BeginsImage}
 use Rattle.segment_core.specs.Vector.{place_in_runs, home_in, home_of, change_of, place_of, record_in, record_at, IsVectorOf}
 use Rattle.segment_core.specs.Command.{Command, replaced, after_command}
 use Rattle.segment_core.specs.Command as commands
 use Rattle.segment_core.specs.CommandFrame.{IsFrameOf}
 use Rattle.segment_core.specs.Reading.{record_bytes_of, record_count, head_len}
 use Rattle.segment_core.specs.Folding.{HomesHold}
-use Rattle.segment_core.proofs.Push.{tally_from_push, AreLegalFrom_last, Begins_behind, Begins_before}
+use Rattle.segment_core.proofs.Push.{tally_from_push, AreLegalFrom_last, BeginsImage_behind, BeginsImage_before}
 use Rattle.segment_core.proofs.FrameParts.{front_text, length-front_text, frame_parts, records_filled}
 use Rattle.segment_core.proofs.LastFrom.{none_or, place_is, place_of_push}
 use Rattle.segment_core.proofs.PlaceAmong.{place_among_inside, place_among_below}
@@ -59,7 +59,7 @@ as_many form bytes records n wide are filled = elim (cases_lt (length records) n
 ]
 
 -- What frames say stands in their text: it is the same in each image that begins with it.
-pub IsVectorOf_begins : {R : Type 0} (format : Format) (form : Encoding R) (image other : List ℕ) (frames : List Frame) (records : List R) → Begins (shape_of format form) image frames → Begins (shape_of format form) other frames → IsVectorOf format form image frames records
+pub IsVectorOf_begins : {R : Type 0} (format : Format) (form : Encoding R) (image other : List ℕ) (frames : List Frame) (records : List R) → BeginsImage (shape_of format form) image frames → BeginsImage (shape_of format form) other frames → IsVectorOf format form image frames records
     → IsVectorOf format form other frames records
 IsVectorOf_begins {R} format form image other frames records begins begins' read = record { size = read.size; each = λ i lt. sym (same i (place_of shape frames i) refl) ∙ read.each i lt }
   where
@@ -86,9 +86,9 @@ module _ {R : Type 0} (format : Format) (form : Encoding R) (image : List ℕ) (
   abbrev gate : ℕ
   gate = length (text shape frames)
 
-  module _ (frame : Frame) (begins : Begins shape image (frames ++ frame ∷ [])) where
+  module _ (frame : Frame) (begins : BeginsImage shape image (frames ++ frame ∷ [])) where
     legal : AreLegal shape frames
-    legal = (Begins_before shape image frames frame begins).legal
+    legal = (BeginsImage_before shape image frames frame begins).legal
 
     whole : IsFrame shape frame
     whole = (AreLegalFrom_last shape nothing frames frame begins.legal).0
@@ -107,7 +107,7 @@ module _ {R : Type 0} (format : Format) (form : Encoding R) (image : List ℕ) (
     told : (new : List R) (i j : ℕ) → AreRecords form (record_bytes_of frame) new → j < length new → place_of shape (frames ++ frame ∷ []) i ≡ Some (gate + (6 + head_len format frame) + j * form.width)
         → record_at format form image (frames ++ frame ∷ []) i ≡ slice_get new j
     told new i j are lt place =
-        let behind = Begins_behind shape image frames frame begins in
+        let behind = BeginsImage_behind shape image frames frame begins in
         let rest : List ℕ = behind.0 in
         let front : List ℕ = front_text format frame in
         let bytes : List ℕ = record_bytes_of frame in
@@ -122,7 +122,7 @@ module _ {R : Type 0} (format : Format) (form : Encoding R) (image : List ℕ) (
     counted new are = as_many form (record_bytes_of frame) new (record_count frame) whole.wide are (records_filled shape frame whole.layout)
 
   -- a Group appends its records
-  pub IsVectorOf_group : (lengths bytes : List ℕ) (new : List R) → Begins shape image (frames ++ Group lengths bytes ∷ []) → AreRecords form bytes new → IsVectorOf format form image (frames ++ Group lengths bytes ∷ []) (records ++ new)
+  pub IsVectorOf_group : (lengths bytes : List ℕ) (new : List R) → BeginsImage shape image (frames ++ Group lengths bytes ∷ []) → AreRecords form bytes new → IsVectorOf format form image (frames ++ Group lengths bytes ∷ []) (records ++ new)
   IsVectorOf_group lengths bytes new begins are = record { size = omega (arith, length-append records new, many, read.size, sized frame begins); each = at }
     where
       frame : Frame
@@ -149,7 +149,7 @@ module _ {R : Type 0} (format : Format) (form : Encoding R) (image : List ℕ) (
       ]
 
   -- a Change replaces the records of its runs
-  pub IsVectorOf_change : (runs : List Run) (bytes : List ℕ) (new : List R) → Begins shape image (frames ++ Change runs bytes ∷ []) → AreRecords form bytes new → IsVectorOf format form image (frames ++ Change runs bytes ∷ []) (replaced records runs new)
+  pub IsVectorOf_change : (runs : List Run) (bytes : List ℕ) (new : List R) → BeginsImage shape image (frames ++ Change runs bytes ∷ []) → AreRecords form bytes new → IsVectorOf format form image (frames ++ Change runs bytes ∷ []) (replaced records runs new)
   IsVectorOf_change runs bytes new begins are = record { size = long ∙ read.size ∙ sym (sized frame begins); each = λ i lt. at i (omega (arith, long, read.size)) (place_in_runs shape.width i from runs) refl }
     where
       frame : Frame
@@ -180,7 +180,7 @@ module _ {R : Type 0} (format : Format) (form : Encoding R) (image : List ℕ) (
           told frame begins new i n.index are n.inside (said i (Some place) is ∙ ap (λ p. Some p) where_is) ∙ sym n.same
 
   -- a Shrink keeps the first records
-  pub IsVectorOf_shrink : (n : ℕ) → Begins shape image (frames ++ Shrink n ∷ []) → IsVectorOf format form image (frames ++ Shrink n ∷ []) (take n records)
+  pub IsVectorOf_shrink : (n : ℕ) → BeginsImage shape image (frames ++ Shrink n ∷ []) → IsVectorOf format form image (frames ++ Shrink n ∷ []) (take n records)
   IsVectorOf_shrink n begins =
       let frame : Frame = Shrink n in
       let le = ltb-false tally.size n ((may frame begins).inside) in
@@ -190,7 +190,7 @@ module _ {R : Type 0} (format : Format) (form : Encoding R) (image : List ℕ) (
       }
 
   -- a Fold keeps the vector, where homes hold the records of the changes that it counts
-  pub IsVectorOf_fold : (count : ℕ) → Begins shape image (frames ++ Fold count ∷ []) → HomesHold format form image frames count records → IsVectorOf format form image (frames ++ Fold count ∷ []) records
+  pub IsVectorOf_fold : (count : ℕ) → BeginsImage shape image (frames ++ Fold count ∷ []) → HomesHold format form image frames count records → IsVectorOf format form image (frames ++ Fold count ∷ []) records
   IsVectorOf_fold count begins hold = record { size = read.size ∙ sym (sized frame begins); each = λ i lt. at i (omega (arith, read.size)) (change_of shape count frames i) refl (change_of shape tally.folded frames i) refl }
     where
       frame : Frame
@@ -210,13 +210,13 @@ module _ {R : Type 0} (format : Format) (form : Encoding R) (image : List ℕ) (
       at i lt None is (Some place) covered = ap (option_and_then (record_in form image)) (said i None is) ∙ hold i (subst (λ (o : Option ℕ). IsSome o) (sym covered) refl) is
 
   -- the frame of a command makes of the vector what the command does
-  pub IsVectorOf_command : (command : Command R) (frame : Frame) → IsFrameOf form command frame → Begins shape image (frames ++ frame ∷ []) → IsVectorOf format form image (frames ++ frame ∷ []) (after_command records command)
+  pub IsVectorOf_command : (command : Command R) (frame : Frame) → IsFrameOf form command frame → BeginsImage shape image (frames ++ frame ∷ []) → IsVectorOf format form image (frames ++ frame ∷ []) (after_command records command)
   IsVectorOf_command (commands.Grow new) frame is begins =
-      let begins' = subst (λ f. Begins shape image (frames ++ f ∷ [])) is.2 begins in
+      let begins' = subst (λ f. BeginsImage shape image (frames ++ f ∷ [])) is.2 begins in
       subst (λ f. IsVectorOf format form image (frames ++ f ∷ []) (records ++ new)) (sym is.2) (IsVectorOf_group is.0 is.1 new begins' is.3)
   IsVectorOf_command (commands.Shrink n) frame is begins =
-      let begins' = subst (λ f. Begins shape image (frames ++ f ∷ [])) is begins in
+      let begins' = subst (λ f. BeginsImage shape image (frames ++ f ∷ [])) is begins in
       subst (λ f. IsVectorOf format form image (frames ++ f ∷ []) (take n records)) (sym is) (IsVectorOf_shrink n begins')
   IsVectorOf_command (commands.Change runs new) frame is begins =
-      let begins' = subst (λ f. Begins shape image (frames ++ f ∷ [])) is.1 begins in
+      let begins' = subst (λ f. BeginsImage shape image (frames ++ f ∷ [])) is.1 begins in
       subst (λ f. IsVectorOf format form image (frames ++ f ∷ []) (replaced records runs new)) (sym is.1) (IsVectorOf_change runs is.0 new begins' is.2)

@@ -10,10 +10,10 @@ use Rattle.segment_core.specs.declared.format.Shape.{Shape}
 use Rattle.segment_core.specs.Shape.{shape_of}
 use Rattle.segment_core.specs.Frame.{Frame, Group, Change, Fold, text}
 use Rattle.segment_core.specs.Tally.{AreLegal}
-use Rattle.segment_core.specs.Image.{Begins}
+use Rattle.segment_core.specs.Image.{BeginsImage}
 use Rattle.segment_core.specs.Vector.{change_of, place_of, record_at, IsVectorOf}
 use Rattle.segment_core.specs.Folding.{home_record_at, HomesHold}
-use Rattle.segment_core.proofs.Push.{Begins_before}
+use Rattle.segment_core.proofs.Push.{BeginsImage_before}
 use Rattle.segment_core.proofs.PlaceOf.{live_inside}
 use Rattle.segment_core.proofs.OneMore.{IsVectorOf_change, IsVectorOf_fold}
 
@@ -62,7 +62,7 @@ changed_vector = IsVectorOf_change One numbers changed_file grown (5 ∷ []) gro
 written_legal : AreLegal shape (written ++ Fold 1 ∷ [])
 written_legal = (record { wide = omega arith; small = omega arith; layout = (omega arith, ((omega arith, omega arith), tt), refl) }, record { ordered = refl; inside = refl; folded = refl; counted = refl; short = refl }, (record { wide = omega arith; small = omega arith; layout = (refl, ((omega arith, (omega arith, omega arith)), tt), refl) }, record { ordered = refl; inside = refl; folded = refl; counted = refl; short = refl }, (record { wide = omega arith; small = omega arith; layout = omega arith }, record { ordered = refl; inside = refl; folded = refl; counted = refl; short = refl }, tt)))
 
-written_begins : Begins shape folded_file (written ++ Fold 1 ∷ [])
+written_begins : BeginsImage shape folded_file (written ++ Fold 1 ∷ [])
 written_begins = record { legal = written_legal; begins = (0 ∷ [], refl) }
 
 written_vector : IsVectorOf One numbers folded_file written (7 ∷ [])
@@ -82,7 +82,7 @@ written_home i covered since = at (change_of shape 0 written i) i refl covered
 
     at : (o : Option ℕ) (i : ℕ) → change_of shape 0 written i ≡ o → IsSome (change_of shape 0 written i) → home_record_at One numbers folded_file written i ≡ slice_get (7 ∷ []) i
     at None i is some = let none = subst (λ (o : Option ℕ). IsSome o) is some in absurd cc
-    at (Some place) i is some = told i (live_inside shape written i place ((Begins_before shape folded_file written (Fold 1) written_begins).legal) is)
+    at (Some place) i is some = told i (live_inside shape written i place ((BeginsImage_before shape folded_file written (Fold 1) written_begins).legal) is)
 
 folded_vector : IsVectorOf One numbers folded_file (written ++ Fold 1 ∷ []) (7 ∷ [])
 folded_vector = IsVectorOf_fold One numbers folded_file written (7 ∷ []) written_vector 1 written_begins written_home

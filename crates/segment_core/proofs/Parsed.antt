@@ -10,7 +10,7 @@ use Rattle.segment_core.specs.declared.tally.Tally.{Tally}
 use Rattle.segment_core.specs.Shape.{shape_of}
 use Rattle.segment_core.specs.Frame.{Frame, header, frame_text, text}
 use Rattle.segment_core.specs.Tally.{nothing, after, tally_of, AreLegalFrom}
-use Rattle.segment_core.specs.Image.{Begins}
+use Rattle.segment_core.specs.Image.{BeginsImage}
 use Rattle.segment_core.specs.Vector.{place_of, record_in, IsVectorOf}
 use Rattle.segment_core.specs.Fault.{payload_len_in}
 use Rattle.segment_core.specs.Raw.{raw}
@@ -35,7 +35,7 @@ frames_from-text shape tally (frame ∷ frames) (suc n) legal enough =
     ap (λ f. f ∷ frames_from shape n (drop (6 + payload_len_in (here ++ rest)) (here ++ rest))) first
     ∙ ap (λ (fs : List Frame). frame ∷ fs) (ap (frames_from shape n) behind ∙ frames_from-text shape (after tally frame) frames n legal.2 (omega arith))
 
-pub frames_before-text : (shape : Shape) (image : List ℕ) (frames : List Frame) → Begins shape image frames → frames_before shape (length (text shape frames)) image ≡ frames
+pub frames_before-text : (shape : Shape) (image : List ℕ) (frames : List Frame) → BeginsImage shape image frames → frames_before shape (length (text shape frames)) image ≡ frames
 unfolding frames_before
 frames_before-text shape image frames begins =
     let gate : ℕ = length (text shape frames) in
@@ -60,7 +60,7 @@ cells_from-drop format width (suc n) frames image cells i read is =
     let more : cells_from shape n frames image (suc i) ≡ drop (i + 1) cells = cells_from-drop format width n frames image cells (suc i) read (omega arith) ∙ ap (λ k. drop k cells) next in
     ap (λ c. c ∷ cells_from shape n frames image (suc i)) one ∙ ap (λ (cs : List (List ℕ)). get_or cells i [] ∷ cs) more ∙ sym (drop_more cells i [] lt)
 
-pub vector_before-text : (format : Format) (width : ℕ) (image : List ℕ) (frames : List Frame) (cells : List (List ℕ)) → Begins (shape_of format (raw width)) image frames → IsVectorOf format (raw width) image frames cells
+pub vector_before-text : (format : Format) (width : ℕ) (image : List ℕ) (frames : List Frame) (cells : List (List ℕ)) → BeginsImage (shape_of format (raw width)) image frames → IsVectorOf format (raw width) image frames cells
     → vector_before (shape_of format (raw width)) (length (text (shape_of format (raw width)) frames)) image ≡ cells
 unfolding vector_before
 vector_before-text format width image frames cells begins read =

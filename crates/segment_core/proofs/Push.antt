@@ -8,7 +8,7 @@ use Rattle.segment_core.specs.declared.tally.Tally.{Tally}
 use Rattle.segment_core.specs.Frame.{Frame, header, frame_text, text}
 use Rattle.segment_core.specs.Layout.{IsFrame}
 use Rattle.segment_core.specs.Tally.{nothing, after, tally_from, tally_of, MayFollow, AreLegalFrom, AreLegal}
-use Rattle.segment_core.specs.Image.{Begins, HasFrames}
+use Rattle.segment_core.specs.Image.{BeginsImage, HasFrames}
 
 pub text_push : (shape : Shape) (frames : List Frame) (frame : Frame) → text shape (frames ++ frame ∷ []) ≡ text shape frames ++ frame_text shape.format frame
 text_push shape frames frame = sym (flat_map_more (frame_text shape.format) (header shape) frames frame)
@@ -38,28 +38,28 @@ AreLegalFrom_last shape tally (first ∷ frames) frame legal = AreLegalFrom_last
 -- ---- an image that begins with them
 
 pub Begins_push : (shape : Shape) (image : List ℕ) (frames : List Frame) (frame : Frame) (rest : List ℕ) → AreLegal shape frames → IsFrame shape frame → MayFollow (tally_of frames) frame → image ≡ text shape frames ++ (frame_text shape.format frame ++ rest)
-    → Begins shape image (frames ++ frame ∷ [])
+    → BeginsImage shape image (frames ++ frame ∷ [])
 Begins_push shape image frames frame rest legal whole may is = record {
   legal = AreLegalFrom_push shape nothing frames frame legal whole may;
   begins = (rest, is ∙ sym (append_assoc (text shape frames) (frame_text shape.format frame) rest) ∙ ap (λ (bs : List ℕ). bs ++ rest) (sym (text_push shape frames frame)));
 }
 
-pub Begins_behind : (shape : Shape) (image : List ℕ) (frames : List Frame) (frame : Frame) → Begins shape image (frames ++ frame ∷ []) → (rest : List ℕ) × (image ≡ text shape frames ++ (frame_text shape.format frame ++ rest))
-Begins_behind shape image frames frame begins =
+pub BeginsImage_behind : (shape : Shape) (image : List ℕ) (frames : List Frame) (frame : Frame) → BeginsImage shape image (frames ++ frame ∷ []) → (rest : List ℕ) × (image ≡ text shape frames ++ (frame_text shape.format frame ++ rest))
+BeginsImage_behind shape image frames frame begins =
     let rest : List ℕ = begins.begins.0 in
     (rest, begins.begins.1 ∙ ap (λ (bs : List ℕ). bs ++ rest) (text_push shape frames frame) ∙ append_assoc (text shape frames) (frame_text shape.format frame) rest)
 
-pub Begins_before : (shape : Shape) (image : List ℕ) (frames : List Frame) (frame : Frame) → Begins shape image (frames ++ frame ∷ []) → Begins shape image frames
-Begins_before shape image frames frame begins =
-    let behind = Begins_behind shape image frames frame begins in
+pub BeginsImage_before : (shape : Shape) (image : List ℕ) (frames : List Frame) (frame : Frame) → BeginsImage shape image (frames ++ frame ∷ []) → BeginsImage shape image frames
+BeginsImage_before shape image frames frame begins =
+    let behind = BeginsImage_behind shape image frames frame begins in
     record { legal = AreLegalFrom_before shape nothing frames frame begins.legal; begins = (frame_text shape.format frame ++ behind.0, behind.1) }
 
 -- ---- and a gate behind them that is closed
 
-pub HasFrames_begins : (shape : Shape) (image : List ℕ) (frames : List Frame) → HasFrames shape image frames → Begins shape image frames
+pub HasFrames_begins : (shape : Shape) (image : List ℕ) (frames : List Frame) → HasFrames shape image frames → BeginsImage shape image frames
 HasFrames_begins shape image frames has = record { legal = has.legal; begins = (has.closed.0 ∷ has.closed.1, has.closed.3) }
 
-pub HasFrames_closed : (shape : Shape) (image : List ℕ) (frames : List Frame) → Begins shape image frames → length (text shape frames) < length image → get_or image (length (text shape frames)) 0 ≢ 1 → HasFrames shape image frames
+pub HasFrames_closed : (shape : Shape) (image : List ℕ) (frames : List Frame) → BeginsImage shape image frames → length (text shape frames) < length image → get_or image (length (text shape frames)) 0 ≢ 1 → HasFrames shape image frames
 HasFrames_closed shape image frames begins inside closed =
     let gate : ℕ = length (text shape frames) in
     let behind : drop gate image ≡ begins.begins.0 = ap (drop gate) begins.begins.1 ∙ drop_at (text shape frames) begins.begins.0 gate refl in

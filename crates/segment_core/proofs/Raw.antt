@@ -11,7 +11,7 @@ use Rattle.segment_core.specs.declared.format.Shape.{Shape}
 use Rattle.segment_core.specs.Shape.{shape_of}
 use Rattle.segment_core.specs.Frame.{Frame, Group, Change, Shrink, Fold, records_of_runs, text}
 use Rattle.segment_core.specs.Tally.{nothing}
-use Rattle.segment_core.specs.Image.{Begins}
+use Rattle.segment_core.specs.Image.{BeginsImage}
 use Rattle.segment_core.specs.Vector.{place_of, record_in, record_at, IsVectorOf}
 use Rattle.segment_core.specs.Folding.{HomesHold}
 use Rattle.segment_core.specs.Raw.{raw, cells_in, after_frame, AreReadAs}
@@ -41,7 +41,7 @@ AreRecords-cells_in width n bytes filled = record {
 
 -- ---- one more frame
 
-pub IsVectorOf_frame : (format : Format) (width : ℕ) (image : List ℕ) (frames : List Frame) (cells : List (List ℕ)) (frame : Frame) → IsVectorOf format (raw width) image frames cells → Begins (shape_of format (raw width)) image (frames ++ frame ∷ [])
+pub IsVectorOf_frame : (format : Format) (width : ℕ) (image : List ℕ) (frames : List Frame) (cells : List (List ℕ)) (frame : Frame) → IsVectorOf format (raw width) image frames cells → BeginsImage (shape_of format (raw width)) image (frames ++ frame ∷ [])
     → ((count : ℕ) → frame ≡ Fold count → HomesHold format (raw width) image frames count cells) → IsVectorOf format (raw width) image (frames ++ frame ∷ []) (after_frame width cells frame)
 IsVectorOf_frame format width image frames cells (Group lengths bytes) read begins hold =
     let whole = (AreLegalFrom_last (shape_of format (raw width)) nothing frames (Group lengths bytes) begins.legal).0 in
@@ -73,7 +73,7 @@ some_at (x ∷ xs) zero lt = (x, refl)
 some_at (x ∷ xs) (suc i) lt = some_at xs i (omega arith)
 
 -- what is read of bytes is written as them, so what an image says as records it says as their bytes
-pub IsVectorOf_raw : {R : Type 0} (format : Format) (form : Encoding R) (image : List ℕ) (frames : List Frame) (records : List R) → WritesBack form → IsBytes image → Begins (shape_of format form) image frames → IsVectorOf format form image frames records
+pub IsVectorOf_raw : {R : Type 0} (format : Format) (form : Encoding R) (image : List ℕ) (frames : List Frame) (records : List R) → WritesBack form → IsBytes image → BeginsImage (shape_of format form) image frames → IsVectorOf format form image frames records
     → IsVectorOf format (raw form.width) image frames (map form.bytes_of records)
 IsVectorOf_raw {R} format form image frames records back fits begins read = record {
   size = length-map records form.bytes_of ∙ read.size;

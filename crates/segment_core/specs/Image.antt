@@ -5,7 +5,7 @@ use Rattle.segment_core.specs.Frame.{Frame, text, open_gate}
 use Rattle.segment_core.specs.Tally.{AreLegal}
 
 -- the image begins with the text of these frames, which keep the rules
-pub record Begins (shape : Shape) (image : List ℕ) (frames : List Frame) : Type 0 where
+pub record BeginsImage (shape : Shape) (image : List ℕ) (frames : List Frame) : Type 0 where
   pub legal : AreLegal shape frames
   pub begins : (rest : List ℕ) × (image ≡ text shape frames ++ rest)
 
@@ -16,5 +16,5 @@ pub record HasFrames (shape : Shape) (image : List ℕ) (frames : List Frame) : 
 
 -- no longer list begins it
 pub record IsLongest (shape : Shape) (image : List ℕ) (frames : List Frame) : Type 0 where
-  pub begins : Begins shape image frames
-  pub longest : (others : List Frame) → Begins shape image others → length (text shape others) ≤ length (text shape frames)
+  pub begins : BeginsImage shape image frames
+  pub longest : (others : List Frame) → BeginsImage shape image others → length (text shape others) ≤ length (text shape frames)

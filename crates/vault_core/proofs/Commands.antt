@@ -17,7 +17,7 @@ use Rattle.pen_core.specs.declared.step.Step.{Step}
 use Rattle.pen_core.specs.declared.step.Step.TheVariants.{Body, BodySync, Gate, GateSync}
 use Rattle.pen_core.specs.Step.{steps_left}
 use Rattle.pen_core.specs.PenOf.{PenOf}
-use Rattle.pen_core.specs.Pen.{MayOpen, FileSame, Begins, IsUnchanged, vector_after, log_left, failed_calls}
+use Rattle.pen_core.specs.Pen.{MayOpen, FileSame, BeginsFrame, IsUnchanged, vector_after, log_left, failed_calls}
 use Rattle.pen_core.specs.Refusals.{first_refusal, IsRefusal}
 use Rattle.vault_core.specs.declared.fault.VaultFault.TheVariants.{Pen}
 use Rattle.vault_core.specs.Vault.{VaultOf, IsVault, OpensToEither, list_of}
@@ -98,7 +98,7 @@ module _ {R D : Type 0} (form : Encoding R) (keeps : D → Type 0) (states : D �
 
   -- ---- begun
 
-  module _ (whole : v.pen.broken ≡ false) (mid : PenOf D) (begun : Begins frame v.pen mid) (blocks : List (List R))
+  module _ (whole : v.pen.broken ≡ false) (mid : PenOf D) (begun : BeginsFrame frame v.pen mid) (blocks : List (List R))
       (size : (after v.pen.tally frame).size ≡ length (joined blocks)) (next : keeps v.pen.disk → AreCellsOf form (vector_after mid) (joined blocks)) (new : PenOf D)
       (images : keeps new.disk → LeavesOnly (states mid.disk) (states new.disk) (MayOpen mid)) (model : keeps new.disk → keeps mid.disk) where
     was : keeps mid.disk → keeps v.pen.disk

@@ -3,7 +3,7 @@ use Rattle.std.proofs.Common.{◌≡◌, ◌≢◌, ℕ, zero, suc, ◌+◌, ◌
 use Rattle.std.specs.List.{AllByRecursion}
 use Rattle.std.proofs.lemmas.List.Elements.{All-from_recursion, recursion_from_All}
 use Rattle.block_core.specs.Growth.{Growth}
-use Rattle.directory_core.specs.Chain.{Begins, IsChained}
+use Rattle.directory_core.specs.Chain.{IsPrefix, IsChained}
 use Rattle.book_core.specs.Lists.{Phase, Seated, own_of, StandInList}
 use Rattle.flush_core.specs.Flusher.{FlusherOf}
 use Rattle.vault_core.specs.Gathering.{AreDistinct, HasId, AreAll, IsWhole, MayGather, made_by, most_known}
@@ -43,7 +43,7 @@ module _ {R : Type 0} where
   has-id (s ∷ ss) id (inr rest) = let there = has-id ss id rest in (suc there.0, (let lt = there.1 in omega arith), there.2)
 
   module _ {D : Type 0} (live : Phase R) (seats : List (Seated R)) (f : FlusherOf R D) (may : MayGather live seats f)
-      (stand : All StandInList seats) (begin : All (λ s. Begins s.pass.entries f.pass.entries) seats) (chained : IsChained f.pass.entries) where
+      (stand : All StandInList seats) (begin : All (λ s. IsPrefix s.pass.entries f.pass.entries) seats) (chained : IsChained f.pass.entries) where
     few : AllByRecursion (MadeFew f.pass.entries) seats
     few = recursion_from_All (MadeFew f.pass.entries) seats (λ k d lt. made_few f.pass.entries (get_or seats k d) (begin k d lt) (stand k d lt))
 

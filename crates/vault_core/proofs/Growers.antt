@@ -6,9 +6,9 @@ use Rattle.book_core.specs.declared.fault.GrowFault.{GrowFault}
 use Rattle.book_core.specs.declared.fault.GrowFault.TheVariants.{Closed, Full, TooLong, Strayed, Memory, Empty, TooLarge}
 use Rattle.book_core.specs.declared.seat.Receipt.{Receipt}
 use Rattle.book_core.specs.Marks.{MarkEnd}
-use Rattle.book_core.specs.Lists.{Phase, Seated, IsOf, opening_of}
+use Rattle.book_core.specs.Lists.{Phase, Seated, IsSeatOf, opening_of}
 use Rattle.book_core.specs.Beginning.{IsNewSeat}
-use Rattle.book_core.specs.Growing.{Grown, Learns, IsBookRefusal, growth_of}
+use Rattle.book_core.specs.Growing.{Grown, SeatLearns, IsBookRefusal, growth_of}
 use Rattle.book_core.proofs.Owns.{push_get}
 use Rattle.vault_core.specs.Crewing.{HasGrown, IsGrowerFault, IsBlockFault, IsStop, receipt_of}
 
@@ -29,7 +29,7 @@ module _ {R : Type 0} (width : ℕ) (live : Phase R) (count : ℕ) (block : ℕ 
 
   module _ (old : Seated R) (receipts : List Receipt) (grown : HasGrown width live count block id old receipts None) where
     -- it stops
-    pub stopped : (new : Seated R) (fault : GrowFault) → IsOf live new → new.id ≡ old.id → new.made ≡ old.made → IsStop width live count block new fault → HasGrown width live count block id new receipts (Some fault)
+    pub stopped : (new : Seated R) (fault : GrowFault) → IsSeatOf live new → new.id ≡ old.id → new.made ≡ old.made → IsStop width live count block new fault → HasGrown width live count block id new receipts (Some fault)
     stopped new fault of same made stop = record {
       of = of;
       id_is = same ∙ grown.id_is;
@@ -53,7 +53,7 @@ module _ {R : Type 0} (width : ℕ) (live : Phase R) (count : ℕ) (block : ℕ 
     blockless Empty lt why = stopped old Empty grown.of refl refl (inr (lt, why))
     blockless TooLarge lt why = stopped old TooLarge grown.of refl refl (inr (lt, why))
 
-    module _ (new : Seated R) (of : IsOf live new) (records : List R) (is : records ≡ block (length old.made)) (lt : length old.made < count) where
+    module _ (new : Seated R) (of : IsSeatOf live new) (records : List R) (is : records ≡ block (length old.made)) (lt : length old.made < count) where
       -- by the book
       named : new.made ≡ old.made → (fault : GrowFault) → IsGrowerFault width live new (length records) fault → IsStop width live count block new fault
       named made fault why = inr (
@@ -61,7 +61,7 @@ module _ {R : Type 0} (width : ℕ) (live : Phase R) (count : ℕ) (block : ℕ 
         subst (λ (n : ℕ). IsGrowerFault width live new n fault) (ap length (is ∙ ap (λ (es : List (Growth R)). block (length es)) (sym made))) why,
       )
 
-      pub refused : (fault : GrowFault) → Learns old new → IsBookRefusal live new (length records) fault → HasGrown width live count block id new receipts (Some fault)
+      pub refused : (fault : GrowFault) → SeatLearns old new → IsBookRefusal live new (length records) fault → HasGrown width live count block id new receipts (Some fault)
       refused Closed learns why = stopped new Closed of learns.id learns.made (named learns.made Closed tt)
       refused Full learns why = stopped new Full of learns.id learns.made (named learns.made Full why)
       refused TooLong learns why = stopped new TooLong of learns.id learns.made (named learns.made TooLong why)

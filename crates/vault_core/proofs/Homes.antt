@@ -4,7 +4,7 @@ use Rattle.std.proofs.lemmas.List.{length_push, get_or-map, length-map}
 use Rattle.std.proofs.lemmas.List.Sums.{sum_by-take-le}
 use Rattle.std.proofs.lemmas.Option.{slice_get_within, get_or_from_slice_get}
 use Rattle.block_core.specs.Growth.{Growth}
-use Rattle.directory_core.specs.Chain.{joined, total, Begins}
+use Rattle.directory_core.specs.Chain.{joined, total, IsPrefix}
 use Rattle.book_core.specs.declared.fault.GrowFault.{GrowFault}
 use Rattle.book_core.specs.declared.fault.GrowFault.TheVariants.{Closed, Full, TooLong, Strayed, Memory, Empty, TooLarge}
 use Rattle.book_core.specs.declared.seat.Receipt.{Receipt}
@@ -101,7 +101,7 @@ module _ {R : Type 0} (width : ℕ) (live : Phase R) (count : ℕ → ℕ) (bloc
           let there = home.each k lt in
           let seat = there.seat in
           let here = get_or_from_slice_get seats k seat seat there.seat_is in
-          let begins = subst (λ (s : Seated R). Begins s.pass.entries f.pass.entries) here (whole.longest k seat (slice_get_within seats k seat there.seat_is)) in
+          let begins = subst (λ (s : Seated R). IsPrefix s.pass.entries f.pass.entries) here (whole.longest k seat (slice_get_within seats k seat there.seat_is)) in
           let few = sum_by-take-le (λ (e : Growth R). length e.records) f.pass.entries (length seat.pass.entries) in
           let same = ap total begins in
           let long = ap length list ∙ length-list (opening_of live) f.pass.entries in
@@ -177,8 +177,8 @@ at_home {R} {S} width live count block source n s same_live same_source number s
 -- ---- the seats of those that are home
 
 module _ {R : Type 0} (width : ℕ) (live : Phase R) (count : ℕ → ℕ) (block : ℕ → ℕ → List R) (n : ℕ) (seats : List (Seated R)) (receipts : List (List Receipt)) (faults : List (Option GrowFault)) where
-  pub all-of : AreHome width live count block n seats receipts faults → All (lists.IsOf live) seats
+  pub all-of : AreHome width live count block n seats receipts faults → All (lists.IsSeatOf live) seats
   all-of home k d lt =
       let there = home.each k (let long = home.as_many_seats in omega arith) in
       let same = get_or_from_slice_get seats k there.seat d there.seat_is in
-      subst (lists.IsOf live) (sym same) there.grown.of
+      subst (lists.IsSeatOf live) (sym same) there.grown.of

@@ -71,11 +71,11 @@ module _ {R D : Type 0} (form : Encoding R) (keeps : Type 0) (piece growths : �
       size = ap (λ t. t.size) written.tally_is ∙ ap length (all ∙ sym list)
 
 -- the one block has all records
-pub only_block : {R : Type 0} (row : List (Vec R)) (block : Vec R) (blocks : List (List R)) (records : List R) → records_of row ≡ blocks → length blocks ≡ 1 → joined blocks ≡ records → block ≡ get_or row 0 block → block.items ≡ records
-only_block {R} row block blocks records row_is one all is =
-    at row (ap (λ (bs : List (List R)). length bs) row_is ∙ one) (ap joined row_is ∙ all) is
+pub only_block : {R : Type 0} (vecs : List (Vec R)) (block : Vec R) (blocks : List (List R)) (records : List R) → records_of vecs ≡ blocks → length blocks ≡ 1 → joined blocks ≡ records → block ≡ get_or vecs 0 block → block.items ≡ records
+only_block {R} vecs block blocks records lists_are one all is =
+    at vecs (ap (λ (bs : List (List R)). length bs) lists_are ∙ one) (ap joined lists_are ∙ all) is
   where
-    at : (row : List (Vec R)) → length (records_of row) ≡ 1 → joined (records_of row) ≡ records → block ≡ get_or row 0 block → block.items ≡ records
+    at : (vecs : List (Vec R)) → length (records_of vecs) ≡ 1 → joined (records_of vecs) ≡ records → block ≡ get_or vecs 0 block → block.items ≡ records
     at [] none all is = absurd (omega (arith, none))
     at (first ∷ []) one all is = ap (λ (b : Vec R). b.items) is ∙ sym (append-nil first.items) ∙ all
     at (first ∷ second ∷ more) many all is = absurd (omega (arith, many))

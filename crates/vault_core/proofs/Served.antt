@@ -8,14 +8,14 @@ use Rattle.pen_core.specs.PenOf.{PenOf}
 use Rattle.pen_core.specs.Typed.{OpensTo}
 use Rattle.directory_core.specs.Chain.{joined}
 use Rattle.book_core.specs.Lists.{Phase, opening_of, joined_pieces}
-use Rattle.flush_core.specs.Flusher.{FlusherOf, IsOf, KeepsFrom}
+use Rattle.flush_core.specs.Flusher.{FlusherOf, IsFlusherOf, OpensToFirst}
 use Rattle.flush_core.specs.Serving.{Serves}
 use Rattle.vault_core.specs.Vault.{VaultOf, list_of}
 use Rattle.vault_core.specs.Crewing.{OpensToFirst}
 
 -- it opens to the vault's list and the first growths that the flusher knows in the end
-module _ {R D : Type 0} (form : Encoding R) (keeps : D → Type 0) (states : D → List State) (vault : VaultOf R D) (live : Phase R) (begun served : FlusherOf R D) (blocks : live.blocks ≡ vault.blocks) (pen : begun.pen ≡ vault.pen) (of : IsOf (keeps served.pen.disk) live served) (goes : Serves form keeps states begun served) where
-  kept_first : keeps served.pen.disk → (image : List ℕ) → KeepsFrom form begun.settled served image → OpensToFirst form (list_of vault) served.pass.entries image
+module _ {R D : Type 0} (form : Encoding R) (keeps : D → Type 0) (states : D → List State) (vault : VaultOf R D) (live : Phase R) (begun served : FlusherOf R D) (blocks : live.blocks ≡ vault.blocks) (pen : begun.pen ≡ vault.pen) (of : IsFlusherOf (keeps served.pen.disk) live served) (goes : Serves form keeps states begun served) where
+  kept_first : keeps served.pen.disk → (image : List ℕ) → OpensToFirst form begun.settled served image → OpensToFirst form (list_of vault) served.pass.entries image
   kept_first now image kept =
       let opening : served.opening ≡ list_of vault = of.opening now ∙ ap joined_pieces blocks in
       record {
@@ -28,6 +28,6 @@ module _ {R D : Type 0} (form : Encoding R) (keeps : D → Type 0) (states : D �
   served_first last same now =
       let still : keeps served.pen.disk = subst (λ (p : PenOf D). keeps p.disk) same now in
       let leaves : LeavesOnly (states begun.pen.disk) (states served.pen.disk) (OpensToFirst form (list_of vault) served.pass.entries) =
-      LeavesOnly-weaker (states begun.pen.disk) (states served.pen.disk) (KeepsFrom form begun.settled served) (OpensToFirst form (list_of vault) served.pass.entries) (kept_first still) (goes.images still) in
+      LeavesOnly-weaker (states begun.pen.disk) (states served.pen.disk) (OpensToFirst form begun.settled served) (OpensToFirst form (list_of vault) served.pass.entries) (kept_first still) (goes.images still) in
       subst (λ (p : PenOf D). LeavesOnly (states vault.pen.disk) (states p.disk) (OpensToFirst form (list_of vault) served.pass.entries)) (sym same)
       (subst (λ (p : PenOf D). LeavesOnly (states p.disk) (states served.pen.disk) (OpensToFirst form (list_of vault) served.pass.entries)) pen leaves)

@@ -25,7 +25,7 @@ use Rattle.pen_core.specs.declared.fault.PenFault.{PenFault}
 use Rattle.pen_core.specs.declared.fault.PenFault.TheVariants as faults
 use Rattle.pen_core.specs.Births.{IsNew, IsEmpty}
 use Rattle.pen_core.specs.PenOf.{PenOf, JobOf}
-use Rattle.pen_core.specs.Pen.{MayOpen, IsKept, Begins, CountsDone, vector_after, log_left, failed_calls}
+use Rattle.pen_core.specs.Pen.{MayOpen, IsKept, BeginsFrame, CountsDone, vector_after, log_left, failed_calls}
 use Rattle.pen_core.specs.Refusals.{first_refusal, IsRefusal, group_lines, is_full, fold_len}
 use Rattle.pen_core.specs.Settled.{IsLogSettled, IsLogFault}
 use Rattle.pen_core.specs.declared.step.Step.{Step}
@@ -235,7 +235,7 @@ module _ {R D : Type 0} (form : Encoding R) (keeps : D → Type 0) (states : D �
 
     -- ---- begun
 
-    module _ (mid new : PenOf D) (begun : Begins (group_frame form (chunk ∷ [])) pen mid) (allowed : first_refusal lines ≡ None)
+    module _ (mid new : PenOf D) (begun : BeginsFrame (group_frame form (chunk ∷ [])) pen mid) (allowed : first_refusal lines ≡ None)
         (next : (list : List R) → AreCellsOf form pen.vector list → AreCellsOf form (vector_after mid) (list ++ joined (chunk ∷ [])))
         (images : keeps new.disk → LeavesOnly (states mid.disk) (states new.disk) (MayOpen mid)) (model : keeps new.disk → keeps mid.disk) where
       was : keeps new.disk → keeps pen.disk

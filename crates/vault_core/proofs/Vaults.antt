@@ -11,15 +11,15 @@ use Rattle.directory_core.specs.Chain.{joined, total}
 use Rattle.directory_core.specs.Limits.{record_limit}
 use Rattle.book_core.specs.Lists.{Phase, opening_of, joined_pieces}
 use Rattle.book_core.proofs.Owns.{length-list}
-use Rattle.flush_core.specs.Flusher.{FlusherOf, IsOf, Learns, list_to, tally_with, read_as}
+use Rattle.flush_core.specs.Flusher.{FlusherOf, IsFlusherOf, FlusherLearns, list_to, tally_with, read_as}
 use Rattle.flush_core.proofs.Kept.{read_as-cells}
 use Rattle.vault_core.specs.Vault.{VaultOf, IsVault, MayHold, list_of}
 use Rattle.vault_core.proofs.Kept.{vault_of}
-use Rattle.vault_core.proofs.Handed.{IsOf-learns}
+use Rattle.vault_core.proofs.Handed.{IsFlusherOf-learns}
 
 module _ {R D : Type 0} (keeps : D → Type 0) (form : Encoding R) (live : Phase R) (old f : FlusherOf R D) (blocks : List (List R)) (pen : PenOf D)
-    (of : IsOf (keeps old.pen.disk) live old) (settled : old.settled ≡ length old.pass.entries) (limit : old.before + total old.pass.entries ≤ record_limit)
-    (list : joined_pieces blocks ≡ opening_of live ++ joined old.pass.entries) (learns : Learns old f) (same : f.pass.entries ≡ old.pass.entries) (pen_is : pen ≡ f.pen)
+    (of : IsFlusherOf (keeps old.pen.disk) live old) (settled : old.settled ≡ length old.pass.entries) (limit : old.before + total old.pass.entries ≤ record_limit)
+    (list : joined_pieces blocks ≡ opening_of live ++ joined old.pass.entries) (learns : FlusherLearns old f) (same : f.pass.entries ≡ old.pass.entries) (pen_is : pen ≡ f.pen)
     (counts : (f.settled ≤ f.taken) × (f.taken ≤ length f.pass.entries))
     (sizes : (f.pen.tally.size ≡ f.before + total (take f.settled f.pass.entries)) × ((tally_with f.pen.tally f.pen.job).size ≡ f.before + total (take f.taken f.pass.entries)))
     (file : keeps f.pen.disk → AreCellsOf form f.pen.vector (list_to f f.settled) × AreCellsOf form (vector_after f.pen) (list_to f f.taken))
@@ -34,14 +34,14 @@ module _ {R D : Type 0} (keeps : D → Type 0) (form : Encoding R) (live : Phase
   whole : (n : ℕ) → length f.pass.entries ≤ n → keeps f.pen.disk → list_to f n ≡ joined_pieces blocks
   whole n le model =
       ap (λ (es : List (Growth R)). f.opening ++ joined es) (take_all n f.pass.entries le ∙ same)
-      ∙ ap (λ (rs : List R). rs ++ joined old.pass.entries) ((IsOf-learns keeps live old f of learns).opening model)
+      ∙ ap (λ (rs : List R). rs ++ joined old.pass.entries) ((IsFlusherOf-learns keeps live old f of learns).opening model)
       ∙ sym list
 
   size : (n : ℕ) → length f.pass.entries ≤ n → f.before + total (take n f.pass.entries) ≡ length (joined_pieces blocks)
   size n le =
       let long = ap length list ∙ length-list (opening_of live) old.pass.entries in
       let taken = ap total (take_all n f.pass.entries le ∙ same) in
-      let before = (IsOf-learns keeps live old f of learns).before in
+      let before = (IsFlusherOf-learns keeps live old f of learns).before in
       omega arith
 
   sure_is : keeps f.pen.disk → read_as form f.pen.vector ≡ joined_pieces blocks
@@ -61,7 +61,7 @@ module _ {R D : Type 0} (keeps : D → Type 0) (form : Encoding R) (live : Phase
   gathered_kept = subst (λ (p : PenOf D). IsVault (keeps p.disk) form (vault_of form p blocks)) (sym pen_is) is_vault
 
 -- no more records than a vector may have
-pub gathered_few : {R D : Type 0} (keeps : Type 0) (live : Phase R) (old : FlusherOf R D) (blocks : List (List R)) → IsOf keeps live old → old.before + total old.pass.entries ≤ record_limit → joined_pieces blocks ≡ opening_of live ++ joined old.pass.entries → length (joined_pieces blocks) ≤ record_limit
+pub gathered_few : {R D : Type 0} (keeps : Type 0) (live : Phase R) (old : FlusherOf R D) (blocks : List (List R)) → IsFlusherOf keeps live old → old.before + total old.pass.entries ≤ record_limit → joined_pieces blocks ≡ opening_of live ++ joined old.pass.entries → length (joined_pieces blocks) ≤ record_limit
 gathered_few keeps live old blocks of limit list = let long = ap length list ∙ length-list (opening_of live) old.pass.entries in let before = of.before in omega arith
 
 -- what a vault that is sure of its list may hold opens to that

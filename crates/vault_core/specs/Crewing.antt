@@ -15,7 +15,7 @@ use Rattle.directory_core.specs.Limits.{record_limit}
 use Rattle.book_core.specs.declared.fault.GrowFault.{GrowFault}
 use Rattle.book_core.specs.declared.fault.GrowFault.TheVariants.{Closed, Full, TooLong, Strayed, Memory, Empty, TooLarge}
 use Rattle.book_core.specs.declared.seat.Receipt.{Receipt}
-use Rattle.book_core.specs.Lists.{Phase, Seated, IsOf, opening_of, own_of, records_of}
+use Rattle.book_core.specs.Lists.{Phase, Seated, IsSeatOf, opening_of, own_of, records_of}
 use Rattle.book_core.specs.Growing.{IsBookRefusal}
 use Rattle.vault_core.specs.declared.crewing.CrewFault.{CrewFault}
 use Rattle.vault_core.specs.declared.crewing.CrewFault.TheVariants.{Share, Gather}
@@ -80,7 +80,7 @@ IsStop width live count block seat fault = (fault ≡ Memory) ⊎ ((length seat.
 -- The grower of that id has made growths of the first blocks that are named for it, in order, has their receipts, and, where
 -- it stopped by a fault, that.
 pub record HasGrown {R : Type 0} (width : ℕ) (live : Phase R) (count : ℕ) (block : ℕ → List R) (id : ℕ) (seat : Seated R) (receipts : List Receipt) (fault : Option GrowFault) : Type 0 where
-  pub of : IsOf live seat
+  pub of : IsSeatOf live seat
   pub id_is : seat.id ≡ id
   pub few : length seat.made ≤ count
   pub blocks_are : (k : ℕ) (growth : Growth R) → slice_get seat.made k ≡ Some growth → growth.records ≡ block k

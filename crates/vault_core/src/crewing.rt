@@ -2,7 +2,7 @@
 
 ghost use Rattle.std.specs.Prelude.{◌≡◌, ◌+◌, ◌<◌, ◌≤◌, [], None, max, map, length, vec_len, vec_capacity, IfOk, IfErr};
 ghost use Rattle.book_core.specs.Beginning.{AreNewSeats};
-ghost use Rattle.flush_core.specs.Flusher.{IsOf};
+ghost use Rattle.flush_core.specs.Flusher.{IsFlusherOf};
 ghost use Rattle.flush_core.specs.Serving.{Serves};
 ghost use Rattle.vault_core.specs.Crewing.{AreSent, AreHome, HasGrown, HasCrewed, IsCrewFault, counts_to};
 
@@ -218,18 +218,18 @@ fn run_phase<R: Record, D: Disk + Send + Drop, S: Source<R>, G: Gate, E: Threads
     seats: Vec<Seat<R>>,
     rows: Rows<R, S>,
 ) -> (Flusher<R, D>, Home<R>)
-    requires flusher { IsOf (D.keeps flusher.pen.disk) live.now flusher }
+    requires flusher { IsFlusherOf (D.keeps flusher.pen.disk) live.now flusher }
     requires seats { AreNewSeats live.now.directory live.now.mark seats.items }
     requires growers { (vec_len seats ≡ S.growers_of source.now) × (rows.growers ≡ vec_len seats) }
-    ensures flusher { IsOf (D.keeps result.0.pen.disk) live.now result.0 }
+    ensures flusher { IsFlusherOf (D.keeps result.0.pen.disk) live.now result.0 }
     ensures served { Serves R.form D.keeps D.states flusher result.0 }
     ensures home { AreHome R.form.width live.now (S.count_of source.now) (S.block_of source.now) (vec_len seats) result.1.seats.items (map (λ its. its.items) result.1.receipts.items) result.1.faults.items }
 {
     thread::join(
         rt,
         move || -> Flusher<R, D>
-            requires { IsOf (D.keeps flusher.pen.disk) live.now flusher }
-            ensures of { IsOf (D.keeps result.pen.disk) live.entry.now result }
+            requires { IsFlusherOf (D.keeps flusher.pen.disk) live.now flusher }
+            ensures of { IsFlusherOf (D.keeps result.pen.disk) live.entry.now result }
             ensures served { Serves R.form D.keeps D.states flusher result }
         { serve(rt, live, flusher) },
         move || -> Home<R>
@@ -245,8 +245,8 @@ fn serve<R: Record, D: Disk, E: Wait>(
     live: &Live<R>,
     flusher: Flusher<R, D>,
 ) -> Flusher<R, D>
-    requires { IsOf (D.keeps flusher.pen.disk) live.now flusher }
-    ensures of { IsOf (D.keeps result.pen.disk) live.now result }
+    requires { IsFlusherOf (D.keeps flusher.pen.disk) live.now flusher }
+    ensures of { IsFlusherOf (D.keeps result.pen.disk) live.now result }
     ensures served { Serves R.form D.keeps D.states flusher result }
 {
     let mut flusher = flusher;

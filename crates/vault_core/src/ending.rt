@@ -4,10 +4,10 @@ ghost use Rattle.std.specs.Prelude.{◌≡◌, ◌≢◌, ℕ, ◌≤◌, ◌<�
 ghost use Rattle.std.specs.List.{AllWithin};
 ghost use Rattle.disk_core.specs.State.{now, IsImage};
 ghost use Rattle.pen_core.specs.Typed.{OpensTo};
-ghost use Rattle.directory_core.specs.Chain.{joined, total, Begins, IsChained};
+ghost use Rattle.directory_core.specs.Chain.{joined, total, IsPrefix, IsChained};
 ghost use Rattle.directory_core.specs.Limits.{record_limit};
 ghost use Rattle.book_core.specs.Lists.{records_of, joined_pieces, opening_of, StandInList};
-ghost use Rattle.flush_core.specs.Flusher.{IsOf, Learns};
+ghost use Rattle.flush_core.specs.Flusher.{IsFlusherOf, FlusherLearns};
 ghost use Rattle.vault_core.specs.Vault.{list_of};
 ghost use Rattle.vault_core.specs.Gathering.{AreOf, AreDistinct, IsWhole, IsGatherFault, MayGather, made_by, most_known};
 
@@ -130,7 +130,7 @@ fn copy_growths<R: Record, D: Disk>(
     live: &Live<R>,
     flusher: &mut Flusher<R, D>,
 ) -> Result<Vec<R>, AllocError>
-    requires of { IsOf (D.keeps flusher.old.pen.disk) live.now flusher.old }
+    requires of { IsFlusherOf (D.keeps flusher.old.pen.disk) live.now flusher.old }
     ensures same { flusher.new ≡ flusher.old }
     ensures copied { IfOk result (λ block. block.items ≡ joined flusher.old.pass.entries) }
     ensures in_limit { OnOk result (flusher.old.before + total flusher.old.pass.entries ≤ record_limit) }
@@ -150,9 +150,9 @@ fn copy_growths<R: Record, D: Disk>(
 fn take_in_all<R: Record, D: Disk>(live: &Live<R>, flusher: &mut Flusher<R, D>, seats: Vec<Seat<R>>)
     requires of { AreOf (D.keeps flusher.old.pen.disk) live.now seats.items flusher.old }
     requires known { All (λ seat. length seat.pass.entries ≤ length flusher.old.pass.entries) seats.items }
-    ensures learns { Learns flusher.old flusher.new }
+    ensures learns { FlusherLearns flusher.old flusher.new }
     ensures entries { flusher.new.pass.entries ≡ flusher.old.pass.entries }
-    ensures begin { All (λ seat. Begins seat.pass.entries flusher.old.pass.entries) seats.items }
+    ensures begin { All (λ seat. IsPrefix seat.pass.entries flusher.old.pass.entries) seats.items }
     ensures told { All (λ seat. seat.mark.told.count ≤ flusher.old.settled) seats.items }
 {
     let mut seats = seats;

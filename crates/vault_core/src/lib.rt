@@ -36,6 +36,3 @@ pub use search::{count_where, find_first};
 pub use source::{Gate, Source};
 pub use upgrading::{UpgradeFault, greatest_piece, upgrade};
 pub use vault::Vault;
-
-#[cfg(test)]
-mod tests;

@@ -30,7 +30,7 @@ impl<'a, R: Record> Lists<'a, R> {
     }
 
     /// The same, where it isn't known whether there are more growers or blocks: `None` then.
-    pub fn checked(lists: &'a [Vec<Vec<R>>]) -> Option<Lists<'a, R>>
+    pub fn try_new(lists: &'a [Vec<Vec<R>>]) -> Option<Lists<'a, R>>
         ensures { IfSome result (λ source. source.lists.now ≡ lists.now) }
     {
         if lists.len() > u16::MAX as usize {

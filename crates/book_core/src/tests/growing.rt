@@ -2,7 +2,7 @@
 
 ghost use Rattle.std.specs.Prelude.{◌≡◌};
 ghost use Rattle.directory_core.specs.Chain.{IsNext};
-ghost use Rattle.book_core.specs.Lists.{IsOf};
+ghost use Rattle.book_core.specs.Lists.{IsSeatOf};
 
 use super::reading::three_blocks;
 use super::{Two, begin_two, begin_two_over};
@@ -233,7 +233,7 @@ fn a_growth_starts_behind_the_blocks_from_before(rt: HostRuntime) -> Result<(), 
 
 /// Publishes a growth [7] that bears the id, in a book whose growths the seat knows.
 fn publish_as(alloc: Global, live: &Live<u64>, seat: &Seat<u64>, id: u16) -> Option<()>
-    requires { IsOf live.now seat.now }
+    requires { IsSeatOf live.now seat.now }
 {
     let mut pass = live.directory.pass().ok()?;
     live.directory.look(&mut pass).ok()?;

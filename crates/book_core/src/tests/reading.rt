@@ -2,7 +2,7 @@
 
 ghost use Rattle.std.specs.Prelude.{◌≡◌, ◌+◌, ◌≤◌, length, IfSome};
 ghost use Rattle.directory_core.specs.Limits.{record_limit};
-ghost use Rattle.book_core.specs.Lists.{IsOf, records_of, joined_pieces};
+ghost use Rattle.book_core.specs.Lists.{IsSeatOf, records_of, joined_pieces};
 
 use super::threads::put_many;
 use super::{Two, begin_two_over};
@@ -42,8 +42,8 @@ fn grow_twice<E: Wait>(
     first: &mut Seat<u64>,
     second: &mut Seat<u64>,
 ) -> Option<u64>
-    requires { IsOf live.now first.old × IsOf live.now second.old }
-    ensures { IsOf live.now first.new × IsOf live.now second.new }
+    requires { IsSeatOf live.now first.old × IsSeatOf live.now second.old }
+    ensures { IsSeatOf live.now first.new × IsSeatOf live.now second.new }
 {
     live.grow_by(rt, first, 2, 4).ok()?;
     live.push_back(rt, second, 5).ok()?;
@@ -57,8 +57,8 @@ pub(super) fn head_of(piece: &[u64]) -> (Option<u64>, usize) {
 
 /// The record at a position, and how many its piece has from there on.
 fn read_at(live: &Live<u64>, seat: &mut Seat<u64>, i: u64) -> Option<(u64, usize)>
-    requires { IsOf live.now seat.old }
-    ensures { IsOf live.now seat.new }
+    requires { IsSeatOf live.now seat.old }
+    ensures { IsSeatOf live.now seat.new }
 {
     let record = *live.get(seat, i)?;
     let piece = live.piece(seat, i)?;
@@ -67,8 +67,8 @@ fn read_at(live: &Live<u64>, seat: &mut Seat<u64>, i: u64) -> Option<(u64, usize
 
 /// What stands at each of 7 positions.
 fn read_positions(live: &Live<u64>, seat: &mut Seat<u64>) -> [Option<(u64, usize)>; 7]
-    requires { IsOf live.now seat.old }
-    ensures { IsOf live.now seat.new }
+    requires { IsSeatOf live.now seat.old }
+    ensures { IsSeatOf live.now seat.new }
 {
     let mut found = [None; 7];
     for i in 0..7usize {
@@ -79,8 +79,8 @@ fn read_positions(live: &Live<u64>, seat: &mut Seat<u64>) -> [Option<(u64, usize
 
 /// The heads of 6 pieces, by their numbers.
 fn read_numbers(live: &Live<u64>, seat: &mut Seat<u64>) -> [Option<(Option<u64>, usize)>; 6]
-    requires { IsOf live.now seat.old }
-    ensures { IsOf live.now seat.new }
+    requires { IsSeatOf live.now seat.old }
+    ensures { IsSeatOf live.now seat.new }
 {
     let mut heads = [None; 6];
     for number in 0..6usize {
@@ -91,7 +91,7 @@ fn read_numbers(live: &Live<u64>, seat: &mut Seat<u64>) -> [Option<(Option<u64>,
 
 /// The heads of the first 4 pieces in their order, and how many pieces are left then.
 fn read_in_order(live: &Live<u64>, seat: &mut Seat<u64>) -> ([Option<(Option<u64>, usize)>; 4], u64)
-    requires { IsOf live.now seat.old }
+    requires { IsSeatOf live.now seat.old }
 {
     let mut heads = [None; 4];
     let mut pieces = live.pieces(seat);
@@ -107,8 +107,8 @@ fn read_from(
     seat: &mut Seat<u64>,
     i: u64,
 ) -> ([Option<(Option<u64>, usize)>; 2], u64)
-    requires { IsOf live.now seat.old }
-    ensures { IsOf live.now seat.new }
+    requires { IsSeatOf live.now seat.old }
+    ensures { IsSeatOf live.now seat.new }
 {
     let mut pieces = live.pieces_from(seat, i);
     let first = pieces.next_piece().map(head_of);
@@ -121,8 +121,8 @@ fn read_from_each(
     live: &Live<u64>,
     seat: &mut Seat<u64>,
 ) -> [([Option<(Option<u64>, usize)>; 2], u64); 8]
-    requires { IsOf live.now seat.old }
-    ensures { IsOf live.now seat.new }
+    requires { IsSeatOf live.now seat.old }
+    ensures { IsSeatOf live.now seat.new }
 {
     let mut found = [([None; 2], 0); 8];
     for i in 0..8usize {
@@ -266,14 +266,14 @@ fn keep_pieces<E: Threads + Wait + Sync>(
     first: &mut Seat<u64>,
     second: Seat<u64>,
 ) -> Option<[(Option<u64>, usize); 2]>
-    requires { IsOf live.now first.old × IsOf live.now second }
+    requires { IsSeatOf live.now first.old × IsSeatOf live.now second }
 {
     let block = live.piece(first, 0)?;
     let growth = live.piece(first, 3)?;
     let (grown, ()) = thread::join(
         rt,
         move || -> Option<Seat<u64>>
-            requires { IsOf live.now second }
+            requires { IsSeatOf live.now second }
         { put_many(rt, live, second, 100) },
         || (),
     );

@@ -1,7 +1,7 @@
 //! Who settles the growths finds them by a pass of its own, and learns from seats.
 
 ghost use Rattle.std.specs.Prelude.{◌≡◌};
-ghost use Rattle.book_core.specs.Lists.{IsOf};
+ghost use Rattle.book_core.specs.Lists.{IsSeatOf};
 
 use super::reading::head_of;
 use crate::beginning::Begun;
@@ -21,7 +21,7 @@ struct Settling {
     seat: Seat<u64>,
     pass: Pass<u64>,
     mark: Writer,
-    ghost of: { IsOf live seat },
+    ghost of: { IsSeatOf live seat },
     ghost pass_of: { pass.of ≡ live.directory },
     ghost marked: { mark.of ≡ live.mark },
     ghost unsettled: { mark.told.count ≡ 0 },

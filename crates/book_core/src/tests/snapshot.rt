@@ -1,6 +1,6 @@
 //! A snapshot over blocks from before the phase and growths: its reads, and many readers.
 
-ghost use Rattle.book_core.specs.Lists.{IsOf};
+ghost use Rattle.book_core.specs.Lists.{IsSeatOf};
 
 use super::reading::three_blocks;
 use super::threads::put_many;
@@ -118,7 +118,7 @@ fn read_beside_growth<E: Threads + Wait + Sync>(rt: &E, two: Two) -> Option<(u64
     let (grown, sums) = thread::join(
         rt,
         move || -> Option<Seat<u64>>
-            requires { IsOf shared.now second }
+            requires { IsSeatOf shared.now second }
         { put_many(rt, shared, second, 100) },
         move || thread::join(
             rt,

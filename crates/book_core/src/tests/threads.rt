@@ -1,7 +1,7 @@
 //! Growths of two threads at once, and seats that wait for the mark.
 
 ghost use Rattle.std.specs.Prelude.{◌≡◌, ◌≤◌, IfSome};
-ghost use Rattle.book_core.specs.Lists.{IsOf};
+ghost use Rattle.book_core.specs.Lists.{IsSeatOf};
 
 use super::{Two, begin_two};
 use crate::live::Live;
@@ -19,8 +19,8 @@ pub(super) fn put_many<E: Wait>(
     mut seat: Seat<u64>,
     count: u64,
 ) -> Option<Seat<u64>>
-    requires { IsOf live.now seat }
-    ensures { IfSome result (λ seat. IsOf live.now seat) }
+    requires { IsSeatOf live.now seat }
+    ensures { IfSome result (λ seat. IsSeatOf live.now seat) }
 {
     for k in 0..count {
         live.push_back(rt, &mut seat, k).ok()?;
@@ -36,18 +36,18 @@ fn put_by_two<E: Threads + Wait + Sync>(
     second: Seat<u64>,
     count: u64,
 ) -> Option<(Seat<u64>, Seat<u64>)>
-    requires { IsOf live.now first × IsOf live.now second }
-    ensures { IfSome result (λ seats. IsOf live.now seats.0 × IsOf live.now seats.1) }
+    requires { IsSeatOf live.now first × IsSeatOf live.now second }
+    ensures { IfSome result (λ seats. IsSeatOf live.now seats.0 × IsSeatOf live.now seats.1) }
 {
     let (one, other) = thread::join(
         rt,
         move || -> Option<Seat<u64>>
-            requires { IsOf live.now first }
-            ensures { IfSome result (λ seat. IsOf live.entry.now seat) }
+            requires { IsSeatOf live.now first }
+            ensures { IfSome result (λ seat. IsSeatOf live.entry.now seat) }
         { put_many(rt, live, first, count) },
         move || -> Option<Seat<u64>>
-            requires { IsOf live.now second }
-            ensures { IfSome result (λ seat. IsOf live.entry.now seat) }
+            requires { IsSeatOf live.now second }
+            ensures { IfSome result (λ seat. IsSeatOf live.entry.now seat) }
         { put_many(rt, live, second, count) },
     );
     Some((one?, other?))
@@ -55,8 +55,8 @@ fn put_by_two<E: Threads + Wait + Sync>(
 
 /// Whether a look of the seat finds so many growths, each of one record, and a growth then has the next number.
 fn finds_and_puts<E: Wait>(rt: &E, live: &Live<u64>, seat: &mut Seat<u64>, known: u64) -> bool
-    requires { IsOf live.now seat.old }
-    ensures { IsOf live.now seat.new }
+    requires { IsSeatOf live.now seat.old }
+    ensures { IsSeatOf live.now seat.new }
 {
     if live.look(seat) != Ok(known) {
         return false;
@@ -75,8 +75,8 @@ fn put_by_turns<E: Wait>(
     second: &mut Seat<u64>,
     count: u64,
 ) -> bool
-    requires { IsOf live.now first.old × IsOf live.now second.old }
-    ensures { IsOf live.now first.new × IsOf live.now second.new }
+    requires { IsSeatOf live.now first.old × IsSeatOf live.now second.old }
+    ensures { IsSeatOf live.now first.new × IsSeatOf live.now second.new }
 {
     for turn in 0..count {
         let known = turn.wrapping_mul(2);
@@ -151,7 +151,7 @@ fn await_change<E: Threads + Wait + Sync>(rt: &E, two: Two, change: Change) -> (
             requires { (mark.of ≡ shared.now.mark) × (mark.told.count ≡ 0) }
         { change_mark(rt, shared, mark, change) },
         move || -> (u64, MarkState)
-            requires { IsOf shared.now first }
+            requires { IsSeatOf shared.now first }
         {
             let mut seat = first;
             shared.await_settled(rt, &mut seat, 0)
@@ -176,7 +176,7 @@ fn a_seat_that_waits_is_woken(rt: HostRuntime) -> Result<(), Fail> {
 
 /// Makes a growth, or closes the book.
 fn grow_or_close<E: Wait>(rt: &E, live: &Live<u64>, mut seat: Seat<u64>, closes: bool)
-    requires { IsOf live.now seat }
+    requires { IsSeatOf live.now seat }
 {
     if closes {
         live.close(rt);
@@ -193,7 +193,7 @@ fn await_first<E: Threads + Wait + Sync>(rt: &E, two: Two, closes: bool) -> bool
     let ((), closed) = thread::join(
         rt,
         move || -> ()
-            requires { IsOf shared.now first }
+            requires { IsSeatOf shared.now first }
         { grow_or_close(rt, shared, first, closes) },
         move || shared.await_more(rt, 0),
     );

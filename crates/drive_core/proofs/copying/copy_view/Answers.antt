@@ -1,10 +1,10 @@
 use Rattle.std.proofs.Common.{◌∙◌, ap, sym, subst, ◌≡◌, Some, slice_get, length, ◌≤◌, arith}
-use Rattle.book_core.specs.Lists.{pieces_of, IsOf}
+use Rattle.book_core.specs.Lists.{pieces_of, IsSeatOf}
 use Rattle.drive_core.proofs.Copies.{pieces_more, pieces_all}
 use Rattle.drive_core.proofs.copying.copy_view.Goals as goal
 
 pub piece_at-requires-clause-of : goal.piece_at-requires-clause-of
-piece_at-requires-clause-of g c κs within = subst (λ (s : _). IsOf c.args.live.now s) (sym c.loop-number.invariant.0) c.requires.of
+piece_at-requires-clause-of g c κs within = subst (λ (s : _). IsSeatOf c.args.live.now s) (sym c.loop-number.invariant.0) c.requires.of
 
 pub loop-number-preserved : goal.loop-number-preserved
 loop-number-preserved g c =

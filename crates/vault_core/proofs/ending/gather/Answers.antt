@@ -1,10 +1,10 @@
 use Rattle.std.proofs.Common.{◌≡◌, ℕ, ◌+◌, ◌≤◌, List, ◌++◌, length, All, sym, ap, subst, ◌∙◌, rules, arith}
 use Rattle.disk_core.specs.State.{now, IsImage}
 use Rattle.pen_core.specs.PenOf.{PenOf}
-use Rattle.directory_core.specs.Chain.{Begins, joined, total}
+use Rattle.directory_core.specs.Chain.{IsPrefix, joined, total}
 use Rattle.directory_core.specs.Limits.{record_limit}
 use Rattle.book_core.specs.Lists.{Seated, StandInList, records_of, joined_pieces, opening_of}
-use Rattle.flush_core.specs.Flusher.{FlusherOf, Learns, read_as}
+use Rattle.flush_core.specs.Flusher.{FlusherOf, FlusherLearns, read_as}
 use Rattle.vault_core.specs.Vault.{VaultOf}
 use Rattle.vault_core.specs.Gathering.{MayGather}
 use Rattle.vault_core.proofs.Endings.{all_known, whole}
@@ -36,7 +36,7 @@ invariant_of-vault g c =
     rw c.with_ends.ensures (
     gathered_kept g.D.Disk.keeps g.R.Record.form c.args.live c.args.flusher c.take_in_all.new.flusher (records_of c.put_behind-blocks.result.items) c.into_pen-pen.result.0
     c.requires.flusher_of may.settled limit list
-    (subst (λ (f : FlusherOf _ _). Learns f c.take_in_all.new.flusher) same c.take_in_all.ensures.learns)
+    (subst (λ (f : FlusherOf _ _). FlusherLearns f c.take_in_all.new.flusher) same c.take_in_all.ensures.learns)
     (c.take_in_all.ensures.entries ∙ ap (λ (f : FlusherOf _ _). f.pass.entries) same)
     c.into_pen-pen.ensures.parts.0 c.into_pen-pen.ensures.order (c.into_pen-pen.ensures.size, c.into_pen-pen.ensures.size_then) c.into_pen-pen.ensures.file c.into_pen-pen.ensures.width)
 
@@ -44,7 +44,7 @@ pub returns-clause-whole : goal.returns-clause-whole
 returns-clause-whole g c =
     let may = subst (λ (ss : List (Seated _)). MayGather c.args.live ss c.args.flusher) c.as_slice.ensures.value c.in_default.ensures.may in
     let stand = subst (λ (ss : List (Seated _)). All StandInList ss) c.as_slice.ensures.value c.in_default.ensures.stand in
-    let begin = subst (λ (f : FlusherOf _ _). All (λ s. Begins s.pass.entries f.pass.entries) c.args.seats.items) c.copy_growths-copied.ensures.same c.take_in_all.ensures.begin in
+    let begin = subst (λ (f : FlusherOf _ _). All (λ s. IsPrefix s.pass.entries f.pass.entries) c.args.seats.items) c.copy_growths-copied.ensures.same c.take_in_all.ensures.begin in
     whole c.args.live c.args.seats.items c.args.flusher may stand begin c.in_default.ensures.chained
 
 pub returns-clause-told : goal.returns-clause-told

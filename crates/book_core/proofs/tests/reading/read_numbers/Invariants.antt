@@ -1,5 +1,5 @@
-use Rattle.book_core.specs.Lists.{IsOf}
+use Rattle.book_core.specs.Lists.{IsSeatOf}
 use Rattle.book_core.proofs.tests.reading.read_numbers.Given as goal
 
 abbrev pub invariant-loop-number : goal.invariant-loop-number
-invariant-loop-number l = IsOf l.live l.seat
+invariant-loop-number l = IsSeatOf l.live l.seat

@@ -1,5 +1,5 @@
-use Rattle.book_core.specs.Lists.{IsOf}
+use Rattle.book_core.specs.Lists.{IsSeatOf}
 use Rattle.book_core.proofs.tests.threads.put_many.Given as goal
 
 abbrev pub invariant-loop-k : goal.invariant-loop-k
-invariant-loop-k g l = IsOf l.live l.seat
+invariant-loop-k g l = IsSeatOf l.live l.seat

@@ -1,7 +1,7 @@
 use Rattle.std.proofs.Common.{ap, sym, subst, length, ◌<◌}
 use Rattle.std.proofs.lemmas.Option.{slice_get-get_or}
 use Rattle.drive_core.specs.Ties.{AreSeatsOf}
-use Rattle.flush_core.specs.Flusher.{IsOf}
+use Rattle.flush_core.specs.Flusher.{IsFlusherOf}
 use Rattle.drive_core.proofs.growing.Growing.gather.Goals as goal
 
 pub gather-requires-after_bounds : goal.gather-requires-after_bounds

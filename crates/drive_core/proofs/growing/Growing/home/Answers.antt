@@ -2,7 +2,7 @@ use Rattle.std.proofs.Common.{ap, refl, ◌∙◌}
 use Rattle.drive_core.specs.Step as step
 use Rattle.drive_core.specs.Asked.{answer_of}
 use Rattle.drive_core.proofs.PenLanes.{home_few}
-use Rattle.drive_core.proofs.Lanes.{home_answers, home_refuses, home_brings, home_brings_too, settled_home, IsOf-ticked, rests-lent, leaves-kept}
+use Rattle.drive_core.proofs.Lanes.{home_answers, home_refuses, home_brings, home_brings_too, settled_home, IsFlusherOf-ticked, rests-lent, leaves-kept}
 use Rattle.drive_core.proofs.growing.Growing.home.Goals as goal
 use Rattle.drive_core.proofs.growing.Growing.home.Goals.{in-Ok, in-Err}
 
@@ -12,7 +12,7 @@ returns-clause-steps g c = rw (← c.self.view_is) (
     let new = c.tick-ticked.new.self in
     let e = c.tick-ticked.ensures in
     let is = c.self.invariant.0 in
-    let is' = IsOf-ticked g.D.Disk.keeps c.self.inside.live old new e.same e.opening e.model is in
+    let is' = IsFlusherOf-ticked g.D.Disk.keeps c.self.inside.live old new e.same e.opening e.model is in
     let rests = rests-lent g.R.Record.form g.D.Disk.keeps g.D.Disk.states new c.disk.result.now c.disk.ensures.disk c.disk.ensures.images in
     let images = λ (kept : g.D.Disk.keeps new.pen.disk). leaves-kept g.R.Record.form old (g.D.Disk.states old.pen.disk) (g.D.Disk.states new.pen.disk) (e.images kept) in
     elim c.match-ticked.branch [

@@ -1,11 +1,11 @@
 use Rattle.std.proofs.Common.{arith, ap, refl, sym, subst, ◌∙◌, length, slice_set}
-use Rattle.flush_core.specs.Flusher.{Learns}
+use Rattle.flush_core.specs.Flusher.{FlusherLearns}
 use Rattle.drive_core.specs.Asked.{answer_of}
 use Rattle.drive_core.specs.Line.{of_flush}
 use Rattle.drive_core.specs.Step as step
 use Rattle.drive_core.proofs.Seats.{of_replaced, lent_at, length_set}
 use Rattle.drive_core.proofs.Put.{same_hand}
-use Rattle.drive_core.proofs.Looked.{look_answers, look_strays, IsOf-learns}
+use Rattle.drive_core.proofs.Looked.{look_answers, look_strays, IsFlusherOf-learns}
 use Rattle.drive_core.proofs.growing.Growing.look_flusher.Goals as goal
 use Rattle.drive_core.proofs.growing.Growing.look_flusher.Goals.{in-Ok, in-Err}
 
@@ -14,7 +14,7 @@ invariant_of-self-2 g c =
     let seats = c.self.inside.seats.items in
     let last = c.self.invariant.2 in
     let long = length_set seats c.self.inside.last c.tell.new.seat in (
-      IsOf-learns g.D.Disk.keeps c.self.inside.live c.self.inside.flusher c.tell.new.self (subst (λ (f : _). Learns c.self.inside.flusher f) (sym c.tell.ensures.same) c.look-looked.ensures.learns) c.self.invariant.0,
+      IsFlusherOf-learns g.D.Disk.keeps c.self.inside.live c.self.inside.flusher c.tell.new.self (subst (λ (f : _). FlusherLearns c.self.inside.flusher f) (sym c.tell.ensures.same) c.look-looked.ensures.learns) c.self.invariant.0,
       of_replaced seats c.self.inside.last c.tell.new.seat c.self.inside.live c.self.invariant.1 c.tell.ensures.of,
       omega (arith, last, long),
     )

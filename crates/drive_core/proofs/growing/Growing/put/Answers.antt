@@ -1,5 +1,5 @@
 use Rattle.std.proofs.Common.{◌<◌, length, ap, refl, sym, subst, ◌∙◌}
-use Rattle.block_core.specs.Length.{IsBlockLength, IsRefusal}
+use Rattle.block_core.specs.Length.{IsBlockLength, IsBlockRefusal}
 use Rattle.drive_core.specs.Asked.{answer_of}
 use Rattle.drive_core.specs.Step as step
 use Rattle.drive_core.specs.declared.fault.Fault.TheVariants as told
@@ -12,7 +12,7 @@ returns-in-Err-clause-steps g c = rw (← c.self.view_is) (λ w phase tie.
     let inside = subst (λ (v : _). c.args.seat < length v.seats) (sym c.self.view_is) c.requires.inside in
     let width = g.R.Record.form.width in
     block_refuses g.R.Record.form g.D.Disk.states g.D.Disk.faults _ w phase _ tie c.args.seat inside c.args.records.now.items c.in-Err.fault _ (ap (λ f. step.Refused (told.Grow f)) c.block_fault.ensures)
-    (subst (λ (rs : _). IsRefusal width (length rs) c.in-Err.fault) c.as_slice.ensures.value c.in-Err.ensures))
+    (subst (λ (rs : _). IsBlockRefusal width (length rs) c.in-Err.fault) c.as_slice.ensures.value c.in-Err.ensures))
 
 pub returns-then-self-clause-steps : goal.returns-then-self-clause-steps
 returns-then-self-clause-steps g c = rw (← c.self.view_is) (λ w phase tie.

@@ -1,13 +1,13 @@
 use Rattle.std.proofs.Common.{refl, sym, ap, ◌∙◌}
 use Rattle.flush_core.specs.Flusher.{FlusherOf}
-use Rattle.flush_core.proofs.Goes.{Serves-told, IsOf-served}
+use Rattle.flush_core.proofs.Goes.{Serves-told, IsFlusherOf-served}
 use Rattle.flush_core.proofs.flusher.Flusher.serve.Goals.{in-Ok, in-Err}
 use Rattle.flush_core.proofs.flusher.Flusher.serve.Goals as goal
 
 pub returns-clause-images : goal.returns-clause-images
 returns-clause-images g c =
     let raised = Serves-told g.R.Record.form g.D.Disk.keeps g.D.Disk.states c.args.self.now c.serve_all-served.new.self c.raise.new.self _ c.serve_all-served.ensures.serves refl c.raise.ensures.raised in
-    let of = IsOf-served g.R.Record.form g.D.Disk.keeps g.D.Disk.states c.args.live.now c.args.self.now c.raise.new.self raised c.requires.of in
+    let of = IsFlusherOf-served g.R.Record.form g.D.Disk.keeps g.D.Disk.states c.args.live.now c.args.self.now c.raise.new.self raised c.requires.of in
     elim c.match-served.branch [
       | in-Ok w ↦
           let mark = w.set_ended.new.self in

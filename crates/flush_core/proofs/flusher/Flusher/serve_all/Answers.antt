@@ -1,7 +1,7 @@
 use Rattle.std.proofs.Common.{refl, ap, ◌∙◌, arith}
 use Rattle.std.proofs.lemmas.Result.{err_from_is_err_and}
 use Rattle.pen_core.specs.PenOf.{PenOf}
-use Rattle.flush_core.proofs.Goes.{Serves-begun, Serves-join, Serves-told, IsOf-served, pen-told}
+use Rattle.flush_core.proofs.Goes.{Serves-begun, Serves-join, Serves-told, IsFlusherOf-served, pen-told}
 use Rattle.flush_core.proofs.ServeFaults.{IsServeFault-since}
 use Rattle.flush_core.proofs.flusher.Flusher.serve_all.Goals.{in-None, in-Some+in_ok-begin_next+in_ok-settle_job-2+then-closed+then-self-known}
 use Rattle.flush_core.proofs.flusher.Flusher.serve_all.Goals as goal
@@ -12,11 +12,11 @@ loop-init g c =
     record { serves = e.serves; idle = e.idle; whole = e.whole; faults = e.faults }
 
 pub raise-requires-clause-of : goal.raise-requires-clause-of
-raise-requires-clause-of g c κs within = IsOf-served g.R.Record.form g.D.Disk.keeps g.D.Disk.states c.args.live.now c.args.self.now c.loop.self c.loop.invariant.serves c.requires.of
+raise-requires-clause-of g c κs within = IsFlusherOf-served g.R.Record.form g.D.Disk.keeps g.D.Disk.states c.args.live.now c.args.self.now c.loop.self c.loop.invariant.serves c.requires.of
 
 pub begin_next-requires-clause-of : goal.begin_next-requires-clause-of
 begin_next-requires-clause-of g c κs within =
-    IsOf-served g.R.Record.form g.D.Disk.keeps g.D.Disk.states c.args.live.now c.args.self.now c.raise.new.self
+    IsFlusherOf-served g.R.Record.form g.D.Disk.keeps g.D.Disk.states c.args.live.now c.args.self.now c.raise.new.self
     (Serves-told g.R.Record.form g.D.Disk.keeps g.D.Disk.states c.args.self.now c.loop.self c.raise.new.self _ c.loop.invariant.serves refl c.raise.ensures.raised) c.requires.of
 
 pub begin_next-requires-clause-idle : goal.begin_next-requires-clause-idle

@@ -4,7 +4,7 @@ use Rattle.std.proofs.lemmas.List.{length-map, length-take-le}
 use Rattle.segment_core.specs.Raw.{AreCellsOf}
 use Rattle.segment_core.specs.Shape.{limit_of}
 use Rattle.segment_core.specs.Written.{joined, group_frame, payload_len}
-use Rattle.pen_core.specs.Pen.{Begins, vector_after}
+use Rattle.pen_core.specs.Pen.{BeginsFrame, vector_after}
 use Rattle.pen_core.specs.Refusals.{IsRefusal, group_lines, is_full}
 use Rattle.flush_core.specs.Flusher.{IsFlusher}
 use Rattle.flush_core.specs.Group.{IsGreatest}
@@ -89,7 +89,7 @@ invariant_of-self-2 g c =
     let growths = from_on s.taken s.pass.entries in
     let pen = c.begin_group.new.self in
     let row = row_is s.pass.entries s.taken c.next_group-group.new.pass.entries c.as_slice.result.now c.in-Ok.row.items n (ap (λ p. p.entries) c.next_group-group.ensures.same) c.as_slice.ensures.value c.in-Ok.ensures.growths in
-    let begun = subst (λ gs. Begins (group_frame form gs) s.pen pen) row c.in_default-begin_group.ensures.begun in
+    let begun = subst (λ gs. BeginsFrame (group_frame form gs) s.pen pen) row c.in_default-begin_group.ensures.begun in
     subst (λ pass. IsFlusher (g.D.Disk.keeps pen.disk) form (flusher_of form pen pass s.mark s.before (s.taken + n) s.settled)) (sym (c.in-Ok.ensures.same ∙ c.next_group-group.ensures.same))
     (taken_kept form (g.D.Disk.keeps s.pen.disk) _ c.self.invariant (idle_is s.pen.job c.in_default.ensures.idle) n c.next_group-group.ensures.greatest.there pen (g.D.Disk.keeps pen.disk) begun (subst g.D.Disk.keeps begun.disk_same)
     (λ records are. subst (λ gs. AreCellsOf form (vector_after pen) (records ++ joined gs)) row (c.in_default-begin_group.ensures.next records are)))
@@ -99,4 +99,4 @@ returns-clause-begun g c = rw (← c.self.view_is) (λ some.
     let s = c.self.inside in
     let n = c.next_group-group.result.count in
     let row = row_is s.pass.entries s.taken c.next_group-group.new.pass.entries c.as_slice.result.now c.in-Ok.row.items n (ap (λ p. p.entries) c.next_group-group.ensures.same) c.as_slice.ensures.value c.in-Ok.ensures.growths in
-    subst (λ gs. Begins (group_frame g.R.Record.form gs) s.pen c.begin_group.new.self) row c.in_default-begin_group.ensures.begun)
+    subst (λ gs. BeginsFrame (group_frame g.R.Record.form gs) s.pen c.begin_group.new.self) row c.in_default-begin_group.ensures.begun)

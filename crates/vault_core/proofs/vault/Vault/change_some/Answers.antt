@@ -6,7 +6,7 @@ use Rattle.segment_core.specs.Raw.{AreCellsOf}
 use Rattle.segment_core.specs.Command.{replaced}
 use Rattle.segment_core.specs.Written.{joined}
 use Rattle.segment_core.specs.Frame.{records_of_runs}
-use Rattle.pen_core.specs.Pen.{Begins, vector_after}
+use Rattle.pen_core.specs.Pen.{BeginsFrame, vector_after}
 use Rattle.pen_core.specs.Refusals.{change_lines}
 use Rattle.vault_core.specs.Parts.{AreParts, IsCut, slice_of, spans_of}
 use Rattle.vault_core.specs.Touched.{IsTouched}

@@ -1,0 +1,5 @@
+//! Tests of the flusher by its public calls: what no clause says.
+#![tactic(auto)]
+
+#[cfg(test)]
+mod tests;
