@@ -1,15 +1,14 @@
 -- Lines that ask for nothing.
-use Rattle.std.proofs.Common.{◌≡◌, ◌≢◌, ℕ, ◌<◌, ◌^◌, Bool, true, false, if◌then◌else◌, List, [], ◌∷◌, codes, Option, Some, None, Ok, refl, sym, ap, ◌∙◌, subst, arith, inl, inr}
-use Rattle.std.specs.Prelude.{decimal, ◌==◌}
+use Rattle.std.proofs.Common.{◌≡◌, ◌≢◌, ℕ, ◌*◌, Bool, true, false, if◌then◌else◌, List, [], ◌∷◌, length, slice_index, Result, Ok, Err, refl, sym, ap, ◌∙◌, subst, arith}
+use Rattle.std.specs.Prelude.{◌==◌}
 use Rattle.hex.specs.Hex.{decode_of, decode_sized}
-use Rattle.hex.proofs.HexLemmas.{decode_of-ok, decode_sized-twice}
+use Rattle.hex.specs.declared.error.FromHexError.{FromHexError}
+use Rattle.hex.proofs.HexLemmas.{decode_of-ok, decode_sized-ok, decode_sized-twice}
 use Rattle.disk_core.specs.declared.choice.Choice.{Choice}
 use Rattle.cvec.specs.declared.verb.Verb.{Verb}
 use Rattle.cvec.specs.declared.verb.Verb.TheVariants as verbs
 use Rattle.cvec.specs.Text.{Spelling}
-use Rattle.cvec.specs.Numbers.{number_spelling}
-use Rattle.cvec.specs.LineWords.{words_of, StartsWithNone}
-use Rattle.cvec.specs.LineRuns.{IsRun, AreRuns, run_words, runs_words}
+use Rattle.cvec.specs.LineWords.{words_of}
 use Rattle.cvec.specs.Verbs.{verb_word}
 use Rattle.cvec.specs.StepLine.{Asked, Asks, AsksNothing, IsCrash, IsStepLineOf, IsStepLine}
 
@@ -72,49 +71,27 @@ no_words spelling line name verb rest cut named none so =
     let same = one_verb so.1.verb verb (sym (head_is name (verb_word so.1.verb) rest so.1.words parts) ∙ named) in
     none so.0 (subst (λ (ws : List (List ℕ)). Asks spelling verb ws so.0) (sym (tail_is name (verb_word so.1.verb) rest so.1.words parts)) (subst (λ (v : Verb). Asks spelling v so.1.words so.0) same so.1.asks))
 
--- ---- words that a verb doesn't take
+-- ---- bytes in hex
 
-pub no_create : {R : Type 0} (spelling : Spelling R) (words : List (List ℕ)) → words ≢ [] → words ≢ codes "2" ∷ [] → AsksNothing spelling verbs.Create words
-no_create spelling words some other asked (inl alone) = some alone.0
-no_create spelling words some other asked (inr second) = other second.0
+one_in : (bytes : List ℕ) → length bytes ≡ 1 → bytes ≡ slice_index bytes 0 ∷ []
+one_in [] one = cc one
+one_in (b ∷ []) one = refl
+one_in (b ∷ c ∷ bytes) one = absurd (omega (arith, one))
 
-pub no_share : {R : Type 0} (spelling : Spelling R) (words : List (List ℕ)) → StartsWithNone (number_spelling 64) words → AsksNothing spelling verbs.Share words
-no_share spelling words none asked so = none so.0 (decimal so.1 ∷ []) so.2 so.4
+pub byte_read : (digits bytes : List ℕ) → decode_sized digits 1 ≡ Ok bytes → decode_of digits ≡ Ok (slice_index bytes 0 ∷ [])
+byte_read digits bytes read =
+    let two = decode_sized-ok digits 1 bytes read in
+    let whole = sym (decode_sized-twice digits 1 two) ∙ read in
+    let len = (decode_of-ok digits bytes whole).2 in
+    whole ∙ ap (λ (bs : List ℕ). let r : Result (List ℕ) FromHexError = Ok bs in r) (one_in bytes (omega (arith, two, len)))
 
-pub no_seats : {R : Type 0} (spelling : Spelling R) (words rest : List (List ℕ)) (room : ℕ) → words ≡ decimal room ∷ rest → ((n : ℕ) → n < 2 ^ 64 → rest ≢ decimal n ∷ []) → AsksNothing spelling verbs.Share words
-no_seats spelling words rest room cut none asked so = none so.1 so.3 (tail_is (decimal room) (decimal so.0) rest (decimal so.1 ∷ []) (sym cut ∙ so.4))
+pub no_byte : (digits : List ℕ) (fault : FromHexError) → decode_sized digits 1 ≡ Err fault → (byte : ℕ) → decode_of digits ≢ Ok (byte ∷ [])
+no_byte digits fault refused byte is =
+    let two : length digits ≡ 2 * 1 = (decode_of-ok digits (byte ∷ []) is).2 in
+    let both : Err fault ≡ Ok (byte ∷ []) = sym refused ∙ decode_sized-twice digits 1 two ∙ is in
+    cc both
 
-pub no_put : {R : Type 0} (spelling : Spelling R) (words : List (List ℕ)) → ((run : ℕ × List R) → IsRun spelling run → words ≢ run_words spelling.text_of run) → AsksNothing spelling verbs.Put words
-no_put spelling words none asked so = none so.0 so.1 so.2
-
-pub no_change : {R : Type 0} (spelling : Spelling R) (words : List (List ℕ)) → ((run : ℕ × List R) → IsRun spelling run → words ≢ run_words spelling.text_of run) → AsksNothing spelling verbs.Change words
-no_change spelling words none asked so = none so.0 so.1 so.2
-
-pub no_changes : {R : Type 0} (spelling : Spelling R) (words : List (List ℕ)) → ((runs : List (ℕ × List R)) → AreRuns spelling runs → words ≢ runs_words spelling.text_of runs) → AsksNothing spelling verbs.Changes words
-no_changes spelling words none asked so = none so.0 so.1 so.2
-
-pub no_look : {R : Type 0} (spelling : Spelling R) (words : List (List ℕ)) → ((word : List ℕ) → words ≢ word ∷ []) → AsksNothing spelling verbs.Look words
-no_look spelling words none asked (inl seat) = none (decimal seat.0) seat.2
-no_look spelling words none asked (inr flusher) = none (codes "f") flusher.0
-
-pub no_seat : {R : Type 0} (spelling : Spelling R) (words : List (List ℕ)) (word : List ℕ) → words ≡ word ∷ [] → word ≢ codes "f" → ((n : ℕ) → n < 2 ^ 64 → decimal n ≢ word) → AsksNothing spelling verbs.Look words
-no_seat spelling words word cut other none asked (inl seat) = none seat.0 seat.1 (head_is (decimal seat.0) word [] [] (sym seat.2 ∙ cut))
-no_seat spelling words word cut other none asked (inr flusher) = other (head_is word (codes "f") [] [] (sym cut ∙ flusher.0))
-
-pub no_view : {R : Type 0} (spelling : Spelling R) (words : List (List ℕ)) → ((n : ℕ) → n < 2 ^ 64 → words ≢ decimal n ∷ []) → AsksNothing spelling verbs.View words
-no_view spelling words none asked so = none so.0 so.1 so.2
-
-pub no_settled : {R : Type 0} (spelling : Spelling R) (words : List (List ℕ)) → ((n : ℕ) → n < 2 ^ 64 → words ≢ decimal n ∷ []) → AsksNothing spelling verbs.Settled words
-no_settled spelling words none asked so = none so.0 so.1 so.2
-
-pub no_size : {R : Type 0} (spelling : Spelling R) (words : List (List ℕ)) → StartsWithNone (number_spelling 64) words → AsksNothing spelling verbs.Resize words
-no_size spelling words none asked so = none so.0 (spelling.text_of so.1 ∷ []) so.2 so.4
-
-pub no_value : {R : Type 0} (spelling : Spelling R) (words rest : List (List ℕ)) (size : ℕ) → words ≡ decimal size ∷ rest → ((r : R) → spelling.is_value r → rest ≢ spelling.text_of r ∷ []) → AsksNothing spelling verbs.Resize words
-no_value spelling words rest size cut none asked so = none so.1 so.3 (tail_is (decimal size) (decimal so.0) rest (spelling.text_of so.1 ∷ []) (sym cut ∙ so.4))
-
-pub no_crash : {R : Type 0} (spelling : Spelling R) (words : List (List ℕ)) → ((word : List ℕ) → words ≢ word ∷ []) → AsksNothing spelling verbs.Crash words
-no_crash spelling words none asked so = none so.0 so.2
+-- ---- words of a crash
 
 pub no_choice : {R : Type 0} (spelling : Spelling R) (words : List (List ℕ)) (word : List ℕ) → words ≡ word ∷ [] → ((choice : Choice) → IsCrash word choice → ⊥) → AsksNothing spelling verbs.Crash words
 no_choice spelling words word cut none asked so =

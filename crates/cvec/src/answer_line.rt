@@ -67,13 +67,11 @@ fn write_spaced<R: TextRecord, W: Write>(writer: &mut W, records: &[R]) -> io::R
 fn write_list<R: TextRecord, W: Write>(writer: &mut W, records: &[R]) -> io::Result<()>
     ensures { OnOk result (Appends (W.contents writer.old) (W.contents writer.new) (listed_text R.spelling.text_of records.now)) }
 {
-    match records {
-        [] => writer.write_all(b"empty"),
-        [first, others @ ..] => {
-            first.write_text(writer)?;
-            write_spaced(writer, others)
-        }
-    }
+    let Some((first, others)) = records.split_first() else {
+        return writer.write_all(b"empty");
+    };
+    first.write_text(writer)?;
+    write_spaced(writer, others)
 }
 
 fn write_refused<W: Write>(writer: &mut W, fault: Fault) -> io::Result<()>
