@@ -2,7 +2,7 @@
 use Rattle.std.proofs.Common.{◌≡◌, ℕ, ◌+◌, ◌<◌, ◌≤◌, List, [], ◌∷◌, ◌++◌, length, map, Option, refl, sym, ap, ◌∙◌, subst, arith}
 use Rattle.std.specs.Prelude.{MatchOption}
 use Rattle.std.specs.List.{AllByRecursion}
-use Rattle.std.proofs.lemmas.List.{append_assoc, append-nil, length-append, map-append, length-map}
+use Rattle.std.proofs.lemmas.List.{append-nil, length-append, map-append, length-map}
 use Rattle.cvec.specs.Text.{Spelling}
 use Rattle.cvec.specs.Lines.{HasNoLf, AreLines, IsFirstBadLine}
 use Rattle.cvec.specs.GroupLine.{group_line, IsGroup, IsGroupLineOf, IsGroupLine, AreGroupLines}

@@ -10,7 +10,7 @@ use Rattle.cvec.specs.declared.verb.Verb.TheVariants as verbs
 use Rattle.cvec.specs.Text.{Spelling}
 use Rattle.cvec.specs.LineWords.{words_of}
 use Rattle.cvec.specs.Verbs.{verb_word}
-use Rattle.cvec.specs.StepLine.{Asked, Asks, AsksNothing, IsCrash, IsStepLineOf, IsStepLine}
+use Rattle.cvec.specs.StepLine.{Asks, AsksNothing, IsCrash, IsStepLine}
 
 head_is : (v w : List ℕ) (vs ws : List (List ℕ)) → v ∷ vs ≡ w ∷ ws → v ≡ w
 head_is v w vs ws is = cc

@@ -1,5 +1,5 @@
 -- Scripts: what the lines of an input ask for, cut at the crashes.
-use Rattle.std.specs.Prelude.{◌≡◌, ℕ, List, [], ◌∷◌, ◌++◌, map}
+use Rattle.std.specs.Prelude.{ℕ, List, [], ◌∷◌, ◌++◌, map}
 use Rattle.std.specs.List.{flat_map}
 use Rattle.disk_core.specs.declared.choice.Choice.{Choice}
 use Rattle.drive_core.specs.Step.{Step}

@@ -257,3 +257,71 @@ fn a_fold_goes_on_beside_growth(rt: HostRuntime) -> Result<(), Fail> {
     assert!(rt; answers(alloc, &rt, lines)?);
     Ok(())
 }
+
+#[test]
+fn runs_are_refused_by_the_format_and_by_their_order(rt: HostRuntime) -> Result<(), Fail> {
+    let alloc = rt.alloc();
+    let lines: Lines = &[
+        ("create", "ok"),
+        ("resize 4 5", "ok"),
+        ("changes 0 7 | 2 8 9", "refused old format"),
+        ("changes 0 7", "ok"),
+        ("list", "7 5 5 5"),
+    ];
+    assert!(rt; answers(alloc, &rt, lines)?);
+    let lines: Lines = &[
+        ("create 2", "ok"),
+        ("resize 4 5", "ok"),
+        ("changes 2 8 9 | 0 7", "refused runs"),
+        ("list", "5 5 5 5"),
+    ];
+    assert!(rt; answers(alloc, &rt, lines)?);
+    Ok(())
+}
+
+#[test]
+fn refused_steps_change_nothing(rt: HostRuntime) -> Result<(), Fail> {
+    let alloc = rt.alloc();
+    let lines: Lines = &[
+        ("open", "refused unborn"),
+        ("list", "refused wrong phase"),
+        ("create", "ok"),
+        ("create", "refused wrong phase"),
+        ("list", "empty"),
+        ("resize 1 5", "ok"),
+        ("change 1 6", "refused out of range"),
+        ("share 0 1", "refused too large"),
+        ("share 1 65", "refused too large"),
+        ("change 0 6", "ok"),
+        ("fold", "begun"),
+        ("fold", "refused busy"),
+        ("put 0 1", "refused wrong phase"),
+        ("list", "6"),
+        ("crash old", "crashed 56"),
+        ("list", "refused wrong phase"),
+        ("create", "refused exists"),
+        ("open", "size 1"),
+        ("list", "6"),
+    ];
+    assert!(rt; answers(alloc, &rt, lines)?);
+    let lines: Lines = &[
+        ("create", "ok"),
+        ("share 1 1", "ok"),
+        ("put 1 5", "refused wrong phase"),
+        ("share 1 1", "refused wrong phase"),
+        ("view 0", "empty"),
+        ("put 0 5", "growth 0 start 0 len 1"),
+        ("put 0 5", "refused full"),
+        ("gather", "refused unsettled 0"),
+        ("close", "ok"),
+        ("put 0 6", "refused closed"),
+        ("look f", "size 1"),
+        ("fold", "nothing"),
+        ("home", "idle"),
+        ("log", "idle"),
+        ("take", "took 1"),
+        ("take", "refused busy"),
+    ];
+    assert!(rt; answers(alloc, &rt, lines)?);
+    Ok(())
+}

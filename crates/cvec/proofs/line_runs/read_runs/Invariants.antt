@@ -2,7 +2,6 @@ use Rattle.std.proofs.Common.{length}
 use Rattle.cvec.specs.LineWords.{words_left}
 use Rattle.drive_core.specs.Given.{pieces_of}
 use Rattle.cvec.proofs.LineRuns.{HasRuns}
-use Rattle.cvec.specs.LineWords.{StartsWithNone}
 use Rattle.cvec.proofs.line_runs.read_runs.Given as goal
 
 abbrev pub invariant-loop-word : goal.invariant-loop-word

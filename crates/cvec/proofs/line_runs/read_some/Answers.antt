@@ -1,7 +1,7 @@
 use Rattle.std.proofs.Common.{◌≡◌, ◌++◌, length, map, rules, sym, ap, ◌∙◌, subst}
 use Rattle.cvec.specs.LineWords.{words_left, StartsWithNone}
 use Rattle.cvec.proofs.Small.{nil_from_length}
-use Rattle.cvec.proofs.LineRuns.{no_number_first, no_record_behind}
+use Rattle.cvec.proofs.LineRuns.{no_record_behind}
 use Rattle.cvec.proofs.line_runs.read_some.Goals as goal
 
 pub returns-then-is_empty-clause-bad : goal.returns-then-is_empty-clause-bad

@@ -1,6 +1,5 @@
-use Rattle.std.proofs.Common.{◌≡◌, ◌++◌, List, ℕ, length, rules, refl, sym, ap, ◌∙◌, subst}
+use Rattle.std.proofs.Common.{◌≡◌, ◌++◌, List, ℕ, length, rules, ap, ◌∙◌}
 use Rattle.std.proofs.lemmas.List.{append_assoc}
-use Rattle.drive_core.specs.Asked.{step_of}
 use Rattle.cvec.specs.Answers.{crashed_line}
 use Rattle.cvec.specs.Played.{ram_disk}
 use Rattle.cvec.proofs.Played.{is_fresh, part_played}

@@ -1,8 +1,7 @@
-use Rattle.std.proofs.Common.{◌≡◌, ◌<◌, length, refl, sym, ap, ◌∙◌, arith, Err}
+use Rattle.std.proofs.Common.{◌<◌, length, refl, sym, ap, ◌∙◌, arith, Err}
 use Rattle.std.specs.Prelude.{is_ok}
 use Rattle.std.specs.Option.{option_copied}
 use Rattle.std.proofs.lemmas.Bool.{eqb-true, eqb-false}
-use Rattle.cvec.specs.Script.{script_of, script_asks}
 use Rattle.cvec.specs.StepLine.{asked_of}
 use Rattle.cvec.proofs.Small.{OnOk_at, nil_from_length}
 use Rattle.cvec.proofs.LineLemmas.{lent_whole, lent_rest, shorter_rest}
