@@ -38,7 +38,7 @@ not_false false is = absurd cc
 module _ {R D : Type 0} (form : Encoding R) (states : D → List State) (faults : D → ℕ) (keeps : D → Type 0) (w : World R) (v : VaultOf R D) (tie : IsExclusive states faults keeps w v) (new : VaultOf R D)
     (size : v.pen.broken ≡ false → v.pen.tally.size ≡ length (list_of v)) (rests : keeps new.pen.disk → (image : List ℕ) → IsImage (now (states new.pen.disk)) image → MayHold form new image)
     (pieces : List (ℕ × List R)) (records : List R) (records_are : records ≡ joined (map (λ piece. piece.1) pieces)) (asked : Step R)
-    (asks : (answer : Answer R) (w' : World R) (n : ℕ) → IsCommand form w (Some (Change (runs_of pieces) records)) answer w' → CommandCalls (Some (Change (runs_of pieces) records)) answer n → ExclusiveRow form w asked answer w' × HasCalls w asked answer n) where
+    (asks : (answer : Answer R) (w' : World R) (n : ℕ) → IsCommand form w (Some (Change (runs_of pieces) records)) answer w' → CommandCalls (Some (Change (runs_of pieces) records)) answer n → ExclusiveRow form (keeps new.pen.disk) w asked answer w' × HasCalls w asked answer n) where
   abbrev IsMade : Type 0
   IsMade = IsTouched (given pieces) (runs_of pieces) (list_of v) (list_of new)
 

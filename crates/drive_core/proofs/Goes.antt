@@ -81,9 +81,9 @@ module _ {R : Type 0} (w w' : World R) (n : ℕ) (there : HasFile w.phase) where
         longer ok.1 command refl refl (omega arith) there (λ none. absurd (omega (arith, four, none))))
         (torn_goes command)
 
-    fold_goes : (live : Bool) → HasBegun w live w' → Goes w w' n
-    fold_goes true begun = to begun.1 refl refl refl there
-    fold_goes false begun = stays begun
+    fold_goes : (keeps : Type 0) (live : Bool) → HasBegun keeps w live w' → Goes w w' n
+    fold_goes keeps true begun = to begun.3 refl refl refl there
+    fold_goes keeps false begun = stays begun
 
     logged_goes : (job : JobOf) (next : Option pen_step.Step) (answer : Answer R) → LaneCalls answer n → IsLogged w job next answer w' → Goes w w' n
     logged_goes job None answer calls row =
@@ -120,59 +120,59 @@ module _ {R : Type 0} (w w' : World R) (n : ℕ) (there : HasFile w.phase) where
     seat_goes answer true row goes = goes row
     seat_goes answer false row goes = stays row.1
 
-    fold_row : (answer : Answer R) → IsFold w answer w' → Goes w w' n
-    fold_row answer row = by_outcome row (λ ok. fold_goes (is_live w.hand.file) ok.1) (λ fault by. stays by)
+    fold_row : (keeps : Type 0) (answer : Answer R) → IsFold keeps w answer w' → Goes w w' n
+    fold_row keeps answer row = by_outcome row (λ ok. fold_goes keeps (is_live w.hand.file) ok.1) (λ fault by. stays by)
 
-    exclusive_goes : (asked : Step R) (answer : Answer R) → HasCalls w asked answer n → ExclusiveRow form w asked answer w' → Goes w w' n
-    exclusive_goes (step.Share room seats) answer calls row = by_outcome row (λ ok. to ok.1 refl refl refl tt) (λ fault by. stays by)
-    exclusive_goes (step.Change start records) answer calls row = command_goes (changed start records) answer calls row
-    exclusive_goes (step.Changes pieces) answer calls row = elim row [ inl memory ↦ stays memory.2 | inr command ↦ command_goes (changed_runs pieces) answer calls command ]
-    exclusive_goes (step.Resize size r) answer calls row = command_goes (resized (length (vector w)) size r) answer calls row
-    exclusive_goes step.Clear answer calls row = command_goes (cleared (length (vector w))) answer calls row
-    exclusive_goes step.Listing answer calls row = by_outcome row (λ ok. stays ok.1) (λ fault by. stays by)
-    exclusive_goes step.Fold answer calls row = fold_row answer row
-    exclusive_goes step.Log answer calls row = log_goes answer calls row
-    exclusive_goes step.Home answer calls row = home_goes answer row
-    exclusive_goes (step.Create format) answer calls row = stays row.1
-    exclusive_goes step.Open answer calls row = stays row.1
-    exclusive_goes (step.Put seat records) answer calls row = stays row.1
-    exclusive_goes (step.Look pass) answer calls row = stays row.1
-    exclusive_goes (step.View seat) answer calls row = stays row.1
-    exclusive_goes (step.Settled seat) answer calls row = stays row.1
-    exclusive_goes step.Take answer calls row = stays row.1
-    exclusive_goes step.Raise answer calls row = stays row.1
-    exclusive_goes step.Close answer calls row = stays row.1
-    exclusive_goes step.Gather answer calls row = stays row.1
+    exclusive_goes : (keeps : Type 0) (asked : Step R) (answer : Answer R) → HasCalls w asked answer n → ExclusiveRow form keeps w asked answer w' → Goes w w' n
+    exclusive_goes keeps (step.Share room seats) answer calls row = by_outcome row (λ ok. to ok.1 refl refl refl tt) (λ fault by. stays by)
+    exclusive_goes keeps (step.Change start records) answer calls row = command_goes (changed start records) answer calls row
+    exclusive_goes keeps (step.Changes pieces) answer calls row = elim row [ inl memory ↦ stays memory.2 | inr command ↦ command_goes (changed_runs pieces) answer calls command ]
+    exclusive_goes keeps (step.Resize size r) answer calls row = command_goes (resized (length (vector w)) size r) answer calls row
+    exclusive_goes keeps step.Clear answer calls row = command_goes (cleared (length (vector w))) answer calls row
+    exclusive_goes keeps step.Listing answer calls row = by_outcome row (λ ok. stays ok.1) (λ fault by. stays by)
+    exclusive_goes keeps step.Fold answer calls row = fold_row keeps answer row
+    exclusive_goes keeps step.Log answer calls row = log_goes answer calls row
+    exclusive_goes keeps step.Home answer calls row = home_goes answer row
+    exclusive_goes keeps (step.Create format) answer calls row = stays row.1
+    exclusive_goes keeps step.Open answer calls row = stays row.1
+    exclusive_goes keeps (step.Put seat records) answer calls row = stays row.1
+    exclusive_goes keeps (step.Look pass) answer calls row = stays row.1
+    exclusive_goes keeps (step.View seat) answer calls row = stays row.1
+    exclusive_goes keeps (step.Settled seat) answer calls row = stays row.1
+    exclusive_goes keeps step.Take answer calls row = stays row.1
+    exclusive_goes keeps step.Raise answer calls row = stays row.1
+    exclusive_goes keeps step.Close answer calls row = stays row.1
+    exclusive_goes keeps step.Gather answer calls row = stays row.1
 
-    growth_goes : (phase : Growth) (asked : Step R) (answer : Answer R) → HasCalls w asked answer n → GrowthRow form w phase asked answer w' → Goes w w' n
-    growth_goes phase (step.Put seat records) answer calls row = seat_goes answer (has_seat phase (Some seat)) row
+    growth_goes : (keeps : Type 0) (phase : Growth) (asked : Step R) (answer : Answer R) → HasCalls w asked answer n → GrowthRow form keeps w phase asked answer w' → Goes w w' n
+    growth_goes keeps phase (step.Put seat records) answer calls row = seat_goes answer (has_seat phase (Some seat)) row
         (λ put. by_outcome put (λ ok. longer ok.1 (commands.Grow records) refl refl (omega arith) tt (λ none. refl)) (λ fault by. to by.2 refl refl refl tt))
-    growth_goes phase (step.Look pass) answer calls row = seat_goes answer (has_seat phase pass) row
+    growth_goes keeps phase (step.Look pass) answer calls row = seat_goes answer (has_seat phase pass) row
         (λ look. by_outcome look (λ ok. to ok.3 refl refl refl tt) (λ fault by. to by refl refl refl there))
-    growth_goes phase (step.View seat) answer calls row = seat_goes answer (has_seat phase (Some seat)) row
+    growth_goes keeps phase (step.View seat) answer calls row = seat_goes answer (has_seat phase (Some seat)) row
         (λ view. by_outcome view (λ ok. stays ok.1) (λ fault by. stays by))
-    growth_goes phase (step.Settled seat) answer calls row = seat_goes answer (has_seat phase (Some seat)) row
+    growth_goes keeps phase (step.Settled seat) answer calls row = seat_goes answer (has_seat phase (Some seat)) row
         (λ read. by_outcome read (λ ok. to ok.4 refl refl refl tt) (λ fault by. to by refl refl refl there))
-    growth_goes phase step.Take answer calls row = by_outcome row (λ ok. group_goes phase (next_group form.width w phase) ok.1) (λ fault by. stays by)
-    growth_goes phase step.Raise answer calls row = to row.1 refl refl refl tt
-    growth_goes phase step.Close answer calls row = to row.1 refl refl refl tt
-    growth_goes phase step.Gather answer calls row = by_outcome row (λ ok. to ok.1 refl refl refl tt) (λ fault by. stays by)
-    growth_goes phase step.Fold answer calls row = fold_row answer row
-    growth_goes phase step.Log answer calls row = log_goes answer calls row
-    growth_goes phase step.Home answer calls row = home_goes answer row
-    growth_goes phase (step.Create format) answer calls row = stays row.1
-    growth_goes phase step.Open answer calls row = stays row.1
-    growth_goes phase (step.Share room seats) answer calls row = stays row.1
-    growth_goes phase (step.Change start records) answer calls row = stays row.1
-    growth_goes phase (step.Changes pieces) answer calls row = stays row.1
-    growth_goes phase (step.Resize size r) answer calls row = stays row.1
-    growth_goes phase step.Clear answer calls row = stays row.1
-    growth_goes phase step.Listing answer calls row = stays row.1
+    growth_goes keeps phase step.Take answer calls row = by_outcome row (λ ok. group_goes phase (next_group form.width w phase) ok.1) (λ fault by. stays by)
+    growth_goes keeps phase step.Raise answer calls row = to row.1 refl refl refl tt
+    growth_goes keeps phase step.Close answer calls row = to row.1 refl refl refl tt
+    growth_goes keeps phase step.Gather answer calls row = by_outcome row (λ ok. to ok.1 refl refl refl tt) (λ fault by. stays by)
+    growth_goes keeps phase step.Fold answer calls row = fold_row keeps answer row
+    growth_goes keeps phase step.Log answer calls row = log_goes answer calls row
+    growth_goes keeps phase step.Home answer calls row = home_goes answer row
+    growth_goes keeps phase (step.Create format) answer calls row = stays row.1
+    growth_goes keeps phase step.Open answer calls row = stays row.1
+    growth_goes keeps phase (step.Share room seats) answer calls row = stays row.1
+    growth_goes keeps phase (step.Change start records) answer calls row = stays row.1
+    growth_goes keeps phase (step.Changes pieces) answer calls row = stays row.1
+    growth_goes keeps phase (step.Resize size r) answer calls row = stays row.1
+    growth_goes keeps phase step.Clear answer calls row = stays row.1
+    growth_goes keeps phase step.Listing answer calls row = stays row.1
 
     phase_goes : (keeps : Type 0) (phase : Phase) → HasFile phase → (asked : Step R) (answer : Answer R) → HasCalls w asked answer n → PhaseRow form keeps w phase asked answer w' → Goes w w' n
     phase_goes keeps Shut has asked answer calls row = absurd has
-    phase_goes keeps Exclusive has asked answer calls row = exclusive_goes asked answer calls row
-    phase_goes keeps (Growing phase) has asked answer calls row = growth_goes phase asked answer calls row
+    phase_goes keeps Exclusive has asked answer calls row = exclusive_goes keeps asked answer calls row
+    phase_goes keeps (Growing phase) has asked answer calls row = growth_goes keeps phase asked answer calls row
 
     stray_goes : (keeps : Type 0) (stray : Option ℕ) (asked : Step R) (answer : Answer R) → HasCalls w asked answer n → StrayRow form keeps w stray asked answer w' → Goes w w' n
     stray_goes keeps None asked answer calls row = phase_goes keeps w.phase there asked answer calls row

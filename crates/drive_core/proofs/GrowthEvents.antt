@@ -63,7 +63,7 @@ module _ {R D : Type 0} (form : Encoding R) (states : D → List State) (faults 
   pub same_asked : (asked same : Step R) (g' : GrowingOf R D) (answer : Answer R) (n : ℕ) → asked ≡ same → Steps form keeps (λ w'. IsBehind states faults w' g') w same answer n → Steps form keeps (λ w'. IsBehind states faults w' g') w asked answer n
   same_asked asked same g' answer n is steps = subst (λ a. Steps form keeps (λ w'. IsBehind states faults w' g') w a answer n) (sym is) steps
 
-  pub misplaced_steps : (asked : Step R) (answer : Answer R) → answer ≡ wrong → GrowthRow form w phase asked wrong w
+  pub misplaced_steps : (asked : Step R) (answer : Answer R) → answer ≡ wrong → GrowthRow form keeps w phase asked wrong w
       → Steps form keeps (λ w'. IsBehind states faults w' g) w asked answer (calls_between (states g.flusher.pen.disk) (states g.flusher.pen.disk))
   misplaced_steps asked answer is row =
       subst (λ a. Steps form keeps (λ w'. IsBehind states faults w' g) w asked a (calls_between (states g.flusher.pen.disk) (states g.flusher.pen.disk))) (sym is)

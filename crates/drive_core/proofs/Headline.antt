@@ -7,6 +7,8 @@ use Rattle.std.proofs.lemmas.List.Sums.{sum_by-cons}
 use Rattle.disk_core.specs.State.{IsImage, now}
 use Rattle.disk_core.specs.Moments.{clock, LeftSince, LeavesOnly}
 use Rattle.disk_core.proofs.JoinedMoments.{LeavesOnly-start, LeavesOnly-join, LeavesOnly-weaker}
+use Rattle.segment_core.specs.declared.format.Shape.{Shape}
+use Rattle.segment_core.specs.Shape.{shape_of}
 use Rattle.segment_core.specs.Command.{Command, content}
 use Rattle.pen_core.specs.Typed.{OpensTo}
 use Rattle.pen_core.specs.declared.fault.PenFault.TheVariants as pen_fault
@@ -49,23 +51,23 @@ module _ {R : Type 0} (form : Encoding R) where
 
   module _ (keeps : Type 0) where
     -- ---- a step that makes a file calls the device
-    not_created : (w w' : World R) (fault : Fault) → w.phase ≡ Shut → NotCreated keeps w w' fault → w'.phase ≡ Shut
-    not_created w w' (Vault (vault.Pen (pen_fault.Disk fault))) shut by = ap (λ x. x.phase) by.1 ∙ shut
-    not_created w w' (Vault (vault.Pen pen_fault.Exists)) shut by = ap (λ x. x.phase) by.1 ∙ shut
-    not_created w w' (Vault other) shut by = ap (λ x. x.phase) by ∙ shut
-    not_created w w' (Grow fault) shut by = absurd by
-    not_created w w' (Scan fault) shut by = absurd by
+    not_created : (shape : Shape) (w w' : World R) (fault : Fault) → w.phase ≡ Shut → NotCreated keeps shape w w' fault → w'.phase ≡ Shut
+    not_created shape w w' (Vault (vault.Pen (pen_fault.Disk fault))) shut by = ap (λ x. x.phase) by.2 ∙ shut
+    not_created shape w w' (Vault (vault.Pen pen_fault.Exists)) shut by = ap (λ x. x.phase) by.2 ∙ shut
+    not_created shape w w' (Vault other) shut by = ap (λ x. x.phase) by ∙ shut
+    not_created shape w w' (Grow fault) shut by = absurd by
+    not_created shape w w' (Scan fault) shut by = absurd by
 
     not_opened : (w w' : World R) (fault : Fault) → w.phase ≡ Shut → NotOpened form keeps w w' fault → w'.phase ≡ Shut
-    not_opened w w' (Vault (vault.Pen (pen_fault.Disk fault))) shut by = ap (λ x. x.phase) by.1 ∙ shut
+    not_opened w w' (Vault (vault.Pen (pen_fault.Disk fault))) shut by = ap (λ x. x.phase) by.2 ∙ shut
     not_opened w w' (Vault other) shut by = absurd by
     not_opened w w' (Grow fault) shut by = absurd by
-    not_opened w w' (Scan fault) shut by = ap (λ x. x.phase) by.1 ∙ shut
+    not_opened w w' (Scan fault) shut by = ap (λ x. x.phase) by.2 ∙ shut
 
     shut_row : (w w' : World R) (n : ℕ) (asked : Step R) (answer : Answer R) → w.phase ≡ Shut → HasCalls w asked answer n → ShutRow form keeps w asked answer w' → (w'.phase ≡ Shut) ⊎ (0 < n)
     shut_row w w' n (step.Create format) answer shut calls row = elim row [
       | inl made ↦ inr (let c = subst (λ a. CreateCalls a n) made.1.0 calls in omega (arith, c.0))
-      | inr refused ↦ inl (not_created w w' refused.0 shut refused.3)
+      | inr refused ↦ inl (not_created (shape_of format form) w w' refused.0 shut refused.3)
     ]
     shut_row w w' n step.Open answer shut calls row = elim row [
       | inl made ↦ inr (let c = subst (λ a. OpenCalls a n) made.1.2 calls in omega (arith, c))

@@ -120,12 +120,12 @@ module _ {R D : Type 0} (states : D → List State) (faults : D → ℕ) (w : Wo
     lane_time : clock behind.disk.states ≡ clock w.disk.states + n
     lane_time = time ∙ ap (λ (d : DiskOf). clock d.states + n) (sym tie.disk_is)
 
-    in_phase : (asked : Step R) (answer : Answer R) → GrowthRow form w phase asked answer behind → IsStep form (keeps new.pen.disk) w asked answer behind
+    in_phase : (asked : Step R) (answer : Answer R) → GrowthRow form (keeps new.pen.disk) w phase asked answer behind → IsStep form (keeps new.pen.disk) w asked answer behind
     in_phase asked answer row =
         subst (λ s. StrayRow form (keeps new.pen.disk) w s asked answer behind) (sym tie.calm)
         (subst (λ p. PhaseRow form (keeps new.pen.disk) w p asked answer behind) (sym tie.phase_is) row)
 
-    lane_steps : (asked : Step R) (answer : Answer R) → GrowthRow form w phase asked answer behind → HasCalls w asked answer n → (n ≡ 0 → disk_of states faults new.pen.disk ≡ w.disk) → stray_in answer ≡ None
+    lane_steps : (asked : Step R) (answer : Answer R) → GrowthRow form (keeps new.pen.disk) w phase asked answer behind → HasCalls w asked answer n → (n ≡ 0 → disk_of states faults new.pen.disk ≡ w.disk) → stray_in answer ≡ None
         → Steps form (keeps new.pen.disk) (λ w'. IsBehind states faults w' with_flusher) w asked answer n
     lane_steps asked answer row calls still calm = record {
       after = behind;
@@ -137,7 +137,7 @@ module _ {R D : Type 0} (states : D → List State) (faults : D → ℕ) (w : Wo
     }
 
     -- from the pen's event
-    by_event : (asked : Step R) (answer same_answer : Answer R) → same_answer ≡ answer → {Row : Type 0} → IsLaneEvent states faults w g.flusher.pen new.pen tie.hand_is tie.disk_is (phase.before + new.settled) Row answer n → (Row → GrowthRow form w phase asked answer behind) → (LaneCalls answer n → HasCalls w asked answer n) → stray_in answer ≡ None
+    by_event : (asked : Step R) (answer same_answer : Answer R) → same_answer ≡ answer → {Row : Type 0} → IsLaneEvent states faults w g.flusher.pen new.pen tie.hand_is tie.disk_is (phase.before + new.settled) Row answer n → (Row → GrowthRow form (keeps new.pen.disk) w phase asked answer behind) → (LaneCalls answer n → HasCalls w asked answer n) → stray_in answer ≡ None
         → Steps form (keeps new.pen.disk) (λ w'. IsBehind states faults w' with_flusher) w asked same_answer n
     by_event asked answer same_answer is event row calls calm = subst (λ a. Steps form (keeps new.pen.disk) (λ w'. IsBehind states faults w' with_flusher) w asked a n) (sym is) (lane_steps asked answer (row event.0) (calls event.1) event.2 calm)
 

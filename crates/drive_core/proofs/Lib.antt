@@ -8,6 +8,7 @@ pub mod PenLanes
 pub mod PenFolds
 pub mod Lanes
 pub mod Seats
+pub mod Fitting
 pub mod Quiet
 pub mod Told
 pub mod LoopRuns
@@ -18,6 +19,8 @@ pub mod Folds
 pub mod Viewed
 pub mod Worked
 pub mod WorkedSteps
+pub mod WorkedLines
+pub mod Stopped
 pub mod WorkedHeadline
 pub mod Looked
 pub mod LookedSeat

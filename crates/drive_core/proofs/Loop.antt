@@ -1,5 +1,5 @@
 -- What drive's loop keeps: a run goes on by one step.
-use Rattle.std.proofs.Common.{◌≡◌, ℕ, List, [], ◌∷◌, ◌++◌, refl}
+use Rattle.std.proofs.Common.{◌≡◌, ℕ, Bool, true, false, List, [], ◌∷◌, ◌++◌, refl}
 use Rattle.std.specs.Prelude.{Option, Some, None}
 use Rattle.std.proofs.Common.{inl, inr}
 use Rattle.pen_core.specs.declared.fault.PenFault.TheVariants as pen_fault
@@ -8,11 +8,13 @@ use Rattle.drive_core.specs.declared.fault.Fault.TheVariants.{Vault, Grow, Scan}
 use Rattle.vault_core.specs.declared.fault.VaultFault.TheVariants as vault
 use Rattle.record_core.specs.Bytes.{Encoding}
 use Rattle.segment_core.specs.declared.format.Format.{Format}
+use Rattle.segment_core.specs.Shape.{shape_of}
 use Rattle.drive_core.specs.Step.{Step, Answer}
 use Rattle.drive_core.specs.Step as step
 use Rattle.drive_core.specs.OpeningRows.{IsCreate, IsOpen, NotCreated, NotOpened}
-use Rattle.drive_core.specs.Rows.{ShutRow, PhaseRow, StrayRow}
-use Rattle.drive_core.specs.World.{World, Phase, Shut, Exclusive, Growing}
+use Rattle.drive_core.specs.LaneRows.{IsFold, HasBegun}
+use Rattle.drive_core.specs.Rows.{ShutRow, ExclusiveRow, GrowthRow, PhaseRow, StrayRow}
+use Rattle.drive_core.specs.World.{World, Growth, Phase, Shut, Exclusive, Growing, is_live}
 use Rattle.drive_core.specs.Run.{Event, IsEvent, Run, last}
 use Rattle.drive_core.specs.Headline.{Inner, AllInner}
 
@@ -33,38 +35,56 @@ module _ {R : Type 0} (form : Encoding R) where
   module _ (before now : Type 0) (goes_back : now → before) where
     create_weaker : (w : World R) (format : Format) (answer : Answer R) (w' : World R) → IsCreate form before w format answer w' → IsCreate form now w format answer w'
     create_weaker w format answer w' row = elim row [
-      | inl ok ↦ inl (ok.0, (ok.1.0, (λ k. ok.1.1 (goes_back k)), ok.1.2))
+      | inl ok ↦ inl (ok.0, (ok.1.0, (λ k. ok.1.1 (goes_back k)), (λ k. ok.1.2 (goes_back k)), ok.1.3))
       | inr no_ ↦ inr (no_.0, no_.1, no_.2, refused no_.0 no_.3)
     ]
       where
-        refused : (fault : Fault) → NotCreated before w w' fault → NotCreated now w w' fault
-        refused (Vault (vault.Pen (pen_fault.Disk fault))) by = by
-        refused (Vault (vault.Pen pen_fault.Exists)) by = ((λ k. by.0 (goes_back k)), by.1)
+        refused : (fault : Fault) → NotCreated before (shape_of format form) w w' fault → NotCreated now (shape_of format form) w w' fault
+        refused (Vault (vault.Pen (pen_fault.Disk fault))) by = (by.0, (λ k. by.1 (goes_back k)), by.2)
+        refused (Vault (vault.Pen pen_fault.Exists)) by = ((λ k. by.0 (goes_back k)), (λ k. by.1 (goes_back k)), by.2)
         refused (Vault other) by = by
         refused (Grow fault) by = by
         refused (Scan fault) by = by
 
     open_weaker : (w : World R) (answer : Answer R) (w' : World R) → IsOpen form before w answer w' → IsOpen form now w answer w'
     open_weaker w answer w' row = elim row [
-      | inl ok ↦ inl (ok.0, (ok.1.0, ok.1.1, ok.1.2, (λ k. ok.1.3 (goes_back k)), ok.1.4))
+      | inl ok ↦ inl (ok.0, (ok.1.0, ok.1.1, ok.1.2, (λ k. ok.1.3 (goes_back k)), (λ k. ok.1.4 (goes_back k)), ok.1.5))
       | inr no_ ↦ inr (no_.0, no_.1, no_.2, refused no_.0 no_.3)
     ]
       where
         refused : (fault : Fault) → NotOpened form before w w' fault → NotOpened form now w w' fault
-        refused (Vault (vault.Pen (pen_fault.Disk fault))) by = by
+        refused (Vault (vault.Pen (pen_fault.Disk fault))) by = (by.0, (λ k. by.1 (goes_back k)), by.2)
         refused (Vault other) by = by
         refused (Grow fault) by = by
-        refused (Scan fault) by = ((λ k. by.0 (goes_back k)), by.1)
+        refused (Scan fault) by = ((λ k. by.0 (goes_back k)), (λ k. by.1 (goes_back k)), by.2)
 
     shut_weaker : (w : World R) (asked : Step R) (answer : Answer R) (w' : World R) → ShutRow form before w asked answer w' → ShutRow form now w asked answer w'
     shut_weaker w (step.Create format) answer w' row = create_weaker w format answer w' row
     shut_weaker w step.Open answer w' row = open_weaker w answer w' row
     shut_weaker w other answer w' row = row
 
+    fold_weaker : (w : World R) (answer : Answer R) (w' : World R) → IsFold before w answer w' → IsFold now w answer w'
+    fold_weaker w answer w' row = elim row [
+      | inl ok ↦ inl (ok.0, (ok.1.0, begun (is_live w.hand.file) ok.1.1))
+      | inr no_ ↦ inr no_
+    ]
+      where
+        begun : (live : Bool) → HasBegun before w live w' → HasBegun now w live w'
+        begun true by = (by.0, by.1, (λ k. by.2 (goes_back k)), by.3)
+        begun false by = by
+
+    exclusive_weaker : (w : World R) (asked : Step R) (answer : Answer R) (w' : World R) → ExclusiveRow form before w asked answer w' → ExclusiveRow form now w asked answer w'
+    exclusive_weaker w step.Fold answer w' row = fold_weaker w answer w' row
+    exclusive_weaker w other answer w' row = row
+
+    growth_weaker : (w : World R) (phase : Growth) (asked : Step R) (answer : Answer R) (w' : World R) → GrowthRow form before w phase asked answer w' → GrowthRow form now w phase asked answer w'
+    growth_weaker w phase step.Fold answer w' row = fold_weaker w answer w' row
+    growth_weaker w phase other answer w' row = row
+
     phase_weaker : (w : World R) (phase : Phase) (asked : Step R) (answer : Answer R) (w' : World R) → PhaseRow form before w phase asked answer w' → PhaseRow form now w phase asked answer w'
     phase_weaker w Shut asked answer w' row = shut_weaker w asked answer w' row
-    phase_weaker w Exclusive asked answer w' row = row
-    phase_weaker w (Growing phase) asked answer w' row = row
+    phase_weaker w Exclusive asked answer w' row = exclusive_weaker w asked answer w' row
+    phase_weaker w (Growing phase) asked answer w' row = growth_weaker w phase asked answer w' row
 
     stray_weaker : (w : World R) (stray : Option ℕ) (asked : Step R) (answer : Answer R) (w' : World R) → StrayRow form before w stray asked answer w' → StrayRow form now w stray asked answer w'
     stray_weaker w None asked answer w' row = phase_weaker w w.phase asked answer w' row

@@ -1,7 +1,10 @@
 -- The begin of a fold, from what a pen's begin promises.
 use Rattle.std.proofs.Common.{◌≡◌, ◌⊎◌, inl, inr, ℕ, ◌+◌, ◌≤◌, ◌<◌, ◌^◌, Bool, true, false, nat_lt, nat_le, List, length, Option, Some, None, refl, sym, ap, subst, ◌∙◌, arith, is_some, lt-ltb, le-leb, leb-true, ltb-true}
-use Rattle.pen_core.specs.PenOf.{PenOf}
-use Rattle.pen_core.specs.Pen.{IsFoldAnswer, IsFoldRefusal, IsFoldBarred, IsReadyToFold, BeginsFold, IsUnchanged, gate_behind_fold}
+use Rattle.std.specs.Prelude.{IfSome}
+use Rattle.disk_core.specs.State.{IsImage, now}
+use Rattle.pen_core.specs.PenOf.{PenOf, FoldOf}
+use Rattle.pen_core.specs.Folds.{IsWholeFold}
+use Rattle.pen_core.specs.Pen.{MayOpen, IsFoldAnswer, IsFoldRefusal, IsFoldBarred, IsReadyToFold, BeginsFold, IsUnchanged, gate_behind_fold}
 use Rattle.pen_core.specs.declared.stage.FoldStage.TheVariants as stages
 use Rattle.pen_core.specs.declared.fault.PenFault.{PenFault}
 use Rattle.pen_core.specs.declared.fault.PenFault.TheVariants as pen
@@ -13,7 +16,7 @@ use Rattle.drive_core.specs.Step.{Answer}
 use Rattle.drive_core.specs.Step as step
 use Rattle.drive_core.specs.World.{World, Hand, hand_of, is_live}
 use Rattle.drive_core.specs.Outcome.{Outcome}
-use Rattle.drive_core.specs.LaneRows.{fold_lines, IsFold, HasBegun}
+use Rattle.drive_core.specs.LaneRows.{fold_lines, FoldsFile, IsFold, HasBegun}
 use Rattle.drive_core.proofs.Tables.{passes, stops}
 
 -- a test that doesn't hold
@@ -108,25 +111,40 @@ module _ {R D : Type 0} (w : World R) (old new : PenOf D) (hand_is : w.hand ≡ 
   same : w ≡ by_pen
   same i = record w { hand = hand_is i }
 
-  begun_is : (begun : Bool) → IsFoldAnswer old new begun → HasBegun by_pen begun behind_fold
-  begun_is true by = (by.left, λ i. record w { hand = hand_begun old new by i })
-  begun_is false by = λ i. record w { hand = hand_of (by.1 i) }
+  -- the writes that were planned are those of the file, where the disk keeps its model
+  abbrev pub Plans : Type 0 → Type 0
+  Plans keeps = keeps → IfSome new.fold (λ fold. IsWholeFold old.shape old.frames old.vector fold.left)
+
+  abbrev pub Opening : Type 0 → Type 0
+  Opening keeps = keeps → (image : List ℕ) → IsImage (now w.disk.states) image → MayOpen old image
+
+  folds_file : (by : BeginsFold old new) → IfSome new.fold (λ fold. IsWholeFold old.shape old.frames old.vector fold.left) → ((image : List ℕ) → IsImage (now w.disk.states) image → MayOpen old image) → FoldsFile by_pen by.left
+  folds_file by planned opens = record {
+    frames = old.frames;
+    vector = old.vector;
+    opens = opens;
+    whole = subst (λ (f : Option FoldOf). IfSome f (λ fold. IsWholeFold old.shape old.frames old.vector fold.left)) by.fold_is planned;
+  }
+
+  begun_is : (keeps : Type 0) → Plans keeps → Opening keeps → (begun : Bool) → IsFoldAnswer old new begun → HasBegun keeps by_pen begun behind_fold
+  begun_is keeps plans opens true by = (by.left, by.some, (λ kept. folds_file by (plans kept) (opens kept)), λ i. record w { hand = hand_begun old new by i })
+  begun_is keeps plans opens false by = λ i. record w { hand = hand_of (by.1 i) }
 
   ready_of : (begun : Bool) → IsFoldAnswer old new begun → IsReadyToFold old begun
   ready_of true by = by.ready
   ready_of false by = by.0
 
-  abbrev FoldAt : Bool → Bool → Type 0
-  FoldAt begun live = Outcome {R = R} (fold_lines (hand_of old) live) (step.Begun begun) ((◌≡◌ {A = Answer R} (step.Begun begun) (step.Begun live)) × HasBegun by_pen live behind_fold) (λ fault. behind_fold ≡ by_pen)
+  abbrev FoldAt : Type 0 → Bool → Bool → Type 0
+  FoldAt keeps begun live = Outcome {R = R} (fold_lines (hand_of old) live) (step.Begun begun) ((◌≡◌ {A = Answer R} (step.Begun begun) (step.Begun live)) × HasBegun keeps by_pen live behind_fold) (λ fault. behind_fold ≡ by_pen)
 
-  at_live : (begun live : Bool) → live ≡ begun → IsFoldAnswer old new begun → FoldAt begun live
-  at_live begun live is by = subst (λ b. FoldAt begun b) (sym is) (inl (ready_lines old begun (ready_of begun by), (refl, begun_is begun by)))
+  at_live : (keeps : Type 0) → Plans keeps → Opening keeps → (begun live : Bool) → live ≡ begun → IsFoldAnswer old new begun → FoldAt keeps begun live
+  at_live keeps plans opens begun live is by = subst (λ b. FoldAt keeps begun b) (sym is) (inl (ready_lines old begun (ready_of begun by), (refl, begun_is keeps plans opens begun by)))
 
-  pub fold_answered : (begun : Bool) → IsFoldAnswer old new begun → IsFold w (step.Begun begun) behind_fold
-  fold_answered begun by = subst (λ (x : World R). IsFold x (step.Begun begun) behind_fold) (sym same) (at_live begun (is_live (hand_of old).file) (live_of old begun (ready_of begun by)) by)
+  pub fold_answered : (keeps : Type 0) → Plans keeps → Opening keeps → (begun : Bool) → IsFoldAnswer old new begun → IsFold keeps w (step.Begun begun) behind_fold
+  fold_answered keeps plans opens begun by = subst (λ (x : World R). IsFold keeps x (step.Begun begun) behind_fold) (sym same) (at_live keeps plans opens begun (is_live (hand_of old).file) (live_of old begun (ready_of begun by)) by)
 
-  pub fold_refused : (fault : PenFault) → IsFoldRefusal old fault → IsFold w (step.Refused (Vault (vault.Pen fault))) w
-  fold_refused fault why = subst (λ (x : World R). IsFold x (step.Refused (Vault (vault.Pen fault))) x) (sym same) (inr (Vault (vault.Pen fault), refused_lines old fault why, refl, refl))
+  pub fold_refused : (keeps : Type 0) (fault : PenFault) → IsFoldRefusal old fault → IsFold keeps w (step.Refused (Vault (vault.Pen fault))) w
+  fold_refused keeps fault why = subst (λ (x : World R). IsFold keeps x (step.Refused (Vault (vault.Pen fault))) x) (sym same) (inr (Vault (vault.Pen fault), refused_lines old fault why, refl, refl))
 
   -- the disk is as it was
   pub begun_disk : (begun : Bool) → IsFoldAnswer old new begun → new.disk ≡ old.disk

@@ -96,7 +96,7 @@ module _ {R D : Type 0} (form : Encoding R) (states : D → List State) (faults 
   shut_misplaced disk tie asked answer is row =
       still (keeps disk) disk disk (λ w'. IsLeft states faults keeps w' (hands.Shut disk)) w asked wrong answer is (at_phase (keeps disk) worlds.Shut asked wrong w tie.calm tie.phase_is row) (misplaced_calls w asked) refl refl tie.calm (left_shut w disk tie)
 
-  pub exclusive_misplaced : (v : VaultOf R D) → IsExclusive states faults keeps w v → (asked : Step R) (answer : Answer R) → answer ≡ wrong → ExclusiveRow form w asked wrong w
+  pub exclusive_misplaced : (v : VaultOf R D) → IsExclusive states faults keeps w v → (asked : Step R) (answer : Answer R) → answer ≡ wrong → ExclusiveRow form (keeps v.pen.disk) w asked wrong w
       → Steps form (keeps v.pen.disk) (λ w'. IsExclusive states faults keeps w' v) w asked answer (calls_between (states v.pen.disk) (states v.pen.disk))
   exclusive_misplaced v tie asked answer is row =
       still (keeps v.pen.disk) v.pen.disk v.pen.disk (λ w'. IsExclusive states faults keeps w' v) w asked wrong answer is (at_phase (keeps v.pen.disk) worlds.Exclusive asked wrong w tie.calm tie.phase_is row) (misplaced_calls w asked) refl refl tie.calm tie

@@ -55,12 +55,12 @@ module _ {R D : Type 0} (form : Encoding R) (states : D → List State) (faults 
   Done asked answer = Steps form (keeps new.pen.disk) (λ w'. IsExclusive states faults keeps w' new) w asked answer (calls_between (states v.pen.disk) (states new.pen.disk))
 
   -- what is asked is this command
-  asks_command : (asked : Step R) (which : Option (Command R)) (command : Command R) → which ≡ Some command → ((answer : Answer R) (w' : World R) → IsCommand form w which answer w' → ExclusiveRow form w asked answer w') → ((answer : Answer R) (n : ℕ) → CommandCalls which answer n → HasCalls w asked answer n)
-      → (answer : Answer R) (w' : World R) (n : ℕ) → IsCommand form w (Some command) answer w' → CommandCalls (Some command) answer n → ExclusiveRow form w asked answer w' × HasCalls w asked answer n
+  asks_command : (asked : Step R) (which : Option (Command R)) (command : Command R) → which ≡ Some command → ((answer : Answer R) (w' : World R) → IsCommand form w which answer w' → ExclusiveRow form (keeps new.pen.disk) w asked answer w') → ((answer : Answer R) (n : ℕ) → CommandCalls which answer n → HasCalls w asked answer n)
+      → (answer : Answer R) (w' : World R) (n : ℕ) → IsCommand form w (Some command) answer w' → CommandCalls (Some command) answer n → ExclusiveRow form (keeps new.pen.disk) w asked answer w' × HasCalls w asked answer n
   asks_command asked which command is row calls answer w' n r k = (row answer w' (subst (λ c. IsCommand form w c answer w') (sym is) r), calls answer n (subst (λ c. CommandCalls c answer n) (sym is) k))
 
-  asks_nothing : (asked : Step R) (which : Option (Command R)) → which ≡ None → ((answer : Answer R) (w' : World R) → IsCommand form w which answer w' → ExclusiveRow form w asked answer w') → ((answer : Answer R) (n : ℕ) → CommandCalls which answer n → HasCalls w asked answer n)
-      → (answer : Answer R) (w' : World R) → IsCommand form w None answer w' → ExclusiveRow form w asked answer w' × HasCalls w asked answer 0
+  asks_nothing : (asked : Step R) (which : Option (Command R)) → which ≡ None → ((answer : Answer R) (w' : World R) → IsCommand form w which answer w' → ExclusiveRow form (keeps new.pen.disk) w asked answer w') → ((answer : Answer R) (n : ℕ) → CommandCalls which answer n → HasCalls w asked answer n)
+      → (answer : Answer R) (w' : World R) → IsCommand form w None answer w' → ExclusiveRow form (keeps new.pen.disk) w asked answer w' × HasCalls w asked answer 0
   asks_nothing asked which is row calls answer w' r = (row answer w' (subst (λ c. IsCommand form w c answer w') (sym is) r), calls answer 0 (subst (λ c. CommandCalls c answer 0) (sym is) refl))
 
   -- ---- a resize
@@ -75,7 +75,7 @@ module _ {R D : Type 0} (form : Encoding R) (states : D → List State) (faults 
     abbrev IsResized : Type 0
     IsResized = list_of new ≡ commands.resized n r (list_of v)
 
-    resize_row : (answer : Answer R) (w' : World R) → IsCommand form w (resized (length (vector w)) n r) answer w' → ExclusiveRow form w (step.Resize n r) answer w'
+    resize_row : (answer : Answer R) (w' : World R) → IsCommand form w (resized (length (vector w)) n r) answer w' → ExclusiveRow form (keeps new.pen.disk) w (step.Resize n r) answer w'
     resize_row answer w' row = row
 
     resize_calls : (answer : Answer R) (k : ℕ) → CommandCalls (resized (length (vector w)) n r) answer k → HasCalls w (step.Resize n r) answer k

@@ -175,14 +175,14 @@ module _ {R D : Type 0} (form : Encoding R) (states : D → List State) (faults 
     | inr after ↦ record { kept = length w'.history; at_least = tied.settled_within; at_most = omega arith; opens = subst (OpensTo form image) (sym (ap (content w'.base) (take-length w'.history) ∙ tied.list_is)) after }
   ]
 
-  in_phase : (kept : Type 0) (asked : Step R) (answer : Answer R) (w' : World R) → ExclusiveRow form w asked answer w' → IsStep form kept w asked answer w'
+  in_phase : (kept : Type 0) (asked : Step R) (answer : Answer R) (w' : World R) → ExclusiveRow form kept w asked answer w' → IsStep form kept w asked answer w'
   in_phase kept asked answer w' row = subst (λ s. StrayRow form kept w s asked answer w') (sym tie.calm) (subst (λ p. PhaseRow form kept w p asked answer w') (sym tie.phase_is) row)
 
   -- the count that is read of the clock
   reading : (n : ℕ) → clock (states new.pen.disk) ≡ clock (states v.pen.disk) + n → calls_between (states v.pen.disk) (states new.pen.disk) ≡ n
   reading n time = omega (arith, time)
 
-  pub vault_steps : (w' : World R) (asked : Step R) (answer : Answer R) (n : ℕ) → ExclusiveRow form w asked answer w' → HasCalls w asked answer n → clock (states new.pen.disk) ≡ clock (states v.pen.disk) + n → n < 2 ^ 64 → (n ≡ 0 → w'.disk ≡ w.disk) → stray_in answer ≡ None
+  pub vault_steps : (w' : World R) (asked : Step R) (answer : Answer R) (n : ℕ) → ExclusiveRow form (keeps new.pen.disk) w asked answer w' → HasCalls w asked answer n → clock (states new.pen.disk) ≡ clock (states v.pen.disk) + n → n < 2 ^ 64 → (n ≡ 0 → w'.disk ≡ w.disk) → stray_in answer ≡ None
       → IsExclusive states faults keeps w' new → (keeps new.pen.disk → Leaves form w w') → (keeps new.pen.disk → (image : List ℕ) → IsImage (now (states new.pen.disk)) image → MayHold form new image)
       → Steps form (keeps new.pen.disk) (λ w'. IsExclusive states faults keeps w' new) w asked answer (calls_between (states v.pen.disk) (states new.pen.disk))
   vault_steps w' asked answer n row calls time few still calm tied leaves rests =
@@ -201,7 +201,7 @@ module _ {R D : Type 0} (form : Encoding R) (states : D → List State) (faults 
       })
 
   -- where no call is made nothing is left within the step
-  pub still_steps : (w' : World R) (asked : Step R) (answer : Answer R) → ExclusiveRow form w asked answer w' → HasCalls w asked answer 0 → new.pen.disk ≡ v.pen.disk → stray_in answer ≡ None → IsExclusive states faults keeps w' new
+  pub still_steps : (w' : World R) (asked : Step R) (answer : Answer R) → ExclusiveRow form (keeps new.pen.disk) w asked answer w' → HasCalls w asked answer 0 → new.pen.disk ≡ v.pen.disk → stray_in answer ≡ None → IsExclusive states faults keeps w' new
       → Steps form (keeps new.pen.disk) (λ w'. IsExclusive states faults keeps w' new) w asked answer (calls_between (states v.pen.disk) (states new.pen.disk))
   still_steps w' asked answer row calls disk calm tied =
       let time : clock (states new.pen.disk) ≡ clock (states v.pen.disk) + 0 = (let same = ap (λ d. clock (states d)) disk in omega (arith, same)) in
@@ -259,7 +259,7 @@ module _ {R D : Type 0} (form : Encoding R) (states : D → List State) (faults 
     broken_row fault broken why = pen_refuses (tests_of form w.hand (length (vector w)) command) (Might is_disk ∷ []) fault
         (broken_refusal (tests_of form w.hand (length (vector w)) command) (pen_tests form v.pen command) fault (first_is form w.hand (length (vector w)) command (ap (λ (h : Hand). h.broken) tie.hand_is ∙ broken)) (first_is form (hand_of v.pen) v.pen.tally.size command broken) why)
 
-    module _ (asked : Step R) (asks : (answer : Answer R) (w' : World R) (n : ℕ) → IsCommand form w (Some command) answer w' → CommandCalls (Some command) answer n → ExclusiveRow form w asked answer w' × HasCalls w asked answer n)
+    module _ (asked : Step R) (asks : (answer : Answer R) (w' : World R) (n : ℕ) → IsCommand form w (Some command) answer w' → CommandCalls (Some command) answer n → ExclusiveRow form (keeps new.pen.disk) w asked answer w' × HasCalls w asked answer n)
         (rests : keeps new.pen.disk → (image : List ℕ) → IsImage (now (states new.pen.disk)) image → MayHold form new image)
         (frame : Frame) (lines : List (Bool × PenFault)) (lines_are : lines ≡ pen_tests form v.pen command)
         (made : Type 0) (made_is : first_refusal (pen_tests form v.pen command) ≡ None → made → (list_of new ≡ after_command (list_of v) command) × (frame ≡ frame_of form command)) where
@@ -394,14 +394,14 @@ module _ {R D : Type 0} (form : Encoding R) (states : D → List State) (faults 
 
   -- ---- a command with nothing to write
 
-  pub nothing_steps : (asked : Step R) → ((answer : Answer R) (w' : World R) → IsCommand form w None answer w' → ExclusiveRow form w asked answer w' × HasCalls w asked answer 0)
+  pub nothing_steps : (asked : Step R) → ((answer : Answer R) (w' : World R) → IsCommand form w None answer w' → ExclusiveRow form (keeps new.pen.disk) w asked answer w' × HasCalls w asked answer 0)
       → new ≡ v → v.pen.broken ≡ false → (answer : Answer R) → answer ≡ step.Fine → Steps form (keeps new.pen.disk) (λ w'. IsExclusive states faults keeps w' new) w asked answer (calls_between (states v.pen.disk) (states new.pen.disk))
   nothing_steps asked asks same whole answer answered =
       let both = asks step.Fine w (inl (pass_one w.hand.broken (ap (λ (h : Hand). h.broken) tie.hand_is ∙ whole), (refl, refl))) in
       subst (λ a. Steps form (keeps new.pen.disk) (λ w'. IsExclusive states faults keeps w' new) w asked a (calls_between (states v.pen.disk) (states new.pen.disk))) (sym answered)
       (still_steps w asked step.Fine both.0 both.1 (ap (λ (x : VaultOf R D). x.pen.disk) same) refl (subst (IsExclusive states faults keeps w) (sym same) tie))
 
-  pub nothing_refused : (asked : Step R) → ((answer : Answer R) (w' : World R) → IsCommand form w None answer w' → ExclusiveRow form w asked answer w' × HasCalls w asked answer 0)
+  pub nothing_refused : (asked : Step R) → ((answer : Answer R) (w' : World R) → IsCommand form w None answer w' → ExclusiveRow form (keeps new.pen.disk) w asked answer w' × HasCalls w asked answer 0)
       → new ≡ v → (fault : VaultFault) → commands.IsNothingFault v.pen fault → (answer : Answer R) → answer ≡ step.Refused (Vault fault) → Steps form (keeps new.pen.disk) (λ w'. IsExclusive states faults keeps w' new) w asked answer (calls_between (states v.pen.disk) (states new.pen.disk))
   nothing_refused asked asks same fault why answer answered =
       let told : Answer R = step.Refused (Vault (vault.Pen pen.Broken)) in

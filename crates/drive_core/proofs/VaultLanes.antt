@@ -8,7 +8,7 @@ use Rattle.disk_core.proofs.JoinedMoments.{LeavesOnly-weaker}
 use Rattle.segment_core.specs.Command.{content}
 use Rattle.segment_core.specs.Written.{joined}
 use Rattle.pen_core.specs.PenOf.{PenOf, JobOf}
-use Rattle.pen_core.specs.Pen.{IsFoldAnswer, IsUnchanged, IsTickFault, IsHomeFault}
+use Rattle.pen_core.specs.Pen.{MayOpen, IsKept, IsFoldAnswer, IsUnchanged, IsTickFault, IsHomeFault}
 use Rattle.pen_core.specs.Typed.{OpensTo}
 use Rattle.pen_core.specs.declared.fault.PenFault.{PenFault}
 use Rattle.pen_core.specs.declared.fault.PenFault.TheVariants as pen
@@ -31,7 +31,7 @@ use Rattle.drive_core.specs.Headline.{OpensToPrefix, Leaves}
 use Rattle.drive_core.specs.Ties.{Steps, growths_in_hand, disk_of}
 use Rattle.drive_core.specs.VaultTies.{IsExclusive, calls_between}
 use Rattle.drive_core.proofs.PenLanes.{behind_call, brought, IsLaneEvent, log_answered, log_refused, home_answered, home_refused, due_few, home_few}
-use Rattle.drive_core.proofs.PenFolds.{behind_fold, fold_answered, fold_refused, begun_disk, begun_job, hand_unchanged}
+use Rattle.drive_core.proofs.PenFolds.{behind_fold, Plans, Opening, fold_answered, fold_refused, begun_disk, begun_job, hand_unchanged}
 use Rattle.drive_core.proofs.VaultEvents.{vault_steps, still_steps, differ}
 
 module _ {R D : Type 0} (form : Encoding R) (states : D → List State) (faults : D → ℕ) (keeps : D → Type 0) (w : World R) (v : VaultOf R D) (tie : IsExclusive states faults keeps w v) (new : VaultOf R D) where
@@ -169,12 +169,15 @@ module _ {R D : Type 0} (form : Encoding R) (states : D → List State) (faults 
     was_whole true by = by.ready.0
     was_whole false by = by.0.0
 
-    pub fold_answers : (begun : Bool) (answer : Answer R) → answer ≡ step.Begun begun → IsFoldAnswer v.pen new.pen begun
+    pub fold_answers : Plans w v.pen new.pen tie.hand_is (keeps v.pen.disk) → (keeps v.pen.disk → (image : List ℕ) → IsImage (now (states v.pen.disk)) image → MayOpen v.pen image)
+        → (begun : Bool) (answer : Answer R) → answer ≡ step.Begun begun → IsFoldAnswer v.pen new.pen begun
         → Steps form (keeps new.pen.disk) (λ w'. IsExclusive states faults keeps w' new) w step.Fold answer (calls_between (states v.pen.disk) (states new.pen.disk))
-    fold_answers begun answer is by =
+    fold_answers plans opens begun answer is by =
         let disk = begun_disk w v.pen new.pen tie.hand_is begun by in
+        let planned : Plans w v.pen new.pen tie.hand_is (keeps new.pen.disk) = λ kept. plans (subst keeps disk kept) in
+        let opening : Opening w v.pen new.pen tie.hand_is (keeps new.pen.disk) = λ kept image left. opens (subst keeps disk kept) image (subst (λ (d : DiskOf). IsImage (now d.states) image) tie.disk_is left) in
         subst (λ a. Steps form (keeps new.pen.disk) (λ w'. IsExclusive states faults keeps w' new) w step.Fold a (calls_between (states v.pen.disk) (states new.pen.disk))) (sym is)
-        (still_steps form states faults keeps w v tie new (record w { hand = hand_of new.pen }) step.Fold (step.Begun begun) (fold_answered w v.pen new.pen tie.hand_is begun by) refl disk refl
+        (still_steps form states faults keeps w v tie new (record w { hand = hand_of new.pen }) step.Fold (step.Begun begun) (fold_answered w v.pen new.pen tie.hand_is (keeps new.pen.disk) planned opening begun by) refl disk refl
         (begun_tie disk (begun_job w v.pen new.pen tie.hand_is begun by) (λ on. was_whole begun by)))
 
     pub fold_refuses : (fault : VaultFault) (answer : Answer R) → answer ≡ step.Refused (Vault fault) → commands.IsFoldFault v.pen fault → IsUnchanged v.pen new.pen
@@ -184,7 +187,7 @@ module _ {R D : Type 0} (form : Encoding R) (states : D → List State) (faults 
     fold_refuses (vault.Pen fault) answer is why same =
         let still : record w { hand = hand_of new.pen } ≡ w = λ i. record w { hand = (hand_unchanged v.pen new.pen same ∙ sym tie.hand_is) i } in
         subst (λ a. Steps form (keeps new.pen.disk) (λ w'. IsExclusive states faults keeps w' new) w step.Fold a (calls_between (states v.pen.disk) (states new.pen.disk))) (sym is)
-        (still_steps form states faults keeps w v tie new w step.Fold (step.Refused (Vault (vault.Pen fault))) (fold_refused w v.pen new.pen tie.hand_is fault why) refl same.disk_same refl
+        (still_steps form states faults keeps w v tie new w step.Fold (step.Refused (Vault (vault.Pen fault))) (fold_refused w v.pen new.pen tie.hand_is (keeps new.pen.disk) fault why) refl same.disk_same refl
         (subst (λ x. IsExclusive states faults keeps x new) still (begun_tie same.disk_same same.job_same (λ on. sym same.broken_same ∙ on))))
 
   -- ---- the list
@@ -200,3 +203,7 @@ module _ {R D : Type 0} (form : Encoding R) (states : D → List State) (faults 
   list_refuses same answer is =
       subst (λ a. Steps form (keeps new.pen.disk) (λ w'. IsExclusive states faults keeps w' new) w step.Listing a (calls_between (states v.pen.disk) (states new.pen.disk))) (sym is)
       (still_steps form states faults keeps w v tie new w step.Listing (step.Refused (Vault (vault.Pen pen.Memory))) (inr (Vault (vault.Pen pen.Memory), inl (Vault (vault.Pen pen.Memory), refl, refl), refl, refl)) refl (ap (λ (x : VaultOf R D). x.pen.disk) same) refl (subst (IsExclusive states faults keeps w) (sym same) tie))
+
+-- what a crash leaves of the disk as it is lent, by the pen
+pub opens_lent : {D : Type 0} (keeps : D → Type 0) (states : D → List State) (p : PenOf D) (lent : D) → lent ≡ p.disk → (keeps lent → IsKept (states lent) p) → keeps p.disk → (image : List ℕ) → IsImage (now (states p.disk)) image → MayOpen p image
+opens_lent {D = D} keeps states p lent is holds kept image left = (subst (λ (d : D). keeps d → IsKept (states d) p) is holds kept).images_open image left

@@ -16,7 +16,7 @@ module _ {R : Type 0} (form : Encoding R) (base : List R) (image : List ℕ) whe
   first_settled one two prefix = of prefix.kept prefix.at_least prefix.at_most prefix.opens
     where
       of : (kept : ℕ) → 1 ≤ kept → kept ≤ 2 → OpensTo form image (content base (take kept (one ∷ two ∷ []))) → OpensTo form image (content base (one ∷ [])) ⊎ OpensTo form image (content base (one ∷ two ∷ []))
-      of 0 least most opens = absurd (omega (arith, least))
-      of 1 least most opens = inl opens
-      of 2 least most opens = inr opens
+      of zero least most opens = absurd (omega (arith, least))
+      of (suc zero) least most opens = inl opens
+      of (suc (suc zero)) least most opens = inr opens
       of (suc (suc (suc n))) least most opens = absurd (omega (arith, most))

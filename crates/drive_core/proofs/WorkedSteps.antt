@@ -23,21 +23,21 @@ use Rattle.drive_core.specs.LaneRows.{done, device_lines, fold_lines}
 -- ---- two seats put two growths, and the flusher settles them
 
 -- a new file of u64
-abbrev made : World ℕ
+abbrev pub made : World ℕ
 made = opened (start (record { states = settled [] ∷ []; faults = 0 })) [] (empty_file (shape_of One (unsigned w64)))
 
-abbrev phase_of : Phase → Growth
+abbrev pub phase_of : Phase → Growth
 phase_of Shut = first_growth made 8 2
 phase_of Exclusive = first_growth made 8 2
 phase_of (Growing phase) = phase
 
-abbrev shared : World ℕ
+abbrev pub shared : World ℕ
 shared = within made (first_growth made 8 2)
 
-abbrev one : World ℕ
+abbrev pub one : World ℕ
 one = with_growth shared (phase_of shared.phase) 0 (1 ∷ 2 ∷ [])
 
-abbrev two : World ℕ
+abbrev pub two : World ℕ
 two = with_growth one (phase_of one.phase) 1 (3 ∷ [])
 
 first_receipt : receipt_of shared (phase_of shared.phase) 0 (1 ∷ 2 ∷ []) ≡ step.Grown (record { number = 0; start = 0; len = 2; seat = 0; serial = 0 })
@@ -49,7 +49,7 @@ second_receipt = refl
 vector_is : vector two ≡ 1 ∷ 2 ∷ 3 ∷ []
 vector_is = refl
 
-abbrev looked : World ℕ
+abbrev pub looked : World ℕ
 looked = within two (knowing (phase_of two.phase) None 2)
 
 group_is : next_group 8 looked (phase_of looked.phase) ≡ (1 ∷ 2 ∷ []) ∷ (3 ∷ []) ∷ []
@@ -59,10 +59,10 @@ group_is = refl
 none_known : next_group 8 two (phase_of two.phase) ≡ []
 none_known = refl
 
-abbrev taken : World ℕ
+abbrev pub taken : World ℕ
 taken = with_group (unsigned w64) looked (phase_of looked.phase) ((1 ∷ 2 ∷ []) ∷ (3 ∷ []) ∷ [])
 
-abbrev behind : World ℕ
+abbrev pub behind : World ℕ
 behind = done taken (group_frame (unsigned w64) ((1 ∷ 2 ∷ []) ∷ (3 ∷ []) ∷ []))
 
 none_settled : taken.settled ≡ 0

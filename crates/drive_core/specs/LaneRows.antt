@@ -1,10 +1,12 @@
 -- The rows of both phases: a fold is begun, and the two lanes of device calls.
-use Rattle.std.specs.Prelude.{◌≡◌, ◌+◌, ◌^◌, Bool, true, false, nat_le, is_some, List, [], ◌∷◌, length, Option, Some, None}
+use Rattle.std.specs.Prelude.{◌≡◌, ℕ, ◌+◌, ◌<◌, ◌^◌, Bool, true, false, nat_le, is_some, List, [], ◌∷◌, length, Option, Some, None}
+use Rattle.disk_core.specs.State.{IsImage, now}
 use Rattle.segment_core.specs.Frame.{Frame, Fold}
 use Rattle.pen_core.specs.PenOf.{JobOf, FoldOf, HomeWrite}
 use Rattle.pen_core.specs.Step.{step_after}
 use Rattle.pen_core.specs.InHand.{has_call, called}
-use Rattle.pen_core.specs.Pen.{fold_behind, gate_behind_fold}
+use Rattle.pen_core.specs.Pen.{OpensWith, fold_behind, gate_behind_fold}
+use Rattle.pen_core.specs.Folds.{IsWholeFold}
 use Rattle.pen_core.specs.declared.step.Step as pen_step
 use Rattle.pen_core.specs.declared.step.Step.TheVariants.{Body}
 use Rattle.pen_core.specs.declared.stage.FoldStage.TheVariants as stages
@@ -35,14 +37,24 @@ module _ {R : Type 0} where
   abbrev pub folding : World R → FoldOf → World R
   folding w fold = record w { hand = record w.hand { fold = Some fold } }
 
-  abbrev pub HasBegun : World R → Bool → World R → Type 0
-  HasBegun w true w' = (left : List HomeWrite) × (w' ≡ folding w (record { count = w.hand.file.changes; left = left; stage = stages.Home (length left) }))
-  HasBegun w false w' = w' ≡ w
+  -- The writes fold all live changes of the file: of the frames and the vector to which each image of now opens, but for the
+  -- job in hand.
+  pub record FoldsFile (w : World R) (left : List HomeWrite) : Type 0 where
+    pub frames : List Frame
+    pub vector : List (List ℕ)
+    pub opens : (image : List ℕ) → IsImage (now w.disk.states) image → OpensWith w.hand.file.shape frames vector w.hand.job image
+    pub whole : IsWholeFold w.hand.file.shape frames vector left
 
-  abbrev pub IsFold : World R → Answer R → World R → Type 0
-  IsFold w answer w' = Outcome
+  abbrev pub HasBegun : Type 0 → World R → Bool → World R → Type 0
+  HasBegun keeps w true w' =
+      (left : List HomeWrite) × (0 < length left) × (keeps → FoldsFile w left)
+      × (w' ≡ folding w (record { count = w.hand.file.changes; left = left; stage = stages.Home (length left) }))
+  HasBegun keeps w false w' = w' ≡ w
+
+  abbrev pub IsFold : Type 0 → World R → Answer R → World R → Type 0
+  IsFold keeps w answer w' = Outcome
       (fold_lines w.hand (is_live w.hand.file)) answer
-      ((answer ≡ step.Begun (is_live w.hand.file)) × HasBegun w (is_live w.hand.file) w')
+      ((answer ≡ step.Begun (is_live w.hand.file)) × HasBegun keeps w (is_live w.hand.file) w')
       (λ fault. w' ≡ w)
 
   abbrev pub broken_by : World R → World R

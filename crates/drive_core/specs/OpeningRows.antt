@@ -1,7 +1,9 @@
 -- The rows where none is open. What is said of the bytes holds where the disk keeps its model.
-use Rattle.std.specs.Prelude.{◌≡◌, ℕ, false, List, [], ◌∷◌, length, None}
+use Rattle.std.specs.Prelude.{◌≡◌, ℕ, ◌-◌, false, List, [], ◌∷◌, length, Option, Some, None}
 use Rattle.record_core.specs.Bytes.{Encoding}
+use Rattle.disk_core.specs.State.{State}
 use Rattle.disk_core.specs.Calls.{bytes_of}
+use Rattle.disk_core.specs.Moments.{clock}
 use Rattle.segment_core.specs.declared.format.Format.{Format}
 use Rattle.segment_core.specs.declared.format.Shape.{Shape}
 use Rattle.segment_core.specs.Shape.{shape_of}
@@ -10,7 +12,9 @@ use Rattle.segment_core.specs.Tally.{tally_of}
 use Rattle.segment_core.specs.Vector.{HasVector}
 use Rattle.segment_core.specs.Fault.{IsRefused}
 use Rattle.pen_core.specs.Held.{gate_of}
-use Rattle.pen_core.specs.Births.{IsExisting}
+use Rattle.pen_core.specs.Opening.{OnlySyncs}
+use Rattle.pen_core.specs.Births.{IsExisting, StaysUnbornOrEmpty, WritesNothing, AreCallsUntil, calls_of_creation}
+use Rattle.pen_core.specs.declared.fault.PenFault.{PenFault}
 use Rattle.pen_core.specs.declared.fault.PenFault.TheVariants as pen_fault
 use Rattle.drive_core.specs.declared.fault.Fault.{Fault}
 use Rattle.drive_core.specs.declared.fault.Fault.TheVariants.{Vault, Grow as InGrow, Scan}
@@ -28,13 +32,28 @@ at_rest file = record { file = file; job = None; fold = None; broken = false }
 abbrev pub empty_file : Shape → File
 empty_file shape = record { shape = shape; gate = 11; changes = 0; folded = 0 }
 
+-- how many device calls a creation has made that ended so
+abbrev pub AreCallsTo : List ℕ → Option PenFault → ℕ → Type 0
+AreCallsTo bytes None n = n ≡ length (calls_of_creation bytes)
+AreCallsTo bytes (Some fault) n = AreCallsUntil bytes (calls_of_creation bytes) fault n
+
+-- What a creation leaves. Where there was a file nothing is written; else, from the first sync on that succeeded, each
+-- image is no file yet or the empty one.
+pub record IsMaking (shape : Shape) (ended : Option PenFault) (old new : List State) : Type 0 where
+  pub existed : IsExisting (bytes_of old) → WritesNothing old new
+  pub born : StaysUnbornOrEmpty shape old new
+  pub calls : AreCallsTo (bytes_of old) ended (clock new - clock old)
+
 module _ {R : Type 0} where
-  abbrev pub NotCreated : Type 0 → World R → World R → Fault → Type 0
-  NotCreated keeps w w' (Vault (vault.Pen (pen_fault.Disk fault))) = HasFailed w w' × (w' ≡ elsewhere w w')
-  NotCreated keeps w w' (Vault (vault.Pen pen_fault.Exists)) = (keeps → IsExisting (bytes_of w.disk.states)) × (w' ≡ elsewhere w w')
-  NotCreated keeps w w' (Vault other) = w' ≡ w
-  NotCreated keeps w w' (InGrow fault) = ⊥
-  NotCreated keeps w w' (Scan fault) = ⊥
+  abbrev pub HasTried : Type 0 → Shape → Option PenFault → World R → World R → Type 0
+  HasTried keeps shape ended w w' = keeps → IsMaking shape ended w.disk.states w'.disk.states
+
+  abbrev pub NotCreated : Type 0 → Shape → World R → World R → Fault → Type 0
+  NotCreated keeps shape w w' (Vault (vault.Pen (pen_fault.Disk fault))) = HasFailed w w' × HasTried keeps shape (Some (pen_fault.Disk fault)) w w' × (w' ≡ elsewhere w w')
+  NotCreated keeps shape w w' (Vault (vault.Pen pen_fault.Exists)) = (keeps → IsExisting (bytes_of w.disk.states)) × HasTried keeps shape (Some pen_fault.Exists) w w' × (w' ≡ elsewhere w w')
+  NotCreated keeps shape w w' (Vault other) = w' ≡ w
+  NotCreated keeps shape w w' (InGrow fault) = ⊥
+  NotCreated keeps shape w w' (Scan fault) = ⊥
 
   abbrev pub opened : World R → List R → File → World R
   opened w base file = record w { phase = Exclusive; base = base; history = []; settled = 0; hand = at_rest file }
@@ -42,8 +61,8 @@ module _ {R : Type 0} where
 module _ {R : Type 0} (form : Encoding R) where
   abbrev pub IsCreate : Type 0 → World R → Format → Answer R → World R → Type 0
   IsCreate keeps w format answer w' = Outcome (Might is_vault_memory ∷ Might is_disk ∷ Might is_exists ∷ []) answer
-      ((answer ≡ step.Fine) × (keeps → IsExisting (bytes_of w.disk.states) → ⊥) × (w' ≡ elsewhere (opened w [] (empty_file (shape_of format form))) w'))
-      (NotCreated keeps w w')
+      ((answer ≡ step.Fine) × (keeps → IsExisting (bytes_of w.disk.states) → ⊥) × HasTried keeps (shape_of format form) None w w' × (w' ≡ elsewhere (opened w [] (empty_file (shape_of format form))) w'))
+      (NotCreated keeps (shape_of format form) w w')
 
   -- the vector of these bytes, and what a pen counts of them
   pub record HasRead (bytes : List ℕ) (base : List R) (file : File) : Type 0 where
@@ -52,13 +71,17 @@ module _ {R : Type 0} (form : Encoding R) where
     pub vector : HasVector format form bytes frames base
     pub file_is : file ≡ record { shape = shape_of format form; gate = gate_of (shape_of format form) frames; changes = (tally_of frames).changes; folded = (tally_of frames).folded }
 
+  -- nothing is written: a crash within the opening leaves what it might have left before
+  abbrev pub HasLooked : Type 0 → World R → World R → Type 0
+  HasLooked keeps w w' = keeps → OnlySyncs w.disk.states w'.disk.states
+
   abbrev pub NotOpened : Type 0 → World R → World R → Fault → Type 0
-  NotOpened keeps w w' (Vault (vault.Pen (pen_fault.Disk fault))) = HasFailed w w' × (w' ≡ elsewhere w w')
+  NotOpened keeps w w' (Vault (vault.Pen (pen_fault.Disk fault))) = HasFailed w w' × HasLooked keeps w w' × (w' ≡ elsewhere w w')
   NotOpened keeps w w' (Vault other) = ⊥
   NotOpened keeps w w' (InGrow fault) = ⊥
-  NotOpened keeps w w' (Scan fault) = (keeps → IsRefused form (bytes_of w.disk.states) fault) × (w' ≡ elsewhere w w')
+  NotOpened keeps w w' (Scan fault) = (keeps → IsRefused form (bytes_of w.disk.states) fault) × HasLooked keeps w w' × (w' ≡ elsewhere w w')
 
   abbrev pub IsOpen : Type 0 → World R → Answer R → World R → Type 0
   IsOpen keeps w answer w' = Outcome (Might is_disk ∷ Might is_scan ∷ []) answer
-      ((base : List R) × (file : File) × (answer ≡ step.Size (length base)) × (keeps → HasRead (bytes_of w.disk.states) base file) × (w' ≡ elsewhere (opened w base file) w'))
+      ((base : List R) × (file : File) × (answer ≡ step.Size (length base)) × (keeps → HasRead (bytes_of w.disk.states) base file) × HasLooked keeps w w' × (w' ≡ elsewhere (opened w base file) w'))
       (NotOpened keeps w w')

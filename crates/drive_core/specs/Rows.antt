@@ -31,36 +31,36 @@ module _ {R : Type 0} (form : Encoding R) where
   ShutRow keeps w step.Open answer w' = IsOpen form keeps w answer w'
   ShutRow keeps w other answer w' = IsMisplaced w answer w'
 
-  abbrev pub ExclusiveRow : World R → Step R → Answer R → World R → Type 0
-  ExclusiveRow w (step.Share room seats) answer w' = IsShare w room seats answer w'
-  ExclusiveRow w (step.Change start records) answer w' = IsCommand form w (changed start records) answer w'
-  ExclusiveRow w (step.Changes pieces) answer w' = IsChanges form w pieces answer w'
-  ExclusiveRow w (step.Resize n r) answer w' = IsCommand form w (resized (length (vector w)) n r) answer w'
-  ExclusiveRow w step.Clear answer w' = IsCommand form w (cleared (length (vector w))) answer w'
-  ExclusiveRow w step.Listing answer w' = IsListing w answer w'
-  ExclusiveRow w step.Fold answer w' = IsFold w answer w'
-  ExclusiveRow w step.Log answer w' = IsLog w answer w'
-  ExclusiveRow w step.Home answer w' = IsHome w answer w'
-  ExclusiveRow w other answer w' = IsMisplaced w answer w'
+  abbrev pub ExclusiveRow : Type 0 → World R → Step R → Answer R → World R → Type 0
+  ExclusiveRow keeps w (step.Share room seats) answer w' = IsShare w room seats answer w'
+  ExclusiveRow keeps w (step.Change start records) answer w' = IsCommand form w (changed start records) answer w'
+  ExclusiveRow keeps w (step.Changes pieces) answer w' = IsChanges form w pieces answer w'
+  ExclusiveRow keeps w (step.Resize n r) answer w' = IsCommand form w (resized (length (vector w)) n r) answer w'
+  ExclusiveRow keeps w step.Clear answer w' = IsCommand form w (cleared (length (vector w))) answer w'
+  ExclusiveRow keeps w step.Listing answer w' = IsListing w answer w'
+  ExclusiveRow keeps w step.Fold answer w' = IsFold keeps w answer w'
+  ExclusiveRow keeps w step.Log answer w' = IsLog w answer w'
+  ExclusiveRow keeps w step.Home answer w' = IsHome w answer w'
+  ExclusiveRow keeps w other answer w' = IsMisplaced w answer w'
 
-  abbrev pub GrowthRow : World R → Growth → Step R → Answer R → World R → Type 0
-  GrowthRow w phase (step.Put seat records) answer w' = OfSeat w answer w' (has_seat phase (Some seat)) (IsPut form.width w phase seat records answer w')
-  GrowthRow w phase (step.Look pass) answer w' = OfSeat w answer w' (has_seat phase pass) (IsLook w phase pass answer w')
-  GrowthRow w phase (step.View seat) answer w' = OfSeat w answer w' (has_seat phase (Some seat)) (IsView w phase seat answer w')
-  GrowthRow w phase (step.Settled seat) answer w' = OfSeat w answer w' (has_seat phase (Some seat)) (IsSettled w phase seat answer w')
-  GrowthRow w phase step.Take answer w' = IsTake form w phase answer w'
-  GrowthRow w phase step.Raise answer w' = IsRaise w phase answer w'
-  GrowthRow w phase step.Close answer w' = IsClose w phase answer w'
-  GrowthRow w phase step.Gather answer w' = IsGather w phase answer w'
-  GrowthRow w phase step.Fold answer w' = IsFold w answer w'
-  GrowthRow w phase step.Log answer w' = IsLog w answer w'
-  GrowthRow w phase step.Home answer w' = IsHome w answer w'
-  GrowthRow w phase other answer w' = IsMisplaced w answer w'
+  abbrev pub GrowthRow : Type 0 → World R → Growth → Step R → Answer R → World R → Type 0
+  GrowthRow keeps w phase (step.Put seat records) answer w' = OfSeat w answer w' (has_seat phase (Some seat)) (IsPut form.width w phase seat records answer w')
+  GrowthRow keeps w phase (step.Look pass) answer w' = OfSeat w answer w' (has_seat phase pass) (IsLook w phase pass answer w')
+  GrowthRow keeps w phase (step.View seat) answer w' = OfSeat w answer w' (has_seat phase (Some seat)) (IsView w phase seat answer w')
+  GrowthRow keeps w phase (step.Settled seat) answer w' = OfSeat w answer w' (has_seat phase (Some seat)) (IsSettled w phase seat answer w')
+  GrowthRow keeps w phase step.Take answer w' = IsTake form w phase answer w'
+  GrowthRow keeps w phase step.Raise answer w' = IsRaise w phase answer w'
+  GrowthRow keeps w phase step.Close answer w' = IsClose w phase answer w'
+  GrowthRow keeps w phase step.Gather answer w' = IsGather w phase answer w'
+  GrowthRow keeps w phase step.Fold answer w' = IsFold keeps w answer w'
+  GrowthRow keeps w phase step.Log answer w' = IsLog w answer w'
+  GrowthRow keeps w phase step.Home answer w' = IsHome w answer w'
+  GrowthRow keeps w phase other answer w' = IsMisplaced w answer w'
 
   abbrev pub PhaseRow : Type 0 → World R → Phase → Step R → Answer R → World R → Type 0
   PhaseRow keeps w Shut asked answer w' = ShutRow keeps w asked answer w'
-  PhaseRow keeps w Exclusive asked answer w' = ExclusiveRow w asked answer w'
-  PhaseRow keeps w (Growing phase) asked answer w' = GrowthRow w phase asked answer w'
+  PhaseRow keeps w Exclusive asked answer w' = ExclusiveRow keeps w asked answer w'
+  PhaseRow keeps w (Growing phase) asked answer w' = GrowthRow keeps w phase asked answer w'
 
   -- after a stray growth that answer is given again
   abbrev pub StrayRow : Type 0 → World R → Option ℕ → Step R → Answer R → World R → Type 0

@@ -51,6 +51,7 @@ pub(crate) fn fold<R: Record, D: Disk>(vault: &mut Vault<R, D>) -> Answer<R>
     ensures steps { VaultSteps R.form D.states D.faults D.keeps vault.old vault.new step.Fold (answer_of result) }
     ensures model { D.keeps vault.new.pen.disk → D.keeps vault.old.pen.disk }
 {
+    let _ = vault.disk();
     match vault.begin_fold() {
         Ok(begun) => Answer::Begun(begun),
         Err(fault) => Answer::Refused(Fault::Vault(fault)),

@@ -242,12 +242,13 @@ impl<R: Record, D: Disk> Growing<R, D> {
         }
     }
 
-    /// From now on a put is refused by the driver itself.
-    pub fn close(&mut self) -> Answer<R>
+    /// From now on the book refuses each growth, and the driver each put.
+    pub fn close<E: Wait>(&mut self, rt: &E) -> Answer<R>
         ensures steps { (w : World R) (phase : Growth) → IsGrowing D.states D.faults w phase self.old
             → Steps R.form (D.keeps self.new.flusher.pen.disk) (λ w'. IsBehind D.states D.faults w' self.new) w step.Close (answer_of result) 0 }
         ensures model { D.keeps self.new.flusher.pen.disk → D.keeps self.old.flusher.pen.disk }
     {
+        self.live.close(rt);
         self.closed = true;
         Answer::Fine
     }
@@ -354,6 +355,7 @@ impl<R: Record, D: Disk> Growing<R, D> {
             → Steps R.form (D.keeps self.new.flusher.pen.disk) (λ w'. IsBehind D.states D.faults w' self.new) w step.Fold (answer_of result) 0 }
         ensures model { D.keeps self.new.flusher.pen.disk → D.keeps self.old.flusher.pen.disk }
     {
+        let _ = self.flusher.disk();
         match self.flusher.begin_fold(&self.live) {
             Ok(begun) => Answer::Begun(begun),
             Err(fault) => Answer::Refused(told_fault(fault)),

@@ -89,7 +89,7 @@ pub(crate) fn answer<R: Record, D: Disk, E: Wait>(
         Step::Settled(seat) => settled(growing, *seat),
         Step::Take => growing.take(),
         Step::Raise => growing.raise(),
-        Step::Close => growing.close(),
+        Step::Close => growing.close(rt),
         Step::Fold => growing.fold(),
         Step::Log => growing.log(),
         Step::Home => growing.home(),

@@ -10,7 +10,7 @@ use Rattle.book_core.specs.Lists.{Phase, Seated, IsSeatOf, opening_of}
 use Rattle.book_core.specs.Beginning.{IsNewSeat}
 use Rattle.book_core.specs.Growing.{Grown, SeatLearns, IsBookRefusal, growth_of}
 use Rattle.book_core.proofs.Owns.{push_get}
-use Rattle.vault_core.specs.Crewing.{HasGrown, IsGrowerFault, IsBlockFault, IsStop, receipt_of}
+use Rattle.vault_core.specs.Crewing.{HasGrown, IsGrowerFault, IsBlockFault, IsStop, MayStarve, receipt_of}
 
 nothing_there : {X : Type 0} (xs : List X) (k : ℕ) (x : X) → xs ≡ [] → slice_get xs k ≡ Some x → ⊥
 nothing_there xs k x none is = let at : None ≡ Some x = sym (ap (λ (ys : List _). slice_get ys k) none) ∙ is in grind arith
@@ -40,8 +40,8 @@ module _ {R : Type 0} (width : ℕ) (live : Phase R) (count : ℕ) (block : ℕ 
     }
 
     -- by want of memory
-    pub starved : HasGrown width live count block id old receipts (Some Memory)
-    starved = stopped old Memory grown.of refl refl (inl refl)
+    pub starved : MayStarve count (length old.made) → HasGrown width live count block id old receipts (Some Memory)
+    starved may = stopped old Memory grown.of refl refl (inl (refl, may))
 
     -- for want of a block
     pub blockless : (fault : GrowFault) → length old.made < count → IsBlockFault width (length (block (length old.made))) fault → HasGrown width live count block id old receipts (Some fault)
@@ -49,7 +49,7 @@ module _ {R : Type 0} (width : ℕ) (live : Phase R) (count : ℕ) (block : ℕ 
     blockless Full lt why = absurd why
     blockless TooLong lt why = absurd why
     blockless (Strayed n) lt why = absurd why
-    blockless Memory lt why = starved
+    blockless Memory lt why = starved (inl lt)
     blockless Empty lt why = stopped old Empty grown.of refl refl (inr (lt, why))
     blockless TooLarge lt why = stopped old TooLarge grown.of refl refl (inr (lt, why))
 
@@ -66,7 +66,7 @@ module _ {R : Type 0} (width : ℕ) (live : Phase R) (count : ℕ) (block : ℕ 
       refused Full learns why = stopped new Full of learns.id learns.made (named learns.made Full why)
       refused TooLong learns why = stopped new TooLong of learns.id learns.made (named learns.made TooLong why)
       refused (Strayed n) learns why = stopped new (Strayed n) of learns.id learns.made (named learns.made (Strayed n) why)
-      refused Memory learns why = stopped new Memory of learns.id learns.made (inl refl)
+      refused Memory learns why = stopped new Memory of learns.id learns.made (inl (refl, inl (subst (λ (n : ℕ). n < count) (sym (ap length learns.made)) lt)))
       refused Empty learns why = absurd why
       refused TooLarge learns why = absurd why
 

@@ -109,18 +109,19 @@ module _ {R : Type 0} (width : ℕ) (live : Phase R) (count : ℕ → ℕ) (bloc
 
       reason : (k : ℕ) (lt : k < n) (fault : GrowFault) → IsStop width live (count k) (block k) (home.each k lt).seat fault
           → IsReason width (length (list_of new)) (count k) (block k) (length (home.each k lt).seat.made) fault
-      reason k lt Closed (inl starved) = absurd cc
+      reason k lt Closed (inl starved) = absurd (let is = starved.0 in cc)
       reason k lt Closed (inr why) = why.0
-      reason k lt Full (inl starved) = absurd cc
+      reason k lt Full (inl starved) = absurd (let is = starved.0 in cc)
       reason k lt Full (inr why) = why.0
-      reason k lt TooLong (inl starved) = absurd cc
+      reason k lt TooLong (inl starved) = absurd (let is = starved.0 in cc)
       reason k lt TooLong (inr why) = (why.0, (let few = size-le k lt in let past = why.1.2 in omega arith))
-      reason k lt (Strayed m) (inl starved) = absurd cc
+      reason k lt (Strayed m) (inl starved) = absurd (let is = starved.0 in cc)
       reason k lt (Strayed m) (inr why) = why.0
-      reason k lt Memory why = tt
-      reason k lt Empty (inl starved) = absurd cc
+      reason k lt Memory (inl starved) = starved.1
+      reason k lt Memory (inr why) = inl why.0
+      reason k lt Empty (inl starved) = absurd (let is = starved.0 in cc)
       reason k lt Empty (inr why) = why
-      reason k lt TooLarge (inl starved) = absurd cc
+      reason k lt TooLarge (inl starved) = absurd (let is = starved.0 in cc)
       reason k lt TooLarge (inr why) = why
 
       reason-at : (k : ℕ) (lt : k < n) (fault : GrowFault) → slice_get faults k ≡ Some (Some fault) → IsReason width (length (list_of new)) (count k) (block k) (length (own_of k f.pass.entries)) fault

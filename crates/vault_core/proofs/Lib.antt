@@ -12,6 +12,7 @@ pub mod Lent
 pub mod Grows
 pub mod Shrinks
 pub mod Trims
+pub mod Carried
 pub mod Settles
 pub mod CallsLeft
 mod Accounts

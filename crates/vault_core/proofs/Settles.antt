@@ -26,8 +26,9 @@ use Rattle.vault_core.specs.declared.fault.VaultFault.TheVariants.{Pen, Unsettle
 use Rattle.pen_core.specs.Typed.{OpensTo}
 use Rattle.vault_core.specs.Vault.{VaultOf, MayHold, OpensToEither, list_of}
 use Rattle.vault_core.specs.Commands.{IsLaneFault}
-use Rattle.vault_core.specs.Settles.{fold_ticks, work_left, HasAdvanced, IsSettleFault, Settles, fold_calls, calls_left}
+use Rattle.vault_core.specs.Settles.{CarriesOn, fold_ticks, work_left, HasAdvanced, IsSettleFault, Settles, fold_calls, calls_left}
 use Rattle.pen_core.proofs.Settled.{log_left-step}
+use Rattle.vault_core.proofs.Carried.{carries-trans}
 
 -- ---- stretches
 
@@ -49,6 +50,12 @@ module _ {R D : Type 0} (form : Encoding R) (keeps : D → Type 0) (states : D �
     settles_images model images now = elim so_far [
       | inl same ↦ subst (λ (v : VaultOf R D). LeavesOnly (states v.pen.disk) (states new.pen.disk) (MayHold form v)) same (images now)
       | inr first ↦ join_images old mid new first (model now) (images now)
+    ]
+
+    pub settles_carries : CarriesOn mid.pen new.pen → CarriesOn old.pen new.pen
+    settles_carries more = elim so_far [
+      | inl same ↦ subst (λ (v : VaultOf R D). CarriesOn v.pen new.pen) same more
+      | inr first ↦ carries-trans old.pen mid.pen new.pen first.carries more
     ]
 
     pub settles_blocks : new.blocks ≡ mid.blocks → new.blocks ≡ old.blocks
@@ -86,10 +93,11 @@ module _ {R D : Type 0} (form : Encoding R) (keeps : D → Type 0) (states : D �
     ]
 
     -- one more
-    pub settles_more : (keeps new.pen.disk → LeavesOnly (states mid.pen.disk) (states new.pen.disk) (MayHold form mid)) → new.blocks ≡ mid.blocks → (keeps new.pen.disk → new.sure ≡ list_of new) → (mid.pen.broken ≡ false) × (new.pen.broken ≡ false) → clock (states new.pen.disk) + calls_left new.pen ≤ clock (states mid.pen.disk) + calls_left mid.pen → faults new.pen.disk ≡ faults mid.pen.disk
+    pub settles_more : (keeps new.pen.disk → LeavesOnly (states mid.pen.disk) (states new.pen.disk) (MayHold form mid)) → CarriesOn mid.pen new.pen → new.blocks ≡ mid.blocks → (keeps new.pen.disk → new.sure ≡ list_of new) → (mid.pen.broken ≡ false) × (new.pen.broken ≡ false) → clock (states new.pen.disk) + calls_left new.pen ≤ clock (states mid.pen.disk) + calls_left mid.pen → faults new.pen.disk ≡ faults mid.pen.disk
         → (keeps new.pen.disk → keeps mid.pen.disk) → (keeps mid.pen.disk → keeps new.pen.disk) → Settles form keeps states faults old new
-    settles_more images blocks sure whole time calls model goes_on = record {
+    settles_more images carries blocks sure whole time calls model goes_on = record {
       images = settles_images model images;
+      carries = settles_carries carries;
       blocks_same = settles_blocks blocks;
       sure = sure;
       whole = (settles_whole whole.0, whole.1);

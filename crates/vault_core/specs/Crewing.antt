@@ -1,9 +1,9 @@
 -- What a crew grows by, and what comes of it.
-use Rattle.std.specs.Prelude.{◌≡◌, ℕ, zero, suc, ◌+◌, ◌<◌, ◌≤◌, ◌⊎◌, List, [], ◌++◌, length, map, take, get_or, slice_get, All, Option, Some, IfSome}
+use Rattle.std.specs.Prelude.{◌≡◌, ℕ, zero, suc, ◌+◌, ◌<◌, ◌≤◌, ◌⊎◌, List, [], ◌++◌, length, map, take, get_or, slice_get, All, Option, Some, IfSome, false}
 use Rattle.std.specs.Global.{Vec}
 use Rattle.record_core.specs.Bytes.{Encoding}
 use Rattle.record_core.specs.Limits.{payload_limit}
-use Rattle.disk_core.specs.State.{State}
+use Rattle.disk_core.specs.State.{State, IsImage, now}
 use Rattle.disk_core.specs.Moments.{LeavesOnly}
 use Rattle.pen_core.specs.Typed.{OpensTo}
 use Rattle.block_core.specs.Growth.{Growth}
@@ -72,10 +72,14 @@ IsBlockFault width n Memory = Unit {0}
 IsBlockFault width n Empty = n ≡ 0
 IsBlockFault width n TooLarge = payload_limit < payload_len width n
 
+-- memory for the next growth, or for its thread, may be what a grower wants that has made so many growths
+abbrev pub MayStarve : ℕ → ℕ → Type 0
+MayStarve count m = (m < count) ⊎ (m ≡ 0)
+
 -- why a grower stopped: memory was refused, that of its thread among it; or the growth of the block that comes next wasn't
 -- made
 abbrev pub IsStop : {R : Type 0} → ℕ → Phase R → ℕ → (ℕ → List R) → Seated R → GrowFault → Type 0
-IsStop width live count block seat fault = (fault ≡ Memory) ⊎ ((length seat.made < count) × IsGrowerFault width live seat (length (block (length seat.made))) fault)
+IsStop width live count block seat fault = ((fault ≡ Memory) × MayStarve count (length seat.made)) ⊎ ((length seat.made < count) × IsGrowerFault width live seat (length (block (length seat.made))) fault)
 
 -- The grower of that id has made growths of the first blocks that are named for it, in order, has their receipts, and, where
 -- it stopped by a fault, that.
@@ -123,7 +127,7 @@ IsReason width size count block m Closed = m < count
 IsReason width size count block m Full = m < count
 IsReason width size count block m TooLong = (m < count) × (record_limit < size + length (block m))
 IsReason width size count block m (Strayed k) = m < count
-IsReason width size count block m Memory = Unit {0}
+IsReason width size count block m Memory = MayStarve count m
 IsReason width size count block m Empty = (m < count) × (length (block m) ≡ 0)
 IsReason width size count block m TooLarge = (m < count) × (payload_limit < payload_len width (length (block m)))
 
@@ -141,22 +145,32 @@ pub record IsCrewed {R D : Type 0} (width : ℕ) (count : ℕ → ℕ) (block : 
   pub faults_are : (k : ℕ) (fault : GrowFault) → k < n → slice_get faults k ≡ Some (Some fault) → IsReason width (length (list_of new)) (count k) (block k) (length (own_of k growths)) fault
 
 -- the image opens to these records and those of the first of the growths
-pub record OpensToFirst {R : Type 0} (form : Encoding R) (before : List R) (growths : List (Growth R)) (image : List ℕ) : Type 0 where
+pub record OpensToGrown {R : Type 0} (form : Encoding R) (before : List R) (growths : List (Growth R)) (image : List ℕ) : Type 0 where
   pub count : ℕ
   pub known : count ≤ length growths
   pub opens : OpensTo form image (before ++ joined (take count growths))
 
--- Some growths come of a crew, and whatever a crash may have left meanwhile opens to the old list and the first of them, each
--- whole.
+-- The vault that comes back is whole, and whatever a crash may leave now opens to all of its list: so all that was grown is
+-- settled. A disk that keeps its model then kept it before.
+pub record IsBack {R D : Type 0} (form : Encoding R) (keeps : D → Type 0) (states : D → List State) (old new : VaultOf R D) : Type 0 where
+  pub whole : new.pen.broken ≡ false
+  pub settled : keeps new.pen.disk → (image : List ℕ) → IsImage (now (states new.pen.disk)) image → OpensTo form image (list_of new)
+  pub model : keeps new.pen.disk → keeps old.pen.disk
+
+-- Some growths come of a crew, all of them settled, and whatever a crash may have left meanwhile opens to the old list and the
+-- first of them, each whole.
 abbrev pub HasCrewed : {R D : Type 0} → Encoding R → (D → Type 0) → (D → List State) → (ℕ → ℕ) → (ℕ → ℕ → List R) → ℕ → VaultOf R D → VaultOf R D → List (List Receipt) → List (Option GrowFault) → Type 0
 HasCrewed {R} form keeps states count block n old new receipts faults =
     (growths : List (Growth R)) × IsCrewed form.width count block n old new receipts faults growths
-    × (keeps new.pen.disk → LeavesOnly (states old.pen.disk) (states new.pen.disk) (OpensToFirst form (list_of old) growths))
+    × IsBack form keeps states old new
+    × (keeps new.pen.disk → LeavesOnly (states old.pen.disk) (states new.pen.disk) (OpensToGrown form (list_of old) growths))
 
 -- Why a crew of n growers gave no vault: a phase with this room and a seat for each of them wasn't begun, and the vault is as
--- it was; or the phase wasn't ended, and here are its parts, over the same blocks, and what a crash may have left meanwhile.
+-- it was; or the phase wasn't ended, and here are its parts, with all seats, over the same blocks, and what a crash may have
+-- left meanwhile.
 abbrev pub IsCrewFault : {R D : Type 0} → Encoding R → (D → Type 0) → (D → List State) → VaultOf R D → ℕ → ℕ → CrewFault R D → Type 0
 IsCrewFault form keeps states vault room n (Share back fault) = (back ≡ vault) × IsShareFault vault room n fault
 IsCrewFault form keeps states vault room n (Gather g) =
-    (g.live.blocks ≡ vault.blocks) × AreOf (keeps g.flusher.pen.disk) g.live g.seats.items g.flusher × IsGatherFault g.live g.seats.items g.flusher g.fault
-    × (keeps g.flusher.pen.disk → LeavesOnly (states vault.pen.disk) (states g.flusher.pen.disk) (OpensToFirst form (list_of vault) g.flusher.pass.entries))
+    (g.live.blocks ≡ vault.blocks) × (g.live.directory.room ≡ room) × (g.live.seat_count ≡ n) × (length g.seats.items ≡ n)
+    × (keeps g.flusher.pen.disk → keeps vault.pen.disk) × AreOf (keeps g.flusher.pen.disk) g.live g.seats.items g.flusher × IsGatherFault g.live g.seats.items g.flusher g.fault
+    × (keeps g.flusher.pen.disk → LeavesOnly (states vault.pen.disk) (states g.flusher.pen.disk) (OpensToGrown form (list_of vault) g.flusher.pass.entries))

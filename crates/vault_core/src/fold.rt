@@ -7,7 +7,7 @@ ghost use Rattle.pen_core.specs.Pen.{IsFoldAnswer, IsUnchanged};
 ghost use Rattle.flush_core.specs.Refusals.{IsLaneTicked, lane_calls};
 ghost use Rattle.vault_core.specs.Vault.{MayHold, list_of};
 ghost use Rattle.vault_core.specs.Commands.{failed, IsFoldFault, IsLaneFault};
-ghost use Rattle.vault_core.specs.Settles.{HasAdvanced, IsIdle, IsSettleFault, calls_left};
+ghost use Rattle.vault_core.specs.Settles.{CarriesOn, HasAdvanced, IsIdle, IsSettleFault, StandsInFile, calls_left};
 
 use crate::fault::VaultFault;
 use crate::vault::Vault;
@@ -83,6 +83,7 @@ impl<R: Record, D: Disk> Vault<R, D> {
     fn advance(&mut self) -> Result<Tick, VaultFault>
         ensures images { D.keeps self.new.pen.disk → LeavesOnly (D.states self.old.pen.disk) (D.states self.new.pen.disk) (MayHold R.form self.old) }
         ensures advanced { IfOk result (λ tick. HasAdvanced self.old.pen self.new.pen tick) }
+        ensures carries { OnOk result (CarriesOn self.old.pen self.new.pen) }
         ensures list { self.new.blocks ≡ self.old.blocks }
         ensures sure { D.keeps self.new.pen.disk → MatchResult result (λ _. self.new.sure ≡ list_of self.new) (λ _. (self.new.sure ≡ self.old.sure) ⊎ (self.new.sure ≡ list_of self.new)) }
         ensures refused { IfErr result (λ fault. IsSettleFault self.old.pen self.new.pen fault) }
@@ -103,13 +104,15 @@ impl<R: Record, D: Disk> Vault<R, D> {
         self.tick(Lane::Home)
     }
 
-    /// Makes all device calls of the job and of the fold in hand, and no others. It takes no memory.
+    /// Makes all device calls of the job and of the fold in hand, and no others. It takes no memory. Behind it their frames
+    /// stand in the file.
     ///
     /// Each image that a crash may leave meanwhile opens to what an image of before opens to. Refused: `Broken`, with no
     /// call; `Disk`, at the call that failed, and from then on the vault is broken.
     pub fn settle(&mut self) -> Result<(), VaultFault>
         ensures images { D.keeps self.new.pen.disk → LeavesOnly (D.states self.old.pen.disk) (D.states self.new.pen.disk) (MayHold R.form self.old) }
         ensures idle { OnOk result (IsIdle self.new.pen) }
+        ensures file { OnOk result (StandsInFile self.old.pen self.new.pen) }
         ensures list { self.new.blocks ≡ self.old.blocks }
         ensures sure { D.keeps self.new.pen.disk → MatchResult result (λ _. self.new.sure ≡ list_of self.new) (λ _. (self.new.sure ≡ self.old.sure) ⊎ (self.new.sure ≡ list_of self.new)) }
         ensures refused { IfErr result (λ fault. IsSettleFault self.old.pen self.new.pen fault) }

@@ -3,7 +3,7 @@
 //! The toolchain takes no impl of a trait over each `R: Record` at once where a method calls a function of such an `R`: so
 //! there is one impl for each type of records.
 
-ghost use Rattle.std.specs.Prelude.{◌≡◌, ◌<◌, ◌^◌, length, All, vec_len, IfSome};
+ghost use Rattle.std.specs.Prelude.{◌≡◌, ◌<◌, ◌≤◌, ◌^◌, ◌⊎◌, ℕ, length, All, HoldsAt, vec_len, MatchOption};
 ghost use Rattle.vault_core.specs.Crewing.{growths_of, count_in, block_in};
 
 use crate::source::Source;
@@ -31,7 +31,9 @@ impl<'a, R: Record> Lists<'a, R> {
 
     /// The same, where it isn't known whether there are more growers or blocks: `None` then.
     pub fn try_new(lists: &'a [Vec<Vec<R>>]) -> Option<Lists<'a, R>>
-        ensures { IfSome result (λ source. source.lists.now ≡ lists.now) }
+        ensures { MatchOption result
+            ((2 ^ 16 ≤ length lists.now) ⊎ ((k : ℕ) × HoldsAt (λ blocks. 2 ^ 32 ≤ vec_len blocks) lists.now k))
+            (λ source. source.lists.now ≡ lists.now) }
     {
         if lists.len() > u16::MAX as usize {
             return None;

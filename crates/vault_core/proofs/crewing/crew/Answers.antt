@@ -1,9 +1,10 @@
 use Rattle.std.proofs.Common.{◌≡◌, ℕ, ◌+◌, List, map, Vec, refl, sym, ap, subst, ◌∙◌, arith, rules}
+use Rattle.pen_core.specs.PenOf.{PenOf}
 use Rattle.book_core.specs.declared.seat.Receipt.{Receipt}
 use Rattle.vault_core.specs.Gathering.{AreOf}
 use Rattle.vault_core.specs.Crewing.{AreHome}
 use Rattle.vault_core.proofs.Homes.{all-of, crewed}
-use Rattle.vault_core.proofs.Served.{served_first}
+use Rattle.vault_core.proofs.Served.{served_first, is_back}
 use Rattle.vault_core.proofs.crewing.crew.Goals as goal
 
 pub gather-requires-after_bounds : goal.gather-requires-after_bounds
@@ -28,6 +29,8 @@ returns-in-Ok-gather-clause-crewed g c =
       c.run_phase-flusher.result.0.pass.entries,
       crewed g.R.Record.form.width c.in-Ok-share.begun.0 count block (g.S.Source.growers_of source) home.seats.items receipts home.faults.items all
           c.args.vault c.in-Ok-gather.vault c.run_phase-flusher.result.0 c.in-Ok-share.ensures.shares.blocks c.in-Ok-gather.ensures.whole c.in-Ok-gather.ensures.list,
+      is_back g.R.Record.form g.D.Disk.keeps g.D.Disk.states c.args.vault c.in-Ok-share.begun.1 c.run_phase-flusher.result.0 c.in-Ok-share.ensures.shares.pen c.run_phase-flusher.ensures.served
+          c.in-Ok-gather.vault c.in-Ok-gather.ensures.pen c.in-Ok-gather.ensures.whole.pen_whole c.in-Ok-gather.ensures.told,
       λ now.
           let pen = c.in-Ok-gather.ensures.pen in
           let shares = c.in-Ok-share.ensures.shares in
@@ -46,7 +49,11 @@ returns-in-Err-gather-clause-refused g c =
     } in
     let shares = c.in-Ok-share.ensures.shares in
     rw (back.0, back.1, back.2) (
-      c.in-Ok-share.ensures.shares.blocks,
+      shares.blocks,
+      shares.room_is ∙ c.room_of-room.ensures,
+      shares.seats_are ∙ c.growers-growers.ensures,
+      (let long = c.run_phase-flusher.ensures.home.as_many_seats in let ok = c.in-Ok-share.begun.2.ok in let many = c.in-Ok-share.ensures.seats.0 in let all = c.growers-growers.ensures in omega arith),
+      (λ kept. subst (λ (p : PenOf _). g.D.Disk.keeps p.disk) shares.pen (c.run_phase-flusher.ensures.served.model kept)),
       of,
       e.refused,
       served_first g.R.Record.form g.D.Disk.keeps g.D.Disk.states c.args.vault c.in-Ok-share.begun.0 c.in-Ok-share.begun.1 c.run_phase-flusher.result.0 shares.blocks shares.pen c.run_phase-flusher.ensures.flusher c.run_phase-flusher.ensures.served

@@ -11,5 +11,5 @@ loop-preserved g c =
     let t = c.advance.ensures in
     let e = c.in_ok-advance.ensures in
     record {
-      so_far = inr (settles_more g.R.Record.form g.D.Disk.keeps g.D.Disk.states g.D.Disk.faults c.args.self.now c.loop.self c.advance.new.self c.loop.invariant.so_far t.images t.list e.sure e.whole e.time e.faults t.model e.goes_on);
+      so_far = inr (settles_more g.R.Record.form g.D.Disk.keeps g.D.Disk.states g.D.Disk.faults c.args.self.now c.loop.self c.advance.new.self c.loop.invariant.so_far t.images e.carries t.list e.sure e.whole e.time e.faults t.model e.goes_on);
     }
