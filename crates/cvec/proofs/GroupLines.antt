@@ -5,6 +5,7 @@ use Rattle.std.proofs.lemmas.List.{append_assoc, append-nil, length-append}
 use Rattle.cvec.specs.Text.{Spelling, AreWords, HasOneValue, joined_by}
 use Rattle.cvec.specs.GroupLine.{growth_text, group_line, IsGroup, IsGroupLineOf, IsGroupLine}
 use Rattle.cvec.specs.Words.{TakesWord, IsStrayWord}
+use Rattle.cvec.proofs.Small.{push_all}
 use Rattle.cvec.proofs.Joins.{parts_of, HasNoSpace, no_space_in_word, joined_append, joined_parts, parts_joined, not_bar, no_space_in_bar}
 
 -- ---- the words of growths
@@ -125,10 +126,6 @@ Reads_start spelling line law = record {
   so_far = refl;
   only = λ all so. start_ahead spelling line all law so;
 }
-
-push_all : {X : Type 0} (P : X → Type 0) (xs : List X) (x : X) → AllByRecursion P xs → P x → AllByRecursion P (xs ++ x ∷ [])
-push_all P [] x all one = (one, tt)
-push_all P (y ∷ xs) x all one = (all.0, push_all P xs x all.1 one)
 
 head_is : (v w : List ℕ) (vs ws : List (List ℕ)) → v ∷ vs ≡ w ∷ ws → v ≡ w
 head_is v w vs ws is = cc

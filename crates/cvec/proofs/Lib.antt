@@ -4,9 +4,15 @@ pub mod NumberLemmas
 pub mod SignedLemmas
 pub mod KeyedLemmas
 pub mod Joins
+pub mod LineWords
+pub mod LineRuns
 pub mod HexLines
 pub mod Reading
 pub mod LineLemmas
 pub mod LineGroups
+pub mod StepLines
 pub mod GroupLines
 pub mod Drafts
+pub mod Spaced
+pub mod Scripts
+pub mod Played

@@ -2,11 +2,12 @@
 use Rattle.std.proofs.Common.{◌≡◌, ℕ, ◌+◌, ◌<◌, ◌≤◌, List, [], ◌∷◌, ◌++◌, length, map, Option, refl, sym, ap, ◌∙◌, subst, arith}
 use Rattle.std.specs.Prelude.{MatchOption}
 use Rattle.std.specs.List.{AllByRecursion}
-use Rattle.std.proofs.lemmas.List.{append_assoc, append-nil, length-append, map-append, length-map}
+use Rattle.std.proofs.lemmas.List.{append-nil, length-append, map-append, length-map}
 use Rattle.cvec.specs.Text.{Spelling}
-use Rattle.cvec.specs.Lines.{HasNoLf, AreLines}
-use Rattle.cvec.specs.GroupLine.{group_line, IsGroup, IsGroupLineOf, IsGroupLine, AreGroupLines, IsFirstBadLine}
-use Rattle.cvec.proofs.LineLemmas.{Continues, Continues_start, Continues_cut, after_cut, no_lines, lines_in}
+use Rattle.cvec.specs.Lines.{HasNoLf, AreLines, IsFirstBadLine}
+use Rattle.cvec.specs.GroupLine.{group_line, IsGroup, IsGroupLineOf, IsGroupLine, AreGroupLines}
+use Rattle.cvec.proofs.Small.{push_all}
+use Rattle.cvec.proofs.LineLemmas.{Continues, Continues_start, Continues_cut, after_cut, no_lines, first_bad}
 
 -- these groups are read, and the rest is left
 pub record HasGroups {R : Type 0} (spelling : Spelling R) (input : List ℕ) (groups : List (List (List R))) (rest : List ℕ) : Type 0 where
@@ -16,10 +17,6 @@ pub record HasGroups {R : Type 0} (spelling : Spelling R) (input : List ℕ) (gr
 
 pub HasGroups_start : {R : Type 0} (spelling : Spelling R) (input : List ℕ) → HasGroups spelling input [] input
 HasGroups_start spelling input = record { each = tt; lines = Continues_start input; shorter = omega arith }
-
-push_all : {X : Type 0} (P : X → Type 0) (xs : List X) (x : X) → AllByRecursion P xs → P x → AllByRecursion P (xs ++ x ∷ [])
-push_all P [] x all one = (one, tt)
-push_all P (y ∷ xs) x all one = (all.0, push_all P xs x all.1 one)
 
 pub HasGroups_more : {R : Type 0} (spelling : Spelling R) (input : List ℕ) (groups : List (List (List R))) (group : List (List R)) (text line : List ℕ) (rest : Option (List ℕ)) → 0 < length text → MatchOption rest (text ≡ line) (λ after. text ≡ line ++ 10 ∷ after) → HasNoLf line
     → length (after_cut rest) < length text → IsGroupLineOf spelling line group → HasGroups spelling input groups text → HasGroups spelling input (groups ++ group ∷ []) (after_cut rest)
@@ -39,17 +36,7 @@ are_group_lines : {R : Type 0} (spelling : Spelling R) (groups : List (List (Lis
 are_group_lines spelling [] all = tt
 are_group_lines spelling (group ∷ groups) all = ((group, record { group = all.0; text = refl }), are_group_lines spelling groups all.1)
 
-pub first_bad : {R : Type 0} (spelling : Spelling R) (input : List ℕ) (groups : List (List (List R))) (text line : List ℕ) (rest : Option (List ℕ)) (n : ℕ) → 0 < length text → MatchOption rest (text ≡ line) (λ after. text ≡ line ++ 10 ∷ after) → HasNoLf line
-    → (IsGroupLine spelling line → ⊥) → n ≡ length groups + 1 → HasGroups spelling input groups text → IsFirstBadLine spelling input n
-first_bad spelling input groups text line rest n some whole plain bad place so =
-    let front = map (group_line spelling.text_of) groups in
-    let left = lines_in (after_cut rest) in
-    record {
-      front = front;
-      line = line;
-      more = left.0;
-      lines = subst (AreLines input) (append_assoc front (line ∷ []) left.0) (Continues_cut input front text line rest some whole plain so.lines left.0 left.1);
-      place = place ∙ ap (λ n. n + 1) (sym (length-map groups (group_line spelling.text_of)));
-      before = are_group_lines spelling groups so.each;
-      bad = bad;
-    }
+pub first_bad_group : {R : Type 0} (spelling : Spelling R) (input : List ℕ) (groups : List (List (List R))) (text line : List ℕ) (rest : Option (List ℕ)) (n : ℕ) → 0 < length text → MatchOption rest (text ≡ line) (λ after. text ≡ line ++ 10 ∷ after) → HasNoLf line
+    → (IsGroupLine spelling line → ⊥) → n ≡ length groups + 1 → HasGroups spelling input groups text → IsFirstBadLine (IsGroupLine spelling) input n
+first_bad_group spelling input groups text line rest n some whole plain bad place so =
+    first_bad (IsGroupLine spelling) input (map (group_line spelling.text_of) groups) text line rest n some whole plain bad (place ∙ ap (λ n. n + 1) (sym (length-map groups (group_line spelling.text_of)))) (are_group_lines spelling groups so.each) so.lines

@@ -1,11 +1,12 @@
 -- The lines of an input, one behind another.
-use Rattle.std.proofs.Common.{◌≡◌, ◌≢◌, ℕ, ◌<◌, List, [], ◌∷◌, ◌++◌, length, Option, Some, None, Bor, refl, sym, ap, ◌∙◌, subst, arith, inl, inr}
+use Rattle.std.proofs.Common.{◌≡◌, ◌≢◌, ℕ, ◌+◌, ◌<◌, List, [], ◌∷◌, ◌++◌, length, Option, Some, None, Bor, refl, sym, ap, ◌∙◌, subst, arith, inl, inr}
 use Rattle.std.specs.Prelude.{MatchOption, unwrap_or}
 use Rattle.std.specs.Option.{option_copied}
+use Rattle.std.specs.List.{AllByRecursion}
 use Rattle.std.proofs.lemmas.List.{append_assoc, length-append}
 use Rattle.std.proofs.lemmas.List.Elements.{All-nil, All-cons}
 use Rattle.std.proofs.lemmas.Bool.{cases_eq}
-use Rattle.cvec.specs.Lines.{ended, HasNoLf, LacksLastLf, AreLines}
+use Rattle.cvec.specs.Lines.{ended, HasNoLf, LacksLastLf, AreLines, IsFirstBadLine}
 
 -- a line and its LF in front
 lines_cons : (line rest : List ℕ) (lines : List (List ℕ)) → HasNoLf line → AreLines rest lines → AreLines (line ++ 10 ∷ rest) (line ∷ lines)
@@ -131,3 +132,19 @@ lent_rest (Some after) empty none = refl
 pub shorter_rest : (rest : Option (List ℕ)) (text line : List ℕ) → 0 < length text → MatchOption rest (text ≡ line) (λ after. text ≡ line ++ 10 ∷ after) → length (after_cut rest) < length text
 shorter_rest None text line some whole = some
 shorter_rest (Some after) text line some whole = let len = ap length whole in let parts = length-append line (10 ∷ after) in omega (arith, len, parts)
+
+-- ---- the first bad line
+
+pub first_bad : (IsGood : List ℕ → Type 0) (input : List ℕ) (front : List (List ℕ)) (text line : List ℕ) (rest : Option (List ℕ)) (n : ℕ) → 0 < length text → MatchOption rest (text ≡ line) (λ after. text ≡ line ++ 10 ∷ after) → HasNoLf line
+    → (IsGood line → ⊥) → n ≡ length front + 1 → AllByRecursion IsGood front → Continues input front text → IsFirstBadLine IsGood input n
+first_bad IsGood input front text line rest n some whole plain bad place good so =
+    let left = lines_in (after_cut rest) in
+    record {
+      front = front;
+      line = line;
+      more = left.0;
+      lines = subst (AreLines input) (append_assoc front (line ∷ []) left.0) (Continues_cut input front text line rest some whole plain so left.0 left.1);
+      place = place;
+      before = good;
+      bad = bad;
+    }

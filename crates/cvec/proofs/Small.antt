@@ -1,6 +1,7 @@
 -- Small facts on results and lists.
-use Rattle.std.proofs.Common.{◌≡◌, ◌≢◌, ◌<◌, Bool, true, false, List, [], ◌∷◌, length, Option, Some, None, Result, Ok, Err, refl, sym, ◌∙◌, arith}
-use Rattle.std.specs.Prelude.{is_ok, OnOk, IfSome, IfNone, IsErrAnd, IsTrue}
+use Rattle.std.proofs.Common.{◌≡◌, ◌≢◌, ◌<◌, Bool, true, false, List, [], ◌∷◌, ◌++◌, length, Option, Some, None, Result, Ok, Err, refl, sym, ◌∙◌, arith}
+use Rattle.std.specs.List.{AllByRecursion}
+use Rattle.std.specs.Prelude.{is_ok, OnOk, IfOk, IfSome, IfNone, IsErrAnd, IsTrue}
 
 pub OnOk_from : {T E : Type 0} (r : Result T E) (P : Type 0) → (is_ok r ≡ true → P) → OnOk r P
 OnOk_from (Ok t) P f = f refl
@@ -38,3 +39,11 @@ nil_from_test (x ∷ xs) b none some = let is : false ≡ true = sym none ∙ so
 pub some_from_test : {X : Type 0} (xs : List X) (b : Bool) → b ≡ true → (IsTrue b → xs ≢ []) → 0 < length xs
 some_from_test [] b is some = absurd (some is refl)
 some_from_test (x ∷ xs) b is some = omega arith
+
+pub push_all : {X : Type 0} (P : X → Type 0) (xs : List X) (x : X) → AllByRecursion P xs → P x → AllByRecursion P (xs ++ x ∷ [])
+push_all P [] x all one = (one, tt)
+push_all P (y ∷ xs) x all one = (all.0, push_all P xs x all.1 one)
+
+pub IfOk_weaker : {T E : Type 0} (r : Result T E) (P Q : T → Type 0) → ((t : T) → P t → Q t) → IfOk r P → IfOk r Q
+IfOk_weaker (Ok t) P Q f so = f t so
+IfOk_weaker (Err e) P Q f so = tt

@@ -14,7 +14,9 @@ use Rattle.cvec.specs.declared.status.Status.TheVariants.{Done, Refused, OutputF
 use Rattle.cvec.specs.GroupLine.{AreGroupLines}
 use Rattle.cvec.specs.HexLine.{IsHexLine}
 use Rattle.cvec.specs.Text.{Spelling, ended_line, record_lines}
-use Rattle.cvec.specs.Refusals.{refusal_line, input_limit, IsInputRefusal, IsImageRefusal, IsShowRefusal}
+use Rattle.cvec.specs.Refusals.{refusal_line, input_limit, IsInputRefusal, IsImageRefusal, IsShowRefusal, IsPlayRefusal}
+use Rattle.cvec.specs.Script.{ScriptOf, IsScript}
+use Rattle.cvec.specs.Played.{IsScriptPlayed}
 
 -- the file of the groups that the input spells
 abbrev pub IsFileOfLines : {R : Type 0} → Encoding R → Spelling R → List ℕ → List ℕ → Type 0
@@ -62,6 +64,26 @@ IsShowRun form spelling input old new Done = WritesVector form spelling input ol
 IsShowRun form spelling input old new Refused = WritesShowRefusal form input old new
 IsShowRun form spelling input old new OutputFailed = Unit {0}
 IsShowRun form spelling input old new Usage = ⊥
+
+-- the input's lines ask for a script, and this is what is written for it
+abbrev pub ArePlayed : {R : Type 0} → Encoding R → Spelling R → List ℕ → List ℕ → Type 0
+ArePlayed {R} form spelling input text = (script : ScriptOf R) × IsScript spelling input script × IsScriptPlayed form spelling.text_of script text
+
+-- that text, of an input within the bound
+abbrev pub WritesPlay : {R : Type 0} → Encoding R → Spelling R → List ℕ → Option (List ℕ) → Option (List ℕ) → Type 0
+WritesPlay form spelling input old new =
+    (text : List ℕ) × ArePlayed form spelling input text × (length input ≤ input_limit) × Appends old new text
+
+abbrev pub WritesPlayRefusal : {R : Type 0} → Spelling R → List ℕ → Option (List ℕ) → Option (List ℕ) → Type 0
+WritesPlayRefusal spelling input old new =
+    (refusal : Refusal) × IsPlayRefusal spelling input refusal × (IsInputRefusal input refusal ⊎ (length input ≤ input_limit)) × Appends old new (refusal_line refusal)
+
+-- how a play engine may end, and what it has written then
+abbrev pub IsPlayRun : {R : Type 0} → Encoding R → Spelling R → List ℕ → Option (List ℕ) → Option (List ℕ) → Status → Type 0
+IsPlayRun form spelling input old new Done = WritesPlay form spelling input old new
+IsPlayRun form spelling input old new Refused = WritesPlayRefusal spelling input old new
+IsPlayRun form spelling input old new OutputFailed = Unit {0}
+IsPlayRun form spelling input old new Usage = ⊥
 
 -- the program gave no engine its work: memory was refused, or the words ask for nothing
 abbrev pub IsIdleRun : Option (List ℕ) → Option (List ℕ) → Status → Type 0

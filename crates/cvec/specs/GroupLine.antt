@@ -1,5 +1,5 @@
 -- Group lines: growths with a bar between each two, a growth's records with a space between each two.
-use Rattle.std.specs.Prelude.{◌≡◌, ℕ, ◌+◌, ◌<◌, List, ◌∷◌, ◌++◌, length, map, codes}
+use Rattle.std.specs.Prelude.{◌≡◌, ℕ, ◌<◌, List, length, map, codes}
 use Rattle.std.specs.List.{AllByRecursion}
 use Rattle.cvec.specs.Text.{Spelling, joined_by}
 use Rattle.cvec.specs.Lines.{AreLines}
@@ -28,13 +28,3 @@ IsGroupLine {R} spelling line = (growths : List (List R)) × IsGroupLineOf spell
 pub record AreGroupLines {R : Type 0} (spelling : Spelling R) (input : List ℕ) (groups : List (List (List R))) : Type 0 where
   pub each : AllByRecursion (IsGroup spelling.is_value) groups
   pub lines : AreLines input (map (group_line spelling.text_of) groups)
-
--- line n, counted from 1, is the first that is no group line
-pub record IsFirstBadLine {R : Type 0} (spelling : Spelling R) (input : List ℕ) (n : ℕ) : Type 0 where
-  pub front : List (List ℕ)
-  pub line : List ℕ
-  pub more : List (List ℕ)
-  pub lines : AreLines input (front ++ line ∷ more)
-  pub place : n ≡ length front + 1
-  pub before : AllByRecursion (IsGroupLine spelling) front
-  pub bad : ¬ (IsGroupLine spelling line)

@@ -8,7 +8,14 @@ pub mod Lines
 pub mod GroupLine
 pub mod Words
 pub mod HexLine
+pub mod LineWords
+pub mod LineRuns
+pub mod Verbs
+pub mod StepLine
+pub mod Script
 pub mod Refusals
+pub mod Answers
+pub mod Played
 pub mod Drafts
 pub mod Engines
 pub mod Request

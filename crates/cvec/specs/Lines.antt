@@ -1,5 +1,5 @@
 -- The lines of an input: each ends with LF, which the last may lack if it isn't empty.
-use Rattle.std.specs.Prelude.{◌≡◌, ◌≢◌, ℕ, ◌<◌, List, [], ◌∷◌, ◌++◌, length, All, ◌⊎◌}
+use Rattle.std.specs.Prelude.{◌≡◌, ◌≢◌, ℕ, ◌+◌, ◌<◌, List, [], ◌∷◌, ◌++◌, length, All, ◌⊎◌}
 use Rattle.std.specs.List.{flat_map, AllByRecursion}
 use Rattle.cvec.specs.Text.{ended_line}
 
@@ -21,3 +21,13 @@ pub record LacksLastLf (input : List ℕ) (lines : List (List ℕ)) : Type 0 whe
 pub record AreLines (input : List ℕ) (lines : List (List ℕ)) : Type 0 where
   pub whole : AllByRecursion HasNoLf lines
   pub text : (input ≡ ended lines) ⊎ LacksLastLf input lines
+
+-- line n, counted from 1, is the first that isn't of the form
+pub record IsFirstBadLine (IsGood : List ℕ → Type 0) (input : List ℕ) (n : ℕ) : Type 0 where
+  pub front : List (List ℕ)
+  pub line : List ℕ
+  pub more : List (List ℕ)
+  pub lines : AreLines input (front ++ line ∷ more)
+  pub place : n ≡ length front + 1
+  pub before : AllByRecursion IsGood front
+  pub bad : ¬ (IsGood line)

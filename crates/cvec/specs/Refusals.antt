@@ -10,8 +10,10 @@ use Rattle.segment_core.specs.Written.{IsImageRefused}
 use Rattle.segment_core.specs.Fault.{IsRefused}
 use Rattle.cvec.specs.declared.refusal.Refusal.{Refusal}
 use Rattle.cvec.specs.declared.refusal.Refusal.TheVariants as refusals
-use Rattle.cvec.specs.GroupLine.{AreGroupLines, IsFirstBadLine}
+use Rattle.cvec.specs.GroupLine.{AreGroupLines, IsGroupLine}
 use Rattle.cvec.specs.HexLine.{IsHexLine}
+use Rattle.cvec.specs.Lines.{IsFirstBadLine}
+use Rattle.cvec.specs.StepLine.{IsStepLine}
 use Rattle.cvec.specs.Text.{Spelling, ended_line}
 
 abbrev pub cause_name : Cause → List ℕ
@@ -64,7 +66,7 @@ IsInputRefusal input refusals.NotHex = ⊥
 
 -- an input of group lines was refused
 abbrev pub IsImageRefusal : {R : Type 0} → Encoding R → Spelling R → List ℕ → Refusal → Type 0
-IsImageRefusal form spelling input (refusals.Line n) = IsFirstBadLine spelling input n
+IsImageRefusal form spelling input (refusals.Line n) = IsFirstBadLine (IsGroupLine spelling) input n
 IsImageRefusal {R} form spelling input (refusals.TooLargeAtLine n) =
     (groups : List (List (List R))) × (k : ℕ) × AreGroupLines spelling input groups × IsImageRefused form.width groups (image_faults.TooLarge k) × (n ≡ k + 1)
 IsImageRefusal form spelling input refusals.InputTooLong = input_limit < length input
@@ -92,3 +94,13 @@ IsShowRefusal form input refusals.Input = Unit {0}
 IsShowRefusal form input refusals.Memory = Unit {0}
 IsShowRefusal form input (refusals.Line n) = ⊥
 IsShowRefusal form input (refusals.TooLargeAtLine n) = ⊥
+
+-- an input of lines of steps was refused
+abbrev pub IsPlayRefusal : {R : Type 0} → Spelling R → List ℕ → Refusal → Type 0
+IsPlayRefusal spelling input (refusals.Line n) = IsFirstBadLine (IsStepLine spelling) input n
+IsPlayRefusal spelling input refusals.InputTooLong = input_limit < length input
+IsPlayRefusal spelling input refusals.Input = Unit {0}
+IsPlayRefusal spelling input refusals.Memory = Unit {0}
+IsPlayRefusal spelling input (refusals.TooLargeAtLine n) = ⊥
+IsPlayRefusal spelling input (refusals.Scan fault) = ⊥
+IsPlayRefusal spelling input refusals.NotHex = ⊥

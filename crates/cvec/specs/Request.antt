@@ -1,13 +1,14 @@
 -- The words for what the program is asked for.
 use Rattle.std.specs.Prelude.{ℕ, List, codes}
 use Rattle.cvec.specs.declared.request.Task.{Task}
-use Rattle.cvec.specs.declared.request.Task.TheVariants.{Image, Show}
+use Rattle.cvec.specs.declared.request.Task.TheVariants.{Image, Show, Play}
 use Rattle.cvec.specs.declared.request.RecordType.{RecordType}
 use Rattle.cvec.specs.declared.request.RecordType.TheVariants.{U32, U64, I64, Pair, Flagged}
 
 abbrev pub task_word : Task → List ℕ
 task_word Image = codes "image"
 task_word Show = codes "show"
+task_word Play = codes "play"
 
 abbrev pub type_word : RecordType → List ℕ
 type_word U32 = codes "u32"

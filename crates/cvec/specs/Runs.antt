@@ -3,7 +3,7 @@ use Rattle.std.specs.Prelude.{ℕ, List, Option}
 use Rattle.std.specs.Int.{w32, w64}
 use Rattle.record_core.specs.Bytes.{Encoding, unsigned, signed, pair, flagged}
 use Rattle.cvec.specs.declared.request.Task.{Task}
-use Rattle.cvec.specs.declared.request.Task.TheVariants.{Image, Show}
+use Rattle.cvec.specs.declared.request.Task.TheVariants.{Image, Show, Play}
 use Rattle.cvec.specs.declared.request.RecordType.{RecordType}
 use Rattle.cvec.specs.declared.request.RecordType.TheVariants.{U32, U64, I64, Pair, Flagged}
 use Rattle.cvec.specs.declared.status.Status.{Status}
@@ -11,12 +11,13 @@ use Rattle.cvec.specs.Text.{Spelling}
 use Rattle.cvec.specs.Numbers.{number_spelling}
 use Rattle.cvec.specs.SignedNumbers.{signed_spelling}
 use Rattle.cvec.specs.Keyed.{pair_spelling, flagged_spelling}
-use Rattle.cvec.specs.Engines.{IsImageRun, IsShowRun}
+use Rattle.cvec.specs.Engines.{IsImageRun, IsShowRun, IsPlayRun}
 
 -- how the task's engine may end over records of these bytes and texts, and what it has written then
 abbrev pub IsTaskRun : {R : Type 0} → Task → Encoding R → Spelling R → List ℕ → Option (List ℕ) → Option (List ℕ) → Status → Type 0
 IsTaskRun Image form spelling input old new status = IsImageRun form spelling input old new status
 IsTaskRun Show form spelling input old new status = IsShowRun form spelling input old new status
+IsTaskRun Play form spelling input old new status = IsPlayRun form spelling input old new status
 
 -- the same over records of one of the program's types
 abbrev pub IsRun : Task → RecordType → List ℕ → Option (List ℕ) → Option (List ℕ) → Status → Type 0

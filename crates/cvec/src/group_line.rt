@@ -6,8 +6,9 @@ ghost use Rattle.cvec.specs.Words.{TakesWord, IsStrayWord};
 
 use crate::text::TextRecord;
 use segment_core::Growths;
+use std::alloc::{AllocError, AllocFailed};
 
-const BAR: &[u8] = b"|";
+pub const BAR: &[u8] = b"|";
 
 /// Why a line gives no group.
 #[derive(Clone, Copy, Debug, PartialEq, Eq)]
@@ -16,6 +17,26 @@ pub enum LineFault {
     Bad,
     /// A growth of memory was refused.
     Memory,
+}
+
+impl From<AllocError> for LineFault {
+    ghost use Rattle.cvec.specs.declared.group_line.LineFault.{LineFault};
+
+    ghost from_gives = { λ _ fault. fault ≡ LineFault.Memory };
+
+    fn from(_: AllocError) -> LineFault {
+        LineFault::Memory
+    }
+}
+
+impl<T: Drop> From<AllocFailed<T>> for LineFault {
+    ghost use Rattle.cvec.specs.declared.group_line.LineFault.{LineFault};
+
+    ghost from_gives = { λ _ fault. fault ≡ LineFault.Memory };
+
+    fn from(_: AllocFailed<T>) -> LineFault {
+        LineFault::Memory
+    }
 }
 
 /// What stands before the first separator, and behind it, if it is there.

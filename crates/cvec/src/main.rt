@@ -1,6 +1,9 @@
 //! `cvec`: from lines of records to segment files in hex, and back.
 #![tactic(auto)]
 
+mod answer_line;
+mod asked;
+mod fault_name;
 mod file_of_lines;
 mod flagged;
 mod group_line;
@@ -8,20 +11,26 @@ mod halves;
 mod hex_line;
 mod image;
 mod input;
+mod line_runs;
+mod line_words;
 mod noting;
 mod number;
 mod output;
 mod pair;
+mod play;
 mod program;
 mod refusal;
 mod request;
+mod script;
 mod show;
 mod signed_number;
 mod status;
+mod step_line;
 #[cfg(test)]
 mod tests;
 mod text;
 mod usage;
+mod verb;
 mod words;
 
 use crate::noting::Noting;
@@ -34,12 +43,14 @@ use std::alloc::Global;
 use std::env;
 use std::io::{self, BufWriter, ErrorKind};
 use std::process::ExitCode;
+use std::sync::Wait;
+use std::thread::Threads;
 
 const OUTPUT_BUFFER_LEN: usize = 65_536;
 
 fn main(rt: HostRuntime) -> ExitCode {
     let status = match words_of(&rt) {
-        Ok(words) => run_words(&rt, words.as_slice()),
+        Ok(words) => run_words(&rt, &rt, words.as_slice()),
         Err(error) if error.kind() == ErrorKind::InvalidData => {
             let _ = write_usage(&mut rt.stderr(), Some("error: a word is no UTF-8"));
             Status::Usage
@@ -56,13 +67,13 @@ fn words_of(rt: &HostRuntime) -> io::Result<Vec<String>> {
 }
 
 /// Runs the words over standard input and output, and tells on standard error what neither of them has.
-fn run_words(rt: &HostRuntime, words: &[String]) -> Status {
+fn run_words<E: Threads + Wait + Sync>(rt: &HostRuntime, threads: &E, words: &[String]) -> Status {
     let alloc = rt.alloc();
     let Ok(buffer) = BufWriter::with_capacity(alloc, OUTPUT_BUFFER_LEN, io::writer(rt)) else {
         return refuse_memory(rt);
     };
     let mut output = Noting::new(buffer);
-    let status = run(alloc, words, &mut rt.stdin(), &mut output);
+    let status = run(alloc, threads, words, &mut rt.stdin(), &mut output);
     match status {
         Status::OutputFailed => tell_failed_write(rt, output.error()),
         Status::Usage => tell_usage(rt, words),

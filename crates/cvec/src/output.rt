@@ -27,3 +27,11 @@ pub fn write_line<W: Write>(text: &[u8], writer: &mut W) -> io::Result<()>
     writer.write_all(b"\n")?;
     writer.flush()
 }
+
+/// Writes a text that ends its lines itself.
+pub fn write_text<W: Write>(text: &[u8], writer: &mut W) -> io::Result<()>
+    ensures { OnOk result (Appends (W.contents writer.old) (W.contents writer.new) text.now) }
+{
+    writer.write_all(text)?;
+    writer.flush()
+}

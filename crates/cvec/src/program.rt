@@ -6,6 +6,7 @@ ghost use Rattle.cvec.specs.Engines.{IsIdleRun};
 ghost use Rattle.cvec.specs.Runs.{IsTaskRun, IsRun, IsSomeRun};
 
 use crate::image::image;
+use crate::play::play;
 use crate::refusal::{Refusal, refuse};
 use crate::request::{RecordType, Task};
 use crate::show::show;
@@ -16,10 +17,13 @@ use record_core::{Flagged, Pair};
 use std::alloc::Global;
 use std::convert::AsStr;
 use std::io::{Read, Write};
+use std::sync::Wait;
+use std::thread::Threads;
 
 /// Does the task on records of one type.
-fn run_of<R: TextRecord, I: Read, W: Write>(
+fn run_of<R: TextRecord, I: Read, W: Write, E: Threads + Wait + Sync>(
     alloc: Global,
+    rt: &E,
     task: Task,
     reader: &mut I,
     writer: &mut W,
@@ -31,12 +35,14 @@ fn run_of<R: TextRecord, I: Read, W: Write>(
     match task {
         Task::Image => image::<R, I, W>(alloc, reader, writer),
         Task::Show => show::<R, I, W>(alloc, reader, writer),
+        Task::Play => play::<R, I, W, E>(alloc, rt, reader, writer),
     }
 }
 
 /// Does the task on records of the type.
-fn run_task<I: Read, W: Write>(
+fn run_task<I: Read, W: Write, E: Threads + Wait + Sync>(
     alloc: Global,
+    rt: &E,
     task: Task,
     record_type: RecordType,
     reader: &mut I,
@@ -47,18 +53,19 @@ fn run_task<I: Read, W: Write>(
     ensures no_usage { result ≢ Status.Usage }
 {
     match record_type {
-        RecordType::U32 => run_of::<u32, I, W>(alloc, task, reader, writer),
-        RecordType::U64 => run_of::<u64, I, W>(alloc, task, reader, writer),
-        RecordType::I64 => run_of::<i64, I, W>(alloc, task, reader, writer),
-        RecordType::Pair => run_of::<Pair, I, W>(alloc, task, reader, writer),
-        RecordType::Flagged => run_of::<Flagged, I, W>(alloc, task, reader, writer),
+        RecordType::U32 => run_of::<u32, I, W, E>(alloc, rt, task, reader, writer),
+        RecordType::U64 => run_of::<u64, I, W, E>(alloc, rt, task, reader, writer),
+        RecordType::I64 => run_of::<i64, I, W, E>(alloc, rt, task, reader, writer),
+        RecordType::Pair => run_of::<Pair, I, W, E>(alloc, rt, task, reader, writer),
+        RecordType::Flagged => run_of::<Flagged, I, W, E>(alloc, rt, task, reader, writer),
     }
 }
 
 /// Does what the words behind the program's name ask for, and with no words what `image u64` does. Words that
 /// are not the program's, and those that ask for help, are answered with `Usage`.
-pub fn run<'a, S: AsStr, I: Read, W: Write>(
+pub fn run<'a, S: AsStr, I: Read, W: Write, E: Threads + Wait + Sync>(
     alloc: Global,
+    rt: &E,
     words: &'a [S],
     reader: &mut I,
     writer: &mut W,
@@ -71,10 +78,10 @@ pub fn run<'a, S: AsStr, I: Read, W: Write>(
     ensures usage { result ≡ Status.Usage → Keeps (W.contents writer.old) (W.contents writer.new) }
 {
     if words.is_empty() {
-        return run_task(alloc, Task::Image, RecordType::U64, reader, writer);
+        return run_task(alloc, rt, Task::Image, RecordType::U64, reader, writer);
     }
     match read_words(alloc, words) {
-        Ok((task, record_type)) => run_task(alloc, task, record_type, reader, writer),
+        Ok((task, record_type)) => run_task(alloc, rt, task, record_type, reader, writer),
         Err(WordsFault::Memory) => refuse(writer, Refusal::Memory),
         Err(WordsFault::Usage) => Status::Usage,
     }

@@ -16,7 +16,7 @@ use std::io::Write;
 pub enum Refusal {
     /// The image has no vector.
     Scan(ScanFault),
-    /// This line, counted from 1, is the first that is no group line.
+    /// This line, counted from 1, is the first that isn't of the engine's form.
     Line(u64),
     /// The group of this line, counted from 1, is the first that is larger than a frame may be.
     TooLargeAtLine(u64),
@@ -31,7 +31,7 @@ pub enum Refusal {
 }
 
 /// Writes words, and a number behind them.
-fn write_numbered<W: Write>(writer: &mut W, words: &[u8], n: u64) -> io::Result<()>
+pub fn write_numbered<W: Write>(writer: &mut W, words: &[u8], n: u64) -> io::Result<()>
     ensures { OnOk result (Appends (W.contents writer.old) (W.contents writer.new) (words.now ++ decimal n)) }
 {
     writer.write_all(words)?;
@@ -56,7 +56,8 @@ fn write_cause<W: Write>(writer: &mut W, cause: Cause) -> io::Result<()>
     }
 }
 
-fn write_scan_fault<W: Write>(writer: &mut W, fault: ScanFault) -> io::Result<()>
+/// Writes the name of the fault.
+pub fn write_scan_fault<W: Write>(writer: &mut W, fault: ScanFault) -> io::Result<()>
     ensures { OnOk result (Appends (W.contents writer.old) (W.contents writer.new) (scan_name fault)) }
 {
     match fault {

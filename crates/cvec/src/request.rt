@@ -7,6 +7,8 @@ pub enum Task {
     Image,
     /// The records of a segment file are listed.
     Show,
+    /// A script of steps is run over a disk in memory.
+    Play,
 }
 
 /// The types of record that the program knows.

@@ -1,17 +1,17 @@
 //! Worked inputs and outputs of the engines and of the program, and readers and writers that fail.
 
 mod record_types;
+mod script_lines;
+mod usage;
 mod worked_files;
+mod worked_scripts;
 
 use crate::image::image;
 use crate::input::INPUT_LIMIT;
 use crate::noting::Noting;
-use crate::program::run;
 use crate::refusal::{Refusal, refuse};
 use crate::show::show;
 use crate::status::Status;
-use crate::usage::write_usage;
-use crate::words::fault_of_words;
 use segment_core::{Cause, ScanFault};
 use std::alloc::{AllocError, Global};
 use std::io::{self, ErrorKind, Read, Write};
@@ -394,119 +394,5 @@ fn why_a_write_failed_is_kept(rt: HostRuntime) -> Result<(), Fail> {
     let mut output = Noting::new(Room { left: 6 });
     show::<u64, &[u8], Noting<Room>>(alloc, &mut reader, &mut output);
     assert!(rt; output.error().is_none());
-    Ok(())
-}
-
-#[test]
-fn what_is_wrong_with_words_is_told_in_a_sentence(rt: HostRuntime) -> Result<(), Fail> {
-    let alloc = rt.alloc();
-    let faults: [(&[&str], &str); 6] = [
-        (&["list", "u64"], "error: unrecognized subcommand 'list'"),
-        (
-            &["show"],
-            "error: the following required arguments were not provided:\n  <TYPE>",
-        ),
-        (
-            &["image", "u16"],
-            "error: invalid value 'u16' for '<TYPE>'\n  [possible values: u32, u64, i64, pair, flagged]",
-        ),
-        (
-            &["show", "u64", "u64"],
-            "error: unexpected argument 'u64' found",
-        ),
-        (&["--type=u64"], "error: unexpected argument '--type' found"),
-        (
-            &["show", "--", "u64", "--help"],
-            "error: unexpected argument '--help' found",
-        ),
-    ];
-    for (words, sentence) in faults {
-        let fault = fault_of_words(alloc, words)?.ok_or("something is wrong")?;
-        assert_eq!(rt; fault.as_str(), sentence);
-    }
-    let well: [&[&str]; 5] = [
-        &["--help"],
-        &["-h"],
-        &["help"],
-        &["show", "--help"],
-        &["show", "u64"],
-    ];
-    for words in well {
-        assert!(rt; fault_of_words(alloc, words)?.is_none());
-    }
-    Ok(())
-}
-
-/// Whether the usage, told with this fault, begins with the one text and has the others.
-fn usage_has(
-    alloc: Global,
-    fault: Option<&str>,
-    start: &str,
-    words: &[&str],
-) -> Result<bool, Fail> {
-    let mut told = Vec::new(alloc);
-    write_usage(&mut told, fault)?;
-    let Ok(text) = str::from_utf8(told.as_slice()) else {
-        return Ok(false);
-    };
-    for word in words {
-        if !text.contains(*word) {
-            return Ok(false);
-        }
-    }
-    Ok(text.starts_with(start))
-}
-
-#[test]
-fn usage_is_told_with_the_commands_the_types_and_an_example(rt: HostRuntime) -> Result<(), Fail> {
-    let alloc = rt.alloc();
-    let words = [
-        "\nimage TYPE ",
-        "\nshow TYPE ",
-        "u32",
-        "u64",
-        "i64",
-        "pair",
-        "flagged",
-        "| cvec image u64\n",
-    ];
-    let fault = Some("error: a word is no UTF-8");
-    let start = "usage: cvec COMMAND TYPE ..\nerror: a word is no UTF-8\n\n";
-    assert!(rt; usage_has(alloc, fault, start, words.as_slice())?);
-    assert!(rt;
-        usage_has(
-            alloc,
-            None,
-            "usage: cvec COMMAND TYPE ..\n\n",
-            words.as_slice()
-        )?
-    );
-    assert!(rt; write_usage(&mut FullDevice, None).is_err());
-    Ok(())
-}
-
-#[test]
-fn words_choose_the_engine(rt: HostRuntime) -> Result<(), Fail> {
-    let alloc = rt.alloc();
-    let runs: [(&[&str], &[u8], u8, &[u8]); 11] = [
-        (&[], b"\n", 1, b"refused: line 1\n"),
-        (&["image", "u64"], b"\n", 1, b"refused: line 1\n"),
-        (&["show", "u64"], b"\n", 1, b"refused: unborn\n"),
-        (&["show", "u64"], FIVE, 0, b"5\n"),
-        (&["show", "u16"], FIVE, 2, b""),
-        (&["show"], FIVE, 2, b""),
-        (&["show", "u64", "u64"], FIVE, 2, b""),
-        (&["help"], FIVE, 2, b""),
-        (&["--help"], FIVE, 2, b""),
-        (&["show", "--help"], FIVE, 2, b""),
-        (&["list", "u64"], FIVE, 2, b""),
-    ];
-    for (words, input, code, text) in runs {
-        let mut reader = input;
-        let mut written = Vec::new(alloc);
-        let status = run::<&str, &[u8], Vec<u8>>(alloc, words, &mut reader, &mut written);
-        assert_eq!(rt; status.code(), code);
-        assert_eq!(rt; written.as_slice(), text);
-    }
     Ok(())
 }

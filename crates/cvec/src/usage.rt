@@ -11,11 +11,24 @@ use std::io::Write;
 const HELP: &[u8] = b"
 image TYPE   makes a segment file of group lines, and writes it as hex
 show TYPE    lists the records of a segment file, which is given as hex
+play TYPE    runs a script of steps over a disk in memory, and writes a line for each of its lines
 
 TYPE is u32, u64, i64, pair (a u64 and an i64, as 7:-3) or flagged (a u64 and 0 or 1, as 5:1).
 A group line has growths with ' | ' between each two, and a growth has records with a space between each two.
 
+The lines of a script are
+
+create           share ROOM SEATS      take          list
+create 2         put SEAT R R ..       raise         clear
+open             look SEAT             close         resize N R
+fold             look f                gather        change START R R ..
+log              view SEAT             crash old     changes START R R .. | START R R ..
+home             settled SEAT          crash new     crash XX
+
+with records for R, numbers for the other words in capitals, and two hex digits for XX.
+
 echo '1 2 | 3' | cvec image u64
+printf 'create\nresize 1 5\ncrash old\nopen\nlist\n' | cvec play u64
 ";
 
 /// Writes what is wrong with the words as a line, where something is.

@@ -61,6 +61,7 @@ fn task_of(name: &str) -> Option<Task>
     match name {
         "image" => Some(Task::Image),
         "show" => Some(Task::Show),
+        "play" => Some(Task::Play),
         _ => None,
     }
 }
@@ -86,7 +87,8 @@ fn matches_of<'a, S: AsStr>(alloc: Global, words: &'a [S]) -> Result<ArgMatches<
         .no_binary_name(true)
         .subcommand_required(true)
         .subcommand(typed(alloc, "image")?)?
-        .subcommand(typed(alloc, "show")?)?;
+        .subcommand(typed(alloc, "show")?)?
+        .subcommand(typed(alloc, "play")?)?;
     command.try_get_matches_from(words)
 }
 

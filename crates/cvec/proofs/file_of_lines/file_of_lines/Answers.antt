@@ -8,7 +8,7 @@ use Rattle.segment_core.specs.Shape.{shape_of}
 use Rattle.segment_core.specs.Frame.{header}
 use Rattle.cvec.proofs.Small.{OnOk_at, nil_from_length}
 use Rattle.cvec.proofs.LineLemmas.{lent_whole, lent_rest, shorter_rest}
-use Rattle.cvec.proofs.LineGroups.{HasGroups_start, HasGroups_more, HasGroups_all, first_bad}
+use Rattle.cvec.proofs.LineGroups.{HasGroups_start, HasGroups_more, HasGroups_all, first_bad_group}
 use Rattle.cvec.proofs.file_of_lines.file_of_lines.Goals as goal
 
 pub loop-rest-init : goal.loop-rest-init
@@ -21,7 +21,7 @@ returns-in-Err-Bad-clause-refused g c =
     let some : 0 < length c.loop-rest.rest.now = let no = eqb-false _ 0 (sym c.loop-rest-test.ensures) in omega (arith, no) in
     let whole = lent_whole c.cut.result.1 c.loop-rest.rest.now c.cut.result.0.now c.cut.ensures.whole in
     let so_far = c.loop-rest.invariant in
-    first_bad g.R.TextRecord.spelling c.args.input.now so_far.0 c.loop-rest.rest.now c.cut.result.0.now (option_copied c.cut.result.1) _ some whole c.cut.ensures.first (c.in-Err-Bad.ensures.bad (ap Err c.in-Err-Bad.field-0-is)) (ap (λ n. n + 1) so_far.2) so_far.1
+    first_bad_group g.R.TextRecord.spelling c.args.input.now so_far.0 c.loop-rest.rest.now c.cut.result.0.now (option_copied c.cut.result.1) _ some whole c.cut.ensures.first (c.in-Err-Bad.ensures.bad (ap Err c.in-Err-Bad.field-0-is)) (ap (λ n. n + 1) so_far.2) so_far.1
 
 pub loop-rest-smaller : goal.loop-rest-smaller
 loop-rest-smaller g c =
