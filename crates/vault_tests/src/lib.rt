@@ -1,4 +1,4 @@
-//! Tests of the vault and of lists of steps by their public calls: what no clause says.
+//! Tests of the vault by its public calls: what no clause says.
 #![tactic(auto)]
 
 #[cfg(test)]

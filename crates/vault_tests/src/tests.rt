@@ -13,7 +13,6 @@ mod refusals;
 mod scripts;
 mod searches;
 mod sharing;
-mod steps;
 mod threads;
 mod upgrades;
 
