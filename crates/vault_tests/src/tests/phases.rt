@@ -72,11 +72,11 @@ fn two_growers_grow_beside_each_other(rt: HostRuntime) -> Result<(), Fail> {
     } = crewed;
     assert_eq!(rt; faults.as_slice(), [None, None].as_slice());
     assert_eq!(rt; receipts.len(), 2);
-    let first = receipts[0].as_slice()[0];
-    let second = receipts[1].as_slice()[0];
+    let first = receipts[0].as_slice().first().copied().ok_or("no growth")?;
+    let second = receipts[1].as_slice().first().copied().ok_or("no growth")?;
     assert_eq!(rt; first.start, gate.starts[0].load(Ordering::SeqCst));
     assert_eq!(rt; second.start, gate.starts[1].load(Ordering::SeqCst));
-    assert_eq!(rt; first.number + second.number, 1);
+    assert_eq!(rt; first.number.saturating_add(second.number), 1);
     assert_eq!(rt; vault.len(), 2);
     assert_eq!(rt; vault.get(first.start), Some(&1));
     assert_eq!(rt; vault.get(second.start), Some(&2));
