@@ -1,6 +1,6 @@
 pub mod Kept
 mod FoldsBehind
-mod Goes
+pub mod Goes
 mod LogLeft
 mod ServeFaults
 mod Next
