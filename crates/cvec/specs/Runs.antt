@@ -1,17 +1,22 @@
 -- The runs that the program makes: a task on records of one of its types.
 use Rattle.std.specs.Prelude.{ℕ, List, Option}
+use Rattle.std.specs.Io.KnownBytes.{Appends, Keeps}
 use Rattle.std.specs.Int.{w32, w64}
 use Rattle.record_core.specs.Bytes.{Encoding, unsigned, signed, pair, flagged}
 use Rattle.cvec.specs.declared.request.Task.{Task}
 use Rattle.cvec.specs.declared.request.Task.TheVariants.{Image, Show, Play}
 use Rattle.cvec.specs.declared.request.RecordType.{RecordType}
 use Rattle.cvec.specs.declared.request.RecordType.TheVariants.{U32, U64, I64, Pair, Flagged}
-use Rattle.cvec.specs.declared.status.Status.{Status}
-use Rattle.cvec.specs.Text.{Spelling}
-use Rattle.cvec.specs.Numbers.{number_spelling}
-use Rattle.cvec.specs.SignedNumbers.{signed_spelling}
-use Rattle.cvec.specs.Keyed.{pair_spelling, flagged_spelling}
-use Rattle.cvec.specs.Engines.{IsImageRun, IsShowRun, IsPlayRun}
+use Rattle.text_core.specs.declared.refusal.Refusal.TheVariants as refusals
+use Rattle.text_core.specs.declared.status.Status.{Status}
+use Rattle.text_core.specs.declared.status.Status.TheVariants.{Done, Refused, OutputFailed, Usage}
+use Rattle.text_core.specs.Text.{Spelling}
+use Rattle.text_core.specs.Numbers.{number_spelling}
+use Rattle.text_core.specs.SignedNumbers.{signed_spelling}
+use Rattle.text_core.specs.Keyed.{pair_spelling, flagged_spelling}
+use Rattle.text_core.specs.Refusals.{refusal_line}
+use Rattle.text_core.specs.Engines.{IsImageRun, IsShowRun}
+use Rattle.play_core.specs.Playing.{IsPlayRun}
 
 -- how the task's engine may end over records of these bytes and texts, and what it has written then
 abbrev pub IsTaskRun : {R : Type 0} → Task → Encoding R → Spelling R → List ℕ → Option (List ℕ) → Option (List ℕ) → Status → Type 0
@@ -29,3 +34,10 @@ IsRun task Flagged = IsTaskRun task flagged flagged_spelling
 
 abbrev pub IsSomeRun : List ℕ → Option (List ℕ) → Option (List ℕ) → Status → Type 0
 IsSomeRun input old new status = (task : Task) × (record_type : RecordType) × IsRun task record_type input old new status
+
+-- the program gave no engine its work: memory was refused, or the words ask for nothing
+abbrev pub IsIdleRun : Option (List ℕ) → Option (List ℕ) → Status → Type 0
+IsIdleRun old new Done = ⊥
+IsIdleRun old new Refused = Appends old new (refusal_line refusals.Memory)
+IsIdleRun old new OutputFailed = Unit {0}
+IsIdleRun old new Usage = Keeps old new

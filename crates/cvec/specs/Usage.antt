@@ -1,6 +1,6 @@
 -- What standard error tells of usage: the usage in one line, and what is wrong with the words.
 use Rattle.std.specs.Prelude.{ℕ, List, [], ◌++◌, Option, Some, None, codes}
-use Rattle.cvec.specs.Text.{ended_line}
+use Rattle.text_core.specs.Text.{ended_line}
 
 abbrev pub fault_line : Option (List ℕ) → List ℕ
 fault_line None = []

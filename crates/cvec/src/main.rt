@@ -1,42 +1,16 @@
 //! `cvec`: from lines of records to segment files in hex, and back.
 #![tactic(auto)]
 
-mod answer_line;
-mod asked;
-mod fault_name;
-mod file_of_lines;
-mod flagged;
-mod group_line;
-mod halves;
-mod hex_line;
-mod image;
-mod input;
-mod line_runs;
-mod line_words;
 mod noting;
-mod number;
-mod output;
-mod pair;
-mod play;
 mod program;
-mod refusal;
 mod request;
-mod script;
-mod show;
-mod signed_number;
-mod status;
-mod step_line;
 #[cfg(test)]
 mod tests;
-mod text;
 mod usage;
-mod verb;
 mod words;
 
 use crate::noting::Noting;
 use crate::program::run;
-use crate::refusal::{Refusal, refuse};
-use crate::status::Status;
 use crate::usage::write_usage;
 use crate::words::fault_of_words;
 use std::alloc::Global;
@@ -45,6 +19,7 @@ use std::io::{self, BufWriter, ErrorKind};
 use std::process::ExitCode;
 use std::sync::Wait;
 use std::thread::Threads;
+use text_core::{Refusal, Status, refuse};
 
 const OUTPUT_BUFFER_LEN: usize = 65_536;
 

@@ -2,23 +2,18 @@
 
 ghost use Rattle.std.specs.Prelude.{◌≡◌, ◌≢◌, [], IfSome, ◌⊎◌};
 ghost use Rattle.std.specs.Io.KnownBytes.{Keeps};
-ghost use Rattle.cvec.specs.Engines.{IsIdleRun};
-ghost use Rattle.cvec.specs.Runs.{IsTaskRun, IsRun, IsSomeRun};
+ghost use Rattle.cvec.specs.Runs.{IsTaskRun, IsRun, IsSomeRun, IsIdleRun};
 
-use crate::image::image;
-use crate::play::play;
-use crate::refusal::{Refusal, refuse};
 use crate::request::{RecordType, Task};
-use crate::show::show;
-use crate::status::Status;
-use crate::text::TextRecord;
 use crate::words::{WordsFault, read_words};
+use play_core::play;
 use record_core::{Flagged, Pair};
 use std::alloc::Global;
 use std::convert::AsStr;
 use std::io::{Read, Write};
 use std::sync::Wait;
 use std::thread::Threads;
+use text_core::{Refusal, Status, TextRecord, image, refuse, show};
 
 /// Does the task on records of one type.
 fn run_of<R: TextRecord, I: Read, W: Write, E: Threads + Wait + Sync>(

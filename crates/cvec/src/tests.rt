@@ -6,16 +6,12 @@ mod usage;
 mod worked_files;
 mod worked_scripts;
 
-use crate::image::image;
-use crate::input::INPUT_LIMIT;
 use crate::noting::Noting;
-use crate::refusal::{Refusal, refuse};
-use crate::show::show;
-use crate::status::Status;
 use segment_core::{Cause, ScanFault};
 use std::alloc::{AllocError, Global};
 use std::io::{self, ErrorKind, Read, Write};
 use std::test::Fail;
+use text_core::{INPUT_LIMIT, Refusal, Status, image, refuse, show};
 
 const EMPTY: &[u8] = b"014356454353454701080000";
 

@@ -1,16 +1,16 @@
 //! Lines that no script has, scripts of each type of record, and long ones.
 
-use crate::answer_line::write_answers;
 use crate::program::run;
-use crate::status::Status;
 use crate::tests::worked_scripts::played;
 use book_core::{GrowFault, MarkState};
 use disk_core::DiskFault;
 use drive_core::{Answer, Fault};
 use pen_core::PenFault;
+use play_core::write_answers;
 use segment_core::{Cause, ScanFault};
 use std::alloc::{AllocError, Global};
 use std::test::Fail;
+use text_core::Status;
 use vault_core::VaultFault;
 
 /// Each verb with too few words, too many, and with words that are of another kind.

@@ -1,10 +1,10 @@
 //! Worked files with changes, shrinks and folds, of both versions, as `show` tells them.
 
 use super::{edited, shown};
-use crate::show::show;
 use record_core::Flagged;
 use std::alloc::Global;
 use std::test::Fail;
+use text_core::show;
 
 /// A growth of 5, and a change of it to 7.
 const CHANGED: &[u8] =

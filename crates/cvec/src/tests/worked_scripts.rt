@@ -1,11 +1,11 @@
 //! Worked scripts: what is asked for, line by line, and the lines that are written for it.
 
-use crate::play::play;
-use crate::status::Status;
+use play_core::play;
 use std::alloc::{AllocError, Global};
 use std::sync::Wait;
 use std::test::Fail;
 use std::thread::Threads;
+use text_core::Status;
 
 /// What `play u64` answers.
 pub fn played<E: Threads + Wait + Sync>(alloc: Global, rt: &E, input: &[u8]) -> (Status, Vec<u8>) {

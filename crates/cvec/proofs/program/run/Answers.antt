@@ -1,7 +1,7 @@
 use Rattle.std.proofs.Common.{inl}
 use Rattle.cvec.specs.declared.request.Task.TheVariants as tasks
 use Rattle.cvec.specs.declared.request.RecordType.TheVariants as types
-use Rattle.cvec.proofs.Small.{IfSome_weaker}
+use Rattle.text_core.proofs.Small.{IfSome_weaker}
 use Rattle.cvec.proofs.program.run.Goals as goal
 
 pub returns-then-is_empty-clause-ends : goal.returns-then-is_empty-clause-ends

@@ -1,6 +1,0 @@
-use Rattle.cvec.specs.Script.{script_of}
-use Rattle.cvec.proofs.Small.{IfOk_weaker}
-use Rattle.cvec.proofs.play.play_lines.Goals as goal
-
-pub returns-clause-played : goal.returns-clause-played
-returns-clause-played g c = IfOk_weaker c.play_script.result _ _ (λ text so. (script_of c.in_ok-script.script, c.in_ok-script.ensures.read, so)) c.play_script.ensures.played

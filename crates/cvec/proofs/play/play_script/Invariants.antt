@@ -1,8 +1,0 @@
-use Rattle.std.proofs.Common.{drop, map}
-use Rattle.cvec.specs.Script.{part_of, script_of}
-use Rattle.cvec.specs.Played.{ram_disk}
-use Rattle.cvec.proofs.Played.{HasPlayed}
-use Rattle.cvec.proofs.play.play_script.Given as goal
-
-abbrev pub invariant-loop-part : goal.invariant-loop-part
-invariant-loop-part g l = HasPlayed g.R.Record.form g.R.TextRecord.spelling.text_of (script_of l.script) (map part_of (drop l.part-index l.script.parts.items)) (ram_disk l.disk) l.text.items

@@ -1,0 +1,6 @@
+pub mod LineWords
+pub mod LineRuns
+pub mod StepLines
+pub mod Spaced
+pub mod Scripts
+pub mod Played

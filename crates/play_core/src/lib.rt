@@ -1,0 +1,15 @@
+//! Scripts of steps as lines, run over a disk in memory, and the lines of their answers.
+#![tactic(auto)]
+
+mod answer_line;
+mod asked;
+mod fault_name;
+mod line_runs;
+mod line_words;
+mod play;
+mod script;
+mod step_line;
+mod verb;
+
+pub use answer_line::write_answers;
+pub use play::play;

@@ -1,0 +1,75 @@
+//! Scripts: steps, and crashes between them.
+
+ghost use Rattle.std.specs.Prelude.{◌++◌, ◌∷◌, [], IfOk, IfErr, OnOk, ◌≡◌};
+ghost use Rattle.play_core.specs.Playing.{IsPlayRefusal};
+ghost use Rattle.play_core.specs.Script.{IsScript, script_of, script_asks};
+ghost use Rattle.play_core.specs.StepLine.{asked_of};
+
+use crate::asked::Asked;
+use crate::step_line::read_step_line;
+use disk_core::Choice;
+use drive_core::Step;
+use std::alloc::{AllocError, Global};
+use std::mem;
+use text_core::{LineFault, Refusal, TextRecord, cut};
+
+/// The steps between two crashes, and the image that the second one leaves.
+#[derive(Drop)]
+pub struct Part<R> {
+    pub steps: Vec<Step<R>>,
+    pub crash: Choice,
+}
+
+/// What the lines of an input ask for, cut at the crashes.
+#[derive(Drop)]
+pub struct Script<R> {
+    pub parts: Vec<Part<R>>,
+    pub last: Vec<Step<R>>,
+}
+
+impl<R: TextRecord> Script<R> {
+    fn new(alloc: Global) -> Script<R>
+        ensures { script_of result ≡ record { parts = []; last = [] } }
+    {
+        Script {
+            parts: Vec::new(alloc),
+            last: Vec::new(alloc),
+        }
+    }
+
+    /// Appends what one line asks for.
+    fn push(&mut self, alloc: Global, asked: Asked<R>) -> Result<(), AllocError>
+        ensures { OnOk result (script_asks (script_of self.new) ≡ script_asks (script_of self.old) ++ asked_of asked ∷ []) }
+    {
+        match asked {
+            Asked::Step(step) => self.last.push(step)?,
+            Asked::Crash(crash) => {
+                let steps = mem::replace(&mut self.last, Vec::new(alloc));
+                self.parts.push(Part { steps, crash })?;
+            }
+        }
+        Ok(())
+    }
+}
+
+/// What the lines ask for, one each.
+pub fn read_script<R: TextRecord>(alloc: Global, input: &[u8]) -> Result<Script<R>, Refusal>
+    ensures read { IfOk result (λ script. IsScript R.spelling input.now (script_of script)) }
+    ensures refused { IfErr result (IsPlayRefusal R.spelling input.now) }
+{
+    let mut script = Script::new(alloc);
+    let mut lines = 0u64;
+    let mut rest = input;
+    while !rest.is_empty() {
+        let (line, after) = cut(rest, b'\n');
+        lines += 1;
+        let asked = match read_step_line(alloc, line) {
+            Ok(asked) => asked,
+            Err(LineFault::Bad) => return Err(Refusal::Line(lines)),
+            Err(LineFault::Memory) => return Err(Refusal::Memory),
+        };
+        script.push(alloc, asked).map_err(|_| Refusal::Memory)?;
+        rest = after.unwrap_or(&[]);
+    }
+    Ok(script)
+}

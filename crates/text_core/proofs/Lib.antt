@@ -1,0 +1,12 @@
+pub mod Known
+pub mod Small
+pub mod NumberLemmas
+pub mod SignedLemmas
+pub mod KeyedLemmas
+pub mod Joins
+pub mod HexLines
+pub mod Reading
+pub mod LineLemmas
+pub mod LineGroups
+pub mod GroupLines
+pub mod Drafts

@@ -1,0 +1,15 @@
+pub mod Text
+pub mod Numbers
+pub mod SignedNumbers
+pub mod Halves
+pub mod Flags
+pub mod Keyed
+pub mod Lines
+pub mod GroupLine
+pub mod Words
+pub mod HexLine
+pub mod Refusals
+pub mod FaultNames
+pub mod Drafts
+pub mod Engines
+pub mod Status

@@ -1,0 +1,95 @@
+-- The names of refusals, and when each of them is right.
+use Rattle.std.specs.Prelude.{◌≡◌, ℕ, ◌+◌, ◌<◌, List, ◌++◌, length, codes, decimal}
+use Rattle.record_core.specs.Bytes.{Encoding}
+use Rattle.segment_core.specs.declared.fault.Cause.{Cause}
+use Rattle.segment_core.specs.declared.fault.Cause.TheVariants.{NoGate, ShortFrame, Kind, TooLarge, Layout, Runs, Range, Unfolded, FoldCount, TooLong, BadRecord}
+use Rattle.segment_core.specs.declared.fault.ScanFault.{ScanFault}
+use Rattle.segment_core.specs.declared.fault.ScanFault.TheVariants.{Unborn, NotSegment, Version, Width, Damaged, Memory}
+use Rattle.segment_core.specs.declared.fault.ImageFault.TheVariants as image_faults
+use Rattle.segment_core.specs.Written.{IsImageRefused}
+use Rattle.segment_core.specs.Fault.{IsRefused}
+use Rattle.text_core.specs.declared.refusal.Refusal.{Refusal}
+use Rattle.text_core.specs.declared.refusal.Refusal.TheVariants as refusals
+use Rattle.text_core.specs.GroupLine.{AreGroupLines, IsGroupLine}
+use Rattle.text_core.specs.HexLine.{IsHexLine}
+use Rattle.text_core.specs.Lines.{IsFirstBadLine}
+use Rattle.text_core.specs.Text.{Spelling, ended_line}
+
+abbrev pub cause_name : Cause → List ℕ
+cause_name NoGate = codes "no gate"
+cause_name ShortFrame = codes "short frame"
+cause_name (Kind k) = codes "kind " ++ decimal k
+cause_name TooLarge = codes "too large"
+cause_name Layout = codes "layout"
+cause_name Runs = codes "runs"
+cause_name Range = codes "range"
+cause_name Unfolded = codes "unfolded"
+cause_name FoldCount = codes "fold count"
+cause_name TooLong = codes "too long"
+cause_name BadRecord = codes "bad record"
+
+abbrev pub scan_name : ScanFault → List ℕ
+scan_name Unborn = codes "unborn"
+scan_name NotSegment = codes "not a segment"
+scan_name (Version version) = codes "version " ++ decimal version
+scan_name (Width width) = codes "width " ++ decimal width
+scan_name (Damaged at cause) = codes "damaged at " ++ (decimal at ++ (codes ": " ++ cause_name cause))
+scan_name Memory = codes "memory"
+
+abbrev pub name_of : Refusal → List ℕ
+name_of (refusals.Scan fault) = scan_name fault
+name_of (refusals.Line n) = codes "line " ++ decimal n
+name_of (refusals.TooLargeAtLine n) = codes "too large at line " ++ decimal n
+name_of refusals.NotHex = codes "not hex"
+name_of refusals.Input = codes "input"
+name_of refusals.InputTooLong = codes "input too long"
+name_of refusals.Memory = codes "memory"
+
+-- the line that is printed
+abbrev pub refusal_line : Refusal → List ℕ
+refusal_line refusal = codes "refused: " ++ ended_line (name_of refusal)
+
+-- the bytes that an engine takes at most
+abbrev pub input_limit : ℕ
+input_limit = 67108864
+
+-- A reader's bytes were not taken. That a read failed is nothing that a reader's bytes tell.
+abbrev pub IsInputRefusal : List ℕ → Refusal → Type 0
+IsInputRefusal input refusals.InputTooLong = input_limit < length input
+IsInputRefusal input refusals.Input = Unit {0}
+IsInputRefusal input refusals.Memory = Unit {0}
+IsInputRefusal input (refusals.Scan fault) = ⊥
+IsInputRefusal input (refusals.Line n) = ⊥
+IsInputRefusal input (refusals.TooLargeAtLine n) = ⊥
+IsInputRefusal input refusals.NotHex = ⊥
+
+-- an input of group lines was refused
+abbrev pub IsImageRefusal : {R : Type 0} → Encoding R → Spelling R → List ℕ → Refusal → Type 0
+IsImageRefusal form spelling input (refusals.Line n) = IsFirstBadLine (IsGroupLine spelling) input n
+IsImageRefusal {R} form spelling input (refusals.TooLargeAtLine n) =
+    (groups : List (List (List R))) × (k : ℕ) × AreGroupLines spelling input groups × IsImageRefused form.width groups (image_faults.TooLarge k) × (n ≡ k + 1)
+IsImageRefusal form spelling input refusals.InputTooLong = input_limit < length input
+IsImageRefusal form spelling input refusals.Input = Unit {0}
+IsImageRefusal form spelling input refusals.Memory = Unit {0}
+IsImageRefusal form spelling input (refusals.Scan fault) = ⊥
+IsImageRefusal form spelling input refusals.NotHex = ⊥
+
+-- a hex line was refused
+abbrev pub IsHexRefusal : List ℕ → Refusal → Type 0
+IsHexRefusal input refusals.NotHex = (bytes : List ℕ) → ¬ (IsHexLine input bytes)
+IsHexRefusal input refusals.Memory = Unit {0}
+IsHexRefusal input refusals.InputTooLong = ⊥
+IsHexRefusal input refusals.Input = ⊥
+IsHexRefusal input (refusals.Line n) = ⊥
+IsHexRefusal input (refusals.TooLargeAtLine n) = ⊥
+IsHexRefusal input (refusals.Scan fault) = ⊥
+
+-- an input of hex was refused
+abbrev pub IsShowRefusal : {R : Type 0} → Encoding R → List ℕ → Refusal → Type 0
+IsShowRefusal form input (refusals.Scan fault) = (bytes : List ℕ) × IsHexLine input bytes × IsRefused form bytes fault
+IsShowRefusal form input refusals.NotHex = (bytes : List ℕ) → ¬ (IsHexLine input bytes)
+IsShowRefusal form input refusals.InputTooLong = input_limit < length input
+IsShowRefusal form input refusals.Input = Unit {0}
+IsShowRefusal form input refusals.Memory = Unit {0}
+IsShowRefusal form input (refusals.Line n) = ⊥
+IsShowRefusal form input (refusals.TooLargeAtLine n) = ⊥

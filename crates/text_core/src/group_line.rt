@@ -1,0 +1,84 @@
+//! One group line: growths with a bar between each two, a growth's records with a space between each two.
+
+ghost use Rattle.std.specs.Prelude.{◌≡◌, ◌≢◌, ◌∷◌, ◌++◌, All, MatchOption, OnOk};
+ghost use Rattle.text_core.specs.GroupLine.{IsGroupLine, IsGroupLineOf};
+ghost use Rattle.text_core.specs.Words.{TakesWord, IsStrayWord};
+
+use crate::text::TextRecord;
+use segment_core::Growths;
+use std::alloc::{AllocError, AllocFailed};
+
+pub const BAR: &[u8] = b"|";
+
+/// Why a line gives no group.
+#[derive(Clone, Copy, Debug, PartialEq, Eq)]
+pub enum LineFault {
+    /// It is no group line.
+    Bad,
+    /// A growth of memory was refused.
+    Memory,
+}
+
+impl From<AllocError> for LineFault {
+    ghost use Rattle.text_core.specs.declared.group_line.LineFault.{LineFault};
+
+    ghost from_gives = { λ _ fault. fault ≡ LineFault.Memory };
+
+    fn from(_: AllocError) -> LineFault {
+        LineFault::Memory
+    }
+}
+
+impl<T: Drop> From<AllocFailed<T>> for LineFault {
+    ghost use Rattle.text_core.specs.declared.group_line.LineFault.{LineFault};
+
+    ghost from_gives = { λ _ fault. fault ≡ LineFault.Memory };
+
+    fn from(_: AllocFailed<T>) -> LineFault {
+        LineFault::Memory
+    }
+}
+
+/// What stands before the first separator, and behind it, if it is there.
+pub fn cut(text: &[u8], separator: u8) -> (&[u8], Option<&[u8]>)
+    ensures whole { MatchOption result.1 (text.now ≡ result.0.now) (λ rest. text.now ≡ result.0.now ++ separator ∷ rest.now) }
+    ensures first { All (λ b. b ≢ separator) result.0.now }
+{
+    match text.iter().position(|b| *b == separator) {
+        Some(at) => (&text[..at], Some(&text[at + 1..])),
+        None => (text, None),
+    }
+}
+
+/// Takes in one word of a group line: a bar ends the growth, and any other word is a record of it.
+fn take_word<R: TextRecord>(word: &[u8], group: &mut Growths<R>) -> Result<(), LineFault>
+    ensures ok { OnOk result (TakesWord R.spelling word.now group.old.0 group.old.1 group.new.0 group.new.1) }
+    ensures bad { result ≡ Err LineFault.Bad → IsStrayWord R.spelling word.now group.old.1 }
+{
+    if word != BAR {
+        let record = R::parse(word).ok_or(LineFault::Bad)?;
+        return group.push(record).map_err(|_| LineFault::Memory);
+    }
+    if !group.is_begun() {
+        return Err(LineFault::Bad);
+    }
+    group.end().map_err(|_| LineFault::Memory)
+}
+
+/// Reads the growths that a group line spells, in place of those that stood there.
+pub fn read_group<R: TextRecord>(line: &[u8], group: &mut Growths<R>) -> Result<(), LineFault>
+    ensures read { OnOk result (IsGroupLineOf R.spelling line.now group.new.0) }
+    ensures bad { result ≡ Err LineFault.Bad → ¬ (IsGroupLine R.spelling line.now) }
+{
+    group.clear();
+    let mut rest = Some(line);
+    while let Some(text) = rest {
+        let (word, after) = cut(text, b' ');
+        take_word(word, group)?;
+        rest = after;
+    }
+    if !group.is_begun() {
+        return Err(LineFault::Bad);
+    }
+    group.end().map_err(|_| LineFault::Memory)
+}

@@ -1,0 +1,31 @@
+//! Records, faults and bytes as texts: the lines that a user reads and writes. `image` makes a segment file of lines of records,
+//! and `show` makes lines of a segment file.
+#![tactic(auto)]
+
+mod fault_name;
+mod file_of_lines;
+mod flagged;
+mod group_line;
+mod halves;
+mod hex_line;
+mod image;
+mod input;
+mod number;
+mod output;
+mod pair;
+mod refusal;
+mod show;
+mod signed_number;
+mod status;
+mod text;
+
+pub use fault_name::{write_disk_fault, write_grow_fault, write_pen_fault, write_vault_fault};
+pub use group_line::{BAR, LineFault, cut};
+pub use image::image;
+pub use input::{INPUT_LIMIT, read_input};
+pub use number::write_number;
+pub use output::{write_line, write_records, write_text};
+pub use refusal::{Refusal, refuse, write_numbered, write_scan_fault};
+pub use show::show;
+pub use status::Status;
+pub use text::TextRecord;

@@ -1,0 +1,65 @@
+//! Numbers as text: decimal digits with no zero in front.
+
+ghost use Rattle.std.specs.Prelude.{◌<◌, ◌^◌, ◌↔◌, decimal, OnOk, IsTrue};
+ghost use Rattle.std.specs.Io.KnownBytes.{Appends};
+ghost use Rattle.std.proofs.Common.{lit≤};
+ghost use Rattle.text_core.specs.Numbers.{BeginsAsNumber, number_spelling, IsWord-decimal, one_decimal};
+
+use crate::text::TextRecord;
+use itoa::Integer;
+use std::io;
+use std::io::Write;
+
+/// Writes a number in decimal digits, with a minus in front of one below 0.
+pub fn write_number<N: Integer, W: Write>(writer: &mut W, n: N) -> io::Result<()>
+    ensures { OnOk result (Appends (W.contents writer.old) (W.contents writer.new) (N.text n)) }
+{
+    let mut buffer = itoa::Buffer::new();
+    writer.write_all(buffer.format(n).as_bytes())
+}
+
+/// Whether the text is not empty and has neither a plus nor a zero in front, which `str::parse` takes and the
+/// text of no number has. The one text with a zero in front is that zero.
+fn begins_as_number(text: &[u8]) -> bool
+    ensures { IsTrue result ↔ BeginsAsNumber text.now }
+{
+    !text.is_empty() && text[0] != b'+' && (text[0] != b'0' || text.len() == 1)
+}
+
+impl TextRecord for u64 {
+    ghost spelling = { number_spelling 64 };
+
+    fn parse(text: &[u8]) -> Option<u64> {
+        if !begins_as_number(text) {
+            return None;
+        }
+        let Ok(text) = str::from_utf8(text) else {
+            return None;
+        };
+        text.parse().ok()
+    }
+
+    fn write_text<W: Write>(&self, writer: &mut W) -> io::Result<()> {
+        write_number(writer, *self)
+    }
+
+    ghost is_word = { IsWord-decimal 64 (lit≤ tt) };
+
+    ghost one_value = { one_decimal 64 (lit≤ tt) };
+}
+
+impl TextRecord for u32 {
+    ghost spelling = { number_spelling 32 };
+
+    fn parse(text: &[u8]) -> Option<u32> {
+        u32::try_from(u64::parse(text)?).ok()
+    }
+
+    fn write_text<W: Write>(&self, writer: &mut W) -> io::Result<()> {
+        write_number(writer, *self)
+    }
+
+    ghost is_word = { IsWord-decimal 32 (lit≤ tt) };
+
+    ghost one_value = { one_decimal 32 (lit≤ tt) };
+}
