@@ -7,6 +7,7 @@
 //! the next. What a seat reads of the others it reads without a lock, and what it was lent stays while others grow.
 #![tactic(auto)]
 
+mod appender;
 mod beginning;
 mod fault;
 mod grow;
@@ -21,6 +22,7 @@ mod settling;
 mod snapshot;
 mod waking;
 
+pub use appender::Appender;
 pub use beginning::{Begun, SEAT_LIMIT};
 pub use fault::{GrowFault, SettleFault};
 pub use live::Live;
