@@ -6,10 +6,10 @@ mod asked;
 mod fault_name;
 mod line_runs;
 mod line_words;
-mod play;
+mod playing;
 mod script;
 mod step_line;
 mod verb;
 
 pub use answer_line::write_answers;
-pub use play::play;
+pub use playing::play;

@@ -2,7 +2,7 @@ use Rattle.std.proofs.Common.{◌<◌, ◌≤◌, length, map, get_or, ap, ◌�
 use Rattle.std.proofs.lemmas.List.{drop_all}
 use Rattle.play_core.specs.Script.{part_of, script_of}
 use Rattle.play_core.proofs.Played.{HasPlayed_more, HasPlayed_all, drop_next, steps_played}
-use Rattle.play_core.proofs.play.play_script.Goals as goal
+use Rattle.play_core.proofs.playing.play_script.Goals as goal
 
 pub loop-part-preserved : goal.loop-part-preserved
 loop-part-preserved g c =

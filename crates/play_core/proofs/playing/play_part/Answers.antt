@@ -3,7 +3,7 @@ use Rattle.std.proofs.lemmas.List.{append_assoc}
 use Rattle.play_core.specs.Answers.{crashed_line}
 use Rattle.play_core.specs.Played.{ram_disk}
 use Rattle.play_core.proofs.Played.{is_fresh, part_played}
-use Rattle.play_core.proofs.play.play_part.Goals as goal
+use Rattle.play_core.proofs.playing.play_part.Goals as goal
 
 pub returns-in-Ok-write_crashed-clause-played : goal.returns-in-Ok-write_crashed-clause-played
 returns-in-Ok-write_crashed-clause-played g c =
