@@ -82,11 +82,11 @@ pub fn read_setting<R: TextRecord>(
 }
 
 /// What the words N and RECORD of `resize` ask for. Refused, in this order: `Word(Length)`, `Word(Record)`.
-pub fn read_resizing<R: TextRecord>(len: &[u8], record: &[u8]) -> Result<Resizing<R>, FileFault>
-    ensures read { IfOk result (λ resizing. IsNumber len.now resizing.len × IsRecord R.spelling record.now resizing.record) }
+pub fn read_resizing<R: TextRecord>(len: &[u8], text: &[u8]) -> Result<Resizing<R>, FileFault>
+    ensures read { IfOk result (λ resizing. IsNumber len.now resizing.len × IsRecord R.spelling text.now resizing.record) }
 {
     let len = number_of(len, Word::Length)?;
-    let record = read_record(record)?;
+    let record = read_record(text)?;
     Ok(Resizing { len, record })
 }
 

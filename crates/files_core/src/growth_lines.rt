@@ -29,7 +29,10 @@ fn greatest_growth<R: TextRecord>() -> usize {
 }
 
 /// The growths that the lines spell, one each. Each line is read before a size is tested.
-fn growths_of_lines<R: TextRecord>(alloc: Global, input: &[u8]) -> Result<Growths<R>, Refusal> {
+pub(crate) fn growths_of_lines<R: TextRecord>(
+    alloc: Global,
+    input: &[u8],
+) -> Result<Growths<R>, Refusal> {
     let mut growths = Growths::new(alloc);
     let mut rest = input;
     while !rest.is_empty() {

@@ -6,6 +6,7 @@ use crate::fault::{FileFault, Stopped};
 use crate::progress::Progress;
 use book_core::GrowFault;
 use disk_core::Disk;
+use pen_core::PenFault;
 use segment_core::Growths;
 use std::alloc::Global;
 use std::io;
@@ -13,7 +14,7 @@ use std::io::Write;
 use std::sync::Wait;
 use std::thread::Threads;
 use text_core::{write_line, write_numbered};
-use vault_core::{CrewFault, Crewed, Vault};
+use vault_core::{CrewFault, Crewed, Vault, VaultFault};
 
 fn write_loaded<W: Write>(writer: &mut W, growths: u64, size: u64) -> io::Result<()> {
     write_numbered(writer, b"loaded ", growths)?;
@@ -56,6 +57,10 @@ pub(crate) fn grow_by<R: CrewRecord, D: Disk + Send + Drop, P: Progress, E: Thre
 ) -> Result<Vault<R, D>, (D, FileFault)>
     requires { 0 < growers }
 {
+    if growths.count() > u32::MAX as usize {
+        let fault = VaultFault::Pen(PenFault::TooLarge);
+        return Err((vault.into_disk(), FileFault::Vault(fault)));
+    }
     let crewed = match R::crew_by(rt, alloc, vault, growths, growers, progress) {
         Ok(crewed) => crewed,
         Err(CrewFault::Share(vault, fault)) => {
