@@ -267,8 +267,9 @@ pub fn read<E: Threads + Wait + Clock + Sync>(
 ) -> Result<Vec<Figure>, SpeedFault> {
     // Whole rows of places, so that each way of asking reads as many.
     let sizes = ReadSizes {
+        block: sizes.block,
+        n: sizes.n,
         draws: sizes.draws / MANY as u64 * MANY as u64,
-        ..sizes
     };
     let (live, mut seat) = begin_filled(rt, alloc, sizes)?;
     let in_order = read_in_order(rt, &live, &mut seat, sizes.n)?;
