@@ -2,8 +2,8 @@
 """Draws the figures of a run of ./speed as SVG: ./plot RESULTS.jsonl [OUT]
 
 Reads the lines of JSON that ./speed leaves in OUT/results.jsonl, and writes growth.svg, durable.svg and reads.svg into the
-folder OUT, which is docs/plots where none is given. Rates are in millions of records a second, the best repetition of
-each figure, on logarithmic scales. Needs nothing but python3.
+folder OUT, which is docs/plots where none is given. A rate is the best repetition of its figure; the scales are
+logarithmic. Needs nothing but python3.
 """
 import json
 import math
@@ -114,7 +114,7 @@ def picture(title, panels, columns):
     yield f'<svg xmlns="http://www.w3.org/2000/svg" viewBox="0 0 {wide} {tall}" width="{wide}" height="{tall}" font-family="sans-serif" font-size="11">'
     yield "<style>.grid{stroke:#ddd}.title{font-weight:bold}.left{text-anchor:end}.middle{text-anchor:middle}.big{font-size:14px;font-weight:bold}</style>"
     yield f'<rect width="{wide}" height="{tall}" fill="#fff"/>'
-    yield text(14, 22, f"{title} (millions of records a second)", "big")
+    yield text(14, 22, title, "big")
     yield from (sample for _, sample in names)
     for k, panel in enumerate(panels):
         yield from panel.draw(WIDTH * (k % columns), head + HEIGHT * (k // columns))
@@ -152,6 +152,13 @@ class Run:
         places = self.places(work, 2)
         return Panel(title, "records in a block", places, [(p, [self.rates.get((work, p, b, threads)) for b in places]) for p in peers])
 
+    def growths_by_block(self, title, work, threads, peers):
+        """As by_block, in thousands of blocks."""
+        panel = self.by_block(title, work, threads, peers)
+        for _, rates in panel.lines:
+            rates[:] = [rate and 1000 * rate / block for rate, block in zip(rates, panel.places)]
+        return panel
+
 
 def growth(run):
     for block in run.places("grow", 2):
@@ -163,7 +170,7 @@ def durable(run):
     stores = ["own", "limit.gate", "sqlite", "lmdb", "rocksdb", "leveldb"]
     waits = {"wait1": "each block awaited", "wait64": "every 64th awaited", "flow": "nobody waits"}
     for mode, title in waits.items():
-        yield run.by_block(f"{title}, 4 threads", f"durable.{mode}", 4, stores)
+        yield run.growths_by_block(f"{title}, 4 threads", f"durable.{mode}", 4, stores)
 
 
 def reads(run):
@@ -182,9 +189,9 @@ def main(words):
     run = Run(words[0])
     os.makedirs(out, exist_ok=True)
     pictures = {
-        "growth": ("Growth by threads", growth, 3),
-        "durable": ("Durable growth by the length of a block", durable, 3),
-        "reads": ("Reads", reads, 2),
+        "growth": ("Growth by threads, in millions of records a second", growth, 3),
+        "durable": ("Durable growth by the length of a block, in thousands of blocks a second", durable, 3),
+        "reads": ("Reads, in millions of records a second", reads, 2),
     }
     for name, (title, panels_of, columns) in pictures.items():
         panels = [panel for panel in panels_of(run) if panel.lines]
