@@ -1,0 +1,4 @@
+pub mod Opened
+pub mod Changed
+pub mod Written
+pub mod GrowthLines

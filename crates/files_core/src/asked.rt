@@ -1,24 +1,25 @@
 //! What the words of a command ask for.
 
-ghost use Rattle.std.specs.Prelude.{◌≡◌, ◌≢◌, ℕ, MatchResult, IfOk, IfErr, MatchOption};
-ghost use Rattle.files_core.specs.Asked.{IsNumber, IsRecord, AreRecords, HasWord};
+ghost use Rattle.std.specs.Prelude.{◌≡◌, ◌<◌, ℕ, vec_len, MatchResult, IfOk};
+ghost use Rattle.files_core.specs.Asked.{IsNumber, IsRecord, AreRecords};
 
 use crate::fault::{FileFault, Word};
 use std::alloc::Global;
 use text_core::{Refusal, TextRecord, cut};
 
-/// What `set` is asked for: these records from position `start` on.
+/// What `set` is asked for: these records, one at least, from position `start` on.
 #[derive(Drop)]
 pub struct Setting<R> {
     pub start: u64,
     pub records: Vec<R>,
+    ghost some: { 0 < vec_len records },
 }
 
 /// What `resize` is asked for: so many records, new ones as this one.
 #[derive(Clone, Copy, Debug)]
 pub struct Resizing<R> {
     pub len: u64,
-    pub record: R,
+    pub filler: R,
 }
 
 /// Which positions `list` lists: `count` of them at most, from `from` on.
@@ -83,11 +84,11 @@ pub fn read_setting<R: TextRecord>(
 
 /// What the words N and RECORD of `resize` ask for. Refused, in this order: `Word(Length)`, `Word(Record)`.
 pub fn read_resizing<R: TextRecord>(len: &[u8], text: &[u8]) -> Result<Resizing<R>, FileFault>
-    ensures read { IfOk result (λ resizing. IsNumber len.now resizing.len × IsRecord R.spelling text.now resizing.record) }
+    ensures read { IfOk result (λ resizing. IsNumber len.now resizing.len × IsRecord R.spelling text.now resizing.filler) }
 {
     let len = number_of(len, Word::Length)?;
-    let record = read_record(text)?;
-    Ok(Resizing { len, record })
+    let filler = read_record(text)?;
+    Ok(Resizing { len, filler })
 }
 
 /// What the words FROM and COUNT of `list` ask for: all positions, where they aren't there. Refused, in this order:

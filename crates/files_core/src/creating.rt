@@ -1,5 +1,9 @@
 //! `create`: a new file.
 
+ghost use Rattle.files_core.specs.Creating.{IsCreated, IsCreateRefusal};
+ghost use Rattle.files_core.specs.Ended.{EndsAs, WritesText};
+ghost use Rattle.files_core.specs.Texts.{created_line};
+
 use crate::ended::Ended;
 use crate::fault::FileFault;
 use disk_core::Disk;
@@ -17,7 +21,10 @@ pub fn create<R: Record, D: Disk, W: Write>(
     disk: D,
     format: Format,
     writer: &mut W,
-) -> (D, Ended) {
+) -> (D, Ended)
+    ensures created { EndsAs (IsCreated R.form D.keeps D.states D.faults format disk result.0) (IsCreateRefusal R.form D.keeps D.states D.faults format disk result.0) result.1 }
+    ensures writes { WritesText (W.contents writer.old) (W.contents writer.new) created_line result.1 }
+{
     match Vault::<R, D>::create_as(alloc, disk, format) {
         Ok(vault) => (
             vault.into_disk(),

@@ -1,5 +1,14 @@
 //! `list`: the records of positions.
 
+ghost use Rattle.std.specs.Prelude.{OnOk};
+ghost use Rattle.std.specs.Io.KnownBytes.{Appends};
+ghost use Rattle.disk_core.specs.Calls.{bytes_of};
+ghost use Rattle.segment_core.specs.Written.{joined};
+ghost use Rattle.text_core.specs.Text.{record_lines};
+ghost use Rattle.files_core.specs.Ended.{Writes};
+ghost use Rattle.files_core.specs.Listing.{IsListed, in_window};
+ghost use Rattle.files_core.specs.Opened.{OnlyReads};
+
 use crate::asked::Window;
 use crate::ended::Ended;
 use crate::fault::FileFault;
@@ -21,7 +30,9 @@ fn write_window<R: TextRecord, W: Write, P: Progress>(
     of: u64,
     progress: &P,
     writer: &mut W,
-) -> io::Result<()> {
+) -> io::Result<()>
+    ensures { OnOk result (Appends (W.contents writer.old) (W.contents writer.new) (record_lines R.spelling.text_of (in_window window.now (joined pieces)))) }
+{
     let mut skip = window.from;
     let mut left = window.count;
     let mut done: u64 = 0;
@@ -43,19 +54,23 @@ fn write_window<R: TextRecord, W: Write, P: Progress>(
     Ok(())
 }
 
-/// Writes records, one a line, and tells progress.
+/// Writes records behind so many others, one a line, and tells progress.
 fn write_chunks<R: TextRecord, W: Write, P: Progress>(
     records: &[R],
     before: u64,
     of: u64,
     progress: &P,
     writer: &mut W,
-) -> io::Result<()> {
+) -> io::Result<()>
+    ensures { OnOk result (Appends (W.contents writer.old) (W.contents writer.new) (record_lines R.spelling.text_of records.now)) }
+{
+    let mut done = before;
     let mut rest = records;
     while !rest.is_empty() {
         let (chunk, behind) = rest.split_at(CHUNK_LEN.min(rest.len()));
         write_records(chunk, writer)?;
-        progress.at(before + (records.len() - behind.len()) as u64, of);
+        done = done.saturating_add(chunk.len() as u64);
+        progress.at(done, of);
         rest = behind;
     }
     Ok(())
@@ -68,7 +83,10 @@ pub fn list<R: TextRecord, D: Disk, W: Write, P: Progress>(
     window: &Window,
     progress: &P,
     writer: &mut W,
-) -> (D, Ended) {
+) -> (D, Ended)
+    ensures reads { OnlyReads R.form D.keeps D.states disk result.0 result.1 }
+    ensures writes { Writes (W.contents writer.old) (W.contents writer.new) (λ text. D.keeps result.0 → IsListed R.form R.spelling.text_of window.now (bytes_of (D.states disk)) text) result.1 }
+{
     let vault = match Vault::<R, D>::open(alloc, disk) {
         Ok(vault) => vault,
         Err((disk, fault)) => return (disk, Ended::Refused(FileFault::Open(fault))),
