@@ -187,7 +187,8 @@ fn about_pen(fault: PenFault) -> &'static str {
         PenFault::Memory => "there is not enough memory; it opens to the vector of before",
         PenFault::OldFormat => "version 1 has no change of many runs; it is as it was; `cvec upgrade` first",
         PenFault::Runs => "the runs are empty, overlap or don't ascend; it is as it was",
-        PenFault::Busy | PenFault::Broken | PenFault::Disk(_) => "it opens to the vector of before this command, or to the one behind it",
+        PenFault::Broken => "the system didn't write it, or put it on the device, which may be full; it opens to the vector of before, with what was told since",
+        PenFault::Busy | PenFault::Disk(_) => "it opens to the vector of before this command, or to the one behind it",
     }
 }
 

@@ -2,10 +2,11 @@
 
 use crate::access::{Access, Opened, open};
 use crate::complaint::{Complaint, Role};
+use crate::meter::CountingGate;
 use crate::request::FileTask;
 use disk_core::FileDisk;
 use files_core::{
-    CrewRecord, Ended, FileFault, Progress, append, check, clear, count, create, find, fold, list,
+    Deck, Ended, FileFault, Progress, append, check, clear, count, create, find, fold, list,
     load, read_growth_lines, read_record, read_resizing, read_setting, read_window, resize, set,
     upgrade_file,
 };
@@ -16,7 +17,7 @@ use std::io::{Read, Write};
 use std::rt::Files;
 use std::sync::Wait;
 use std::thread::Threads;
-use text_core::Status;
+use text_core::{Status, TextRecord};
 
 impl From<FileFault> for Complaint {
     fn from(fault: FileFault) -> Complaint {
@@ -48,7 +49,7 @@ impl<'a, F: Files<File = File> + AllocGlobal, P: Progress> Filing<'a, F, P> {
         open(self.files, self.file, access, Role::File)
     }
 
-    fn create<R: CrewRecord, W: Write>(
+    fn create<R: TextRecord, W: Write>(
         &self,
         format: Format,
         writer: &mut W,
@@ -58,37 +59,30 @@ impl<'a, F: Files<File = File> + AllocGlobal, P: Progress> Filing<'a, F, P> {
         status_of(ended)
     }
 
-    fn load<R: CrewRecord, I: Read, W: Write, E: Threads + Wait + Sync>(
+    fn load<R: TextRecord, S: Deck<R> + Drop, I: Read, W: Write, E: Threads + Wait + Sync>(
         &self,
         rt: &E,
         seats: u16,
         reader: &mut I,
         writer: &mut W,
-    ) -> Result<Status, Complaint>
-        requires { 0 < seats }
-    {
+    ) -> Result<Status, Complaint> {
         let growths = read_growth_lines::<R, I>(self.alloc, reader)?;
         let Opened { disk, lock: _lock } = self.open(Access::Writes)?;
-        let (_disk, ended) = load::<R, FileDisk, W, P, E>(
-            rt,
-            self.alloc,
-            disk,
-            &growths,
-            seats,
-            self.progress,
-            writer,
+        let gate = CountingGate::new(self.progress, growths.count() as u64);
+        let (_disk, ended) = load::<R, S, FileDisk, W, CountingGate<'_, P>, E>(
+            rt, self.alloc, disk, growths, seats, &gate, writer,
         );
         status_of(ended)
     }
 
-    fn append<R: CrewRecord, I: Read, W: Write, E: Threads + Wait + Sync>(
+    fn append<R: TextRecord, S: Deck<R> + Drop, I: Read, W: Write, E: Threads + Wait + Sync>(
         &self,
         rt: &E,
         reader: &mut I,
         writer: &mut W,
     ) -> Result<Status, Complaint> {
         let Opened { disk, lock: _lock } = self.open(Access::Writes)?;
-        let (_disk, appended, ended) = append::<R, FileDisk, I, W, P, E>(
+        let (_disk, appended, ended) = append::<R, S, FileDisk, I, W, P, E>(
             rt,
             self.alloc,
             disk,
@@ -102,13 +96,13 @@ impl<'a, F: Files<File = File> + AllocGlobal, P: Progress> Filing<'a, F, P> {
         }
     }
 
-    fn check<R: CrewRecord, W: Write>(&self, writer: &mut W) -> Result<Status, Complaint> {
+    fn check<R: TextRecord, W: Write>(&self, writer: &mut W) -> Result<Status, Complaint> {
         let Opened { disk, lock: _lock } = self.open(Access::Reads)?;
         let (_disk, ended) = check::<R, FileDisk, W, P>(self.alloc, disk, self.progress, writer);
         status_of(ended)
     }
 
-    fn list<R: CrewRecord, W: Write>(
+    fn list<R: TextRecord, W: Write>(
         &self,
         from: Option<&str>,
         count: Option<&str>,
@@ -121,7 +115,7 @@ impl<'a, F: Files<File = File> + AllocGlobal, P: Progress> Filing<'a, F, P> {
         status_of(ended)
     }
 
-    fn count<R: CrewRecord, W: Write, E: Threads + Sync>(
+    fn count<R: TextRecord, W: Write, E: Threads + Sync>(
         &self,
         rt: &E,
         record: &str,
@@ -133,7 +127,7 @@ impl<'a, F: Files<File = File> + AllocGlobal, P: Progress> Filing<'a, F, P> {
         status_of(ended)
     }
 
-    fn find<R: CrewRecord, W: Write, E: Threads + Sync>(
+    fn find<R: TextRecord, W: Write, E: Threads + Sync>(
         &self,
         rt: &E,
         record: &str,
@@ -145,7 +139,7 @@ impl<'a, F: Files<File = File> + AllocGlobal, P: Progress> Filing<'a, F, P> {
         status_of(ended)
     }
 
-    fn set<R: CrewRecord, W: Write, E: Threads + Sync>(
+    fn set<R: TextRecord, W: Write, E: Threads + Sync>(
         &self,
         rt: &E,
         start: &str,
@@ -158,7 +152,7 @@ impl<'a, F: Files<File = File> + AllocGlobal, P: Progress> Filing<'a, F, P> {
         status_of(ended)
     }
 
-    fn resize<R: CrewRecord, W: Write>(
+    fn resize<R: TextRecord, W: Write>(
         &self,
         len: &str,
         record: &str,
@@ -170,19 +164,19 @@ impl<'a, F: Files<File = File> + AllocGlobal, P: Progress> Filing<'a, F, P> {
         status_of(ended)
     }
 
-    fn clear<R: CrewRecord, W: Write>(&self, writer: &mut W) -> Result<Status, Complaint> {
+    fn clear<R: TextRecord, W: Write>(&self, writer: &mut W) -> Result<Status, Complaint> {
         let Opened { disk, lock: _lock } = self.open(Access::Writes)?;
         let (_disk, ended) = clear::<R, FileDisk, W>(self.alloc, disk, writer);
         status_of(ended)
     }
 
-    fn fold<R: CrewRecord, W: Write>(&self, writer: &mut W) -> Result<Status, Complaint> {
+    fn fold<R: TextRecord, W: Write>(&self, writer: &mut W) -> Result<Status, Complaint> {
         let Opened { disk, lock: _lock } = self.open(Access::Writes)?;
         let (_disk, ended) = fold::<R, FileDisk, W, P>(self.alloc, disk, self.progress, writer);
         status_of(ended)
     }
 
-    fn upgrade<R: CrewRecord, W: Write>(
+    fn upgrade<R: TextRecord, W: Write>(
         &self,
         new: &str,
         writer: &mut W,
@@ -196,7 +190,7 @@ impl<'a, F: Files<File = File> + AllocGlobal, P: Progress> Filing<'a, F, P> {
     }
 
     /// Does the task. A complaint: it was refused, and nothing of an answer was written.
-    pub fn run<R: CrewRecord, I: Read, W: Write, E: Threads + Wait + Sync>(
+    pub fn run<R: TextRecord, S: Deck<R> + Drop, I: Read, W: Write, E: Threads + Wait + Sync>(
         &self,
         rt: &E,
         task: FileTask<'_>,
@@ -205,8 +199,8 @@ impl<'a, F: Files<File = File> + AllocGlobal, P: Progress> Filing<'a, F, P> {
     ) -> Result<Status, Complaint> {
         match task {
             FileTask::Create(format) => self.create::<R, W>(format, writer),
-            FileTask::Load(seats) => self.load::<R, I, W, E>(rt, seats.max(1), reader, writer),
-            FileTask::Append => self.append::<R, I, W, E>(rt, reader, writer),
+            FileTask::Load(seats) => self.load::<R, S, I, W, E>(rt, seats, reader, writer),
+            FileTask::Append => self.append::<R, S, I, W, E>(rt, reader, writer),
             FileTask::Check => self.check::<R, W>(writer),
             FileTask::List { from, count } => self.list::<R, W>(from, count, writer),
             FileTask::Count(record) => self.count::<R, W, E>(rt, record, writer),

@@ -1,9 +1,11 @@
 //! How far long work is, for a terminal.
 
+use book_core::Receipt;
 use files_core::Progress;
 use std::io;
 use std::sync::atomic::{AtomicU64, Ordering};
 use std::time::{Clock, Instant};
+use vault_core::Gate;
 
 /// The milliseconds between two lines at least.
 const PAUSE: u64 = 100;
@@ -63,5 +65,35 @@ impl<'a, E: Clock + Eprint + Sync> Progress for Meter<'a, E> {
         if let Some(begun) = self.begun {
             let _ = self.tell(begun, done, of);
         }
+    }
+}
+
+/// Holds no grower up, and tells how many growths were made.
+#[derive(Drop)]
+pub struct CountingGate<'a, P> {
+    progress: &'a P,
+    made: AtomicU64,
+    of: u64,
+}
+
+impl<'a, P: Progress> CountingGate<'a, P> {
+    /// None of so many growths is made.
+    pub fn new(progress: &'a P, of: u64) -> CountingGate<'a, P> {
+        CountingGate {
+            progress,
+            made: AtomicU64::new(0),
+            of,
+        }
+    }
+}
+
+impl<'a, P: Progress> Gate for CountingGate<'a, P> {
+    fn before(&self, _grower: u16, _k: u32) -> bool {
+        true
+    }
+
+    fn after(&self, _grower: u16, _receipt: &Receipt) {
+        let before = self.made.fetch_add(1, Ordering::SeqCst);
+        self.progress.at(before.saturating_add(1), self.of);
     }
 }

@@ -9,7 +9,7 @@ use crate::filing::Filing;
 use crate::meter::Meter;
 use crate::request::{FileWords, RecordType, Request, Task};
 use crate::words::{WordsFault, read_words};
-use files_core::refuse_file;
+use files_core::{Dealt, refuse_file};
 use play_core::play;
 use record_core::{Flagged, Pair};
 use std::alloc::Global;
@@ -102,11 +102,11 @@ fn run_file<I: Read, W: Write, E: Threads + Wait + Sync, F: Files<File = File> +
     };
     let task = words.task;
     let ended = match words.record_type {
-        RecordType::U32 => filing.run::<u32, I, W, E>(rt, task, reader, writer),
-        RecordType::U64 => filing.run::<u64, I, W, E>(rt, task, reader, writer),
-        RecordType::I64 => filing.run::<i64, I, W, E>(rt, task, reader, writer),
-        RecordType::Pair => filing.run::<Pair, I, W, E>(rt, task, reader, writer),
-        RecordType::Flagged => filing.run::<Flagged, I, W, E>(rt, task, reader, writer),
+        RecordType::U32 => filing.run::<u32, Dealt<u32>, I, W, E>(rt, task, reader, writer),
+        RecordType::U64 => filing.run::<u64, Dealt<u64>, I, W, E>(rt, task, reader, writer),
+        RecordType::I64 => filing.run::<i64, Dealt<i64>, I, W, E>(rt, task, reader, writer),
+        RecordType::Pair => filing.run::<Pair, Dealt<Pair>, I, W, E>(rt, task, reader, writer),
+        RecordType::Flagged => filing.run::<Flagged, Dealt<Flagged>, I, W, E>(rt, task, reader, writer),
     };
     meter.end();
     ended
