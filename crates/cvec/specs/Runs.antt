@@ -1,5 +1,5 @@
 -- The runs that the program makes: a task on records of one of its types.
-use Rattle.std.specs.Prelude.{ℕ, List, Option}
+use Rattle.std.specs.Prelude.{ℕ, List, Option, ◌++◌, codes}
 use Rattle.std.specs.Io.KnownBytes.{Appends, Keeps}
 use Rattle.std.specs.Int.{w32, w64}
 use Rattle.record_core.specs.Bytes.{Encoding, unsigned, signed, pair, flagged}
@@ -10,7 +10,7 @@ use Rattle.cvec.specs.declared.request.RecordType.TheVariants.{U32, U64, I64, Pa
 use Rattle.text_core.specs.declared.refusal.Refusal.TheVariants as refusals
 use Rattle.text_core.specs.declared.status.Status.{Status}
 use Rattle.text_core.specs.declared.status.Status.TheVariants.{Done, Refused, OutputFailed, Usage}
-use Rattle.text_core.specs.Text.{Spelling}
+use Rattle.text_core.specs.Text.{Spelling, ended_line}
 use Rattle.text_core.specs.Numbers.{number_spelling}
 use Rattle.text_core.specs.SignedNumbers.{signed_spelling}
 use Rattle.text_core.specs.Keyed.{pair_spelling, flagged_spelling}
@@ -34,6 +34,13 @@ IsRun task Flagged = IsTaskRun task flagged flagged_spelling
 
 abbrev pub IsSomeRun : List ℕ → Option (List ℕ) → Option (List ℕ) → Status → Type 0
 IsSomeRun input old new status = (task : Task) × (record_type : RecordType) × IsRun task record_type input old new status
+
+-- how a command over a file may end, and what it has written then: all of an answer, or the line of a refusal
+abbrev pub IsFileRun : Option (List ℕ) → Option (List ℕ) → Status → Type 0
+IsFileRun old new Done = (text : List ℕ) × Appends old new text
+IsFileRun old new Refused = (name : List ℕ) × Appends old new (codes "refused: " ++ ended_line name)
+IsFileRun old new OutputFailed = Unit {0}
+IsFileRun old new Usage = ⊥
 
 -- the program gave no engine its work: memory was refused, or the words ask for nothing
 abbrev pub IsIdleRun : Option (List ℕ) → Option (List ℕ) → Status → Type 0
