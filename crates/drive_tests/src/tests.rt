@@ -1,0 +1,4 @@
+//! What no clause says: worked scripts on a disk that stops or fails at each of its calls.
+
+mod failing;
+mod script;
