@@ -70,6 +70,8 @@ impl<R: Copy> Dealt<R> {
 pub struct OpenGate;
 
 impl Gate for OpenGate {
+    ghost may_stop = { λ _ _ _. ⊥ };
+
     fn before(&self, _grower: u16, _k: u32) -> bool {
         true
     }
