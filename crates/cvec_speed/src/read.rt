@@ -71,16 +71,25 @@ fn sum_at_random(snapshot: &Snapshot<'_, u64>, first: u64, sizes: ReadSizes) -> 
     sum
 }
 
+/// The sum of the records that were found.
+fn sum_of_found(found: &[Option<&u64>]) -> u64 {
+    let mut sum: u64 = 0;
+    for it in found {
+        if let Some(record) = it {
+            sum = sum.wrapping_add(**record);
+        }
+    }
+    sum
+}
+
 /// As `sum_at_random`, by 32 places at once.
 fn sum_of_many(snapshot: &Snapshot<'_, u64>, first: u64, sizes: ReadSizes) -> u64 {
     let mut sum: u64 = 0;
+    let mut found: [Option<&u64>; MANY] = [None; MANY];
     for row in 0..sizes.draws / MANY as u64 {
         let places = places_of(first.wrapping_add(row.wrapping_mul(MANY as u64)), sizes.n);
-        let mut found: [Option<&u64>; MANY] = [None; MANY];
         snapshot.get_many(&places, &mut found);
-        for record in found.iter().flatten() {
-            sum = sum.wrapping_add(**record);
-        }
+        sum = sum.wrapping_add(sum_of_found(&found));
     }
     sum
 }
