@@ -20,7 +20,7 @@ returns-in-Ok-grow_by-clause-writes g c =
     told_answer _ _ _ _ _ _ c.told.ensures c.write_loaded-written.ensures (
       length (list_of c.in-Ok-grow_by.vault),
       loaded_by g.R.Record.form g.D.Disk.keeps g.D.Disk.states c.args.growths.0 c.args.growers c.args.disk c.into_disk.result c.in-Ok.vault c.in-Ok-grow_by.vault opened c.into_disk.ensures.disk c.in-Ok-grow_by.ensures.grown,
-      ?,
+      ap (λ n. loaded_line n c.len.result) c.count-count.ensures ∙ ap (λ n. loaded_line (length c.args.growths.0) n) c.len.ensures.is,
     )
 
 pub returns-in-Err-grow_by-clause-loaded : goal.returns-in-Err-grow_by-clause-loaded
