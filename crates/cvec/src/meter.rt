@@ -87,7 +87,9 @@ impl<'a, P: Progress> CountingGate<'a, P> {
     }
 }
 
-impl<'a, P: Progress> Gate for CountingGate<'a, P> {
+impl<'a, P: Progress + Sync> Gate for CountingGate<'a, P> {
+    ghost may_stop = { λ gate grower k. ⊥ };
+
     fn before(&self, _grower: u16, _k: u32) -> bool {
         true
     }

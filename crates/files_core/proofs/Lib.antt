@@ -2,3 +2,4 @@ pub mod Opened
 pub mod Changed
 pub mod Written
 pub mod GrowthLines
+pub mod Crewed

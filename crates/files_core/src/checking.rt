@@ -128,7 +128,7 @@ fn write_checked<R, W: Write>(writer: &mut W, scanned: &Scanned<R>) -> io::Resul
 {
     write_numbered(writer, b"ok version ", scanned.version as u64)?;
     write_numbered(writer, b" width ", scanned.width as u64)?;
-    write_numbered(writer, b" size ", scanned.records.len() as u64)?;
+    write_numbered(writer, b" size ", scanned.records.as_slice().len() as u64)?;
     write_numbered(writer, b" frames ", scanned.frames)?;
     write_numbered(writer, b" live ", live_changes(scanned))?;
     write_line(b"", writer)

@@ -70,6 +70,8 @@ impl<R: Copy> Dealt<R> {
 pub struct OpenGate;
 
 impl Gate for OpenGate {
+    ghost may_stop = { λ gate grower k. ⊥ };
+
     fn before(&self, _grower: u16, _k: u32) -> bool {
         true
     }
@@ -98,7 +100,11 @@ impl Source<u32> for Dealt<u32> {
 }
 
 impl Deck<u32> for Dealt<u32> {
-    fn deal(growths: Growths<u32>, growers: u16) -> Option<Dealt<u32>> {
+    fn deal(growths: Growths<u32>, growers: u16) -> Option<Dealt<u32>>
+        ensures { MatchOption result
+            ((growers ≡ 0) ⊎ (2 ^ 32 ≤ length growths.0))
+            (λ deck. (deck.growers ≡ growers) × (count_for (length deck.growths.0) deck.growers ≡ count_for (length growths.0) growers) × (dealt deck.growths.0 deck.growers ≡ dealt growths.0 growers)) }
+    {
         Dealt::new(growths, growers)
     }
 }
@@ -124,7 +130,11 @@ impl Source<u64> for Dealt<u64> {
 }
 
 impl Deck<u64> for Dealt<u64> {
-    fn deal(growths: Growths<u64>, growers: u16) -> Option<Dealt<u64>> {
+    fn deal(growths: Growths<u64>, growers: u16) -> Option<Dealt<u64>>
+        ensures { MatchOption result
+            ((growers ≡ 0) ⊎ (2 ^ 32 ≤ length growths.0))
+            (λ deck. (deck.growers ≡ growers) × (count_for (length deck.growths.0) deck.growers ≡ count_for (length growths.0) growers) × (dealt deck.growths.0 deck.growers ≡ dealt growths.0 growers)) }
+    {
         Dealt::new(growths, growers)
     }
 }
@@ -150,7 +160,11 @@ impl Source<i64> for Dealt<i64> {
 }
 
 impl Deck<i64> for Dealt<i64> {
-    fn deal(growths: Growths<i64>, growers: u16) -> Option<Dealt<i64>> {
+    fn deal(growths: Growths<i64>, growers: u16) -> Option<Dealt<i64>>
+        ensures { MatchOption result
+            ((growers ≡ 0) ⊎ (2 ^ 32 ≤ length growths.0))
+            (λ deck. (deck.growers ≡ growers) × (count_for (length deck.growths.0) deck.growers ≡ count_for (length growths.0) growers) × (dealt deck.growths.0 deck.growers ≡ dealt growths.0 growers)) }
+    {
         Dealt::new(growths, growers)
     }
 }
@@ -176,7 +190,11 @@ impl Source<Pair> for Dealt<Pair> {
 }
 
 impl Deck<Pair> for Dealt<Pair> {
-    fn deal(growths: Growths<Pair>, growers: u16) -> Option<Dealt<Pair>> {
+    fn deal(growths: Growths<Pair>, growers: u16) -> Option<Dealt<Pair>>
+        ensures { MatchOption result
+            ((growers ≡ 0) ⊎ (2 ^ 32 ≤ length growths.0))
+            (λ deck. (deck.growers ≡ growers) × (count_for (length deck.growths.0) deck.growers ≡ count_for (length growths.0) growers) × (dealt deck.growths.0 deck.growers ≡ dealt growths.0 growers)) }
+    {
         Dealt::new(growths, growers)
     }
 }
@@ -202,7 +220,11 @@ impl Source<Flagged> for Dealt<Flagged> {
 }
 
 impl Deck<Flagged> for Dealt<Flagged> {
-    fn deal(growths: Growths<Flagged>, growers: u16) -> Option<Dealt<Flagged>> {
+    fn deal(growths: Growths<Flagged>, growers: u16) -> Option<Dealt<Flagged>>
+        ensures { MatchOption result
+            ((growers ≡ 0) ⊎ (2 ^ 32 ≤ length growths.0))
+            (λ deck. (deck.growers ≡ growers) × (count_for (length deck.growths.0) deck.growers ≡ count_for (length growths.0) growers) × (dealt deck.growths.0 deck.growers ≡ dealt growths.0 growers)) }
+    {
         Dealt::new(growths, growers)
     }
 }

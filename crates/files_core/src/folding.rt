@@ -29,6 +29,8 @@ fn fold_vault<R: Record, D: Disk>(vault: &mut Vault<R, D>) -> Result<(), VaultFa
     ensures refused { IfErr result (IsFoldingFault vault.old.pen vault.new.pen) }
     ensures model { D.keeps vault.new.pen.disk → D.keeps vault.old.pen.disk }
 {
+    // Whatever a crash leaves now opens to the list.
+    let _disk = vault.disk();
     vault.begin_fold()?;
     vault.settle()
 }

@@ -42,12 +42,12 @@ fn first_stopped<R: Record, D: Disk, S: Source<R>>(
 ) -> Option<Stopped>
     requires { (vec_len crewed.now.receipts ≡ S.growers_of source.now) × (vec_len crewed.now.faults ≡ S.growers_of source.now) }
     ensures { MatchOption result
-        ((k : ℕ) → k < S.growers_of source.now → (its : Vec Receipt) → slice_get crewed.now.receipts.items k ≡ Some its → S.count_of source.now k ≤ vec_len its)
+        ((k : ℕ) → k < S.growers_of source.now → (its : Vec Receipt) → slice_get crewed.now.receipts.items k ≡ Some its → S.count_of source.now k ≤ length its.items)
         (λ stopped. stopped.size ≡ length (list_of crewed.now.vault)) }
 {
     let growers = source.growers();
     for grower in 0..growers {
-        let made = crewed.receipts[grower as usize].len() as u64;
+        let made = crewed.receipts[grower as usize].as_slice().len() as u64;
         let fault = match crewed.faults[grower as usize] {
             Some(fault) => fault,
             None if made < source.count(grower) as u64 => GrowFault::Closed,
