@@ -1,5 +1,8 @@
 //! The commands over files: words first, then the input, then the file.
 
+ghost use Rattle.std.specs.Prelude.{ℕ, List, Option};
+ghost use Rattle.cvec.specs.Runs.{IsFiled, WritesSome};
+
 use crate::access::{Access, Opened, open};
 use crate::complaint::{Complaint, Role};
 use crate::meter::CountingGate;
@@ -26,7 +29,9 @@ impl From<FileFault> for Complaint {
 }
 
 /// How a command ended whose engine ended so.
-fn status_of(ended: Ended) -> Result<Status, Complaint> {
+fn status_of(ended: Ended) -> Result<Status, Complaint>
+    ensures { (old new : Option (List ℕ)) → WritesSome old new ended → IsFiled old new result }
+{
     match ended {
         Ended::Done => Ok(Status::Done),
         Ended::OutputFailed => Ok(Status::OutputFailed),
@@ -44,7 +49,7 @@ pub struct Filing<'a, F, P> {
     pub progress: &'a P,
 }
 
-impl<'a, F: Files<File = File> + AllocGlobal, P: Progress> Filing<'a, F, P> {
+impl<'a, F: Files<File = File> + AllocGlobal, P: Progress + Sync> Filing<'a, F, P> {
     fn open(&self, access: Access) -> Result<Opened, Complaint> {
         open(self.files, self.file, access, Role::File)
     }
@@ -53,7 +58,9 @@ impl<'a, F: Files<File = File> + AllocGlobal, P: Progress> Filing<'a, F, P> {
         &self,
         format: Format,
         writer: &mut W,
-    ) -> Result<Status, Complaint> {
+    ) -> Result<Status, Complaint>
+        ensures { IsFiled (W.contents writer.old) (W.contents writer.new) result }
+    {
         let Opened { disk, lock: _lock } = self.open(Access::Makes)?;
         let (_disk, ended) = create::<R, FileDisk, W>(self.alloc, disk, format, writer);
         status_of(ended)
@@ -65,7 +72,9 @@ impl<'a, F: Files<File = File> + AllocGlobal, P: Progress> Filing<'a, F, P> {
         seats: u16,
         reader: &mut I,
         writer: &mut W,
-    ) -> Result<Status, Complaint> {
+    ) -> Result<Status, Complaint>
+        ensures { IsFiled (W.contents writer.old) (W.contents writer.new) result }
+    {
         let growths = read_growth_lines::<R, I>(self.alloc, reader)?;
         let Opened { disk, lock: _lock } = self.open(Access::Writes)?;
         let gate = CountingGate::new(self.progress, growths.count() as u64);
@@ -80,7 +89,9 @@ impl<'a, F: Files<File = File> + AllocGlobal, P: Progress> Filing<'a, F, P> {
         rt: &E,
         reader: &mut I,
         writer: &mut W,
-    ) -> Result<Status, Complaint> {
+    ) -> Result<Status, Complaint>
+        ensures { IsFiled (W.contents writer.old) (W.contents writer.new) result }
+    {
         let Opened { disk, lock: _lock } = self.open(Access::Writes)?;
         let (_disk, appended, ended) = append::<R, S, FileDisk, I, W, P, E>(
             rt,
@@ -96,7 +107,9 @@ impl<'a, F: Files<File = File> + AllocGlobal, P: Progress> Filing<'a, F, P> {
         }
     }
 
-    fn check<R: TextRecord, W: Write>(&self, writer: &mut W) -> Result<Status, Complaint> {
+    fn check<R: TextRecord, W: Write>(&self, writer: &mut W) -> Result<Status, Complaint>
+        ensures { IsFiled (W.contents writer.old) (W.contents writer.new) result }
+    {
         let Opened { disk, lock: _lock } = self.open(Access::Reads)?;
         let (_disk, ended) = check::<R, FileDisk, W, P>(self.alloc, disk, self.progress, writer);
         status_of(ended)
@@ -107,7 +120,9 @@ impl<'a, F: Files<File = File> + AllocGlobal, P: Progress> Filing<'a, F, P> {
         from: Option<&str>,
         count: Option<&str>,
         writer: &mut W,
-    ) -> Result<Status, Complaint> {
+    ) -> Result<Status, Complaint>
+        ensures { IsFiled (W.contents writer.old) (W.contents writer.new) result }
+    {
         let window = read_window(from.map(|word| word.as_bytes()), count.map(|word| word.as_bytes()))?;
         let Opened { disk, lock: _lock } = self.open(Access::Reads)?;
         let (_disk, ended) =
@@ -120,7 +135,9 @@ impl<'a, F: Files<File = File> + AllocGlobal, P: Progress> Filing<'a, F, P> {
         rt: &E,
         record: &str,
         writer: &mut W,
-    ) -> Result<Status, Complaint> {
+    ) -> Result<Status, Complaint>
+        ensures { IsFiled (W.contents writer.old) (W.contents writer.new) result }
+    {
         let record = read_record::<R>(record.as_bytes())?;
         let Opened { disk, lock: _lock } = self.open(Access::Reads)?;
         let (_disk, ended) = count::<R, FileDisk, W, E>(rt, self.alloc, disk, record, writer);
@@ -132,7 +149,9 @@ impl<'a, F: Files<File = File> + AllocGlobal, P: Progress> Filing<'a, F, P> {
         rt: &E,
         record: &str,
         writer: &mut W,
-    ) -> Result<Status, Complaint> {
+    ) -> Result<Status, Complaint>
+        ensures { IsFiled (W.contents writer.old) (W.contents writer.new) result }
+    {
         let record = read_record::<R>(record.as_bytes())?;
         let Opened { disk, lock: _lock } = self.open(Access::Reads)?;
         let (_disk, ended) = find::<R, FileDisk, W, E>(rt, self.alloc, disk, record, writer);
@@ -145,7 +164,9 @@ impl<'a, F: Files<File = File> + AllocGlobal, P: Progress> Filing<'a, F, P> {
         start: &str,
         records: &str,
         writer: &mut W,
-    ) -> Result<Status, Complaint> {
+    ) -> Result<Status, Complaint>
+        ensures { IsFiled (W.contents writer.old) (W.contents writer.new) result }
+    {
         let setting = read_setting::<R>(self.alloc, start.as_bytes(), records.as_bytes())?;
         let Opened { disk, lock: _lock } = self.open(Access::Writes)?;
         let (_disk, ended) = set::<R, FileDisk, W, E>(rt, self.alloc, disk, &setting, writer);
@@ -157,20 +178,26 @@ impl<'a, F: Files<File = File> + AllocGlobal, P: Progress> Filing<'a, F, P> {
         len: &str,
         record: &str,
         writer: &mut W,
-    ) -> Result<Status, Complaint> {
+    ) -> Result<Status, Complaint>
+        ensures { IsFiled (W.contents writer.old) (W.contents writer.new) result }
+    {
         let resizing = read_resizing::<R>(len.as_bytes(), record.as_bytes())?;
         let Opened { disk, lock: _lock } = self.open(Access::Writes)?;
         let (_disk, ended) = resize::<R, FileDisk, W>(self.alloc, disk, &resizing, writer);
         status_of(ended)
     }
 
-    fn clear<R: TextRecord, W: Write>(&self, writer: &mut W) -> Result<Status, Complaint> {
+    fn clear<R: TextRecord, W: Write>(&self, writer: &mut W) -> Result<Status, Complaint>
+        ensures { IsFiled (W.contents writer.old) (W.contents writer.new) result }
+    {
         let Opened { disk, lock: _lock } = self.open(Access::Writes)?;
         let (_disk, ended) = clear::<R, FileDisk, W>(self.alloc, disk, writer);
         status_of(ended)
     }
 
-    fn fold<R: TextRecord, W: Write>(&self, writer: &mut W) -> Result<Status, Complaint> {
+    fn fold<R: TextRecord, W: Write>(&self, writer: &mut W) -> Result<Status, Complaint>
+        ensures { IsFiled (W.contents writer.old) (W.contents writer.new) result }
+    {
         let Opened { disk, lock: _lock } = self.open(Access::Writes)?;
         let (_disk, ended) = fold::<R, FileDisk, W, P>(self.alloc, disk, self.progress, writer);
         status_of(ended)
@@ -180,7 +207,9 @@ impl<'a, F: Files<File = File> + AllocGlobal, P: Progress> Filing<'a, F, P> {
         &self,
         new: &str,
         writer: &mut W,
-    ) -> Result<Status, Complaint> {
+    ) -> Result<Status, Complaint>
+        ensures { IsFiled (W.contents writer.old) (W.contents writer.new) result }
+    {
         let Opened { disk: old, lock: _lock } = self.open(Access::Reads)?;
         let Opened { disk: new, lock: _lock_of_new } =
             open(self.files, new, Access::Makes, Role::New)?;
@@ -196,7 +225,9 @@ impl<'a, F: Files<File = File> + AllocGlobal, P: Progress> Filing<'a, F, P> {
         task: FileTask<'_>,
         reader: &mut I,
         writer: &mut W,
-    ) -> Result<Status, Complaint> {
+    ) -> Result<Status, Complaint>
+        ensures { IsFiled (W.contents writer.old) (W.contents writer.new) result }
+    {
         match task {
             FileTask::Create(format) => self.create::<R, W>(format, writer),
             FileTask::Load(seats) => self.load::<R, S, I, W, E>(rt, seats, reader, writer),

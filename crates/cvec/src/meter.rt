@@ -87,8 +87,8 @@ impl<'a, P: Progress> CountingGate<'a, P> {
     }
 }
 
-impl<'a, P: Progress> Gate for CountingGate<'a, P> {
-    ghost may_stop = { λ _ _ _. ⊥ };
+impl<'a, P: Progress + Sync> Gate for CountingGate<'a, P> {
+    ghost may_stop = { λ gate grower k. ⊥ };
 
     fn before(&self, _grower: u16, _k: u32) -> bool {
         true

@@ -2,7 +2,7 @@
 
 ghost use Rattle.std.specs.Prelude.{◌≡◌, ◌≢◌, [], IfSome, ◌⊎◌};
 ghost use Rattle.std.specs.Io.KnownBytes.{Keeps};
-ghost use Rattle.cvec.specs.Runs.{IsTaskRun, IsRun, IsSomeRun, IsIdleRun, IsFileRun};
+ghost use Rattle.cvec.specs.Runs.{IsTaskRun, IsRun, IsSomeRun, IsIdleRun, IsFileRun, IsFiled};
 
 use crate::complaint::Complaint;
 use crate::filing::Filing;
@@ -73,7 +73,9 @@ fn run_task<I: Read, W: Write, E: Threads + Wait + Sync>(
 }
 
 /// Writes the line of a complaint.
-fn refuse_for<W: Write>(writer: &mut W, complaint: &Complaint) -> Status {
+fn refuse_for<W: Write>(writer: &mut W, complaint: &Complaint) -> Status
+    ensures { IsFileRun (W.contents writer.old) (W.contents writer.new) result }
+{
     match complaint {
         Complaint::Fault(fault) | Complaint::Appended(_, fault) => refuse_file(writer, *fault),
         Complaint::NotOpened(..) | Complaint::InUse(_) => {
@@ -92,7 +94,9 @@ fn run_file<I: Read, W: Write, E: Threads + Wait + Sync, F: Files<File = File> +
     words: &FileWords<'_>,
     reader: &mut I,
     writer: &mut W,
-) -> Result<Status, Complaint> {
+) -> Result<Status, Complaint>
+    ensures { IsFiled (W.contents writer.old) (W.contents writer.new) result }
+{
     let meter = Meter::new(system.files, system.terminal && !words.quiet);
     let filing = Filing {
         alloc: system.alloc,
