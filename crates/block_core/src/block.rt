@@ -69,7 +69,7 @@ impl<R: Record> Fresh<R> {
     {
         Fresh::<R>::check_len(records.len() as u64)?;
         let copies = Vec::from_slice(alloc, records)?;
-        Fresh::boxed(alloc, copies)
+        Fresh::boxed(alloc, copies).map_err(|_| FreshFault::Memory)
     }
 
     /// A block of `n` copies of `v`.
@@ -82,15 +82,28 @@ impl<R: Record> Fresh<R> {
         let len = n as usize;
         let mut copies = Vec::with_capacity(alloc, len)?;
         copies.resize(len, v)?;
-        Fresh::boxed(alloc, copies)
+        Fresh::boxed(alloc, copies).map_err(|_| FreshFault::Memory)
     }
 
-    /// The block of these records, in its box.
-    fn boxed(alloc: Global, records: Vec<R>) -> Result<Fresh<R>, FreshFault>
+    /// The block of these records, which come back where it is refused. They aren't copied: the block has their buffer,
+    /// with what room that has beside them.
+    pub fn from_vec(alloc: Global, records: Vec<R>) -> Result<Fresh<R>, (Vec<R>, FreshFault)>
+        ensures { MatchResult result
+            (λ fresh. (fresh ≡ records.items) × IsBlockLength R.form.width (length records.items))
+            (λ refused. (refused.0.items ≡ records.items) × IsBlockRefusal R.form.width (length records.items) refused.1) }
+    {
+        if let Err(fault) = Fresh::<R>::check_len(records.len() as u64) {
+            return Err((records, fault));
+        }
+        Fresh::boxed(alloc, records).map_err(|records| (records, FreshFault::Memory))
+    }
+
+    /// The block of these records, in its box. They come back where that wasn't to be had.
+    fn boxed(alloc: Global, records: Vec<R>) -> Result<Fresh<R>, Vec<R>>
         requires { IsBlockLength R.form.width (length records.items) }
         ensures { MatchResult result
             (λ fresh. fresh ≡ records.items)
-            (λ fault. fault ≡ FreshFault.Memory) }
+            (λ refused. refused.items ≡ records.items) }
     {
         let label = Label {
             number: 0,
@@ -98,8 +111,17 @@ impl<R: Record> Fresh<R> {
             seat: 0,
             serial: 0,
         };
-        let entry = Box::new(alloc, Entry { label, records })?;
-        Ok(Fresh { entry })
+        match Box::new(alloc, Entry { label, records }) {
+            Ok(entry) => Ok(Fresh { entry }),
+            Err(refused) => Err(refused.value.records),
+        }
+    }
+
+    /// Its records, in the buffer that it has. The block is given up.
+    pub fn into_vec(self) -> Vec<R>
+        ensures { result.items ≡ self }
+    {
+        Box::into_inner(self.entry).records
     }
 
     /// How many records it has.

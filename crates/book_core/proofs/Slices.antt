@@ -1,9 +1,10 @@
 -- Pieces with a row of their starts.
-use Rattle.std.proofs.Common.{◌≡◌, ℕ, suc, ◌+◌, ◌-◌, ◌<◌, ◌≤◌, List, [], ◌∷◌, ◌++◌, Bool, Bor, true, cond, map, length, take, drop, get_or, slice_get, Some, refl, ap, sym, subst, ◌∙◌, le_of_lt, lt_of_not-le, inl, inr, arith}
+use Rattle.std.proofs.Common.{◌≡◌, ℕ, suc, ◌*◌, ◌/◌, ◌%◌, ◌+◌, ◌-◌, ◌<◌, ◌≤◌, List, [], ◌∷◌, ◌++◌, Bool, Bor, true, cond, map, length, take, drop, get_or, slice_get, Some, refl, ap, sym, subst, ◌∙◌, le_of_lt, lt_of_not-le, inl, inr, arith}
 use Rattle.std.specs.Prelude.{sum_by, nat_lt}
 use Rattle.std.specs.Global.{Vec}
 use Rattle.std.proofs.lemmas.Bool.{cases_eq, lt-ltb, le-ltb}
 use Rattle.std.proofs.lemmas.List.{length-map, get_or-map, take_rest, length-append, length-take-le, append_assoc, length_push, take_all, take_at, take-append-le, get_or_push, get_or_append_left, nil_from_length, append-nil}
+use Rattle.std.proofs.Math.Nat.{add-mul, one-mul, zero-mul, div-lt_iff_lt-mul, div-mul-le_self, lt-div-mul-add, mod-eq-sub-div-mul}
 use Rattle.std.proofs.lemmas.Grind.{flat_map-append}
 use Rattle.std.proofs.lemmas.List.Concat.{get_or-flat_map}
 use Rattle.std.proofs.lemmas.List.Elements.{All-push, filter_more}
@@ -12,7 +13,7 @@ use Rattle.std.proofs.lemmas.Option.{slice_get_cases, slice_get_within, slice_ge
 use Rattle.directory_core.specs.Limits.{record_limit}
 use Rattle.directory_core.specs.Finding.{IsBetween}
 use Rattle.book_core.specs.Lists.{records_of, joined_pieces, IsPlaceIn, IsRestOfPiece}
-use Rattle.book_core.specs.Snapshots.{AreFull, AreLaid, full_of}
+use Rattle.book_core.specs.Snapshots.{AreFull, AreLaid, AreEven, IsStepWith, full_of}
 use Rattle.book_core.proofs.PieceLists.{length-joined_pieces}
 
 -- the record at a place
@@ -53,6 +54,11 @@ module _ {R : Type 0} {pieces : List (List R)} {starts : List ℕ} {size : ℕ} 
         size_is = omega (arith, more, size_is);
         in_limit = limit;
       }
+
+  pub none_sized : length starts ≡ 0 → size ≡ 0
+  none_sized none =
+      let many = h.as_many in
+      h.size_is ∙ ap (sum_by length) (nil_from_length pieces (omega arith))
 
   -- a position inside has a start at or before it
   pub first_start : (i : ℕ) → i < size → (0 < length starts) × (get_or starts 0 0 ≤ i)
@@ -155,3 +161,49 @@ module _ {R : Type 0} (old : List (List R)) (blocks : List (Vec R)) (k : ℕ) (l
 
     pub with_skip : length block.items ≡ 0 → old ++ full_of (take k (records_of blocks)) ≡ old ++ full_of (take (k + 1) (records_of blocks))
     with_skip none = ap (λ (ps : List (List R)). old ++ ps) (sym (full_of-skip (records_of blocks) k block.items in_records here none))
+
+more_times : (n m : ℕ) → (n + 1) * m ≡ n * m + m
+more_times n m = add-mul n 1 m ∙ ap (λ (k : ℕ). n * m + k) (one-mul m)
+
+-- one length of all pieces but the last
+module _ {starts : List ℕ} {size step : ℕ} (even : AreEven starts size step) (some : 0 < step) where
+  pub even_between : (i : ℕ) → i < size → IsBetween starts i (i / step) (i / step + 1)
+  even_between i lt =
+      let no_more = even.no_more some in
+      let inside : i / step < length starts = (div-lt_iff_lt-mul {k = step} {x = i} {y = length starts} some).1 (omega arith) in
+      let at = even.start_at (i / step) some inside in
+      let le = div-mul-le_self i step in
+      let next : i < i / step * step + step = lt-div-mul-add some in
+      record {
+        some = omega arith;
+        inside = omega arith;
+        from = omega arith;
+        until = λ lt. let start = even.start_at (i / step + 1) some lt in let is : (i / step + 1) * step ≡ i / step * step + step = more_times (i / step) step in omega arith;
+      }
+
+  pub even_place : (i : ℕ) → i < size → i - get_or starts (i / step) 0 ≡ i % step
+  even_place i lt =
+      let no_more = even.no_more some in
+      let inside : i / step < length starts = (div-lt_iff_lt-mul {k = step} {x = i} {y = length starts} some).1 (omega arith) in
+      let at = even.start_at (i / step) some inside in
+      let is = mod-eq-sub-div-mul i step in
+      omega arith
+
+-- one piece more
+pub even_push : (starts : List ℕ) (size step len new : ℕ) → AreEven starts size step → IsStepWith (length starts) size step len new → (length starts ≡ 0 → size ≡ 0) → AreEven (starts ++ size ∷ []) (size + len) new
+even_push starts size step len new even is empty = elim is [
+  | inl none ↦ record { start_at = λ k some lt. absurd (omega (arith, none, some)); no_more = λ some. absurd (omega (arith, none, some)) }
+  | inr more ↦ elim more [
+    | inl first ↦ let none = first.0 in let long = length_push starts size in let zero = empty none in let one : length (starts ++ size ∷ []) ≡ 1 = omega arith in record {
+      start_at = λ k some lt. let first_k : k ≡ 0 = omega arith in get_or_push starts size 0 k (omega arith) ∙ (zero ∙ sym (ap (λ (n : ℕ). n * new) first_k ∙ zero-mul new));
+      no_more = λ some. rw one (let is = first.1 in omega arith);
+    }
+    | inr same ↦ let long = length_push starts size in record {
+      start_at = λ k some lt. let some' : 0 < step = omega (arith, same.0, some) in elim (cases_eq k (length starts)) [
+        | inl last ↦ get_or_push starts size 0 k (sym last) ∙ (same.1 ∙ (ap (λ (n : ℕ). n * step) (sym last) ∙ ap (λ (n : ℕ). k * n) (sym same.0)))
+        | inr other ↦ let inside : k < length starts = omega (arith, other, lt, long) in get_or_append_left starts (size ∷ []) 0 k inside ∙ (even.start_at k some' inside ∙ ap (λ (n : ℕ). k * n) (sym same.0))
+      ];
+      no_more = λ some. rw (long, same.0) (let is = more_times (length starts) step in let at = same.1 in let le = same.2 in omega arith);
+    }
+  ]
+]

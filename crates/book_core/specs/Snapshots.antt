@@ -1,5 +1,6 @@
 -- The list of a seat, laid out in slices.
-use Rattle.std.specs.Prelude.{◌≡◌, ℕ, ◌+◌, ◌<◌, ◌≤◌, List, ◌++◌, length, map, take, get_or, filter, sum_by, nat_lt, All}
+use Rattle.std.specs.Prelude.{◌≡◌, ℕ, ◌+◌, ◌*◌, ◌<◌, ◌≤◌, ◌⊎◌, List, ◌++◌, length, map, take, get_or, slice_get, filter, sum_by, nat_lt, All, Option, Some, MatchOption}
+use Rattle.std.specs.Borrow.{Bor}
 use Rattle.directory_core.specs.Limits.{record_limit}
 use Rattle.book_core.specs.Lists.{Phase, Seated, joined_pieces, list_of}
 
@@ -14,6 +15,16 @@ pub record AreLaid {R : Type 0} (pieces : List (List R)) (starts : List ℕ) (si
   pub start_at : (k : ℕ) → k < length pieces → get_or starts k 0 ≡ sum_by length (take k pieces)
   pub size_is : size ≡ sum_by length pieces
   pub in_limit : size ≤ record_limit
+
+-- where step is above 0, the pieces that begin at these starts have step records each, the last one at most so many
+pub record AreEven (starts : List ℕ) (size step : ℕ) : Type 0 where
+  pub start_at : (k : ℕ) → 0 < step → k < length starts → get_or starts k 0 ≡ k * step
+  pub no_more : 0 < step → size ≤ length starts * step
+
+-- the one length of pieces with one more of `len` records, of which there are `count` with `size` records: it is 0, or
+-- that of the first one, or that of those before, which are full and no shorter
+abbrev pub IsStepWith : ℕ → ℕ → ℕ → ℕ → ℕ → Type 0
+IsStepWith count size step len new = (new ≡ 0) ⊎ (((count ≡ 0) × (new ≡ len)) ⊎ ((new ≡ step) × (size ≡ count * step) × (len ≤ step)))
 
 -- what contracts see of a row of slices: the records of each, and how many slices and starts there is room for
 pub record Row (R : Type 0) : Type 0 where
@@ -41,6 +52,14 @@ pieces_in shown = full_of shown.of.blocks ++ shown.growths
 -- its list
 abbrev pub list_in : {R : Type 0} → Shown R → List R
 list_in shown = joined_pieces (pieces_in shown)
+
+-- the record at position i of the list is found, or there is none
+abbrev pub IsFoundAt : {R : Type 0} → List R → ℕ → Option (Bor R) → Type 0
+IsFoundAt records i found = MatchOption found (length records ≤ i) (λ it. slice_get records i ≡ Some it.now)
+
+-- of each position that is asked for, in their order, that is found
+abbrev pub AreFoundAt : {R : Type 0} → List R → List ℕ → List (Option (Bor R)) → Type 0
+AreFoundAt records positions found = (k i : ℕ) (it : Option (Bor _)) → slice_get positions k ≡ Some i → slice_get found k ≡ Some it → IsFoundAt records i it
 
 -- the records of each growth that the seat knows
 abbrev pub growths_of : {R : Type 0} → Seated R → List (List R)

@@ -7,7 +7,7 @@ ghost use Rattle.book_core.specs.Lists.{records_of, joined_pieces, IsSeatOf};
 ghost use Rattle.book_core.specs.Beginning.{IsNewSeat, AreNewSeats, IsBeginRefusal, MayBegin};
 
 use crate::fault::GrowFault;
-use crate::live::{Book, Live};
+use crate::live::{Door, Live};
 use crate::mark::{Mark, Writer};
 use crate::opening::Opening;
 use crate::seat::Seat;
@@ -20,6 +20,7 @@ use std::sync::Mutex;
 
 /// The seats of a phase at most.
 pub const SEAT_LIMIT: u16 = 64;
+
 /// A phase that begins: what its threads share, their seats with the ids 0, 1, .., and one pass and the writing end
 /// of the mark for who settles the growths.
 #[derive(Drop)]
@@ -33,11 +34,21 @@ pub struct Begun<R: Record> {
 /// What a phase needs beside its blocks.
 #[derive(Drop)]
 struct Parts<R: Record> {
+    doors: Vec<Door>,
     directory: Directory<R>,
     mark: Mark,
     seats: Vec<Seat<R>>,
     pass: Pass<R>,
     writer: Writer,
+}
+
+/// A door for each of so many seats.
+fn doors_of(alloc: Global, count: u16) -> Option<Vec<Door>> {
+    let mut doors = Vec::with_capacity(alloc, count as usize).ok()?;
+    for _ in 0..count {
+        doors.push_reserved(CachePadded::new(Mutex::new(())));
+    }
+    Some(doors)
 }
 
 /// So many new seats.
@@ -78,6 +89,7 @@ impl<R: Record> Parts<R> {
         ensures mark { IfSome result (λ parts.
             parts.writer ≡ record { of = parts.mark; told = nothing }) }
     {
+        let doors = doors_of(alloc, seats)?;
         let Ok(directory) = Directory::with_limit(alloc, room, limit) else {
             return None;
         };
@@ -89,6 +101,7 @@ impl<R: Record> Parts<R> {
             return None;
         };
         Some(Parts {
+            doors,
             directory,
             mark,
             seats,
@@ -133,7 +146,7 @@ impl<R: Record> Live<R> {
             return Err((opening.blocks, GrowFault::Memory));
         };
         let live = Live {
-            lock: CachePadded::new(Mutex::new(Book::new())),
+            doors: parts.doors,
             waking: Waking::new(),
             directory: parts.directory,
             mark: parts.mark,

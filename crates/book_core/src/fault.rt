@@ -8,7 +8,7 @@ use std::alloc::{AllocError, AllocFailed};
 use thiserror::Error;
 
 /// Why a growth isn't made, or a phase isn't begun. A growth is refused by the first of these that holds: `Empty`,
-/// `TooLarge` and the block's `Memory` before the lock is taken, then `Closed`, `Strayed`, `Full`, `TooLong` and
+/// `TooLarge` and the block's `Memory` before the seat's door is taken, then `Closed`, `Strayed`, `Full`, `TooLong` and
 /// the directory's `Memory`.
 #[derive(Clone, Copy, Debug, PartialEq, Eq, Error)]
 pub enum GrowFault {
@@ -21,8 +21,7 @@ pub enum GrowFault {
     /// The vector would have more than 2^32 records.
     #[error("too long")]
     TooLong,
-    /// The growth of this number doesn't follow those before it, or was found under the lock in the place of the next
-    /// one: the seat then knows the growths before it, and there is room for it. Or the seat knows the growth of this
+    /// The growth of this number doesn't follow those before it: the seat then knows these, and there is room for it. Or the seat knows the growth of this
     /// number, which bears the seat's id and is none of its growths.
     #[error("strayed at growth {0}")]
     Strayed(u64),

@@ -1,4 +1,4 @@
-//! Growing: by one seat at a time, under the book's lock.
+//! Growing: each seat behind its own door, by turns that the directory's set-once cells decide.
 
 ghost use Rattle.std.specs.Prelude.{◌≡◌, ◌+◌, ◌<◌, ◌≤◌, [], ◌∷◌, ◌++◌, length, replicate, IfOk, IfErr, IfSome, MatchOption, MatchResult};
 ghost use Rattle.directory_core.specs.Limits.{record_limit};
@@ -8,14 +8,24 @@ ghost use Rattle.book_core.specs.Growing.{SeatLearns, Grown, GrowsBy, FillsOrRea
 
 use crate::fault::GrowFault;
 use crate::live::Live;
+use crate::patience::Patience;
 use crate::seat::{Receipt, Seat};
 use block_core::{Fresh, Label};
 use directory_core::{DirFault, RECORD_LIMIT};
 use record_core::Record;
-use std::sync::Wait;
+use std::sync::{MutexGuard, Wait};
 
 impl<R: Record> Live<R> {
-    /// Publishes the block behind all that the seat knows. For a grower that has the lock and has just caught up.
+    /// The seat's door, taken. `None` once the book is closed.
+    fn enter<E: Wait>(&self, rt: &E, id: u16) -> Option<MutexGuard<'_, ()>> {
+        let door = self.doors.get(id as usize)?.lock(rt);
+        if self.waking.closes() {
+            return None;
+        }
+        Some(door)
+    }
+
+    /// Publishes the block behind all that the seat knows. For a grower that has just caught up.
     fn put(&self, seat: &mut Seat<R>, fresh: Fresh<R>) -> Result<Receipt, (Fresh<R>, GrowFault)>
         requires of { IsSeatOf self.now seat.old }
         requires own { HasJustItsOwn seat.old }
@@ -83,18 +93,42 @@ impl<R: Record> Live<R> {
             (λ refused. (refused.0 ≡ fresh) × SeatLearns seat.old seat.new) }
         ensures fault { IfErr result (λ refused. IsBookRefusal self.now seat.new (length fresh) refused.1) }
     {
-        let _ = self.catch_up(seat);
-        let mut book = self.lock.lock(rt);
-        if book.closed {
+        let Some(door) = self.enter(rt, seat.id) else {
             return Err((fresh, GrowFault::Closed));
-        }
-        if let Err(fault) = self.catch_up(seat) {
-            return Err((fresh, fault));
-        }
-        let put = self.put(seat, fresh);
-        book.published = book.published.max(seat.known());
-        self.unlock(book);
+        };
+        let put = self.put_in_turn(rt, seat, fresh);
+        drop(door);
+        self.waking.wake_flusher();
         put
+    }
+
+    /// Publishes the block behind all that the seat finds, as often as another growth comes first.
+    fn put_in_turn<E: Wait>(
+        &self,
+        rt: &E,
+        seat: &mut Seat<R>,
+        fresh: Fresh<R>,
+    ) -> Result<Receipt, (Fresh<R>, GrowFault)>
+        requires of { IsSeatOf self.now seat.old }
+        ensures of { IsSeatOf self.now seat.new }
+        ensures list { MatchResult result
+            (λ receipt. Grown self.now seat.old seat.new fresh receipt)
+            (λ refused. (refused.0 ≡ fresh) × SeatLearns seat.old seat.new) }
+        ensures fault { IfErr result (λ refused. IsBookRefusal self.now seat.new (length fresh) refused.1) }
+    {
+        let mut block = fresh;
+        let mut patience = Patience::new();
+        for _ in rt.forever() {
+            if let Err(fault) = self.catch_up(seat) {
+                return Err((block, fault));
+            }
+            match self.put(seat, block) {
+                Err((back, GrowFault::Strayed(_))) => block = back,
+                put => return put,
+            }
+            patience.give_way(rt);
+        }
+        unreachable!()
     }
 
     /// Grows by `n` copies of the value.
@@ -141,7 +175,7 @@ impl<R: Record> Live<R> {
     }
 
     /// Grows by as many copies of the value as bring the size to `n`. `None` where it is already there. The block is
-    /// made under the lock: it is refused by the first that holds of `Closed`, `Strayed`, `Full`, `TooLarge`,
+    /// made behind the seat's door, again where another growth came first: it is refused by the first that holds of `Closed`, `Strayed`, `Full`, `TooLarge`,
     /// `TooLong` and `Memory`, of which all but the first two come only where the size falls short of `n`.
     pub fn grow_to_at_least<E: Wait>(
         &self,
@@ -155,19 +189,42 @@ impl<R: Record> Live<R> {
         ensures list { FillsOrReaches self.now seat.old seat.new n v result }
         ensures fault { IfErr result (IsFillRefusal R.form.width self.now seat.new n) }
     {
-        let _ = self.catch_up(seat);
-        let mut book = self.lock.lock(rt);
-        if book.closed {
+        let Some(door) = self.enter(rt, seat.id) else {
             return Err(GrowFault::Closed);
-        }
-        self.catch_up(seat)?;
-        let filled = self.fill_up(seat, n, v);
-        book.published = book.published.max(seat.known());
-        self.unlock(book);
+        };
+        let filled = self.fill_in_turn(rt, seat, n, v);
+        drop(door);
+        self.waking.wake_flusher();
         filled
     }
 
-    /// As `grow_to_at_least`, for a grower that has the lock and has just caught up.
+    /// As `grow_to_at_least`, as often as another growth comes first.
+    fn fill_in_turn<E: Wait>(
+        &self,
+        rt: &E,
+        seat: &mut Seat<R>,
+        n: u64,
+        v: R,
+    ) -> Result<Option<Receipt>, GrowFault>
+        requires of { IsSeatOf self.now seat.old }
+        ensures of { IsSeatOf self.now seat.new }
+        ensures list { FillsOrReaches self.now seat.old seat.new n v result }
+        ensures fault { IfErr result (IsFillRefusal R.form.width self.now seat.new n) }
+    {
+        let mut patience = Patience::new();
+        for _ in rt.forever() {
+            self.catch_up(seat)?;
+            let filled = self.fill_up(seat, n, v);
+            match filled {
+                Err(GrowFault::Strayed(_)) => {}
+                _ => return filled,
+            }
+            patience.give_way(rt);
+        }
+        unreachable!()
+    }
+
+    /// As `grow_to_at_least`, for a grower that has just caught up.
     fn fill_up(&self, seat: &mut Seat<R>, n: u64, v: R) -> Result<Option<Receipt>, GrowFault>
         requires of { IsSeatOf self.now seat.old }
         requires own { HasJustItsOwn seat.old }

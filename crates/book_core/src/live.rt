@@ -14,30 +14,15 @@ use std::alloc::Global;
 use std::marker::Model;
 use std::sync::{Mutex, Wait};
 
-/// What the book's lock keeps: how many growths were published under it, whether it is closed, and whether the
-/// flusher sleeps. No claim rests on these.
-#[derive(Drop)]
-pub(crate) struct Book {
-    pub(crate) published: u64,
-    pub(crate) closed: bool,
-    pub(crate) flusher_sleeps: bool,
-}
+/// A seat's way into the book. Its grower holds it while it publishes, and a close takes each once: nobody else does.
+pub(crate) type Door = CachePadded<Mutex<()>>;
 
-impl Book {
-    pub(crate) fn new() -> Book {
-        Book {
-            published: 0,
-            closed: false,
-            flusher_sleeps: false,
-        }
-    }
-}
-
-/// What all threads of a growth phase share: the blocks from before it, the directory of its growths, the lock that
-/// growers take, and the mark. Contracts see which directory and which mark it has, and the records from before.
+/// What all threads of a growth phase share: the blocks from before it, the directory of its growths, a door for each
+/// seat, and the mark. Contracts see which directory and which mark it has, and the records from before.
 #[derive(Drop)]
 pub struct Live<R: Record> {
-    pub(crate) lock: CachePadded<Mutex<Book>>,
+    /// That of a seat has its id as number.
+    pub(crate) doors: Vec<Door>,
     pub(crate) waking: Waking,
     pub(crate) directory: Directory<R>,
     pub(crate) mark: Mark,
@@ -97,11 +82,14 @@ impl<R: Record> Live<R> {
         self.opening.blocks[number as usize].as_slice()
     }
 
-    /// From now on each growth is refused `Closed`. It wakes the flusher.
+    /// From now on each growth is refused `Closed`. It waits for the growths that are under way, at most one of each
+    /// seat, and then wakes the flusher.
     pub fn close<E: Wait>(&self, rt: &E) {
-        let mut book = self.lock.lock(rt);
-        book.closed = true;
-        self.unlock(book);
+        self.waking.begin_to_close();
+        for door in &self.doors {
+            drop(door.lock(rt));
+        }
+        self.waking.end_to_close();
     }
 
     /// Ends the phase, and gives the blocks from before it.

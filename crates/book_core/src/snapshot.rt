@@ -5,7 +5,7 @@ ghost use Rattle.directory_core.specs.Limits.{record_limit};
 ghost use Rattle.directory_core.specs.Chain.{Agree, total};
 ghost use Rattle.directory_core.specs.Finding.{IsPieceAt};
 ghost use Rattle.book_core.specs.Lists.{IsSeatOf, IsRestOfPiece, opening_of, joined_pieces};
-ghost use Rattle.book_core.specs.Snapshots.{Shows, AreFull, HasRoomFor, pieces_in, list_in, growths_of};
+ghost use Rattle.book_core.specs.Snapshots.{Shows, AreFull, AreFoundAt, HasRoomFor, pieces_in, list_in, growths_of};
 
 use crate::fault::GrowFault;
 use crate::live::Live;
@@ -14,6 +14,7 @@ use directory_core::Pass;
 use record_core::Record;
 use std::marker::Model;
 
+mod hints;
 mod records;
 mod slices;
 
@@ -21,7 +22,8 @@ pub use records::Records;
 use slices::Slices;
 
 /// The records that a seat knew, from before the phase and of the phase's growths, in slices with a row of their
-/// starts: a read at random takes a search in that row and nothing else. Many threads may read one snapshot, and what
+/// starts: a read at random takes a division, where all slices but the last have one length, and else a short search in
+/// that row from a hint on, and nothing else. Many threads may read one snapshot, and what
 /// it lends lives as long as the phase, whatever becomes of the snapshot. Contracts see it as the phase that it is of
 /// and the records of each growth that it has; its list is `list_in`.
 #[derive(Drop)]
@@ -77,7 +79,7 @@ fn add_growths<'a, R: Record>(
 
 impl<R: Record> Live<R> {
     /// Lays out what the seat knows, for reads at random. It takes 20 bytes for each block from before the phase and
-    /// each growth; `Memory` where they weren't there.
+    /// each growth, and at most 8 more where they have many lengths; `Memory` where the 20 weren't there.
     pub fn snapshot<'a>(&'a self, seat: &mut Seat<R>) -> Result<Snapshot<'a, R>, GrowFault>
         requires of { IsSeatOf self.now seat.old }
         ensures same { seat.new ≡ seat.old }
@@ -96,7 +98,7 @@ impl<R: Record> Live<R> {
 }
 
 impl<'a, R: Record> Snapshot<'a, R> {
-    /// Adds the growths that the seat knows and the snapshot doesn't have, 20 bytes of memory each. The two must agree
+    /// Adds the growths that the seat knows and the snapshot doesn't have, of memory as much as `Live::snapshot` takes. The two must agree
     /// on the growths that both have, as they do where the seat is the one that it was made from, or has met that.
     /// Where the seat knows no more, and on `Memory`, it stays as it is.
     pub fn update(&mut self, seat: &mut Seat<R>) -> Result<(), GrowFault>
@@ -118,6 +120,7 @@ impl<'a, R: Record> Snapshot<'a, R> {
         }
         self.slices.reserve(knows - has)?;
         add_growths(&mut self.slices, self.live, &mut seat.pass, has);
+        self.slices.lay_hints();
         Ok(())
     }
 
@@ -143,6 +146,18 @@ impl<'a, R: Record> Snapshot<'a, R> {
             (λ found. slice_get (list_in self.now) i ≡ Some found.now) }
     {
         self.slices.get(i)
+    }
+
+    /// The record at each of the positions, over what stands in `out`. None of the records is read, so who then reads them
+    /// one after another has many under way at once: a few dozen positions in a call do.
+    pub fn get_many(&self, positions: &[u64], out: &mut [Option<&'a R>])
+        requires { length positions.now ≡ length out.old }
+        ensures as_many { length out.new ≡ length out.old }
+        ensures each { AreFoundAt (list_in self.now) positions.now out.new }
+    {
+        for (at, i) in positions.iter().enumerate() {
+            out[at] = self.get(*i);
+        }
     }
 
     /// The records from position `i` to the end of its slice. `None` past the end.

@@ -10,6 +10,8 @@ use std::alloc::Global;
 use std::sync::Wait;
 use std::test::Fail;
 
+mod appending;
+mod crowd;
 mod growing;
 mod reading;
 mod settling;

@@ -59,6 +59,8 @@ impl Source<u64> for Copies {
 struct AlwaysOpen;
 
 impl Gate for AlwaysOpen {
+    ghost may_stop = { λ _ _ _. ⊥ };
+
     fn before(&self, _grower: u16, _k: u32) -> bool {
         true
     }

@@ -152,7 +152,7 @@ fn watch_over<E: Wait + Clock + Eprint>(
         "cvec_speed: {threads} threads stand still in phase {phase} behind {rounds} rounds"
     )?;
     live.close(rt);
-    live.wake_settled(rt);
+    live.wake_settled();
     Err(SpeedFault::Still(phase))
 }
 

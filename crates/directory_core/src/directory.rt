@@ -1,6 +1,6 @@
 //! The growths that all threads share.
 
-ghost use Rattle.std.specs.Prelude.{◌≡◌, ◌+◌, ◌<◌, ◌≤◌, ◌∷◌, [], ◌++◌, if◌then◌else◌, length, slice_get, Some, MatchOption, MatchResult, IfOk, IfErr, IfSome};
+ghost use Rattle.std.specs.Prelude.{◌≡◌, ◌+◌, ◌<◌, ◌≤◌, ◌∷◌, [], ◌++◌, if◌then◌else◌, length, slice_get, Some, MatchOption, MatchResult, IfOk, IfErr, IfSome, IsTrue};
 ghost use Rattle.directory_core.specs.Limits.{growth_limit, record_limit};
 ghost use Rattle.directory_core.specs.Spot.{span};
 ghost use Rattle.directory_core.specs.Chain.{total, joined, IsNext, IsPrefix};
@@ -207,6 +207,21 @@ impl<R: Record> Directory<R> {
             }
         }
         Ok(pass.known())
+    }
+
+    /// Whether a growth of that number was published, for who would wait for one. It takes no pass, so no clause says
+    /// more than that there is room for that number.
+    pub fn has(&self, number: u64) -> bool
+        ensures { IsTrue result → number < self.now.room }
+    {
+        if number >= self.room {
+            return false;
+        }
+        let (at, place) = spot(number);
+        match self.buckets[at].get().and_then(|bucket| bucket.cell(place)) {
+            Some(cell) => cell.get().is_some(),
+            None => false,
+        }
     }
 
     /// The growth of that number, lent for the life of the directory. `None` where the pass doesn't know it.

@@ -1,6 +1,6 @@
 //! A row of starts is searched for the last one at or before a position.
 
-ghost use Rattle.std.specs.Prelude.{◌≡◌, ◌+◌, ◌<◌, ◌≤◌, length, slice_index};
+ghost use Rattle.std.specs.Prelude.{◌≡◌, ◌+◌, ◌<◌, ◌≤◌, IsTrue, length, slice_index};
 ghost use Rattle.directory_core.specs.Limits.{record_limit};
 ghost use Rattle.directory_core.specs.Finding.{IsBetween};
 
@@ -64,4 +64,28 @@ pub fn last_start(starts: &[u32], size: u64, i: u64) -> usize
     let guess = guess_of(i, size, starts.len());
     let (low, high) = narrow(starts, i, guess);
     search(starts, i, low, high)
+}
+
+/// Whether the last start at or before `i` stands at `low` or behind it, and before `high`.
+fn is_between(starts: &[u32], i: u64, low: usize, high: usize) -> bool
+    ensures { IsTrue result → IsBetween starts.now i low high }
+{
+    low < high
+        && high <= starts.len()
+        && starts[low] as u64 <= i
+        && (high == starts.len() || i < starts[high] as u64)
+}
+
+/// As `last_start`, for who was told that it stands from `low` on and before `high`. That may be wrong: then it is looked
+/// for everywhere.
+pub fn last_start_near(starts: &[u32], size: u64, i: u64, low: usize, high: usize) -> usize
+    requires inside { (i < size) × (size ≤ record_limit) }
+    requires some { (0 < length starts.now) × (length starts.now ≤ record_limit) }
+    requires first { slice_index starts.now 0 ≤ i }
+    ensures { IsBetween starts.now i result (result + 1) }
+{
+    if is_between(starts, i, low, high) {
+        return search(starts, i, low, high);
+    }
+    last_start(starts, size, i)
 }

@@ -19,5 +19,5 @@ mod pass;
 pub use address::{GROWTH_LIMIT, spot};
 pub use directory::{Directory, RECORD_LIMIT};
 pub use fault::DirFault;
-pub use finding::last_start;
+pub use finding::{last_start, last_start_near};
 pub use pass::Pass;

@@ -3,6 +3,7 @@ use Rattle.std.proofs.Common.{◌≡◌, ◌⊎◌, inl, inr, ℕ, ◌≤◌, Bo
 use Rattle.record_core.specs.Bytes.{Encoding}
 use Rattle.segment_core.specs.Command.{Command}
 use Rattle.segment_core.specs.Command as commands
+use Rattle.disk_core.specs.declared.fault.DiskFault.{DiskFault}
 use Rattle.pen_core.specs.PenOf.{JobOf, FoldOf}
 use Rattle.pen_core.specs.Step.{step_after}
 use Rattle.pen_core.specs.InHand.{has_call}
@@ -17,7 +18,7 @@ use Rattle.drive_core.specs.World.{World, Growth, Phase, Shut, Exclusive, Growin
 use Rattle.drive_core.specs.Outcome.{RefusedAt, elsewhere}
 use Rattle.drive_core.specs.GrowthRows.{with_group}
 use Rattle.drive_core.specs.ExclusiveRows.{IsCommand, TornAt}
-use Rattle.drive_core.specs.LaneRows.{IsLog, IsHome, IsFold, IsJobLogged, IsLogged, IsFoldHomed, IsHomed, IsFiled, HasBegun, broken_by}
+use Rattle.drive_core.specs.LaneRows.{IsLog, IsHome, log_due, home_due, IsFold, IsJobLogged, IsLogged, IsFoldHomed, IsHomed, IsFiled, HasBegun, broken_by}
 use Rattle.drive_core.specs.Rows.{IsStep, PhaseRow, StrayRow, ExclusiveRow, GrowthRow, OfSeat, has_seat}
 use Rattle.drive_core.specs.Run.{HasCalls, LaneCalls, CommandCalls}
 use Rattle.drive_core.specs.Headline.{HasFile}
@@ -57,11 +58,11 @@ module _ {R : Type 0} (w w' : World R) (n : ℕ) (there : HasFile w.phase) where
   by_outcome : {Fits Accepted : Type 0} {May By : Fault → Type 0} {answer : Answer R} → (Fits × Accepted) ⊎ ((fault : Fault) × May fault × (answer ≡ step.Refused fault) × By fault) → (Accepted → Goes w w' n) → ((fault : Fault) → By fault → Goes w w' n) → Goes w w' n
   by_outcome outcome ok not_ok = elim outcome [ inl accepted ↦ ok accepted.1 | inr refused ↦ not_ok refused.0 refused.3 ]
 
-  refused_at : (failed : World R) (fault : Fault) → (w' ≡ elsewhere failed w' → Goes w w' n) → RefusedAt w failed w' fault → Goes w w' n
-  refused_at failed (Vault (vault.Pen (pen_fault.Disk fault))) goes by = goes by.1
-  refused_at failed (Vault other) goes by = stays by
-  refused_at failed (Grow fault) goes by = stays by
-  refused_at failed (Scan fault) goes by = stays by
+  refused_at : (due : Option DiskFault) (failed : World R) (fault : Fault) → (w' ≡ elsewhere failed w' → Goes w w' n) → RefusedAt w due failed w' fault → Goes w w' n
+  refused_at due failed (Vault (vault.Pen (pen_fault.Disk fault))) goes by = goes by.2
+  refused_at due failed (Vault other) goes by = stays by
+  refused_at due failed (Grow fault) goes by = stays by
+  refused_at due failed (Scan fault) goes by = stays by
 
   module _ (form : Encoding R) where
     group_goes : (phase : Growth) (growths : List (List R)) → w' ≡ with_group form w phase growths → Goes w w' n
@@ -95,11 +96,11 @@ module _ {R : Type 0} (w w' : World R) (n : ℕ) (there : HasFile w.phase) where
     job_goes None answer calls row = stays row.1
     job_goes (Some job) answer calls row = logged_goes job (step_after job.step) answer calls row
 
-    lane_refused : (fault : Fault) → RefusedAt w (broken_by w) w' fault → Goes w w' n
-    lane_refused fault by = refused_at (broken_by w) fault (λ is. to is refl refl refl there) by
+    lane_refused : (due : Option DiskFault) (fault : Fault) → RefusedAt w due (broken_by w) w' fault → Goes w w' n
+    lane_refused due fault by = refused_at due (broken_by w) fault (λ is. to is refl refl refl there) by
 
     log_goes : (answer : Answer R) → LaneCalls answer n → IsLog w answer w' → Goes w w' n
-    log_goes answer calls row = by_outcome row (job_goes w.hand.job answer calls) lane_refused
+    log_goes answer calls row = by_outcome row (job_goes w.hand.job answer calls) (lane_refused (log_due w.hand))
 
     filed_goes : (fold : FoldOf) (job : Option JobOf) (answer : Answer R) → IsFiled w fold job answer w' → Goes w w' n
     filed_goes fold None answer row = to row.1 refl refl refl there
@@ -114,7 +115,7 @@ module _ {R : Type 0} (w w' : World R) (n : ℕ) (there : HasFile w.phase) where
     fold_home_goes (Some fold) answer row = homed_goes fold (has_call fold.stage) answer row
 
     home_goes : (answer : Answer R) → IsHome w answer w' → Goes w w' n
-    home_goes answer row = by_outcome row (fold_home_goes w.hand.fold answer) lane_refused
+    home_goes answer row = by_outcome row (fold_home_goes w.hand.fold answer) (lane_refused (home_due w.hand))
 
     seat_goes : {Row : Type 0} (answer : Answer R) (known : Bool) → OfSeat w answer w' known Row → (Row → Goes w w' n) → Goes w w' n
     seat_goes answer true row goes = goes row

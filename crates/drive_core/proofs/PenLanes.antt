@@ -1,6 +1,7 @@
 -- The two lanes of device calls, from what a pen's ticks promise.
 use Rattle.std.proofs.Common.{if◌then◌else◌, ◌≡◌, ◌⊎◌, inl, inr, ℕ, ◌+◌, ◌≤◌, ◌<◌, Bool, true, false, List, [], ◌∷◌, Option, Some, None, refl, sym, ap, subst, ◌∙◌, arith, is_some}
 use Rattle.disk_core.specs.State.{State}
+use Rattle.std.specs.Option.{option_map}
 use Rattle.disk_core.specs.declared.fault.DiskFault.{DiskFault}
 use Rattle.segment_core.specs.Frame.{Frame, Group, Change, Shrink, Fold}
 use Rattle.segment_core.specs.declared.tally.Tally.{Tally}
@@ -26,7 +27,7 @@ use Rattle.drive_core.specs.Step.{Step, Answer}
 use Rattle.drive_core.specs.Step as step
 use Rattle.drive_core.specs.World.{World, Hand, DiskOf, hand_of, file_with, growths_in}
 use Rattle.drive_core.specs.Outcome.{RefusedAt, elsewhere}
-use Rattle.drive_core.specs.LaneRows.{IsLog, IsHome, device_lines, home_calls, done, broken_by, IsJobLogged, IsLogged, IsFoldHomed, IsFiled, IsHomed}
+use Rattle.drive_core.specs.LaneRows.{IsLog, IsHome, log_due, home_due, device_lines, home_calls, done, broken_by, IsJobLogged, IsLogged, IsFoldHomed, IsFiled, IsHomed}
 use Rattle.drive_core.specs.Run.{LaneCalls, RefusedCalls}
 use Rattle.drive_core.specs.Ties.{growths_in_hand, disk_of}
 use Rattle.drive_core.proofs.Tables.{passes, stops}
@@ -210,15 +211,15 @@ module _ {R D : Type 0} (states : D → List State) (faults : D → ℕ) (w : Wo
       (inl (device_passes w.hand (is_some w.hand.job) (ap (λ (h : Hand). h.broken) hand_is ∙ whole), log_row tick ticked whole whole' more), called.0, called.1)
 
   log_failed : (fault : PenFault) → IsTickFault old new fault → settled ≡ w.settled → faults new.disk ≡ faults old.disk + pens.failed_calls fault
-      → RefusedAt w (broken_by w) behind_pen (Vault (vault.Pen fault)) × Allows (device_lines w.hand (is_some w.hand.job)) (Some (Vault (vault.Pen fault)))
+      → RefusedAt w (log_due w.hand) (broken_by w) behind_pen (Vault (vault.Pen fault)) × Allows (device_lines w.hand (is_some w.hand.job)) (Some (Vault (vault.Pen fault)))
   log_failed fault why same counted = elim why [
-    | inl was ↦ subst (λ f. RefusedAt w (broken_by w) behind_pen (Vault (vault.Pen f)) × Allows (device_lines w.hand (is_some w.hand.job)) (Some (Vault (vault.Pen f)))) (sym was.0)
+    | inl was ↦ subst (λ f. RefusedAt w (log_due w.hand) (broken_by w) behind_pen (Vault (vault.Pen f)) × Allows (device_lines w.hand (is_some w.hand.job)) (Some (Vault (vault.Pen f)))) (sym was.0)
         (same_world was.2 same, device_broken w.hand (is_some w.hand.job) (ap (λ (h : Hand). h.broken) hand_is ∙ was.1))
     | inr by ↦
         let failed : DiskFault = fault_of by.0.step in
         let one : faults new.disk ≡ faults old.disk + 1 = counted ∙ ap (λ f. faults old.disk + pens.failed_calls f) by.3 in
-        subst (λ f. RefusedAt w (broken_by w) behind_pen (Vault (vault.Pen f)) × Allows (device_lines w.hand (is_some w.hand.job)) (Some (Vault (vault.Pen f)))) (sym by.3)
-        (broken_world by.4 same one, device_fails w.hand (is_some w.hand.job) failed (ap (λ (h : Hand). h.broken) hand_is ∙ by.1) (ap is_some (ap (λ (h : Hand). h.job) hand_is ∙ by.2)))
+        subst (λ f. RefusedAt w (log_due w.hand) (broken_by w) behind_pen (Vault (vault.Pen f)) × Allows (device_lines w.hand (is_some w.hand.job)) (Some (Vault (vault.Pen f)))) (sym by.3)
+        ((ap log_due hand_is ∙ ap (option_map (λ (job : JobOf). fault_of job.step)) by.2, (broken_world by.4 same one).0, (broken_world by.4 same one).1), device_fails w.hand (is_some w.hand.job) failed (ap (λ (h : Hand). h.broken) hand_is ∙ by.1) (ap is_some (ap (λ (h : Hand). h.job) hand_is ∙ by.2)))
   ]
 
   pub log_refused : (fault : PenFault) → IsTickFault old new fault → settled ≡ w.settled → faults new.disk ≡ faults old.disk + pens.failed_calls fault → (n : ℕ) → n ≡ calls_due old.broken old.job
@@ -295,7 +296,7 @@ module _ {R D : Type 0} (states : D → List State) (faults : D → ℕ) (w : Wo
             Vault (vault.Pen fault),
             subst (λ f. Allows (device_lines w.hand (home_calls w.hand.fold)) (Some (Vault (vault.Pen f)))) (sym was.0) (device_broken w.hand (home_calls w.hand.fold) (ap (λ (h : Hand). h.broken) hand_is ∙ was.1)),
             refl,
-            subst (λ f. RefusedAt w (broken_by w) behind_pen (Vault (vault.Pen f))) (sym was.0) (same_world was.2 same),
+            subst (λ f. RefusedAt w (home_due w.hand) (broken_by w) behind_pen (Vault (vault.Pen f))) (sym was.0) (same_world was.2 same),
           ),
           refused_calls n fault (inl (was.0, none)),
           λ none. ap (λ (p : PenOf D). disk_of states faults p.disk) was.2 ∙ sym disk_is,
@@ -309,7 +310,7 @@ module _ {R D : Type 0} (states : D → List State) (faults : D → ℕ) (w : Wo
             Vault (vault.Pen fault),
             subst (λ f. Allows (device_lines w.hand (home_calls w.hand.fold)) (Some (Vault (vault.Pen f)))) (sym by.4) (device_fails w.hand (home_calls w.hand.fold) cause (ap (λ (h : Hand). h.broken) hand_is ∙ by.1) has),
             refl,
-            subst (λ f. RefusedAt w (broken_by w) behind_pen (Vault (vault.Pen f))) (sym by.4) (broken_world by.5 same counts),
+            subst (λ f. RefusedAt w (home_due w.hand) (broken_by w) behind_pen (Vault (vault.Pen f))) (sym by.4) (ap home_due hand_is ∙ ap (option_map (λ (fold : FoldOf). home_fault fold.stage)) by.2, (broken_world by.5 same counts).0, (broken_world by.5 same counts).1),
           ),
           refused_calls n fault (inr (cause, by.4, one)),
           λ none. absurd (omega (arith, one, none)),

@@ -1,10 +1,12 @@
 -- The rows of both phases: a fold is begun, and the two lanes of device calls.
 use Rattle.std.specs.Prelude.{◌≡◌, ℕ, ◌+◌, ◌<◌, ◌^◌, Bool, true, false, nat_le, is_some, List, [], ◌∷◌, length, Option, Some, None}
+use Rattle.std.specs.Option.{option_map}
 use Rattle.disk_core.specs.State.{IsImage, now}
+use Rattle.disk_core.specs.declared.fault.DiskFault.{DiskFault}
 use Rattle.segment_core.specs.Frame.{Frame, Fold}
 use Rattle.pen_core.specs.PenOf.{JobOf, FoldOf, HomeWrite}
-use Rattle.pen_core.specs.Step.{step_after}
-use Rattle.pen_core.specs.InHand.{has_call, called}
+use Rattle.pen_core.specs.Step.{step_after, fault_of}
+use Rattle.pen_core.specs.InHand.{has_call, called, home_fault}
 use Rattle.pen_core.specs.Pen.{OpensWith, fold_behind, gate_behind_fold}
 use Rattle.pen_core.specs.Folds.{IsWholeFold}
 use Rattle.pen_core.specs.declared.step.Step as pen_step
@@ -31,6 +33,13 @@ device_lines hand false = When hand.broken (Vault (vault.Pen pen_fault.Broken)) 
 abbrev pub home_calls : Option FoldOf → Bool
 home_calls None = false
 home_calls (Some fold) = has_call fold.stage
+
+-- how the device call that is due fails, if it does
+abbrev pub log_due : Hand → Option DiskFault
+log_due hand = option_map (λ job. fault_of job.step) hand.job
+
+abbrev pub home_due : Hand → Option DiskFault
+home_due hand = option_map (λ fold. home_fault fold.stage) hand.fold
 
 module _ {R : Type 0} where
   -- the fold in hand is this one
@@ -76,7 +85,7 @@ module _ {R : Type 0} where
   IsJobLogged w (Some job) answer w' = IsLogged w job (step_after job.step) answer w'
 
   abbrev pub IsLog : World R → Answer R → World R → Type 0
-  IsLog w answer w' = Outcome (device_lines w.hand (is_some w.hand.job)) answer (IsJobLogged w w.hand.job answer w') (RefusedAt w (broken_by w) w')
+  IsLog w answer w' = Outcome (device_lines w.hand (is_some w.hand.job)) answer (IsJobLogged w w.hand.job answer w') (RefusedAt w (log_due w.hand) (broken_by w) w')
 
   abbrev pub IsFiled : World R → FoldOf → Option JobOf → Answer R → World R → Type 0
   IsFiled w fold None answer w' =
@@ -93,4 +102,4 @@ module _ {R : Type 0} where
   IsFoldHomed w (Some fold) answer w' = IsHomed w fold (has_call fold.stage) answer w'
 
   abbrev pub IsHome : World R → Answer R → World R → Type 0
-  IsHome w answer w' = Outcome (device_lines w.hand (home_calls w.hand.fold)) answer (IsFoldHomed w w.hand.fold answer w') (RefusedAt w (broken_by w) w')
+  IsHome w answer w' = Outcome (device_lines w.hand (home_calls w.hand.fold)) answer (IsFoldHomed w w.hand.fold answer w') (RefusedAt w (home_due w.hand) (broken_by w) w')

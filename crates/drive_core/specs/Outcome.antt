@@ -1,5 +1,6 @@
 -- How a step ends: it is accepted, or refused as its table allows.
 use Rattle.std.specs.Prelude.{◌≡◌, ◌⊎◌, ℕ, ◌<◌, List, Option, Some, None}
+use Rattle.disk_core.specs.declared.fault.DiskFault.{DiskFault}
 use Rattle.pen_core.specs.declared.fault.PenFault.TheVariants as pen_fault
 use Rattle.drive_core.specs.declared.fault.Fault.{Fault}
 use Rattle.drive_core.specs.declared.fault.Fault.TheVariants.{Vault, Grow as InGrow, Scan}
@@ -31,9 +32,9 @@ module _ {R : Type 0} where
   abbrev pub elsewhere : World R → World R → World R
   elsewhere w w' = record w { disk = w'.disk }
 
-  -- what a device call's failure leaves, and any other refusal
-  abbrev pub RefusedAt : World R → World R → World R → Fault → Type 0
-  RefusedAt w failed w' (Vault (vault.Pen (pen_fault.Disk fault))) = HasFailed w w' × (w' ≡ elsewhere failed w')
-  RefusedAt w failed w' (Vault other) = w' ≡ w
-  RefusedAt w failed w' (InGrow fault) = w' ≡ w
-  RefusedAt w failed w' (Scan fault) = w' ≡ w
+  -- what the failure of the device call that is due leaves, by its kind, and any other refusal
+  abbrev pub RefusedAt : World R → Option DiskFault → World R → World R → Fault → Type 0
+  RefusedAt w due failed w' (Vault (vault.Pen (pen_fault.Disk fault))) = (due ≡ Some fault) × HasFailed w w' × (w' ≡ elsewhere failed w')
+  RefusedAt w due failed w' (Vault other) = w' ≡ w
+  RefusedAt w due failed w' (InGrow fault) = w' ≡ w
+  RefusedAt w due failed w' (Scan fault) = w' ≡ w

@@ -59,7 +59,8 @@ impl<R: Record, D: Disk> Flusher<R, D> {
         self.settle_job()?;
         for _ in rt.forever() {
             self.raise(live);
-            live.wake_settled(rt);
+            let woken = live.wake_settled();
+            live.gather(rt, woken);
             let closed = live.await_more(rt, self.settled);
             self.begin_next(live)?;
             self.settle_job()?;
@@ -71,8 +72,9 @@ impl<R: Record, D: Disk> Flusher<R, D> {
     }
 
     /// Commits what growers put, group by group, and tells by the mark what is settled and wakes those that wait for it,
-    /// until the book is closed and every growth that it knows is settled; then the mark says Ended. While there is nothing
-    /// to commit it sleeps. It makes no call of a fold: one that is in hand stays as it is, but where its own frame is the
+    /// until the book is closed and every growth that it knows is settled; then the mark says Ended. Behind a commit it waits
+    /// for those that it woke to wait again, for 100 microseconds at most: what they grow by in between is then in the next
+    /// group. While there is nothing to commit it sleeps. It makes no call of a fold: one that is in hand stays as it is, but where its own frame is the
     /// job in hand, which ends it.
     ///
     /// On a refusal the mark says Broken. Refused: `Strayed`; `Pen(Broken)`, where the pen was; `Pen(FileFull)`, where the file
@@ -97,7 +99,7 @@ impl<R: Record, D: Disk> Flusher<R, D> {
             Ok(()) => self.mark.set_ended(live.mark()),
             Err(_) => self.mark.set_broken(live.mark()),
         }
-        live.wake_settled(rt);
+        live.wake_settled();
         served
     }
 }

@@ -1,6 +1,6 @@
 -- The log, ticked to its end.
 use Rattle.std.proofs.Common.{◌≡◌, ◌⊎◌, ℕ, ◌+◌, ◌<◌, List, false, Option, Some, None, inl, inr, length, refl, sym, ap, subst, ◌∙◌, arith}
-use Rattle.std.specs.Prelude.{MatchOption}
+use Rattle.std.specs.Prelude.{MatchOption, IfSome}
 use Rattle.std.proofs.lemmas.Option.{same_Some}
 use Rattle.disk_core.specs.State.{State}
 use Rattle.disk_core.specs.Moments.{LeavesOnly, clock}
@@ -14,9 +14,9 @@ use Rattle.pen_core.specs.Step.{step_after, steps_left}
 use Rattle.pen_core.specs.PenOf.{PenOf, JobOf}
 use Rattle.segment_core.specs.Frame.{frame_text}
 use Rattle.segment_core.specs.Tally.{after}
-use Rattle.pen_core.specs.Pen.{OpensWith, MayOpen, CountsSame, CountsDone, FileSame, IsTicked, FileTicked, IsTickFault, calls_due, log_left, failed_calls, vector_after, vector_with, fold_behind}
+use Rattle.pen_core.specs.Pen.{OpensWith, MayOpen, CountsSame, CountsDone, FileSame, IsTicked, FileTicked, IsTickFault, calls_due, log_left, failed_calls, vector_after, vector_with, FileGains, fold_behind}
 use Rattle.pen_core.proofs.Typed.{vector_after-none, vector_after-done}
-use Rattle.pen_core.specs.Settled.{IsLogSettled, IsLogFault, LogGoes}
+use Rattle.pen_core.specs.Settled.{IsLogSettled, IsLogFault, LogGoes, frames_after, frames_and}
 
 -- ---- options
 
@@ -45,6 +45,14 @@ counts_join old mid new first then = record {
   room_same = then.room_same ∙ first.room_same;
   places_same = then.places_same ∙ first.places_same;
 }
+
+-- once the job is done the frames are the pen's
+frames_after-done : {D : Type 0} (old new : PenOf D) (job : JobOf) → old.job ≡ Some job → IfSome old.job (λ job. FileGains job.frame old new) → new.frames ≡ frames_after old
+frames_after-done old new job is file = at old.job is file
+  where
+    at : (o : Option JobOf) → o ≡ Some job → IfSome o (λ job. FileGains job.frame old new) → new.frames ≡ frames_and old.frames o
+    at None is file = absurd cc
+    at (Some done) is gains = gains.frames_more
 
 -- what one of two pens may open to that differ in the step of the job alone, the other may
 pub MayOpen-step : {D : Type 0} (old mid : PenOf D) (job : JobOf) (step : Step) → mid.shape ≡ old.shape → FileSame old mid → old.job ≡ Some job → mid.job ≡ Some (record { frame = job.frame; step = step }) → (image : List ℕ) → MayOpen mid image → MayOpen old image
@@ -177,6 +185,11 @@ module _ {D : Type 0} (keeps : D → Type 0) (states : D → List State) (faults
         let same = idle_same ticked.0 in
         ap (λ (p : PenOf D). p.vector) (ticked.1 ∙ same) ∙ sym (vector_after-none old (ap (λ (p : PenOf D). p.job) (sym same) ∙ ticked.0))
 
+    pub idle_frames : IsTicked mid new ticks.Idle → new.frames ≡ frames_after old
+    idle_frames ticked =
+        let same = idle_same ticked.0 in
+        ap (λ (p : PenOf D). p.frames) (ticked.1 ∙ same) ∙ sym (ap (frames_and old.frames) (ap (λ (p : PenOf D). p.job) (sym same) ∙ ticked.0))
+
     pub idle_time : IsTicked mid new ticks.Idle → clock (states new.disk) ≡ clock (states old.disk) + log_left old.job
     idle_time ticked =
         let before = so_far_time in
@@ -226,6 +239,14 @@ module _ {D : Type 0} (keeps : D → Type 0) (states : D → List State) (faults
           let same = first.file_same model in
           ap (vector_with mid.shape mid.vector) first.job_is ∙ ap (λ s. vector_with s mid.vector (Some first.job)) first.counts_same.shape_same
           ∙ ap (λ v. vector_with old.shape v (Some first.job)) same.vector_same ∙ ap (vector_with old.shape old.vector) (sym first.job_was))
+    ]
+
+    pub done_frames : keeps mid.disk → IsTicked mid new ticks.Done → FileTicked mid new ticks.Done → new.frames ≡ frames_after old
+    done_frames model ticked file = frames_after-done mid new ticked.0 ticked.1 file ∙ elim so_far [
+      | inl same ↦ ap frames_after same
+      | inr first ↦ (
+          ap (frames_and mid.frames) first.job_is
+          ∙ ap (λ fs. frames_and fs (Some first.job)) (first.file_same model).frames_same ∙ ap (frames_and old.frames) (sym first.job_was))
     ]
 
     pub done_time : IsTicked mid new ticks.Done → mid.broken ≡ false → clock (states new.disk) ≡ clock (states mid.disk) + calls_due mid.broken mid.job → clock (states new.disk) ≡ clock (states old.disk) + log_left old.job
@@ -290,6 +311,11 @@ module _ {D : Type 0} (keeps : D → Type 0) (states : D → List State) (faults
     ended_file ticks.Idle other model ticked file = idle_file ticked
     ended_file ticks.Step other model ticked file = absurd (other refl)
     ended_file ticks.Done other model ticked file = done_file model ticked file
+
+    pub ended_frames : (tick : Ticked) → (tick ≡ ticks.Step → ⊥) → keeps mid.disk → IsTicked mid new tick → FileTicked mid new tick → new.frames ≡ frames_after old
+    ended_frames ticks.Idle other model ticked file = idle_frames ticked
+    ended_frames ticks.Step other model ticked file = absurd (other refl)
+    ended_frames ticks.Done other model ticked file = done_frames model ticked file
 
     pub ended_time : (tick : Ticked) → (tick ≡ ticks.Step → ⊥) → IsTicked mid new tick → mid.broken ≡ false → clock (states new.disk) ≡ clock (states mid.disk) + calls_due mid.broken mid.job → clock (states new.disk) ≡ clock (states old.disk) + log_left old.job
     ended_time ticks.Idle other ticked whole time = idle_time ticked

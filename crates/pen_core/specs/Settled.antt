@@ -1,5 +1,5 @@
 -- The log, ticked to its end.
-use Rattle.std.specs.Prelude.{◌≡◌, ◌⊎◌, ℕ, ◌+◌, true, false, List, Some, MatchOption}
+use Rattle.std.specs.Prelude.{◌≡◌, ◌⊎◌, ℕ, ◌+◌, true, false, List, Option, Some, None, MatchOption}
 use Rattle.disk_core.specs.State.{State}
 use Rattle.disk_core.specs.Moments.{LeavesOnly, clock}
 use Rattle.segment_core.specs.Frame.{Frame}
@@ -8,11 +8,20 @@ use Rattle.pen_core.specs.Step.{fault_of}
 use Rattle.pen_core.specs.declared.fault.PenFault.{PenFault}
 use Rattle.pen_core.specs.declared.fault.PenFault.TheVariants as faults
 use Rattle.pen_core.specs.PenOf.{PenOf, JobOf}
+use Rattle.pen_core.specs.Vectors.{frames_with}
 use Rattle.pen_core.specs.Pen.{CountsSame, CountsDone, FileSame, MayOpen, log_left}
 
 -- the job of before has been settled
 abbrev pub IsLogSettled : {D : Type 0} → PenOf D → PenOf D → Type 0
 IsLogSettled old new = MatchOption old.job (new ≡ old) (λ job. CountsDone job.frame old new)
+
+-- the file's frames once the job is done, but for their home bytes
+abbrev pub frames_and : List Frame → Option JobOf → List Frame
+frames_and frames None = frames
+frames_and frames (Some job) = frames_with frames job.frame
+
+abbrev pub frames_after : {D : Type 0} → PenOf D → List Frame
+frames_after pen = frames_and pen.frames pen.job
 
 -- a device call of the job has failed: it stands where it stood
 pub record StopsAt {D : Type 0} (frame : Frame) (step : Step) (old new : PenOf D) : Type 0 where

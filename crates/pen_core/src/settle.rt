@@ -3,7 +3,7 @@
 ghost use Rattle.std.specs.Prelude.{◌≡◌, ◌+◌, false, OnOk, OnErr, IfErr, MatchResult};
 ghost use Rattle.disk_core.specs.Moments.{LeavesOnly, clock};
 ghost use Rattle.pen_core.specs.Pen.{MayOpen, FileSame, log_left, failed_calls, vector_after};
-ghost use Rattle.pen_core.specs.Settled.{IsLogSettled, IsLogFault};
+ghost use Rattle.pen_core.specs.Settled.{IsLogSettled, IsLogFault, frames_after};
 
 use crate::fault::PenFault;
 use crate::pen::Pen;
@@ -19,6 +19,7 @@ impl<D: Disk> Pen<D> {
         ensures images { D.keeps self.new.disk → LeavesOnly (D.states self.old.disk) (D.states self.new.disk) (MayOpen self.old) }
         ensures settled { OnOk result (IsLogSettled self.old self.new) }
         ensures file { D.keeps self.new.disk → OnOk result (self.new.vector ≡ vector_after self.old) }
+        ensures frames { D.keeps self.new.disk → OnOk result (self.new.frames ≡ frames_after self.old) }
         ensures whole { OnOk result ((self.old.broken ≡ false) × (self.new.broken ≡ false)) }
         ensures refused { IfErr result (λ fault. IsLogFault self.old self.new fault) }
         ensures file_stays { D.keeps self.new.disk → OnErr result (FileSame self.old self.new) }

@@ -25,7 +25,7 @@ pub use imaging::image;
 pub use input::{INPUT_LIMIT, read_input};
 pub use number::write_number;
 pub use output::{write_line, write_records, write_text};
-pub use refusal::{Refusal, refuse, write_numbered, write_scan_fault};
+pub use refusal::{Refusal, refuse, write_name, write_numbered, write_scan_fault};
 pub use showing::show;
 pub use status::Status;
 pub use text::TextRecord;

@@ -74,7 +74,8 @@ pub fn write_scan_fault<W: Write>(writer: &mut W, fault: ScanFault) -> io::Resul
     }
 }
 
-fn write_name<W: Write>(writer: &mut W, refusal: Refusal) -> io::Result<()>
+/// Writes the name of the refusal.
+pub fn write_name<W: Write>(writer: &mut W, refusal: Refusal) -> io::Result<()>
     ensures { OnOk result (Appends (W.contents writer.old) (W.contents writer.new) (name_of refusal)) }
 {
     match refusal {

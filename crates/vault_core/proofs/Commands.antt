@@ -9,7 +9,8 @@ use Rattle.disk_core.specs.State.{State}
 use Rattle.disk_core.specs.Moments.{LeavesOnly, clock}
 use Rattle.segment_core.specs.Frame.{Run, Frame}
 use Rattle.segment_core.specs.Tally.{after}
-use Rattle.segment_core.specs.Raw.{AreCellsOf}
+use Rattle.segment_core.specs.Raw.{AreCellsOf, after_frame}
+use Rattle.segment_core.specs.declared.format.Shape.{Shape}
 use Rattle.segment_core.specs.Written.{joined}
 use Rattle.pen_core.specs.declared.fault.PenFault.{PenFault}
 use Rattle.pen_core.specs.declared.fault.PenFault.TheVariants as faults
@@ -17,11 +18,12 @@ use Rattle.pen_core.specs.declared.step.Step.{Step}
 use Rattle.pen_core.specs.declared.step.Step.TheVariants.{Body, BodySync, Gate, GateSync}
 use Rattle.pen_core.specs.Step.{steps_left}
 use Rattle.pen_core.specs.PenOf.{PenOf}
-use Rattle.pen_core.specs.Pen.{MayOpen, FileSame, BeginsFrame, IsUnchanged, vector_after, log_left, failed_calls}
+use Rattle.pen_core.specs.Pen.{MayOpen, FileSame, FileGains, BeginsFrame, IsUnchanged, vector_after, vector_with, log_left, failed_calls}
 use Rattle.pen_core.specs.Refusals.{first_refusal, IsRefusal}
 use Rattle.vault_core.specs.declared.fault.VaultFault.TheVariants.{Pen}
 use Rattle.vault_core.specs.Vault.{VaultOf, IsVault, OpensToEither, list_of}
-use Rattle.pen_core.specs.Settled.{IsLogSettled, IsLogFault}
+use Rattle.pen_core.specs.Settled.{IsLogSettled, IsLogFault, frames_after, frames_and}
+use Rattle.pen_core.specs.Vectors.{frames_with}
 use Rattle.vault_core.specs.Commands.{IsCommand, IsCommandFault, Stands, StandsBehind, calls_made, calls_if}
 use Rattle.vault_core.proofs.Kept.{vault_of, done_kept, done_sure, done_pen, failed_kept, failed_sure, failed_pen, failed_stands, stopped, command_images, sure_same}
 
@@ -88,6 +90,7 @@ module _ {R D : Type 0} (form : Encoding R) (keeps : D → Type 0) (states : D �
       record {
         pen = inl (why, same);
         allowed = tt;
+        file = λ now. same.file_same;
         sure = λ now. sure_same form (keeps v.pen.disk) v is pen same (subst keeps disk now);
         images = λ now. stands_was _ (pen.disk ≡ v.pen.disk) fault none disk;
         time = let calls : calls_if (failed_calls fault) (5 - log_left pen.job) ≡ 0 = ap (λ n. calls_if n (5 - log_left pen.job)) none in omega (arith, calls, ap (λ d. clock (states d)) disk);
@@ -119,11 +122,18 @@ module _ {R D : Type 0} (form : Encoding R) (keeps : D → Type 0) (states : D �
       pub committed_kept : IsVault (keeps new.disk) form (vault_of form new blocks)
       committed_kept = done_kept form (keeps v.pen.disk) v is whole frame mid begun blocks size next new (keeps new.disk) settled still back file
 
-      pub committed_command : first_refusal lines ≡ None → clock (states new.disk) ≡ clock (states mid.disk) + log_left mid.job → faults_of new.disk ≡ faults_of mid.disk → (keeps mid.disk → keeps new.disk)
+      gained : keeps new.disk → new.frames ≡ frames_after mid → FileGains frame v.pen new
+      gained now frames = record {
+        frames_more = frames ∙ ap (frames_and mid.frames) begun.job_is ∙ ap (λ fs. frames_with fs frame) begun.file_same.frames_same;
+        vector_is = file now ∙ ap (vector_with mid.shape mid.vector) begun.job_is ∙ ap (λ (s : Shape). after_frame s.width mid.vector frame) begun.shape_same ∙ ap (λ cells. after_frame v.pen.shape.width cells frame) begun.file_same.vector_same;
+      }
+
+      pub committed_command : first_refusal lines ≡ None → clock (states new.disk) ≡ clock (states mid.disk) + log_left mid.job → faults_of new.disk ≡ faults_of mid.disk → (keeps mid.disk → keeps new.disk) → (keeps new.disk → new.frames ≡ frames_after mid)
           → IsCommand form keeps states faults_of frame lines v (vault_of form new blocks) (Ok tt)
-      committed_command allowed time calls goes_on = record {
+      committed_command allowed time calls goes_on frames = record {
         pen = done_pen form (keeps v.pen.disk) v is whole frame mid begun blocks size next new (keeps new.disk) settled still back file;
         allowed = allowed;
+        file = λ now. gained now (frames now);
         sure = done_sure form (keeps v.pen.disk) v is whole frame mid begun blocks size next new (keeps new.disk) settled still back file;
         images = leaves;
         time = time ∙ ap (λ n. clock (states mid.disk) + n) left ∙ ap (λ d. clock (states d) + 4) begun.disk_same;
@@ -149,6 +159,7 @@ module _ {R D : Type 0} (form : Encoding R) (keeps : D → Type 0) (states : D �
           record {
             pen = failed_pen form (keeps v.pen.disk) v is whole frame mid begun blocks size next new (keeps new.disk) fault why back file lines allowed;
             allowed = tt;
+            file = λ now. record { frames_same = (file now).frames_same ∙ begun.file_same.frames_same; vector_same = (file now).vector_same ∙ begun.file_same.vector_same };
             sure = failed_sure form (keeps v.pen.disk) v is whole frame mid begun blocks size next new (keeps new.disk) fault why back file;
             images = λ now. stopped_stands _ (new.disk ≡ v.pen.disk) (leaves now);
             time =

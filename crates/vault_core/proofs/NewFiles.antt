@@ -4,7 +4,7 @@ use Rattle.std.specs.Global.{Vec}
 use Rattle.std.proofs.lemmas.List.{take_all}
 use Rattle.std.proofs.lemmas.Grind.{div_ceil_times}
 use Rattle.record_core.specs.Bytes.{Encoding}
-use Rattle.disk_core.specs.State.{State}
+use Rattle.disk_core.specs.State.{State, now}
 use Rattle.disk_core.specs.Calls.{bytes_of}
 use Rattle.disk_core.specs.Moments.{LeavesOnly, clock}
 use Rattle.disk_core.proofs.JoinedMoments.{LeavesOnly-before, Follows-later}
@@ -87,8 +87,8 @@ steps_left-least Gate = omega arith
 steps_left-least GateSync = omega arith
 
 -- no more calls than all growths take
-stop_calls : {R : Type 0} (form : Encoding R) (piece : ℕ) (records : List R) (calls : ℕ) (fault : PenFault) → IsCopyStop form piece records calls fault → calls ≤ growth_count piece (length records) * 4
-stop_calls form piece records calls fault stop =
+stop_calls : {R : Type 0} (form : Encoding R) (keeps : Type 0) (left : State) (piece : ℕ) (records : List R) (calls : ℕ) (fault : PenFault) → IsCopyStop form keeps left piece records calls fault → calls ≤ growth_count piece (length records) * 4
+stop_calls form keeps left piece records calls fault stop =
     let before = stop.before in
     elim stop.why [
       | inl full ↦ (let is = full.2 in omega (arith, is, before))
@@ -99,8 +99,8 @@ stop_calls form piece records calls fault stop =
     ]
 
 -- a commit finds no file
-not_existing : {R : Type 0} (form : Encoding R) (piece : ℕ) (records : List R) (calls : ℕ) (fault : PenFault) → IsCopyStop form piece records calls fault → fault ≡ faults.Exists → ⊥
-not_existing form piece records calls fault stop exists = elim stop.why [
+not_existing : {R : Type 0} (form : Encoding R) (keeps : Type 0) (left : State) (piece : ℕ) (records : List R) (calls : ℕ) (fault : PenFault) → IsCopyStop form keeps left piece records calls fault → fault ≡ faults.Exists → ⊥
+not_existing form keeps left piece records calls fault stop exists = elim stop.why [
   | inl full ↦ (let is = full.0 in absurd cc)
   | inr free ↦ elim free.1 [
     | inl none ↦ (let is = none.0 in absurd cc)
@@ -114,7 +114,7 @@ module _ {R D : Type 0} (form : Encoding R) (keeps : D → Type 0) (states : D �
     (quiet : failures mid ≡ failures disk) (was : keeps mid → keeps disk)
     (leaves : keeps new → LeavesOnly (states mid) (states new) (OpensToCopied form piece records)) (model : keeps new → keeps mid) where
   -- a commit was refused
-  pub stopped_copied : (fault : PenFault) → IsCopyStop form piece records (clock (states new) - clock (states mid)) fault → failures new ≡ failures mid + failed_calls fault
+  pub stopped_copied : (fault : PenFault) → IsCopyStop form (keeps new) (now (states new)) piece records (clock (states new) - clock (states mid)) fault → failures new ≡ failures mid + failed_calls fault
       → IsCopied form keeps states failures piece records disk (Err (new, fault))
   stopped_copied fault stop failed = record {
     list = tt;
@@ -125,7 +125,7 @@ module _ {R D : Type 0} (form : Encoding R) (keeps : D → Type 0) (states : D �
     stays = λ kept. copied_stays form piece records (states disk) (states mid) (born (model kept)) (states new) (calls (model kept)) (leaves kept);
     none_existed = tt;
     existed = λ kept is. absurd (none (model kept) is);
-    exists = λ kept is. absurd (not_existing form piece records _ fault stop is);
+    exists = λ kept is. absurd (not_existing form (keeps new) (now (states new)) piece records _ fault stop is);
     refused = inr (
       fits,
       inr (inr (
@@ -138,7 +138,7 @@ module _ {R D : Type 0} (form : Encoding R) (keeps : D → Type 0) (states : D �
       )),
     );
     calls = tt;
-    time = (let most = stop_calls form piece records _ fault stop in omega (arith, most, time));
+    time = (let most = stop_calls form (keeps new) (now (states new)) piece records _ fault stop in omega (arith, most, time));
     failed = failed ∙ ap (λ n. n + failed_calls fault) quiet;
     model = λ kept. was (model kept);
   }

@@ -52,10 +52,10 @@ module _ {R D : Type 0} (form : Encoding R) (keeps : D → Type 0) (states : D �
       | inr first ↦ join_images old mid new first (model now) (images now)
     ]
 
-    pub settles_carries : CarriesOn mid.pen new.pen → CarriesOn old.pen new.pen
-    settles_carries more = elim so_far [
-      | inl same ↦ subst (λ (v : VaultOf R D). CarriesOn v.pen new.pen) same more
-      | inr first ↦ carries-trans old.pen mid.pen new.pen first.carries more
+    pub settles_carries : (keeps new.pen.disk → keeps mid.pen.disk) → CarriesOn (keeps new.pen.disk) mid.pen new.pen → CarriesOn (keeps new.pen.disk) old.pen new.pen
+    settles_carries model more = elim so_far [
+      | inl same ↦ subst (λ (v : VaultOf R D). CarriesOn (keeps new.pen.disk) v.pen new.pen) same more
+      | inr first ↦ carries-trans (keeps mid.pen.disk) (keeps new.pen.disk) model old.pen mid.pen new.pen first.carries more
     ]
 
     pub settles_blocks : new.blocks ≡ mid.blocks → new.blocks ≡ old.blocks
@@ -93,11 +93,11 @@ module _ {R D : Type 0} (form : Encoding R) (keeps : D → Type 0) (states : D �
     ]
 
     -- one more
-    pub settles_more : (keeps new.pen.disk → LeavesOnly (states mid.pen.disk) (states new.pen.disk) (MayHold form mid)) → CarriesOn mid.pen new.pen → new.blocks ≡ mid.blocks → (keeps new.pen.disk → new.sure ≡ list_of new) → (mid.pen.broken ≡ false) × (new.pen.broken ≡ false) → clock (states new.pen.disk) + calls_left new.pen ≤ clock (states mid.pen.disk) + calls_left mid.pen → faults new.pen.disk ≡ faults mid.pen.disk
+    pub settles_more : (keeps new.pen.disk → LeavesOnly (states mid.pen.disk) (states new.pen.disk) (MayHold form mid)) → CarriesOn (keeps new.pen.disk) mid.pen new.pen → new.blocks ≡ mid.blocks → (keeps new.pen.disk → new.sure ≡ list_of new) → (mid.pen.broken ≡ false) × (new.pen.broken ≡ false) → clock (states new.pen.disk) + calls_left new.pen ≤ clock (states mid.pen.disk) + calls_left mid.pen → faults new.pen.disk ≡ faults mid.pen.disk
         → (keeps new.pen.disk → keeps mid.pen.disk) → (keeps mid.pen.disk → keeps new.pen.disk) → Settles form keeps states faults old new
     settles_more images carries blocks sure whole time calls model goes_on = record {
       images = settles_images model images;
-      carries = settles_carries carries;
+      carries = settles_carries model carries;
       blocks_same = settles_blocks blocks;
       sure = sure;
       whole = (settles_whole whole.0, whole.1);

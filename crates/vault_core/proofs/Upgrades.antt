@@ -9,7 +9,7 @@ use Rattle.std.proofs.lemmas.Bool.{cases_lt, leb-true, leb-false, le-ltb}
 use Rattle.std.proofs.lemmas.Grind.{div_ceil_times}
 use Rattle.std.proofs.lemmas.List.{take_at, take_all, drop_at, drop_all, drop-drop, nil_from_length, length-drop, length-take}
 use Rattle.record_core.specs.Bytes.{Encoding}
-use Rattle.disk_core.specs.State.{State}
+use Rattle.disk_core.specs.State.{State, IsImage, now}
 use Rattle.disk_core.specs.Moments.{LeavesOnly, clock}
 use Rattle.disk_core.proofs.JoinedMoments.{LeavesOnly-start, LeavesOnly-join, LeavesOnly-weaker}
 use Rattle.segment_core.specs.declared.format.Format.TheVariants.{Two}
@@ -25,7 +25,7 @@ use Rattle.pen_core.specs.declared.fault.PenFault.{PenFault}
 use Rattle.pen_core.specs.declared.fault.PenFault.TheVariants as faults
 use Rattle.pen_core.specs.Births.{IsNew, IsEmpty}
 use Rattle.pen_core.specs.PenOf.{PenOf, JobOf}
-use Rattle.pen_core.specs.Pen.{MayOpen, IsKept, BeginsFrame, CountsDone, vector_after, log_left, failed_calls}
+use Rattle.pen_core.specs.Pen.{MayOpen, IsKept, IsUnchanged, BeginsFrame, CountsDone, vector_after, log_left, failed_calls}
 use Rattle.pen_core.specs.Refusals.{first_refusal, IsRefusal, group_lines, is_full, fold_len}
 use Rattle.pen_core.specs.Settled.{IsLogSettled, IsLogFault}
 use Rattle.pen_core.specs.declared.step.Step.{Step}
@@ -33,6 +33,7 @@ use Rattle.pen_core.specs.declared.step.Step.TheVariants.{Body, BodySync, Gate, 
 use Rattle.pen_core.specs.Step.{steps_left}
 use Rattle.pen_core.proofs.Typed.{MayOpen_typed, MayOpen_rest}
 use Rattle.vault_core.specs.Upgrading.{HasWritten, IsCopyStop, IsFilledBehind, OpensToCopied, copied, gate_behind, growth_count}
+use Rattle.vault_core.specs.Vault.{OpensToEither}
 use Rattle.vault_core.proofs.Commands.{passes}
 
 -- ---- counts
@@ -223,9 +224,11 @@ module _ {R D : Type 0} (form : Encoding R) (keeps : D → Type 0) (states : D �
     not_filled : full ≡ false → IsFilledBehind form piece records growths → ⊥
     not_filled room filled = let below = leb-false (2 ^ 48) _ (sym full_is ∙ room) in omega (arith, below, filled)
 
-    pub refused_stop : (fault : PenFault) → IsRefusal lines fault → (calls : ℕ) → calls ≡ growths * 4 → IsCopyStop form piece records calls fault
-    refused_stop fault why calls is = record {
+    pub refused_stop : (new : PenOf D) → IsUnchanged pen new → (keeps new.disk → IsKept (states new.disk) new) → (fault : PenFault) → IsRefusal lines fault → (calls : ℕ) → calls ≡ growths * 4 → IsCopyStop form (keeps new.disk) (now (states new.disk)) piece records calls fault
+    refused_stop new same kept fault why calls is = record {
       growths = growths;
+      opens = λ here image is. inl (MayOpen_rest form new image (copied piece records growths) (sym (ap (λ s. s.width) (same.shape_same ∙ so_far.written.shape_is))) (same.job_same ∙ so_far.written.no_job)
+          (subst (λ cells. AreCellsOf form cells (copied piece records growths)) (sym same.file_same.vector_same) (so_far.cells (subst keeps same.disk_same here))) ((kept here).images_open image is));
       before = count_above piece (length records) growths some before;
       why = elim (last full faults.FileFull fault (no_others fault why)) [
         | inl filled ↦ inl (filled.1, leb-true (2 ^ 48) _ (sym full_is ∙ filled.0), is)
@@ -255,12 +258,17 @@ module _ {R D : Type 0} (form : Encoding R) (keeps : D → Type 0) (states : D �
           subst (AreCellsOf form (vector_after mid)) (ap (λ (ls : List R). copied piece records growths ++ ls) one ∙ sym list_is)
           (next (copied piece records growths) (so_far.cells now))
 
+      -- the growths that stand in the file, or one more
+      one_more : keeps new.disk → (image : List ℕ) → MayOpen mid image → OpensToEither form (copied piece records growths) (copied piece records (growths + 1)) image
+      one_more now image opens =
+          MayOpen_typed form mid image (copied piece records growths) (copied piece records (growths + 1)) (sym (ap (λ s. s.width) (begun.shape_same ∙ so_far.written.shape_is)))
+          (subst (λ cells. AreCellsOf form cells (copied piece records growths)) (sym begun.file_same.vector_same) (so_far.cells (was now))) (cells_next (was now)) opens
+
       either : keeps new.disk → (image : List ℕ) → MayOpen mid image → OpensToCopied form piece records image
-      either now image opens = elim (MayOpen_typed form mid image (copied piece records growths) (copied piece records (growths + 1)) (sym (ap (λ s. s.width) (begun.shape_same ∙ so_far.written.shape_is)))
-          (subst (λ cells. AreCellsOf form cells (copied piece records growths)) (sym begun.file_same.vector_same) (so_far.cells (was now))) (cells_next (was now)) opens) [
-            | inl first ↦ (growths, first)
-            | inr second ↦ (growths + 1, second)
-          ]
+      either now image opens = elim (one_more now image opens) [
+        | inl first ↦ (growths, first)
+        | inr second ↦ (growths + 1, second)
+      ]
 
       pub begun_images : keeps new.disk → LeavesOnly (states old.disk) (states new.disk) (OpensToCopied form piece records)
       begun_images now =
@@ -273,11 +281,12 @@ module _ {R D : Type 0} (form : Encoding R) (keeps : D → Type 0) (states : D �
 
       -- a call of its commit failed
       pub stopped_stop : (fault : PenFault) → IsLogFault mid new fault → clock (states new.disk) + log_left new.job ≡ clock (states mid.disk) + log_left mid.job + failed_calls fault
-          → IsCopyStop form piece records (clock (states new.disk) - clock (states old.disk)) fault
+          → IsCopyStop form (keeps new.disk) (now (states new.disk)) piece records (clock (states new.disk) - clock (states old.disk)) fault
       stopped_stop fault why time = elim why [
         | inl barred ↦ (let yes = barred.1 in let whole = begun.broken_same ∙ so_far.written.whole in absurd cc)
         | inr at ↦ record {
           growths = growths;
+          opens = λ here image is. one_more here image ((images here).newest image is);
           before = count_above piece (length records) growths some before;
           why = inr (
             not_filled not_full,

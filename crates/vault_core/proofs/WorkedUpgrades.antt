@@ -2,7 +2,7 @@
 use Rattle.std.proofs.Common.{◌≡◌, ℕ, ◌*◌, ◌<◌, ◌^◌, List, [], ◌∷◌, length, inl, inr, refl, ap, arith}
 use Rattle.std.proofs.lemmas.List.{length-take}
 use Rattle.record_core.specs.Bytes.{Encoding}
-use Rattle.disk_core.specs.State.{IsImage, settled}
+use Rattle.disk_core.specs.State.{State, IsImage, settled}
 use Rattle.disk_core.specs.declared.fault.DiskFault.TheVariants.{Sync, Read}
 use Rattle.segment_core.proofs.OneVector.{sound_header}
 use Rattle.pen_core.specs.declared.fault.OpenFault.TheVariants.{Disk}
@@ -64,8 +64,8 @@ room_for_one : (form : Encoding ℕ) → form.width ≡ 8 → IsFilledBehind for
 room_for_one form wide filled = omega (arith, wide, filled)
 
 -- one whole list needs no growth more
-none_left : (form : Encoding ℕ) (calls : ℕ) (stop : IsCopyStop form 1 [] calls faults.Memory) → ⊥
-none_left form calls stop = let before = stop.before in omega (arith, before)
+none_left : (form : Encoding ℕ) (keeps : Type 0) (left : State) (calls : ℕ) (stop : IsCopyStop form keeps left 1 [] calls faults.Memory) → ⊥
+none_left form keeps left calls stop = let before = stop.before in omega (arith, before)
 
 -- the first sync is one call, and a file that is read takes more
 one_call : AreOldCalls 56 (Old (Disk Sync)) 1

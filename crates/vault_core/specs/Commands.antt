@@ -12,12 +12,15 @@ use Rattle.pen_core.specs.Step.{fault_of}
 use Rattle.pen_core.specs.declared.fault.PenFault.{PenFault}
 use Rattle.pen_core.specs.declared.fault.PenFault.TheVariants as faults
 use Rattle.pen_core.specs.PenOf.{PenOf, JobOf}
-use Rattle.pen_core.specs.Pen.{CountsSame, CountsDone, FileSame, MayOpen, IsUnchanged, fold_behind, log_left, failed_calls, IsTickFault, IsHomeFault, IsFoldRefusal}
+use Rattle.pen_core.specs.Pen.{CountsSame, CountsDone, FileSame, FileGains, FileTicked, MayOpen, IsUnchanged, fold_behind, log_left, failed_calls, IsTickFault, IsHomeFault, IsFoldRefusal}
 use Rattle.pen_core.specs.Refusals.{IsRefusal, first_refusal, shrink_lines, group_lines}
 use Rattle.vault_core.specs.declared.fault.VaultFault.{VaultFault}
 use Rattle.vault_core.specs.declared.fault.VaultFault.TheVariants.{Pen, Unsettled, WrongPhase}
 use Rattle.flush_core.specs.declared.lane.Lane.{Lane}
 use Rattle.flush_core.specs.declared.lane.Lane.TheVariants.{Log, Home}
+use Rattle.flush_core.specs.declared.lane.Tick.{Tick}
+use Rattle.flush_core.specs.declared.lane.Tick.TheVariants as ticks
+use Rattle.pen_core.specs.declared.stage.Ticked.TheVariants as log_ticks
 use Rattle.vault_core.specs.Touched.{taken_at}
 use Rattle.vault_core.specs.Vault.{VaultOf, OpensToEither, list_of}
 
@@ -112,14 +115,27 @@ IsLaneFault Home old new (Pen fault) = IsHomeFault old new fault
 IsLaneFault lane old new (Unsettled number) = ⊥
 IsLaneFault lane old new WrongPhase = ⊥
 
+-- what a tick makes of the file: the last one of a job brings its frame into it
+abbrev pub FileLogTicked : {D : Type 0} → PenOf D → PenOf D → Tick → Type 0
+FileLogTicked old new ticks.Idle = FileSame old new
+FileLogTicked old new ticks.Step = FileSame old new
+FileLogTicked old new ticks.Done = FileTicked old new log_ticks.Done
+FileLogTicked old new ticks.Filed = FileSame old new
+FileLogTicked old new ticks.Waiting = FileSame old new
+
+abbrev pub FileLaneTicked : {D : Type 0} → Lane → PenOf D → PenOf D → Tick → Type 0
+FileLaneTicked Log old new tick = FileLogTicked old new tick
+FileLaneTicked Home old new tick = FileSame old new
+
 -- ---- what every command promises
 
 -- A command with this frame, which these tests may refuse: what it makes of the pen, whatever the disk; that none of the
--- tests holds where it is settled; what is sure
--- behind it; and that each image that a crash may leave meanwhile opens to the list that was sure, or to the one behind it.
+-- tests holds where it is settled; that the file gains just this frame then, and else nothing; what is sure behind it; and
+-- that each image that a crash may leave meanwhile opens to the list that was sure, or to the one behind it.
 pub record IsCommand {R D : Type 0} (form : Encoding R) (keeps : D → Type 0) (states : D → List State) (faults : D → ℕ) (frame : Frame) (lines : List (Bool × PenFault)) (old new : VaultOf R D) (result : Result (Unit {0}) VaultFault) : Type 0 where
   pub pen : MatchResult result (λ _. IsCommitted frame old.pen new.pen) (λ fault. IsCommandFault frame lines old.pen new.pen fault)
   pub allowed : OnOk result (first_refusal lines ≡ None)
+  pub file : keeps new.pen.disk → MatchResult result (λ _. FileGains frame old.pen new.pen) (λ _. FileSame old.pen new.pen)
   pub sure : keeps new.pen.disk → MatchResult result (λ _. new.sure ≡ list_of new) (λ _. new.sure ≡ old.sure)
   pub images : keeps new.pen.disk → MatchResult result
       (λ _. LeavesOnly (states old.pen.disk) (states new.pen.disk) (OpensToEither form old.sure (list_of new)))

@@ -1,5 +1,5 @@
 -- What a crew grows by, and what comes of it.
-use Rattle.std.specs.Prelude.{◌≡◌, ℕ, zero, suc, ◌+◌, ◌<◌, ◌≤◌, ◌⊎◌, List, [], ◌++◌, length, map, take, get_or, slice_get, All, Option, Some, IfSome, false}
+use Rattle.std.specs.Prelude.{◌≡◌, ℕ, zero, suc, ◌+◌, ◌<◌, ◌≤◌, ◌⊎◌, max, List, [], ◌++◌, length, map, take, get_or, slice_get, All, Option, Some, None, IfSome, false}
 use Rattle.std.specs.Global.{Vec}
 use Rattle.record_core.specs.Bytes.{Encoding}
 use Rattle.record_core.specs.Limits.{payload_limit}
@@ -91,50 +91,69 @@ pub record HasGrown {R : Type 0} (width : ℕ) (live : Phase R) (count : ℕ) (b
   pub receipts_are : receipts ≡ map (receipt_of (length (opening_of live))) seat.made
   pub fault_is : IfSome fault (IsStop width live count block seat)
 
+-- It has come home: all of its growths are made, unless it stopped by a fault, or its gate might stop it before the next one.
+pub record HasCome {R : Type 0} (width : ℕ) (live : Phase R) (count : ℕ) (block : ℕ → List R) (may_stop : ℕ → Type 0) (id : ℕ) (seat : Seated R) (receipts : List Receipt) (fault : Option GrowFault) : Type 0 where
+  pub grown : HasGrown width live count block id seat receipts fault
+  pub all_made : fault ≡ None → (length seat.made ≡ count) ⊎ may_stop (length seat.made)
+
 -- ---- all of them
 
--- what a grower was sent for: by which number it grows in which phase by which source
-pub record SentOf (R S : Type 0) : Type 0 where
+-- what a grower was sent for: by which number it grows in which phase by which source, and which gate it asks
+pub record SentOf (R S G : Type 0) : Type 0 where
   pub live : Phase R
   pub source : S
+  pub gate : G
   pub grower : ℕ
 
 -- Growers that were sent out, the last of n first: that at place k is grower n - 1 - k.
-abbrev pub AreSent : {R S : Type 0} → Phase R → S → ℕ → List (SentOf R S) → Type 0
-AreSent {R} {S} live source n sent = (k : ℕ) (s : SentOf R S) → slice_get sent k ≡ Some s → (s.live ≡ live) × (s.source ≡ source) × (s.grower + k + 1 ≡ n)
+abbrev pub AreSent : {R S G : Type 0} → Phase R → S → G → ℕ → List (SentOf R S G) → Type 0
+AreSent {R} {S} {G} live source gate n sent = (k : ℕ) (s : SentOf R S G) → slice_get sent k ≡ Some s → (s.live ≡ live) × (s.source ≡ source) × (s.gate ≡ gate) × (s.grower + k + 1 ≡ n)
 
 -- the growers from 0 up to n have come home, each with its seat, its receipts and its fault
-pub record IsHome {R : Type 0} (width : ℕ) (live : Phase R) (count : ℕ → ℕ) (block : ℕ → ℕ → List R) (seats : List (Seated R)) (receipts : List (List Receipt)) (faults : List (Option GrowFault)) (k : ℕ) : Type 0 where
+pub record IsHome {R : Type 0} (width : ℕ) (live : Phase R) (count : ℕ → ℕ) (block : ℕ → ℕ → List R) (may_stop : ℕ → ℕ → Type 0) (seats : List (Seated R)) (receipts : List (List Receipt)) (faults : List (Option GrowFault)) (k : ℕ) : Type 0 where
   pub seat : Seated R
   pub seat_is : slice_get seats k ≡ Some seat
   pub its : List Receipt
   pub its_are : slice_get receipts k ≡ Some its
   pub fault : Option GrowFault
   pub fault_is : slice_get faults k ≡ Some fault
-  pub grown : HasGrown width live (count k) (block k) k seat its fault
+  pub come : HasCome width live (count k) (block k) (may_stop k) k seat its fault
 
-pub record AreHome {R : Type 0} (width : ℕ) (live : Phase R) (count : ℕ → ℕ) (block : ℕ → ℕ → List R) (n : ℕ) (seats : List (Seated R)) (receipts : List (List Receipt)) (faults : List (Option GrowFault)) : Type 0 where
+pub record AreHome {R : Type 0} (width : ℕ) (live : Phase R) (count : ℕ → ℕ) (block : ℕ → ℕ → List R) (may_stop : ℕ → ℕ → Type 0) (n : ℕ) (seats : List (Seated R)) (receipts : List (List Receipt)) (faults : List (Option GrowFault)) : Type 0 where
   pub as_many_seats : length seats ≡ n
   pub as_many_receipts : length receipts ≡ n
   pub as_many_faults : length faults ≡ n
-  pub each : (k : ℕ) → k < n → IsHome width live count block seats receipts faults k
+  pub each : (k : ℕ) → k < n → IsHome width live count block may_stop seats receipts faults k
 
--- Why a grower made no more growths than m, where the vector has in the end so many records: memory was refused, that of its
--- thread among it; or, of the block that is named for it next, that it has no record, or more than a frame holds, or more than
--- the vector had room for; or the book refused it.
-abbrev pub IsReason : {R : Type 0} → ℕ → ℕ → ℕ → (ℕ → List R) → ℕ → GrowFault → Type 0
-IsReason width size count block m Closed = m < count
-IsReason width size count block m Full = m < count
-IsReason width size count block m TooLong = (m < count) × (record_limit < size + length (block m))
-IsReason width size count block m (Strayed k) = m < count
-IsReason width size count block m Memory = MayStarve count m
-IsReason width size count block m Empty = (m < count) × (length (block m) ≡ 0)
-IsReason width size count block m TooLarge = (m < count) × (payload_limit < payload_len width (length (block m)))
+-- the room of a crew's phase: a growth for each block, and one at least
+abbrev pub crew_room : (ℕ → ℕ) → ℕ → ℕ
+crew_room count n = max 1 (counts_to count n)
+
+-- Number k strayed for the grower of that id: it is in the room, and of the growths those before it are known, with all of
+-- the grower's own.
+pub record IsStrayFor {R : Type 0} (room id : ℕ) (growths : List (Growth R)) (k : ℕ) : Type 0 where
+  pub inside : k < room
+  pub known : k ≤ length growths
+  pub behind_its_own : own_of id (take k growths) ≡ own_of id growths
+
+-- Why the grower of that id made no more growths than m, where these were made in all, and the vector has in the end so many
+-- records: memory was refused, that of its thread among it; or, of the block that is named for it next, that it has no record,
+-- or more than a frame holds, or more than the vector had room for; or the book refused it, since it was closed, or the room
+-- was filled, or a number strayed.
+abbrev pub IsReason : {R : Type 0} → ℕ → ℕ → ℕ → ℕ → (ℕ → List R) → ℕ → List (Growth R) → ℕ → GrowFault → Type 0
+IsReason width room size count block id growths m Closed = m < count
+IsReason width room size count block id growths m Full = (m < count) × (room ≤ length growths)
+IsReason width room size count block id growths m TooLong = (m < count) × (record_limit < size + length (block m))
+IsReason width room size count block id growths m (Strayed k) = (m < count) × IsStrayFor room id growths k
+IsReason width room size count block id growths m Memory = MayStarve count m
+IsReason width room size count block id growths m Empty = (m < count) × (length (block m) ≡ 0)
+IsReason width room size count block id growths m TooLarge = (m < count) × (payload_limit < payload_len width (length (block m)))
 
 -- What comes of a crew of n growers. The vault's list is the old one, and behind it the growths that were made, one after
 -- the other; each was made by one of the growers. Those of a grower have the first of the blocks that are named for it, in
--- order, and its receipts are theirs: so each growth has one receipt, and stands where that says.
-pub record IsCrewed {R D : Type 0} (width : ℕ) (count : ℕ → ℕ) (block : ℕ → ℕ → List R) (n : ℕ) (old new : VaultOf R D) (receipts : List (List Receipt)) (faults : List (Option GrowFault)) (growths : List (Growth R)) : Type 0 where
+-- order, and its receipts are theirs: so each growth has one receipt, and stands where that says. A grower without a fault made
+-- all of its growths, unless its gate might stop it before the next one.
+pub record IsCrewed {R D : Type 0} (width : ℕ) (count : ℕ → ℕ) (block : ℕ → ℕ → List R) (may_stop : ℕ → ℕ → Type 0) (n : ℕ) (old new : VaultOf R D) (receipts : List (List Receipt)) (faults : List (Option GrowFault)) (growths : List (Growth R)) : Type 0 where
   pub list_is : list_of new ≡ list_of old ++ joined growths
   pub chained : IsChained growths
   pub by_growers : All (λ growth. growth.seat < n) growths
@@ -142,7 +161,8 @@ pub record IsCrewed {R D : Type 0} (width : ℕ) (count : ℕ → ℕ) (block : 
   pub few : (k : ℕ) → k < n → length (own_of k growths) ≤ count k
   pub blocks_are : (k j : ℕ) (growth : Growth R) → k < n → slice_get (own_of k growths) j ≡ Some growth → growth.records ≡ block k j
   pub receipts_are : (k : ℕ) → k < n → slice_get receipts k ≡ Some (map (receipt_of (length (list_of old))) (own_of k growths))
-  pub faults_are : (k : ℕ) (fault : GrowFault) → k < n → slice_get faults k ≡ Some (Some fault) → IsReason width (length (list_of new)) (count k) (block k) (length (own_of k growths)) fault
+  pub all_made : (k : ℕ) → k < n → slice_get faults k ≡ Some None → (length (own_of k growths) ≡ count k) ⊎ may_stop k (length (own_of k growths))
+  pub faults_are : (k : ℕ) (fault : GrowFault) → k < n → slice_get faults k ≡ Some (Some fault) → IsReason width (crew_room count n) (length (list_of new)) (count k) (block k) k growths (length (own_of k growths)) fault
 
 -- the image opens to these records and those of the first of the growths
 pub record OpensToGrown {R : Type 0} (form : Encoding R) (before : List R) (growths : List (Growth R)) (image : List ℕ) : Type 0 where
@@ -159,9 +179,9 @@ pub record IsBack {R D : Type 0} (form : Encoding R) (keeps : D → Type 0) (sta
 
 -- Some growths come of a crew, all of them settled, and whatever a crash may have left meanwhile opens to the old list and the
 -- first of them, each whole.
-abbrev pub HasCrewed : {R D : Type 0} → Encoding R → (D → Type 0) → (D → List State) → (ℕ → ℕ) → (ℕ → ℕ → List R) → ℕ → VaultOf R D → VaultOf R D → List (List Receipt) → List (Option GrowFault) → Type 0
-HasCrewed {R} form keeps states count block n old new receipts faults =
-    (growths : List (Growth R)) × IsCrewed form.width count block n old new receipts faults growths
+abbrev pub HasCrewed : {R D : Type 0} → Encoding R → (D → Type 0) → (D → List State) → (ℕ → ℕ) → (ℕ → ℕ → List R) → (ℕ → ℕ → Type 0) → ℕ → VaultOf R D → VaultOf R D → List (List Receipt) → List (Option GrowFault) → Type 0
+HasCrewed {R} form keeps states count block may_stop n old new receipts faults =
+    (growths : List (Growth R)) × IsCrewed form.width count block may_stop n old new receipts faults growths
     × IsBack form keeps states old new
     × (keeps new.pen.disk → LeavesOnly (states old.pen.disk) (states new.pen.disk) (OpensToGrown form (list_of old) growths))
 

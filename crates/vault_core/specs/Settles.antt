@@ -11,6 +11,7 @@ use Rattle.pen_core.specs.declared.stage.FoldStage.{FoldStage}
 use Rattle.pen_core.specs.declared.stage.FoldStage.TheVariants as stages
 use Rattle.pen_core.specs.declared.fault.PenFault.TheVariants as faults
 use Rattle.pen_core.specs.PenOf.{PenOf, JobOf, FoldOf}
+use Rattle.pen_core.specs.Vectors.{frames_with}
 use Rattle.pen_core.specs.Pen.{log_left, fold_stage}
 use Rattle.flush_core.specs.declared.lane.Tick.{Tick}
 use Rattle.flush_core.specs.declared.lane.Tick.TheVariants.{Idle, Step, Done, Filed, Waiting}
@@ -54,27 +55,32 @@ HasAdvanced old new Waiting = work_left new < work_left old
 abbrev pub IsIdle : {D : Type 0} → PenOf D → Type 0
 IsIdle pen = (pen.job ≡ None) × (pen.fold ≡ None)
 
--- ---- what the file counts then
+-- ---- the file then
 
--- the frame of a fold comes on top, where it isn't the job yet
-abbrev pub with_stage : FoldStage → ℕ → Tally → Tally
-with_stage stages.None count tally = tally
-with_stage (stages.Home n) count tally = after tally (Fold count)
-with_stage stages.Sync count tally = after tally (Fold count)
-with_stage stages.Ready count tally = after tally (Fold count)
-with_stage stages.Filed count tally = tally
+-- what a frame more makes of the file, and so of what it counts: that of a fold comes on top, where it isn't the job yet
+module _ {X : Type 0} (more : X → Frame → X) where
+  abbrev pub with_stage : FoldStage → ℕ → X → X
+  with_stage stages.None count file = file
+  with_stage (stages.Home n) count file = more file (Fold count)
+  with_stage stages.Sync count file = more file (Fold count)
+  with_stage stages.Ready count file = more file (Fold count)
+  with_stage stages.Filed count file = file
 
-abbrev pub with_fold : Option FoldOf → Tally → Tally
-with_fold None tally = tally
-with_fold (Some fold) tally = with_stage fold.stage fold.count tally
+  abbrev pub with_fold : Option FoldOf → X → X
+  with_fold None file = file
+  with_fold (Some fold) file = with_stage fold.stage fold.count file
 
-abbrev pub with_job : Option JobOf → Tally → Tally
-with_job None tally = tally
-with_job (Some job) tally = after tally job.frame
+  abbrev pub with_job : Option JobOf → X → X
+  with_job None file = file
+  with_job (Some job) file = more file job.frame
 
 -- what the file counts once all that is in hand stands in it: the frame of the job, and behind it that of the fold
 abbrev pub tally_then : {D : Type 0} → PenOf D → Tally
-tally_then pen = with_fold pen.fold (with_job pen.job pen.tally)
+tally_then pen = with_fold after pen.fold (with_job after pen.job pen.tally)
+
+-- and its frames then, but for their home bytes
+abbrev pub frames_then : {D : Type 0} → PenOf D → List Frame
+frames_then pen = with_fold frames_with pen.fold (with_job frames_with pen.job pen.frames)
 
 -- the frame of a fold is the job only once the fold in hand is filed
 abbrev pub IsFiledBy : Frame → Option FoldOf → Type 0
@@ -87,15 +93,17 @@ abbrev pub IsOrderly : {D : Type 0} → PenOf D → Type 0
 IsOrderly pen = IfSome pen.job (λ job. IsFiledBy job.frame pen.fold)
 
 -- a stretch of ticks: the file is of the same shape, and what is in hand ends in it, each frame once
-pub record CarriesOn {D : Type 0} (old new : PenOf D) : Type 0 where
+pub record CarriesOn {D : Type 0} (keeps : Type 0) (old new : PenOf D) : Type 0 where
   pub shape_same : new.shape ≡ old.shape
   pub orderly : IsOrderly old → IsOrderly new
   pub tally_same : IsOrderly old → tally_then new ≡ tally_then old
+  pub frames_same : keeps → IsOrderly old → frames_then new ≡ frames_then old
 
--- all that was in hand stands in the file
-pub record StandsInFile {D : Type 0} (old new : PenOf D) : Type 0 where
+-- all that was in hand stands in the file, and nothing else is new there
+pub record StandsInFile {D : Type 0} (keeps : Type 0) (old new : PenOf D) : Type 0 where
   pub shape_same : new.shape ≡ old.shape
   pub tally_is : IsOrderly old → new.tally ≡ tally_then old
+  pub frames_are : keeps → IsOrderly old → new.frames ≡ frames_then old
 
 -- why it isn't done: the pen was broken, and nothing has changed; or a call of the disk failed
 abbrev pub IsSettleFault : {D : Type 0} → PenOf D → PenOf D → VaultFault → Type 0
@@ -108,7 +116,7 @@ IsSettleFault old new WrongPhase = ⊥
 -- a stretch of ticks, none of which failed
 pub record Settles {R D : Type 0} (form : Encoding R) (keeps : D → Type 0) (states : D → List State) (faults : D → ℕ) (old new : VaultOf R D) : Type 0 where
   pub images : keeps new.pen.disk → LeavesOnly (states old.pen.disk) (states new.pen.disk) (MayHold form old)
-  pub carries : CarriesOn old.pen new.pen
+  pub carries : CarriesOn (keeps new.pen.disk) old.pen new.pen
   pub blocks_same : new.blocks ≡ old.blocks
   pub sure : keeps new.pen.disk → new.sure ≡ list_of new
   pub whole : (old.pen.broken ≡ false) × (new.pen.broken ≡ false)

@@ -25,7 +25,7 @@ use Rattle.pen_core.specs.Typed.{OpensTo}
 use Rattle.vault_core.specs.declared.fault.VaultFault.TheVariants.{Pen, Unsettled, WrongPhase}
 use Rattle.vault_core.specs.declared.upgrading.UpgradeFault.{UpgradeFault}
 use Rattle.vault_core.specs.declared.upgrading.UpgradeFault.TheVariants.{Old, NotOld, New}
-use Rattle.vault_core.specs.Vault.{VaultOf, list_of}
+use Rattle.vault_core.specs.Vault.{VaultOf, OpensToEither, list_of}
 
 -- ---- what is copied
 
@@ -76,10 +76,12 @@ abbrev pub IsFilledBehind : {R : Type 0} → Encoding R → ℕ → List R → �
 IsFilledBehind form piece records growths = 2 ^ 48 ≤ gate_behind form.width (growths + 1) (length (copied piece records (growths + 1)))
 
 -- Why a growth isn't settled, behind so many that are, and so many calls: its frame fills the file, memory was refused,
--- or a call of its commit failed.
-pub record IsCopyStop {R : Type 0} (form : Encoding R) (piece : ℕ) (records : List R) (calls : ℕ) (fault : PenFault) : Type 0 where
+-- or a call of its commit failed. The disk keeps the model or not; where it does, each image that it may leave in this state
+-- opens to those that are settled, or to one more.
+pub record IsCopyStop {R : Type 0} (form : Encoding R) (keeps : Type 0) (left : State) (piece : ℕ) (records : List R) (calls : ℕ) (fault : PenFault) : Type 0 where
   pub growths : ℕ
   pub before : growths < growth_count piece (length records)
+  pub opens : keeps → (image : List ℕ) → IsImage left image → OpensToEither form (copied piece records growths) (copied piece records (growths + 1)) image
   pub why : ((fault ≡ faults.FileFull) × IsFilledBehind form piece records growths × (calls ≡ growths * 4))
       ⊎ ((IsFilledBehind form piece records growths → ⊥)
       × (((fault ≡ faults.Memory) × (calls ≡ growths * 4))
@@ -93,7 +95,7 @@ IsCopyRefusal form keeps states piece records disk left fault =
     ⊎ ((8 + piece * form.width ≤ limit_of Two)
     × (((fault ≡ faults.Memory) × (left ≡ disk))
     ⊎ ((IsCreateFault fault × (keeps left → AreCallsUntil (bytes_of (states disk)) (calls_of_creation (bytes_of (states disk))) fault (clock (states left) - clock (states disk))))
-    ⊎ ((calls : ℕ) × (keeps left → clock (states left) ≡ clock (states disk) + length (calls_of_creation (bytes_of (states disk))) + calls) × IsCopyStop form piece records calls fault))))
+    ⊎ ((calls : ℕ) × (keeps left → clock (states left) ≡ clock (states disk) + length (calls_of_creation (bytes_of (states disk))) + calls) × IsCopyStop form (keeps left) (now (states left)) piece records calls fault))))
 
 -- ---- the new file
 

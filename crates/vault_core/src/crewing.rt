@@ -1,10 +1,10 @@
 //! A growth phase of many threads: one for each grower, and one that commits what they put.
 
-ghost use Rattle.std.specs.Prelude.{◌≡◌, ◌+◌, ◌<◌, ◌≤◌, [], None, max, map, length, vec_len, vec_capacity, IfOk, IfErr};
+ghost use Rattle.std.specs.Prelude.{◌≡◌, ◌+◌, ◌<◌, ◌≤◌, [], None, map, length, vec_len, vec_capacity, IfOk, IfErr};
 ghost use Rattle.book_core.specs.Beginning.{AreNewSeats};
 ghost use Rattle.flush_core.specs.Flusher.{IsFlusherOf};
 ghost use Rattle.flush_core.specs.Serving.{Serves};
-ghost use Rattle.vault_core.specs.Crewing.{AreSent, AreHome, HasGrown, HasCrewed, IsCrewFault, counts_to};
+ghost use Rattle.vault_core.specs.Crewing.{AreSent, AreHome, HasCome, HasGrown, HasCrewed, IsCrewFault, crew_room};
 
 use crate::ending::{Gathering, gather};
 use crate::fault::VaultFault;
@@ -50,8 +50,8 @@ struct Home<R: Record> {
 
 /// The rows that a crew needs, empty, with room for all growers.
 #[derive(Drop)]
-struct Rows<R: Record, S: Source<R>> {
-    sent: Vec<Sent<R, S>>,
+struct Rows<R: Record, S: Source<R>, G: Gate> {
+    sent: Vec<Sent<R, S, G>>,
     receipts: Vec<Vec<Receipt>>,
     faults: Vec<Option<GrowFault>>,
     growers: usize,
@@ -60,8 +60,8 @@ struct Rows<R: Record, S: Source<R>> {
     ghost no_faults: { (vec_len faults ≡ 0) × (growers ≤ vec_capacity faults) },
 }
 
-impl<R: Record, S: Source<R>> Rows<R, S> {
-    fn take(alloc: Global, growers: usize) -> Result<Rows<R, S>, AllocError>
+impl<R: Record, S: Source<R>, G: Gate> Rows<R, S, G> {
+    fn take(alloc: Global, growers: usize) -> Result<Rows<R, S, G>, AllocError>
         ensures { IfOk result (λ rows. rows.growers ≡ growers) }
     {
         Ok(Rows {
@@ -75,7 +75,7 @@ impl<R: Record, S: Source<R>> Rows<R, S> {
 
 /// For how many growths a source wants room.
 fn room_of<R: Record, S: Source<R>>(source: &S) -> u64
-    ensures { result ≡ max 1 (counts_to (S.count_of source.now) (S.growers_of source.now)) }
+    ensures { result ≡ crew_room (S.count_of source.now) (S.growers_of source.now) }
 {
     let mut room: u64 = 0;
     for grower in 0..source.growers() {
@@ -101,7 +101,7 @@ fn run<R: Record, S: Source<R>, G: Gate, E: Wait>(
     requires id { (grower.seat.id ≡ id) × (id < S.growers_of source.now) }
     requires none { (grower.seat.made ≡ []) × (grower.fault ≡ None) }
     requires grown { HasGrown R.form.width live.now (S.count_of source.now id) (S.block_of source.now id) id grower.seat grower.receipts.items None }
-    ensures { HasGrown R.form.width live.now (S.count_of source.now id) (S.block_of source.now id) id result.seat result.receipts.items result.fault }
+    ensures { HasCome R.form.width live.now (S.count_of source.now id) (S.block_of source.now id) (G.may_stop gate.now id) id result.seat result.receipts.items result.fault }
 {
     if unstarted.load(Ordering::SeqCst) == id as u64 {
         let Grower { seat, receipts, .. } = grower;
@@ -115,19 +115,20 @@ fn run<R: Record, S: Source<R>, G: Gate, E: Wait>(
 }
 
 /// Waits for those that were sent out, of which the last one is the first grower.
-fn come_home<R: Record, S: Source<R>, E: Threads>(
+fn come_home<R: Record, S: Source<R>, G: Gate, E: Threads>(
     rt: &E,
     _live: &Live<R>,
     _source: &S,
-    sent: Vec<Sent<R, S>>,
+    _gate: &G,
+    sent: Vec<Sent<R, S, G>>,
     seats: Vec<Seat<R>>,
     receipts: Vec<Vec<Receipt>>,
     faults: Vec<Option<GrowFault>>,
 ) -> Home<R>
-    requires sent { AreSent _live.now _source.now (vec_len sent) sent.items }
+    requires sent { AreSent _live.now _source.now _gate.now (vec_len sent) sent.items }
     requires none { (vec_len seats ≡ 0) × (vec_len receipts ≡ 0) × (vec_len faults ≡ 0) }
     requires room { (vec_len sent ≤ vec_capacity seats) × (vec_len sent ≤ vec_capacity receipts) × (vec_len sent ≤ vec_capacity faults) }
-    ensures { AreHome R.form.width _live.now (S.count_of _source.now) (S.block_of _source.now) (vec_len sent) result.seats.items (map (λ its. its.items) result.receipts.items) result.faults.items }
+    ensures { AreHome R.form.width _live.now (S.count_of _source.now) (S.block_of _source.now) (G.may_stop _gate.now) (vec_len sent) result.seats.items (map (λ its. its.items) result.receipts.items) result.faults.items }
 {
     let mut sent = sent;
     let mut seats = seats;
@@ -158,11 +159,11 @@ fn grow_all<R: Record, S: Source<R>, G: Gate, E: Threads + Wait + Sync>(
     source: &S,
     gate: &G,
     seats: Vec<Seat<R>>,
-    rows: Rows<R, S>,
+    rows: Rows<R, S, G>,
 ) -> Home<R>
     requires seats { AreNewSeats live.now.directory live.now.mark seats.items }
     requires growers { (vec_len seats ≡ S.growers_of source.now) × (rows.growers ≡ vec_len seats) }
-    ensures { AreHome R.form.width live.now (S.count_of source.now) (S.block_of source.now) (vec_len seats) result.seats.items (map (λ its. its.items) result.receipts.items) result.faults.items }
+    ensures { AreHome R.form.width live.now (S.count_of source.now) (S.block_of source.now) (G.may_stop gate.now) (vec_len seats) result.seats.items (map (λ its. its.items) result.receipts.items) result.faults.items }
 {
     let nobody = AtomicU64::new(NOBODY);
     let unstarted = &nobody;
@@ -171,7 +172,7 @@ fn grow_all<R: Record, S: Source<R>, G: Gate, E: Threads + Wait + Sync>(
         rt,
         move |scope| -> Home<R>
             requires { AreNewSeats live.now.directory live.now.mark seats.items × (vec_len seats ≡ S.growers_of source.now) × (rows.growers ≡ vec_len seats) }
-            ensures { AreHome R.form.width live.entry.now (S.count_of source.entry.now) (S.block_of source.entry.now) (vec_len seats) result.seats.items (map (λ its. its.items) result.receipts.items) result.faults.items }
+            ensures { AreHome R.form.width live.entry.now (S.count_of source.entry.now) (S.block_of source.entry.now) (G.may_stop gate.entry.now) (vec_len seats) result.seats.items (map (λ its. its.items) result.receipts.items) result.faults.items }
         {
             let rows = rows;
             let Rows {
@@ -186,22 +187,22 @@ fn grow_all<R: Record, S: Source<R>, G: Gate, E: Threads + Wait + Sync>(
                 let id = seat.id();
                 let grower = Grower::new(alloc, seat);
                 let started = scope.spawn_with(
-                    Grows::of(live, source, id),
+                    Grows::of(live, source, gate, id),
                     move || -> Grower<R>
                         requires { (grower.seat.id ≡ id) × (id < S.growers_of source.now) × (grower.seat.made ≡ []) × (grower.fault ≡ None) × HasGrown R.form.width live.now (S.count_of source.now id) (S.block_of source.now id) id grower.seat grower.receipts.items None }
-                        ensures { HasGrown R.form.width live.entry.now (S.count_of source.entry.now id) (S.block_of source.entry.now id) id result.seat result.receipts.items result.fault }
+                        ensures { HasCome R.form.width live.entry.now (S.count_of source.entry.now id) (S.block_of source.entry.now id) (G.may_stop gate.entry.now id) id result.seat result.receipts.items result.fault }
                     { run(rt, alloc, live, source, gate, unstarted, id, grower) },
                 );
                 match started {
-                    Ok(handle) => sent.push_reserved(Sent::away(live, source, id, handle)),
+                    Ok(handle) => sent.push_reserved(Sent::away(live, source, gate, id, handle)),
                     Err(back) => {
                         unstarted.store(id as u64, Ordering::SeqCst);
                         let grower = (back.value)();
-                        sent.push_reserved(Sent::home(live, source, id, grower));
+                        sent.push_reserved(Sent::home(live, source, gate, id, grower));
                     }
                 }
             }
-            come_home(rt, live, source, sent, seats, receipts, faults)
+            come_home(rt, live, source, gate, sent, seats, receipts, faults)
         },
     )
 }
@@ -216,14 +217,14 @@ fn run_phase<R: Record, D: Disk + Send + Drop, S: Source<R>, G: Gate, E: Threads
     source: &S,
     gate: &G,
     seats: Vec<Seat<R>>,
-    rows: Rows<R, S>,
+    rows: Rows<R, S, G>,
 ) -> (Flusher<R, D>, Home<R>)
     requires flusher { IsFlusherOf (D.keeps flusher.pen.disk) live.now flusher }
     requires seats { AreNewSeats live.now.directory live.now.mark seats.items }
     requires growers { (vec_len seats ≡ S.growers_of source.now) × (rows.growers ≡ vec_len seats) }
     ensures flusher { IsFlusherOf (D.keeps result.0.pen.disk) live.now result.0 }
     ensures served { Serves R.form D.keeps D.states flusher result.0 }
-    ensures home { AreHome R.form.width live.now (S.count_of source.now) (S.block_of source.now) (vec_len seats) result.1.seats.items (map (λ its. its.items) result.1.receipts.items) result.1.faults.items }
+    ensures home { AreHome R.form.width live.now (S.count_of source.now) (S.block_of source.now) (G.may_stop gate.now) (vec_len seats) result.1.seats.items (map (λ its. its.items) result.1.receipts.items) result.1.faults.items }
 {
     thread::join(
         rt,
@@ -234,7 +235,7 @@ fn run_phase<R: Record, D: Disk + Send + Drop, S: Source<R>, G: Gate, E: Threads
         { serve(rt, live, flusher) },
         move || -> Home<R>
             requires { AreNewSeats live.now.directory live.now.mark seats.items × (vec_len seats ≡ S.growers_of source.now) × (rows.growers ≡ vec_len seats) }
-            ensures { AreHome R.form.width live.entry.now (S.count_of source.entry.now) (S.block_of source.entry.now) (vec_len seats) result.seats.items (map (λ its. its.items) result.receipts.items) result.faults.items }
+            ensures { AreHome R.form.width live.entry.now (S.count_of source.entry.now) (S.block_of source.entry.now) (G.may_stop gate.entry.now) (vec_len seats) result.seats.items (map (λ its. its.items) result.receipts.items) result.faults.items }
         { grow_and_close(rt, alloc, live, source, gate, seats, rows) },
     )
 }
@@ -262,11 +263,11 @@ fn grow_and_close<R: Record, S: Source<R>, G: Gate, E: Threads + Wait + Sync>(
     source: &S,
     gate: &G,
     seats: Vec<Seat<R>>,
-    rows: Rows<R, S>,
+    rows: Rows<R, S, G>,
 ) -> Home<R>
     requires seats { AreNewSeats live.now.directory live.now.mark seats.items }
     requires growers { (vec_len seats ≡ S.growers_of source.now) × (rows.growers ≡ vec_len seats) }
-    ensures { AreHome R.form.width live.now (S.count_of source.now) (S.block_of source.now) (vec_len seats) result.seats.items (map (λ its. its.items) result.receipts.items) result.faults.items }
+    ensures { AreHome R.form.width live.now (S.count_of source.now) (S.block_of source.now) (G.may_stop gate.now) (vec_len seats) result.seats.items (map (λ its. its.items) result.receipts.items) result.faults.items }
 {
     let home = grow_all(rt, alloc, live, source, gate, seats, rows);
     live.close(rt);
@@ -287,8 +288,8 @@ pub fn crew<R: Record, D: Disk + Send + Drop, S: Source<R>, G: Gate, E: Threads 
     source: &S,
     gate: &G,
 ) -> Result<Crewed<R, D>, CrewFault<R, D>>
-    ensures crewed { IfOk result (λ crewed. HasCrewed R.form D.keeps D.states (S.count_of source.now) (S.block_of source.now) (S.growers_of source.now) vault crewed.vault (map (λ its. its.items) crewed.receipts.items) crewed.faults.items) }
-    ensures refused { IfErr result (IsCrewFault R.form D.keeps D.states vault (max 1 (counts_to (S.count_of source.now) (S.growers_of source.now))) (S.growers_of source.now)) }
+    ensures crewed { IfOk result (λ crewed. HasCrewed R.form D.keeps D.states (S.count_of source.now) (S.block_of source.now) (G.may_stop gate.now) (S.growers_of source.now) vault crewed.vault (map (λ its. its.items) crewed.receipts.items) crewed.faults.items) }
+    ensures refused { IfErr result (IsCrewFault R.form D.keeps D.states vault (crew_room (S.count_of source.now) (S.growers_of source.now)) (S.growers_of source.now)) }
 {
     let growers = source.growers();
     let room = room_of::<R, S>(source);

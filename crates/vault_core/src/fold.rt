@@ -3,10 +3,10 @@
 ghost use Rattle.std.specs.Prelude.{◌≡◌, ◌⊎◌, ◌+◌, ◌≤◌, false, None, IfOk, IfErr, IfSome, OnOk, OnErr, MatchResult};
 ghost use Rattle.disk_core.specs.Moments.{LeavesOnly, clock};
 ghost use Rattle.pen_core.specs.Folds.{IsWholeFold};
-ghost use Rattle.pen_core.specs.Pen.{IsFoldAnswer, IsUnchanged};
+ghost use Rattle.pen_core.specs.Pen.{FileSame, IsFoldAnswer, IsUnchanged};
 ghost use Rattle.flush_core.specs.Refusals.{IsLaneTicked, lane_calls};
 ghost use Rattle.vault_core.specs.Vault.{MayHold, list_of};
-ghost use Rattle.vault_core.specs.Commands.{failed, IsFoldFault, IsLaneFault};
+ghost use Rattle.vault_core.specs.Commands.{failed, FileLaneTicked, IsFoldFault, IsLaneFault};
 ghost use Rattle.vault_core.specs.Settles.{CarriesOn, HasAdvanced, IsIdle, IsSettleFault, StandsInFile, calls_left};
 
 use crate::fault::VaultFault;
@@ -44,13 +44,14 @@ impl<R: Record, D: Disk> Vault<R, D> {
     }
 
     /// Makes the next device call of a lane, if there is one, or makes a fold whose homes are on the disk the log job. It
-    /// takes no memory.
+    /// takes no memory. The last call of a job brings just its frame into the file, and no other changes the file's frames.
     ///
     /// Each image that a crash may leave inside the call opens to what an image of before opens to. Refused as the pen's
     /// ticks: `Disk`, and from then on `Broken`.
     pub fn tick(&mut self, lane: Lane) -> Result<Tick, VaultFault>
         ensures images { D.keeps self.new.pen.disk → LeavesOnly (D.states self.old.pen.disk) (D.states self.new.pen.disk) (MayHold R.form self.old) }
         ensures ticked { IfOk result (λ tick. IsLaneTicked lane self.old.pen self.new.pen tick) }
+        ensures file { D.keeps self.new.pen.disk → MatchResult result (λ tick. FileLaneTicked lane self.old.pen self.new.pen tick) (λ _. FileSame self.old.pen self.new.pen) }
         ensures list { self.new.blocks ≡ self.old.blocks }
         ensures sure { D.keeps self.new.pen.disk → MatchResult result (λ _. self.new.sure ≡ list_of self.new) (λ _. self.new.sure ≡ self.old.sure) }
         ensures refused { IfErr result (λ fault. IsLaneFault lane self.old.pen self.new.pen fault) }
@@ -83,7 +84,7 @@ impl<R: Record, D: Disk> Vault<R, D> {
     fn advance(&mut self) -> Result<Tick, VaultFault>
         ensures images { D.keeps self.new.pen.disk → LeavesOnly (D.states self.old.pen.disk) (D.states self.new.pen.disk) (MayHold R.form self.old) }
         ensures advanced { IfOk result (λ tick. HasAdvanced self.old.pen self.new.pen tick) }
-        ensures carries { OnOk result (CarriesOn self.old.pen self.new.pen) }
+        ensures carries { OnOk result (CarriesOn (D.keeps self.new.pen.disk) self.old.pen self.new.pen) }
         ensures list { self.new.blocks ≡ self.old.blocks }
         ensures sure { D.keeps self.new.pen.disk → MatchResult result (λ _. self.new.sure ≡ list_of self.new) (λ _. (self.new.sure ≡ self.old.sure) ⊎ (self.new.sure ≡ list_of self.new)) }
         ensures refused { IfErr result (λ fault. IsSettleFault self.old.pen self.new.pen fault) }
@@ -112,7 +113,7 @@ impl<R: Record, D: Disk> Vault<R, D> {
     pub fn settle(&mut self) -> Result<(), VaultFault>
         ensures images { D.keeps self.new.pen.disk → LeavesOnly (D.states self.old.pen.disk) (D.states self.new.pen.disk) (MayHold R.form self.old) }
         ensures idle { OnOk result (IsIdle self.new.pen) }
-        ensures file { OnOk result (StandsInFile self.old.pen self.new.pen) }
+        ensures file { OnOk result (StandsInFile (D.keeps self.new.pen.disk) self.old.pen self.new.pen) }
         ensures list { self.new.blocks ≡ self.old.blocks }
         ensures sure { D.keeps self.new.pen.disk → MatchResult result (λ _. self.new.sure ≡ list_of self.new) (λ _. (self.new.sure ≡ self.old.sure) ⊎ (self.new.sure ≡ list_of self.new)) }
         ensures refused { IfErr result (λ fault. IsSettleFault self.old.pen self.new.pen fault) }

@@ -1,6 +1,6 @@
 //! What the growers of a crew grow by, and what they ask and tell.
 
-ghost use Rattle.std.specs.Prelude.{◌≡◌, ◌<◌, ℕ, List, length, MatchResult};
+ghost use Rattle.std.specs.Prelude.{◌≡◌, ◌<◌, ℕ, List, length, false, MatchResult};
 ghost use Rattle.vault_core.specs.Crewing.{IsSourceFault};
 
 use block_core::{Fresh, FreshFault};
@@ -36,8 +36,12 @@ pub trait Source<R: Record>: Sync {
 
 /// What a grower asks before each of its growths, and tells after it. Both may be called from many threads at once.
 pub trait Gate: Sync {
+    /// Whether it may stop a grower before its growth of that number.
+    ghost may_stop: { Self → ℕ → ℕ → Type 0 };
+
     /// Whether the grower may make its growth of that number; if not, it stops.
-    fn before(&self, grower: u16, k: u32) -> bool;
+    fn before(&self, grower: u16, k: u32) -> bool
+        ensures { result ≡ false → may_stop self.now grower k };
 
     /// It was made.
     fn after(&self, grower: u16, receipt: &Receipt);

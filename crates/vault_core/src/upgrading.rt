@@ -1,6 +1,7 @@
 //! An upgrade: the vector of a file of version 1 is copied into a new file of version 2.
 
 ghost use Rattle.std.specs.Prelude.{◌≡◌, ◌↔◌, ◌+◌, ◌*◌, ◌-◌, ◌≤◌, ◌<◌, ◌^◌, ℕ, length, Ok, Err, IfOk, IfErr, MatchResult};
+ghost use Rattle.disk_core.specs.State.{now};
 ghost use Rattle.disk_core.specs.Calls.{bytes_of};
 ghost use Rattle.disk_core.specs.Moments.{LeavesOnly, clock};
 ghost use Rattle.segment_core.specs.declared.format.Format.TheVariants.{One, Two};
@@ -61,7 +62,7 @@ fn write_growths<R: Record, D: Disk>(
     ensures written { IfOk result (λ _. HasWritten R.form piece records.now (growth_count piece (length records.now)) pen.new) }
     ensures cells { D.keeps pen.new.disk → IfOk result (λ _. AreCellsOf R.form pen.new.vector records.now) }
     ensures images { D.keeps pen.new.disk → LeavesOnly (D.states pen.old.disk) (D.states pen.new.disk) (OpensToCopied R.form piece records.now) }
-    ensures refused { IfErr result (λ fault. IsCopyStop R.form piece records.now (clock (D.states pen.new.disk) - clock (D.states pen.old.disk)) fault) }
+    ensures refused { IfErr result (λ fault. IsCopyStop R.form (D.keeps pen.new.disk) (now (D.states pen.new.disk)) piece records.now (clock (D.states pen.new.disk) - clock (D.states pen.old.disk)) fault) }
     ensures time { IfOk result (λ _. clock (D.states pen.new.disk) ≡ clock (D.states pen.old.disk) + growth_count piece (length records.now) * 4) }
     ensures faults { MatchResult result
         (λ _. D.faults pen.new.disk ≡ D.faults pen.old.disk)

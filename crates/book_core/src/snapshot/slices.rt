@@ -4,25 +4,30 @@ ghost use Rattle.std.specs.Prelude.{◌≡◌, ◌+◌, ◌<◌, ◌≤◌, [], 
 ghost use Rattle.directory_core.specs.Limits.{record_limit};
 ghost use Rattle.directory_core.specs.Finding.{IsPieceAt};
 ghost use Rattle.book_core.specs.Lists.{records_of, joined_pieces, IsPlaceIn, IsRestOfPiece};
-ghost use Rattle.book_core.specs.Snapshots.{HasRoomFor, AreFull, full_of};
+ghost use Rattle.book_core.specs.Snapshots.{HasRoomFor, AreFull, IsStepWith, full_of};
 
-use directory_core::last_start;
+use super::hints::Hints;
+use directory_core::last_start_near;
 use record_core::Record;
 use std::alloc::{AllocError, Global};
 use std::marker::Model;
 
-/// Slices one behind another, none of them empty, and the row of their starts, in which a position is searched.
-/// Contracts see it as the list of the slices, and the room that is there for more.
+/// Slices one behind another, none of them empty, and the row of their starts. Where all have one length a position is
+/// found by a division, and else by a search in that row, from a hint on. Contracts see it as the list of the slices, and
+/// the room that is there for more.
 #[derive(Drop)]
 pub(crate) struct Slices<'a, R: Record> {
     slices: Vec<&'a [R]>,
     starts: Vec<u32>,
     size: u64,
+    /// How many records each slice but the last has, which has no more; 0 where they have no one length.
+    step: u64,
+    hints: Hints,
 }
 
 impl<'a, R: Record> Model for Slices<'a, R> {
     ghost use Rattle.std.specs.Prelude.{map, vec_capacity};
-    ghost use Rattle.book_core.specs.Snapshots.{Row, AreLaid};
+    ghost use Rattle.book_core.specs.Snapshots.{Row, AreLaid, AreEven};
 
     ghost Value = { Row R };
 
@@ -32,7 +37,23 @@ impl<'a, R: Record> Model for Slices<'a, R> {
       start_room = vec_capacity row.starts;
     } };
 
-    ghost invariant = { λ row. AreLaid (map (λ s. s.now) row.slices.items) row.starts.items row.size };
+    ghost invariant = { λ row.
+        AreLaid (map (λ s. s.now) row.slices.items) row.starts.items row.size
+        × AreEven row.starts.items row.size row.step };
+}
+
+/// The one length of slices with one more of `len` records, 0 where they have none: so many there are, with so many
+/// records together.
+fn step_with(count: u64, size: u64, step: u64, len: u64) -> u64
+    ensures { IsStepWith count size step len result }
+{
+    if count == 0 {
+        return len;
+    }
+    match count.checked_mul(step) {
+        Some(full) if full == size && len <= step => step,
+        _ => 0,
+    }
 }
 
 impl<'a, R: Record> Slices<'a, R> {
@@ -44,10 +65,12 @@ impl<'a, R: Record> Slices<'a, R> {
             slices: Vec::new(alloc),
             starts: Vec::new(alloc),
             size: 0,
+            step: 0,
+            hints: Hints::new(alloc),
         }
     }
 
-    /// Takes memory for so many more slices, 20 bytes each.
+    /// Takes memory for so many more slices, 20 bytes each without their hints.
     pub(crate) fn reserve(&mut self, count: usize) -> Result<(), AllocError>
         ensures same { self.new.pieces ≡ self.old.pieces }
         ensures room { OnOk result (HasRoomFor self.new count) }
@@ -64,9 +87,22 @@ impl<'a, R: Record> Slices<'a, R> {
         ensures pieces { self.new.pieces ≡ self.old.pieces ++ slice.now ∷ [] }
         ensures room { (self.new.slice_room ≡ self.old.slice_room) × (self.new.start_room ≡ self.old.start_room) }
     {
+        let len = slice.len() as u64;
+        let starts = self.starts.as_slice();
+        self.step = step_with(starts.len() as u64, self.size, self.step, len);
         self.slices.push_reserved(slice);
         self.starts.push_reserved(self.size as u32);
-        self.size += slice.len() as u64;
+        self.size += len;
+    }
+
+    /// Lays hints for the slices that have none, if they are of many lengths: at most 8 bytes each. Where there is no
+    /// memory for them there are none.
+    pub(crate) fn lay_hints(&mut self)
+        ensures { self.new ≡ self.old }
+    {
+        if self.step == 0 {
+            self.hints.extend(self.starts.as_slice(), self.size);
+        }
     }
 
     /// The blocks that have records.
@@ -80,6 +116,7 @@ impl<'a, R: Record> Slices<'a, R> {
         let mut slices = Slices::new(alloc);
         slices.reserve(blocks.len())?;
         slices.push_blocks(blocks);
+        slices.lay_hints();
         Ok(slices)
     }
 
@@ -129,8 +166,12 @@ impl<'a, R: Record> Slices<'a, R> {
         if i >= self.size {
             return None;
         }
+        if self.step != 0 {
+            return Some(((i / self.step) as usize, (i % self.step) as usize));
+        }
         let starts = self.starts.as_slice();
-        let number = last_start(starts, self.size, i);
+        let (low, high) = self.hints.around(i, starts.len());
+        let number = last_start_near(starts, self.size, i, low, high);
         Some((number, (i - starts[number] as u64) as usize))
     }
 

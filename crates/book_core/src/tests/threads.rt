@@ -124,7 +124,7 @@ enum Change {
 }
 
 /// Changes the mark, and wakes those that wait for it.
-fn change_mark<E: Wait>(rt: &E, live: &Live<u64>, mut mark: Writer, change: Change)
+fn change_mark(live: &Live<u64>, mut mark: Writer, change: Change)
     requires { (mark.of ≡ live.now.mark) × (mark.told.count ≡ 0) }
 {
     match change {
@@ -132,7 +132,7 @@ fn change_mark<E: Wait>(rt: &E, live: &Live<u64>, mut mark: Writer, change: Chan
         Change::Ended => mark.set_ended(live.mark()),
         Change::Broken => mark.set_broken(live.mark()),
     }
-    live.wake_settled(rt);
+    live.wake_settled();
 }
 
 /// What a seat is told that waits for its growth while another thread changes the mark. It waits on this thread: the
@@ -149,7 +149,7 @@ fn await_change<E: Threads + Wait + Sync>(rt: &E, two: Two, change: Change) -> (
         rt,
         move || -> ()
             requires { (mark.of ≡ shared.now.mark) × (mark.told.count ≡ 0) }
-        { change_mark(rt, shared, mark, change) },
+        { change_mark(shared, mark, change) },
         move || -> (u64, MarkState)
             requires { IsSeatOf shared.now first }
         {

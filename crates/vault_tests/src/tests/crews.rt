@@ -13,6 +13,8 @@ use std::sync::Wait;
 pub(super) struct Open;
 
 impl Gate for Open {
+    ghost may_stop = { λ _ _ _. ⊥ };
+
     fn before(&self, _grower: u16, _k: u32) -> bool {
         true
     }
@@ -110,6 +112,8 @@ struct StopsAt {
 }
 
 impl Gate for StopsAt {
+    ghost may_stop = { λ gate _ k. k ≡ gate.k };
+
     fn before(&self, _grower: u16, k: u32) -> bool {
         k != self.k
     }

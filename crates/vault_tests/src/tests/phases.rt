@@ -19,6 +19,8 @@ struct Both {
 }
 
 impl Gate for Both {
+    ghost may_stop = { λ _ _ _. Unit {0} };
+
     fn before(&self, grower: u16, _k: u32) -> bool {
         let mine = (grower % 2) as usize;
         self.here[mine].store(1, Ordering::SeqCst);

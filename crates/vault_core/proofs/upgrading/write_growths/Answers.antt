@@ -51,7 +51,7 @@ returns-in_err-begin_group g c =
       written = tt;
       cells = λ _. tt;
       images = subst (λ (d : g.row.D.Denot). g.D.Disk.keeps d → LeavesOnly (g.D.Disk.states c.args.pen.now.disk) (g.D.Disk.states d) (OpensToCopied form c.args.piece c.args.records.now)) (sym same) so_far.images;
-      refused = refused_stop form g.D.Disk.keeps g.D.Disk.states g.D.Disk.faults c.args.piece c.args.records.now c.requires.some c.requires.fits c.requires.few c.args.pen.now c.loop-growth.pen (chunks_rest c.loop-growth.growth-iterator) chunk (chunks_rest c.next.new.self) c.loop-growth.invariant.3 so_far steps.1.0 size steps.1.2 fault e.refused (clock (g.D.Disk.states c.begin_group.new.self.disk) - clock (g.D.Disk.states c.args.pen.now.disk)) calls;
+      refused = refused_stop form g.D.Disk.keeps g.D.Disk.states g.D.Disk.faults c.args.piece c.args.records.now c.requires.some c.requires.fits c.requires.few c.args.pen.now c.loop-growth.pen (chunks_rest c.loop-growth.growth-iterator) chunk (chunks_rest c.next.new.self) c.loop-growth.invariant.3 so_far steps.1.0 size steps.1.2 c.begin_group.new.self e.unchanged c.begin_group.ensures.kept fault e.refused (clock (g.D.Disk.states c.begin_group.new.self.disk) - clock (g.D.Disk.states c.args.pen.now.disk)) calls;
       time = tt;
       faults = (let past = so_far.no_fault in omega (arith, past, none, ap g.D.Disk.faults same));
       model = subst (λ (d : g.row.D.Denot). g.D.Disk.keeps d → g.D.Disk.keeps c.args.pen.now.disk) (sym same) so_far.model;

@@ -41,5 +41,5 @@ returns-clause-more g c le =
     let agree = subst (λ (v : Shown g.row.R.Denot). Agree v.growths (growths_of c.args.seat.now)) (sym c.self.view_is) c.requires.agree in
     let has = length-drop blocks pieces in
     let n = c.count.result - blocks in
-    let added = c.add_growths.ensures.pieces ∙ ap₂ (λ ps s. ps ++ drop n (growths_of s)) c.reserve.ensures.same c.seat.view_is in
+    let added = ap (λ v. v.pieces) c.lay_hints.ensures ∙ (c.add_growths.ensures.pieces ∙ ap₂ (λ ps s. ps ++ drop n (growths_of s)) c.reserve.ensures.same c.seat.view_is) in
     rw (← c.self.view_is) (shows_all _ c.args.seat.now (ap (drop blocks) added ∙ all_added c.self.inside.live.now c.args.seat.now pieces blocks n i.0 i.1 (omega arith) agree (omega arith)))

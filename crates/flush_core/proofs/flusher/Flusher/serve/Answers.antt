@@ -1,6 +1,7 @@
 use Rattle.std.proofs.Common.{refl, sym, ap, ◌∙◌}
 use Rattle.flush_core.specs.Flusher.{FlusherOf}
 use Rattle.flush_core.proofs.Goes.{Serves-told, IsFlusherOf-served}
+use Rattle.flush_core.proofs.ServeFaults.{IsServeFault-told}
 use Rattle.flush_core.proofs.flusher.Flusher.serve.Goals.{in-Ok, in-Err}
 use Rattle.flush_core.proofs.flusher.Flusher.serve.Goals as goal
 
@@ -17,4 +18,13 @@ returns-clause-images g c =
           let mark = w.set_broken.new.self in
           (Serves-told g.R.Record.form g.D.Disk.keeps g.D.Disk.states c.args.self.now c.raise.new.self c.match-served.self mark raised
           (w.set_broken.ensures.of ∙ w.mark-in-Err.ensures ∙ sym of.mark) (w.self-is ∙ ap (λ (f : FlusherOf g.row.R.Denot g.row.D.Denot). record f { mark = mark }) c.self.view_is)).images
+    ]
+
+pub returns-clause-refused : goal.returns-clause-refused
+returns-clause-refused g c =
+    let width = g.R.Record.form.width in
+    let raised = IsServeFault-told width c.args.self.now c.serve_all-served.new.self c.raise.new.self _ c.serve_all-served.result c.raise.ensures.raised c.serve_all-served.ensures.refused in
+    elim c.match-served.branch [
+      | in-Ok w ↦ IsServeFault-told width c.args.self.now c.raise.new.self c.match-served.self w.set_ended.new.self c.serve_all-served.result (w.self-is ∙ ap (λ (f : FlusherOf g.row.R.Denot g.row.D.Denot). record f { mark = w.set_ended.new.self }) c.self.view_is) raised
+      | in-Err w ↦ IsServeFault-told width c.args.self.now c.raise.new.self c.match-served.self w.set_broken.new.self c.serve_all-served.result (w.self-is ∙ ap (λ (f : FlusherOf g.row.R.Denot g.row.D.Denot). record f { mark = w.set_broken.new.self }) c.self.view_is) raised
     ]

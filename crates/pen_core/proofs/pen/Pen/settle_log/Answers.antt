@@ -2,7 +2,7 @@ use Rattle.std.proofs.Common.{◌≡◌, inl, inr, refl, subst, arith, rules}
 use Rattle.std.proofs.lemmas.Result.{err_from_is_err_and}
 use Rattle.pen_core.specs.declared.stage.Ticked.TheVariants.{Step}
 use Rattle.pen_core.specs.Pen.{IsTicked, FileTicked}
-use Rattle.pen_core.proofs.Settled.{LogGoes-tick, LogGoes-first, ended_images, ended_model, ended_goes_on, ended_faults, ended_whole, ended_settled, ended_file, ended_time, fault_is, fault_file, fault_time, log_left-step}
+use Rattle.pen_core.proofs.Settled.{LogGoes-tick, LogGoes-first, ended_images, ended_model, ended_goes_on, ended_faults, ended_whole, ended_settled, ended_file, ended_frames, ended_time, fault_is, fault_file, fault_time, log_left-step}
 use Rattle.pen_core.proofs.pen.Pen.settle_log.Goals as goal
 
 pub loop-init : goal.loop-init
@@ -67,6 +67,12 @@ returns-clause-file g c = λ now.
     let other : c.in_ok-tick_log.field-0 ≡ Step → ⊥ = λ same. search rules in
     let e = c.in_ok-tick_log.ensures in
     ended_file g.D.Disk.keeps g.D.Disk.states g.D.Disk.faults c.args.self.now c.loop.self c.tick_log.new.self c.loop.invariant.so_far c.in_ok-tick_log.field-0 other (c.tick_log.ensures.model now) e.ticked (e.file now)
+
+pub returns-clause-frames : goal.returns-clause-frames
+returns-clause-frames g c = λ now.
+    let other : c.in_ok-tick_log.field-0 ≡ Step → ⊥ = λ same. search rules in
+    let e = c.in_ok-tick_log.ensures in
+    ended_frames g.D.Disk.keeps g.D.Disk.states g.D.Disk.faults c.args.self.now c.loop.self c.tick_log.new.self c.loop.invariant.so_far c.in_ok-tick_log.field-0 other (c.tick_log.ensures.model now) e.ticked (e.file now)
 
 pub returns-clause-whole : goal.returns-clause-whole
 returns-clause-whole g c =

@@ -210,4 +210,4 @@ returns-clause-command g c = rw (← c.self.view_is) (
     (change_begun form keeps v is pen same runs ready one blocks parts are cut touched mid begun next) blocks
     (change_size form keeps v is pen same runs ready one blocks parts are cut touched)
     (change_next form keeps v is pen same runs ready one blocks parts are cut touched mid begun next)
-    c.settle_log.new.self c.settle_log.ensures.images c.settle_log.ensures.model f.settled f.whole.1 f.file ready f.time f.faults f.goes_on)
+    c.settle_log.new.self c.settle_log.ensures.images c.settle_log.ensures.model f.settled f.whole.1 f.file ready f.time f.faults f.goes_on f.frames)

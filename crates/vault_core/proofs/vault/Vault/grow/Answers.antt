@@ -107,4 +107,4 @@ returns-clause-command g c = rw (← c.self.view_is) (
     (grown_begun form keeps v is whole c.args.more c.args.v blocks last pushed c.last.ensures mid e.begun) blocks
     (grown_size form keeps v is whole c.args.more c.args.v blocks last pushed c.last.ensures)
     (grown_next form keeps v is whole c.args.more c.args.v blocks last pushed c.last.ensures mid e.next)
-    c.settle_log.new.self c.settle_log.ensures.images c.settle_log.ensures.model f.settled f.whole.1 f.file c.in_default.ensures.allowed f.time f.faults f.goes_on)
+    c.settle_log.new.self c.settle_log.ensures.images c.settle_log.ensures.model f.settled f.whole.1 f.file c.in_default.ensures.allowed f.time f.faults f.goes_on f.frames)

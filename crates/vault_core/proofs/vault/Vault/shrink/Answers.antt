@@ -72,4 +72,4 @@ returns-clause-command g c = rw (← c.self.view_is) (
     let f = c.in_default-settle_log.ensures in
     committed_command form g.D.Disk.keeps g.D.Disk.states g.D.Disk.faults v is (Shrink n) lines (shrunk_whole form keeps v is n e.allowed) mid e.begun blocks
     (shrunk_size form keeps v is n e.allowed blocks c.truncate.ensures) (shrunk_next form keeps v is n e.allowed blocks c.truncate.ensures mid e.vector)
-    c.settle_log.new.self c.settle_log.ensures.images c.settle_log.ensures.model f.settled f.whole.1 f.file e.allowed f.time f.faults f.goes_on)
+    c.settle_log.new.self c.settle_log.ensures.images c.settle_log.ensures.model f.settled f.whole.1 f.file e.allowed f.time f.faults f.goes_on f.frames)

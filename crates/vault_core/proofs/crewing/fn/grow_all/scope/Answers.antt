@@ -46,6 +46,7 @@ pub loop-preserved : goal.loop-preserved
 loop-preserved g c =
     let live = c.captures.live.now in
     let source = c.captures.source.now in
+    let gate = c.captures.gate.now in
     let n = vec_len c.captures.seats in
     let i = c.loop.invariant in
     let rest = c.take_last-seat.new.self.items in
@@ -60,21 +61,21 @@ loop-preserved g c =
     let capacity = c.take_last-seat.ensures.capacity in
     let id : c.id-id.result ≡ length rest = c.id-id.ensures ∙ pop.1.id_is in
     let number : c.id-id.result + length c.loop.sent.items + 1 ≡ n = omega arith in
-    let more : (s : SentOf _ _) → s ≡ record { live = live; source = source; grower = c.id-id.result } → AreSent live source n (c.loop.sent.items ++ s ∷ []) =
-    λ s is. sent_more live source n c.loop.sent.items s i.sent (ap (λ (t : SentOf _ _). t.live) is) (ap (λ (t : SentOf _ _). t.source) is) (let same = ap (λ (t : SentOf _ _). t.grower) is in omega arith) in
+    let more : (s : SentOf _ _ _) → s ≡ record { live = live; source = source; gate = gate; grower = c.id-id.result } → AreSent live source gate n (c.loop.sent.items ++ s ∷ []) =
+    λ s is. sent_more live source gate n c.loop.sent.items s i.sent (ap (λ (t : SentOf _ _ _). t.live) is) (ap (λ (t : SentOf _ _ _). t.source) is) (ap (λ (t : SentOf _ _ _). t.gate) is) (let same = ap (λ (t : SentOf _ _ _). t.grower) is in omega arith) in
     elim c.match-started.branch [
       | in-Ok w ↦ rw w.sent-is (record {
         left = omega arith;
         new = pop.0;
         count = let l = w.push_reserved.ensures.len in omega arith;
-        sent = subst (AreSent live source n) (sym w.push_reserved.ensures.items) (more w.away.result w.away.ensures);
+        sent = subst (AreSent live source gate n) (sym w.push_reserved.ensures.items) (more w.away.result w.away.ensures);
         room = ((let r = room.0 in let p = w.push_reserved.ensures.capacity in omega arith), (let r = room.1 in omega arith));
       })
       | in-Err w ↦ rw w.sent-is (record {
         left = omega arith;
         new = pop.0;
         count = let l = w.push_reserved-in-Err.ensures.len in omega arith;
-        sent = subst (AreSent live source n) (sym w.push_reserved-in-Err.ensures.items) (more w.home.result w.home.ensures);
+        sent = subst (AreSent live source gate n) (sym w.push_reserved-in-Err.ensures.items) (more w.home.result w.home.ensures);
         room = ((let r = room.0 in let p = w.push_reserved-in-Err.ensures.capacity in omega arith), (let r = room.1 in omega arith));
       })
     ]

@@ -1,0 +1,69 @@
+-- Lists that commands have put in the place of others.
+use Rattle.std.proofs.Common.{◌≡◌, ◌⊎◌, ℕ, ◌<◌, ◌≤◌, Bool, true, false, List, [], ◌∷◌, length, Ok, Err, inl, inr, refl, sym, ap, subst, ◌∙◌, arith}
+use Rattle.std.proofs.lemmas.Bool.{cases_lt}
+use Rattle.record_core.specs.Bytes.{Encoding}
+use Rattle.disk_core.specs.State.{State, now, IsImage}
+use Rattle.disk_core.specs.Calls.{bytes_of}
+use Rattle.disk_core.specs.Moments.{LeavesOnly}
+use Rattle.segment_core.specs.Frame.{Frame}
+use Rattle.pen_core.specs.declared.fault.PenFault.{PenFault}
+use Rattle.pen_core.specs.PenOf.{PenOf}
+use Rattle.vault_core.specs.declared.fault.VaultFault.{VaultFault}
+use Rattle.vault_core.specs.Commands.{IsCommand, IsNothingFault}
+use Rattle.vault_core.specs.Vault.{VaultOf, MayHold, OpensToEither, list_of}
+use Rattle.files_core.specs.Changing.{Replaces}
+use Rattle.files_core.specs.Opened.{IsOpenedOn, LeavesBeforeOr}
+use Rattle.files_core.proofs.Opened.{opened_list, opened_alone, opened_then, opens_same}
+
+module _ {R D : Type 0} (form : Encoding R) (keeps : D → Type 0) (states : D → List State) (faults : D → ℕ) (IsMadeOf : List R → List R → Type 0) (disk left : D) (v w : VaultOf R D) (opened : IsOpenedOn form keeps states disk v) (same : left ≡ w.pen.disk) (may : keeps left → (image : List ℕ) → IsImage (now (states left)) image → MayHold form w image) (made : IsMadeOf (list_of v) (list_of w)) where
+  -- by a command that was committed
+  pub replaced_by : (frame : Frame) (lines : List (Bool × PenFault)) → IsCommand form keeps states faults frame lines v w (Ok tt) → keeps left → Replaces form states IsMadeOf disk left
+  replaced_by frame lines command model = record {
+    was = list_of v;
+    behind = list_of w;
+    file = opened_list form (bytes_of (states disk)) v.pen (list_of v) (opened.opened before);
+    made = made;
+    images = subst (λ d. LeavesBeforeOr (states disk) (states d) (OpensToEither form (list_of v) (list_of w))) (sym same)
+        (opened_then (states disk) (states v.pen.disk) (states w.pen.disk) (OpensToEither form (list_of v) (list_of w)) (opened.only_syncs before)
+        (subst (λ sure. LeavesOnly (states v.pen.disk) (states w.pen.disk) (OpensToEither form sure (list_of w))) (opened.sure before) (command.images own)));
+    settled = λ image is. opens_same form w.sure (list_of w) (list_of w) image (command.sure own) refl (may model image is);
+  }
+    where
+      own : keeps w.pen.disk
+      own = subst keeps same model
+
+      before : keeps v.pen.disk
+      before = command.model own
+
+  -- by one that had nothing to do
+  pub replaced_by_none : w ≡ v → keeps left → Replaces form states IsMadeOf disk left
+  replaced_by_none none model = record {
+    was = list_of v;
+    behind = list_of w;
+    file = opened_list form (bytes_of (states disk)) v.pen (list_of v) (opened.opened before);
+    made = made;
+    images = subst (λ d. LeavesBeforeOr (states disk) (states d) (OpensToEither form (list_of v) (list_of w))) (sym stays)
+        (opened_alone (states disk) (states v.pen.disk) (OpensToEither form (list_of v) (list_of w)) (opened.only_syncs before));
+    settled = λ image is. opens_same form w.sure (list_of w) (list_of w) image (subst (λ x. x.sure ≡ list_of x) (sym none) (opened.sure before)) refl (may model image is);
+  }
+    where
+      stays : left ≡ v.pen.disk
+      stays = same ∙ ap (λ x. x.pen.disk) none
+
+      before : keeps v.pen.disk
+      before = subst keeps stays model
+
+pub empty_or : {X : Type 0} (xs : List X) → (xs ≡ []) ⊎ (0 < length xs)
+empty_or [] = inl refl
+empty_or (x ∷ xs) = inr (omega arith)
+
+-- a vault that was opened is not broken
+pub not_broken : {R D : Type 0} (form : Encoding R) (keeps : D → Type 0) (states : D → List State) (disk : D) (v : VaultOf R D) (fault : VaultFault) → IsOpenedOn form keeps states disk v → IsNothingFault v.pen fault → ⊥
+not_broken form keeps states disk v fault opened refused = cc (opened.rests.whole, refused.1)
+
+-- a number is below another, above it, or the same
+pub three_ways : (m n : ℕ) → (m < n) ⊎ ((n < m) ⊎ (m ≡ n))
+three_ways m n = elim (cases_lt m n) [
+  | inl lt ↦ inl lt
+  | inr ge ↦ elim (cases_lt n m) [ inl gt ↦ inr (inl gt) | inr le ↦ inr (inr (omega (arith, ge, le))) ]
+]

@@ -1,0 +1,58 @@
+-- A file that a command has opened.
+use Rattle.std.proofs.Common.{◌≡◌, ◌⊎◌, ℕ, List, [], Some, None, Option, Result, Ok, Err, MatchResult, OnOk, inl, inr, refl, sym, subst}
+use Rattle.std.specs.Io.KnownBytes.{Appends}
+use Rattle.files_core.specs.declared.ended.Ended.{Ended}
+use Rattle.files_core.specs.declared.ended.Ended.TheVariants.{Done, OutputFailed, Refused}
+use Rattle.files_core.specs.declared.fault.FileFault.{FileFault}
+use Rattle.files_core.specs.Ended.{EndsAs, Writes, WritesText}
+use Rattle.vault_core.specs.Vault.{OpensToEither}
+use Rattle.std.specs.Io.KnownBytes.{Keeps}
+use Rattle.record_core.specs.Bytes.{Encoding}
+use Rattle.disk_core.specs.State.{State, now, IsImage}
+use Rattle.disk_core.specs.Moments.{LeavesOnly}
+use Rattle.disk_core.proofs.JoinedMoments.{LeavesOnly-join, LeavesOnly-weaker}
+use Rattle.pen_core.specs.Opening.{IsOpened, OnlySyncs}
+use Rattle.pen_core.specs.PenOf.{PenOf}
+use Rattle.pen_core.specs.Typed.{OpensTo}
+use Rattle.disk_core.specs.Calls.{bytes_of}
+use Rattle.files_core.specs.Opened.{LeavesBeforeOr, IsOpenedOn}
+
+pub keeps_same : (known : Option (List ℕ)) → Keeps known known
+keeps_same None = tt
+keeps_same (Some bytes) = refl
+
+-- the records of the pen are those of the bytes
+pub opened_list : {R D : Type 0} (form : Encoding R) (bytes : List ℕ) (pen : PenOf D) (records : List R) → IsOpened form bytes pen records → OpensTo form bytes records
+opened_list form bytes pen records opened = record { format = opened.format; frames = opened.found; vector = opened.vector }
+
+-- it was opened alone
+pub opened_alone : (old new : List State) (P : List ℕ → Type 0) → OnlySyncs old new → LeavesBeforeOr old new P
+opened_alone old new P syncs = LeavesOnly-weaker old new (IsImage (now old)) (λ image. IsImage (now old) image ⊎ P image) (λ image is. inl is) syncs.left_before
+
+-- it was opened, and calls were made
+pub opened_then : (old mid new : List State) (P : List ℕ → Type 0) → OnlySyncs old mid → LeavesOnly mid new P → LeavesBeforeOr old new P
+opened_then old mid new P syncs leaves =
+    LeavesOnly-join old mid new (λ image. IsImage (now old) image ⊎ P image) (opened_alone old mid P syncs)
+    (LeavesOnly-weaker mid new P (λ image. IsImage (now old) image ⊎ P image) (λ image has. inr has) leaves)
+
+-- an answer was told so
+pub told_text : {X E : Type 0} (old new : Option (List ℕ)) (text : List ℕ) (written : Result X E) (ended : Ended) → MatchResult written (λ _. ended ≡ Done) (λ _. ended ≡ OutputFailed) → OnOk written (Appends old new text) → WritesText old new text ended
+told_text old new text (Ok x) ended told appends = subst (WritesText old new text) (sym told) appends
+told_text old new text (Err e) ended told appends = subst (WritesText old new text) (sym told) tt
+
+pub told_answer : {X E : Type 0} (old new : Option (List ℕ)) (text : List ℕ) (IsAnswer : List ℕ → Type 0) (written : Result X E) (ended : Ended) → MatchResult written (λ _. ended ≡ Done) (λ _. ended ≡ OutputFailed) → OnOk written (Appends old new text) → IsAnswer text → Writes old new IsAnswer ended
+told_answer old new text IsAnswer (Ok x) ended told appends is = subst (Writes old new IsAnswer) (sym told) (text, is, appends)
+told_answer old new text IsAnswer (Err e) ended told appends is = subst (Writes old new IsAnswer) (sym told) tt
+
+-- the disk that is given back is the one that was kept
+pub same_keeps : {D : Type 0} (keeps : D → Type 0) (left own : D) → left ≡ own → keeps left → keeps own
+same_keeps keeps left own same model = subst keeps same model
+
+pub told_ends : {X E : Type 0} (done : Type 0) (refused : FileFault → Type 0) (written : Result X E) (ended : Ended) → MatchResult written (λ _. ended ≡ Done) (λ _. ended ≡ OutputFailed) → done → EndsAs done refused ended
+told_ends done refused (Ok x) ended told holds = subst (EndsAs done refused) (sym told) holds
+told_ends done refused (Err e) ended told holds = subst (EndsAs done refused) (sym told) holds
+
+-- one of two lists that are the same one
+pub opens_same : {R : Type 0} (form : Encoding R) (was behind records : List R) (image : List ℕ) → was ≡ records → behind ≡ records → OpensToEither form was behind image → OpensTo form image records
+opens_same form was behind records image first second (inl opens) = subst (OpensTo form image) first opens
+opens_same form was behind records image first second (inr opens) = subst (OpensTo form image) second opens

@@ -1,0 +1,14 @@
+pub mod Faults
+pub mod Given
+pub mod Asked
+pub mod Dealt
+pub mod Ended
+pub mod Texts
+pub mod Opened
+pub mod Searching
+pub mod Changing
+pub mod Creating
+pub mod Listing
+pub mod Checking
+pub mod Folding
+pub mod Upgraded

@@ -1,0 +1,16 @@
+-- Records of a window of positions, one a line.
+use Rattle.std.specs.Prelude.{◌≡◌, ℕ, List, take, drop}
+use Rattle.record_core.specs.Bytes.{Encoding}
+use Rattle.pen_core.specs.Typed.{OpensTo}
+use Rattle.text_core.specs.Text.{record_lines}
+use Rattle.files_core.specs.declared.asked.Window.{Window}
+
+-- those of the positions of the window
+abbrev pub in_window : {R : Type 0} → Window → List R → List R
+in_window window records = take window.count (drop window.from records)
+
+-- the text has the records of the window of the file's vector, one a line
+pub record IsListed {R : Type 0} (form : Encoding R) (text_of : R → List ℕ) (window : Window) (bytes text : List ℕ) : Type 0 where
+  pub records : List R
+  pub file : OpensTo form bytes records
+  pub lines : text ≡ record_lines text_of (in_window window records)

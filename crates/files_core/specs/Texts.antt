@@ -1,0 +1,35 @@
+-- The answers of commands over files, as lines.
+use Rattle.std.specs.Prelude.{ℕ, ◌-◌, List, [], ◌++◌, length, codes, decimal, Option, Some, None}
+use Rattle.text_core.specs.Text.{ended_line}
+use Rattle.segment_core.specs.declared.vector.Scanned.{Scanned}
+
+abbrev pub created_line : List ℕ
+created_line = ended_line (codes "created")
+
+abbrev pub ok_line : List ℕ
+ok_line = ended_line (codes "ok")
+
+abbrev pub number_line : ℕ → List ℕ
+number_line n = ended_line (decimal n)
+
+abbrev pub found_line : Option ℕ → List ℕ
+found_line None = ended_line (codes "none")
+found_line (Some position) = number_line position
+
+abbrev pub folded_line : ℕ → List ℕ
+folded_line live = ended_line (codes "folded " ++ decimal live)
+
+abbrev pub upgraded_line : ℕ → List ℕ
+upgraded_line size = ended_line (codes "upgraded size " ++ decimal size)
+
+abbrev pub loaded_line : ℕ → ℕ → List ℕ
+loaded_line growths size = ended_line ((codes "loaded " ++ decimal growths) ++ (codes " growths, size " ++ decimal size))
+
+abbrev pub appended_line : ℕ → ℕ → List ℕ
+appended_line growths size = ended_line ((codes "appended " ++ decimal growths) ++ (codes " growths, size " ++ decimal size))
+
+-- its version, its width, how many records, frames and live changes it has
+abbrev pub checked_line : {R : Type 0} → Scanned R → List ℕ
+checked_line scanned =
+    ended_line ((codes "ok version " ++ decimal scanned.version) ++ (codes " width " ++ decimal scanned.width) ++ (codes " size " ++ decimal (length scanned.records.items))
+    ++ (codes " frames " ++ decimal scanned.frames) ++ (codes " live " ++ decimal (scanned.changes - scanned.folded)))

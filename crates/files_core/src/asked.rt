@@ -1,0 +1,106 @@
+//! What the words of a command ask for.
+
+ghost use Rattle.std.specs.Prelude.{◌≡◌, ◌<◌, ℕ, vec_len, MatchResult, IfOk};
+ghost use Rattle.files_core.specs.Asked.{IsNumber, IsRecord, AreRecords};
+
+use crate::fault::{FileFault, Word};
+use std::alloc::Global;
+use text_core::{Refusal, TextRecord, cut};
+
+/// What `set` is asked for: these records, one at least, from position `start` on.
+#[derive(Drop)]
+pub struct Setting<R> {
+    pub start: u64,
+    pub records: Vec<R>,
+    ghost some: { 0 < vec_len records },
+}
+
+/// What `resize` is asked for: so many records, new ones as this one.
+#[derive(Clone, Copy, Debug)]
+pub struct Resizing<R> {
+    pub len: u64,
+    pub filler: R,
+}
+
+/// Which positions `list` lists: `count` of them at most, from `from` on.
+#[derive(Clone, Copy, Debug, PartialEq, Eq)]
+pub struct Window {
+    pub from: u64,
+    pub count: u64,
+}
+
+impl Window {
+    /// All positions.
+    pub const ALL: Window = Window {
+        from: 0,
+        count: u64::MAX,
+    };
+}
+
+/// The number that a word is, in decimal digits, without a zero in front.
+fn number_of(text: &[u8], word: Word) -> Result<u64, FileFault>
+    ensures { MatchResult result (IsNumber text.now) (λ fault. (fault ≡ FileFault.Word word) × ((n : ℕ) → IsNumber text.now n → ⊥)) }
+{
+    u64::parse(text).ok_or(FileFault::Word(word))
+}
+
+/// The record that a word is: RECORD of `count` and `find`. Refused: `Word`.
+pub fn read_record<R: TextRecord>(text: &[u8]) -> Result<R, FileFault>
+    ensures { MatchResult result (IsRecord R.spelling text.now) (λ fault. (fault ≡ FileFault.Word Word.Record) × ((r : R) → IsRecord R.spelling text.now r → ⊥)) }
+{
+    R::parse(text).ok_or(FileFault::Word(Word::Record))
+}
+
+/// The records of a word, with a comma between each two.
+fn read_records<R: TextRecord>(alloc: Global, text: &[u8]) -> Result<Vec<R>, FileFault>
+    ensures read { IfOk result (λ records. AreRecords R.spelling text.now records.items) }
+{
+    let mut records = Vec::new(alloc);
+    let mut rest = Some(text);
+    while let Some(words) = rest {
+        let (word, after) = cut(words, b',');
+        let record = R::parse(word).ok_or(FileFault::Word(Word::Records))?;
+        records
+            .push(record)
+            .map_err(|_| FileFault::Input(Refusal::Memory))?;
+        rest = after;
+    }
+    Ok(records)
+}
+
+/// What the words START and RECORDS of `set` ask for. Refused, in this order: `Word(Start)`, `Word(Records)`; and `Input`
+/// for want of memory.
+pub fn read_setting<R: TextRecord>(
+    alloc: Global,
+    start: &[u8],
+    records: &[u8],
+) -> Result<Setting<R>, FileFault>
+    ensures read { IfOk result (λ setting. IsNumber start.now setting.start × AreRecords R.spelling records.now setting.records.items) }
+{
+    let start = number_of(start, Word::Start)?;
+    let records = read_records(alloc, records)?;
+    Ok(Setting { start, records })
+}
+
+/// What the words N and RECORD of `resize` ask for. Refused, in this order: `Word(Length)`, `Word(Record)`.
+pub fn read_resizing<R: TextRecord>(len: &[u8], text: &[u8]) -> Result<Resizing<R>, FileFault>
+    ensures read { IfOk result (λ resizing. IsNumber len.now resizing.len × IsRecord R.spelling text.now resizing.filler) }
+{
+    let len = number_of(len, Word::Length)?;
+    let filler = read_record(text)?;
+    Ok(Resizing { len, filler })
+}
+
+/// What the words FROM and COUNT of `list` ask for: all positions, where they aren't there. Refused, in this order:
+/// `Word(From)`, `Word(Count)`.
+pub fn read_window(from: Option<&[u8]>, count: Option<&[u8]>) -> Result<Window, FileFault> {
+    let from = match from {
+        Some(text) => number_of(text, Word::From)?,
+        None => Window::ALL.from,
+    };
+    let count = match count {
+        Some(text) => number_of(text, Word::Count)?,
+        None => Window::ALL.count,
+    };
+    Ok(Window { from, count })
+}

@@ -1,0 +1,69 @@
+//! `fold`: live changes put into their home bytes.
+
+ghost use Rattle.std.specs.Prelude.{◌≡◌, ◌⊎◌, OnOk, IfErr};
+ghost use Rattle.std.specs.Io.KnownBytes.{Appends};
+ghost use Rattle.disk_core.specs.Calls.{bytes_of};
+ghost use Rattle.files_core.specs.Ended.{EndsAs, Writes};
+ghost use Rattle.disk_core.specs.Moments.{LeavesOnly};
+ghost use Rattle.vault_core.specs.Vault.{MayHold, list_of};
+ghost use Rattle.files_core.specs.Folding.{IsFolded, IsFoldRefusal, IsFoldingFault, Stays};
+ghost use Rattle.files_core.specs.Texts.{folded_line};
+
+use crate::checking::scan_disk;
+use crate::ended::Ended;
+use crate::fault::FileFault;
+use crate::progress::Progress;
+use disk_core::Disk;
+use record_core::Record;
+use std::alloc::Global;
+use std::io;
+use std::io::Write;
+use text_core::{write_line, write_numbered};
+use vault_core::{Vault, VaultFault};
+
+/// Folds all live changes, and settles.
+fn fold_vault<R: Record, D: Disk>(vault: &mut Vault<R, D>) -> Result<(), VaultFault>
+    ensures images { D.keeps vault.new.pen.disk → LeavesOnly (D.states vault.old.pen.disk) (D.states vault.new.pen.disk) (MayHold R.form vault.old) }
+    ensures list { vault.new.blocks ≡ vault.old.blocks }
+    ensures sure { D.keeps vault.new.pen.disk → (vault.new.sure ≡ vault.old.sure) ⊎ (vault.new.sure ≡ list_of vault.new) }
+    ensures refused { IfErr result (IsFoldingFault vault.old.pen vault.new.pen) }
+    ensures model { D.keeps vault.new.pen.disk → D.keeps vault.old.pen.disk }
+{
+    vault.begin_fold()?;
+    vault.settle()
+}
+
+fn write_folded<W: Write>(writer: &mut W, live: u64) -> io::Result<()>
+    ensures { OnOk result (Appends (W.contents writer.old) (W.contents writer.new) (folded_line live)) }
+{
+    write_numbered(writer, b"folded ", live)?;
+    write_line(b"", writer)
+}
+
+/// Folds all changes that are live in the file, and writes `folded` and how many they were. The file is read twice: its
+/// changes are counted, and it is opened. Refused: `Open`; then `Vault`,
+/// as `Vault::begin_fold` and `Vault::settle`.
+pub fn fold<R: Record, D: Disk, W: Write, P: Progress>(
+    alloc: Global,
+    disk: D,
+    progress: &P,
+    writer: &mut W,
+) -> (D, Ended)
+    ensures stays { D.keeps result.0 → EndsAs (Stays R.form D.states disk result.0) (IsFoldRefusal R.form D.states disk result.0) result.1 }
+    ensures model { D.keeps result.0 → D.keeps disk }
+    ensures writes { Writes (W.contents writer.old) (W.contents writer.new) (λ text. D.keeps result.0 → IsFolded R.form (bytes_of (D.states disk)) text) result.1 }
+{
+    let mut disk = disk;
+    let live = match scan_disk::<R, D, P>(alloc, &mut disk, progress) {
+        Ok(scanned) => scanned.changes - scanned.folded,
+        Err(fault) => return (disk, Ended::Refused(FileFault::Open(fault))),
+    };
+    let mut vault = match Vault::<R, D>::open(alloc, disk) {
+        Ok(vault) => vault,
+        Err((disk, fault)) => return (disk, Ended::Refused(FileFault::Open(fault))),
+    };
+    match fold_vault(&mut vault) {
+        Ok(()) => (vault.into_disk(), Ended::told(write_folded(writer, live))),
+        Err(fault) => (vault.into_disk(), Ended::Refused(FileFault::Vault(fault))),
+    }
+}

@@ -1,0 +1,97 @@
+//! `list`: the records of positions.
+
+ghost use Rattle.std.specs.Prelude.{OnOk};
+ghost use Rattle.std.specs.Io.KnownBytes.{Appends};
+ghost use Rattle.disk_core.specs.Calls.{bytes_of};
+ghost use Rattle.segment_core.specs.Written.{joined};
+ghost use Rattle.text_core.specs.Text.{record_lines};
+ghost use Rattle.files_core.specs.Ended.{Writes};
+ghost use Rattle.files_core.specs.Listing.{IsListed, in_window};
+ghost use Rattle.files_core.specs.Opened.{OnlyReads};
+
+use crate::asked::Window;
+use crate::ended::Ended;
+use crate::fault::FileFault;
+use crate::progress::Progress;
+use disk_core::Disk;
+use std::alloc::Global;
+use std::io;
+use std::io::Write;
+use text_core::{TextRecord, write_records};
+use vault_core::{Pieces, Vault};
+
+/// How many records are written before progress is told.
+const CHUNK_LEN: usize = 65_536;
+
+/// Writes the records of a window of the pieces, one a line.
+fn write_window<R: TextRecord, W: Write, P: Progress>(
+    pieces: Pieces<'_, R>,
+    window: &Window,
+    of: u64,
+    progress: &P,
+    writer: &mut W,
+) -> io::Result<()>
+    ensures { OnOk result (Appends (W.contents writer.old) (W.contents writer.new) (record_lines R.spelling.text_of (in_window window.now (joined pieces)))) }
+{
+    let mut skip = window.from;
+    let mut left = window.count;
+    let mut done: u64 = 0;
+    for piece in pieces {
+        let len = piece.len() as u64;
+        let from = skip.min(len);
+        let n = left.min(len - from);
+        write_chunks(
+            &piece[from as usize..(from + n) as usize],
+            done,
+            of,
+            progress,
+            writer,
+        )?;
+        skip -= from;
+        left -= n;
+        done += n;
+    }
+    Ok(())
+}
+
+/// Writes records behind so many others, one a line, and tells progress.
+fn write_chunks<R: TextRecord, W: Write, P: Progress>(
+    records: &[R],
+    before: u64,
+    of: u64,
+    progress: &P,
+    writer: &mut W,
+) -> io::Result<()>
+    ensures { OnOk result (Appends (W.contents writer.old) (W.contents writer.new) (record_lines R.spelling.text_of records.now)) }
+{
+    let mut done = before;
+    let mut rest = records;
+    while !rest.is_empty() {
+        let (chunk, behind) = rest.split_at(CHUNK_LEN.min(rest.len()));
+        write_records(chunk, writer)?;
+        done = done.saturating_add(chunk.len() as u64);
+        progress.at(done, of);
+        rest = behind;
+    }
+    Ok(())
+}
+
+/// Writes the records at the positions of the window, one a line. Positions past the end have none. Refused: `Open`.
+pub fn list<R: TextRecord, D: Disk, W: Write, P: Progress>(
+    alloc: Global,
+    disk: D,
+    window: &Window,
+    progress: &P,
+    writer: &mut W,
+) -> (D, Ended)
+    ensures reads { OnlyReads R.form D.keeps D.states disk result.0 result.1 }
+    ensures writes { Writes (W.contents writer.old) (W.contents writer.new) (λ text. D.keeps result.0 → IsListed R.form R.spelling.text_of window.now (bytes_of (D.states disk)) text) result.1 }
+{
+    let vault = match Vault::<R, D>::open(alloc, disk) {
+        Ok(vault) => vault,
+        Err((disk, fault)) => return (disk, Ended::Refused(FileFault::Open(fault))),
+    };
+    let of = vault.len().saturating_sub(window.from).min(window.count);
+    let written = write_window(vault.pieces(), window, of, progress, writer);
+    (vault.into_disk(), Ended::told(written))
+}

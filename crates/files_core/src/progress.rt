@@ -1,0 +1,16 @@
+//! How far work is, for who watches it.
+
+/// Is told how far work is. Contracts say nothing of it. It may be told from several threads at once.
+pub trait Progress: Sync {
+    /// So much is done, of so much in all; 0 of `of` where that isn't known. It is called at most once for each piece of the
+    /// work: bytes of `check` and `append`, growths of `load`, records of `list`.
+    fn at(&self, done: u64, of: u64);
+}
+
+/// Tells nobody.
+#[derive(Clone, Copy, Debug)]
+pub struct Silent;
+
+impl Progress for Silent {
+    fn at(&self, _done: u64, _of: u64) {}
+}

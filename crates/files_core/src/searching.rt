@@ -1,0 +1,72 @@
+//! `count` and `find`: records that equal one.
+
+ghost use Rattle.std.specs.Prelude.{◌≡◌, List, Option, OnOk};
+ghost use Rattle.std.specs.List.{count_by};
+ghost use Rattle.std.specs.Io.KnownBytes.{Appends};
+ghost use Rattle.disk_core.specs.Calls.{bytes_of};
+ghost use Rattle.pen_core.specs.Typed.{OpensTo};
+ghost use Rattle.vault_core.specs.Search.{IsFirst};
+ghost use Rattle.files_core.specs.Ended.{Writes};
+ghost use Rattle.files_core.specs.Opened.{OnlyReads};
+ghost use Rattle.files_core.specs.Searching.{IsCounted, IsFound};
+ghost use Rattle.files_core.specs.Texts.{number_line};
+
+use crate::ended::Ended;
+use crate::fault::FileFault;
+use disk_core::Disk;
+use std::alloc::Global;
+use std::io;
+use std::io::Write;
+use std::thread::Threads;
+use text_core::{TextRecord, write_line, write_number};
+use vault_core::{Equals, Vault};
+
+/// Writes a number and an LF.
+fn write_number_line<W: Write>(writer: &mut W, n: u64) -> io::Result<()>
+    ensures { OnOk result (Appends (W.contents writer.old) (W.contents writer.new) (number_line n)) }
+{
+    write_number(writer, n)?;
+    write_line(b"", writer)
+}
+
+/// Writes how many records of the file's vector equal this one. Refused: `Open`.
+pub fn count<R: TextRecord, D: Disk, W: Write, E: Threads + Sync>(
+    rt: &E,
+    alloc: Global,
+    disk: D,
+    wanted: R,
+    writer: &mut W,
+) -> (D, Ended)
+    ensures reads { OnlyReads R.form D.keeps D.states disk result.0 result.1 }
+    ensures writes { Writes (W.contents writer.old) (W.contents writer.new) (λ text. D.keeps result.0 → IsCounted R.form R.Eq.eq wanted (bytes_of (D.states disk)) text) result.1 }
+{
+    let vault = match Vault::<R, D>::open(alloc, disk) {
+        Ok(vault) => vault,
+        Err((disk, fault)) => return (disk, Ended::Refused(FileFault::Open(fault))),
+    };
+    let total = vault.count_where(rt, &Equals { record: wanted });
+    let written = write_number_line(writer, total);
+    (vault.into_disk(), Ended::told(written))
+}
+
+/// Writes the least position whose record equals this one, or `none`. Refused: `Open`.
+pub fn find<R: TextRecord, D: Disk, W: Write, E: Threads + Sync>(
+    rt: &E,
+    alloc: Global,
+    disk: D,
+    wanted: R,
+    writer: &mut W,
+) -> (D, Ended)
+    ensures reads { OnlyReads R.form D.keeps D.states disk result.0 result.1 }
+    ensures writes { Writes (W.contents writer.old) (W.contents writer.new) (λ text. D.keeps result.0 → IsFound R.form R.Eq.eq wanted (bytes_of (D.states disk)) text) result.1 }
+{
+    let vault = match Vault::<R, D>::open(alloc, disk) {
+        Ok(vault) => vault,
+        Err((disk, fault)) => return (disk, Ended::Refused(FileFault::Open(fault))),
+    };
+    let written = match vault.find_first(rt, &Equals { record: wanted }) {
+        Some(position) => write_number_line(writer, position),
+        None => write_line(b"none", writer),
+    };
+    (vault.into_disk(), Ended::told(written))
+}

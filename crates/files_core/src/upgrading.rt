@@ -1,0 +1,48 @@
+//! `upgrade`: the vector of a file of version 1 in a new file of version 2.
+
+ghost use Rattle.std.specs.Prelude.{OnOk, List, ℕ};
+ghost use Rattle.std.specs.Io.KnownBytes.{Appends};
+ghost use Rattle.pen_core.specs.Opening.{OnlySyncs};
+ghost use Rattle.files_core.specs.Ended.{EndsAs, Writes};
+ghost use Rattle.files_core.specs.Texts.{upgraded_line};
+ghost use Rattle.files_core.specs.Upgraded.{IsUpgraded, IsUpgradeRefusal};
+
+use crate::ended::Ended;
+use crate::fault::FileFault;
+use disk_core::Disk;
+use record_core::Record;
+use std::alloc::Global;
+use std::io;
+use std::io::Write;
+use text_core::{write_line, write_numbered};
+use vault_core::{greatest_piece, upgrade};
+
+fn write_upgraded<W: Write>(writer: &mut W, size: u64) -> io::Result<()>
+    ensures { OnOk result (Appends (W.contents writer.old) (W.contents writer.new) (upgraded_line size)) }
+{
+    write_numbered(writer, b"upgraded size ", size)?;
+    write_line(b"", writer)
+}
+
+/// Copies the vector of the file of version 1 on the old disk into a new file of version 2 on the new one, in the longest
+/// growths that it takes, and writes `upgraded size` and how many records it has. Gives back the old disk and the new one.
+/// Refused: `Upgrade`, as `upgrade` is.
+pub fn upgrade_file<R: Record, D: Disk, N: Disk, W: Write>(
+    alloc: Global,
+    old: D,
+    new: N,
+    writer: &mut W,
+) -> (D, N, Ended)
+    ensures old_stays { D.keeps result.0 → OnlySyncs (D.states old) (D.states result.0) }
+    ensures old_model { D.keeps result.0 → D.keeps old }
+    ensures upgraded { EndsAs ((text : List ℕ) × IsUpgraded R.form D.keeps D.states N.keeps N.states N.faults old new result.0 result.1 text) (IsUpgradeRefusal R.form D.keeps D.states N.keeps N.states N.faults old new result.0 result.1) result.2 }
+    ensures writes { Writes (W.contents writer.old) (W.contents writer.new) (IsUpgraded R.form D.keeps D.states N.keeps N.states N.faults old new result.0 result.1) result.2 }
+{
+    match upgrade::<R, D, N>(alloc, old, new, greatest_piece::<R>()) {
+        Ok((old, vault)) => {
+            let written = write_upgraded(writer, vault.len());
+            (old, vault.into_disk(), Ended::told(written))
+        }
+        Err((old, new, fault)) => (old, new, Ended::Refused(FileFault::Upgrade(fault))),
+    }
+}
