@@ -1,4 +1,4 @@
-//! Tests of whole scripts by `drive`, on disks that stop or fail.
+//! Tests of whole runs, scripts by `drive` and a crew, on disks that stop or fail.
 #![tactic(auto)]
 
 #[cfg(test)]

@@ -1,4 +1,5 @@
-//! What no clause says: worked scripts on a disk that stops or fails at each of its calls.
+//! What no clause says: worked scripts, and a crew, on a disk that stops or fails at each of its calls.
 
+mod broken_crew;
 mod failing;
 mod script;

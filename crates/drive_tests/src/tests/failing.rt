@@ -21,7 +21,7 @@ const PENDING: [PendingBytes; 5] = [
 ];
 
 /// The image of this number: two of each kind of pending bytes, by both lengths, and then those of which a part arrived.
-fn choice(k: u64) -> Choice {
+pub(super) fn choice(k: u64) -> Choice {
     let length = match k % 2 {
         0 => ImageLength::Old,
         _ => ImageLength::Greatest,
