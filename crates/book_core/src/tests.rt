@@ -11,7 +11,6 @@ use std::sync::Wait;
 use std::test::Fail;
 
 mod appending;
-mod crowd;
 mod growing;
 mod reading;
 mod settling;

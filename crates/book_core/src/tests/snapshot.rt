@@ -4,8 +4,7 @@ ghost use Rattle.book_core.specs.Lists.{IsSeatOf};
 
 use super::reading::three_blocks;
 use super::threads::put_many;
-use super::{Two, begin_two, begin_two_over};
-use crate::live::Live;
+use super::{Two, begin_two_over};
 use crate::seat::Seat;
 use crate::snapshot::Snapshot;
 use block_core::Fresh;
@@ -93,84 +92,6 @@ fn a_snapshot_is_read_in_order(rt: HostRuntime) -> Result<(), Fail> {
     assert_eq!(rt; records.as_slice(), want.as_slice());
     assert_eq!(rt; by_piece.as_slice(), want.as_slice());
     assert_eq!(rt; snapshot.len(), 6);
-    Ok(())
-}
-
-/// Grows by blocks of these lengths. The record at each place is the place.
-fn grow_places<E: Wait>(
-    rt: &E,
-    alloc: Global,
-    live: &Live<u64>,
-    seat: &mut Seat<u64>,
-    lens: &[u64],
-) -> Option<u64>
-    requires { IsSeatOf live.now seat.old }
-    ensures { IsSeatOf live.now seat.new }
-{
-    let mut place: u64 = live.size(seat);
-    for len in lens {
-        let mut records = Vec::new(alloc);
-        for _ in 0..*len {
-            records.push(place).ok()?;
-            place = place.wrapping_add(1);
-        }
-        live.grow_slice(rt, seat, records.as_slice()).ok()?;
-    }
-    Some(place)
-}
-
-/// Whether each place of the snapshot has the place as its record, one by one and many at once, and none beyond has one.
-fn has_places(alloc: Global, snapshot: &Snapshot<'_, u64>, size: u64) -> Option<bool> {
-    let mut positions = Vec::new(alloc);
-    for i in 0..size.wrapping_add(3) {
-        positions
-            .push(i.wrapping_mul(7919) % size.wrapping_add(3).max(1))
-            .ok()?;
-    }
-    let mut found = Vec::new(alloc);
-    found.resize(positions.len(), None).ok()?;
-    snapshot.get_many(positions.as_slice(), found.as_mut_slice());
-    for (i, it) in positions.iter().zip(found.as_slice()) {
-        let want = if *i < size { Some(*i) } else { None };
-        if it.copied() != want || snapshot.get(*i).copied() != want {
-            return Some(false);
-        }
-    }
-    Some(true)
-}
-
-/// Whether snapshots over growths of these lengths, and over these and as many once more, read as the plain list does.
-fn reads_as_a_list<E: Wait>(rt: &E, alloc: Global, two: Two, lens: &[u64]) -> Option<(bool, bool)> {
-    let Two {
-        live,
-        mut first,
-        ..
-    } = two;
-    let size = grow_places(rt, alloc, &live, &mut first, lens)?;
-    let mut snapshot = live.snapshot(&mut first).ok()?;
-    let once = has_places(alloc, &snapshot, size)?;
-    let size = grow_places(rt, alloc, &live, &mut first, lens)?;
-    snapshot.update(&mut first).ok()?;
-    Some((once, has_places(alloc, &snapshot, size)?))
-}
-
-#[test]
-fn slices_of_any_lengths_are_found(rt: HostRuntime) -> Result<(), Fail> {
-    let cases: [&[u64]; 6] = [
-        &[5],
-        &[4, 4, 4],
-        &[4, 4, 4, 2],
-        &[1, 1, 1, 1, 500, 1, 1],
-        &[
-            300, 1, 2, 3, 1, 1, 200, 1, 1, 1, 1, 1, 1, 1, 1, 1, 1, 1, 1, 40,
-        ],
-        &[16, 15, 16, 17, 16],
-    ];
-    for lens in cases {
-        let two = begin_two(rt.alloc(), 64).ok_or("no book")?;
-        let read = reads_as_a_list(&rt, rt.alloc(), two, lens);
-        assert_eq!(rt; read, Some((true, true)));
-    }
     Ok(())
 }
 
