@@ -25,4 +25,4 @@ pub returns : goal.returns
 returns g c =
     let so = c.loop-rest.invariant in
     let left = subst (λ o. IsLeft g.R.TextRecord.spelling.text_of c.args.text.now c.loop-rest.records.items (option_copied o)) c.in_default.is so.1 in
-    record { some = left.0; values = so.0; text = left.1 }
+    record { read = record { some = left.0; values = so.0; text = left.1 } }

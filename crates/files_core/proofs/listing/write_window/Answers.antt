@@ -42,6 +42,6 @@ loop-piece-preserved g c =
 pub returns : goal.returns
 returns g c =
     let so = c.loop-piece.invariant in
-    let none : c.loop-piece.pieces ≡ [] = ? in
+    let none : c.loop-piece.pieces ≡ [] = c.in_default.ensures.steps.0 in
     subst (λ (ps : List (List g.row.R.Denot)). Appends (g.W.Write.contents c.args.writer.now) (g.W.Write.contents c.loop-piece.writer) (record_lines g.R.TextRecord.spelling.text_of (take c.args.window.now.count (drop c.args.window.now.from (joined ps)))))
     (sym (so.all ∙ ap (λ (ps : List (List g.row.R.Denot)). so.gone ++ ps) none ∙ append-nil so.gone)) so.written
