@@ -15,9 +15,11 @@ use Rattle.pen_core.specs.Typed.{OpensTo}
 use Rattle.vault_core.specs.Crewing.{HasCrewed, OpensToGrown, receipt_of}
 use Rattle.vault_core.specs.Vault.{VaultOf, list_of}
 use Rattle.files_core.specs.Dealt.{count_for, dealt}
-use Rattle.files_core.specs.Loading.{AreDealt, AllMade, StandBehind, Appends}
+use Rattle.files_core.specs.declared.fault.FileFault.{FileFault}
+use Rattle.files_core.specs.declared.fault.FileFault.TheVariants as faults
+use Rattle.files_core.specs.Loading.{AreDealt, AllMade, StandBehind, Appends, IsGrowthStop, IsLoaded, IsLoadRefusal}
 use Rattle.files_core.specs.Opened.{IsOpenedOn, LeavesBeforeOr}
-use Rattle.files_core.proofs.Opened.{opened_list, opened_then}
+use Rattle.files_core.proofs.Opened.{opened_list, opened_alone, opened_then}
 
 some_of : {X Y : Type 0} (f : X → Y) (xs : List X) (k : ℕ) (y : Y) → slice_get (map f xs) k ≡ Some y → (x : X) × (slice_get xs k ≡ Some x) × (f x ≡ y)
 some_of f [] k y there = cc there
@@ -66,3 +68,40 @@ module _ {R D : Type 0} (form : Encoding R) (keeps : D → Type 0) (states : D �
         images = opened_then (states disk) (states v.pen.disk) (states left) (OpensToGrown form (list_of v) made) (opened.only_syncs before) (stands.images model);
         settled = stands.settled model;
       }
+
+  pub loaded_by : (growths : List (List R)) (growers : ℕ) (disk left : D) (v w : VaultOf R D) → IsOpenedOn form keeps states disk v → left ≡ w.pen.disk
+      → (made : List (Growth R)) × AreDealt growths growers made × AllMade growths growers made × StandBehind form keeps states v w.pen.disk made × (list_of w ≡ list_of v ++ joined made)
+      → IsLoaded form keeps states growths growers disk left (length (list_of w))
+  loaded_by growths growers disk left v w opened same grown = record {
+    was = list_of v;
+    made = grown.0;
+    dealt_are = grown.1;
+    all = grown.2;
+    stands = λ model. appended_to disk left v grown.0 opened (subst (λ d. StandBehind form keeps states v d grown.0) (sym same) grown.3) model;
+    size_is = ap length grown.4;
+  }
+
+  pub refused_by : (growths : List (List R)) (growers : ℕ) (disk left : D) (v : VaultOf R D) → IsOpenedOn form keeps states disk v → (fault : FileFault) → IsGrowthStop form keeps states growths growers v left fault → IsLoadRefusal form keeps states growths growers disk left fault
+  refused_by growths growers disk left v opened (faults.Vault fault) (inl same) = (
+    list_of v,
+    [],
+    λ model.
+        let before = subst keeps same model in (
+          opened_list form (bytes_of (states disk)) v.pen (list_of v) (opened.opened before),
+          subst (λ d. LeavesBeforeOr (states disk) (states d) (OpensToGrown form (list_of v) [])) (sym same) (opened_alone (states disk) (states v.pen.disk) (OpensToGrown form (list_of v) []) (opened.only_syncs before)),
+        ),
+  )
+  refused_by growths growers disk left v opened (faults.Vault fault) (inr some) = (
+    list_of v,
+    some.0,
+    λ model.
+        let both = some.1 model in (
+          opened_list form (bytes_of (states disk)) v.pen (list_of v) (opened.opened both.0),
+          opened_then (states disk) (states v.pen.disk) (states left) (OpensToGrown form (list_of v) some.0) (opened.only_syncs both.0) both.1,
+        ),
+  )
+  refused_by growths growers disk left v opened (faults.Grower stopped) stop = (list_of v, stop.0, stop.1, (λ model. appended_to disk left v stop.0 opened stop.2 model), stop.3)
+  refused_by growths growers disk left v opened (faults.Open fault) stop = absurd stop
+  refused_by growths growers disk left v opened (faults.Word word) stop = absurd stop
+  refused_by growths growers disk left v opened (faults.Input refusal) stop = absurd stop
+  refused_by growths growers disk left v opened (faults.Upgrade fault) stop = absurd stop

@@ -1,5 +1,7 @@
 //! `append`: growths of an input of any length, committed as they are read.
 
+ghost use Rattle.std.specs.Prelude.{◌≡◌, ◌≤◌, length};
+
 use crate::crewing::{Deck, OpenGate};
 use crate::ended::Ended;
 use crate::fault::FileFault;
@@ -55,7 +57,9 @@ fn fill<I: Read>(reader: &mut I, buffer: &mut Vec<u8>) -> Result<bool, Refusal> 
 }
 
 /// How many bytes the lines have that are whole.
-fn whole_lines(buffer: &[u8]) -> usize {
+fn whole_lines(buffer: &[u8]) -> usize
+    ensures { result ≤ length buffer.now }
+{
     match buffer.iter().rposition(|b| *b == b'\n') {
         Some(at) => at + 1,
         None => 0,
