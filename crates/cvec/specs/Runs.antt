@@ -1,5 +1,5 @@
 -- The runs that the program makes: a task on records of one of its types.
-use Rattle.std.specs.Prelude.{ℕ, List, Option}
+use Rattle.std.specs.Prelude.{ℕ, List, Option, ◌++◌, codes, Result, Ok, Err}
 use Rattle.std.specs.Io.KnownBytes.{Appends, Keeps}
 use Rattle.std.specs.Int.{w32, w64}
 use Rattle.record_core.specs.Bytes.{Encoding, unsigned, signed, pair, flagged}
@@ -9,8 +9,11 @@ use Rattle.cvec.specs.declared.request.RecordType.{RecordType}
 use Rattle.cvec.specs.declared.request.RecordType.TheVariants.{U32, U64, I64, Pair, Flagged}
 use Rattle.text_core.specs.declared.refusal.Refusal.TheVariants as refusals
 use Rattle.text_core.specs.declared.status.Status.{Status}
-use Rattle.text_core.specs.declared.status.Status.TheVariants.{Done, Refused, OutputFailed, Usage}
-use Rattle.text_core.specs.Text.{Spelling}
+use Rattle.text_core.specs.declared.status.Status.TheVariants as statuses
+use Rattle.files_core.specs.declared.ended.Ended.{Ended}
+use Rattle.files_core.specs.declared.ended.Ended.TheVariants.{Done, OutputFailed, Refused}
+use Rattle.cvec.specs.declared.complaint.Complaint.{Complaint}
+use Rattle.text_core.specs.Text.{Spelling, ended_line}
 use Rattle.text_core.specs.Numbers.{number_spelling}
 use Rattle.text_core.specs.SignedNumbers.{signed_spelling}
 use Rattle.text_core.specs.Keyed.{pair_spelling, flagged_spelling}
@@ -35,9 +38,27 @@ IsRun task Flagged = IsTaskRun task flagged flagged_spelling
 abbrev pub IsSomeRun : List ℕ → Option (List ℕ) → Option (List ℕ) → Status → Type 0
 IsSomeRun input old new status = (task : Task) × (record_type : RecordType) × IsRun task record_type input old new status
 
+-- how a command over a file may end, and what it has written then: all of an answer, or the line of a refusal
+abbrev pub IsFileRun : Option (List ℕ) → Option (List ℕ) → Status → Type 0
+IsFileRun old new statuses.Done = (text : List ℕ) × Appends old new text
+IsFileRun old new statuses.Refused = (name : List ℕ) × Appends old new (codes "refused: " ++ ended_line name)
+IsFileRun old new statuses.OutputFailed = Unit {0}
+IsFileRun old new statuses.Usage = ⊥
+
+-- what an engine over a file has written: an answer, maybe a part of it, or nothing
+abbrev pub WritesSome : Option (List ℕ) → Option (List ℕ) → Ended → Type 0
+WritesSome old new Done = (text : List ℕ) × Appends old new text
+WritesSome old new OutputFailed = Unit {0}
+WritesSome old new (Refused fault) = Keeps old new
+
+-- what a command over a file has written before the line of a refusal
+abbrev pub IsFiled : Option (List ℕ) → Option (List ℕ) → Result Status Complaint → Type 0
+IsFiled old new (Ok status) = IsFileRun old new status
+IsFiled old new (Err complaint) = Keeps old new
+
 -- the program gave no engine its work: memory was refused, or the words ask for nothing
 abbrev pub IsIdleRun : Option (List ℕ) → Option (List ℕ) → Status → Type 0
-IsIdleRun old new Done = ⊥
-IsIdleRun old new Refused = Appends old new (refusal_line refusals.Memory)
-IsIdleRun old new OutputFailed = Unit {0}
-IsIdleRun old new Usage = Keeps old new
+IsIdleRun old new statuses.Done = ⊥
+IsIdleRun old new statuses.Refused = Appends old new (refusal_line refusals.Memory)
+IsIdleRun old new statuses.OutputFailed = Unit {0}
+IsIdleRun old new statuses.Usage = Keeps old new

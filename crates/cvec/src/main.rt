@@ -1,6 +1,11 @@
-//! `cvec`: from lines of records to segment files in hex, and back.
+//! `cvec`: a durable vector in a file, from a shell; and segment files as hex.
 #![tactic(auto)]
 
+mod access;
+mod complaint;
+mod filing;
+mod help;
+mod meter;
 mod noting;
 mod program;
 mod request;
@@ -9,17 +14,19 @@ mod tests;
 mod usage;
 mod words;
 
+use crate::complaint::Sentence;
+use crate::help::told_of;
 use crate::noting::Noting;
-use crate::program::run;
+use crate::program::{System, run};
 use crate::usage::write_usage;
 use crate::words::fault_of_words;
 use std::alloc::Global;
 use std::env;
-use std::io::{self, BufWriter, ErrorKind};
+use std::io::{self, BufWriter, ErrorKind, IsTerminal, Write};
 use std::process::ExitCode;
 use std::sync::Wait;
 use std::thread::Threads;
-use text_core::{Refusal, Status, refuse};
+use text_core::{Refusal, Status, refuse, write_text};
 
 const OUTPUT_BUFFER_LEN: usize = 65_536;
 
@@ -48,13 +55,36 @@ fn run_words<E: Threads + Wait + Sync>(rt: &HostRuntime, threads: &E, words: &[S
         return refuse_memory(rt);
     };
     let mut output = Noting::new(buffer);
-    let status = run(alloc, threads, words, &mut rt.stdin(), &mut output);
-    match status {
+    if let Some(text) = told_of(words) {
+        return tell(rt, text, &mut output);
+    }
+    let system = System {
+        alloc,
+        files: rt,
+        terminal: rt.stderr().is_terminal(),
+    };
+    let ended = run(&system, threads, words, &mut rt.stdin(), &mut output);
+    match ended.status {
         Status::OutputFailed => tell_failed_write(rt, output.error()),
         Status::Usage => tell_usage(rt, words),
         Status::Done | Status::Refused => {}
     }
-    status
+    if let Some((words, complaint)) = ended.complaint {
+        let sentence = Sentence { words: &words, complaint };
+        let _ = eprintln!(rt; "cvec: {sentence}");
+    }
+    ended.status
+}
+
+/// Writes what the program tells of itself.
+fn tell<W: Write>(rt: &HostRuntime, text: &[u8], output: &mut Noting<W>) -> Status {
+    match write_text(text, output) {
+        Ok(()) => Status::Done,
+        Err(_) => {
+            tell_failed_write(rt, output.error());
+            Status::OutputFailed
+        }
+    }
 }
 
 /// Answers want of memory.

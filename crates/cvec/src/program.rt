@@ -1,19 +1,35 @@
-//! The program: what its words ask for, done on its input and output.
+//! The program: what its words ask for, done on its input and output, and on files.
 
 ghost use Rattle.std.specs.Prelude.{◌≡◌, ◌≢◌, [], IfSome, ◌⊎◌};
 ghost use Rattle.std.specs.Io.KnownBytes.{Keeps};
-ghost use Rattle.cvec.specs.Runs.{IsTaskRun, IsRun, IsSomeRun, IsIdleRun};
+ghost use Rattle.cvec.specs.Runs.{IsTaskRun, IsRun, IsSomeRun, IsIdleRun, IsFileRun, IsFiled};
 
-use crate::request::{RecordType, Task};
+use crate::complaint::Complaint;
+use crate::filing::Filing;
+use crate::meter::Meter;
+use crate::request::{FileWords, RecordType, Request, Task};
 use crate::words::{WordsFault, read_words};
+use files_core::{Dealt, refuse_file};
 use play_core::play;
 use record_core::{Flagged, Pair};
 use std::alloc::Global;
 use std::convert::AsStr;
+use std::fs::File;
 use std::io::{Read, Write};
+use std::rt::Files;
 use std::sync::Wait;
 use std::thread::Threads;
-use text_core::{Refusal, Status, TextRecord, image, refuse, show};
+use std::time::Clock;
+use text_core::{Refusal, Status, TextRecord, image, refuse, show, write_line};
+
+/// What the program has of the system beside its input and output.
+#[derive(Drop)]
+pub struct System<'a, F> {
+    pub alloc: Global,
+    pub files: &'a F,
+    /// Standard error is a terminal.
+    pub terminal: bool,
+}
 
 /// Does the task on records of one type.
 fn run_of<R: TextRecord, I: Read, W: Write, E: Threads + Wait + Sync>(
@@ -56,28 +72,100 @@ fn run_task<I: Read, W: Write, E: Threads + Wait + Sync>(
     }
 }
 
+/// Writes the line of a complaint.
+fn refuse_for<W: Write>(writer: &mut W, complaint: &Complaint) -> Status
+    ensures { IsFileRun (W.contents writer.old) (W.contents writer.new) result }
+{
+    match complaint {
+        Complaint::Fault(fault) | Complaint::Appended(_, fault) => refuse_file(writer, *fault),
+        Complaint::NotOpened(..) | Complaint::InUse(_) => {
+            match write_line(b"refused: file", writer) {
+                Ok(()) => Status::Refused,
+                Err(_) => Status::OutputFailed,
+            }
+        }
+    }
+}
+
+/// Does a command over a file.
+fn run_file<I: Read, W: Write, E: Threads + Wait + Sync, F: Files<File = File> + AllocGlobal + Clock + Eprint + Sync>(
+    system: &System<'_, F>,
+    rt: &E,
+    words: &FileWords<'_>,
+    reader: &mut I,
+    writer: &mut W,
+) -> Result<Status, Complaint>
+    ensures { IsFiled (W.contents writer.old) (W.contents writer.new) result }
+{
+    let meter = Meter::new(system.files, system.terminal && !words.quiet);
+    let filing = Filing {
+        alloc: system.alloc,
+        files: system.files,
+        file: words.file,
+        progress: &meter,
+    };
+    let task = words.task;
+    let ended = match words.record_type {
+        RecordType::U32 => filing.run::<u32, Dealt<u32>, I, W, E>(rt, task, reader, writer),
+        RecordType::U64 => filing.run::<u64, Dealt<u64>, I, W, E>(rt, task, reader, writer),
+        RecordType::I64 => filing.run::<i64, Dealt<i64>, I, W, E>(rt, task, reader, writer),
+        RecordType::Pair => filing.run::<Pair, Dealt<Pair>, I, W, E>(rt, task, reader, writer),
+        RecordType::Flagged => filing.run::<Flagged, Dealt<Flagged>, I, W, E>(rt, task, reader, writer),
+    };
+    meter.end();
+    ended
+}
+
+/// How a run of the program ended, and what standard error has to tell of it.
+#[derive(Clone, Copy, Debug)]
+pub struct Outcome<'a> {
+    pub status: Status,
+    /// The command over a file that was refused, and why.
+    pub complaint: Option<(FileWords<'a>, Complaint)>,
+}
+
+/// A run of which there is no more to tell.
+fn run_with<'a>(status: Status) -> Outcome<'a>
+    ensures { result.status ≡ status }
+{
+    Outcome {
+        status,
+        complaint: None,
+    }
+}
+
 /// Does what the words behind the program's name ask for, and with no words what `image u64` does. Words that
 /// are not the program's, and those that ask for help, are answered with `Usage`.
-pub fn run<'a, S: AsStr, I: Read, W: Write, E: Threads + Wait + Sync>(
-    alloc: Global,
+pub fn run<'a, S: AsStr, I: Read, W: Write, E: Threads + Wait + Sync, F: Files<File = File> + AllocGlobal + Clock + Eprint + Sync>(
+    system: &System<'_, F>,
     rt: &E,
     words: &'a [S],
     reader: &mut I,
     writer: &mut W,
-) -> Status
+) -> Outcome<'a>
     ensures no_words { words.now ≡ [] → IfSome (I.remaining reader.old) (λ input.
-        IsRun Task.Image RecordType.U64 input (W.contents writer.old) (W.contents writer.new) result) }
+        IsRun Task.Image RecordType.U64 input (W.contents writer.old) (W.contents writer.new) result.status) }
     ensures ends { IfSome (I.remaining reader.old) (λ input.
-        IsSomeRun input (W.contents writer.old) (W.contents writer.new) result
-        ⊎ IsIdleRun (W.contents writer.old) (W.contents writer.new) result) }
-    ensures usage { result ≡ Status.Usage → Keeps (W.contents writer.old) (W.contents writer.new) }
+        IsSomeRun input (W.contents writer.old) (W.contents writer.new) result.status
+        ⊎ (IsFileRun (W.contents writer.old) (W.contents writer.new) result.status
+        ⊎ IsIdleRun (W.contents writer.old) (W.contents writer.new) result.status)) }
+    ensures usage { result.status ≡ Status.Usage → Keeps (W.contents writer.old) (W.contents writer.new) }
 {
     if words.is_empty() {
-        return run_task(alloc, rt, Task::Image, RecordType::U64, reader, writer);
+        return run_with(run_task(system.alloc, rt, Task::Image, RecordType::U64, reader, writer));
     }
-    match read_words(alloc, words) {
-        Ok((task, record_type)) => run_task(alloc, rt, task, record_type, reader, writer),
-        Err(WordsFault::Memory) => refuse(writer, Refusal::Memory),
-        Err(WordsFault::Usage) => Status::Usage,
+    match read_words(system.alloc, words) {
+        Ok(Request::Input(task, record_type)) => {
+            run_with(run_task(system.alloc, rt, task, record_type, reader, writer))
+        }
+        Ok(Request::File(words)) => match run_file(system, rt, &words, reader, writer) {
+            Ok(status) => run_with(status),
+            Err(complaint) => Outcome {
+                status: refuse_for(writer, &complaint),
+                complaint: Some((words, complaint)),
+            },
+        },
+        Err(WordsFault::Memory) => run_with(refuse(writer, Refusal::Memory)),
+        Err(WordsFault::Usage | WordsFault::Seats) => run_with(Status::Usage),
     }
 }

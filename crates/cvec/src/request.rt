@@ -1,5 +1,7 @@
 //! What the program is asked for.
 
+use segment_core::Format;
+
 /// What is done with the input.
 #[derive(Clone, Copy, Debug, PartialEq, Eq)]
 pub enum Task {
@@ -19,4 +21,56 @@ pub enum RecordType {
     I64,
     Pair,
     Flagged,
+}
+
+/// What is done with a file. Words of records and numbers are as they were given.
+#[derive(Clone, Copy, Debug)]
+pub enum FileTask<'a> {
+    /// A file of this version is made.
+    Create(Format),
+    /// Growths of the input are appended, by so many growers.
+    Load(u16),
+    /// Growths of an input of any length are appended.
+    Append,
+    /// The file is read, and what it has is told.
+    Check,
+    /// Records are listed: from which position on, and how many at most.
+    List {
+        from: Option<&'a str>,
+        count: Option<&'a str>,
+    },
+    /// The records that equal this one are counted.
+    Count(&'a str),
+    /// The first record that equals this one is found.
+    Find(&'a str),
+    /// The records from a position on are replaced.
+    Set { start: &'a str, records: &'a str },
+    /// The length becomes another one.
+    Resize { len: &'a str, record: &'a str },
+    /// All records are taken away.
+    Clear,
+    /// Live changes are put into their home bytes.
+    Fold,
+    /// The vector is copied to a new file of version 2, which has this name.
+    Upgrade(&'a str),
+}
+
+/// A command over a file.
+#[derive(Clone, Copy, Debug)]
+pub struct FileWords<'a> {
+    pub task: FileTask<'a>,
+    pub record_type: RecordType,
+    /// The file's name.
+    pub file: &'a str,
+    /// Nothing is told of how far the work is.
+    pub quiet: bool,
+}
+
+/// What the words ask for.
+#[derive(Clone, Copy, Debug)]
+pub enum Request<'a> {
+    /// Work on the input alone.
+    Input(Task, RecordType),
+    /// Work on a file.
+    File(FileWords<'a>),
 }

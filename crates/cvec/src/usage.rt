@@ -9,26 +9,30 @@ use std::io::Write;
 
 /// What the words may be, and an example.
 const HELP: &[u8] = b"
-image TYPE   makes a segment file of group lines, and writes it as hex
-show TYPE    lists the records of a segment file, which is given as hex
-play TYPE    runs a script of steps over a disk in memory, and writes a line for each of its lines
+image TYPE                                makes a segment file of group lines, and writes it as hex
+show TYPE                                 lists the records of a segment file, which is given as hex
+play TYPE                                 runs a script of steps over a disk in memory
+create TYPE FILE [--format=1|2]           makes a file with an empty vector
+load TYPE FILE [--seats=N]                appends a growth for each line of the input
+append TYPE FILE                          the same for input of any length, durable as it goes
+check TYPE FILE                           reads the file, and tells what it has
+list TYPE FILE [--from=I] [--count=N]     writes its records, one a line
+count TYPE FILE --record=R                counts the records that equal R
+find TYPE FILE --record=R                 writes the position of the first one
+set TYPE FILE START --records=R,R,..      replaces the records from START on
+resize TYPE FILE N --record=R             makes the length N, new records are R
+clear TYPE FILE                           takes all records away
+fold TYPE FILE                            puts live changes into their home bytes
+upgrade TYPE FILE NEW                     copies a vector to a new file of version 2
 
+COMMAND --help tells of each, and --version of the program. --quiet: no progress on the terminal.
 TYPE is u32, u64, i64, pair (a u64 and an i64, as 7:-3) or flagged (a u64 and 0 or 1, as 5:1).
-A group line has growths with ' | ' between each two, and a growth has records with a space between each two.
+A growth has records with a space between each two, and a group line growths with ' | ' between each two.
 
-The lines of a script are
-
-create           share ROOM SEATS      take          list
-create 2         put SEAT R R ..       raise         clear
-open             look SEAT             close         resize N R
-fold             look f                gather        change START R R ..
-log              view SEAT             crash old     changes START R R .. | START R R ..
-home             settled SEAT          crash new     crash XX
-
-with records for R, numbers for the other words in capitals, and two hex digits for XX.
-
+cvec create u64 t.cv
+echo '5 6 7' | cvec load u64 t.cv
+cvec list u64 t.cv
 echo '1 2 | 3' | cvec image u64
-printf 'create\nresize 1 5\ncrash old\nopen\nlist\n' | cvec play u64
 ";
 
 /// Writes what is wrong with the words as a line, where something is.

@@ -6,20 +6,30 @@ ghost use Rattle.clap.specs.declared.error.kind.ErrorKind.TheVariants as kinds;
 ghost use Rattle.cvec.specs.declared.words.WordsFault.TheVariants as faults;
 ghost use Rattle.cvec.specs.Request.{task_word, type_word};
 
-use crate::request::{RecordType, Task};
+use crate::request::{FileTask, FileWords, RecordType, Request, Task};
 use clap::error::ErrorKind;
 use clap::{Arg, ArgAction, ArgMatches, Command, Error};
+use segment_core::Format;
 use std::alloc::{AllocError, Global};
 use std::convert::AsStr;
+use text_core::TextRecord;
 
 /// The words for the types of record.
 const TYPES: [&str; 5] = ["u32", "u64", "i64", "pair", "flagged"];
+
+/// The words for the versions of a file.
+const FORMATS: [&str; 2] = ["1", "2"];
+
+/// The most growers that `load` takes.
+const SEATS_LIMIT: u64 = 64;
 
 /// Why words ask for nothing.
 #[derive(Clone, Copy, Debug, PartialEq, Eq)]
 pub enum WordsFault {
     /// They are not the program's, or they ask for help.
     Usage,
+    /// The number of seats is none from 1 to 64.
+    Seats,
     /// A growth of memory was refused.
     Memory,
 }
@@ -53,7 +63,73 @@ fn typed<'a>(alloc: Global, name: &'a str) -> Result<Command<'a>, AllocError> {
     Command::new(alloc, name).arg(of_type)
 }
 
-/// The task that a command's name stands for.
+/// A word that has to be there. It may be a negative number, which is none of the program's and refused as such.
+fn word<'a>(alloc: Global, name: &'a str) -> Arg<'a> {
+    Arg::new(alloc, name)
+        .required(true)
+        .action(ArgAction::Set)
+        .allow_negative_numbers(true)
+}
+
+/// A value that is joined to its name.
+fn joined<'a>(alloc: Global, name: &'a str) -> Arg<'a> {
+    Arg::new(alloc, name)
+        .long(name)
+        .require_equals(true)
+        .action(ArgAction::Set)
+}
+
+/// A command over a file.
+fn over_file<'a>(alloc: Global, name: &'a str) -> Result<Command<'a>, AllocError> {
+    let quiet = Arg::new(alloc, "quiet")
+        .long("quiet")
+        .action(ArgAction::SetTrue);
+    typed(alloc, name)?.arg(word(alloc, "FILE"))?.arg(quiet)
+}
+
+/// The commands over files that read.
+fn reading<'a>(alloc: Global, command: Command<'a>) -> Result<Command<'a>, AllocError> {
+    let list = over_file(alloc, "list")?
+        .arg(joined(alloc, "from"))?
+        .arg(joined(alloc, "count"))?;
+    let count = over_file(alloc, "count")?.arg(joined(alloc, "record").required(true))?;
+    let find = over_file(alloc, "find")?.arg(joined(alloc, "record").required(true))?;
+    command
+        .subcommand(over_file(alloc, "check")?)?
+        .subcommand(list)?
+        .subcommand(count)?
+        .subcommand(find)
+}
+
+/// The commands over files that append.
+fn growing<'a>(alloc: Global, command: Command<'a>) -> Result<Command<'a>, AllocError> {
+    let format = joined(alloc, "format").value_parser(FORMATS.as_slice());
+    let create = over_file(alloc, "create")?.arg(format)?;
+    let load = over_file(alloc, "load")?.arg(joined(alloc, "seats"))?;
+    let upgrade = over_file(alloc, "upgrade")?.arg(word(alloc, "NEW"))?;
+    command
+        .subcommand(create)?
+        .subcommand(load)?
+        .subcommand(over_file(alloc, "append")?)?
+        .subcommand(upgrade)
+}
+
+/// The commands over files that change what is there.
+fn changing<'a>(alloc: Global, command: Command<'a>) -> Result<Command<'a>, AllocError> {
+    let set = over_file(alloc, "set")?
+        .arg(word(alloc, "START"))?
+        .arg(joined(alloc, "records").required(true))?;
+    let resize = over_file(alloc, "resize")?
+        .arg(word(alloc, "N"))?
+        .arg(joined(alloc, "record").required(true))?;
+    command
+        .subcommand(set)?
+        .subcommand(resize)?
+        .subcommand(over_file(alloc, "clear")?)?
+        .subcommand(over_file(alloc, "fold")?)
+}
+
+/// The task over the input that a command's name stands for.
 fn task_of(name: &str) -> Option<Task>
     ensures named { IfSome result (λ task. name.now ≡ task_word task) }
     ensures unnamed { IfNone result ((task : Task) → name.now ≢ task_word task) }
@@ -89,20 +165,85 @@ fn matches_of<'a, S: AsStr>(alloc: Global, words: &'a [S]) -> Result<ArgMatches<
         .subcommand(typed(alloc, "image")?)?
         .subcommand(typed(alloc, "show")?)?
         .subcommand(typed(alloc, "play")?)?;
+    let command = growing(alloc, command)?;
+    let command = reading(alloc, command)?;
+    let command = changing(alloc, command)?;
     command.try_get_matches_from(words)
 }
 
+/// How many growers a word asks for: a number from 1 to 64.
+fn seats_of(word: Option<&str>) -> Result<u16, WordsFault>
+    ensures { IfOk result (λ seats. (0 < seats) × (seats ≤ 64)) }
+{
+    let Some(word) = word else {
+        return Ok(1);
+    };
+    match u64::parse(word.as_bytes()) {
+        Some(seats) if 1 <= seats && seats <= SEATS_LIMIT => Ok(seats as u16),
+        _ => Err(WordsFault::Seats),
+    }
+}
+
+/// The version of a file that a word asks for.
+fn format_of(word: Option<&str>) -> Format {
+    match word {
+        Some("2") => Format::Two,
+        _ => Format::One,
+    }
+}
+
+/// The task over a file that a command's name and words ask for, where it has words of its own.
+fn worded_task<'a>(name: &str, words: &ArgMatches<'a>) -> Option<FileTask<'a>> {
+    match name {
+        "create" => Some(FileTask::Create(format_of(words.get_str("format")))),
+        "list" => Some(FileTask::List {
+            from: words.get_str("from"),
+            count: words.get_str("count"),
+        }),
+        "count" => Some(FileTask::Count(words.get_str("record")?)),
+        "find" => Some(FileTask::Find(words.get_str("record")?)),
+        "set" => Some(FileTask::Set {
+            start: words.get_str("START")?,
+            records: words.get_str("records")?,
+        }),
+        "resize" => Some(FileTask::Resize {
+            len: words.get_str("N")?,
+            record: words.get_str("record")?,
+        }),
+        "upgrade" => Some(FileTask::Upgrade(words.get_str("NEW")?)),
+        _ => None,
+    }
+}
+
+/// The task over a file that a command's name and words ask for.
+fn file_task<'a>(name: &str, words: &ArgMatches<'a>) -> Result<FileTask<'a>, WordsFault> {
+    match name {
+        "load" => Ok(FileTask::Load(seats_of(words.get_str("seats"))?)),
+        "append" => Ok(FileTask::Append),
+        "check" => Ok(FileTask::Check),
+        "clear" => Ok(FileTask::Clear),
+        "fold" => Ok(FileTask::Fold),
+        _ => worded_task(name, words).ok_or(WordsFault::Usage),
+    }
+}
+
 /// What the words ask for.
-pub fn read_words<'a, S: AsStr>(
-    alloc: Global,
-    words: &'a [S],
-) -> Result<(Task, RecordType), WordsFault> {
+pub fn read_words<'a, S: AsStr>(alloc: Global, words: &'a [S]) -> Result<Request<'a>, WordsFault> {
     let matches = matches_of(alloc, words)?;
     let (name, of_command) = matches.subcommand().ok_or(WordsFault::Usage)?;
     let word = of_command.get_str("TYPE").ok_or(WordsFault::Usage)?;
-    let task = task_of(name).ok_or(WordsFault::Usage)?;
     let record_type = record_type_of(word).ok_or(WordsFault::Usage)?;
-    Ok((task, record_type))
+    if let Some(task) = task_of(name) {
+        return Ok(Request::Input(task, record_type));
+    }
+    let task = file_task(name, of_command)?;
+    let file = of_command.get_str("FILE").ok_or(WordsFault::Usage)?;
+    Ok(Request::File(FileWords {
+        task,
+        record_type,
+        file,
+        quiet: of_command.get_flag("quiet"),
+    }))
 }
 
 /// The error's own words, without the usage behind them. `None`: it is a request for help.
@@ -117,10 +258,16 @@ fn sentence_of(alloc: Global, error: &Error) -> Result<Option<String>, AllocErro
     }
 }
 
-/// What `clap` says is wrong with the words. `None`: nothing is wrong, or they ask for help.
+/// What is wrong with the words, as `clap` says it. `None`: nothing is wrong, or they ask for help.
 pub fn fault_of_words<S: AsStr>(alloc: Global, words: &[S]) -> Result<Option<String>, AllocError> {
-    match matches_of(alloc, words) {
-        Ok(_matches) => Ok(None),
-        Err(error) => sentence_of(alloc, &error),
+    if let Err(error) = matches_of(alloc, words) {
+        return sentence_of(alloc, &error);
+    }
+    match read_words(alloc, words) {
+        Err(WordsFault::Seats) => {
+            let sentence = "error: the value of --seats is a number from 1 to 64";
+            Ok(Some(String::from_str(alloc, sentence)?))
+        }
+        _ => Ok(None),
     }
 }

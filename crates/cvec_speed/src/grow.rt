@@ -102,7 +102,7 @@ fn total_of_blocks(blocks: &[Vec<u64>], growths: u64) -> Total {
 }
 
 /// A phase with room for the growths of all threads, a new seat for each thread, and one more.
-fn begin_empty(
+pub fn begin_empty(
     alloc: Global,
     threads: u16,
     growths: u64,

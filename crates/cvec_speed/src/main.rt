@@ -2,6 +2,7 @@
 //! `cvec_speed WORK name=value ..` and writes one line of JSON for each figure.
 #![tactic(auto)]
 
+mod append;
 mod beside;
 mod change;
 mod commit;
@@ -23,10 +24,12 @@ mod read;
 mod reading;
 mod served;
 mod store;
+mod stress;
 mod waits;
 mod watch;
 mod words;
 
+use crate::append::append;
 use crate::beside::beside;
 use crate::crew::crewed;
 use crate::durable::durable;
@@ -37,6 +40,7 @@ use crate::memory::memory;
 use crate::owned::owned;
 use crate::read::read;
 use crate::store::{build, open};
+use crate::stress::stress;
 use crate::waits::waits;
 use crate::words::{WordsFault, Work, read_words};
 use std::fs::File;
@@ -49,6 +53,7 @@ use std::{env, io};
 
 const USAGE: &str = "usage: cvec_speed WORK name=value ..
 grow threads= block= n=                      threads grow one vector
+append threads= block= n=                    threads grow one vector by records, each through an appender of a block
 beside threads= block= preload= n= cap_ms=   threads sum a vector while one more grows it
 read block= n= draws=                        one thread, and then 1, 2 and 4, read a vector
 memory block= n=                             what memory one thread's growths take
@@ -59,6 +64,7 @@ durable dir= mode= threads= block= n= box_ms=   threads append to a file; mode i
 vault dir= n=                                one owner searches, changes, lengthens and lends out a file's vector
 crew dir= threads= block= n=                 a crew appends to a file, one thread for each grower
 waits threads= phases= rounds=               threads wait for each growth, in phase after phase, over a file in memory
+stress threads= phases= rounds=              as waits, with up to so many threads; phases end, are closed, or their disk stops
 ";
 
 fn main(rt: HostRuntime) -> io::Result<ExitCode> {
@@ -84,6 +90,7 @@ fn measure<E: Threads + Wait + Clock + Files<File = File> + AllocGlobal + Print 
 ) -> io::Result<u8> {
     let done = match work {
         Work::Grow(sizes) => grow(rt, rt.alloc(), sizes),
+        Work::Append(sizes) => append(rt, rt.alloc(), sizes),
         Work::Beside(sizes) => beside(rt, rt.alloc(), sizes),
         Work::Read(sizes) => read(rt, rt.alloc(), sizes),
         Work::Memory(sizes) => memory(rt, rt.alloc(), sizes),
@@ -94,6 +101,7 @@ fn measure<E: Threads + Wait + Clock + Files<File = File> + AllocGlobal + Print 
         Work::Owned(sizes) => owned(rt, rt.alloc(), sizes),
         Work::Crew(sizes) => crewed(rt, rt.alloc(), sizes),
         Work::Waits(sizes) => waits(rt, rt.alloc(), sizes),
+        Work::Stress(sizes) => stress(rt, rt.alloc(), sizes),
     };
     match done {
         Ok(figures) => {

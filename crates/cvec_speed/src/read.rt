@@ -19,6 +19,16 @@ use std::time::{Clock, Duration, Instant};
 /// With how many threads it is read at places without a pattern.
 const THREADS: [usize; 3] = [1, 2, 4];
 
+/// How many places are looked for at once.
+const MANY: usize = 32;
+
+/// How records at random are asked for.
+#[derive(Clone, Copy)]
+enum Asking {
+    OneByOne,
+    ManyAtOnce,
+}
+
 /// Of how many records each growth is, how many records there are, and how many each thread reads.
 #[derive(Clone, Copy)]
 pub struct ReadSizes {
@@ -61,6 +71,38 @@ fn sum_at_random(snapshot: &Snapshot<'_, u64>, first: u64, sizes: ReadSizes) -> 
     sum
 }
 
+/// The sum of the records that were found.
+fn sum_of_found(found: &[Option<&u64>]) -> u64 {
+    let mut sum: u64 = 0;
+    for it in found {
+        if let Some(record) = it {
+            sum = sum.wrapping_add(**record);
+        }
+    }
+    sum
+}
+
+/// As `sum_at_random`, by 32 places at once.
+fn sum_of_many(snapshot: &Snapshot<'_, u64>, first: u64, sizes: ReadSizes) -> u64 {
+    let mut sum: u64 = 0;
+    let mut found: [Option<&u64>; MANY] = [None; MANY];
+    for row in 0..sizes.draws / MANY as u64 {
+        let places = places_of(first.wrapping_add(row.wrapping_mul(MANY as u64)), sizes.n);
+        snapshot.get_many(&places, &mut found);
+        sum = sum.wrapping_add(sum_of_found(&found));
+    }
+    sum
+}
+
+/// As many places without a pattern, from that draw on.
+fn places_of(first: u64, n: u64) -> [u64; MANY] {
+    let mut places = [0; MANY];
+    for k in 0..MANY {
+        places[k] = below(mix(first.wrapping_add(k as u64)), n);
+    }
+    places
+}
+
 /// What that sum is.
 fn wanted_sum(first: u64, sizes: ReadSizes) -> u64 {
     let mut sum: u64 = 0;
@@ -99,10 +141,14 @@ fn read_as<E: Wait + Clock>(
     gate: &Gate,
     id: u64,
     sizes: ReadSizes,
+    asking: Asking,
 ) -> Result<Span, SpeedFault> {
     let first = id << 32;
     let came = gate.pass(rt)?;
-    let sum = sum_at_random(snapshot, first, sizes);
+    let sum = match asking {
+        Asking::OneByOne => sum_at_random(snapshot, first, sizes),
+        Asking::ManyAtOnce => sum_of_many(snapshot, first, sizes),
+    };
     let done = Instant::now(rt)?;
     if sum != wanted_sum(first, sizes) {
         return Err(SpeedFault::Content);
@@ -117,16 +163,20 @@ fn read_at_random<E: Threads + Wait + Clock + Sync>(
     snapshot: &Snapshot<'_, u64>,
     threads: usize,
     sizes: ReadSizes,
+    asking: Asking,
 ) -> Result<Figure, SpeedFault> {
     let gate = Gate::new(threads as u64);
     let spans = thread::map_indices(
         rt,
         alloc,
         threads,
-        &|id| { read_as(rt, snapshot, &gate, id as u64, sizes) },
+        &|id| { read_as(rt, snapshot, &gate, id as u64, sizes, asking) },
     )?;
     Ok(Figure {
-        work: "read.random",
+        work: match asking {
+            Asking::OneByOne => "read.random",
+            Asking::ManyAtOnce => "read.many",
+        },
         threads: threads as u64,
         n: sizes.draws.saturating_mul(threads as u64),
         time: Span::time_of_all(spans)?,
@@ -199,7 +249,7 @@ fn begin_filled<E: Wait>(
     Ok((live, seat))
 }
 
-/// Reads at random by 1, 2 and 4 threads, and in a row.
+/// Reads at random by 1, 2 and 4 threads, one by one and many at once, and in a row.
 fn read_snapshot<E: Threads + Wait + Clock + Sync>(
     rt: &E,
     alloc: Global,
@@ -208,20 +258,28 @@ fn read_snapshot<E: Threads + Wait + Clock + Sync>(
 ) -> Result<Vec<Figure>, SpeedFault> {
     let mut figures = Vec::new(alloc);
     for threads in THREADS {
-        figures.push(read_at_random(rt, alloc, snapshot, threads, sizes)?)?;
+        for asking in [Asking::OneByOne, Asking::ManyAtOnce] {
+            figures.push(read_at_random(rt, alloc, snapshot, threads, sizes, asking)?)?;
+        }
     }
     figures.push(read_in_a_row(rt, snapshot, sizes)?)?;
     Ok(figures)
 }
 
-/// Fills a vector, and reads it in order, then, from a snapshot, by 1, 2 and 4 threads at places without a pattern,
-/// and in a row of a quarter as many reads, of which each is at a place that the one before it gives. Making the
+/// Fills a vector, and reads it in order, then, from a snapshot, by 1, 2 and 4 threads at places without a pattern, one by
+/// one and 32 at once, and in a row of a quarter as many reads, of which each is at a place that the one before it gives. Making the
 /// snapshot isn't timed.
 pub fn read<E: Threads + Wait + Clock + Sync>(
     rt: &E,
     alloc: Global,
     sizes: ReadSizes,
 ) -> Result<Vec<Figure>, SpeedFault> {
+    // Whole rows of places, so that each way of asking reads as many.
+    let sizes = ReadSizes {
+        block: sizes.block,
+        n: sizes.n,
+        draws: sizes.draws / MANY as u64 * MANY as u64,
+    };
     let (live, mut seat) = begin_filled(rt, alloc, sizes)?;
     let in_order = read_in_order(rt, &live, &mut seat, sizes.n)?;
     let snapshot = live.snapshot(&mut seat)?;

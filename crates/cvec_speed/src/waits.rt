@@ -11,8 +11,8 @@ use crate::phase::take_seat;
 use crate::producer::{put, wait_for};
 use crate::served::{Served, serve_beside};
 use crate::watch::Watch;
-use book_core::{Live, Seat};
-use disk_core::RamDisk;
+use book_core::{GrowFault, Live, Seat};
+use disk_core::{Blow, FuseDisk, RamDisk};
 use std::alloc::{AllocError, Global};
 use std::sync::Wait;
 use std::thread;
@@ -28,6 +28,37 @@ const FIRST_PAUSE: u64 = 1 << 13;
 /// The longest pause between a growth and the wait for it, in numbers that are drawn meanwhile: less than a
 /// millisecond.
 const LONGEST_PAUSE: u64 = 1 << 16;
+
+/// How a phase ends.
+#[derive(Clone, Copy, PartialEq, Eq)]
+pub enum End {
+    /// Each thread makes all of its rounds.
+    Whole,
+    /// A thread that has made half of its rounds closes it.
+    Closed,
+    /// Its disk stops behind so many calls.
+    Stopped(u64),
+}
+
+impl End {
+    /// Whether threads of such a phase may leave it so.
+    fn allows(self, left: Result<(), SpeedFault>) -> bool {
+        match left {
+            Ok(()) => true,
+            Err(SpeedFault::Grow(GrowFault::Closed)) => self == End::Closed,
+            Err(SpeedFault::Unsettled) => matches!(self, End::Stopped(_)),
+            Err(_) => false,
+        }
+    }
+
+    /// How many calls its disk lets pass.
+    fn calls(self) -> u64 {
+        match self {
+            End::Whole | End::Closed => u64::MAX,
+            End::Stopped(calls) => calls,
+        }
+    }
+}
 
 /// How many threads wait, in how many phases, one after the other, and how many rounds each of them makes in each.
 #[derive(Clone, Copy)]
@@ -74,6 +105,7 @@ fn make_rounds<E: Wait>(
     seat: &mut Seat<u64>,
     first: u64,
     rounds: u64,
+    end: End,
     watch: &Watch,
 ) -> Result<(), SpeedFault>
     requires { IsSeatOf live.now seat.old }
@@ -81,7 +113,10 @@ fn make_rounds<E: Wait>(
 {
     let mut record = first;
     let mut draws = below(first, FIRST_PAUSE);
-    for _ in 0..rounds {
+    for round in 0..rounds {
+        if end == End::Closed && round == rounds / 2 {
+            live.close(rt);
+        }
         let number = put(rt, alloc, live, seat, &[record])?;
         record = pause(record, draws);
         let (settled, _) = live.settled(seat);
@@ -99,6 +134,7 @@ impl Waiter<'_> {
         rt: &E,
         alloc: Global,
         rounds: u64,
+        end: End,
         watch: &Watch,
     ) -> Result<(), SpeedFault> {
         let Waiter {
@@ -106,9 +142,9 @@ impl Waiter<'_> {
             mut seat,
             first,
         } = self;
-        let made = make_rounds(rt, alloc, live, &mut seat, first, rounds, watch);
+        let made = make_rounds(rt, alloc, live, &mut seat, first, rounds, end, watch);
         watch.leave(rt);
-        made
+        if end.allows(made) { Ok(()) } else { made }
     }
 }
 
@@ -163,6 +199,7 @@ fn run_waiters<E: Threads + Wait + Clock + Eprint + Sync>(
     live: &Live<u64>,
     seats: Vec<Seat<u64>>,
     rounds: u64,
+    end: End,
     phase: u64,
 ) -> Result<(), SpeedFault>
     requires { AreNewSeats live.now.directory live.now.mark seats.items }
@@ -176,7 +213,8 @@ fn run_waiters<E: Threads + Wait + Clock + Eprint + Sync>(
             let threads = waiters.len() as u64;
             let mut running = Vec::with_capacity(alloc, waiters.len())?;
             for waiter in waiters {
-                let Ok(thread) = scope.spawn(move || waiter.run(rt, alloc, rounds, watch)) else {
+                let Ok(thread) = scope.spawn(move || waiter.run(rt, alloc, rounds, end, watch))
+                else {
                     return Err(SpeedFault::Thread);
                 };
                 running.push(thread)?;
@@ -190,15 +228,19 @@ fn run_waiters<E: Threads + Wait + Clock + Eprint + Sync>(
     )
 }
 
-/// A phase of its own, over a new file in memory.
-fn run_phase<E: Threads + Wait + Clock + Eprint + Sync>(
+/// A phase of its own, over a new file in memory, with so many threads. How many growths it settled isn't told: where the
+/// disk stops, fewer than were made.
+pub fn run_phase<E: Threads + Wait + Clock + Eprint + Sync>(
     rt: &E,
     alloc: Global,
-    sizes: WaitsSizes,
+    threads: u16,
+    rounds: u64,
+    end: End,
     phase: u64,
 ) -> Result<(), SpeedFault> {
-    let room = sizes.rounds.saturating_mul(sizes.threads as u64);
-    let served = Served::begin(alloc, RamDisk::new(alloc), room, sizes.threads)?;
+    let room = rounds.saturating_mul(threads as u64);
+    let disk = FuseDisk::new(RamDisk::new(alloc), end.calls(), Blow::Stop);
+    let served = Served::begin(alloc, disk, room, threads)?;
     let Served {
         live,
         seats,
@@ -212,14 +254,16 @@ fn run_phase<E: Threads + Wait + Clock + Eprint + Sync>(
         move || -> Result<(), SpeedFault>
             requires { AreNewSeats shared.now.directory shared.now.mark seats.items }
         {
-            let waited = run_waiters(rt, alloc, shared, seats, sizes.rounds, phase);
+            let waited = run_waiters(rt, alloc, shared, seats, rounds, end, phase);
             shared.close(rt);
             waited
         },
     )?;
     waited?;
-    ended?;
-    Ok(())
+    match ended {
+        Err(fault) if end.calls() == u64::MAX => Err(fault),
+        _ => Ok(()),
+    }
 }
 
 /// Threads wait for each of their growths, in phase after phase. Refused `Still`, where no thread gets on, which is told
@@ -231,7 +275,7 @@ pub fn waits<E: Threads + Wait + Clock + Eprint + Sync>(
 ) -> Result<Vec<Figure>, SpeedFault> {
     let start = Instant::now(rt)?;
     for phase in 0..sizes.phases {
-        run_phase(rt, alloc, sizes, phase)?;
+        run_phase(rt, alloc, sizes.threads, sizes.rounds, End::Whole, phase)?;
     }
     let rounds = sizes.rounds.wrapping_mul(sizes.threads as u64);
     let figure = Figure {

@@ -18,6 +18,8 @@ use std::time::Duration;
 #[derive(Clone, Copy)]
 pub enum Work<'a> {
     Grow(GrowSizes),
+    /// Each thread through an appender.
+    Append(GrowSizes),
     Beside(BesideSizes),
     Read(ReadSizes),
     Memory(MemorySizes),
@@ -30,6 +32,8 @@ pub enum Work<'a> {
     Owned(OwnedSizes<'a>),
     Crew(CrewSizes<'a>),
     Waits(WaitsSizes),
+    /// Phases with up to so many threads, that end in each way.
+    Stress(WaitsSizes),
 }
 
 /// Why words name no work.
@@ -210,6 +214,7 @@ pub fn read_words(words: &[String]) -> Result<Work<'_>, WordsFault> {
     };
     let work = match work.as_str() {
         "grow" => grow_sizes(sizes).map(|sizes| Work::Grow(sizes)),
+        "append" => grow_sizes(sizes).map(|sizes| Work::Append(sizes)),
         "beside" => beside_sizes(sizes).map(|sizes| Work::Beside(sizes)),
         "read" => read_sizes(sizes).map(|sizes| Work::Read(sizes)),
         "memory" => memory_sizes(sizes).map(|sizes| Work::Memory(sizes)),
@@ -220,6 +225,7 @@ pub fn read_words(words: &[String]) -> Result<Work<'_>, WordsFault> {
         "crew" => crew_sizes(sizes).map(|sizes| Work::Crew(sizes)),
         "durable" => durable_sizes(sizes).map(|sizes| Work::Durable(sizes)),
         "waits" => waits_sizes(sizes).map(|sizes| Work::Waits(sizes)),
+        "stress" => waits_sizes(sizes).map(|sizes| Work::Stress(sizes)),
         _ => return Err(WordsFault::NoWork),
     };
     work.ok_or(WordsFault::NoSize)

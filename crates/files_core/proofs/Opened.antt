@@ -10,6 +10,7 @@ use Rattle.std.specs.Io.KnownBytes.{Keeps}
 use Rattle.record_core.specs.Bytes.{Encoding}
 use Rattle.disk_core.specs.State.{State, now, IsImage}
 use Rattle.disk_core.specs.Moments.{LeavesOnly}
+use Rattle.disk_core.proofs.ImageLemmas.{IsImage-settled}
 use Rattle.disk_core.proofs.JoinedMoments.{LeavesOnly-join, LeavesOnly-weaker}
 use Rattle.pen_core.specs.Opening.{IsOpened, OnlySyncs}
 use Rattle.pen_core.specs.PenOf.{PenOf}
@@ -56,3 +57,14 @@ told_ends done refused (Err e) ended told holds = subst (EndsAs done refused) (s
 pub opens_same : {R : Type 0} (form : Encoding R) (was behind records : List R) (image : List ℕ) → was ≡ records → behind ≡ records → OpensToEither form was behind image → OpensTo form image records
 opens_same form was behind records image first second (inl opens) = subst (OpensTo form image) first opens
 opens_same form was behind records image first second (inr opens) = subst (OpensTo form image) second opens
+
+-- it was opened, and once more
+pub opened_again : (old mid new : List State) → IsImage (now old) (bytes_of old) → OnlySyncs old mid → OnlySyncs mid new → LeavesOnly old new (IsImage (now old))
+opened_again old mid new reads first then =
+    LeavesOnly-join old mid new (IsImage (now old)) first.left_before (LeavesOnly-weaker mid new (IsImage (now mid)) (IsImage (now old)) back then.left_before)
+  where
+    back : (image : List ℕ) → IsImage (now mid) image → IsImage (now old) image
+    back image is = elim first.stands [
+      | inl same ↦ subst (λ s. IsImage s image) same is
+      | inr synced ↦ subst (IsImage (now old)) (sym (IsImage-settled (bytes_of old) image (subst (λ s. IsImage s image) synced is))) reads
+    ]

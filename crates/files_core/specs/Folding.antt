@@ -10,7 +10,8 @@ use Rattle.vault_core.specs.declared.fault.VaultFault.{VaultFault}
 use Rattle.vault_core.specs.Commands.{IsFoldFault}
 use Rattle.vault_core.specs.Settles.{IsSettleFault}
 use Rattle.pen_core.specs.PenOf.{PenOf}
-use Rattle.pen_core.specs.Opening.{IsOpenRefusal, OnlySyncs}
+use Rattle.disk_core.specs.Moments.{LeavesOnly}
+use Rattle.pen_core.specs.Opening.{IsOpenRefusal}
 use Rattle.files_core.specs.declared.fault.FileFault.{FileFault}
 use Rattle.files_core.specs.declared.fault.FileFault.TheVariants.{Word, Input, Open, Vault, Grower, Upgrade}
 use Rattle.files_core.specs.Opened.{LeavesBeforeOr}
@@ -35,7 +36,7 @@ pub record Stays {R D : Type 0} (form : Encoding R) (states : D → List State) 
 
 -- Why a file wasn't folded: at opening, and then nothing was written; or by the vault that was opened. Its list stays then, too.
 abbrev pub IsFoldRefusal : {R D : Type 0} → Encoding R → (D → List State) → D → D → FileFault → Type 0
-IsFoldRefusal form states disk left (Open fault) = IsOpenRefusal form (bytes_of (states disk)) fault × OnlySyncs (states disk) (states left)
+IsFoldRefusal form states disk left (Open fault) = IsOpenRefusal form (bytes_of (states disk)) fault × LeavesOnly (states disk) (states left) (IsImage (now (states disk)))
 IsFoldRefusal {R} {D} form states disk left (Vault fault) = (old new : PenOf D) × IsFoldingFault old new fault × Stays form states disk left
 IsFoldRefusal form states disk left (Word word) = ⊥
 IsFoldRefusal form states disk left (Input refusal) = ⊥

@@ -12,3 +12,5 @@ pub mod Listing
 pub mod Checking
 pub mod Folding
 pub mod Upgraded
+pub mod GrowthLines
+pub mod Loading

@@ -1,18 +1,18 @@
 //! `append`: growths of an input of any length, committed as they are read.
 
-use crate::crewing::CrewRecord;
+use crate::crewing::{Deck, OpenGate};
 use crate::ended::Ended;
 use crate::fault::FileFault;
 use crate::growth_lines::growths_of_lines;
 use crate::loading::grow_by;
-use crate::progress::{Progress, Silent};
+use crate::progress::Progress;
 use disk_core::Disk;
 use std::alloc::Global;
 use std::io;
 use std::io::{Read, Write};
 use std::sync::Wait;
 use std::thread::Threads;
-use text_core::{INPUT_LIMIT, Refusal, write_line, write_numbered};
+use text_core::{INPUT_LIMIT, Refusal, TextRecord, write_line, write_numbered};
 use vault_core::Vault;
 
 /// The bytes that are read at least before lines are committed, where there are so many.
@@ -78,7 +78,7 @@ fn write_appended<W: Write>(writer: &mut W, appended: Appended) -> io::Result<()
 }
 
 /// Appends a growth for each of the lines, all of them settled.
-fn append_lines<R: CrewRecord, D: Disk + Send + Drop, E: Threads + Wait + Sync>(
+fn append_lines<R: TextRecord, S: Deck<R> + Drop, D: Disk + Send + Drop, E: Threads + Wait + Sync>(
     rt: &E,
     alloc: Global,
     vault: Vault<R, D>,
@@ -92,20 +92,23 @@ fn append_lines<R: CrewRecord, D: Disk + Send + Drop, E: Threads + Wait + Sync>(
             return Err((vault.into_disk(), fault));
         }
     };
-    let vault = grow_by(rt, alloc, vault, &growths, 1, &Silent)?;
-    appended.growths = appended.growths.saturating_add(growths.count() as u64);
+    let count = growths.count() as u64;
+    let vault = grow_by::<R, S, D, OpenGate, E>(rt, alloc, vault, growths, 1, &OpenGate)?;
+    appended.growths = appended.growths.saturating_add(count);
     appended.size = vault.len();
     Ok(vault)
 }
 
 /// Appends a growth for each line of an input of any length. It reads some lines, makes their growths durable, and goes on:
 /// so `Appended` tells what stands, also where a later line is refused, and the call may be made again with the lines behind
-/// those. Progress is told of growths that stand. Writes `appended G growths, size S` at the end.
+/// those. Progress is told of growths that stand. Writes `appended G growths, size S` at the end. `S` is
+/// `Dealt` of the record.
 ///
 /// Refused: `Open`; then, at the lines that it has come to, `Input` (`Line` and `TooLargeAtLine` with the line's number in
 /// the whole input; `InputTooLong` for a line of more than `INPUT_LIMIT` bytes), and `Vault` and `Grower` as `load`.
 pub fn append<
-    R: CrewRecord,
+    R: TextRecord,
+    S: Deck<R> + Drop,
     D: Disk + Send + Drop,
     I: Read,
     W: Write,
@@ -142,7 +145,13 @@ pub fn append<
         } else {
             whole_lines(&buffer)
         };
-        vault = match append_lines(rt, alloc, vault, &buffer[..lines], &mut appended) {
+        vault = match append_lines::<R, S, D, E>(
+            rt,
+            alloc,
+            vault,
+            &buffer[..lines],
+            &mut appended,
+        ) {
             Ok(vault) => vault,
             Err((disk, fault)) => return (disk, appended, Ended::Refused(fault)),
         };

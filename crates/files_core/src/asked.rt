@@ -59,10 +59,13 @@ fn read_records<R: TextRecord>(alloc: Global, text: &[u8]) -> Result<Vec<R>, Fil
     let mut rest = Some(text);
     while let Some(words) = rest {
         let (word, after) = cut(words, b',');
-        let record = R::parse(word).ok_or(FileFault::Word(Word::Records))?;
-        records
-            .push(record)
-            .map_err(|_| FileFault::Input(Refusal::Memory))?;
+        let Some(value) = R::parse(word) else {
+            return Err(FileFault::Word(Word::Records));
+        };
+        match records.push(value) {
+            Ok(()) => {}
+            Err(_) => return Err(FileFault::Input(Refusal::Memory)),
+        }
         rest = after;
     }
     Ok(records)

@@ -1,6 +1,6 @@
 //! `check`: whether a file is sound, and what it has.
 
-ghost use Rattle.std.specs.Prelude.{◌≡◌, ◌⊎◌, ◌≤◌, ◌<◌, ◌+◌, ◌^◌, ◌++◌, [], ℕ, List, length, OnOk, IfOk, IfErr};
+ghost use Rattle.std.specs.Prelude.{◌≡◌, ◌⊎◌, ◌≤◌, ◌<◌, ◌+◌, ◌-◌, ◌^◌, ◌++◌, [], ℕ, List, length, OnOk, IfOk, IfErr};
 ghost use Rattle.std.specs.Io.KnownBytes.{Appends};
 ghost use Rattle.disk_core.specs.Calls.{bytes_of, Stays};
 ghost use Rattle.disk_core.specs.Moments.{LeavesOnly};
@@ -97,7 +97,6 @@ pub(crate) fn scan_disk<R: Record, D: Disk, P: Progress>(
     progress: &P,
 ) -> Result<Scanned<R>, OpenFault>
     ensures found { D.keeps disk.new → IfOk result (IsScanOf R.form (bytes_of (D.states disk.old))) }
-    ensures folded { IfOk result (λ scanned. scanned.folded ≤ scanned.changes) }
     ensures refused { D.keeps disk.new → IfErr result (IsOpenRefusal R.form (bytes_of (D.states disk.old))) }
     ensures only_syncs { D.keeps disk.new → OnlySyncs (D.states disk.old) (D.states disk.new) }
     ensures model { D.keeps disk.new → D.keeps disk.old }
@@ -117,15 +116,21 @@ pub(crate) fn scan_disk<R: Record, D: Disk, P: Progress>(
     }
 }
 
+/// How many changes are live.
+pub(crate) fn live_changes<R>(scanned: &Scanned<R>) -> u64
+    ensures { result ≡ scanned.now.changes - scanned.now.folded }
+{
+    scanned.changes.saturating_sub(scanned.folded)
+}
+
 fn write_checked<R, W: Write>(writer: &mut W, scanned: &Scanned<R>) -> io::Result<()>
-    requires { scanned.now.folded ≤ scanned.now.changes }
     ensures { OnOk result (Appends (W.contents writer.old) (W.contents writer.new) (checked_line scanned.now)) }
 {
     write_numbered(writer, b"ok version ", scanned.version as u64)?;
     write_numbered(writer, b" width ", scanned.width as u64)?;
-    write_numbered(writer, b" size ", scanned.records.len() as u64)?;
+    write_numbered(writer, b" size ", scanned.records.as_slice().len() as u64)?;
     write_numbered(writer, b" frames ", scanned.frames)?;
-    write_numbered(writer, b" live ", scanned.changes - scanned.folded)?;
+    write_numbered(writer, b" live ", live_changes(scanned))?;
     write_line(b"", writer)
 }
 

@@ -9,7 +9,7 @@ ghost use Rattle.vault_core.specs.Vault.{MayHold, list_of};
 ghost use Rattle.files_core.specs.Folding.{IsFolded, IsFoldRefusal, IsFoldingFault, Stays};
 ghost use Rattle.files_core.specs.Texts.{folded_line};
 
-use crate::checking::scan_disk;
+use crate::checking::{live_changes, scan_disk};
 use crate::ended::Ended;
 use crate::fault::FileFault;
 use crate::progress::Progress;
@@ -29,6 +29,8 @@ fn fold_vault<R: Record, D: Disk>(vault: &mut Vault<R, D>) -> Result<(), VaultFa
     ensures refused { IfErr result (IsFoldingFault vault.old.pen vault.new.pen) }
     ensures model { D.keeps vault.new.pen.disk → D.keeps vault.old.pen.disk }
 {
+    // Whatever a crash leaves now opens to the list.
+    let _disk = vault.disk();
     vault.begin_fold()?;
     vault.settle()
 }
@@ -55,7 +57,7 @@ pub fn fold<R: Record, D: Disk, W: Write, P: Progress>(
 {
     let mut disk = disk;
     let live = match scan_disk::<R, D, P>(alloc, &mut disk, progress) {
-        Ok(scanned) => scanned.changes - scanned.folded,
+        Ok(scanned) => live_changes(&scanned),
         Err(fault) => return (disk, Ended::Refused(FileFault::Open(fault))),
     };
     let mut vault = match Vault::<R, D>::open(alloc, disk) {

@@ -1,5 +1,12 @@
 //! Lines of records, one growth each.
 
+ghost use Rattle.std.specs.Prelude.{◌≡◌, ◌≢◌, ◌≤◌, ◌↔◌, ◌+◌, ◌++◌, ◌∷◌, ◌<◌, ◌^◌, [], ℕ, List, length, OnOk, IfOk, IfErr, IfSome, MatchResult};
+ghost use Rattle.record_core.specs.Limits.{payload_limit};
+ghost use Rattle.block_core.specs.Length.{payload_len};
+ghost use Rattle.text_core.specs.Words.{BringsRecord};
+ghost use Rattle.files_core.specs.declared.fault.FileFault.TheVariants as faults;
+ghost use Rattle.files_core.specs.GrowthLines.{AllFit, AreGrowthLines, IsFirstTooLarge, IsGrowthLine, IsGrowthLineOf, IsLinesRefusal};
+
 use crate::fault::FileFault;
 use record_core::{PAYLOAD_LIMIT, width_of};
 use segment_core::Growths;
@@ -7,55 +14,95 @@ use std::alloc::Global;
 use std::io::Read;
 use text_core::{LineFault, Refusal, TextRecord, cut, read_input};
 
+/// Takes in one word of a growth line: a record.
+fn take_word<R: TextRecord>(word: &[u8], growths: &mut Growths<R>) -> Result<(), LineFault>
+    ensures ok { OnOk result (BringsRecord R.spelling word.now growths.old.0 growths.old.1 growths.new.0 growths.new.1) }
+    ensures bad { result ≡ Err LineFault.Bad → (r : R) → R.spelling.is_value r → R.spelling.text_of r ≢ word.now }
+{
+    match R::parse(word) {
+        None => Err(LineFault::Bad),
+        Some(value) => match growths.push(value) {
+            Ok(()) => Ok(()),
+            Err(_) => Err(LineFault::Memory),
+        },
+    }
+}
+
 /// Reads the growth that a line spells, its records with a space between each two, behind those that were read.
-fn read_growth<R: TextRecord>(line: &[u8], growths: &mut Growths<R>) -> Result<(), LineFault> {
+fn read_growth<R: TextRecord>(line: &[u8], growths: &mut Growths<R>) -> Result<(), LineFault>
+    requires { growths.old.1 ≡ [] }
+    ensures read { OnOk result ((growth : List R) × IsGrowthLineOf R.spelling line.now growth × (growths.new ≡ (growths.old.0 ++ growth ∷ [], []))) }
+    ensures bad { result ≡ Err LineFault.Bad → ¬ (IsGrowthLine R.spelling line.now) }
+{
     let mut rest = Some(line);
     while let Some(text) = rest {
         let (word, after) = cut(text, b' ');
-        let record = R::parse(word).ok_or(LineFault::Bad)?;
-        growths.push(record)?;
+        take_word(word, growths)?;
         rest = after;
     }
-    growths.end()?;
-    Ok(())
+    if !growths.is_begun() {
+        return Err(LineFault::Bad);
+    }
+    growths.end().map_err(|_| LineFault::Memory)
 }
 
 /// The bytes that stand in a frame's payload before the records of its one growth.
 const GROWTH_HEAD_LEN: usize = 8;
 
 /// How many records a growth has at most.
-fn greatest_growth<R: TextRecord>() -> usize {
+fn greatest_growth<R: TextRecord>() -> usize
+    ensures { (n : ℕ) → (n ≤ result) ↔ (payload_len R.form.width n ≤ payload_limit) }
+{
     (PAYLOAD_LIMIT - GROWTH_HEAD_LEN) / width_of::<R>()
+}
+
+/// Whether each growth fits one frame. Refused: `TooLargeAtLine`, with the number, from 1, of the first that doesn't.
+fn check_sizes<R: TextRecord>(growths: &Growths<R>) -> Result<(), Refusal>
+    ensures { MatchResult result (λ _. AllFit R.form.width growths.now.0) (λ refusal. (k : ℕ) × IsFirstTooLarge R.form.width growths.now.0 k × (refusal ≡ Refusal.TooLargeAtLine (k + 1))) }
+{
+    let greatest = greatest_growth::<R>();
+    for k in 0..growths.count() {
+        if growths.growth(k).len() > greatest {
+            return Err(Refusal::TooLargeAtLine(k as u64 + 1));
+        }
+    }
+    Ok(())
+}
+
+/// The growths that the lines spell, one each, whatever their sizes.
+fn read_lines<R: TextRecord>(alloc: Global, input: &[u8]) -> Result<Growths<R>, Refusal>
+    ensures read { IfOk result (λ growths. AreGrowthLines R.spelling input.now growths.0) }
+    ensures refused { IfErr result (IsLinesRefusal R.form.width R.spelling input.now) }
+{
+    let mut growths = Growths::<R>::new(alloc);
+    let mut lines = 0u64;
+    let mut rest = input;
+    while !rest.is_empty() {
+        let (line, after) = cut(rest, b'\n');
+        lines += 1;
+        match read_growth(line, &mut growths) {
+            Ok(()) => {}
+            Err(LineFault::Bad) => return Err(Refusal::Line(lines)),
+            Err(LineFault::Memory) => return Err(Refusal::Memory),
+        }
+        rest = after.unwrap_or(&[]);
+    }
+    Ok(growths)
 }
 
 /// The growths that the lines spell, one each. Each line is read before a size is tested.
 pub(crate) fn growths_of_lines<R: TextRecord>(
     alloc: Global,
     input: &[u8],
-) -> Result<Growths<R>, Refusal> {
-    let mut growths = Growths::new(alloc);
-    let mut rest = input;
-    while !rest.is_empty() {
-        let (line, after) = cut(rest, b'\n');
-        match read_growth(line, &mut growths) {
-            Ok(()) => {}
-            Err(LineFault::Bad) => return Err(Refusal::Line(growths.count() as u64 + 1)),
-            Err(LineFault::Memory) => return Err(Refusal::Memory),
-        }
-        rest = after.unwrap_or(&[]);
+) -> Result<Growths<R>, Refusal>
+    ensures read { IfOk result (λ growths. AreGrowthLines R.spelling input.now growths.0 × AllFit R.form.width growths.0) }
+    ensures refused { IfErr result (IsLinesRefusal R.form.width R.spelling input.now) }
+{
+    let growths = read_lines(alloc, input)?;
+    match check_sizes(&growths) {
+        Ok(()) => Ok(growths),
+        Err(refusal) => Err(refusal),
     }
-    check_sizes(&growths)?;
-    Ok(growths)
-}
-
-/// Whether each growth fits one frame.
-fn check_sizes<R: TextRecord>(growths: &Growths<R>) -> Result<(), Refusal> {
-    for k in 0..growths.count() {
-        if growths.growth(k).len() > greatest_growth::<R>() {
-            return Err(Refusal::TooLargeAtLine(k as u64 + 1));
-        }
-    }
-    Ok(())
 }
 
 /// Reads the input of `load`: lines of records with a space between each two, one growth each, of at most `INPUT_LIMIT`
@@ -66,9 +113,13 @@ fn check_sizes<R: TextRecord>(growths: &Growths<R>) -> Result<(), Refusal> {
 pub fn read_growth_lines<R: TextRecord, I: Read>(
     alloc: Global,
     reader: &mut I,
-) -> Result<Growths<R>, FileFault> {
+) -> Result<Growths<R>, FileFault>
+    ensures read { IfOk result (λ growths. IfSome (I.remaining reader.old) (λ input. AreGrowthLines R.spelling input growths.0)) }
+    ensures fit { IfOk result (λ growths. AllFit R.form.width growths.0) }
+    ensures refused { IfErr result (λ fault. (refusal : Refusal) × (fault ≡ faults.Input refusal) × IfSome (I.remaining reader.old) (λ input. IsLinesRefusal R.form.width R.spelling input refusal)) }
+{
     let read = match read_input(alloc, reader) {
-        Ok(input) => growths_of_lines(alloc, input.as_slice()),
+        Ok(input) => growths_of_lines::<R>(alloc, input.as_slice()),
         Err(refusal) => Err(refusal),
     };
     match read {

@@ -26,7 +26,7 @@ pub use appending::{Appended, append};
 pub use asked::{Resizing, Setting, Window, read_record, read_resizing, read_setting, read_window};
 pub use checking::check;
 pub use creating::create;
-pub use crewing::CrewRecord;
+pub use crewing::{Dealt, Deck, OpenGate};
 pub use ended::Ended;
 pub use fault::{FileFault, Stopped, Word, refuse_file};
 pub use folding::fold;

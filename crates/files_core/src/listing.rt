@@ -1,6 +1,6 @@
 //! `list`: the records of positions.
 
-ghost use Rattle.std.specs.Prelude.{OnOk};
+ghost use Rattle.std.specs.Prelude.{◌≡◌, OnOk, take, drop};
 ghost use Rattle.std.specs.Io.KnownBytes.{Appends};
 ghost use Rattle.disk_core.specs.Calls.{bytes_of};
 ghost use Rattle.segment_core.specs.Written.{joined};
@@ -23,6 +23,16 @@ use vault_core::{Pieces, Vault};
 /// How many records are written before progress is told.
 const CHUNK_LEN: usize = 65_536;
 
+/// What is left of a piece behind so many records, and so many of it at most.
+fn part<R>(piece: &[R], skip: u64, left: u64) -> &[R]
+    ensures { result.now ≡ take left (drop skip piece.now) }
+{
+    let from = skip.min(piece.len() as u64) as usize;
+    let rest = &piece[from..];
+    let count = left.min(rest.len() as u64) as usize;
+    &rest[..count]
+}
+
 /// Writes the records of a window of the pieces, one a line.
 fn write_window<R: TextRecord, W: Write, P: Progress>(
     pieces: Pieces<'_, R>,
@@ -31,25 +41,18 @@ fn write_window<R: TextRecord, W: Write, P: Progress>(
     progress: &P,
     writer: &mut W,
 ) -> io::Result<()>
-    ensures { OnOk result (Appends (W.contents writer.old) (W.contents writer.new) (record_lines R.spelling.text_of (in_window window.now (joined pieces)))) }
+    ensures { OnOk result (Appends (W.contents writer.old) (W.contents writer.new) (record_lines R.spelling.text_of (in_window window.now (joined pieces.entry)))) }
 {
+    let mut pieces = pieces;
     let mut skip = window.from;
     let mut left = window.count;
     let mut done: u64 = 0;
-    for piece in pieces {
-        let len = piece.len() as u64;
-        let from = skip.min(len);
-        let n = left.min(len - from);
-        write_chunks(
-            &piece[from as usize..(from + n) as usize],
-            done,
-            of,
-            progress,
-            writer,
-        )?;
-        skip -= from;
-        left -= n;
-        done += n;
+    while let Some(piece) = pieces.next() {
+        let records = part(piece, skip, left);
+        write_chunks(records, done, of, progress, writer)?;
+        skip = skip.saturating_sub(piece.len() as u64);
+        left = left.saturating_sub(records.len() as u64);
+        done = done.saturating_add(records.len() as u64);
     }
     Ok(())
 }

@@ -1,12 +1,23 @@
 //! `load`: growths of many growers.
 
-use crate::crewing::{CrewRecord, count_for};
+ghost use Rattle.std.specs.Prelude.{◌≡◌, ◌<◌, ◌≤◌, ◌^◌, ◌++◌, ℕ, List, Some, length, slice_get, OnOk, IfOk, IfErr, IfNone, IfSome, MatchOption, vec_len};
+ghost use Rattle.std.specs.Io.KnownBytes as known;
+ghost use Rattle.std.specs.Global.{Vec};
+ghost use Rattle.block_core.specs.Growth.{Growth};
+ghost use Rattle.book_core.specs.declared.seat.Receipt.{Receipt};
+ghost use Rattle.directory_core.specs.Chain.{joined};
+ghost use Rattle.vault_core.specs.Vault.{list_of};
+ghost use Rattle.files_core.specs.Ended.{EndsAs, Writes};
+ghost use Rattle.files_core.specs.Loading.{AreDealt, AllMade, StandBehind, IsGrowthStop, IsLoaded, IsLoadRefusal};
+ghost use Rattle.files_core.specs.Texts.{loaded_line};
+
+use crate::crewing::Deck;
 use crate::ended::Ended;
 use crate::fault::{FileFault, Stopped};
-use crate::progress::Progress;
 use book_core::GrowFault;
 use disk_core::Disk;
 use pen_core::PenFault;
+use record_core::Record;
 use segment_core::Growths;
 use std::alloc::Global;
 use std::io;
@@ -14,30 +25,39 @@ use std::io::Write;
 use std::sync::Wait;
 use std::thread::Threads;
 use text_core::{write_line, write_numbered};
-use vault_core::{CrewFault, Crewed, Vault, VaultFault};
+use vault_core::{CrewFault, Crewed, Gate, Source, Vault, VaultFault, crew};
 
-fn write_loaded<W: Write>(writer: &mut W, growths: u64, size: u64) -> io::Result<()> {
+fn write_loaded<W: Write>(writer: &mut W, growths: u64, size: u64) -> io::Result<()>
+    ensures { OnOk result (known.Appends (W.contents writer.old) (W.contents writer.new) (loaded_line growths size)) }
+{
     write_numbered(writer, b"loaded ", growths)?;
     write_numbered(writer, b" growths, size ", size)?;
     write_line(b"", writer)
 }
 
-/// The first grower, by its number, that made fewer growths than are for it, or had a fault.
-fn first_stopped<R: CrewRecord, D: Disk>(
+/// The first grower, by its number, that made fewer growths than its source names for it, or had a fault.
+fn first_stopped<R: Record, D: Disk, S: Source<R>>(
     crewed: &Crewed<R, D>,
-    growths: usize,
-    growers: u16,
-) -> Option<Stopped> {
+    source: &S,
+) -> Option<Stopped>
+    requires { (vec_len crewed.now.receipts ≡ S.growers_of source.now) × (vec_len crewed.now.faults ≡ S.growers_of source.now) }
+    ensures { MatchOption result
+        ((k : ℕ) → k < S.growers_of source.now → (its : Vec Receipt) → slice_get crewed.now.receipts.items k ≡ Some its → S.count_of source.now k ≤ length its.items)
+        (λ stopped. stopped.size ≡ length (list_of crewed.now.vault)) }
+{
+    let growers = source.growers();
     for grower in 0..growers {
-        let made = crewed.receipts[grower as usize].len() as u64;
+        let made = crewed.receipts[grower as usize].as_slice().len() as u64;
         let fault = match crewed.faults[grower as usize] {
             Some(fault) => fault,
-            None if made < count_for(growths, growers, grower) as u64 => GrowFault::Closed,
+            None if made < source.count(grower) as u64 => GrowFault::Closed,
             None => continue,
         };
         return Some(Stopped {
             grower,
-            line: made * growers as u64 + grower as u64 + 1,
+            line: made
+                .saturating_mul(growers as u64)
+                .saturating_add(grower as u64 + 1),
             fault,
             size: crewed.vault.len(),
         });
@@ -47,21 +67,28 @@ fn first_stopped<R: CrewRecord, D: Disk>(
 
 /// Appends growths to a vault by a crew of so many growers: growth `k`, counted from 0, is made by grower `k` modulo their
 /// number. Gives the vault back where all were made.
-pub(crate) fn grow_by<R: CrewRecord, D: Disk + Send + Drop, P: Progress, E: Threads + Wait + Sync>(
+pub(crate) fn grow_by<
+    R: Record,
+    S: Deck<R> + Drop,
+    D: Disk + Send + Drop,
+    G: Gate,
+    E: Threads + Wait + Sync,
+>(
     rt: &E,
     alloc: Global,
     vault: Vault<R, D>,
-    growths: &Growths<R>,
+    growths: Growths<R>,
     growers: u16,
-    progress: &P,
+    gate: &G,
 ) -> Result<Vault<R, D>, (D, FileFault)>
-    requires { 0 < growers }
+    ensures grown { IfOk result (λ new. (made : List (Growth R)) × AreDealt growths.0 growers made × AllMade growths.0 growers made × StandBehind R.form D.keeps D.states vault new.pen.disk made × (list_of new ≡ list_of vault ++ joined made)) }
+    ensures stopped { IfErr result (λ r. IsGrowthStop R.form D.keeps D.states growths.0 growers vault r.0 r.1) }
 {
-    if growths.count() > u32::MAX as usize {
+    let Some(source) = S::deal(growths, growers) else {
         let fault = VaultFault::Pen(PenFault::TooLarge);
         return Err((vault.into_disk(), FileFault::Vault(fault)));
-    }
-    let crewed = match R::crew_by(rt, alloc, vault, growths, growers, progress) {
+    };
+    let crewed = match crew(rt, alloc, vault, &source, gate) {
         Ok(crewed) => crewed,
         Err(CrewFault::Share(vault, fault)) => {
             return Err((vault.into_disk(), FileFault::Vault(fault)));
@@ -72,35 +99,45 @@ pub(crate) fn grow_by<R: CrewRecord, D: Disk + Send + Drop, P: Progress, E: Thre
             return Err((disk, FileFault::Vault(fault)));
         }
     };
-    match first_stopped(&crewed, growths.count(), growers) {
+    match first_stopped(&crewed, &source) {
         None => Ok(crewed.vault),
         Some(stopped) => Err((crewed.vault.into_disk(), FileFault::Grower(stopped))),
     }
 }
 
 /// Appends growths to the file's vector by a crew of so many growers, growth `k`, counted from 0, by grower `k` modulo their
-/// number, and writes `loaded G growths, size S` once all of them are settled.
+/// number, and writes `loaded G growths, size S` once all of them are settled. Each growth is asked and told by the gate, by
+/// many threads at once; a grower that it stops has the fault `Closed`. `S` is `Dealt` of the record.
 ///
-/// Refused: `Open`; then `Vault`, as `share` or `gather` is, `TooLarge` for more growths than a phase has room for, or more
-/// than 64 growers; `Grower`, with the first fault by grower: the growths that were made stand then.
-pub fn load<R: CrewRecord, D: Disk + Send + Drop, W: Write, P: Progress, E: Threads + Wait + Sync>(
+/// Refused: `Open`; then `Vault`, as `share` or `gather` is, `TooLarge` for more growths than a phase has room for, no
+/// grower, or more than 64; `Grower`, with the first fault by grower: the growths that were made stand then.
+pub fn load<
+    R: Record,
+    S: Deck<R> + Drop,
+    D: Disk + Send + Drop,
+    W: Write,
+    G: Gate,
+    E: Threads + Wait + Sync,
+>(
     rt: &E,
     alloc: Global,
     disk: D,
-    growths: &Growths<R>,
+    growths: Growths<R>,
     growers: u16,
-    progress: &P,
+    gate: &G,
     writer: &mut W,
 ) -> (D, Ended)
-    requires { 0 < growers }
+    ensures loaded { EndsAs ((size : ℕ) × IsLoaded R.form D.keeps D.states growths.0 growers disk result.0 size) (IsLoadRefusal R.form D.keeps D.states growths.0 growers disk result.0) result.1 }
+    ensures writes { Writes (W.contents writer.old) (W.contents writer.new) (λ text. (size : ℕ) × IsLoaded R.form D.keeps D.states growths.0 growers disk result.0 size × (text ≡ loaded_line (length growths.0) size)) result.1 }
 {
     let vault = match Vault::<R, D>::open(alloc, disk) {
         Ok(vault) => vault,
         Err((disk, fault)) => return (disk, Ended::Refused(FileFault::Open(fault))),
     };
-    match grow_by(rt, alloc, vault, growths, growers, progress) {
+    let count = growths.count() as u64;
+    match grow_by::<R, S, D, G, E>(rt, alloc, vault, growths, growers, gate) {
         Ok(vault) => {
-            let written = write_loaded(writer, growths.count() as u64, vault.len());
+            let written = write_loaded(writer, count, vault.len());
             (vault.into_disk(), Ended::told(written))
         }
         Err((disk, fault)) => (disk, Ended::Refused(fault)),

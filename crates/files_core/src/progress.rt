@@ -1,9 +1,9 @@
 //! How far work is, for who watches it.
 
-/// Is told how far work is. Contracts say nothing of it. It may be told from several threads at once.
-pub trait Progress: Sync {
+/// Is told how far work is. Contracts say nothing of it. `load` tells a `Gate` in its place.
+pub trait Progress {
     /// So much is done, of so much in all; 0 of `of` where that isn't known. It is called at most once for each piece of the
-    /// work: bytes of `check` and `append`, growths of `load`, records of `list`.
+    /// work: bytes of `check` and `fold`, growths of `append`, records of `list`.
     fn at(&self, done: u64, of: u64);
 }
 

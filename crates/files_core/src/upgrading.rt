@@ -10,7 +10,7 @@ ghost use Rattle.files_core.specs.Upgraded.{IsUpgraded, IsUpgradeRefusal};
 use crate::ended::Ended;
 use crate::fault::FileFault;
 use disk_core::Disk;
-use record_core::Record;
+use record_core::{Record, width_of};
 use std::alloc::Global;
 use std::io;
 use std::io::Write;
@@ -38,6 +38,8 @@ pub fn upgrade_file<R: Record, D: Disk, N: Disk, W: Write>(
     ensures upgraded { EndsAs ((text : List ℕ) × IsUpgraded R.form D.keeps D.states N.keeps N.states N.faults old new result.0 result.1 text) (IsUpgradeRefusal R.form D.keeps D.states N.keeps N.states N.faults old new result.0 result.1) result.2 }
     ensures writes { Writes (W.contents writer.old) (W.contents writer.new) (IsUpgraded R.form D.keeps D.states N.keeps N.states N.faults old new result.0 result.1) result.2 }
 {
+    // No record is wider than a header tells, so a piece has one.
+    let _width = width_of::<R>();
     match upgrade::<R, D, N>(alloc, old, new, greatest_piece::<R>()) {
         Ok((old, vault)) => {
             let written = write_upgraded(writer, vault.len());

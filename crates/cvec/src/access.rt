@@ -1,0 +1,66 @@
+//! Files that are opened, and who may use them at once.
+
+use crate::complaint::{Complaint, Role};
+use disk_core::FileDisk;
+use std::fs::{File, OpenOptions, TryLockError};
+use std::rt::Files;
+
+/// What a command does with a file.
+#[derive(Clone, Copy, Debug, PartialEq, Eq)]
+pub enum Access {
+    /// It reads. Others may read at once.
+    Reads,
+    /// It writes, and is alone meanwhile.
+    Writes,
+    /// It makes the file where there is none, writes, and is alone meanwhile.
+    Makes,
+}
+
+/// A file as a disk, with a lock that others of this program heed as long as this stands.
+#[derive(Drop)]
+pub struct Opened {
+    pub disk: FileDisk,
+    pub lock: File,
+}
+
+/// Locks the file at this path. Nothing is read or written. Refused where it can't be opened or made, and where another
+/// command has it.
+fn lock<F: Files<File = File>>(files: &F, path: &str, access: Access, role: Role) -> Result<File, Complaint> {
+    let opened = OpenOptions::new()
+        .read(true)
+        .write(true)
+        .create(access == Access::Makes)
+        .open(files, path);
+    let file = match opened {
+        Ok(file) => file,
+        Err(error) => return Err(Complaint::NotOpened(role, error)),
+    };
+    let locked = match access {
+        Access::Reads => file.try_lock_shared(),
+        Access::Writes | Access::Makes => file.try_lock(),
+    };
+    match locked {
+        Ok(()) => Ok(file),
+        Err(TryLockError::WouldBlock) => Err(Complaint::InUse(role)),
+        Err(TryLockError::Error(error)) => Err(Complaint::NotOpened(role, error)),
+    }
+}
+
+/// Locks and opens the file at this path. Nothing is read or written. Refused where it can't be opened or made, and where
+/// another command has it.
+pub fn open<F: Files<File = File> + AllocGlobal>(
+    files: &F,
+    path: &str,
+    access: Access,
+    role: Role,
+) -> Result<Opened, Complaint> {
+    let lock = lock(files, path, access, role)?;
+    let opened = match access {
+        Access::Makes => FileDisk::make(files, path),
+        Access::Reads | Access::Writes => FileDisk::open(files, path),
+    };
+    match opened {
+        Ok(disk) => Ok(Opened { disk, lock }),
+        Err(error) => Err(Complaint::NotOpened(role, error)),
+    }
+}

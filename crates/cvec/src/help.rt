@@ -1,0 +1,202 @@
+//! What the program tells of itself: of each command what it does, its words, an example with its output, and its refusals.
+
+/// The program's version, the versions of files that it reads and writes, and what it was proved and built with.
+pub const VERSION: &[u8] = b"cvec 1.0
+files of version 1 and 2
+proved and built with rattle-kit-13b logic dac8208d650f15bf
+";
+
+const IMAGE: &[u8] = b"cvec image TYPE
+
+Makes a segment file of the group lines of the input, one group each, and writes it as a hex line. A group line has growths
+with ' | ' between each two, and a growth has records with a space between each two.
+
+  $ echo '1 2 | 3' | cvec image u64
+  01435645435345470108000101240000000200000002000000010000000100000000000000020000000000000003000000000000
+  0000
+
+Refused: line N, too large at line N, input, input too long, memory.
+";
+
+const SHOW: &[u8] = b"cvec show TYPE
+
+Lists the records of the segment file that the input is in hex, one a line.
+
+  $ echo '5' | cvec image u64 | cvec show u64
+  5
+
+Refused: not hex, the file's first fault, input, input too long, memory.
+";
+
+const PLAY: &[u8] = b"cvec play TYPE
+
+Runs a script of steps over a disk in memory, and writes a line for each of its lines. docs/PLAY.md has the steps.
+
+  $ printf 'create\nresize 1 5\ncrash old\nopen\nlist\n' | cvec play u64
+  ok
+  ok
+  crashed 34
+  size 1
+  5
+
+Refused: line N, input, input too long, memory.
+";
+
+const CREATE: &[u8] = b"cvec create TYPE FILE [--format=1|2]
+
+Makes a file with an empty vector. Its version is 1, or the one that is given.
+
+  $ cvec create u64 t.cv
+  created
+
+Refused: exists (the file stays as it is), file, memory, and the disk's faults.
+";
+
+const LOAD: &[u8] = b"cvec load TYPE FILE [--seats=N] [--quiet] < LINES
+
+Appends a growth for each line of the input: records with one space between each two. N growers (1 to 64, else 1) take the
+lines in turn. When it has told 'loaded', all growths are on the device. The input has at most 67108864 bytes.
+
+  $ echo '5 6 7' | cvec load u64 t.cv
+  loaded 1 growths, size 3
+
+Refused: line N and too large at line N (nothing is grown), input, input too long, file, the file's first fault, closed,
+full, too long, memory, and the disk's faults.
+";
+
+const APPEND: &[u8] = b"cvec append TYPE FILE [--quiet] < LINES
+
+Appends a growth for each line of an input of any length, and puts them on the device some lines at a time. Where a line is
+refused, those before it stand, and standard error tells how many they are.
+
+  $ seq 1 1000000 | cvec append u64 t.cv
+  appended 1000000 growths, size 1000000
+
+Refused: as load.
+";
+
+const CHECK: &[u8] = b"cvec check TYPE FILE [--quiet]
+
+Reads the whole file, and tells its version, the bytes of a record, how many records its vector has, how many frames it
+has, and how many changes are live, which `fold` puts into their home bytes.
+
+  $ cvec check u64 t.cv
+  ok version 1 width 8 size 3 frames 1 live 0
+
+Refused: the file's first fault (unborn, not a segment, version V, width W, damaged at P: CAUSE), file, memory.
+";
+
+const LIST: &[u8] = b"cvec list TYPE FILE [--from=I] [--count=N] [--quiet]
+
+Writes the records one a line: all, or those from position I on, N at most.
+
+  $ cvec list u64 t.cv --from=1 --count=1
+  6
+
+Refused: word, file, the file's first fault, memory.
+";
+
+const COUNT: &[u8] = b"cvec count TYPE FILE --record=R
+
+Writes how many records equal R.
+
+  $ cvec count u64 t.cv --record=6
+  1
+
+Refused: word, file, the file's first fault, memory.
+";
+
+const FIND: &[u8] = b"cvec find TYPE FILE --record=R
+
+Writes the least position whose record equals R, or none.
+
+  $ cvec find u64 t.cv --record=4
+  none
+
+Refused: word, file, the file's first fault, memory.
+";
+
+const SET: &[u8] = b"cvec set TYPE FILE START --records=R,R,..
+
+Puts the records in the place of those from position START on, as one change: after a crash all of it is there, or none.
+
+  $ cvec set u64 t.cv 1 --records=8,9
+  ok
+
+Refused: word, file, the file's first fault, out of range, too large, file full, memory, and the disk's faults.
+";
+
+const RESIZE: &[u8] = b"cvec resize TYPE FILE N --record=R
+
+Makes the length N: by records R behind the last one, or by taking the last ones away.
+
+  $ cvec resize u64 t.cv 2 --record=0
+  ok
+
+Refused: word, file, the file's first fault, unfolded (fold first), out of range, file full, memory, and the disk's faults.
+";
+
+const CLEAR: &[u8] = b"cvec clear TYPE FILE
+
+Takes all records away. The file doesn't become shorter.
+
+  $ cvec clear u64 t.cv
+  ok
+
+Refused: file, the file's first fault, unfolded (fold first), file full, memory, and the disk's faults.
+";
+
+const FOLD: &[u8] = b"cvec fold TYPE FILE [--quiet]
+
+Puts the live changes into their home bytes, and writes how many they were. Then the vector can become shorter.
+
+  $ cvec fold u64 t.cv
+  folded 1
+
+Refused: file, the file's first fault, file full, memory, and the disk's faults.
+";
+
+const UPGRADE: &[u8] = b"cvec upgrade TYPE FILE NEW
+
+Copies the vector of a file of version 1 to a new file of version 2. FILE stays as it is. One that was stopped is begun
+again, on another new file.
+
+  $ cvec upgrade u64 t.cv n.cv
+  upgraded size 3
+
+Refused: file, old and FILE's first fault, not version 1, new exists, and new with the faults of a write.
+";
+
+/// What is told of a command.
+pub fn help_of(command: &str) -> Option<&'static [u8]> {
+    match command {
+        "image" => Some(IMAGE),
+        "show" => Some(SHOW),
+        "play" => Some(PLAY),
+        "create" => Some(CREATE),
+        "load" => Some(LOAD),
+        "append" => Some(APPEND),
+        "check" => Some(CHECK),
+        "list" => Some(LIST),
+        "count" => Some(COUNT),
+        "find" => Some(FIND),
+        "set" => Some(SET),
+        "resize" => Some(RESIZE),
+        "clear" => Some(CLEAR),
+        "fold" => Some(FOLD),
+        "upgrade" => Some(UPGRADE),
+        _ => None,
+    }
+}
+
+/// What words that ask the program of itself are answered with: `COMMAND --help`, `help COMMAND` and `--version`.
+pub fn told_of(words: &[String]) -> Option<&'static [u8]> {
+    match words {
+        [word] if word.as_str() == "--version" => Some(VERSION),
+        [command, word] if word.as_str() == "--help" || word.as_str() == "-h" => {
+            help_of(command.as_str())
+        }
+        [word, command] if word.as_str() == "help" => help_of(command.as_str()),
+        _ => None,
+    }
+}

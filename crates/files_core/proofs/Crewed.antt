@@ -1,0 +1,107 @@
+-- Growths that a crew has made.
+use Rattle.std.proofs.Common.{◌≡◌, ◌⊎◌, ℕ, zero, suc, ◌<◌, ◌≤◌, List, [], ◌∷◌, ◌++◌, length, map, Option, Some, None, slice_get, inl, inr, refl, sym, ap, subst, ◌∙◌, arith}
+use Rattle.std.specs.Global.{Vec}
+use Rattle.std.proofs.lemmas.List.{length-map}
+use Rattle.record_core.specs.Bytes.{Encoding}
+use Rattle.disk_core.specs.State.{State, now, IsImage}
+use Rattle.disk_core.specs.Calls.{bytes_of}
+use Rattle.disk_core.specs.Moments.{LeavesOnly}
+use Rattle.block_core.specs.Growth.{Growth}
+use Rattle.directory_core.specs.Chain.{joined}
+use Rattle.book_core.specs.declared.seat.Receipt.{Receipt}
+use Rattle.book_core.specs.declared.fault.GrowFault.{GrowFault}
+use Rattle.book_core.specs.Lists.{own_of}
+use Rattle.pen_core.specs.Typed.{OpensTo}
+use Rattle.vault_core.specs.Crewing.{HasCrewed, OpensToGrown, receipt_of}
+use Rattle.vault_core.specs.Vault.{VaultOf, list_of}
+use Rattle.files_core.specs.Dealt.{count_for, dealt}
+use Rattle.files_core.specs.declared.fault.FileFault.{FileFault}
+use Rattle.files_core.specs.declared.fault.FileFault.TheVariants as faults
+use Rattle.files_core.specs.Loading.{AreDealt, AllMade, StandBehind, Appends, IsGrowthStop, IsLoaded, IsLoadRefusal}
+use Rattle.files_core.specs.Opened.{IsOpenedOn, LeavesBeforeOr}
+use Rattle.files_core.proofs.Opened.{opened_list, opened_alone, opened_then}
+
+some_of : {X Y : Type 0} (f : X → Y) (xs : List X) (k : ℕ) (y : Y) → slice_get (map f xs) k ≡ Some y → (x : X) × (slice_get xs k ≡ Some x) × (f x ≡ y)
+some_of f [] k y there = cc there
+some_of f (x ∷ xs) zero y there = (x, refl, same there)
+  where
+    same : Some (f x) ≡ Some y → f x ≡ y
+    same is = cc
+some_of f (x ∷ xs) (suc k) y there = some_of f xs k y there
+
+module _ {R D : Type 0} (form : Encoding R) (keeps : D → Type 0) (states : D → List State) where
+  -- what a source deals is what is said of it
+  pub crewed_as : (count other_count : ℕ → ℕ) (block other_block : ℕ → ℕ → List R) (n other_n : ℕ) (old new : VaultOf R D) (receipts : List (List Receipt)) (faults : List (Option GrowFault)) → count ≡ other_count → block ≡ other_block → n ≡ other_n
+      → HasCrewed form keeps states count block n old new receipts faults → HasCrewed form keeps states other_count other_block other_n old new receipts faults
+  crewed_as count other_count block other_block n other_n old new receipts faults same_count same_block same_n crewed =
+      subst (λ m. HasCrewed form keeps states other_count other_block m old new receipts faults) same_n
+      (subst (λ b. HasCrewed form keeps states other_count b n old new receipts faults) same_block
+      (subst (λ c. HasCrewed form keeps states c block n old new receipts faults) same_count crewed))
+
+  module _ (growths : List (List R)) (growers : ℕ) (old new : VaultOf R D) (receipts : List (Vec Receipt)) (faults : List (Option GrowFault)) (crewed : HasCrewed form keeps states (count_for (length growths) growers) (dealt growths growers) growers old new (map (λ its. its.items) receipts) faults) where
+    pub are_dealt : AreDealt growths growers crewed.0
+    are_dealt = record { chained = crewed.1.chained; by_growers = crewed.1.by_growers; records_are = λ k j growth lt at. crewed.1.blocks_are k j growth lt at }
+
+    pub stand_behind : (left : D) → left ≡ new.pen.disk → StandBehind form keeps states old left crewed.0
+    stand_behind left same = subst (λ d. StandBehind form keeps states old d crewed.0) (sym same) (record {
+      images = crewed.3;
+      settled = λ model image is. subst (OpensTo form image) crewed.1.list_is (crewed.2.settled model image is);
+      model = crewed.2.model;
+    })
+
+    pub size_is : (size : ℕ) → size ≡ length (list_of new) → size ≡ length (list_of old ++ joined crewed.0)
+    size_is size is = is ∙ ap length crewed.1.list_is
+
+    pub all_made : ((k : ℕ) → k < growers → (its : Vec Receipt) → slice_get receipts k ≡ Some its → count_for (length growths) growers k ≤ length its.items) → AllMade growths growers crewed.0
+    all_made enough k lt =
+        let own = own_of k crewed.0 in
+        let there = some_of (λ its. its.items) receipts k (map (receipt_of (length (list_of old))) own) (crewed.1.receipts_are k lt) in
+        let long : length there.0.items ≡ length own = ap length there.2 ∙ length-map own (receipt_of (length (list_of old))) in
+        omega (arith, enough k lt there.0 there.1, long, crewed.1.few k lt)
+
+  -- the growths stand behind the list of the file that was opened
+  pub appended_to : (disk left : D) (v : VaultOf R D) (made : List (Growth R)) → IsOpenedOn form keeps states disk v → StandBehind form keeps states v left made → keeps left → Appends form states disk left (list_of v) made
+  appended_to disk left v made opened stands model =
+      let before = stands.model model in
+      record {
+        file = opened_list form (bytes_of (states disk)) v.pen (list_of v) (opened.opened before);
+        images = opened_then (states disk) (states v.pen.disk) (states left) (OpensToGrown form (list_of v) made) (opened.only_syncs before) (stands.images model);
+        settled = stands.settled model;
+      }
+
+  pub loaded_by : (growths : List (List R)) (growers : ℕ) (disk left : D) (v w : VaultOf R D) → IsOpenedOn form keeps states disk v → left ≡ w.pen.disk
+      → (made : List (Growth R)) × AreDealt growths growers made × AllMade growths growers made × StandBehind form keeps states v w.pen.disk made × (list_of w ≡ list_of v ++ joined made)
+      → IsLoaded form keeps states growths growers disk left (length (list_of w))
+  loaded_by growths growers disk left v w opened same grown = record {
+    was = list_of v;
+    made = grown.0;
+    dealt_are = grown.1;
+    all = grown.2;
+    stands = λ model. appended_to disk left v grown.0 opened (subst (λ d. StandBehind form keeps states v d grown.0) (sym same) grown.3) model;
+    size_is = ap length grown.4;
+  }
+
+  pub refused_by : (growths : List (List R)) (growers : ℕ) (disk left : D) (v : VaultOf R D) → IsOpenedOn form keeps states disk v → (fault : FileFault) → IsGrowthStop form keeps states growths growers v left fault → IsLoadRefusal form keeps states growths growers disk left fault
+  refused_by growths growers disk left v opened (faults.Vault fault) (inl same) = (
+    list_of v,
+    [],
+    λ model.
+        let before = subst keeps same model in (
+          opened_list form (bytes_of (states disk)) v.pen (list_of v) (opened.opened before),
+          subst (λ d. LeavesBeforeOr (states disk) (states d) (OpensToGrown form (list_of v) [])) (sym same) (opened_alone (states disk) (states v.pen.disk) (OpensToGrown form (list_of v) []) (opened.only_syncs before)),
+        ),
+  )
+  refused_by growths growers disk left v opened (faults.Vault fault) (inr some) = (
+    list_of v,
+    some.0,
+    λ model.
+        let both = some.1 model in (
+          opened_list form (bytes_of (states disk)) v.pen (list_of v) (opened.opened both.0),
+          opened_then (states disk) (states v.pen.disk) (states left) (OpensToGrown form (list_of v) some.0) (opened.only_syncs both.0) both.1,
+        ),
+  )
+  refused_by growths growers disk left v opened (faults.Grower stopped) stop = (list_of v, stop.0, stop.1, (λ model. appended_to disk left v stop.0 opened stop.2 model), stop.3)
+  refused_by growths growers disk left v opened (faults.Open fault) stop = absurd stop
+  refused_by growths growers disk left v opened (faults.Word word) stop = absurd stop
+  refused_by growths growers disk left v opened (faults.Input refusal) stop = absurd stop
+  refused_by growths growers disk left v opened (faults.Upgrade fault) stop = absurd stop

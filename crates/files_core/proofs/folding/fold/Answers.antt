@@ -1,0 +1,52 @@
+use Rattle.std.proofs.Common.{◌≡◌, List, ℕ, sym, subst, ap}
+use Rattle.disk_core.specs.Calls.{bytes_of}
+use Rattle.disk_core.specs.Moments.{LeavesOnly}
+use Rattle.pen_core.specs.Opening.{IsOpenRefusal}
+use Rattle.pen_core.proofs.Pieces.{bytes_stay}
+use Rattle.vault_core.specs.Vault.{MayHold}
+use Rattle.files_core.specs.Opened.{IsOpenedOn}
+use Rattle.files_core.specs.Texts.{folded_line}
+use Rattle.files_core.proofs.Opened.{told_answer, told_ends, opened_again}
+use Rattle.files_core.proofs.Folded.{stays_by}
+use Rattle.files_core.proofs.folding.fold.Goals as goal
+
+pub returns-in-Err-clause-stays : goal.returns-in-Err-clause-stays
+returns-in-Err-clause-stays g c = λ model. (c.in-Err.ensures.refused model, (c.in-Err.ensures.only_syncs model).left_before)
+
+pub returns-in-Err-open-clause-stays : goal.returns-in-Err-open-clause-stays
+returns-in-Err-open-clause-stays g c = λ model.
+    let e = c.in-Err-open.ensures in
+    let mid = e.model model in
+    let first = c.scan_disk.ensures.only_syncs mid in (
+      subst (λ (bs : List ℕ). IsOpenRefusal g.R.Record.form bs c.in-Err-open.fault) (bytes_stay (g.D.Disk.states c.args.disk) (g.D.Disk.states c.scan_disk.new.disk) first) (e.refused model),
+      opened_again (g.D.Disk.states c.args.disk) (g.D.Disk.states c.scan_disk.new.disk) (g.D.Disk.states c.in-Err-open.disk) (g.met.D.Disk.reads_an_image c.args.disk (c.scan_disk.ensures.model mid)) first (e.only_syncs model),
+    )
+
+pub returns-in-Ok-fold_vault-clause-stays : goal.returns-in-Ok-fold_vault-clause-stays
+returns-in-Ok-fold_vault-clause-stays g c = λ model.
+    let own = subst g.D.Disk.keeps c.into_disk.ensures.disk model in
+    let before = c.fold_vault.ensures.model own in
+    let e = c.in-Ok-open.ensures in
+    let opened : IsOpenedOn g.R.Record.form g.D.Disk.keeps g.D.Disk.states c.scan_disk.new.disk c.in-Ok-open.vault = record { rests = e.rests; opened = e.opened; sure = e.sure; only_syncs = e.only_syncs; model = e.model } in
+    told_ends _ _ _ _ c.told.ensures (stays_by g.R.Record.form g.D.Disk.keeps g.D.Disk.states c.args.disk c.scan_disk.new.disk c.into_disk.result c.in-Ok-open.vault (g.met.D.Disk.reads_an_image c.args.disk (c.scan_disk.ensures.model (e.model before))) (c.scan_disk.ensures.only_syncs (e.model before)) opened before
+    (subst (λ d. LeavesOnly (g.D.Disk.states c.in-Ok-open.vault.pen.disk) (g.D.Disk.states d) (MayHold g.R.Record.form c.in-Ok-open.vault)) (sym c.into_disk.ensures.disk) (c.fold_vault.ensures.images own)))
+
+pub returns-in-Ok-fold_vault-clause-writes : goal.returns-in-Ok-fold_vault-clause-writes
+returns-in-Ok-fold_vault-clause-writes g c = told_answer _ _ _ _ _ _ c.told.ensures c.write_folded.ensures (λ model. record {
+  scanned = c.in-Ok.scanned;
+  scan = c.in-Ok.ensures.found (c.in-Ok-open.ensures.model (c.fold_vault.ensures.model (subst g.D.Disk.keeps c.into_disk.ensures.disk model)));
+  told = ap folded_line c.live_changes-live.ensures;
+})
+
+pub returns-in-Err-fold_vault-clause-stays : goal.returns-in-Err-fold_vault-clause-stays
+returns-in-Err-fold_vault-clause-stays g c = λ model.
+    let own = subst g.D.Disk.keeps c.into_disk-in-Err-fold_vault.ensures.disk model in
+    let before = c.fold_vault.ensures.model own in
+    let e = c.in-Ok-open.ensures in
+    let opened : IsOpenedOn g.R.Record.form g.D.Disk.keeps g.D.Disk.states c.scan_disk.new.disk c.in-Ok-open.vault = record { rests = e.rests; opened = e.opened; sure = e.sure; only_syncs = e.only_syncs; model = e.model } in (
+      c.in-Ok-open.vault.pen,
+      c.fold_vault.new.vault.pen,
+      c.in-Err-fold_vault.ensures.refused,
+      stays_by g.R.Record.form g.D.Disk.keeps g.D.Disk.states c.args.disk c.scan_disk.new.disk c.into_disk-in-Err-fold_vault.result c.in-Ok-open.vault (g.met.D.Disk.reads_an_image c.args.disk (c.scan_disk.ensures.model (e.model before))) (c.scan_disk.ensures.only_syncs (e.model before)) opened before
+          (subst (λ d. LeavesOnly (g.D.Disk.states c.in-Ok-open.vault.pen.disk) (g.D.Disk.states d) (MayHold g.R.Record.form c.in-Ok-open.vault)) (sym c.into_disk-in-Err-fold_vault.ensures.disk) (c.fold_vault.ensures.images own)),
+    )

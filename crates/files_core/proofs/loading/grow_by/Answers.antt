@@ -1,0 +1,50 @@
+use Rattle.std.proofs.Common.{◌≡◌, ℕ, ◌<◌, ◌≤◌, List, length, map, Some, slice_get, inl, inr, refl, sym, ap, subst, ◌∙◌}
+use Rattle.std.specs.Global.{Vec}
+use Rattle.disk_core.specs.Moments.{LeavesOnly}
+use Rattle.book_core.specs.declared.seat.Receipt.{Receipt}
+use Rattle.vault_core.specs.Crewing.{HasCrewed, OpensToGrown}
+use Rattle.vault_core.specs.Vault.{list_of}
+use Rattle.files_core.specs.Dealt.{count_for, dealt}
+use Rattle.files_core.proofs.Crewed.{crewed_as, are_dealt, stand_behind, size_is, all_made}
+use Rattle.files_core.proofs.loading.grow_by.Goals as goal
+
+pub returns-in-Err-Gather-clause-stopped : goal.returns-in-Err-Gather-clause-stopped
+returns-in-Err-Gather-clause-stopped g c =
+    let left = c.in-Err-Gather.gathering in
+    let back = rw c.in-Err-Gather.field-0-is at c.in-Err-Gather.ensures.refused in
+    inr (
+      left.flusher.pass.entries,
+      λ model.
+          let own = subst g.D.Disk.keeps c.into_parts-disk.ensures.disk model in
+          (back.4 own, subst (λ d. LeavesOnly (g.D.Disk.states c.args.vault.pen.disk) (g.D.Disk.states d) (OpensToGrown g.R.Record.form (list_of c.args.vault) left.flusher.pass.entries)) (sym c.into_parts-disk.ensures.disk) (back.7 own)),
+    )
+
+pub returns-in-None-clause-grown : goal.returns-in-None-clause-grown
+returns-in-None-clause-grown g c =
+    let growths = c.args.growths.0 in
+    let growers = c.args.growers in
+    let receipts = c.in-Ok.crewed.receipts.items in
+    let s = c.in-Some.ensures in
+    let crewed : HasCrewed g.R.Record.form g.D.Disk.keeps g.D.Disk.states (count_for (length growths) growers) (dealt growths growers) growers c.args.vault c.in-Ok.crewed.vault (map (λ its. its.items) receipts) c.in-Ok.crewed.faults.items =
+    crewed_as g.R.Record.form g.D.Disk.keeps g.D.Disk.states _ _ _ _ _ _ c.args.vault c.in-Ok.crewed.vault _ _ s.1 s.2 s.0 c.in-Ok.ensures.crewed in (
+      crewed.0,
+      are_dealt g.R.Record.form g.D.Disk.keeps g.D.Disk.states growths growers c.args.vault c.in-Ok.crewed.vault receipts c.in-Ok.crewed.faults.items crewed,
+      all_made g.R.Record.form g.D.Disk.keeps g.D.Disk.states growths growers c.args.vault c.in-Ok.crewed.vault receipts c.in-Ok.crewed.faults.items crewed
+          (λ k lt its there. subst (λ (count : ℕ → ℕ). count k ≤ length its.items) s.1 (c.in-None.ensures k (subst (λ n. k < n) (sym s.0) lt) its there)),
+      stand_behind g.R.Record.form g.D.Disk.keeps g.D.Disk.states growths growers c.args.vault c.in-Ok.crewed.vault receipts c.in-Ok.crewed.faults.items crewed c.in-Ok.crewed.vault.pen.disk refl,
+      crewed.1.list_is,
+    )
+
+pub returns-clause-stopped : goal.returns-clause-stopped
+returns-clause-stopped g c =
+    let growths = c.args.growths.0 in
+    let growers = c.args.growers in
+    let receipts = c.in-Ok.crewed.receipts.items in
+    let s = c.in-Some.ensures in
+    let crewed : HasCrewed g.R.Record.form g.D.Disk.keeps g.D.Disk.states (count_for (length growths) growers) (dealt growths growers) growers c.args.vault c.in-Ok.crewed.vault (map (λ its. its.items) receipts) c.in-Ok.crewed.faults.items =
+    crewed_as g.R.Record.form g.D.Disk.keeps g.D.Disk.states _ _ _ _ _ _ c.args.vault c.in-Ok.crewed.vault _ _ s.1 s.2 s.0 c.in-Ok.ensures.crewed in (
+      crewed.0,
+      are_dealt g.R.Record.form g.D.Disk.keeps g.D.Disk.states growths growers c.args.vault c.in-Ok.crewed.vault receipts c.in-Ok.crewed.faults.items crewed,
+      stand_behind g.R.Record.form g.D.Disk.keeps g.D.Disk.states growths growers c.args.vault c.in-Ok.crewed.vault receipts c.in-Ok.crewed.faults.items crewed c.into_disk-in-Some-first_stopped.result c.into_disk-in-Some-first_stopped.ensures.disk,
+      size_is g.R.Record.form g.D.Disk.keeps g.D.Disk.states growths growers c.args.vault c.in-Ok.crewed.vault receipts c.in-Ok.crewed.faults.items crewed _ c.in-Some-first_stopped.ensures,
+    )

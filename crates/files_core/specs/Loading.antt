@@ -1,0 +1,74 @@
+-- Growths that are appended to a file by a crew.
+use Rattle.std.specs.Prelude.{◌≡◌, ◌⊎◌, ℕ, ◌<◌, List, ◌++◌, length, All, Some, slice_get}
+use Rattle.record_core.specs.Bytes.{Encoding}
+use Rattle.disk_core.specs.State.{State, now, IsImage}
+use Rattle.disk_core.specs.Calls.{bytes_of}
+use Rattle.disk_core.specs.Moments.{LeavesOnly}
+use Rattle.block_core.specs.Growth.{Growth}
+use Rattle.directory_core.specs.Chain.{joined, IsChained}
+use Rattle.book_core.specs.Lists.{own_of}
+use Rattle.pen_core.specs.Opening.{IsOpenRefusal, OnlySyncs}
+use Rattle.pen_core.specs.Typed.{OpensTo}
+use Rattle.vault_core.specs.Crewing.{OpensToGrown}
+use Rattle.vault_core.specs.Vault.{VaultOf, list_of}
+use Rattle.files_core.specs.declared.fault.FileFault.{FileFault}
+use Rattle.files_core.specs.declared.fault.FileFault.TheVariants.{Word, Input, Open, Vault, Grower, Upgrade}
+use Rattle.files_core.specs.Dealt.{count_for, dealt}
+use Rattle.files_core.specs.Opened.{LeavesBeforeOr}
+
+-- Some growths were made by the growers, one behind the other: those of a grower have the first of the growths that are
+-- dealt to it, in order.
+pub record AreDealt {R : Type 0} (growths : List (List R)) (growers : ℕ) (made : List (Growth R)) : Type 0 where
+  pub chained : IsChained made
+  pub by_growers : All (λ growth. growth.seat < growers) made
+  pub records_are : (grower j : ℕ) (growth : Growth R) → grower < growers → slice_get (own_of grower made) j ≡ Some growth → growth.records ≡ dealt growths growers grower j
+
+-- all of them were made
+abbrev pub AllMade : {R : Type 0} → List (List R) → ℕ → List (Growth R) → Type 0
+AllMade growths growers made = (grower : ℕ) → grower < growers → length (own_of grower made) ≡ count_for (length growths) growers grower
+
+module _ {R D : Type 0} (form : Encoding R) (keeps : D → Type 0) (states : D → List State) where
+  -- Growths stand behind a vault's list, all of them settled, and each image that a crash may have left meanwhile opens to
+  -- the list and the first of them, each whole.
+  pub record StandBehind (v : VaultOf R D) (left : D) (made : List (Growth R)) : Type 0 where
+    pub images : keeps left → LeavesOnly (states v.pen.disk) (states left) (OpensToGrown form (list_of v) made)
+    pub settled : keeps left → (image : List ℕ) → IsImage (now (states left)) image → OpensTo form image (list_of v ++ joined made)
+    pub model : keeps left → keeps v.pen.disk
+
+  -- What stands where a crew gave no vault, or not all growths were made: nothing was begun; or each image opens to the list
+  -- and the first of some growths.
+  abbrev pub IsGrowthStop : List (List R) → ℕ → VaultOf R D → D → FileFault → Type 0
+  IsGrowthStop growths growers v left (Vault fault) = (left ≡ v.pen.disk) ⊎ ((made : List (Growth R)) × (keeps left → keeps v.pen.disk × LeavesOnly (states v.pen.disk) (states left) (OpensToGrown form (list_of v) made)))
+  IsGrowthStop growths growers v left (Grower stopped) = (made : List (Growth R)) × AreDealt growths growers made × StandBehind v left made × (stopped.size ≡ length (list_of v ++ joined made))
+  IsGrowthStop growths growers v left (Open fault) = ⊥
+  IsGrowthStop growths growers v left (Word word) = ⊥
+  IsGrowthStop growths growers v left (Input refusal) = ⊥
+  IsGrowthStop growths growers v left (Upgrade fault) = ⊥
+
+-- The file had a list, and growths were appended to it: each image meanwhile opens to the list and the first of them, and
+-- each that a crash may leave now to all of them.
+pub record Appends {R D : Type 0} (form : Encoding R) (states : D → List State) (disk left : D) (was : List R) (made : List (Growth R)) : Type 0 where
+  pub file : OpensTo form (bytes_of (states disk)) was
+  pub images : LeavesBeforeOr (states disk) (states left) (OpensToGrown form was made)
+  pub settled : (image : List ℕ) → IsImage (now (states left)) image → OpensTo form image (was ++ joined made)
+
+-- all growths were appended
+pub record IsLoaded {R D : Type 0} (form : Encoding R) (keeps : D → Type 0) (states : D → List State) (growths : List (List R)) (growers : ℕ) (disk left : D) (size : ℕ) : Type 0 where
+  pub was : List R
+  pub made : List (Growth R)
+  pub dealt_are : AreDealt growths growers made
+  pub all : AllMade growths growers made
+  pub stands : keeps left → Appends form states disk left was made
+  pub size_is : size ≡ length (was ++ joined made)
+
+-- Why not: at opening, and then nothing was written; or by the crew, and some growths may stand, or, behind a grower's fault,
+-- those that were made stand.
+abbrev pub IsLoadRefusal : {R D : Type 0} → Encoding R → (D → Type 0) → (D → List State) → List (List R) → ℕ → D → D → FileFault → Type 0
+IsLoadRefusal form keeps states growths growers disk left (Open fault) = keeps left → IsOpenRefusal form (bytes_of (states disk)) fault × OnlySyncs (states disk) (states left)
+IsLoadRefusal {R} form keeps states growths growers disk left (Vault fault) =
+    (was : List R) × (made : List (Growth R)) × (keeps left → OpensTo form (bytes_of (states disk)) was × LeavesBeforeOr (states disk) (states left) (OpensToGrown form was made))
+IsLoadRefusal {R} form keeps states growths growers disk left (Grower stopped) =
+    (was : List R) × (made : List (Growth R)) × AreDealt growths growers made × (keeps left → Appends form states disk left was made) × (stopped.size ≡ length (was ++ joined made))
+IsLoadRefusal form keeps states growths growers disk left (Word word) = ⊥
+IsLoadRefusal form keeps states growths growers disk left (Input refusal) = ⊥
+IsLoadRefusal form keeps states growths growers disk left (Upgrade fault) = ⊥

@@ -1,0 +1,149 @@
+#!/usr/bin/env python3
+"""Runs random scripts of commands on a file each, and compares every answer with that of a plain list.
+
+commands.py PROGRAM FOLDER SCRIPTS
+"""
+import os
+import random
+import subprocess
+import sys
+
+program, folder, scripts = sys.argv[1], sys.argv[2], int(sys.argv[3])
+path = os.path.join(folder, "s.cv")
+other = os.path.join(folder, "u.cv")
+
+
+def answer(words, lines=""):
+    """What the program writes for these words, and its status."""
+    run = subprocess.run([program, *words], input=lines.encode(), stdout=subprocess.PIPE, stderr=subprocess.DEVNULL)
+    return run.stdout.decode(), run.returncode
+
+
+class Model:
+    """A plain list, and what a file adds to it."""
+
+    def __init__(self, version):
+        self.version, self.records, self.live = version, [], 0
+
+    def grow(self, verb, told, pick):
+        lines = [[pick.randrange(20) for _ in range(pick.randint(1, 4))] for _ in range(pick.randint(0, 4))]
+        self.records += [record for line in lines for record in line]
+        words = [verb, "u64", path]
+        if verb == "load" and pick.random() < 0.3:
+            # Many growers put their lines in any order, so they have one each.
+            lines = lines[:1]
+            words.append(f"--seats={pick.randint(1, 64)}")
+        text = "".join(" ".join(map(str, line)) + "\n" for line in lines)
+        return words, text, f"{told} {len(lines)} growths, size {len(self.records)}\n", 0
+
+    def load(self, pick):
+        before = list(self.records)
+        words, text, _, _ = self.grow("load", "loaded", pick)
+        grown = [int(record) for record in text.split()]
+        self.records = before + grown
+        count = text.count("\n")
+        return words, text, f"loaded {count} growths, size {len(self.records)}\n", 0
+
+    def append(self, pick):
+        return self.grow("append", "appended", pick)
+
+    def set(self, pick):
+        count = pick.randint(1, 3)
+        start = pick.randint(0, len(self.records) + 1)
+        new = [pick.randrange(20) for _ in range(count)]
+        words = ["set", "u64", path, str(start), "--records=" + ",".join(map(str, new))]
+        if start + count > len(self.records):
+            return words, "", "refused: out of range\n", 1
+        self.records[start : start + count] = new
+        self.live += 1
+        return words, "", "ok\n", 0
+
+    def resize(self, pick):
+        n, record = pick.randint(0, len(self.records) + 3), pick.randrange(20)
+        words = ["resize", "u64", path, str(n), f"--record={record}"]
+        if n < len(self.records) and self.live:
+            return words, "", "refused: unfolded\n", 1
+        self.records = (self.records + [record] * n)[:n] if n < len(self.records) else self.records + [record] * (n - len(self.records))
+        return words, "", "ok\n", 0
+
+    def clear(self, pick):
+        words = ["clear", "u64", path]
+        if self.live:
+            return words, "", "refused: unfolded\n", 1
+        self.records = []
+        return words, "", "ok\n", 0
+
+    def fold(self, pick):
+        folded, self.live = self.live, 0
+        return ["fold", "u64", path], "", f"folded {folded}\n", 0
+
+    def create(self, pick):
+        return ["create", "u64", path], "", "refused: exists\n", 1
+
+    def list(self, pick):
+        words, start, count = ["list", "u64", path], 0, len(self.records)
+        if pick.random() < 0.5:
+            start = pick.randint(0, len(self.records) + 1)
+            words.append(f"--from={start}")
+        if pick.random() < 0.5:
+            count = pick.randint(0, 5)
+            words.append(f"--count={count}")
+        return words, "", "".join(f"{record}\n" for record in self.records[start : start + count]), 0
+
+    def count(self, pick):
+        record = pick.randrange(20)
+        return ["count", "u64", path, f"--record={record}"], "", f"{self.records.count(record)}\n", 0
+
+    def find(self, pick):
+        record = pick.randrange(20)
+        told = str(self.records.index(record)) if record in self.records else "none"
+        return ["find", "u64", path, f"--record={record}"], "", told + "\n", 0
+
+
+STEPS = ["load", "append", "set", "set", "resize", "clear", "fold", "create", "list", "count", "find"]
+
+
+def check(model):
+    """The numbers of the file that the list tells."""
+    told, status = answer(["check", "u64", path])
+    words = told.split()
+    wanted = f"ok version {model.version} width 8 size {len(model.records)} live {model.live}".split()
+    return status == 0 and words[:7] == wanted[:7] and words[9:] == wanted[7:]
+
+
+def upgrade(model):
+    told = f"upgraded size {len(model.records)}\n" if model.version == 1 else "refused: not version 1\n"
+    if answer(["upgrade", "u64", path, other]) != (told, 0 if model.version == 1 else 1):
+        return False
+    if model.version == 1:
+        os.replace(other, path)
+        model.version, model.live = 2, 0
+    return True
+
+
+def play(seed):
+    pick = random.Random(seed)
+    for name in (path, other):
+        if os.path.exists(name):
+            os.remove(name)
+    model = Model(pick.choice([1, 1, 2]))
+    if answer(["create", "u64", path, f"--format={model.version}"]) != ("created\n", 0):
+        return f"script {seed}: create"
+    for step in pick.choices(STEPS, k=pick.randint(3, 12)):
+        words, lines, told, status = getattr(model, step)(pick)
+        if answer(words, lines) != (told, status):
+            return f"script {seed}: {' '.join(words)}: wanted {told!r}"
+    if pick.random() < 0.2 and not upgrade(model):
+        return f"script {seed}: upgrade"
+    if not check(model):
+        return f"script {seed}: check"
+    if answer(["list", "u64", path]) != ("".join(f"{record}\n" for record in model.records), 0):
+        return f"script {seed}: list"
+    return None
+
+
+for seed in range(scripts):
+    fault = play(seed)
+    if fault:
+        print(fault)
+        sys.exit(1)
