@@ -59,6 +59,8 @@ impl Notes {
 }
 
 impl Gate for Notes {
+    ghost may_stop = { λ _ _ _. ⊥ };
+
     fn before(&self, _grower: u16, _k: u32) -> bool {
         true
     }
