@@ -1,0 +1,7 @@
+pub mod Status
+pub mod Stat
+pub mod Records
+pub mod Reading
+pub mod Append
+pub mod Frame
+pub mod Empty

@@ -1,0 +1,21 @@
+//! What is told of an image that has a vector.
+
+/// What an image holds.
+#[repr(C)]
+#[derive(Clone, Copy)]
+pub struct CvecStat {
+    /// The records of the vector.
+    pub size: u64,
+    /// The frames before the closed gate.
+    pub frames: u64,
+    /// How many of them are changes.
+    pub changes: u64,
+    /// The count of the last fold, 0 where there is none: changes below it stand in their home bytes.
+    pub folded: u64,
+    /// The place of the closed gate.
+    pub gate: u64,
+    /// The bytes of one record.
+    pub width: u16,
+    /// The version of the file.
+    pub version: u8,
+}
