@@ -1,5 +1,5 @@
 /* Tells what a file holds, or why it has no vector: ./check TYPE FILE */
-#define _DEFAULT_SOURCE
+#define _DEFAULT_SOURCE 1
 #include "cvec.h"
 
 #include <inttypes.h>

@@ -1,6 +1,6 @@
 /* A segment file by the system's calls, in the order on which libcvec_c.a's promises rest. Each call is made whole: where
  * the system does a part only it goes on from there, and a call that a signal interrupts is made again. */
-#define _DEFAULT_SOURCE
+#define _DEFAULT_SOURCE 1
 #include "cvec.h"
 
 #include <errno.h>

@@ -1,10 +1,10 @@
 -- A group's frame behind a file, as C writes it: while the gate is shut the file is the one from before, and with the frame
 -- there it has the group's records too.
-use Rattle.std.proofs.Common.{◌≡◌, ◌≢◌, ℕ, ◌+◌, ◌*◌, ◌^◌, ◌≤◌, ◌<◌, List, [], ◌∷◌, ◌++◌, length, take, drop, get_or, map, Bool, true, false, Option, None, inl, inr, refl, sym, ap, subst, ◌∙◌, append_assoc, arith}
+use Rattle.std.proofs.Common.{◌≡◌, ◌≢◌, ℕ, ◌+◌, ◌*◌, ◌^◌, ◌≤◌, ◌<◌, List, [], ◌∷◌, ◌++◌, length, take, drop, get_or, map, Bool, true, false, None, inl, inr, refl, sym, ap, subst, ◌∙◌, append_assoc, arith}
 use Rattle.std.specs.Prelude.{◌==◌}
 use Rattle.std.specs.List.{flat_map}
 use Rattle.std.proofs.lemmas.Bool.{cases_lt, ltb-false, leb-false, eqb-false}
-use Rattle.std.proofs.lemmas.List.{append-nil, length-append, take-append-drop, take_at, drop_at}
+use Rattle.std.proofs.lemmas.List.{append-nil, length-append, take-append-drop, take_at}
 use Rattle.record_core.specs.Bytes.{Encoding}
 use Rattle.record_core.specs.Cells.{AreReadAgain}
 use Rattle.record_core.proofs.Cells.{AreRecords_written}
@@ -12,13 +12,13 @@ use Rattle.segment_core.specs.declared.format.Format.{Format}
 use Rattle.segment_core.specs.declared.format.Format.TheVariants.{One, Two}
 use Rattle.segment_core.specs.declared.format.Shape.{Shape}
 use Rattle.segment_core.specs.Shape.{version_of, limit_of, shape_of}
-use Rattle.segment_core.specs.Frame.{Frame, Group, header, frame_text, text}
+use Rattle.segment_core.specs.Frame.{Frame, header, frame_text, text}
 use Rattle.segment_core.specs.Tally.{nothing, tally_of}
-use Rattle.segment_core.specs.Image.{BeginsImage, HasFrames}
-use Rattle.segment_core.specs.Vector.{IsVectorOf, HasVector}
+use Rattle.segment_core.specs.Image.{BeginsImage}
+use Rattle.segment_core.specs.Vector.{IsVectorOf}
 use Rattle.segment_core.specs.Written.{group_frame, joined, payload_len}
 use Rattle.segment_core.proofs.Payload.{length-frame_text}
-use Rattle.segment_core.proofs.Push.{text_push, tally_from_push, Begins_push, BeginsImage_before, HasFrames_begins, HasFrames_closed}
+use Rattle.segment_core.proofs.Push.{text_push, tally_from_push, Begins_push, HasFrames_begins, HasFrames_closed}
 use Rattle.segment_core.proofs.OneMore.{IsVectorOf_begins, IsVectorOf_group}
 use Rattle.segment_core.proofs.ReadAgain.{is_frame, may_follow}
 use Rattle.segment_core.proofs.Written.{length-group_frame}

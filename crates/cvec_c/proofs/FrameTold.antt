@@ -1,5 +1,5 @@
 -- A frame as C is told of it, by what a reader answers.
-use Rattle.std.proofs.Common.{◌≡◌, ℕ, ◌+◌, ◌-◌, ◌*◌, List, length, drop, subst, sym, ap, ◌∙◌, arith}
+use Rattle.std.proofs.Common.{◌≡◌, ℕ, ◌+◌, ◌-◌, ◌*◌, List, length, drop, subst, ap, ◌∙◌, arith}
 use Rattle.segment_core.specs.declared.format.Shape.{Shape}
 use Rattle.segment_core.specs.Shape.{version_of}
 use Rattle.segment_core.specs.Frame.{Frame, kind_of, payload_of}

@@ -1,4 +1,4 @@
-use Rattle.std.proofs.Common.{◌≡◌, ℕ, List, ◌++◌, length, take, drop, subst, refl, sym, ap, ◌∙◌}
+use Rattle.std.proofs.Common.{◌≡◌, ℕ, List, ◌++◌, length, take, drop, subst, sym, ap, ◌∙◌}
 use Rattle.std.proofs.lemmas.List.{length-take-le, take_at}
 use Rattle.cvec_c.specs.declared.stat.CvecStat.{CvecStat}
 use Rattle.cvec_c.specs.Empty.{Creates}

@@ -1,4 +1,4 @@
-use Rattle.std.proofs.Common.{◌≡◌, ℕ, ◌+◌, ◌-◌, ◌*◌, refl, ap, ◌∙◌}
+use Rattle.std.proofs.Common.{◌≡◌, ℕ, ◌+◌, ◌-◌, ◌*◌, ap, ◌∙◌}
 use Rattle.segment_core.specs.Reading.{record_count}
 use Rattle.cvec_c.specs.declared.frame.CvecFrame.{CvecFrame}
 use Rattle.cvec_c.proofs.FrameTold.{frame_told}
