@@ -7,8 +7,9 @@
  * A record type is u32, u64, i64, pair or flagged. Functions that need one stand here once for each. A function that
  * answers another number than CVEC_DONE changes nothing but *fault.
  *
- * Any number of threads may call the functions of the first part at once, each on memory of its own. Bytes that are read
- * must not change meanwhile: also those of a file that is mapped. */
+ * Pointers of the first part are never NULL, also where the length is 0, are aligned as their type, and memory that is
+ * written overlaps no other. Any number of threads may call these functions at once, each on memory of its own. Bytes that
+ * are read must not change meanwhile: also those of a file that is mapped. */
 #ifndef CVEC_H
 #define CVEC_H
 

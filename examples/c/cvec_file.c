@@ -15,6 +15,13 @@
 static const uint8_t open_gate = 1;
 static const uint8_t closed_gate = 0;
 
+/* What is lent in place of no records: the library wants a pointer also where the length is 0. */
+static const cvec_pair no_records[1];
+static cvec_pair no_room[1];
+
+/* The bytes that a file takes for its frames at first. */
+enum { FIRST_ROOM = 4096 };
+
 /* ---- the record types */
 
 static uint32_t check(cvec_type type, const uint8_t *image, size_t len, cvec_stat *stat, cvec_fault *fault) {
@@ -127,6 +134,9 @@ static uint32_t open_alone(cvec_file *file, const char *path, cvec_type type, in
     file->fd = open(path, O_RDWR | O_CLOEXEC | flags, 0666);
     if (file->fd < 0) return CVEC_DISK_OPEN;
     if (flock(file->fd, LOCK_EX | LOCK_NB) != 0) return errno == EWOULDBLOCK ? CVEC_IN_USE : CVEC_DISK_OPEN;
+    file->bytes = malloc(FIRST_ROOM);
+    if (file->bytes == NULL) return CVEC_MEMORY;
+    file->room = FIRST_ROOM;
     return CVEC_DONE;
 }
 
@@ -207,25 +217,29 @@ uint32_t cvec_open(cvec_file *file, const char *path, cvec_type type, cvec_fault
 
 /* ---- records */
 
-static uint32_t take_room(cvec_file *file, uint64_t len) {
-    if (len <= file->room) return CVEC_DONE;
-    uint8_t *bytes = realloc(file->bytes, (size_t)len);
+static uint32_t take_room(cvec_file *file, size_t len) {
+    uint8_t *bytes = realloc(file->bytes, len);
     if (bytes == NULL) return CVEC_MEMORY;
     file->bytes = bytes;
-    file->room = (size_t)len;
+    file->room = len;
     return CVEC_DONE;
+}
+
+/* The frame of the records, in the file's memory: of the library's tests that of the room comes last. */
+static uint32_t make_frame(cvec_file *file, const void *records, size_t count, cvec_stat *next) {
+    uint32_t answer = frame_of(file->type, &file->stat, records, count, file->bytes, file->room, next);
+    if (answer != CVEC_NO_ROOM) return answer;
+    answer = take_room(file, (size_t)CVEC_APPEND_LEN(file->stat.width, count));
+    if (answer != CVEC_DONE) return answer;
+    return frame_of(file->type, &file->stat, records, count, file->bytes, file->room, next);
 }
 
 uint32_t cvec_append(cvec_file *file, const void *records, size_t count) {
     cvec_stat next;
     if (file->fd < 0 || file->broken) return CVEC_BROKEN;
-    if (count > ((size_t)1 << 24)) return CVEC_TOO_LARGE;
-    size_t len = (size_t)CVEC_APPEND_LEN(file->stat.width, count);
-    uint32_t answer = take_room(file, len);
+    uint32_t answer = make_frame(file, count > 0 ? records : no_records, count, &next);
     if (answer != CVEC_DONE) return answer;
-    answer = frame_of(file->type, &file->stat, records, count, file->bytes, file->room, &next);
-    if (answer != CVEC_DONE) return answer;
-    answer = commit(file->fd, file->stat.gate, file->bytes, len);
+    answer = commit(file->fd, file->stat.gate, file->bytes, (size_t)(next.gate + 1 - file->stat.gate));
     if (answer != CVEC_DONE) {
         file->broken = true;
         return answer;
@@ -240,7 +254,7 @@ uint32_t cvec_read(const cvec_file *file, uint64_t from, void *out, size_t room,
     if (file->fd < 0 || file->broken) return CVEC_BROKEN;
     uint32_t answer = map_file(file->fd, &image);
     if (answer != CVEC_DONE) return answer;
-    answer = read_records(file->type, image.bytes, image.len, from, out, room, count, fault);
+    answer = read_records(file->type, image.bytes, image.len, from, room > 0 ? out : no_room, room, count, fault);
     unmap(&image);
     return answer;
 }

@@ -142,7 +142,7 @@ class File:
     def append(self, records):
         """Appends the records as one growth: durable when it returns, and all of them or none whatever happens."""
         kind = self._kind
-        if numpy is not None and len(kind.fields) == 1:
+        if numpy is not None:
             row = numpy.ascontiguousarray(records, dtype=kind.dtype(packed=False))
             at, count = row.ctypes.data, len(row)
         else:
@@ -159,7 +159,8 @@ class File:
         row = (kind.record * room)()
         _pass(_LIB.cvec_read(byref(self._raw), start, ctypes.addressof(row), room, byref(done), byref(fault)), fault)
         if numpy is not None:
-            return numpy.frombuffer(row, dtype=kind.dtype(packed=False), count=done.value)
+            kept = kind.dtype(packed=False)
+            return numpy.frombuffer(row, dtype=kept, count=done.value) if done.value > 0 else numpy.empty(0, dtype=kept)
         if len(kind.fields) == 1:
             return list(row)[:done.value]
         return [tuple(getattr(it, name) for name, _ in kind.fields) for it in row[:done.value]]
@@ -232,7 +233,9 @@ class Map:
 
     def _view(self, at, count):
         if numpy is not None:
-            return numpy.frombuffer(self._map, dtype=self._kind.dtype(packed=True), count=count, offset=at)
+            view = numpy.frombuffer(self._map, dtype=self._kind.dtype(packed=True), count=count, offset=at)
+            view.flags.writeable = False
+            return view
         view = memoryview(self._map).toreadonly()[at:at + count * self.stat.width]
         return view.cast(self._kind.in_file[1:]) if len(self._kind.fields) == 1 else view
 
