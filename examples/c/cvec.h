@@ -5,7 +5,7 @@
  * which makes the system's calls in the order that the first part asks for; it is not proved. docs/C.md tells both.
  *
  * A record type is u32, u64, i64, pair or flagged. Functions that need one stand here once for each. A function that
- * answers another number than CVEC_DONE changes nothing but *fault.
+ * answers another number than CVEC_DONE changes nothing but *fault (and *count, at CVEC_NO_ROOM).
  *
  * Pointers of the first part are never NULL, also where the length is 0, are aligned as their type, and memory that is
  * written overlaps no other. Any number of threads may call these functions at once, each on memory of its own. Bytes that
@@ -97,6 +97,13 @@ typedef struct cvec_frame {
     uint8_t kind; /* an enum cvec_kind */
 } cvec_frame;
 
+/* Consecutive positions of the vector, whose records the file's groups have one behind the other. */
+typedef struct cvec_home {
+    uint64_t position; /* the first */
+    uint64_t place;    /* of its first byte in the file */
+    uint64_t count;    /* how many positions */
+} cvec_home;
+
 /* The record types that are structs. In a file a flagged takes 9 bytes. */
 typedef struct cvec_pair {
     uint64_t key;
@@ -138,6 +145,19 @@ CVEC_READ(u64, uint64_t)
 CVEC_READ(i64, int64_t)
 CVEC_READ(pair, cvec_pair)
 CVEC_READ(flagged, cvec_flagged)
+
+/* cvec_homes_TYPE: checks an image as cvec_check_TYPE does, and writes the homes of the vector's positions over
+ * out[0 .. *count], each position in one, in order. Where stat->changes <= stat->folded the vector's records are the ones
+ * that stand there, so who has mapped the file reads them with no copy; else some have been changed since, and
+ * cvec_read_TYPE tells which records they are. CVEC_NO_ROOM: there are *count of them, more than room. */
+#define CVEC_HOMES(TYPE) \
+    uint32_t cvec_homes_##TYPE(const uint8_t *image, size_t len, cvec_home *out, size_t room, uint64_t *count, \
+                               cvec_stat *stat, cvec_fault *fault);
+CVEC_HOMES(u32)
+CVEC_HOMES(u64)
+CVEC_HOMES(i64)
+CVEC_HOMES(pair)
+CVEC_HOMES(flagged)
 
 /* cvec_empty_TYPE: writes an empty file of this version over out[0 .. CVEC_EMPTY_LEN], and *stat is what it holds. On disk
  * write all but the first byte behind a first byte that isn't 1, sync, write the first, sync: whatever a crash leaves is

@@ -24,6 +24,7 @@ except ImportError:
 
 FIRST_GATE = 11
 GROUP, CHANGE, SHRINK, FOLD = 1, 2, 3, 4
+_NO_ROOM = 11
 
 
 class Pair(ctypes.Structure):
@@ -48,6 +49,12 @@ class Stat(ctypes.Structure):
 class Frame(ctypes.Structure):
     _fields_ = [("first_record", c_uint64), ("next", c_uint64), ("payload_len", c_uint32), ("growths", c_uint32),
                 ("records", c_uint32), ("kind", c_uint8)]
+
+
+class Home(ctypes.Structure):
+    """Consecutive positions, whose records stand one behind the other."""
+
+    _fields_ = [("position", c_uint64), ("place", c_uint64), ("count", c_uint64)]
 
 
 class _File(ctypes.Structure):
@@ -88,7 +95,8 @@ def _library():
         "cvec_frame_at": [c_void_p, c_size_t, c_uint64, c_uint8, c_uint16, POINTER(Frame)],
     }
     for name in _TYPES:
-        answers["cvec_check_" + name] = [c_void_p, c_size_t, POINTER(Stat), POINTER(Fault)]
+        answers["cvec_homes_" + name] = [c_void_p, c_size_t, POINTER(Home), c_size_t, POINTER(c_uint64), POINTER(Stat),
+                                         POINTER(Fault)]
     for name, words in answers.items():
         call = getattr(lib, name)
         call.argtypes, call.restype = words, c_uint32
@@ -188,18 +196,30 @@ class Map:
     isn't. The file must not be folded or cut meanwhile."""
 
     def __init__(self, path, kind):
-        self._kind, self.stat, fault = _TYPES[kind], Stat(), Fault()
+        self._kind, self.stat = _TYPES[kind], Stat()
         with builtins.open(path, "rb") as file:
             if os.fstat(file.fileno()).st_size == 0:
                 raise Error(1)
             # A private map, since ctypes takes the address of what may be written alone. Nothing is.
             self._map = mmap.mmap(file.fileno(), 0, access=mmap.ACCESS_COPY)
         self._bytes = (c_uint8 * len(self._map)).from_buffer(self._map)
-        check = getattr(_LIB, "cvec_check_" + kind)
-        status = check(ctypes.addressof(self._bytes), len(self._map), byref(self.stat), byref(fault))
-        if status != 0:
+        try:
+            self.homes = self._find_homes(getattr(_LIB, "cvec_homes_" + kind))
+        except Error:
             self.close()
-            raise Error(status, fault)
+            raise
+
+    def _find_homes(self, call):
+        """Where the records stand, each home once."""
+        fault, count, room = Fault(), c_uint64(), 1024
+        while True:
+            row = (Home * room)()
+            status = call(ctypes.addressof(self._bytes), len(self._map), row, room, byref(count), byref(self.stat), byref(fault))
+            if status != _NO_ROOM:
+                break
+            room = count.value
+        _pass(status, fault)
+        return row[:count.value]
 
     def __enter__(self):
         return self
@@ -219,17 +239,17 @@ class Map:
             at = frame.next
 
     def is_plain(self):
-        """Whether the groups' records, one behind the other, are the vector: no change is live, and nothing was cut."""
-        return self.stat.changes == self.stat.folded and all(it.kind != SHRINK for _, it in self.frames())
+        """Whether the records stand in their homes: no change is live."""
+        return self.stat.changes <= self.stat.folded
 
     def pieces(self):
         """The vector in pieces, each a view on the file: an array of numpy, or a memoryview of numbers or of bytes. Only of
         a file that is plain."""
         if not self.is_plain():
-            raise ValueError("records were changed or cut: read a copy")
-        for _, frame in self.frames():
-            if frame.kind == GROUP:
-                yield self._view(frame.first_record, frame.records)
+            raise ValueError("a change is live: read a copy")
+        for home in self.homes:
+            if home.count > 0:
+                yield self._view(home.place, home.count)
 
     def _view(self, at, count):
         if numpy is not None:

@@ -5,3 +5,4 @@ pub mod Reading
 pub mod Append
 pub mod Frame
 pub mod Empty
+pub mod Homes

@@ -21,15 +21,7 @@ fn stat_of<R: Record>(alloc: Global, image: &[u8]) -> Result<CvecStat, ScanFault
     ensures { MatchResult result (λ stat. (records : List R) × HasStat R.form image.now records stat) (IsRefused R.form image.now) }
 {
     match scan::<R>(alloc, image) {
-        Ok(scanned) => Ok(CvecStat {
-            size: scanned.records.len() as u64,
-            frames: scanned.frames,
-            changes: scanned.changes,
-            folded: scanned.folded,
-            gate: scanned.gate,
-            width: scanned.width,
-            version: scanned.version,
-        }),
+        Ok(scanned) => Ok(CvecStat::of(&scanned)),
         Err(fault) => Err(fault),
     }
 }

@@ -1,4 +1,5 @@
-//! Segment files for programs in C, and in languages that call C: what an image holds, its records, its frames, and the
+//! Segment files for programs in C, and in languages that call C: what an image holds, its records and where
+//! they stand, its frames, and the
 //! bytes of a file that is made and of a group that is appended. A function reads and writes only the memory that it is
 //! passed, and calls nothing of the system but the allocator: who calls it reads and writes the file, in the order that
 //! `docs/C.md` gives.
@@ -10,6 +11,7 @@ mod appending;
 mod checking;
 mod creating;
 mod frame;
+mod homes;
 mod reading;
 mod records;
 mod stat;

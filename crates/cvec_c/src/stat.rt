@@ -1,5 +1,10 @@
 //! What is told of an image that has a vector.
 
+ghost use Rattle.std.specs.Prelude.{◌≡◌};
+ghost use Rattle.cvec_c.specs.Stat.{stat_of};
+
+use segment_core::Scanned;
+
 /// What an image holds.
 #[repr(C)]
 #[derive(Clone, Copy)]
@@ -18,4 +23,21 @@ pub struct CvecStat {
     pub width: u16,
     /// The version of the file.
     pub version: u8,
+}
+
+impl CvecStat {
+    /// What is told of what a scan found.
+    pub(crate) fn of<R>(scanned: &Scanned<R>) -> CvecStat
+        ensures { result ≡ stat_of scanned.now }
+    {
+        CvecStat {
+            size: scanned.records.len() as u64,
+            frames: scanned.frames,
+            changes: scanned.changes,
+            folded: scanned.folded,
+            gate: scanned.gate,
+            width: scanned.width,
+            version: scanned.version,
+        }
+    }
 }
