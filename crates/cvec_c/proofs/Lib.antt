@@ -1,0 +1,4 @@
+pub mod Append
+pub mod Creates
+pub mod FrameTold
+pub mod HomesStand

@@ -1,0 +1,39 @@
+-- What is told of an image that has a vector, and of one that is refused.
+use Rattle.std.specs.Prelude.{◌≡◌, ℕ, List, length}
+use Rattle.record_core.specs.Bytes.{Encoding}
+use Rattle.segment_core.specs.declared.fault.ScanFault.{ScanFault}
+use Rattle.segment_core.specs.declared.format.Format.{Format}
+use Rattle.segment_core.specs.Shape.{version_of, shape_of}
+use Rattle.segment_core.specs.Frame.{Frame, text}
+use Rattle.segment_core.specs.Tally.{tally_of}
+use Rattle.segment_core.specs.Fault.{IsRefused}
+use Rattle.segment_core.specs.Vector.{HasVector}
+use Rattle.segment_core.specs.declared.vector.Scanned.{Scanned}
+use Rattle.cvec_c.specs.declared.stat.CvecStat.{CvecStat}
+use Rattle.cvec_c.specs.declared.status.CvecFault.{CvecFault}
+use Rattle.cvec_c.specs.Status.{code_of, status_of, told}
+
+-- what is told of what a scan found
+abbrev pub stat_of : {R : Type 0} → Scanned R → CvecStat
+stat_of scanned = record { size = length scanned.records.items; frames = scanned.frames; changes = scanned.changes; folded = scanned.folded; gate = scanned.gate; width = scanned.width; version = scanned.version }
+
+-- the image has this vector, and the fields are its own
+pub record HasStat {R : Type 0} (form : Encoding R) (image : List ℕ) (records : List R) (stat : CvecStat) : Type 0 where
+  pub format : Format
+  pub frames : List Frame
+  pub vector : HasVector format form image frames records
+  pub version_is : stat.version ≡ version_of format
+  pub width_is : stat.width ≡ form.width
+  pub size_is : stat.size ≡ length records
+  pub frames_are : stat.frames ≡ length frames
+  pub changes_are : stat.changes ≡ (tally_of frames).changes
+  pub folded_is : stat.folded ≡ (tally_of frames).folded
+  pub gate_is : stat.gate ≡ length (text (shape_of format form) frames)
+
+-- the image has this vector
+abbrev pub HasRecords : {R : Type 0} → Encoding R → List ℕ → List R → Type 0
+HasRecords form image records = (format : Format) × (frames : List Frame) × HasVector format form image frames records
+
+-- why there is none, as it is told: the image's first fault, or want of memory
+abbrev pub IsToldOf : {R : Type 0} → Encoding R → List ℕ → ℕ → CvecFault → Type 0
+IsToldOf form image answer fault = (refusal : ScanFault) × IsRefused form image refusal × (answer ≡ code_of (status_of refusal)) × (fault ≡ told refusal)

@@ -1,0 +1,205 @@
+//! A group is appended.
+
+ghost use Rattle.std.specs.Prelude.{◌≡◌, ◌≢◌, ◌≤◌, ◌<◌, ◌+◌, ◌*◌, ◌^◌, ◌++◌, ◌∷◌, [], None, Some, ◌⊎◌, length, take, drop, IfOk, OnOk, MatchOption};
+ghost use Rattle.std.specs.Int.{w32, w64};
+ghost use Rattle.record_core.specs.Bytes.{unsigned, signed};
+ghost use Rattle.record_core.specs.Cells.{AreReadAgain};
+ghost use Rattle.segment_core.specs.declared.format.Format.{Format};
+ghost use Rattle.segment_core.specs.Frame.{frame_text};
+ghost use Rattle.segment_core.specs.Written.{group_frame};
+ghost use Rattle.cvec_c.specs.Status.{code_of};
+ghost use Rattle.cvec_c.specs.Append.{first_refusal, append_lines, append_len, AppendsTo};
+ghost use Rattle.cvec_c.specs.Records.{c_pair, c_flagged};
+
+use crate::records::{CvecFlagged, CvecPair};
+use crate::stat::CvecStat;
+use crate::status::Status;
+use record_core::{RECORD_LIMIT, Record, width_of};
+use segment_core::{CLOSED_GATE, Format, append_group};
+use std::alloc::{AllocError, Global};
+
+/// The bytes that stand in a frame before the records of its one growth.
+const HEAD_LEN: u64 = 14;
+
+/// The bytes of them that belong to the payload.
+const GROWTH_HEAD_LEN: u64 = 8;
+
+/// Gates stand below this place.
+const GATE_LIMIT: u64 = 1 << 48;
+
+/// Why so many records can't be appended, whatever memory there is.
+fn refusal<R: Record>(stat: &CvecStat, records: u64, room: u64) -> Option<Status>
+    ensures { result ≡ first_refusal (append_lines R.form.width stat.now records room) }
+{
+    let Some(format) = Format::from_version(stat.version) else {
+        return Some(Status::Version);
+    };
+    let width = width_of::<R>() as u64;
+    if u64::from(stat.width) != width {
+        return Some(Status::Width);
+    }
+    if records == 0 {
+        return Some(Status::Empty);
+    }
+    if stat.size > RECORD_LIMIT || records > RECORD_LIMIT - stat.size {
+        return Some(Status::OutOfRange);
+    }
+    let bytes = records * width;
+    if GROWTH_HEAD_LEN + bytes > format.payload_limit() as u64 {
+        return Some(Status::TooLarge);
+    }
+    if stat.gate >= GATE_LIMIT || stat.gate + HEAD_LEN + bytes >= GATE_LIMIT {
+        return Some(Status::FileFull);
+    }
+    if HEAD_LEN + bytes + 1 > room {
+        return Some(Status::NoRoom);
+    }
+    None
+}
+
+/// The frame of a group of one growth, and the next gate.
+fn frame_of<R: Record>(alloc: Global, records: &[R]) -> Result<Vec<u8>, AllocError>
+    requires { 8 + length records.now * R.form.width < 2 ^ 32 }
+    ensures text { IfOk result (λ bytes. (format : Format) → bytes.items ≡ frame_text format (group_frame R.form (records.now ∷ [])) ++ 0 ∷ []) }
+    ensures read_again { OnOk result (AreReadAgain R.form records.now) }
+    ensures len { IfOk result (λ bytes. length bytes.items ≡ append_len R.form.width (length records.now)) }
+{
+    let mut bytes = Vec::new(alloc);
+    let growths = [records];
+    let group: &[&[R]] = &growths;
+    let Ok(()) = append_group::<R, &[&[R]]>(&group, u32::MAX as usize, &mut bytes) else {
+        return Err(AllocError);
+    };
+    bytes.push(CLOSED_GATE)?;
+    Ok(bytes)
+}
+
+/// Answers 0 where so many records may be appended, and writes the frame of their group and the next gate over the front
+/// of `out`; `next` is what is told of the file with them. Else it answers why not: of the tests the first that fails, or
+/// that memory was refused. What isn't told of stays.
+fn append<R: Record>(
+    alloc: Global,
+    stat: &CvecStat,
+    records: &[R],
+    out: &mut [u8],
+    next: &mut CvecStat,
+) -> u32
+    ensures answer { MatchOption (first_refusal (append_lines R.form.width stat.now (length records.now) (length out.old)))
+        ((result ≡ 0) ⊎ (result ≡ 6))
+        (λ status. result ≡ code_of status) }
+    ensures done { result ≡ 0 → AppendsTo R.form stat.now records.now (take (append_len R.form.width (length records.now)) out.new) next.new }
+    ensures rest { drop (append_len R.form.width (length records.now)) out.new ≡ drop (append_len R.form.width (length records.now)) out.old }
+    ensures refused { result ≢ 0 → (out.new ≡ out.old) × (next.new ≡ next.old) }
+{
+    let count = records.len() as u64;
+    if let Some(status) = refusal::<R>(stat, count, out.len() as u64) {
+        return status.code();
+    }
+    let Ok(bytes) = frame_of(alloc, records) else {
+        return Status::Memory.code();
+    };
+    let len = bytes.len();
+    out[..len].copy_from_slice(&bytes);
+    *next = CvecStat {
+        size: stat.size + count,
+        frames: stat.frames.saturating_add(1),
+        gate: stat.gate + (len as u64 - 1),
+        ..*stat
+    };
+    Status::Done.code()
+}
+
+/// Appends records of u32, as `append` says.
+#[unsafe(no_mangle)]
+pub extern "C" fn cvec_append_u32(
+    alloc: Global,
+    stat: &CvecStat,
+    records: &[u32],
+    out: &mut [u8],
+    next: &mut CvecStat,
+) -> u32
+    ensures answer { MatchOption (first_refusal (append_lines 4 stat.now (length records.now) (length out.old)))
+        ((result ≡ 0) ⊎ (result ≡ 6))
+        (λ status. result ≡ code_of status) }
+    ensures done { result ≡ 0 → AppendsTo (unsigned w32) stat.now records.now (take (append_len 4 (length records.now)) out.new) next.new }
+    ensures rest { drop (append_len 4 (length records.now)) out.new ≡ drop (append_len 4 (length records.now)) out.old }
+    ensures refused { result ≢ 0 → (out.new ≡ out.old) × (next.new ≡ next.old) }
+{
+    append::<u32>(alloc, stat, records, out, next)
+}
+
+/// Appends records of u64, as `append` says.
+#[unsafe(no_mangle)]
+pub extern "C" fn cvec_append_u64(
+    alloc: Global,
+    stat: &CvecStat,
+    records: &[u64],
+    out: &mut [u8],
+    next: &mut CvecStat,
+) -> u32
+    ensures answer { MatchOption (first_refusal (append_lines 8 stat.now (length records.now) (length out.old)))
+        ((result ≡ 0) ⊎ (result ≡ 6))
+        (λ status. result ≡ code_of status) }
+    ensures done { result ≡ 0 → AppendsTo (unsigned w64) stat.now records.now (take (append_len 8 (length records.now)) out.new) next.new }
+    ensures rest { drop (append_len 8 (length records.now)) out.new ≡ drop (append_len 8 (length records.now)) out.old }
+    ensures refused { result ≢ 0 → (out.new ≡ out.old) × (next.new ≡ next.old) }
+{
+    append::<u64>(alloc, stat, records, out, next)
+}
+
+/// Appends records of i64, as `append` says.
+#[unsafe(no_mangle)]
+pub extern "C" fn cvec_append_i64(
+    alloc: Global,
+    stat: &CvecStat,
+    records: &[i64],
+    out: &mut [u8],
+    next: &mut CvecStat,
+) -> u32
+    ensures answer { MatchOption (first_refusal (append_lines 8 stat.now (length records.now) (length out.old)))
+        ((result ≡ 0) ⊎ (result ≡ 6))
+        (λ status. result ≡ code_of status) }
+    ensures done { result ≡ 0 → AppendsTo (signed w64) stat.now records.now (take (append_len 8 (length records.now)) out.new) next.new }
+    ensures rest { drop (append_len 8 (length records.now)) out.new ≡ drop (append_len 8 (length records.now)) out.old }
+    ensures refused { result ≢ 0 → (out.new ≡ out.old) × (next.new ≡ next.old) }
+{
+    append::<i64>(alloc, stat, records, out, next)
+}
+
+/// Appends records of pair, as `append` says.
+#[unsafe(no_mangle)]
+pub extern "C" fn cvec_append_pair(
+    alloc: Global,
+    stat: &CvecStat,
+    records: &[CvecPair],
+    out: &mut [u8],
+    next: &mut CvecStat,
+) -> u32
+    ensures answer { MatchOption (first_refusal (append_lines 16 stat.now (length records.now) (length out.old)))
+        ((result ≡ 0) ⊎ (result ≡ 6))
+        (λ status. result ≡ code_of status) }
+    ensures done { result ≡ 0 → AppendsTo c_pair stat.now records.now (take (append_len 16 (length records.now)) out.new) next.new }
+    ensures rest { drop (append_len 16 (length records.now)) out.new ≡ drop (append_len 16 (length records.now)) out.old }
+    ensures refused { result ≢ 0 → (out.new ≡ out.old) × (next.new ≡ next.old) }
+{
+    append::<CvecPair>(alloc, stat, records, out, next)
+}
+
+/// Appends records of flagged, as `append` says.
+#[unsafe(no_mangle)]
+pub extern "C" fn cvec_append_flagged(
+    alloc: Global,
+    stat: &CvecStat,
+    records: &[CvecFlagged],
+    out: &mut [u8],
+    next: &mut CvecStat,
+) -> u32
+    ensures answer { MatchOption (first_refusal (append_lines 9 stat.now (length records.now) (length out.old)))
+        ((result ≡ 0) ⊎ (result ≡ 6))
+        (λ status. result ≡ code_of status) }
+    ensures done { result ≡ 0 → AppendsTo c_flagged stat.now records.now (take (append_len 9 (length records.now)) out.new) next.new }
+    ensures rest { drop (append_len 9 (length records.now)) out.new ≡ drop (append_len 9 (length records.now)) out.old }
+    ensures refused { result ≢ 0 → (out.new ≡ out.old) × (next.new ≡ next.old) }
+{
+    append::<CvecFlagged>(alloc, stat, records, out, next)
+}

@@ -1,0 +1,114 @@
+//! An image is checked.
+
+ghost use Rattle.std.specs.Prelude.{◌≡◌, ◌≢◌, List, MatchResult, ℕ, ℤ};
+ghost use Rattle.std.specs.Int.{w32, w64};
+ghost use Rattle.record_core.specs.Bytes.{unsigned, signed};
+ghost use Rattle.segment_core.specs.Fault.{IsRefused};
+ghost use Rattle.cvec_c.specs.Stat.{HasStat, IsToldOf};
+ghost use Rattle.cvec_c.specs.declared.records.CvecPair.{CvecPair};
+ghost use Rattle.cvec_c.specs.declared.records.CvecFlagged.{CvecFlagged};
+ghost use Rattle.cvec_c.specs.Records.{c_pair, c_flagged};
+
+use crate::records::{CvecFlagged, CvecPair};
+use crate::stat::CvecStat;
+use crate::status::{CvecFault, Status};
+use record_core::Record;
+use segment_core::{ScanFault, scan};
+use std::alloc::Global;
+
+/// What the image holds, or its first fault.
+fn stat_of<R: Record>(alloc: Global, image: &[u8]) -> Result<CvecStat, ScanFault>
+    ensures { MatchResult result (λ stat. (records : List R) × HasStat R.form image.now records stat) (IsRefused R.form image.now) }
+{
+    match scan::<R>(alloc, image) {
+        Ok(scanned) => Ok(CvecStat::of(&scanned)),
+        Err(fault) => Err(fault),
+    }
+}
+
+/// Answers 0 where the image has a vector, and tells what it holds; else why it has none. What isn't told of stays.
+fn check<R: Record>(alloc: Global, image: &[u8], stat: &mut CvecStat, fault: &mut CvecFault) -> u32
+    ensures done { result ≡ 0 → ((records : List R) × HasStat R.form image.now records stat.new) × (fault.new ≡ fault.old) }
+    ensures refused { result ≢ 0 → IsToldOf R.form image.now result fault.new × (stat.new ≡ stat.old) }
+{
+    match stat_of::<R>(alloc, image) {
+        Ok(found) => {
+            *stat = found;
+            Status::Done.code()
+        }
+        Err(refusal) => {
+            *fault = CvecFault::of(refusal);
+            Status::of(refusal).code()
+        }
+    }
+}
+
+/// Checks an image of u32, as `check` says.
+#[unsafe(no_mangle)]
+pub extern "C" fn cvec_check_u32(
+    alloc: Global,
+    image: &[u8],
+    stat: &mut CvecStat,
+    fault: &mut CvecFault,
+) -> u32
+    ensures done { result ≡ 0 → ((records : List ℕ) × HasStat (unsigned w32) image.now records stat.new) × (fault.new ≡ fault.old) }
+    ensures refused { result ≢ 0 → IsToldOf (unsigned w32) image.now result fault.new × (stat.new ≡ stat.old) }
+{
+    check::<u32>(alloc, image, stat, fault)
+}
+
+/// Checks an image of u64, as `check` says.
+#[unsafe(no_mangle)]
+pub extern "C" fn cvec_check_u64(
+    alloc: Global,
+    image: &[u8],
+    stat: &mut CvecStat,
+    fault: &mut CvecFault,
+) -> u32
+    ensures done { result ≡ 0 → ((records : List ℕ) × HasStat (unsigned w64) image.now records stat.new) × (fault.new ≡ fault.old) }
+    ensures refused { result ≢ 0 → IsToldOf (unsigned w64) image.now result fault.new × (stat.new ≡ stat.old) }
+{
+    check::<u64>(alloc, image, stat, fault)
+}
+
+/// Checks an image of i64, as `check` says.
+#[unsafe(no_mangle)]
+pub extern "C" fn cvec_check_i64(
+    alloc: Global,
+    image: &[u8],
+    stat: &mut CvecStat,
+    fault: &mut CvecFault,
+) -> u32
+    ensures done { result ≡ 0 → ((records : List ℤ) × HasStat (signed w64) image.now records stat.new) × (fault.new ≡ fault.old) }
+    ensures refused { result ≢ 0 → IsToldOf (signed w64) image.now result fault.new × (stat.new ≡ stat.old) }
+{
+    check::<i64>(alloc, image, stat, fault)
+}
+
+/// Checks an image of pair, as `check` says.
+#[unsafe(no_mangle)]
+pub extern "C" fn cvec_check_pair(
+    alloc: Global,
+    image: &[u8],
+    stat: &mut CvecStat,
+    fault: &mut CvecFault,
+) -> u32
+    ensures done { result ≡ 0 → ((records : List CvecPair) × HasStat c_pair image.now records stat.new) × (fault.new ≡ fault.old) }
+    ensures refused { result ≢ 0 → IsToldOf c_pair image.now result fault.new × (stat.new ≡ stat.old) }
+{
+    check::<CvecPair>(alloc, image, stat, fault)
+}
+
+/// Checks an image of flagged, as `check` says.
+#[unsafe(no_mangle)]
+pub extern "C" fn cvec_check_flagged(
+    alloc: Global,
+    image: &[u8],
+    stat: &mut CvecStat,
+    fault: &mut CvecFault,
+) -> u32
+    ensures done { result ≡ 0 → ((records : List CvecFlagged) × HasStat c_flagged image.now records stat.new) × (fault.new ≡ fault.old) }
+    ensures refused { result ≢ 0 → IsToldOf c_flagged image.now result fault.new × (stat.new ≡ stat.old) }
+{
+    check::<CvecFlagged>(alloc, image, stat, fault)
+}

@@ -1,0 +1,182 @@
+//! Where the records of an image stand.
+
+ghost use Rattle.std.specs.Prelude.{◌≡◌, ◌≢◌, ◌≤◌, ◌<◌, ℕ, ℤ, List, length, take, drop, MatchResult};
+ghost use Rattle.std.specs.Int.{w32, w64};
+ghost use Rattle.record_core.specs.Bytes.{unsigned, signed};
+ghost use Rattle.segment_core.specs.declared.found.Home.{Home};
+ghost use Rattle.segment_core.specs.Fault.{IsRefused};
+ghost use Rattle.cvec_c.specs.declared.records.CvecPair.{CvecPair};
+ghost use Rattle.cvec_c.specs.declared.records.CvecFlagged.{CvecFlagged};
+ghost use Rattle.cvec_c.specs.Records.{c_pair, c_flagged};
+ghost use Rattle.cvec_c.specs.declared.stat.CvecStat.{CvecStat};
+ghost use Rattle.cvec_c.specs.Stat.{IsToldOf};
+ghost use Rattle.cvec_c.specs.Homes.{HasHomes, as_homes};
+
+use crate::records::{CvecFlagged, CvecPair};
+use crate::stat::CvecStat;
+use crate::status::{CvecFault, Status};
+use record_core::Record;
+use segment_core::{Home, ScanFault, Scanner};
+use std::alloc::Global;
+
+/// Where the home bytes of consecutive positions stand, one record behind the other.
+#[repr(C)]
+#[derive(Clone, Copy)]
+pub struct CvecHome {
+    /// The first position.
+    pub position: u64,
+    /// The place of its first byte in the file.
+    pub place: u64,
+    /// How many positions there are.
+    pub count: u64,
+}
+
+/// What the image holds and the homes of its positions, or its first fault.
+fn homes_of<R: Record>(alloc: Global, image: &[u8]) -> Result<(CvecStat, Vec<Home>), ScanFault>
+    ensures { MatchResult result (λ found. (records : List R) × HasHomes R.form image.now records found.0 found.1.items) (IsRefused R.form image.now) }
+{
+    let mut scanner = Scanner::<R>::of_length(alloc, image.len() as u64);
+    // What it refuses is answered at the end again.
+    let _ = scanner.feed(image);
+    match scanner.end_with() {
+        Ok((scanned, homes)) => Ok((CvecStat::of(&scanned), homes.homes)),
+        Err(fault) => Err(fault),
+    }
+}
+
+/// Copies the homes over the front of `out`.
+fn copy_homes(homes: &[Home], out: &mut [CvecHome])
+    requires { length homes.now ≤ length out.old }
+    ensures { as_homes (take (length homes.now) out.new) ≡ homes.now }
+{
+    for k in 0..homes.len() {
+        let home = homes[k];
+        out[k] = CvecHome {
+            position: home.position,
+            place: home.place,
+            count: home.count,
+        };
+    }
+}
+
+/// Answers 0 where the image has a vector, and tells what it holds and the homes of its positions, as many as `count`
+/// says; 11 where they are more than `out` has room for. Else it tells why it has none. What isn't told of stays.
+fn homes<R: Record>(
+    alloc: Global,
+    image: &[u8],
+    out: &mut [CvecHome],
+    count: &mut u64,
+    stat: &mut CvecStat,
+    fault: &mut CvecFault,
+) -> u32
+    ensures done { result ≡ 0 → ((records : List R) × HasHomes R.form image.now records stat.new (as_homes (take count.new out.new))) × (fault.new ≡ fault.old) }
+    ensures no_room { result ≡ 11 → (length out.old < count.new) × ((records : List R) × (holds : CvecStat) × (homes : List Home) × HasHomes R.form image.now records holds homes × (count.new ≡ length homes)) }
+    ensures unchanged { result ≡ 11 → (out.new ≡ out.old) × (stat.new ≡ stat.old) × (fault.new ≡ fault.old) }
+    ensures refused { result ≢ 0 → result ≢ 11 → IsToldOf R.form image.now result fault.new × (out.new ≡ out.old) × (count.new ≡ count.old) × (stat.new ≡ stat.old) }
+{
+    match homes_of::<R>(alloc, image) {
+        Ok((found, homes)) => {
+            *count = homes.len() as u64;
+            if homes.len() > out.len() {
+                return Status::NoRoom.code();
+            }
+            copy_homes(&homes, out);
+            *stat = found;
+            Status::Done.code()
+        }
+        Err(refusal) => {
+            *fault = CvecFault::of(refusal);
+            Status::of(refusal).code()
+        }
+    }
+}
+
+/// Tells where the records of an image of u32 stand, as `homes` says.
+#[unsafe(no_mangle)]
+pub extern "C" fn cvec_homes_u32(
+    alloc: Global,
+    image: &[u8],
+    out: &mut [CvecHome],
+    count: &mut u64,
+    stat: &mut CvecStat,
+    fault: &mut CvecFault,
+) -> u32
+    ensures done { result ≡ 0 → ((records : List ℕ) × HasHomes (unsigned w32) image.now records stat.new (as_homes (take count.new out.new))) × (fault.new ≡ fault.old) }
+    ensures no_room { result ≡ 11 → (length out.old < count.new) × ((records : List ℕ) × (holds : CvecStat) × (homes : List Home) × HasHomes (unsigned w32) image.now records holds homes × (count.new ≡ length homes)) }
+    ensures unchanged { result ≡ 11 → (out.new ≡ out.old) × (stat.new ≡ stat.old) × (fault.new ≡ fault.old) }
+    ensures refused { result ≢ 0 → result ≢ 11 → IsToldOf (unsigned w32) image.now result fault.new × (out.new ≡ out.old) × (count.new ≡ count.old) × (stat.new ≡ stat.old) }
+{
+    homes::<u32>(alloc, image, out, count, stat, fault)
+}
+
+/// Tells where the records of an image of u64 stand, as `homes` says.
+#[unsafe(no_mangle)]
+pub extern "C" fn cvec_homes_u64(
+    alloc: Global,
+    image: &[u8],
+    out: &mut [CvecHome],
+    count: &mut u64,
+    stat: &mut CvecStat,
+    fault: &mut CvecFault,
+) -> u32
+    ensures done { result ≡ 0 → ((records : List ℕ) × HasHomes (unsigned w64) image.now records stat.new (as_homes (take count.new out.new))) × (fault.new ≡ fault.old) }
+    ensures no_room { result ≡ 11 → (length out.old < count.new) × ((records : List ℕ) × (holds : CvecStat) × (homes : List Home) × HasHomes (unsigned w64) image.now records holds homes × (count.new ≡ length homes)) }
+    ensures unchanged { result ≡ 11 → (out.new ≡ out.old) × (stat.new ≡ stat.old) × (fault.new ≡ fault.old) }
+    ensures refused { result ≢ 0 → result ≢ 11 → IsToldOf (unsigned w64) image.now result fault.new × (out.new ≡ out.old) × (count.new ≡ count.old) × (stat.new ≡ stat.old) }
+{
+    homes::<u64>(alloc, image, out, count, stat, fault)
+}
+
+/// Tells where the records of an image of i64 stand, as `homes` says.
+#[unsafe(no_mangle)]
+pub extern "C" fn cvec_homes_i64(
+    alloc: Global,
+    image: &[u8],
+    out: &mut [CvecHome],
+    count: &mut u64,
+    stat: &mut CvecStat,
+    fault: &mut CvecFault,
+) -> u32
+    ensures done { result ≡ 0 → ((records : List ℤ) × HasHomes (signed w64) image.now records stat.new (as_homes (take count.new out.new))) × (fault.new ≡ fault.old) }
+    ensures no_room { result ≡ 11 → (length out.old < count.new) × ((records : List ℤ) × (holds : CvecStat) × (homes : List Home) × HasHomes (signed w64) image.now records holds homes × (count.new ≡ length homes)) }
+    ensures unchanged { result ≡ 11 → (out.new ≡ out.old) × (stat.new ≡ stat.old) × (fault.new ≡ fault.old) }
+    ensures refused { result ≢ 0 → result ≢ 11 → IsToldOf (signed w64) image.now result fault.new × (out.new ≡ out.old) × (count.new ≡ count.old) × (stat.new ≡ stat.old) }
+{
+    homes::<i64>(alloc, image, out, count, stat, fault)
+}
+
+/// Tells where the records of an image of pair stand, as `homes` says.
+#[unsafe(no_mangle)]
+pub extern "C" fn cvec_homes_pair(
+    alloc: Global,
+    image: &[u8],
+    out: &mut [CvecHome],
+    count: &mut u64,
+    stat: &mut CvecStat,
+    fault: &mut CvecFault,
+) -> u32
+    ensures done { result ≡ 0 → ((records : List CvecPair) × HasHomes c_pair image.now records stat.new (as_homes (take count.new out.new))) × (fault.new ≡ fault.old) }
+    ensures no_room { result ≡ 11 → (length out.old < count.new) × ((records : List CvecPair) × (holds : CvecStat) × (homes : List Home) × HasHomes c_pair image.now records holds homes × (count.new ≡ length homes)) }
+    ensures unchanged { result ≡ 11 → (out.new ≡ out.old) × (stat.new ≡ stat.old) × (fault.new ≡ fault.old) }
+    ensures refused { result ≢ 0 → result ≢ 11 → IsToldOf c_pair image.now result fault.new × (out.new ≡ out.old) × (count.new ≡ count.old) × (stat.new ≡ stat.old) }
+{
+    homes::<CvecPair>(alloc, image, out, count, stat, fault)
+}
+
+/// Tells where the records of an image of flagged stand, as `homes` says.
+#[unsafe(no_mangle)]
+pub extern "C" fn cvec_homes_flagged(
+    alloc: Global,
+    image: &[u8],
+    out: &mut [CvecHome],
+    count: &mut u64,
+    stat: &mut CvecStat,
+    fault: &mut CvecFault,
+) -> u32
+    ensures done { result ≡ 0 → ((records : List CvecFlagged) × HasHomes c_flagged image.now records stat.new (as_homes (take count.new out.new))) × (fault.new ≡ fault.old) }
+    ensures no_room { result ≡ 11 → (length out.old < count.new) × ((records : List CvecFlagged) × (holds : CvecStat) × (homes : List Home) × HasHomes c_flagged image.now records holds homes × (count.new ≡ length homes)) }
+    ensures unchanged { result ≡ 11 → (out.new ≡ out.old) × (stat.new ≡ stat.old) × (fault.new ≡ fault.old) }
+    ensures refused { result ≢ 0 → result ≢ 11 → IsToldOf c_flagged image.now result fault.new × (out.new ≡ out.old) × (count.new ≡ count.old) × (stat.new ≡ stat.old) }
+{
+    homes::<CvecFlagged>(alloc, image, out, count, stat, fault)
+}

@@ -1,0 +1,134 @@
+//! The records of an image are copied out.
+
+ghost use Rattle.std.specs.Prelude.{◌≡◌, ◌≢◌, ◌+◌, ◌-◌, ◌++◌, List, length, min, drop, slice_range, ℕ, ℤ};
+ghost use Rattle.std.specs.Int.{w32, w64};
+ghost use Rattle.record_core.specs.Bytes.{unsigned, signed};
+ghost use Rattle.cvec_c.specs.Stat.{HasRecords, IsToldOf};
+ghost use Rattle.cvec_c.specs.Reading.{AreCopied};
+ghost use Rattle.cvec_c.specs.declared.records.CvecPair.{CvecPair};
+ghost use Rattle.cvec_c.specs.declared.records.CvecFlagged.{CvecFlagged};
+ghost use Rattle.cvec_c.specs.Records.{c_pair, c_flagged};
+
+use crate::records::{CvecFlagged, CvecPair};
+use crate::status::{CvecFault, Status};
+use record_core::Record;
+use segment_core::scan;
+use std::alloc::Global;
+
+/// Copies the records from position `from` on, as far as both reach, and answers how many.
+fn copy_from<R: Copy>(records: &[R], from: u64, out: &mut [R]) -> u64
+    ensures { AreCopied records.now from out.old out.new result }
+{
+    if from >= records.len() as u64 {
+        return 0;
+    }
+    let rest = &records[from as usize..];
+    let count = rest.len().min(out.len());
+    out[..count].copy_from_slice(&rest[..count]);
+    count as u64
+}
+
+/// Answers 0 where the image has a vector, and copies its records from position `from` on over `out`, as far as both
+/// reach; `count` says how many. Else it tells why it has none. What isn't told of stays.
+fn read<R: Record>(
+    alloc: Global,
+    image: &[u8],
+    from: u64,
+    out: &mut [R],
+    count: &mut u64,
+    fault: &mut CvecFault,
+) -> u32
+    ensures done { result ≡ 0 → ((records : List R) × HasRecords R.form image.now records × AreCopied records from out.old out.new count.new) × (fault.new ≡ fault.old) }
+    ensures refused { result ≢ 0 → IsToldOf R.form image.now result fault.new × (out.new ≡ out.old) × (count.new ≡ count.old) }
+{
+    match scan::<R>(alloc, image) {
+        Ok(scanned) => {
+            *count = copy_from(scanned.records.as_slice(), from, out);
+            Status::Done.code()
+        }
+        Err(refusal) => {
+            *fault = CvecFault::of(refusal);
+            Status::of(refusal).code()
+        }
+    }
+}
+
+/// Copies records of u32 out of an image, as `read` says.
+#[unsafe(no_mangle)]
+pub extern "C" fn cvec_read_u32(
+    alloc: Global,
+    image: &[u8],
+    from: u64,
+    out: &mut [u32],
+    count: &mut u64,
+    fault: &mut CvecFault,
+) -> u32
+    ensures done { result ≡ 0 → ((records : List ℕ) × HasRecords (unsigned w32) image.now records × AreCopied records from out.old out.new count.new) × (fault.new ≡ fault.old) }
+    ensures refused { result ≢ 0 → IsToldOf (unsigned w32) image.now result fault.new × (out.new ≡ out.old) × (count.new ≡ count.old) }
+{
+    read::<u32>(alloc, image, from, out, count, fault)
+}
+
+/// Copies records of u64 out of an image, as `read` says.
+#[unsafe(no_mangle)]
+pub extern "C" fn cvec_read_u64(
+    alloc: Global,
+    image: &[u8],
+    from: u64,
+    out: &mut [u64],
+    count: &mut u64,
+    fault: &mut CvecFault,
+) -> u32
+    ensures done { result ≡ 0 → ((records : List ℕ) × HasRecords (unsigned w64) image.now records × AreCopied records from out.old out.new count.new) × (fault.new ≡ fault.old) }
+    ensures refused { result ≢ 0 → IsToldOf (unsigned w64) image.now result fault.new × (out.new ≡ out.old) × (count.new ≡ count.old) }
+{
+    read::<u64>(alloc, image, from, out, count, fault)
+}
+
+/// Copies records of i64 out of an image, as `read` says.
+#[unsafe(no_mangle)]
+pub extern "C" fn cvec_read_i64(
+    alloc: Global,
+    image: &[u8],
+    from: u64,
+    out: &mut [i64],
+    count: &mut u64,
+    fault: &mut CvecFault,
+) -> u32
+    ensures done { result ≡ 0 → ((records : List ℤ) × HasRecords (signed w64) image.now records × AreCopied records from out.old out.new count.new) × (fault.new ≡ fault.old) }
+    ensures refused { result ≢ 0 → IsToldOf (signed w64) image.now result fault.new × (out.new ≡ out.old) × (count.new ≡ count.old) }
+{
+    read::<i64>(alloc, image, from, out, count, fault)
+}
+
+/// Copies records of pair out of an image, as `read` says.
+#[unsafe(no_mangle)]
+pub extern "C" fn cvec_read_pair(
+    alloc: Global,
+    image: &[u8],
+    from: u64,
+    out: &mut [CvecPair],
+    count: &mut u64,
+    fault: &mut CvecFault,
+) -> u32
+    ensures done { result ≡ 0 → ((records : List CvecPair) × HasRecords c_pair image.now records × AreCopied records from out.old out.new count.new) × (fault.new ≡ fault.old) }
+    ensures refused { result ≢ 0 → IsToldOf c_pair image.now result fault.new × (out.new ≡ out.old) × (count.new ≡ count.old) }
+{
+    read::<CvecPair>(alloc, image, from, out, count, fault)
+}
+
+/// Copies records of flagged out of an image, as `read` says.
+#[unsafe(no_mangle)]
+pub extern "C" fn cvec_read_flagged(
+    alloc: Global,
+    image: &[u8],
+    from: u64,
+    out: &mut [CvecFlagged],
+    count: &mut u64,
+    fault: &mut CvecFault,
+) -> u32
+    ensures done { result ≡ 0 → ((records : List CvecFlagged) × HasRecords c_flagged image.now records × AreCopied records from out.old out.new count.new) × (fault.new ≡ fault.old) }
+    ensures refused { result ≢ 0 → IsToldOf c_flagged image.now result fault.new × (out.new ≡ out.old) × (count.new ≡ count.old) }
+{
+    read::<CvecFlagged>(alloc, image, from, out, count, fault)
+}

@@ -1,0 +1,303 @@
+/* A segment file by the system's calls, in the order on which libcvec_c.a's promises rest. Each call is made whole: where
+ * the system does a part only it goes on from there, and a call that a signal interrupts is made again. */
+#define _DEFAULT_SOURCE 1
+#include "cvec.h"
+
+#include <errno.h>
+#include <fcntl.h>
+#include <stdlib.h>
+#include <string.h>
+#include <sys/file.h>
+#include <sys/mman.h>
+#include <sys/stat.h>
+#include <unistd.h>
+
+static const uint8_t open_gate = 1;
+static const uint8_t closed_gate = 0;
+
+/* What is lent in place of no records: the library wants a pointer also where the length is 0. */
+static const cvec_pair no_records[1];
+static cvec_pair no_room[1];
+
+/* The bytes that a file takes for its frames at first. */
+enum { FIRST_ROOM = 4096 };
+
+/* ---- the record types */
+
+static uint32_t check(cvec_type type, const uint8_t *image, size_t len, cvec_stat *stat, cvec_fault *fault) {
+    switch (type) {
+    case CVEC_U32: return cvec_check_u32(image, len, stat, fault);
+    case CVEC_U64: return cvec_check_u64(image, len, stat, fault);
+    case CVEC_I64: return cvec_check_i64(image, len, stat, fault);
+    case CVEC_PAIR: return cvec_check_pair(image, len, stat, fault);
+    default: return cvec_check_flagged(image, len, stat, fault);
+    }
+}
+
+static uint32_t read_records(cvec_type type, const uint8_t *image, size_t len, uint64_t from, void *out, size_t room,
+                             uint64_t *count, cvec_fault *fault) {
+    switch (type) {
+    case CVEC_U32: return cvec_read_u32(image, len, from, out, room, count, fault);
+    case CVEC_U64: return cvec_read_u64(image, len, from, out, room, count, fault);
+    case CVEC_I64: return cvec_read_i64(image, len, from, out, room, count, fault);
+    case CVEC_PAIR: return cvec_read_pair(image, len, from, out, room, count, fault);
+    default: return cvec_read_flagged(image, len, from, out, room, count, fault);
+    }
+}
+
+static uint32_t empty_file(cvec_type type, uint8_t *out, size_t room, cvec_stat *stat) {
+    switch (type) {
+    case CVEC_U32: return cvec_empty_u32(1, out, room, stat);
+    case CVEC_U64: return cvec_empty_u64(1, out, room, stat);
+    case CVEC_I64: return cvec_empty_i64(1, out, room, stat);
+    case CVEC_PAIR: return cvec_empty_pair(1, out, room, stat);
+    default: return cvec_empty_flagged(1, out, room, stat);
+    }
+}
+
+static uint32_t frame_of(cvec_type type, const cvec_stat *stat, const void *records, size_t count, uint8_t *out,
+                         size_t room, cvec_stat *next) {
+    switch (type) {
+    case CVEC_U32: return cvec_append_u32(stat, records, count, out, room, next);
+    case CVEC_U64: return cvec_append_u64(stat, records, count, out, room, next);
+    case CVEC_I64: return cvec_append_i64(stat, records, count, out, room, next);
+    case CVEC_PAIR: return cvec_append_pair(stat, records, count, out, room, next);
+    default: return cvec_append_flagged(stat, records, count, out, room, next);
+    }
+}
+
+/* ---- the calls */
+
+static uint32_t length_of(int fd, uint64_t *len) {
+    struct stat found;
+    if (fstat(fd, &found) != 0) return CVEC_DISK_LENGTH;
+    *len = (uint64_t)found.st_size;
+    return CVEC_DONE;
+}
+
+static uint32_t write_at(int fd, uint64_t at, const uint8_t *bytes, size_t len) {
+    while (len > 0) {
+        ssize_t done = pwrite(fd, bytes, len, (off_t)at);
+        if (done < 0 && errno == EINTR) continue;
+        if (done <= 0) return CVEC_DISK_WRITE;
+        bytes += done;
+        at += (uint64_t)done;
+        len -= (size_t)done;
+    }
+    return CVEC_DONE;
+}
+
+static uint32_t read_first(int fd, uint8_t *byte) {
+    ssize_t done;
+    do done = pread(fd, byte, 1, 0);
+    while (done < 0 && errno == EINTR);
+    return done == 1 ? CVEC_DONE : CVEC_DISK_READ;
+}
+
+static uint32_t sync_data(int fd) {
+    int done;
+    do done = fdatasync(fd);
+    while (done != 0 && errno == EINTR);
+    return done == 0 ? CVEC_DONE : CVEC_DISK_SYNC;
+}
+
+static uint32_t write_synced(int fd, uint64_t at, const uint8_t *bytes, size_t len) {
+    uint32_t answer = write_at(fd, at, bytes, len);
+    return answer != CVEC_DONE ? answer : sync_data(fd);
+}
+
+/* Bytes that are written behind their gate, synced, and then appear by their gate, the first of them, synced too. A crash
+ * leaves the gate shut, or all of them. */
+static uint32_t commit(int fd, uint64_t gate, const uint8_t *bytes, size_t len) {
+    uint32_t answer = write_synced(fd, gate + 1, bytes + 1, len - 1);
+    return answer != CVEC_DONE ? answer : write_synced(fd, gate, &open_gate, 1);
+}
+
+/* A new name is durable only when its folder is synced. */
+static uint32_t sync_folder(const char *path) {
+    char *whole = realpath(path, NULL);
+    if (whole == NULL) return CVEC_DISK_SYNC;
+    char *name = strrchr(whole, '/');
+    name[name == whole ? 1 : 0] = '\0';
+    int fd = open(whole, O_RDONLY | O_DIRECTORY | O_CLOEXEC);
+    free(whole);
+    if (fd < 0) return CVEC_DISK_SYNC;
+    int done = fsync(fd);
+    close(fd);
+    return done == 0 ? CVEC_DONE : CVEC_DISK_SYNC;
+}
+
+/* Opens it for one process alone. */
+static uint32_t open_alone(cvec_file *file, const char *path, cvec_type type, int flags) {
+    memset(file, 0, sizeof *file);
+    file->type = type;
+    file->fd = open(path, O_RDWR | O_CLOEXEC | flags, 0666);
+    if (file->fd < 0) return CVEC_DISK_OPEN;
+    if (flock(file->fd, LOCK_EX | LOCK_NB) != 0) return errno == EWOULDBLOCK ? CVEC_IN_USE : CVEC_DISK_OPEN;
+    file->bytes = malloc(FIRST_ROOM);
+    if (file->bytes == NULL) return CVEC_MEMORY;
+    file->room = FIRST_ROOM;
+    return CVEC_DONE;
+}
+
+/* The bytes of the file, and one more where it has none: the length of a map is at least 1. */
+struct image {
+    const uint8_t *bytes;
+    size_t len;
+};
+
+static uint32_t map_file(int fd, struct image *image) {
+    static const uint8_t nothing[1];
+    uint64_t len = 0;
+    uint32_t answer = length_of(fd, &len);
+    if (answer != CVEC_DONE) return answer;
+    image->bytes = nothing;
+    image->len = (size_t)len;
+    if (len == 0) return CVEC_DONE;
+    void *at = mmap(NULL, (size_t)len, PROT_READ, MAP_SHARED, fd, 0);
+    if (at == MAP_FAILED) return CVEC_DISK_READ;
+    image->bytes = at;
+    return CVEC_DONE;
+}
+
+static void unmap(const struct image *image) {
+    if (image->len > 0) munmap((void *)(uintptr_t)image->bytes, image->len);
+}
+
+/* ---- a file that is made: a sync, a look whether there is one, its first byte shut, and a commit at place 0 */
+
+static uint32_t shut_first(int fd) {
+    uint64_t len = 0;
+    uint8_t first = 0;
+    uint32_t answer = length_of(fd, &len);
+    if (answer != CVEC_DONE) return answer;
+    if (len > CVEC_EMPTY_LEN) return CVEC_EXISTS;
+    if (len < 2) return write_synced(fd, 0, &closed_gate, 1);
+    answer = read_first(fd, &first);
+    if (answer != CVEC_DONE) return answer;
+    return first == open_gate ? CVEC_EXISTS : CVEC_DONE;
+}
+
+static uint32_t make(cvec_file *file, const char *path, cvec_type type) {
+    uint8_t bytes[CVEC_EMPTY_LEN];
+    uint32_t answer = open_alone(file, path, type, O_CREAT);
+    if (answer == CVEC_DONE) answer = sync_folder(path);
+    if (answer == CVEC_DONE) answer = empty_file(type, bytes, sizeof bytes, &file->stat);
+    if (answer == CVEC_DONE) answer = sync_data(file->fd);
+    if (answer == CVEC_DONE) answer = shut_first(file->fd);
+    if (answer == CVEC_DONE) answer = commit(file->fd, 0, bytes, sizeof bytes);
+    return answer;
+}
+
+uint32_t cvec_create(cvec_file *file, const char *path, cvec_type type) {
+    uint32_t answer = make(file, path, type);
+    if (answer != CVEC_DONE) cvec_close(file);
+    return answer;
+}
+
+/* ---- a file that is opened: a sync, so that what is read is what a crash leaves, and a check of its bytes */
+
+static uint32_t look(cvec_file *file, const char *path, cvec_type type, cvec_fault *fault) {
+    struct image image;
+    uint32_t answer = open_alone(file, path, type, 0);
+    if (answer == CVEC_DONE) answer = sync_data(file->fd);
+    if (answer == CVEC_DONE) answer = map_file(file->fd, &image);
+    if (answer != CVEC_DONE) return answer;
+    answer = check(type, image.bytes, image.len, &file->stat, fault);
+    unmap(&image);
+    return answer;
+}
+
+uint32_t cvec_open(cvec_file *file, const char *path, cvec_type type, cvec_fault *fault) {
+    memset(fault, 0, sizeof *fault);
+    uint32_t answer = look(file, path, type, fault);
+    if (answer != CVEC_DONE) cvec_close(file);
+    return answer;
+}
+
+/* ---- records */
+
+static uint32_t take_room(cvec_file *file, size_t len) {
+    uint8_t *bytes = realloc(file->bytes, len);
+    if (bytes == NULL) return CVEC_MEMORY;
+    file->bytes = bytes;
+    file->room = len;
+    return CVEC_DONE;
+}
+
+/* The frame of the records, in the file's memory: of the library's tests that of the room comes last. */
+static uint32_t make_frame(cvec_file *file, const void *records, size_t count, cvec_stat *next) {
+    uint32_t answer = frame_of(file->type, &file->stat, records, count, file->bytes, file->room, next);
+    if (answer != CVEC_NO_ROOM) return answer;
+    answer = take_room(file, (size_t)CVEC_APPEND_LEN(file->stat.width, count));
+    if (answer != CVEC_DONE) return answer;
+    return frame_of(file->type, &file->stat, records, count, file->bytes, file->room, next);
+}
+
+uint32_t cvec_append(cvec_file *file, const void *records, size_t count) {
+    cvec_stat next;
+    if (file->fd < 0 || file->broken) return CVEC_BROKEN;
+    uint32_t answer = make_frame(file, count > 0 ? records : no_records, count, &next);
+    if (answer != CVEC_DONE) return answer;
+    answer = commit(file->fd, file->stat.gate, file->bytes, (size_t)(next.gate + 1 - file->stat.gate));
+    if (answer != CVEC_DONE) {
+        file->broken = true;
+        return answer;
+    }
+    file->stat = next;
+    return CVEC_DONE;
+}
+
+uint32_t cvec_read(const cvec_file *file, uint64_t from, void *out, size_t room, uint64_t *count, cvec_fault *fault) {
+    struct image image;
+    memset(fault, 0, sizeof *fault);
+    if (file->fd < 0 || file->broken) return CVEC_BROKEN;
+    uint32_t answer = map_file(file->fd, &image);
+    if (answer != CVEC_DONE) return answer;
+    answer = read_records(file->type, image.bytes, image.len, from, room > 0 ? out : no_room, room, count, fault);
+    unmap(&image);
+    return answer;
+}
+
+void cvec_close(cvec_file *file) {
+    if (file->fd >= 0) close(file->fd);
+    free(file->bytes);
+    memset(file, 0, sizeof *file);
+    file->fd = -1;
+    file->broken = true;
+}
+
+/* ---- words */
+
+const char *cvec_status_text(uint32_t status) {
+    switch (status) {
+    case CVEC_DONE: return "done";
+    case CVEC_UNBORN: return "unborn";
+    case CVEC_NOT_SEGMENT: return "not a segment";
+    case CVEC_VERSION: return "version";
+    case CVEC_WIDTH: return "width";
+    case CVEC_DAMAGED: return "damaged";
+    case CVEC_MEMORY: return "memory";
+    case CVEC_EMPTY: return "empty";
+    case CVEC_OUT_OF_RANGE: return "out of range";
+    case CVEC_TOO_LARGE: return "too large";
+    case CVEC_FILE_FULL: return "file full";
+    case CVEC_NO_ROOM: return "no room";
+    case CVEC_NO_FRAME: return "no frame";
+    case CVEC_EXISTS: return "exists";
+    case CVEC_IN_USE: return "in use";
+    case CVEC_BROKEN: return "broken";
+    case CVEC_DISK_OPEN: return "disk open";
+    case CVEC_DISK_LENGTH: return "disk length";
+    case CVEC_DISK_READ: return "disk read";
+    case CVEC_DISK_WRITE: return "disk write";
+    case CVEC_DISK_SYNC: return "disk sync";
+    default: return "unknown";
+    }
+}
+
+const char *cvec_cause_text(uint32_t cause) {
+    static const char *const texts[] = {"none", "no gate", "short frame", "kind", "too large", "layout", "runs", "range",
+                                        "unfolded", "fold count", "too long", "bad record"};
+    return cause < sizeof texts / sizeof *texts ? texts[cause] : "unknown";
+}

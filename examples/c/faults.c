@@ -1,0 +1,89 @@
+/* A test of cvec_file.c: every call of the system fails once, and what the file has then is what it had before the function
+ * that was running, or what it has after. Prints the calls of a run in which none fails: ./faults FILE */
+#define _DEFAULT_SOURCE 1
+#include <stdio.h>
+#include <sys/types.h>
+#include <unistd.h>
+
+static int left = -1; /* the calls that pass before one fails; none does below 0 */
+static int traced;
+
+static int fails(void) { return left >= 0 && left-- == 0; }
+
+/* A write that fails has written half. */
+static ssize_t faulty_pwrite(int fd, const void *bytes, size_t len, off_t at) {
+    if (traced) printf("write %zu at %lld\n", len, (long long)at);
+    if (!fails()) return pwrite(fd, bytes, len, at);
+    if (pwrite(fd, bytes, len / 2, at) < 0) perror("pwrite");
+    return -1;
+}
+
+static int faulty_sync(int fd, int (*sync)(int), const char *name) {
+    if (traced) puts(name);
+    return fails() ? -1 : sync(fd);
+}
+
+static int faulty_fdatasync(int fd) { return faulty_sync(fd, fdatasync, "sync"); }
+static int faulty_fsync(int fd) { return faulty_sync(fd, fsync, "sync of the folder"); }
+
+#define pwrite faulty_pwrite
+#define fdatasync faulty_fdatasync
+#define fsync faulty_fsync
+#include "cvec_file.c"
+#undef pwrite
+#undef fdatasync
+#undef fsync
+
+static const uint64_t numbers[] = {5, 7, 11, 13};
+
+/* Creates a file and appends 3 records and 1, as far as no call fails. How many were told to be durable: -1 where not even
+ * the file was. */
+static int run(const char *path) {
+    int done = -1;
+    cvec_file file;
+    if (cvec_create(&file, path, CVEC_U64) != CVEC_DONE) return done;
+    done = 0;
+    if (cvec_append(&file, numbers, 3) == CVEC_DONE) {
+        done = 3;
+        if (cvec_append(&file, numbers + 3, 1) == CVEC_DONE) done = 4;
+    }
+    if (done < 4 && cvec_append(&file, numbers, 1) != CVEC_BROKEN) puts("a broken file takes records");
+    cvec_close(&file);
+    return done;
+}
+
+/* What a file that is opened again has: -1 where there is none yet. */
+static int found(const char *path) {
+    uint64_t seen[4], count = 0;
+    cvec_fault fault;
+    cvec_file file;
+    uint32_t status = cvec_open(&file, path, CVEC_U64, &fault);
+    if (status == CVEC_UNBORN) return -1;
+    if (status == CVEC_DONE) status = cvec_read(&file, 0, seen, 4, &count, &fault);
+    cvec_close(&file);
+    return status == CVEC_DONE && memcmp(seen, numbers, 8 * count) == 0 ? (int)count : -2;
+}
+
+/* The next size behind this one. */
+static int next(int size) { return size == -1 ? 0 : size == 0 ? 3 : 4; }
+
+int main(int argc, char **argv) {
+    int calls = 0, lost = 0;
+    if (argc != 2) return 2;
+    for (int done = -1; done < 4; calls++) {
+        remove(argv[1]);
+        left = calls;
+        done = run(argv[1]);
+        left = -1;
+        int size = found(argv[1]);
+        if (size != done && size != next(done)) {
+            printf("call %d failed: %d were durable, %d are there\n", calls, done, size);
+            lost = 1;
+        }
+    }
+    remove(argv[1]);
+    traced = 1;
+    run(argv[1]);
+    printf("each of %d calls failed once\n", calls - 1);
+    return lost;
+}

@@ -1,0 +1,241 @@
+//! Segment files of a durable vector from plain Rust, over libcvec_c.a and cvec_file.c (docs/C.md says how they are built
+//! and linked).
+//!
+//! ```no_run
+//! let mut file = cvec::File::<u64>::create("numbers.cvec".as_ref())?;
+//! file.append(&[5, 7, 11])?; // durable when it returns
+//! # Ok::<(), cvec::Error>(())
+//! ```
+#![deny(unsafe_op_in_unsafe_fn)]
+
+use std::ffi::{CStr, CString, c_char, c_int};
+use std::fmt;
+use std::marker::PhantomData;
+use std::os::unix::ffi::OsStrExt;
+use std::path::Path;
+
+/// A key and a number of either sign.
+#[repr(C)]
+#[derive(Clone, Copy, Debug, Default, PartialEq, Eq)]
+pub struct Pair {
+    pub key: u64,
+    pub value: i64,
+}
+
+/// A key and whether it is flagged.
+#[repr(C)]
+#[derive(Clone, Copy, Debug, Default, PartialEq, Eq)]
+pub struct Flagged {
+    pub key: u64,
+    pub flag: bool,
+}
+
+/// What an image with a vector holds.
+#[repr(C)]
+#[derive(Clone, Copy, Debug, Default, PartialEq, Eq)]
+pub struct Stat {
+    pub size: u64,
+    pub frames: u64,
+    pub changes: u64,
+    pub folded: u64,
+    /// The place of the closed gate.
+    pub gate: u64,
+    /// The bytes of one record.
+    pub width: u16,
+    pub version: u8,
+}
+
+/// Where and why an image has no vector.
+#[repr(C)]
+#[derive(Clone, Copy, Debug, Default, PartialEq, Eq)]
+pub struct Fault {
+    pub at: u64,
+    pub cause: u32,
+    pub found: u32,
+}
+
+/// One frame of an image.
+#[repr(C)]
+#[derive(Clone, Copy, Debug, Default, PartialEq, Eq)]
+pub struct Frame {
+    pub first_record: u64,
+    /// The place of the next gate.
+    pub next: u64,
+    pub payload_len: u32,
+    pub growths: u32,
+    pub records: u32,
+    pub kind: u8,
+}
+
+/// A refusal: its number in `cvec.h`, and of a damaged file where and why.
+#[derive(Clone, Copy, Debug, PartialEq, Eq)]
+pub struct Error {
+    pub status: u32,
+    pub fault: Fault,
+}
+
+/// The number of a file that is damaged.
+const DAMAGED: u32 = 5;
+
+impl fmt::Display for Error {
+    fn fmt(&self, f: &mut fmt::Formatter<'_>) -> fmt::Result {
+        // SAFETY: both give a text that lasts, whatever the number.
+        let (status, cause) = unsafe { (CStr::from_ptr(cvec_status_text(self.status)), CStr::from_ptr(cvec_cause_text(self.fault.cause))) };
+        f.write_str(&status.to_string_lossy())?;
+        if self.status == DAMAGED {
+            write!(f, " at {}: {}", self.fault.at, cause.to_string_lossy())?;
+        }
+        Ok(())
+    }
+}
+
+impl std::error::Error for Error {}
+
+fn told(status: u32, fault: Fault) -> Result<(), Error> {
+    if status == 0 { Ok(()) } else { Err(Error { status, fault }) }
+}
+
+#[repr(C)]
+struct RawFile {
+    fd: c_int,
+    kind: c_int,
+    broken: bool,
+    stat: Stat,
+    bytes: *mut u8,
+    room: usize,
+}
+
+type Check = unsafe extern "C" fn(*const u8, usize, *mut Stat, *mut Fault) -> u32;
+
+unsafe extern "C" {
+    fn cvec_check_u32(image: *const u8, len: usize, stat: *mut Stat, fault: *mut Fault) -> u32;
+    fn cvec_check_u64(image: *const u8, len: usize, stat: *mut Stat, fault: *mut Fault) -> u32;
+    fn cvec_check_i64(image: *const u8, len: usize, stat: *mut Stat, fault: *mut Fault) -> u32;
+    fn cvec_check_pair(image: *const u8, len: usize, stat: *mut Stat, fault: *mut Fault) -> u32;
+    fn cvec_check_flagged(image: *const u8, len: usize, stat: *mut Stat, fault: *mut Fault) -> u32;
+    fn cvec_frame_at(image: *const u8, len: usize, at: u64, version: u8, width: u16, frame: *mut Frame) -> u32;
+    fn cvec_create(file: *mut RawFile, path: *const c_char, kind: c_int) -> u32;
+    fn cvec_open(file: *mut RawFile, path: *const c_char, kind: c_int, fault: *mut Fault) -> u32;
+    fn cvec_append(file: *mut RawFile, records: *const u8, count: usize) -> u32;
+    fn cvec_read(file: *const RawFile, from: u64, out: *mut u8, room: usize, count: *mut u64, fault: *mut Fault) -> u32;
+    fn cvec_close(file: *mut RawFile);
+    fn cvec_status_text(status: u32) -> *const c_char;
+    fn cvec_cause_text(cause: u32) -> *const c_char;
+}
+
+mod sealed {
+    /// The number of a type in `cvec.h`, and what checks an image of it.
+    pub trait Kind {
+        const KIND: std::ffi::c_int;
+        const CHECK: super::Check;
+    }
+}
+
+/// A type of records that a file may have: u32, u64, i64, `Pair` and `Flagged`.
+pub trait Record: sealed::Kind + Copy + Default {}
+
+macro_rules! records {
+    ($($of:ty, $kind:literal, $check:ident;)*) => {
+        $(
+            impl sealed::Kind for $of {
+                const KIND: c_int = $kind;
+                const CHECK: Check = $check;
+            }
+            impl Record for $of {}
+        )*
+    };
+}
+
+records! {
+    u32, 0, cvec_check_u32;
+    u64, 1, cvec_check_u64;
+    i64, 2, cvec_check_i64;
+    Pair, 3, cvec_check_pair;
+    Flagged, 4, cvec_check_flagged;
+}
+
+/// What the image holds, or its first fault.
+pub fn check<R: Record>(image: &[u8]) -> Result<Stat, Error> {
+    let (mut stat, mut fault) = (Stat::default(), Fault::default());
+    // SAFETY: the pointer and the length are those of one slice, which is lent for the call.
+    let status = unsafe { (R::CHECK)(image.as_ptr(), image.len(), &mut stat, &mut fault) };
+    told(status, fault).map(|()| stat)
+}
+
+/// The frame whose gate is at this place of a file of this version and width.
+pub fn frame_at(image: &[u8], at: u64, version: u8, width: u16) -> Option<Frame> {
+    let mut frame = Frame::default();
+    // SAFETY: as above.
+    let status = unsafe { cvec_frame_at(image.as_ptr(), image.len(), at, version, width, &mut frame) };
+    (status == 0).then_some(frame)
+}
+
+/// A file that is open for reading and appending.
+pub struct File<R: Record> {
+    raw: RawFile,
+    of: PhantomData<R>,
+}
+
+// SAFETY: its memory is malloc's, which any thread may free, and no thread has a part of it.
+unsafe impl<R: Record> Send for File<R> {}
+
+fn closed() -> RawFile {
+    RawFile { fd: -1, kind: 0, broken: true, stat: Stat::default(), bytes: std::ptr::null_mut(), room: 0 }
+}
+
+/// The number of a path that the system has no name for.
+const DISK_OPEN: u32 = 35;
+
+fn name_of(path: &Path) -> Result<CString, Error> {
+    CString::new(path.as_os_str().as_bytes()).map_err(|_| Error { status: DISK_OPEN, fault: Fault::default() })
+}
+
+impl<R: Record> File<R> {
+    /// Makes a file. One that is there stays, and is refused.
+    pub fn create(path: &Path) -> Result<File<R>, Error> {
+        let name = name_of(path)?;
+        let mut raw = closed();
+        // SAFETY: the name ends with a zero, and lasts for the call; what is refused leaves a closed file.
+        let status = unsafe { cvec_create(&mut raw, name.as_ptr(), R::KIND) };
+        told(status, Fault::default()).map(|()| File { raw, of: PhantomData })
+    }
+
+    /// Opens a file, and checks it.
+    pub fn open(path: &Path) -> Result<File<R>, Error> {
+        let name = name_of(path)?;
+        let (mut raw, mut fault) = (closed(), Fault::default());
+        // SAFETY: as above.
+        let status = unsafe { cvec_open(&mut raw, name.as_ptr(), R::KIND, &mut fault) };
+        told(status, fault).map(|()| File { raw, of: PhantomData })
+    }
+
+    /// What the file holds.
+    pub fn stat(&self) -> Stat {
+        self.raw.stat
+    }
+
+    /// Appends the records as one growth: durable when it returns, and all of them or none whatever happens.
+    pub fn append(&mut self, records: &[R]) -> Result<(), Error> {
+        // SAFETY: the file is of this type, and the pointer and the length are those of one slice.
+        let status = unsafe { cvec_append(&mut self.raw, records.as_ptr().cast(), records.len()) };
+        told(status, Fault::default())
+    }
+
+    /// A copy of the records from a position on.
+    pub fn read(&self, from: u64) -> Result<Vec<R>, Error> {
+        let mut out = vec![R::default(); self.raw.stat.size.saturating_sub(from) as usize];
+        let (mut count, mut fault) = (0, Fault::default());
+        // SAFETY: as above; what is written are records of the type.
+        let status = unsafe { cvec_read(&self.raw, from, out.as_mut_ptr().cast(), out.len(), &mut count, &mut fault) };
+        told(status, fault)?;
+        out.truncate(count as usize);
+        Ok(out)
+    }
+}
+
+impl<R: Record> Drop for File<R> {
+    fn drop(&mut self) {
+        // SAFETY: it is closed once, here.
+        unsafe { cvec_close(&mut self.raw) }
+    }
+}
