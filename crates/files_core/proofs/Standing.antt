@@ -1,5 +1,5 @@
 -- Growths that are appended as they are read.
-use Rattle.std.proofs.Common.{◌≡◌, ◌⊎◌, ℕ, List, [], ◌∷◌, ◌++◌, length, take, inl, inr, refl, sym, ap, subst, ◌∙◌}
+use Rattle.std.proofs.Common.{◌≡◌, ℕ, List, [], ◌++◌, length, take, inl, inr, refl, sym, ap, subst, ◌∙◌}
 use Rattle.std.proofs.lemmas.List.{append_assoc, append-nil}
 use Rattle.record_core.specs.Bytes.{Encoding}
 use Rattle.disk_core.specs.State.{State, now, IsImage}
@@ -10,7 +10,7 @@ use Rattle.pen_core.specs.Typed.{OpensTo}
 use Rattle.vault_core.specs.Vault.{VaultOf, MayHold, list_of}
 use Rattle.files_core.specs.declared.fault.FileFault.{FileFault}
 use Rattle.files_core.specs.declared.fault.FileFault.TheVariants as faults
-use Rattle.files_core.specs.Appending.{AllOpenTo, AllOpenBehind, GoesOn, IsNotOpening, IsSettled, Stands, StandsBehind, StopsAt}
+use Rattle.files_core.specs.Appending.{AllOpenBehind, GoesOn, IsNotOpening, IsSettled, Stands, StandsBehind, StopsAt}
 use Rattle.files_core.specs.Loading.{AreDealt, AllMade, StandBehind, IsGrowthStop}
 use Rattle.files_core.specs.Opened.{IsOpenedOn}
 use Rattle.files_core.proofs.Opened.{opened_list, opens_same}
