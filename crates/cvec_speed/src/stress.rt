@@ -34,7 +34,8 @@ pub fn stress<E: Threads + Wait + Clock + Eprint + Sync>(
     let start = Instant::now(rt)?;
     let mut rounds: u64 = 0;
     for phase in 0..sizes.phases {
-        let threads = (below(mix(phase), sizes.threads as u64) as u16).saturating_add(1);
+        let further = u16::try_from(below(mix(phase), sizes.threads as u64)).unwrap_or(0);
+        let threads = further.saturating_add(1);
         run_phase(
             rt,
             alloc,
