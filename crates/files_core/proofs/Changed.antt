@@ -1,5 +1,5 @@
 -- Lists that commands have put in the place of others.
-use Rattle.std.proofs.Common.{◌≡◌, ◌⊎◌, ℕ, ◌<◌, ◌≤◌, Bool, true, false, List, [], ◌∷◌, length, Ok, Err, inl, inr, refl, sym, ap, subst, ◌∙◌, arith}
+use Rattle.std.proofs.Common.{◌≡◌, ◌⊎◌, ℕ, ◌<◌, Bool, List, [], ◌∷◌, length, Ok, inl, inr, refl, sym, ap, subst, ◌∙◌, arith}
 use Rattle.std.proofs.lemmas.Bool.{cases_lt}
 use Rattle.record_core.specs.Bytes.{Encoding}
 use Rattle.disk_core.specs.State.{State, now, IsImage}
@@ -7,7 +7,6 @@ use Rattle.disk_core.specs.Calls.{bytes_of}
 use Rattle.disk_core.specs.Moments.{LeavesOnly}
 use Rattle.segment_core.specs.Frame.{Frame}
 use Rattle.pen_core.specs.declared.fault.PenFault.{PenFault}
-use Rattle.pen_core.specs.PenOf.{PenOf}
 use Rattle.vault_core.specs.declared.fault.VaultFault.{VaultFault}
 use Rattle.vault_core.specs.Commands.{IsCommand, IsNothingFault}
 use Rattle.vault_core.specs.Vault.{VaultOf, MayHold, OpensToEither, list_of}

@@ -1,11 +1,10 @@
 -- Growths that a crew has made.
-use Rattle.std.proofs.Common.{◌≡◌, ◌⊎◌, ℕ, zero, suc, ◌<◌, ◌≤◌, List, [], ◌∷◌, ◌++◌, length, map, Option, Some, None, slice_get, inl, inr, refl, sym, ap, subst, ◌∙◌, arith}
+use Rattle.std.proofs.Common.{◌≡◌, ℕ, zero, suc, ◌<◌, ◌≤◌, List, [], ◌∷◌, ◌++◌, length, map, Option, Some, slice_get, inl, inr, refl, sym, ap, subst, ◌∙◌, arith}
 use Rattle.std.specs.Global.{Vec}
 use Rattle.std.proofs.lemmas.List.{length-map}
 use Rattle.record_core.specs.Bytes.{Encoding}
-use Rattle.disk_core.specs.State.{State, now, IsImage}
+use Rattle.disk_core.specs.State.{State}
 use Rattle.disk_core.specs.Calls.{bytes_of}
-use Rattle.disk_core.specs.Moments.{LeavesOnly}
 use Rattle.block_core.specs.Growth.{Growth}
 use Rattle.directory_core.specs.Chain.{joined}
 use Rattle.book_core.specs.declared.seat.Receipt.{Receipt}

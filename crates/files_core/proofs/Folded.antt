@@ -1,5 +1,5 @@
 -- Files that are folded.
-use Rattle.std.proofs.Common.{◌≡◌, ℕ, Bool, true, false, List, ◌⊎◌, inl, inr, sym, subst, ap, refl}
+use Rattle.std.proofs.Common.{◌≡◌, ℕ, Bool, true, false, List, ◌⊎◌, inl, inr, subst, ap, refl}
 use Rattle.record_core.specs.Bytes.{Encoding}
 use Rattle.disk_core.specs.State.{State, now, IsImage}
 use Rattle.disk_core.specs.Calls.{bytes_of}
@@ -13,7 +13,7 @@ use Rattle.pen_core.specs.Typed.{OpensTo}
 use Rattle.pen_core.proofs.Pieces.{bytes_stay}
 use Rattle.vault_core.specs.Vault.{VaultOf, MayHold, OpensToEither, list_of}
 use Rattle.files_core.specs.Folding.{Stays}
-use Rattle.files_core.specs.Opened.{IsOpenedOn, LeavesBeforeOr}
+use Rattle.files_core.specs.Opened.{IsOpenedOn}
 use Rattle.files_core.proofs.Opened.{opened_list, opened_again, opens_same}
 
 pub same_disk : {D : Type 0} (old new : PenOf D) (begun : Bool) → IsFoldAnswer old new begun → new.disk ≡ old.disk

@@ -1,12 +1,12 @@
 -- Reading lines as growths.
-use Rattle.std.proofs.Common.{◌≡◌, ◌≢◌, ℕ, ◌+◌, ◌<◌, List, [], ◌∷◌, ◌++◌, length, map, Option, refl, sym, ap, ◌∙◌, subst, arith, inr}
+use Rattle.std.proofs.Common.{◌≡◌, ◌≢◌, ℕ, ◌+◌, ◌<◌, List, [], ◌∷◌, ◌++◌, length, map, Option, refl, sym, ap, ◌∙◌, subst, inr}
 use Rattle.std.specs.Prelude.{MatchOption}
 use Rattle.std.specs.List.{AllByRecursion}
 use Rattle.std.proofs.lemmas.List.{map-append, length-map}
 use Rattle.text_core.specs.Text.{Spelling, AreWords, HasOneValue}
 use Rattle.text_core.specs.Words.{BringsRecord}
 use Rattle.text_core.specs.Lines.{HasNoLf, IsFirstBadLine}
-use Rattle.text_core.specs.GroupLine.{IsGroup, IsGroupLineOf, group_line}
+use Rattle.text_core.specs.GroupLine.{IsGroup, group_line}
 use Rattle.text_core.proofs.LineLemmas.{first_bad, after_cut}
 use Rattle.text_core.proofs.LineGroups.{HasGroups, HasGroups_more}
 use Rattle.text_core.proofs.GroupLines.{Reads, Reads_word, unfinished_is_bad, words_of}

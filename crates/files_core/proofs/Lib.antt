@@ -6,3 +6,4 @@ pub mod Crewed
 pub mod Windows
 pub mod Folded
 pub mod Commas
+pub mod Standing

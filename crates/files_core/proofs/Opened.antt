@@ -1,8 +1,8 @@
 -- A file that a command has opened.
-use Rattle.std.proofs.Common.{◌≡◌, ◌⊎◌, ℕ, List, [], Some, None, Option, Result, Ok, Err, MatchResult, OnOk, inl, inr, refl, sym, subst}
+use Rattle.std.proofs.Common.{◌≡◌, ◌⊎◌, ℕ, List, Some, None, Option, Result, Ok, Err, MatchResult, OnOk, inl, inr, refl, sym, subst}
 use Rattle.std.specs.Io.KnownBytes.{Appends}
 use Rattle.files_core.specs.declared.ended.Ended.{Ended}
-use Rattle.files_core.specs.declared.ended.Ended.TheVariants.{Done, OutputFailed, Refused}
+use Rattle.files_core.specs.declared.ended.Ended.TheVariants.{Done, OutputFailed}
 use Rattle.files_core.specs.declared.fault.FileFault.{FileFault}
 use Rattle.files_core.specs.Ended.{EndsAs, Writes, WritesText}
 use Rattle.vault_core.specs.Vault.{OpensToEither}
@@ -16,7 +16,7 @@ use Rattle.pen_core.specs.Opening.{IsOpened, OnlySyncs}
 use Rattle.pen_core.specs.PenOf.{PenOf}
 use Rattle.pen_core.specs.Typed.{OpensTo}
 use Rattle.disk_core.specs.Calls.{bytes_of}
-use Rattle.files_core.specs.Opened.{LeavesBeforeOr, IsOpenedOn}
+use Rattle.files_core.specs.Opened.{LeavesBeforeOr}
 
 pub keeps_same : (known : Option (List ℕ)) → Keeps known known
 keeps_same None = tt

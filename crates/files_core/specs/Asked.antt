@@ -1,5 +1,5 @@
 -- What words spell.
-use Rattle.std.specs.Prelude.{◌≡◌, ℕ, ◌<◌, ◌^◌, List, length, map, codes}
+use Rattle.std.specs.Prelude.{◌≡◌, ℕ, ◌<◌, List, length, map, codes}
 use Rattle.std.specs.List.{AllByRecursion}
 use Rattle.text_core.specs.Text.{Spelling, joined_by}
 use Rattle.text_core.specs.Numbers.{number_spelling}

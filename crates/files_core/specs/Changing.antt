@@ -1,5 +1,5 @@
 -- Commands that put one list in the place of another.
-use Rattle.std.specs.Prelude.{◌≡◌, ℕ, ◌+◌, ◌-◌, ◌*◌, ◌<◌, List, ◌∷◌, [], length, replicate, Result, Err}
+use Rattle.std.specs.Prelude.{◌≡◌, ℕ, ◌+◌, ◌-◌, ◌*◌, ◌<◌, List, ◌∷◌, [], length, replicate, Err}
 use Rattle.record_core.specs.Bytes.{Encoding}
 use Rattle.disk_core.specs.State.{State, now, IsImage}
 use Rattle.disk_core.specs.Calls.{bytes_of}

@@ -1,5 +1,5 @@
 -- The records that positions get.
-use Rattle.std.specs.Prelude.{ℕ, ◌-◌, Option, Some, None, List, nat_lt, slice_get, if◌then◌else◌}
+use Rattle.std.specs.Prelude.{ℕ, ◌-◌, List, nat_lt, slice_get, if◌then◌else◌}
 use Rattle.std.specs.Option.{unwrap_or}
 
 -- The record at a position becomes that of those given from start on which stands there, if one does.

@@ -14,3 +14,4 @@ pub mod Folding
 pub mod Upgraded
 pub mod GrowthLines
 pub mod Loading
+pub mod Appending

@@ -1,5 +1,5 @@
 -- The answers of commands over files, as lines.
-use Rattle.std.specs.Prelude.{ℕ, ◌-◌, List, [], ◌++◌, length, codes, decimal, Option, Some, None}
+use Rattle.std.specs.Prelude.{ℕ, ◌-◌, List, ◌++◌, length, codes, decimal, Option, Some, None}
 use Rattle.text_core.specs.Text.{ended_line}
 use Rattle.segment_core.specs.declared.vector.Scanned.{Scanned}
 

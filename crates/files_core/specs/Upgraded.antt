@@ -1,11 +1,10 @@
 -- A file that is upgraded.
-use Rattle.std.specs.Prelude.{◌≡◌, ℕ, ◌+◌, ◌*◌, ◌≤◌, ◌<◌, ◌↔◌, List, length, Ok}
+use Rattle.std.specs.Prelude.{◌≡◌, ℕ, ◌+◌, ◌*◌, ◌≤◌, ◌↔◌, List, length, Ok}
 use Rattle.record_core.specs.Bytes.{Encoding}
-use Rattle.disk_core.specs.State.{State, now, IsImage}
+use Rattle.disk_core.specs.State.{State}
 use Rattle.disk_core.specs.Calls.{bytes_of}
 use Rattle.segment_core.specs.declared.format.Format.TheVariants.{One, Two}
 use Rattle.segment_core.specs.Shape.{limit_of}
-use Rattle.pen_core.specs.Typed.{OpensTo}
 use Rattle.vault_core.specs.Upgrading.{IsCopied, IsFileOf, IsUpgradeFault}
 use Rattle.vault_core.specs.Vault.{VaultOf, list_of}
 use Rattle.files_core.specs.declared.fault.FileFault.{FileFault}

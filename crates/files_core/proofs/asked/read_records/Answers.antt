@@ -1,4 +1,4 @@
-use Rattle.std.proofs.Common.{◌≡◌, refl, ap, subst}
+use Rattle.std.proofs.Common.{refl, ap, subst}
 use Rattle.std.specs.Option.{option_copied}
 use Rattle.text_core.proofs.Small.{push_all}
 use Rattle.files_core.proofs.Commas.{IsLeft, left_len, next_left, next_shorter}

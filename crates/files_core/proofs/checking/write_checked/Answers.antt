@@ -1,5 +1,4 @@
-use Rattle.std.proofs.Common.{◌∷◌, ◌++◌, [], length, sym, ap}
-use Rattle.std.specs.Prelude.{codes, decimal}
+use Rattle.std.proofs.Common.{◌∷◌, [], length, sym, ap}
 use Rattle.files_core.proofs.Written.{appends_join, appends_last}
 use Rattle.files_core.proofs.checking.write_checked.Goals as goal
 

@@ -1,5 +1,4 @@
-use Rattle.std.proofs.Common.{◌≡◌, List, ℕ, sym, subst, ap}
-use Rattle.disk_core.specs.Calls.{bytes_of}
+use Rattle.std.proofs.Common.{List, ℕ, sym, subst, ap}
 use Rattle.disk_core.specs.Moments.{LeavesOnly}
 use Rattle.pen_core.specs.Opening.{IsOpenRefusal}
 use Rattle.pen_core.proofs.Pieces.{bytes_stay}

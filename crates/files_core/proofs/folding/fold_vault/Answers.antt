@@ -1,4 +1,4 @@
-use Rattle.std.proofs.Common.{◌≡◌, ℕ, List, inr, sym, subst}
+use Rattle.std.proofs.Common.{ℕ, List, inr, sym, subst}
 use Rattle.std.proofs.lemmas.Result.{MatchResult-weaker}
 use Rattle.disk_core.specs.State.{now, IsImage}
 use Rattle.disk_core.specs.Moments.{LeavesOnly}

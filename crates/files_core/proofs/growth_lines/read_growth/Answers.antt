@@ -1,8 +1,8 @@
-use Rattle.std.proofs.Common.{◌≡◌, [], ◌∷◌, ◌++◌, List, length, refl, sym, ap, ◌∙◌, arith, Err, subst}
+use Rattle.std.proofs.Common.{◌≡◌, [], ◌∷◌, ◌++◌, length, refl, sym, ap, ◌∙◌, arith, Err}
 use Rattle.std.specs.Option.{option_copied}
 use Rattle.text_core.proofs.Joins.{words_in, words_cut}
 use Rattle.text_core.proofs.Small.{err_is, OnOk_from, OnOk_at, nil_from_test, some_from_test}
-use Rattle.text_core.proofs.GroupLines.{Reads, Reads_start, read_whole}
+use Rattle.text_core.proofs.GroupLines.{Reads_start, read_whole}
 use Rattle.files_core.proofs.GrowthLines.{Reads_value, stray_is_bad, no_growth_is_bad}
 use Rattle.files_core.proofs.growth_lines.read_growth.Goals as goal
 

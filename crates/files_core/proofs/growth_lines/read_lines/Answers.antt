@@ -1,11 +1,10 @@
-use Rattle.std.proofs.Common.{◌≡◌, ◌<◌, ◌+◌, List, ℕ, [], ◌∷◌, ◌++◌, length, map, refl, sym, ap, ◌∙◌, arith, Err}
+use Rattle.std.proofs.Common.{◌<◌, ◌+◌, [], ◌∷◌, length, refl, sym, ap, ◌∙◌, arith, Err}
 use Rattle.std.specs.Option.{option_copied}
 use Rattle.std.proofs.lemmas.Bool.{eqb-true, eqb-false}
-use Rattle.std.proofs.lemmas.List.{length-append, length-map}
+use Rattle.std.proofs.lemmas.List.{length-append}
 use Rattle.text_core.proofs.Small.{nil_from_length}
 use Rattle.text_core.proofs.LineLemmas.{lent_whole, lent_rest, shorter_rest}
 use Rattle.text_core.proofs.LineGroups.{HasGroups_start, HasGroups_all}
-use Rattle.files_core.specs.GrowthLines.{alone}
 use Rattle.files_core.proofs.GrowthLines.{HasGrowths_more, first_bad_growth}
 use Rattle.files_core.proofs.growth_lines.read_lines.Goals as goal
 

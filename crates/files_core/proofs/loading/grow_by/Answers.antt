@@ -1,7 +1,5 @@
-use Rattle.std.proofs.Common.{◌≡◌, ℕ, ◌<◌, ◌≤◌, List, length, map, Some, slice_get, inl, inr, refl, sym, ap, subst, ◌∙◌}
-use Rattle.std.specs.Global.{Vec}
+use Rattle.std.proofs.Common.{ℕ, ◌<◌, ◌≤◌, length, map, inr, refl, sym, subst}
 use Rattle.disk_core.specs.Moments.{LeavesOnly}
-use Rattle.book_core.specs.declared.seat.Receipt.{Receipt}
 use Rattle.vault_core.specs.Crewing.{HasCrewed, OpensToGrown}
 use Rattle.vault_core.specs.Vault.{list_of}
 use Rattle.files_core.specs.Dealt.{count_for, dealt}

@@ -1,7 +1,6 @@
-use Rattle.std.proofs.Common.{◌≡◌, List, ℕ, length, inl, inr, sym, subst, refl, ap, ◌∙◌}
+use Rattle.std.proofs.Common.{length, ap, ◌∙◌}
 use Rattle.vault_core.specs.Vault.{list_of}
 use Rattle.files_core.specs.Opened.{IsOpenedOn}
-use Rattle.files_core.specs.Loading.{IsLoaded}
 use Rattle.files_core.specs.Texts.{loaded_line}
 use Rattle.files_core.proofs.Opened.{told_answer, told_ends}
 use Rattle.files_core.proofs.Crewed.{loaded_by, refused_by}

@@ -1,4 +1,4 @@
-use Rattle.std.proofs.Common.{◌≡◌, List, length, Ok, Err, sym, subst}
+use Rattle.std.proofs.Common.{List, length, Err, sym, subst}
 use Rattle.pen_core.specs.Refusals.{change_lines, one_run}
 use Rattle.vault_core.specs.Commands.{IsCommand, changed_frame}
 use Rattle.vault_core.specs.Touched.{IsTouched}

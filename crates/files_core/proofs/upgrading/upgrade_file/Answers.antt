@@ -1,4 +1,4 @@
-use Rattle.std.proofs.Common.{◌≡◌, List, ℕ, length, sym, refl, ap, arith}
+use Rattle.std.proofs.Common.{sym, refl, ap, arith}
 use Rattle.files_core.specs.Texts.{upgraded_line}
 use Rattle.files_core.proofs.Opened.{told_answer, told_ends}
 use Rattle.files_core.proofs.upgrading.upgrade_file.Goals as goal

@@ -1,0 +1,5 @@
+use Rattle.files_core.specs.Appending.{GoesOn}
+use Rattle.files_core.proofs.appending.append_all.Given as goal
+
+abbrev pub invariant-loop : goal.invariant-loop
+invariant-loop g l = GoesOn g.R.Record.form g.D.Disk.keeps g.D.Disk.states l.fn.vault l.vault
