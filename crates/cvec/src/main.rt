@@ -16,6 +16,7 @@ mod words;
 
 use crate::complaint::Sentence;
 use crate::help::told_of;
+use crate::meter::Meter;
 use crate::noting::Noting;
 use crate::program::{System, run};
 use crate::usage::write_usage;
@@ -58,12 +59,14 @@ fn run_words<E: Threads + Wait + Sync>(rt: &HostRuntime, threads: &E, words: &[S
     if let Some(text) = told_of(words) {
         return tell(rt, text, &mut output);
     }
+    let meter = Meter::new(rt, rt.stderr().is_terminal());
     let system = System {
         alloc,
         files: rt,
-        terminal: rt.stderr().is_terminal(),
+        progress: &meter,
     };
     let ended = run(&system, threads, words, &mut rt.stdin(), &mut output);
+    meter.end();
     match ended.status {
         Status::OutputFailed => tell_failed_write(rt, output.error()),
         Status::Usage => tell_usage(rt, words),

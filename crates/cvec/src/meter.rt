@@ -4,7 +4,7 @@ use book_core::Receipt;
 use files_core::Progress;
 use std::io;
 use std::sync::atomic::{AtomicU64, Ordering};
-use std::time::{Clock, Instant};
+use std::time::Instant;
 use vault_core::Gate;
 
 /// The milliseconds between two lines at least.
@@ -13,16 +13,16 @@ const PAUSE: u64 = 100;
 /// Tells on standard error how far work is, at most each tenth of a second: a line that is written over, and gone at the
 /// end.
 #[derive(Drop)]
-pub struct Meter<'a, E> {
-    rt: &'a E,
+pub struct Meter<'a> {
+    rt: &'a HostRuntime,
     begun: Option<Instant>,
     /// When the next line is due, in milliseconds from the begin.
     due: AtomicU64,
 }
 
-impl<'a, E: Clock + Eprint + Sync> Meter<'a, E> {
+impl<'a> Meter<'a> {
     /// One that tells, if it is to, and if there is a clock.
-    pub fn new(rt: &'a E, shown: bool) -> Meter<'a, E> {
+    pub fn new(rt: &'a HostRuntime, shown: bool) -> Meter<'a> {
         let begun = if shown {
             Instant::now(rt).ok()
         } else {
@@ -60,7 +60,7 @@ impl<'a, E: Clock + Eprint + Sync> Meter<'a, E> {
     }
 }
 
-impl<'a, E: Clock + Eprint + Sync> Progress for Meter<'a, E> {
+impl<'a> Progress for Meter<'a> {
     fn at(&self, done: u64, of: u64) {
         if let Some(begun) = self.begun {
             let _ = self.tell(begun, done, of);

@@ -6,10 +6,9 @@ ghost use Rattle.cvec.specs.Runs.{IsTaskRun, IsRun, IsSomeRun, IsIdleRun, IsFile
 
 use crate::complaint::Complaint;
 use crate::filing::Filing;
-use crate::meter::Meter;
 use crate::request::{FileWords, RecordType, Request, Task};
 use crate::words::{WordsFault, read_words};
-use files_core::{Dealt, refuse_file};
+use files_core::{Dealt, Progress, Silent, refuse_file};
 use play_core::play;
 use record_core::{Flagged, Pair};
 use std::alloc::Global;
@@ -19,16 +18,15 @@ use std::io::{Read, Write};
 use std::rt::Files;
 use std::sync::Wait;
 use std::thread::Threads;
-use std::time::Clock;
 use text_core::{Refusal, Status, TextRecord, image, refuse, show, write_line};
 
 /// What the program has of the system beside its input and output.
 #[derive(Drop)]
-pub struct System<'a, F> {
+pub struct System<'a, F, P> {
     pub alloc: Global,
     pub files: &'a F,
-    /// Standard error is a terminal.
-    pub terminal: bool,
+    /// Who is told how far long work is.
+    pub progress: &'a P,
 }
 
 /// Does the task on records of one type.
@@ -87,9 +85,15 @@ fn refuse_for<W: Write>(writer: &mut W, complaint: &Complaint) -> Status
     }
 }
 
-/// Does a command over a file.
-fn run_file<I: Read, W: Write, E: Threads + Wait + Sync, F: Files<File = File> + AllocGlobal + Clock + Eprint + Sync>(
-    system: &System<'_, F>,
+/// Does a command over a file, on records of its type.
+fn run_filing<
+    I: Read,
+    W: Write,
+    E: Threads + Wait + Sync,
+    F: Files<File = File> + AllocGlobal,
+    P: Progress + Sync,
+>(
+    filing: &Filing<'_, F, P>,
     rt: &E,
     words: &FileWords<'_>,
     reader: &mut I,
@@ -97,23 +101,46 @@ fn run_file<I: Read, W: Write, E: Threads + Wait + Sync, F: Files<File = File> +
 ) -> Result<Status, Complaint>
     ensures { IsFiled (W.contents writer.old) (W.contents writer.new) result }
 {
-    let meter = Meter::new(system.files, system.terminal && !words.quiet);
-    let filing = Filing {
-        alloc: system.alloc,
-        files: system.files,
-        file: words.file,
-        progress: &meter,
-    };
     let task = words.task;
-    let ended = match words.record_type {
+    match words.record_type {
         RecordType::U32 => filing.run::<u32, Dealt<u32>, I, W, E>(rt, task, reader, writer),
         RecordType::U64 => filing.run::<u64, Dealt<u64>, I, W, E>(rt, task, reader, writer),
         RecordType::I64 => filing.run::<i64, Dealt<i64>, I, W, E>(rt, task, reader, writer),
         RecordType::Pair => filing.run::<Pair, Dealt<Pair>, I, W, E>(rt, task, reader, writer),
-        RecordType::Flagged => filing.run::<Flagged, Dealt<Flagged>, I, W, E>(rt, task, reader, writer),
-    };
-    meter.end();
-    ended
+        RecordType::Flagged => {
+            filing.run::<Flagged, Dealt<Flagged>, I, W, E>(rt, task, reader, writer)
+        }
+    }
+}
+
+/// Does a command over a file.
+fn run_file<
+    I: Read,
+    W: Write,
+    E: Threads + Wait + Sync,
+    F: Files<File = File> + AllocGlobal,
+    P: Progress + Sync,
+>(
+    system: &System<'_, F, P>,
+    rt: &E,
+    words: &FileWords<'_>,
+    reader: &mut I,
+    writer: &mut W,
+) -> Result<Status, Complaint>
+    ensures { IsFiled (W.contents writer.old) (W.contents writer.new) result }
+{
+    let alloc = system.alloc;
+    let files = system.files;
+    let file = words.file;
+    if words.quiet {
+        let progress = &Silent;
+        let filing = Filing { alloc, files, file, progress };
+        run_filing::<I, W, E, F, Silent>(&filing, rt, words, reader, writer)
+    } else {
+        let progress = system.progress;
+        let filing = Filing { alloc, files, file, progress };
+        run_filing::<I, W, E, F, P>(&filing, rt, words, reader, writer)
+    }
 }
 
 /// How a run of the program ended, and what standard error has to tell of it.
@@ -136,8 +163,16 @@ fn run_with<'a>(status: Status) -> Outcome<'a>
 
 /// Does what the words behind the program's name ask for, and with no words what `image u64` does. Words that
 /// are not the program's, and those that ask for help, are answered with `Usage`.
-pub fn run<'a, S: AsStr, I: Read, W: Write, E: Threads + Wait + Sync, F: Files<File = File> + AllocGlobal + Clock + Eprint + Sync>(
-    system: &System<'_, F>,
+pub fn run<
+    'a,
+    S: AsStr,
+    I: Read,
+    W: Write,
+    E: Threads + Wait + Sync,
+    F: Files<File = File> + AllocGlobal,
+    P: Progress + Sync,
+>(
+    system: &System<'_, F, P>,
     rt: &E,
     words: &'a [S],
     reader: &mut I,

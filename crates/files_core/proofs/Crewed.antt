@@ -30,14 +30,14 @@ some_of f (x ∷ xs) (suc k) y there = some_of f xs k y there
 
 module _ {R D : Type 0} (form : Encoding R) (keeps : D → Type 0) (states : D → List State) where
   -- what a source deals is what is said of it
-  pub crewed_as : (count other_count : ℕ → ℕ) (block other_block : ℕ → ℕ → List R) (n other_n : ℕ) (old new : VaultOf R D) (receipts : List (List Receipt)) (faults : List (Option GrowFault)) → count ≡ other_count → block ≡ other_block → n ≡ other_n
-      → HasCrewed form keeps states count block n old new receipts faults → HasCrewed form keeps states other_count other_block other_n old new receipts faults
-  crewed_as count other_count block other_block n other_n old new receipts faults same_count same_block same_n crewed =
-      subst (λ m. HasCrewed form keeps states other_count other_block m old new receipts faults) same_n
-      (subst (λ b. HasCrewed form keeps states other_count b n old new receipts faults) same_block
-      (subst (λ c. HasCrewed form keeps states c block n old new receipts faults) same_count crewed))
+  pub crewed_as : (count other_count : ℕ → ℕ) (block other_block : ℕ → ℕ → List R) (may_stop : ℕ → ℕ → Type 0) (n other_n : ℕ) (old new : VaultOf R D) (receipts : List (List Receipt)) (faults : List (Option GrowFault)) → count ≡ other_count → block ≡ other_block → n ≡ other_n
+      → HasCrewed form keeps states count block may_stop n old new receipts faults → HasCrewed form keeps states other_count other_block may_stop other_n old new receipts faults
+  crewed_as count other_count block other_block may_stop n other_n old new receipts faults same_count same_block same_n crewed =
+      subst (λ m. HasCrewed form keeps states other_count other_block may_stop m old new receipts faults) same_n
+      (subst (λ b. HasCrewed form keeps states other_count b may_stop n old new receipts faults) same_block
+      (subst (λ c. HasCrewed form keeps states c block may_stop n old new receipts faults) same_count crewed))
 
-  module _ (growths : List (List R)) (growers : ℕ) (old new : VaultOf R D) (receipts : List (Vec Receipt)) (faults : List (Option GrowFault)) (crewed : HasCrewed form keeps states (count_for (length growths) growers) (dealt growths growers) growers old new (map (λ its. its.items) receipts) faults) where
+  module _ (may_stop : ℕ → ℕ → Type 0) (growths : List (List R)) (growers : ℕ) (old new : VaultOf R D) (receipts : List (Vec Receipt)) (faults : List (Option GrowFault)) (crewed : HasCrewed form keeps states (count_for (length growths) growers) (dealt growths growers) may_stop growers old new (map (λ its. its.items) receipts) faults) where
     pub are_dealt : AreDealt growths growers crewed.0
     are_dealt = record { chained = crewed.1.chained; by_growers = crewed.1.by_growers; records_are = λ k j growth lt at. crewed.1.blocks_are k j growth lt at }
 

@@ -23,13 +23,13 @@ returns-in-None-clause-grown g c =
     let growers = c.args.growers in
     let receipts = c.in-Ok.crewed.receipts.items in
     let s = c.in-Some.ensures in
-    let crewed : HasCrewed g.R.Record.form g.D.Disk.keeps g.D.Disk.states (count_for (length growths) growers) (dealt growths growers) growers c.args.vault c.in-Ok.crewed.vault (map (λ its. its.items) receipts) c.in-Ok.crewed.faults.items =
-    crewed_as g.R.Record.form g.D.Disk.keeps g.D.Disk.states _ _ _ _ _ _ c.args.vault c.in-Ok.crewed.vault _ _ s.1 s.2 s.0 c.in-Ok.ensures.crewed in (
+    let crewed : HasCrewed g.R.Record.form g.D.Disk.keeps g.D.Disk.states (count_for (length growths) growers) (dealt growths growers) (g.G.Gate.may_stop c.args.gate.now) growers c.args.vault c.in-Ok.crewed.vault (map (λ its. its.items) receipts) c.in-Ok.crewed.faults.items =
+    crewed_as g.R.Record.form g.D.Disk.keeps g.D.Disk.states _ _ _ _ (g.G.Gate.may_stop c.args.gate.now) _ _ c.args.vault c.in-Ok.crewed.vault _ _ s.1 s.2 s.0 c.in-Ok.ensures.crewed in (
       crewed.0,
-      are_dealt g.R.Record.form g.D.Disk.keeps g.D.Disk.states growths growers c.args.vault c.in-Ok.crewed.vault receipts c.in-Ok.crewed.faults.items crewed,
-      all_made g.R.Record.form g.D.Disk.keeps g.D.Disk.states growths growers c.args.vault c.in-Ok.crewed.vault receipts c.in-Ok.crewed.faults.items crewed
+      are_dealt g.R.Record.form g.D.Disk.keeps g.D.Disk.states (g.G.Gate.may_stop c.args.gate.now) growths growers c.args.vault c.in-Ok.crewed.vault receipts c.in-Ok.crewed.faults.items crewed,
+      all_made g.R.Record.form g.D.Disk.keeps g.D.Disk.states (g.G.Gate.may_stop c.args.gate.now) growths growers c.args.vault c.in-Ok.crewed.vault receipts c.in-Ok.crewed.faults.items crewed
           (λ k lt its there. subst (λ (count : ℕ → ℕ). count k ≤ length its.items) s.1 (c.in-None.ensures k (subst (λ n. k < n) (sym s.0) lt) its there)),
-      stand_behind g.R.Record.form g.D.Disk.keeps g.D.Disk.states growths growers c.args.vault c.in-Ok.crewed.vault receipts c.in-Ok.crewed.faults.items crewed c.in-Ok.crewed.vault.pen.disk refl,
+      stand_behind g.R.Record.form g.D.Disk.keeps g.D.Disk.states (g.G.Gate.may_stop c.args.gate.now) growths growers c.args.vault c.in-Ok.crewed.vault receipts c.in-Ok.crewed.faults.items crewed c.in-Ok.crewed.vault.pen.disk refl,
       crewed.1.list_is,
     )
 
@@ -39,10 +39,10 @@ returns-clause-stopped g c =
     let growers = c.args.growers in
     let receipts = c.in-Ok.crewed.receipts.items in
     let s = c.in-Some.ensures in
-    let crewed : HasCrewed g.R.Record.form g.D.Disk.keeps g.D.Disk.states (count_for (length growths) growers) (dealt growths growers) growers c.args.vault c.in-Ok.crewed.vault (map (λ its. its.items) receipts) c.in-Ok.crewed.faults.items =
-    crewed_as g.R.Record.form g.D.Disk.keeps g.D.Disk.states _ _ _ _ _ _ c.args.vault c.in-Ok.crewed.vault _ _ s.1 s.2 s.0 c.in-Ok.ensures.crewed in (
+    let crewed : HasCrewed g.R.Record.form g.D.Disk.keeps g.D.Disk.states (count_for (length growths) growers) (dealt growths growers) (g.G.Gate.may_stop c.args.gate.now) growers c.args.vault c.in-Ok.crewed.vault (map (λ its. its.items) receipts) c.in-Ok.crewed.faults.items =
+    crewed_as g.R.Record.form g.D.Disk.keeps g.D.Disk.states _ _ _ _ (g.G.Gate.may_stop c.args.gate.now) _ _ c.args.vault c.in-Ok.crewed.vault _ _ s.1 s.2 s.0 c.in-Ok.ensures.crewed in (
       crewed.0,
-      are_dealt g.R.Record.form g.D.Disk.keeps g.D.Disk.states growths growers c.args.vault c.in-Ok.crewed.vault receipts c.in-Ok.crewed.faults.items crewed,
-      stand_behind g.R.Record.form g.D.Disk.keeps g.D.Disk.states growths growers c.args.vault c.in-Ok.crewed.vault receipts c.in-Ok.crewed.faults.items crewed c.into_disk-in-Some-first_stopped.result c.into_disk-in-Some-first_stopped.ensures.disk,
-      size_is g.R.Record.form g.D.Disk.keeps g.D.Disk.states growths growers c.args.vault c.in-Ok.crewed.vault receipts c.in-Ok.crewed.faults.items crewed _ c.in-Some-first_stopped.ensures,
+      are_dealt g.R.Record.form g.D.Disk.keeps g.D.Disk.states (g.G.Gate.may_stop c.args.gate.now) growths growers c.args.vault c.in-Ok.crewed.vault receipts c.in-Ok.crewed.faults.items crewed,
+      stand_behind g.R.Record.form g.D.Disk.keeps g.D.Disk.states (g.G.Gate.may_stop c.args.gate.now) growths growers c.args.vault c.in-Ok.crewed.vault receipts c.in-Ok.crewed.faults.items crewed c.into_disk-in-Some-first_stopped.result c.into_disk-in-Some-first_stopped.ensures.disk,
+      size_is g.R.Record.form g.D.Disk.keeps g.D.Disk.states (g.G.Gate.may_stop c.args.gate.now) growths growers c.args.vault c.in-Ok.crewed.vault receipts c.in-Ok.crewed.faults.items crewed _ c.in-Some-first_stopped.ensures,
     )
