@@ -30,7 +30,16 @@ Refused: not hex, the file's first fault, input, input too long, memory.
 
 const PLAY: &[u8] = b"cvec play TYPE
 
-Runs a script of steps over a disk in memory, and writes a line for each of its lines. docs/PLAY.md has the steps.
+Runs a script of steps over a disk in memory, and writes a line for each of its lines, which are
+
+create           share ROOM SEATS      take          list
+create 2         put SEAT R R ..       raise         clear
+open             look SEAT             close         resize N R
+fold             look f                gather        change START R R ..
+log              view SEAT             crash old     changes START R R .. | START R R ..
+home             settled SEAT          crash new     crash XX
+
+with records for R, numbers for the other words in capitals, and two hex digits for XX.
 
   $ printf 'create\nresize 1 5\ncrash old\nopen\nlist\n' | cvec play u64
   ok

@@ -37,7 +37,11 @@ impl<'a> Meter<'a> {
 
     /// Writes a line, where one is due.
     fn tell(&self, begun: Instant, done: u64, of: u64) -> io::Result<()> {
-        let passed = begun.elapsed(self.rt)?.as_millis() as u64;
+        let since = begun.elapsed(self.rt)?;
+        let passed = since
+            .as_secs()
+            .saturating_mul(1000)
+            .saturating_add(u64::from(since.subsec_millis()));
         let due = self.due.load(Ordering::SeqCst);
         if passed < due {
             return Ok(());

@@ -7,6 +7,8 @@ mod worked_files;
 mod worked_scripts;
 
 use crate::noting::Noting;
+use crate::program::{System, run};
+use files_core::Silent;
 use segment_core::{Cause, ScanFault};
 use std::alloc::{AllocError, Global};
 use std::io::{self, ErrorKind, Read, Write};
@@ -21,6 +23,19 @@ const FIVE: &[u8] = b"0143564543534547010800010110000000010000000100000005000000
 
 const THREE: &[u8] =
     b"014356454353454701080001012400000002000000020000000100000001000000000000000200000000000000030000000000000000";
+
+/// How the program ends on these words.
+fn ran(rt: &HostRuntime, words: &[&str], reader: &mut &[u8], written: &mut Vec<u8>) -> Status {
+    let system = System {
+        alloc: rt.alloc(),
+        files: rt,
+        progress: &Silent,
+    };
+    run::<&str, &[u8], Vec<u8>, HostRuntime, HostRuntime, Silent>(
+        &system, rt, words, reader, written,
+    )
+    .status
+}
 
 /// What `image u64` answers.
 fn imaged(alloc: Global, input: &[u8]) -> (Status, Vec<u8>) {

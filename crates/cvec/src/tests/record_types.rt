@@ -1,10 +1,8 @@
 //! The texts and files of each type of record, by the words that name it.
 
-use crate::program::run;
-use std::alloc::{AllocError, Global};
-use std::sync::Wait;
+use crate::tests::ran;
+use std::alloc::AllocError;
 use std::test::Fail;
-use std::thread::Threads;
 
 const NUMBERS_OF_4_BYTES: &[u8] =
     b"0143564543534547010400010110000000010000000200000000000000ffffffff00\n";
@@ -28,15 +26,10 @@ const FLAG_OF_TWO: &[u8] =
     b"0143564543534547010900010111000000010000000100000005000000000000000200\n";
 
 /// What the program answers to the words: its status and its output.
-fn answered<E: Threads + Wait + Sync>(
-    alloc: Global,
-    rt: &E,
-    words: &[&str],
-    input: &[u8],
-) -> (u8, Vec<u8>) {
+fn answered(rt: &HostRuntime, words: &[&str], input: &[u8]) -> (u8, Vec<u8>) {
     let mut reader = input;
-    let mut written = Vec::new(alloc);
-    let status = run::<&str, &[u8], Vec<u8>, E>(alloc, rt, words, &mut reader, &mut written);
+    let mut written = Vec::new(rt.alloc());
+    let status = ran(rt, words, &mut reader, &mut written);
     (status.code(), written)
 }
 
@@ -74,12 +67,11 @@ const EXAMPLES: [Example; 6] = [
 
 #[test]
 fn records_of_each_type_are_written_and_shown(rt: HostRuntime) -> Result<(), Fail> {
-    let alloc = rt.alloc();
     for (word, lines, hex, records) in EXAMPLES {
-        let (code, written) = answered(alloc, &rt, &["image", word], lines);
+        let (code, written) = answered(&rt, &["image", word], lines);
         assert_eq!(rt; code, 0, "image {word}");
         assert_eq!(rt; written.as_slice(), hex, "image {word}");
-        let (code, written) = answered(alloc, &rt, &["show", word], hex);
+        let (code, written) = answered(&rt, &["show", word], hex);
         assert_eq!(rt; code, 0, "show {word}");
         assert_eq!(rt; written.as_slice(), records, "show {word}");
     }
@@ -144,16 +136,11 @@ const TEXTS_OF_NO_FLAGGED: [&[u8]; 11] = [
 ];
 
 /// Whether each text, alone on a line, is refused as no group line.
-fn are_refused<E: Threads + Wait + Sync>(
-    alloc: Global,
-    rt: &E,
-    word: &str,
-    texts: &[&[u8]],
-) -> Result<bool, AllocError> {
+fn are_refused(rt: &HostRuntime, word: &str, texts: &[&[u8]]) -> Result<bool, AllocError> {
     for text in texts {
-        let mut input = Vec::from_slice(alloc, *text)?;
+        let mut input = Vec::from_slice(rt.alloc(), *text)?;
         input.push(b'\n')?;
-        let (code, written) = answered(alloc, rt, &["image", word], input.as_slice());
+        let (code, written) = answered(rt, &["image", word], input.as_slice());
         if code != 1 || written.as_slice() != b"refused: line 1\n".as_slice() {
             return Ok(false);
         }
@@ -163,7 +150,6 @@ fn are_refused<E: Threads + Wait + Sync>(
 
 #[test]
 fn the_text_of_no_record_is_refused(rt: HostRuntime) -> Result<(), Fail> {
-    let alloc = rt.alloc();
     let types: [(&str, &[&[u8]]); 5] = [
         ("u32", &TEXTS_OF_NO_U32),
         ("u64", &TEXTS_OF_NO_U64),
@@ -172,14 +158,13 @@ fn the_text_of_no_record_is_refused(rt: HostRuntime) -> Result<(), Fail> {
         ("flagged", &TEXTS_OF_NO_FLAGGED),
     ];
     for (word, texts) in types {
-        assert!(rt; are_refused(alloc, &rt, word, texts)?, "image {word}");
+        assert!(rt; are_refused(&rt, word, texts)?, "image {word}");
     }
     Ok(())
 }
 
 #[test]
 fn a_line_of_another_type_is_named(rt: HostRuntime) -> Result<(), Fail> {
-    let alloc = rt.alloc();
     let inputs: [(&str, &[u8]); 5] = [
         ("u32", b"0\n4294967296\n"),
         ("u64", b"4294967296\n-1\n"),
@@ -188,7 +173,7 @@ fn a_line_of_another_type_is_named(rt: HostRuntime) -> Result<(), Fail> {
         ("flagged", b"1:1 | 1:0\n1:-1\n"),
     ];
     for (word, input) in inputs {
-        let (code, written) = answered(alloc, &rt, &["image", word], input);
+        let (code, written) = answered(&rt, &["image", word], input);
         assert_eq!(rt; code, 1, "image {word}");
         assert_eq!(rt; written.as_slice(), b"refused: line 2\n".as_slice());
     }
@@ -197,7 +182,6 @@ fn a_line_of_another_type_is_named(rt: HostRuntime) -> Result<(), Fail> {
 
 #[test]
 fn a_file_is_read_as_the_type_that_the_words_name(rt: HostRuntime) -> Result<(), Fail> {
-    let alloc = rt.alloc();
     let runs: [(&str, &[u8], u8, &[u8]); 7] = [
         ("i64", GREATEST_U64, 0, b"-1\n"),
         (
@@ -218,7 +202,7 @@ fn a_file_is_read_as_the_type_that_the_words_name(rt: HostRuntime) -> Result<(),
         ),
     ];
     for (word, hex, status, text) in runs {
-        let (code, written) = answered(alloc, &rt, &["show", word], hex);
+        let (code, written) = answered(&rt, &["show", word], hex);
         assert_eq!(rt; code, status, "show {word}");
         assert_eq!(rt; written.as_slice(), text, "show {word}");
     }
@@ -227,10 +211,9 @@ fn a_file_is_read_as_the_type_that_the_words_name(rt: HostRuntime) -> Result<(),
 
 #[test]
 fn other_words_for_a_type_are_usage(rt: HostRuntime) -> Result<(), Fail> {
-    let alloc = rt.alloc();
     for word in ["i32", "U64", "Pair", "flag", "u", ""] {
         for command in ["image", "show"] {
-            let (code, written) = answered(alloc, &rt, &[command, word], b"5\n");
+            let (code, written) = answered(&rt, &[command, word], b"5\n");
             assert_eq!(rt; code, 2, "{command} {word}");
             assert_eq!(rt; written.as_slice(), b"".as_slice());
         }

@@ -1,6 +1,6 @@
 //! Lines that no script has, scripts of each type of record, and long ones.
 
-use crate::program::run;
+use crate::tests::ran;
 use crate::tests::worked_scripts::played;
 use book_core::{GrowFault, MarkState};
 use disk_core::DiskFault;
@@ -179,13 +179,7 @@ fn each_type_of_record_has_its_scripts(rt: HostRuntime) -> Result<(), Fail> {
         let mut reader = input;
         let mut written = Vec::new(alloc);
         let words = ["play", word];
-        let status = run::<&str, &[u8], Vec<u8>, HostRuntime>(
-            alloc,
-            &rt,
-            &words,
-            &mut reader,
-            &mut written,
-        );
+        let status = ran(&rt, &words, &mut reader, &mut written);
         assert_eq!(rt; status, Status::Done);
         assert_eq!(rt; written.as_slice(), text);
     }

@@ -1,7 +1,6 @@
 //! The words that the program takes, and what it tells of them.
 
-use crate::program::run;
-use crate::tests::{FIVE, FullDevice};
+use crate::tests::{FIVE, FullDevice, ran};
 use crate::usage::write_usage;
 use crate::words::fault_of_words;
 use std::alloc::Global;
@@ -11,7 +10,7 @@ use std::test::Fail;
 fn what_is_wrong_with_words_is_told_in_a_sentence(rt: HostRuntime) -> Result<(), Fail> {
     let alloc = rt.alloc();
     let faults: [(&[&str], &str); 6] = [
-        (&["list", "u64"], "error: unrecognized subcommand 'list'"),
+        (&["lists", "u64"], "error: unrecognized subcommand 'lists'"),
         (
             &["show"],
             "error: the following required arguments were not provided:\n  <TYPE>",
@@ -76,8 +75,6 @@ fn usage_is_told_with_the_commands_the_types_and_an_example(rt: HostRuntime) -> 
         "\nshow TYPE ",
         "\nplay TYPE ",
         "\ncreate ",
-        " changes START ",
-        " crash XX\n",
         "u32",
         "u64",
         "i64",
@@ -123,13 +120,7 @@ fn words_choose_the_engine(rt: HostRuntime) -> Result<(), Fail> {
     for (words, input, code, text) in runs {
         let mut reader = input;
         let mut written = Vec::new(alloc);
-        let status = run::<&str, &[u8], Vec<u8>, HostRuntime>(
-            alloc,
-            &rt,
-            words,
-            &mut reader,
-            &mut written,
-        );
+        let status = ran(&rt, words, &mut reader, &mut written);
         assert_eq!(rt; status.code(), code);
         assert_eq!(rt; written.as_slice(), text);
     }
