@@ -134,11 +134,21 @@ fn run_file<
     let file = words.file;
     if words.quiet {
         let progress = &Silent;
-        let filing = Filing { alloc, files, file, progress };
+        let filing = Filing {
+            alloc,
+            files,
+            file,
+            progress,
+        };
         run_filing::<I, W, E, F, Silent>(&filing, rt, words, reader, writer)
     } else {
         let progress = system.progress;
-        let filing = Filing { alloc, files, file, progress };
+        let filing = Filing {
+            alloc,
+            files,
+            file,
+            progress,
+        };
         run_filing::<I, W, E, F, P>(&filing, rt, words, reader, writer)
     }
 }
@@ -161,13 +171,7 @@ pub fn run<
     E: Threads + Wait + Sync,
     F: Files<File = File> + AllocGlobal,
     P: Progress + Sync,
->(
-    system: &System<'_, F, P>,
-    rt: &E,
-    words: &'a [S],
-    reader: &mut I,
-    writer: &mut W,
-) -> Outcome<'a>
+>(system: &System<'_, F, P>, rt: &E, words: &'a [S], reader: &mut I, writer: &mut W) -> Outcome<'a>
     ensures no_words { words.now ≡ [] → IfSome (I.remaining reader.old) (λ input.
         IsRun Task.Image RecordType.U64 input (W.contents writer.old) (W.contents writer.new) result.status) }
     ensures ends { IfSome (I.remaining reader.old) (λ input.
@@ -178,7 +182,14 @@ pub fn run<
 {
     if words.is_empty() {
         return Outcome {
-            status: run_task(system.alloc, rt, Task::Image, RecordType::U64, reader, writer),
+            status: run_task(
+                system.alloc,
+                rt,
+                Task::Image,
+                RecordType::U64,
+                reader,
+                writer,
+            ),
             complaint: None,
         };
     }
