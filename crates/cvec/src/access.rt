@@ -25,7 +25,12 @@ pub struct Opened {
 
 /// Locks the file at this path. Nothing is read or written. Refused where it can't be opened or made, and where another
 /// command has it.
-fn lock<F: Files<File = File>>(files: &F, path: &str, access: Access, role: Role) -> Result<File, Complaint> {
+fn lock<F: Files<File = File>>(
+    files: &F,
+    path: &str,
+    access: Access,
+    role: Role,
+) -> Result<File, Complaint> {
     let opened = OpenOptions::new()
         .read(true)
         .write(true)

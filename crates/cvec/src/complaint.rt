@@ -1,8 +1,8 @@
 //! What standard error tells of a refusal: what was wrong with what, what stands now, and what to do next.
 
 use crate::request::{FileTask, FileWords, RecordType};
-use files_core::{Appended, FileFault, Stopped, Word};
 use disk_core::DiskFault;
+use files_core::{Appended, FileFault, Stopped, Word};
 use pen_core::{OpenFault, PenFault};
 use segment_core::ScanFault;
 use std::fmt::{self, Display, Formatter};
@@ -82,7 +82,8 @@ fn name_of<'a>(words: &FileWords<'a>, role: Role) -> &'a str {
 /// What to do about a file that isn't opened.
 fn about_error(error: &io::Error) -> &'static str {
     match error.kind() {
-        ErrorKind::NotFound => "there is no such file, or no folder for it; `cvec create` makes a file",
+        ErrorKind::NotFound =>
+            "there is no such file, or no folder for it; `cvec create` makes a file",
         ErrorKind::PermissionDenied => "you may not read and write it, or make it in its folder",
         ErrorKind::IsADirectory => "it is a folder, and not a file",
         _ => "it can't be opened or made",
@@ -108,7 +109,11 @@ fn write_not_opened<W: fmt::Write>(
     write!(f, "{name}: {about} ({error}); nothing was read or written")
 }
 
-fn write_word<W: fmt::Write>(f: &mut Formatter<W>, words: &FileWords<'_>, word: Word) -> fmt::Result {
+fn write_word<W: fmt::Write>(
+    f: &mut Formatter<W>,
+    words: &FileWords<'_>,
+    word: Word,
+) -> fmt::Result {
     let record = record_form(words.record_type);
     let number = "no number of decimal digits without a zero in front";
     match word {
@@ -117,7 +122,10 @@ fn write_word<W: fmt::Write>(f: &mut Formatter<W>, words: &FileWords<'_>, word: 
         Word::From => write!(f, "the value of --from is {number}")?,
         Word::Count => write!(f, "the value of --count is {number}")?,
         Word::Record => write!(f, "the value of --record isn't {record}")?,
-        Word::Records => write!(f, "of the values of --records, with a comma between each two, one isn't {record}")?,
+        Word::Records => write!(
+            f,
+            "of the values of --records, with a comma between each two, one isn't {record}"
+        )?,
     }
     write!(f, "; nothing was read or written")
 }
@@ -130,14 +138,27 @@ fn stands_after_input(task: FileTask<'_>) -> &'static str {
     }
 }
 
-fn write_input<W: fmt::Write>(f: &mut Formatter<W>, words: &FileWords<'_>, refusal: Refusal) -> fmt::Result {
+fn write_input<W: fmt::Write>(
+    f: &mut Formatter<W>,
+    words: &FileWords<'_>,
+    refusal: Refusal,
+) -> fmt::Result {
     let record = record_form(words.record_type);
     let stands = stands_after_input(words.task);
     match refusal {
-        Refusal::Line(n) => write!(f, "line {n} of the input is no growth, which is records with one space between each two, each {record}; {stands}"),
-        Refusal::TooLargeAtLine(n) => write!(f, "the growth of line {n} of the input is longer than the 1048576 bytes of a frame; {stands}; cut the line into shorter ones"),
+        Refusal::Line(n) => write!(
+            f,
+            "line {n} of the input is no growth, which is records with one space between each two, each {record}; {stands}"
+        ),
+        Refusal::TooLargeAtLine(n) => write!(
+            f,
+            "the growth of line {n} of the input is longer than the 1048576 bytes of a frame; {stands}; cut the line into shorter ones"
+        ),
         Refusal::Input => write!(f, "standard input couldn't be read; {stands}"),
-        Refusal::InputTooLong => write!(f, "the input is longer than 67108864 bytes; {stands}; `cvec append` takes input of any length, of lines up to this length"),
+        Refusal::InputTooLong => write!(
+            f,
+            "the input is longer than 67108864 bytes; {stands}; `cvec append` takes input of any length, of lines up to this length"
+        ),
         Refusal::Memory => write!(f, "there is not enough memory for the input; {stands}"),
         Refusal::Scan(_) | Refusal::NotHex => write!(f, "the input is refused; {stands}"),
     }
@@ -152,12 +173,27 @@ fn write_scan<W: fmt::Write>(
     let of_type = type_name(record_type);
     let width = width_of(record_type);
     match fault {
-        ScanFault::Unborn => write!(f, "{name}: no vector was made in this file; `cvec create {of_type} {name}` makes one"),
+        ScanFault::Unborn => write!(
+            f,
+            "{name}: no vector was made in this file; `cvec create {of_type} {name}` makes one"
+        ),
         ScanFault::NotSegment => write!(f, "{name}: it isn't a segment file; it is as it was"),
-        ScanFault::Version(version) => write!(f, "{name}: it has version {version}, and this program reads 1 and 2; it is as it was"),
-        ScanFault::Width(found) => write!(f, "{name}: its records have {found} bytes, and those of {of_type} have {width}; give the type that it was made with"),
-        ScanFault::Damaged { at, cause } => write!(f, "{name}: it is damaged at byte {at} ({cause}): the frames before that are sound; nothing was written, and a copy of the first {at} bytes can be looked at"),
-        ScanFault::Memory => write!(f, "{name}: there is not enough memory for its vector; it is as it was"),
+        ScanFault::Version(version) => write!(
+            f,
+            "{name}: it has version {version}, and this program reads 1 and 2; it is as it was"
+        ),
+        ScanFault::Width(found) => write!(
+            f,
+            "{name}: its records have {found} bytes, and those of {of_type} have {width}; give the type that it was made with"
+        ),
+        ScanFault::Damaged { at, cause } => write!(
+            f,
+            "{name}: it is damaged at byte {at} ({cause}): the frames before that are sound; nothing was written, and a copy of the first {at} bytes can be looked at"
+        ),
+        ScanFault::Memory => write!(
+            f,
+            "{name}: there is not enough memory for its vector; it is as it was"
+        ),
     }
 }
 
@@ -180,15 +216,21 @@ fn write_open<W: fmt::Write>(
 fn about_pen(fault: PenFault) -> &'static str {
     match fault {
         PenFault::Exists => "there is a vector in this file already; it is as it was",
-        PenFault::Unfolded => "changes are live, and with them it can't become shorter; it is as it was; `cvec fold` first",
-        PenFault::OutOfRange => "the positions aren't all in the vector, or there would be more than 4294967296 records; it is as it was",
-        PenFault::TooLarge => "so many records are more than one frame takes; it is as it was; give fewer at once",
+        PenFault::Unfolded =>
+            "changes are live, and with them it can't become shorter; it is as it was; `cvec fold` first",
+        PenFault::OutOfRange =>
+            "the positions aren't all in the vector, or there would be more than 4294967296 records; it is as it was",
+        PenFault::TooLarge =>
+            "so many records are more than one frame takes; it is as it was; give fewer at once",
         PenFault::FileFull => "it is as long as such a file can become; it is as it was",
         PenFault::Memory => "there is not enough memory; it opens to the vector of before",
-        PenFault::OldFormat => "version 1 has no change of many runs; it is as it was; `cvec upgrade` first",
+        PenFault::OldFormat =>
+            "version 1 has no change of many runs; it is as it was; `cvec upgrade` first",
         PenFault::Runs => "the runs are empty, overlap or don't ascend; it is as it was",
-        PenFault::Broken => "the system didn't write it, or put it on the device, which may be full; it opens to the vector of before, with what was told since",
-        PenFault::Busy | PenFault::Disk(_) => "it opens to the vector of before this command, or to the one behind it",
+        PenFault::Broken =>
+            "the system didn't write it, or put it on the device, which may be full; it opens to the vector of before, with what was told since",
+        PenFault::Busy | PenFault::Disk(_) =>
+            "it opens to the vector of before this command, or to the one behind it",
     }
 }
 
@@ -196,14 +238,23 @@ fn write_vault<W: fmt::Write>(f: &mut Formatter<W>, name: &str, fault: VaultFaul
     match fault {
         VaultFault::Pen(PenFault::Disk(fault)) => {
             let about = about_disk(fault);
-            write!(f, "{name}: {about}; it opens to a vector that was settled, or to what this command was making; mend the device, then give the command again")
+            write!(
+                f,
+                "{name}: {about}; it opens to a vector that was settled, or to what this command was making; mend the device, then give the command again"
+            )
         }
         VaultFault::Pen(fault) => {
             let about = about_pen(fault);
             write!(f, "{name}: {about}")
         }
-        VaultFault::Unsettled(number) => write!(f, "{name}: the growths from number {number} on aren't on the device; those before it stand; give the lines behind them again"),
-        VaultFault::WrongPhase => write!(f, "{name}: the growers didn't come back; what is settled stands"),
+        VaultFault::Unsettled(number) => write!(
+            f,
+            "{name}: the growths from number {number} on aren't on the device; those before it stand; give the lines behind them again"
+        ),
+        VaultFault::WrongPhase => write!(
+            f,
+            "{name}: the growers didn't come back; what is settled stands"
+        ),
     }
 }
 
@@ -211,15 +262,25 @@ fn write_stopped<W: fmt::Write>(f: &mut Formatter<W>, name: &str, stopped: Stopp
     let line = stopped.line;
     let fault = stopped.fault;
     let size = stopped.size;
-    write!(f, "{name}: the growth of line {line} of the input wasn't made ({fault}); those that were made stand: the vector has {size} records")
+    write!(
+        f,
+        "{name}: the growth of line {line} of the input wasn't made ({fault}); those that were made stand: the vector has {size} records"
+    )
 }
 
-fn write_upgrade<W: fmt::Write>(f: &mut Formatter<W>, words: &FileWords<'_>, fault: UpgradeFault) -> fmt::Result {
+fn write_upgrade<W: fmt::Write>(
+    f: &mut Formatter<W>,
+    words: &FileWords<'_>,
+    fault: UpgradeFault,
+) -> fmt::Result {
     let name = words.file;
     let new = name_of(words, Role::New);
     match fault {
         UpgradeFault::Old(fault) => write_open(f, name, words.record_type, fault),
-        UpgradeFault::NotOld => write!(f, "{name}: it has version 2 already; both files are as they were"),
+        UpgradeFault::NotOld => write!(
+            f,
+            "{name}: it has version 2 already; both files are as they were"
+        ),
         UpgradeFault::New(fault) => {
             write_vault(f, new, fault)?;
             write!(f, "; {name} is as it was")
@@ -227,7 +288,11 @@ fn write_upgrade<W: fmt::Write>(f: &mut Formatter<W>, words: &FileWords<'_>, fau
     }
 }
 
-fn write_fault<W: fmt::Write>(f: &mut Formatter<W>, words: &FileWords<'_>, fault: FileFault) -> fmt::Result {
+fn write_fault<W: fmt::Write>(
+    f: &mut Formatter<W>,
+    words: &FileWords<'_>,
+    fault: FileFault,
+) -> fmt::Result {
     match fault {
         FileFault::Word(word) => write_word(f, words, word),
         FileFault::Input(refusal) => write_input(f, words, refusal),
@@ -245,7 +310,10 @@ impl<'a> Display for Sentence<'a> {
             Complaint::NotOpened(role, error) => write_not_opened(f, name_of(words, role), &error),
             Complaint::InUse(role) => {
                 let name = name_of(words, role);
-                write!(f, "{name}: another command uses it; nothing was read or written; wait for its end")
+                write!(
+                    f,
+                    "{name}: another command uses it; nothing was read or written; wait for its end"
+                )
             }
             Complaint::Fault(fault) => write_fault(f, words, fault),
             Complaint::Appended(appended, fault) => {

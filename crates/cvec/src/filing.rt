@@ -9,8 +9,8 @@ use crate::meter::CountingGate;
 use crate::request::FileTask;
 use disk_core::FileDisk;
 use files_core::{
-    Deck, Ended, FileFault, Progress, append, check, clear, count, create, find, fold, list,
-    load, read_growth_lines, read_record, read_resizing, read_setting, read_window, resize, set,
+    Deck, Ended, FileFault, Progress, append, check, clear, count, create, find, fold, list, load,
+    read_growth_lines, read_record, read_resizing, read_setting, read_window, resize, set,
     upgrade_file,
 };
 use segment_core::Format;
@@ -123,10 +123,18 @@ impl<'a, F: Files<File = File> + AllocGlobal, P: Progress + Sync> Filing<'a, F, 
     ) -> Result<Status, Complaint>
         ensures { IsFiled (W.contents writer.old) (W.contents writer.new) result }
     {
-        let window = read_window(from.map(|word| word.as_bytes()), count.map(|word| word.as_bytes()))?;
+        let window = read_window(
+            from.map(|word| word.as_bytes()),
+            count.map(|word| word.as_bytes()),
+        )?;
         let Opened { disk, lock: _lock } = self.open(Access::Reads)?;
-        let (_disk, ended) =
-            list::<R, FileDisk, W, P>(self.alloc, disk, &window, self.progress, writer);
+        let (_disk, ended) = list::<R, FileDisk, W, P>(
+            self.alloc,
+            disk,
+            &window,
+            self.progress,
+            writer,
+        );
         status_of(ended)
     }
 
@@ -210,11 +218,17 @@ impl<'a, F: Files<File = File> + AllocGlobal, P: Progress + Sync> Filing<'a, F, 
     ) -> Result<Status, Complaint>
         ensures { IsFiled (W.contents writer.old) (W.contents writer.new) result }
     {
-        let Opened { disk: old, lock: _lock } = self.open(Access::Reads)?;
-        let Opened { disk: new, lock: _lock_of_new } =
-            open(self.files, new, Access::Makes, Role::New)?;
-        let (_old, _new, ended) =
-            upgrade_file::<R, FileDisk, FileDisk, W>(self.alloc, old, new, writer);
+        let Opened {
+            disk: old,
+            lock: _lock,
+        } = self.open(Access::Reads)?;
+        let Opened {
+            disk: new,
+            lock: _lock_of_new,
+        } = open(self.files, new, Access::Makes, Role::New)?;
+        let (_old, _new, ended) = upgrade_file::<R, FileDisk, FileDisk, W>(
+            self.alloc, old, new, writer,
+        );
         status_of(ended)
     }
 

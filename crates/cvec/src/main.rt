@@ -73,7 +73,10 @@ fn run_words<E: Threads + Wait + Sync>(rt: &HostRuntime, threads: &E, words: &[S
         Status::Done | Status::Refused => {}
     }
     if let Some((words, complaint)) = ended.complaint {
-        let sentence = Sentence { words: &words, complaint };
+        let sentence = Sentence {
+            words: &words,
+            complaint,
+        };
         let _ = eprintln!(rt; "cvec: {sentence}");
     }
     ended.status

@@ -23,11 +23,7 @@ pub struct Meter<'a> {
 impl<'a> Meter<'a> {
     /// One that tells, if it is to, and if there is a clock.
     pub fn new(rt: &'a HostRuntime, shown: bool) -> Meter<'a> {
-        let begun = if shown {
-            Instant::now(rt).ok()
-        } else {
-            None
-        };
+        let begun = if shown { Instant::now(rt).ok() } else { None };
         Meter {
             rt,
             begun,
@@ -46,7 +42,8 @@ impl<'a> Meter<'a> {
         if passed < due {
             return Ok(());
         }
-        self.due.store(passed.saturating_add(PAUSE), Ordering::SeqCst);
+        self.due
+            .store(passed.saturating_add(PAUSE), Ordering::SeqCst);
         let rate = done.saturating_mul(1000) / passed.max(1);
         if of == 0 {
             return eprint!(self.rt; "\r{done} done, {rate} a second\x1b[K");

@@ -134,11 +134,21 @@ fn run_file<
     let file = words.file;
     if words.quiet {
         let progress = &Silent;
-        let filing = Filing { alloc, files, file, progress };
+        let filing = Filing {
+            alloc,
+            files,
+            file,
+            progress,
+        };
         run_filing::<I, W, E, F, Silent>(&filing, rt, words, reader, writer)
     } else {
         let progress = system.progress;
-        let filing = Filing { alloc, files, file, progress };
+        let filing = Filing {
+            alloc,
+            files,
+            file,
+            progress,
+        };
         run_filing::<I, W, E, F, P>(&filing, rt, words, reader, writer)
     }
 }
@@ -151,16 +161,6 @@ pub struct Outcome<'a> {
     pub complaint: Option<(FileWords<'a>, Complaint)>,
 }
 
-/// A run of which there is no more to tell.
-fn run_with<'a>(status: Status) -> Outcome<'a>
-    ensures { result.status ≡ status }
-{
-    Outcome {
-        status,
-        complaint: None,
-    }
-}
-
 /// Does what the words behind the program's name ask for, and with no words what `image u64` does. Words that
 /// are not the program's, and those that ask for help, are answered with `Usage`.
 pub fn run<
@@ -171,13 +171,7 @@ pub fn run<
     E: Threads + Wait + Sync,
     F: Files<File = File> + AllocGlobal,
     P: Progress + Sync,
->(
-    system: &System<'_, F, P>,
-    rt: &E,
-    words: &'a [S],
-    reader: &mut I,
-    writer: &mut W,
-) -> Outcome<'a>
+>(system: &System<'_, F, P>, rt: &E, words: &'a [S], reader: &mut I, writer: &mut W) -> Outcome<'a>
     ensures no_words { words.now ≡ [] → IfSome (I.remaining reader.old) (λ input.
         IsRun Task.Image RecordType.U64 input (W.contents writer.old) (W.contents writer.new) result.status) }
     ensures ends { IfSome (I.remaining reader.old) (λ input.
@@ -187,20 +181,40 @@ pub fn run<
     ensures usage { result.status ≡ Status.Usage → Keeps (W.contents writer.old) (W.contents writer.new) }
 {
     if words.is_empty() {
-        return run_with(run_task(system.alloc, rt, Task::Image, RecordType::U64, reader, writer));
+        return Outcome {
+            status: run_task(
+                system.alloc,
+                rt,
+                Task::Image,
+                RecordType::U64,
+                reader,
+                writer,
+            ),
+            complaint: None,
+        };
     }
     match read_words(system.alloc, words) {
-        Ok(Request::Input(task, record_type)) => {
-            run_with(run_task(system.alloc, rt, task, record_type, reader, writer))
-        }
+        Ok(Request::Input(task, record_type)) => Outcome {
+            status: run_task(system.alloc, rt, task, record_type, reader, writer),
+            complaint: None,
+        },
         Ok(Request::File(words)) => match run_file(system, rt, &words, reader, writer) {
-            Ok(status) => run_with(status),
-            Err(complaint) => Outcome {
-                status: refuse_for(writer, &complaint),
-                complaint: Some((words, complaint)),
+            Ok(status) => Outcome {
+                status,
+                complaint: None,
+            },
+            Err(fault) => Outcome {
+                status: refuse_for(writer, &fault),
+                complaint: Some((words, fault)),
             },
         },
-        Err(WordsFault::Memory) => run_with(refuse(writer, Refusal::Memory)),
-        Err(WordsFault::Usage | WordsFault::Seats) => run_with(Status::Usage),
+        Err(WordsFault::Memory) => Outcome {
+            status: refuse(writer, Refusal::Memory),
+            complaint: None,
+        },
+        Err(WordsFault::Usage | WordsFault::Seats) => Outcome {
+            status: Status::Usage,
+            complaint: None,
+        },
     }
 }

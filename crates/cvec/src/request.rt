@@ -44,9 +44,15 @@ pub enum FileTask<'a> {
     /// The first record that equals this one is found.
     Find(&'a str),
     /// The records from a position on are replaced.
-    Set { start: &'a str, records: &'a str },
+    Set {
+        start: &'a str,
+        records: &'a str,
+    },
     /// The length becomes another one.
-    Resize { len: &'a str, record: &'a str },
+    Resize {
+        len: &'a str,
+        record: &'a str,
+    },
     /// All records are taken away.
     Clear,
     /// Live changes are put into their home bytes.

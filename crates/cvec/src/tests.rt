@@ -33,8 +33,7 @@ fn ran(rt: &HostRuntime, words: &[&str], reader: &mut &[u8], written: &mut Vec<u
     };
     run::<&str, &[u8], Vec<u8>, HostRuntime, HostRuntime, Silent>(
         &system, rt, words, reader, written,
-    )
-    .status
+    ).status
 }
 
 /// What `image u64` answers.
