@@ -10,9 +10,13 @@ use crate::noting::Noting;
 use crate::program::{System, run};
 use files_core::Silent;
 use segment_core::{Cause, ScanFault};
-use std::alloc::{AllocError, Global};
+use std::alloc::{AllocError, AllocGlobal, Global};
+use std::fs::File;
 use std::io::{self, ErrorKind, Read, Write};
+use std::rt::Files;
+use std::sync::Wait;
 use std::test::Fail;
+use std::thread::Threads;
 use text_core::{INPUT_LIMIT, Refusal, Status, image, refuse, show};
 
 const EMPTY: &[u8] = b"014356454353454701080000";
@@ -25,15 +29,19 @@ const THREE: &[u8] =
     b"014356454353454701080001012400000002000000020000000100000001000000000000000200000000000000030000000000000000";
 
 /// How the program ends on these words.
-fn ran(rt: &HostRuntime, words: &[&str], reader: &mut &[u8], written: &mut Vec<u8>) -> Status {
+fn ran<E: Files<File = File> + AllocGlobal + Threads + Wait + Sync>(
+    rt: &E,
+    words: &[&str],
+    reader: &mut &[u8],
+    written: &mut Vec<u8>,
+) -> Status {
     let system = System {
         alloc: rt.alloc(),
         files: rt,
         progress: &Silent,
     };
-    run::<&str, &[u8], Vec<u8>, HostRuntime, HostRuntime, Silent>(
-        &system, rt, words, reader, written,
-    ).status
+    let outcome = run::<&str, &[u8], Vec<u8>, E, E, Silent>(&system, rt, words, reader, written);
+    outcome.status
 }
 
 /// What `image u64` answers.
