@@ -1,8 +1,12 @@
 //! The texts and files of each type of record, by the words that name it.
 
 use crate::tests::ran;
-use std::alloc::AllocError;
+use std::alloc::{AllocError, AllocGlobal};
+use std::fs::File;
+use std::rt::Files;
+use std::sync::Wait;
 use std::test::Fail;
+use std::thread::Threads;
 
 const NUMBERS_OF_4_BYTES: &[u8] =
     b"0143564543534547010400010110000000010000000200000000000000ffffffff00\n";
@@ -26,7 +30,11 @@ const FLAG_OF_TWO: &[u8] =
     b"0143564543534547010900010111000000010000000100000005000000000000000200\n";
 
 /// What the program answers to the words: its status and its output.
-fn answered(rt: &HostRuntime, words: &[&str], input: &[u8]) -> (u8, Vec<u8>) {
+fn answered<E: Files<File = File> + AllocGlobal + Threads + Wait + Sync>(
+    rt: &E,
+    words: &[&str],
+    input: &[u8],
+) -> (u8, Vec<u8>) {
     let mut reader = input;
     let mut written = Vec::new(rt.alloc());
     let status = ran(rt, words, &mut reader, &mut written);
@@ -136,7 +144,11 @@ const TEXTS_OF_NO_FLAGGED: [&[u8]; 11] = [
 ];
 
 /// Whether each text, alone on a line, is refused as no group line.
-fn are_refused(rt: &HostRuntime, word: &str, texts: &[&[u8]]) -> Result<bool, AllocError> {
+fn are_refused<E: Files<File = File> + AllocGlobal + Threads + Wait + Sync>(
+    rt: &E,
+    word: &str,
+    texts: &[&[u8]],
+) -> Result<bool, AllocError> {
     for text in texts {
         let mut input = Vec::from_slice(rt.alloc(), *text)?;
         input.push(b'\n')?;
