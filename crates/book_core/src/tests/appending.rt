@@ -1,13 +1,27 @@
 //! What an appender keeps where a growth is refused, and which lengths it may have.
 
+ghost use Rattle.book_core.specs.Lists.{IsSeatOf};
+
 use super::{Two, begin_two};
 use crate::appender::Appender;
 use crate::fault::GrowFault;
+use crate::live::Live;
 use crate::seat::Seat;
 use block_core::FreshFault;
 use std::alloc::Global;
 use std::sync::Wait;
 use std::test::Fail;
+
+/// Pushes 0, 1, .. 5.
+fn push_six<E: Wait>(rt: &E, live: &Live<u64>, appender: &mut Appender<u64>) -> Option<()>
+    requires { IsSeatOf live.now appender.old.seat }
+    ensures { IsSeatOf live.now appender.new.seat }
+{
+    for v in 0..6 {
+        appender.push(rt, live, v).ok()?;
+    }
+    Some(())
+}
 
 /// What the seventh push answers in a book with room for one growth, and what is kept then and given back in the end.
 fn append_too_many<E: Wait>(
@@ -17,9 +31,7 @@ fn append_too_many<E: Wait>(
 ) -> Option<(Option<GrowFault>, usize, Vec<u64>)> {
     let Two { live, first, .. } = two;
     let mut appender = Appender::new(alloc, first, 3).ok()?;
-    for v in 0..6 {
-        appender.push(rt, &live, v).ok()?;
-    }
+    push_six(rt, &live, &mut appender)?;
     let refused = appender.push(rt, &live, 6).err();
     let kept = appender.kept().len();
     let Err((appender, _)) = appender.finish(rt, &live) else {
