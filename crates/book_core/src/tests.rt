@@ -11,6 +11,7 @@ use std::sync::Wait;
 use std::test::Fail;
 
 mod appending;
+mod crowd;
 mod growing;
 mod reading;
 mod settling;

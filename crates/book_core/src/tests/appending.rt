@@ -1,4 +1,4 @@
-//! What an appender keeps where a growth is refused, and which lengths it may have.
+//! Appenders of several lengths, and what they keep where a growth is refused.
 
 ghost use Rattle.book_core.specs.Lists.{IsSeatOf};
 
@@ -11,6 +11,64 @@ use block_core::FreshFault;
 use std::alloc::Global;
 use std::sync::Wait;
 use std::test::Fail;
+
+/// Pushes 0, 1, .. 6, and answers the starts and lengths of the growths that this made.
+fn push_seven<E: Wait>(
+    rt: &E,
+    alloc: Global,
+    live: &Live<u64>,
+    appender: &mut Appender<u64>,
+) -> Option<Vec<[u64; 2]>>
+    requires { IsSeatOf live.now appender.old.seat }
+    ensures { IsSeatOf live.now appender.new.seat }
+{
+    let mut ranges = Vec::new(alloc);
+    for v in 0..7 {
+        if let Some(receipt) = appender.push(rt, live, v).ok()? {
+            ranges.push([receipt.start, receipt.len]).ok()?;
+        }
+    }
+    Some(ranges)
+}
+
+/// The growths of seven records by an appender of that length, and what a look of the other seat then reads.
+fn append_seven<E: Wait>(
+    rt: &E,
+    alloc: Global,
+    two: Two,
+    room: u64,
+) -> Option<(Vec<[u64; 2]>, Vec<u64>)> {
+    let Two {
+        live,
+        first,
+        mut second,
+        ..
+    } = two;
+    let mut appender = Appender::new(alloc, first, room).ok()?;
+    let mut ranges = push_seven(rt, alloc, &live, &mut appender)?;
+    let (_, last) = appender.finish(rt, &live).ok()?;
+    if let Some(receipt) = last {
+        ranges.push([receipt.start, receipt.len]).ok()?;
+    }
+    live.look(&mut second).ok()?;
+    let snapshot = live.snapshot(&mut second).ok()?;
+    let records = snapshot.iter().copied().collect(alloc).ok()?;
+    Some((ranges, records))
+}
+
+#[test]
+fn records_are_grown_by_in_blocks(rt: HostRuntime) -> Result<(), Fail> {
+    let alloc = rt.alloc();
+    let want = [[0, 3], [3, 3], [6, 1]];
+    let two = begin_two(alloc, 8).ok_or("no book")?;
+    let (ranges, records) = append_seven(&rt, alloc, two, 3).ok_or("refused")?;
+    assert_eq!(rt; ranges.as_slice(), want.as_slice());
+    assert_eq!(rt; records.as_slice(), [0, 1, 2, 3, 4, 5, 6].as_slice());
+    let two = begin_two(alloc, 8).ok_or("no book")?;
+    let (ranges, _) = append_seven(&rt, alloc, two, 7).ok_or("refused")?;
+    assert_eq!(rt; ranges.as_slice(), [[0, 7]].as_slice());
+    Ok(())
+}
 
 /// Pushes 0, 1, .. 5.
 fn push_six<E: Wait>(rt: &E, live: &Live<u64>, appender: &mut Appender<u64>) -> Option<()>
