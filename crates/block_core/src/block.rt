@@ -191,6 +191,3 @@ impl<R: Record> Fresh<R> {
         Fresh { entry }
     }
 }
-
-#[cfg(test)]
-mod tests;

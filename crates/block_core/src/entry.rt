@@ -88,6 +88,3 @@ impl<R: Record> Entry<R> {
         self.records.as_mut_slice()
     }
 }
-
-#[cfg(test)]
-mod tests;

@@ -51,6 +51,3 @@ fn touch_in_turn<R: Copy, T: Touch<R>>(at: u64, records: &mut [R], part: usize, 
         done += len;
     }
 }
-
-#[cfg(test)]
-mod tests;

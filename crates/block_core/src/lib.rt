@@ -11,8 +11,6 @@ mod block;
 mod entry;
 mod fault;
 mod filling;
-#[cfg(test)]
-mod squares;
 mod touching;
 
 pub use block::Fresh;

@@ -29,6 +29,3 @@ pub use live::Live;
 pub use mark::{Mark, MarkState, Reader, Reading, Writer};
 pub use seat::{Receipt, Seat};
 pub use snapshot::{Records, Snapshot};
-
-#[cfg(test)]
-mod tests;

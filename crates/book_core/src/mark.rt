@@ -296,6 +296,3 @@ impl Reader {
         Reading::of_word(mark.table.shared.load::<Loads>(&mut self.seat, 0))
     }
 }
-
-#[cfg(test)]
-mod tests;

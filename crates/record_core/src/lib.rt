@@ -17,6 +17,3 @@ pub use key_value::Pair;
 pub use limit::{PAYLOAD_LIMIT, RECORD_LIMIT};
 pub use record::{Record, width_of};
 pub use records::{RecordsFault, append_records, read_records};
-
-#[cfg(test)]
-mod tests;

@@ -16,9 +16,6 @@ use crate::growth_list::GrowthList;
 use record_core::Record;
 use std::alloc::AllocError;
 
-#[cfg(test)]
-mod tests;
-
 /// Appends the head of a frame: an open gate, the kind and the payload's length.
 fn append_head(kind: FrameKind, payload_len: usize, file: &mut Vec<u8>) -> Result<(), AllocError>
     requires { payload_len < 2 ^ 32 }

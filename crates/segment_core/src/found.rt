@@ -411,6 +411,3 @@ impl<R: Record> Found<R> {
         Ok((records, Homes { homes, live }))
     }
 }
-
-#[cfg(test)]
-mod tests;

@@ -14,9 +14,6 @@ use crate::growth_list::GrowthList;
 use record_core::{Record, append_records, width_of};
 use std::alloc::AllocError;
 
-#[cfg(test)]
-mod tests;
-
 /// The bytes of the group's payload, if they are at most `limit`.
 pub(crate) fn payload_size<R: Record, G: GrowthList<R>>(group: &G, limit: usize) -> Option<usize>
     requires room { 4 ≤ limit }

@@ -34,6 +34,3 @@ pub use record_core::RECORD_LIMIT;
 pub use scanner::Scanner;
 pub use tally::Tally;
 pub use vector::{Scanned, scan};
-
-#[cfg(test)]
-mod tests;
