@@ -1,0 +1,20 @@
+-- Bytes that are appended in parts.
+use Rattle.std.proofs.Common.{◌≡◌, List, ◌++◌, Result, Ok, Err, OnOk, ap, ◌∙◌, append_assoc}
+
+pub on_ok : {X E : Type 0} (P Q : Type 0) (result : Result X E) → (P → Q) → OnOk result P → OnOk result Q
+on_ok P Q (Ok x) then holds = then holds
+on_ok P Q (Err e) then holds = tt
+
+-- one part more
+pub more : {X : Type 0} (old before part mid new : List X) → mid ≡ old ++ before → new ≡ mid ++ part → new ≡ old ++ (before ++ part)
+more old before part mid new was is = is ∙ ap (λ bytes. bytes ++ part) was ∙ append_assoc old before part
+
+-- five parts, one behind the other
+pub in_parts : {X : Type 0} (old a b c d e first second third fourth new : List X)
+    → first ≡ old ++ a → second ≡ first ++ b → third ≡ second ++ c → fourth ≡ third ++ d → new ≡ fourth ++ e
+    → new ≡ old ++ (a ++ b ++ c ++ d ++ e)
+in_parts old a b c d e first second third fourth new is_first is_second is_third is_fourth is_new =
+    let two = more old a b first second is_first is_second in
+    let three = more old (a ++ b) c second third two is_third in
+    let four = more old (a ++ b ++ c) d third fourth three is_fourth in
+    more old (a ++ b ++ c ++ d) e fourth new four is_new

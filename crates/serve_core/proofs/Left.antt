@@ -1,0 +1,101 @@
+-- What a server leaves.
+use Rattle.std.proofs.Common.{◌≡◌, ◌⊎◌, ℕ, ◌≤◌, List, [], ◌++◌, length, take, inl, inr, refl, sym, ap, subst, ◌∙◌, arith}
+use Rattle.std.proofs.lemmas.List.{append-nil}
+use Rattle.record_core.specs.Bytes.{Encoding}
+use Rattle.disk_core.specs.State.{State, IsImage, now}
+use Rattle.disk_core.specs.Calls.{bytes_of}
+use Rattle.disk_core.specs.Moments.{LeavesOnly}
+use Rattle.disk_core.proofs.JoinedMoments.{LeavesOnly-join, LeavesOnly-weaker}
+use Rattle.pen_core.specs.Opening.{IsOpened, OnlySyncs}
+use Rattle.pen_core.specs.PenOf.{PenOf}
+use Rattle.pen_core.specs.Typed.{OpensTo}
+use Rattle.directory_core.specs.Chain.{joined}
+use Rattle.block_core.specs.Growth.{Growth}
+use Rattle.book_core.specs.Lists.{Phase, joined_pieces}
+use Rattle.flush_core.specs.Flusher.{FlusherOf, IsFlusherOf, OpensToFirst, OpensToJob}
+use Rattle.flush_core.specs.Serving.{Serves}
+use Rattle.vault_core.specs.Vault.{VaultOf, OpensToEither, MayHold, list_of}
+use Rattle.vault_core.specs.Crewing.{OpensToGrown}
+use Rattle.serve_core.specs.Serving.{IsServed, OpensBehind}
+
+module _ {R D : Type 0} (form : Encoding R) (keeps : D → Type 0) (states : D → List State) (disk : D) (vault : VaultOf R D)
+    (opened : keeps vault.pen.disk → IsOpened form (bytes_of (states disk)) vault.pen (list_of vault)) (syncs : keeps vault.pen.disk → OnlySyncs (states disk) (states vault.pen.disk)) where
+  file : keeps vault.pen.disk → OpensTo form (bytes_of (states disk)) (list_of vault)
+  file kept = record { format = (opened kept).format; frames = (opened kept).found; vector = (opened kept).vector }
+
+  before_or : (P : List ℕ → Type 0) → keeps vault.pen.disk → LeavesOnly (states disk) (states vault.pen.disk) (λ image. IsImage (now (states disk)) image ⊎ P image)
+  before_or P kept = LeavesOnly-weaker (states disk) (states vault.pen.disk) (IsImage (now (states disk))) (λ image. IsImage (now (states disk)) image ⊎ P image) (λ image is. inl is) (syncs kept).left_before
+
+  -- no client was served
+  pub not_shared : (left : D) → left ≡ vault.pen.disk → (keeps vault.pen.disk → vault.sure ≡ list_of vault) → (keeps left → (image : List ℕ) → IsImage (now (states left)) image → MayHold form vault image) → keeps left → IsServed form states disk left 0
+  not_shared left same sure images kept =
+      let still : keeps vault.pen.disk = subst keeps same kept in
+      record {
+        before = list_of vault;
+        growths = [];
+        file = file still;
+        few = omega arith;
+        meanwhile = subst (λ d. LeavesOnly (states disk) (states d) (λ image. IsImage (now (states disk)) image ⊎ OpensToGrown form (list_of vault) [] image)) (sym same) (before_or (OpensToGrown form (list_of vault) []) still);
+        stands = λ image is. record { count = 0; at_least = omega arith; known = omega arith; opens = subst (OpensTo form image) (sym (append-nil (list_of vault))) (one image (sure still) (images kept image is)) };
+      }
+    where
+      one : (image : List ℕ) → vault.sure ≡ list_of vault → OpensToEither form vault.sure (list_of vault) image → OpensTo form image (list_of vault)
+      one image is (inl opens) = subst (OpensTo form image) is opens
+      one image is (inr opens) = opens
+
+  pub handed_back : (back : VaultOf R D) → back ≡ vault → (left : D) → left ≡ back.pen.disk → (keeps vault.pen.disk → vault.sure ≡ list_of vault) → (keeps left → (image : List ℕ) → IsImage (now (states left)) image → MayHold form back image) → keeps left → IsServed form states disk left 0
+  handed_back back is left same sure images kept = not_shared left (same ∙ ap (λ (v : VaultOf R D). v.pen.disk) is) sure (λ k image at. subst (λ (v : VaultOf R D). MayHold form v image) is (images k image at)) kept
+
+  module _ (live : Phase R) (begun served : FlusherOf R D) (blocks : live.blocks ≡ vault.blocks) (pen : begun.pen ≡ vault.pen) (of : IsFlusherOf (keeps served.pen.disk) live served) (goes : Serves form keeps states begun served) where
+    opening : keeps served.pen.disk → served.opening ≡ list_of vault
+    opening kept = of.opening kept ∙ ap joined_pieces blocks
+
+    pub kept_before : keeps served.pen.disk → keeps vault.pen.disk
+    kept_before kept = subst (λ (p : PenOf D). keeps p.disk) pen (goes.model kept)
+
+    first_of : keeps served.pen.disk → (image : List ℕ) → OpensToFirst form begun.settled served image → OpensToGrown form (list_of vault) served.pass.entries image
+    first_of kept image first = record {
+      count = first.count;
+      known = first.known;
+      opens = subst (λ (before : List R). OpensTo form image (before ++ joined (take first.count served.pass.entries))) (opening kept) first.opens;
+    }
+
+    since : keeps served.pen.disk → LeavesOnly (states vault.pen.disk) (states served.pen.disk) (OpensToGrown form (list_of vault) served.pass.entries)
+    since kept = subst (λ (p : PenOf D). LeavesOnly (states p.disk) (states served.pen.disk) (OpensToGrown form (list_of vault) served.pass.entries)) pen
+        (LeavesOnly-weaker (states begun.pen.disk) (states served.pen.disk) (OpensToFirst form begun.settled served) (OpensToGrown form (list_of vault) served.pass.entries) (first_of kept) (goes.images kept))
+
+    now_of : keeps served.pen.disk → (image : List ℕ) → OpensToJob form served image → OpensBehind form (list_of vault) served.pass.entries served.settled image
+    now_of kept image job = record {
+      count = job.kept.count;
+      at_least = job.kept.at_least;
+      known = job.kept.known;
+      opens = subst (λ (before : List R). OpensTo form image (before ++ joined (take job.kept.count served.pass.entries))) (opening kept) job.kept.opens;
+    }
+
+    module _ (left : D) (settled : ℕ) (same : left ≡ served.pen.disk) (count_is : settled ≡ served.settled) (few : settled ≤ length served.pass.entries)
+        (images : keeps left → (image : List ℕ) → IsImage (now (states left)) image → OpensToJob form served image) (kept : keeps left) where
+      last : keeps served.pen.disk
+      last = subst keeps same kept
+
+      -- clients were served
+      pub was_served : IsServed form states disk left settled
+      was_served =
+          let P = OpensToGrown form (list_of vault) served.pass.entries in
+          let Q : List ℕ → Type 0 = λ image. IsImage (now (states disk)) image ⊎ P image in
+          let still = kept_before last in
+          record {
+            before = list_of vault;
+            growths = served.pass.entries;
+            file = file still;
+            few = few;
+            meanwhile = subst (λ d. LeavesOnly (states disk) (states d) Q) (sym same)
+                (LeavesOnly-join (states disk) (states vault.pen.disk) (states served.pen.disk) Q (before_or P still) (LeavesOnly-weaker (states vault.pen.disk) (states served.pen.disk) P Q (λ image has. inr has) (since last)));
+            stands = λ image is.
+                let behind = now_of last image (images kept image is) in
+                record { count = behind.count; at_least = omega (arith, count_is, behind.at_least); known = behind.known; opens = behind.opens };
+          }
+
+      -- and all that they grew is settled
+      pub all_settled : served.settled ≡ length served.pass.entries → (was : IsServed form states disk left settled) × (settled ≡ length was.growths)
+      unfolding was_served
+      all_settled all = (was_served, count_is ∙ all)

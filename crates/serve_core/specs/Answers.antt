@@ -1,0 +1,54 @@
+-- The answers to a client, as bytes.
+use Rattle.std.specs.Prelude.{◌≡◌, ℕ, nat_lt, Bool, List, ◌++◌, length}
+use Rattle.std.specs.List.{flat_map}
+use Rattle.std.specs.Int.{w32, w64, to_le_bytes}
+use Rattle.record_core.specs.Bytes.{Encoding}
+use Rattle.book_core.specs.declared.fault.GrowFault.{GrowFault}
+use Rattle.book_core.specs.declared.fault.GrowFault.TheVariants as faults
+use Rattle.serve_core.specs.declared.refusal.Refusal.{Refusal}
+use Rattle.serve_core.specs.declared.refusal.Refusal.TheVariants.{UnknownKind, StrayNumber, NoRecord, TooMany, BadRecord, NoMemory, Memory, Closed, Full, TooLong, Strayed, Ended, Broken}
+use Rattle.serve_core.specs.declared.answer.Answer.{Answer}
+use Rattle.serve_core.specs.declared.answer.Answer.TheVariants as answers
+use Rattle.serve_core.specs.declared.answer.Numbers.{Numbers}
+
+abbrev pub code_of : Refusal → ℕ
+code_of UnknownKind = 1
+code_of StrayNumber = 2
+code_of NoRecord = 3
+code_of TooMany = 4
+code_of BadRecord = 5
+code_of NoMemory = 6
+code_of Memory = 7
+code_of Closed = 8
+code_of Full = 9
+code_of TooLong = 10
+code_of Strayed = 11
+code_of Ended = 12
+code_of Broken = 13
+
+-- a conversation ends behind the first six
+abbrev pub ends_talk : Refusal → Bool
+ends_talk refusal = nat_lt (code_of refusal) 7
+
+abbrev pub refusal_of_growth : GrowFault → Refusal
+refusal_of_growth faults.Closed = Closed
+refusal_of_growth faults.Full = Full
+refusal_of_growth faults.TooLong = TooLong
+refusal_of_growth (faults.Strayed number) = Strayed
+refusal_of_growth faults.Memory = Memory
+refusal_of_growth faults.Empty = NoRecord
+refusal_of_growth faults.TooLarge = TooMany
+
+abbrev pub numbers_of : Answer → Numbers
+numbers_of answers.Ended = record { status = 0; first = 0; second = 0 }
+numbers_of (answers.Grown number start) = record { status = 0; first = number; second = start }
+numbers_of (answers.Settled growths) = record { status = 0; first = growths; second = 0 }
+numbers_of (answers.Looked size settled) = record { status = 0; first = size; second = settled }
+numbers_of (answers.Piece start) = record { status = 0; first = start; second = 0 }
+numbers_of (answers.Refused refusal) = record { status = code_of refusal; first = 0; second = 0 }
+
+-- Its 24 bytes, status, count of the records, and the two numbers; then those of the records.
+abbrev pub answer_bytes : {R : Type 0} → Encoding R → Answer → List R → List ℕ
+answer_bytes form answer records =
+    let numbers = numbers_of answer in
+    to_le_bytes w32 numbers.status ++ to_le_bytes w32 (length records) ++ to_le_bytes w64 numbers.first ++ to_le_bytes w64 numbers.second ++ flat_map form.bytes_of records

@@ -1,0 +1,7 @@
+pub mod Fronts
+pub mod Outlined
+pub mod OnlyRead
+pub mod Counted
+pub mod HeaderRead
+pub mod Shown
+pub mod OfFrames

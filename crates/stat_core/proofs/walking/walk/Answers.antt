@@ -1,0 +1,66 @@
+use Rattle.std.proofs.Common.{rules, ◌≤◌, ◌-◌, ℕ, List, Option, Ok, MatchOption, drop, ap, sym, subst, ◌∙◌, refl, arith}
+use Rattle.disk_core.specs.Calls.{bytes_of}
+use Rattle.stat_core.specs.Summary.{begun, tally_in, AreFew}
+use Rattle.stat_core.specs.declared.outline.Outline.{Outline}
+use Rattle.stat_core.specs.Next.{IsNextOutline, IsSized}
+use Rattle.stat_core.specs.Walked.{Counts}
+use Rattle.stat_core.specs.Window.{Holds}
+use Rattle.stat_core.proofs.Counted.{few_begun, few_grown, count_none, count_more, grown_gate, grown_bytes}
+use Rattle.stat_core.proofs.OnlyRead.{reads_nothing, reads_on}
+use Rattle.stat_core.proofs.walking.walk.Goals as goal
+
+pub loop-window-init : goal.loop-window-init
+loop-window-init g c =
+    let begins = c.begun-summary.ensures in
+    let long = c.requires.long in
+    record {
+      few = subst AreFew (sym begins) (few_begun c.args.shape c.args.bytes);
+      bytes = ap (λ s. s.bytes) begins;
+      inside = subst (λ s. s.gate ≤ c.args.bytes) (sym begins) long;
+      fits = omega arith;
+      ends = omega arith;
+      model = λ model. model;
+      reads = λ model. reads_nothing (g.D.Disk.states c.args.disk.now);
+      holds = λ model. refl;
+      counts = λ model. count_none c.args.shape (bytes_of (g.D.Disk.states c.args.disk.now)) c.begun-summary.result (begins ∙ ap (begun c.args.shape) (c.requires.length model));
+    }
+
+pub returns-in-Err-clause-only_reads : goal.returns-in-Err-clause-only_reads
+returns-in-Err-clause-only_reads g c = λ model.
+    reads_on (g.D.Disk.states c.args.disk.now) (g.D.Disk.states c.loop-window.disk) (g.D.Disk.states c.slide.new.disk) (c.loop-window.invariant.reads (c.slide.ensures.model model)) (c.slide.ensures.only_reads model)
+
+pub loop-window-preserved : goal.loop-window-preserved
+loop-window-preserved g c =
+    let old = g.D.Disk.states c.args.disk.now in
+    let mid = g.D.Disk.states c.loop-window.disk in
+    let new = g.D.Disk.states c.slide.new.disk in
+    let s = c.loop-window.summary in
+    let inv = c.loop-window.invariant in
+    let outline = c.in-Ok-Some.outline in
+    let sized : IsSized c.args.shape (tally_in s) (s.bytes - s.gate) (c.in-Ok-Some.outline, c.in-Ok-Some.payload_len)
+    = subst (λ (o : Option (Outline × ℕ)). MatchOption o (Unit {0}) (IsSized c.args.shape (tally_in s) (s.bytes - s.gate))) c.in-Ok-Some.field-0-is c.in-Ok-Some.ensures.sized in
+    let is = c.grown-summary.ensures in
+    let gate = ap (λ t. t.gate) is ∙ grown_gate c.args.shape s outline in
+    let holds = λ (model : g.D.Disk.keeps c.slide.new.disk). subst (λ (image : List ℕ). Holds image c.slide.new.buffer c.in-Ok.window) (ap (λ t. t.seen) (let reads = inv.reads (c.slide.ensures.model model) in reads.same)) (c.in-Ok.ensures.holds model) in
+    record {
+      few = subst AreFew (sym is) (few_grown c.args.shape s outline c.requires.wide.0 inv.few sized.stands);
+      bytes = ap (λ t. t.bytes) is ∙ grown_bytes c.args.shape s outline ∙ inv.bytes;
+      inside = omega (arith, gate, sized.len, sized.inside, inv.bytes, inv.inside);
+      fits = first_of (omega (arith, c.in-Ok.ensures.within.fits), search rules);
+      ends = omega (arith, c.in-Ok.ensures.within.ends);
+      model = λ model. inv.model (c.slide.ensures.model model);
+      reads = λ model. reads_on old mid new (inv.reads (c.slide.ensures.model model)) (c.slide.ensures.only_reads model);
+      holds = holds;
+      counts = λ model. (
+          let size = sym (inv.bytes ∙ c.requires.length (inv.model (c.slide.ensures.model model))) in
+          let next = subst (λ (o : Option (Outline × ℕ)). IsNextOutline c.args.shape s.gate (tally_in s) (drop s.gate (bytes_of old)) (Ok o)) c.in-Ok-Some.field-0-is (c.in-Ok-Some.ensures.next (bytes_of old) size (holds model)) in
+          subst (Counts c.args.shape (bytes_of old)) (sym is) (count_more c.args.shape (bytes_of old) s outline (inv.counts (c.slide.ensures.model model)) next.0 next.1));
+    }
+
+pub returns-in-Ok-None-clause-only_reads : goal.returns-in-Ok-None-clause-only_reads
+returns-in-Ok-None-clause-only_reads g c = λ model.
+    reads_on (g.D.Disk.states c.args.disk.now) (g.D.Disk.states c.loop-window.disk) (g.D.Disk.states c.slide.new.disk) (c.loop-window.invariant.reads (c.slide.ensures.model model)) (c.slide.ensures.only_reads model)
+
+pub returns-in-Err-next_outline-clause-only_reads : goal.returns-in-Err-next_outline-clause-only_reads
+returns-in-Err-next_outline-clause-only_reads g c = λ model.
+    reads_on (g.D.Disk.states c.args.disk.now) (g.D.Disk.states c.loop-window.disk) (g.D.Disk.states c.slide.new.disk) (c.loop-window.invariant.reads (c.slide.ensures.model model)) (c.slide.ensures.only_reads model)

@@ -1,0 +1,42 @@
+//! `stat`: what a file has.
+
+ghost use Rattle.std.specs.Prelude.{◌≡◌};
+ghost use Rattle.disk_core.specs.Calls.{bytes_of};
+ghost use Rattle.stat_core.specs.Ended.{IsTold};
+ghost use Rattle.stat_core.specs.Window.{OnlyReads};
+
+use crate::fault::StatFault;
+use crate::walking::summarize;
+use crate::writing::{Form, write_summary};
+use disk_core::Disk;
+use std::io;
+use std::io::Write;
+
+/// How `stat` ended.
+#[derive(Debug, Drop)]
+pub enum Ended {
+    /// All of its answer was written.
+    Done,
+    /// The file has no summary. Nothing was written of an answer.
+    Refused(StatFault),
+    /// A write of the answer failed: a part of it may have been written.
+    Unwritten(io::Error),
+}
+
+/// Writes what the file has. It only reads the disk, which it gives back, and takes as much memory for a long file as
+/// for a short one.
+pub fn stat<D: Disk, W: Write>(disk: D, form: Form, writer: &mut W) -> (D, Ended)
+    ensures told { IsTold (D.keeps result.0) (bytes_of (D.states disk)) form (W.contents writer.old) (W.contents writer.new) result.1 }
+    ensures only_reads { D.keeps result.0 → OnlyReads (D.states disk) (D.states result.0) }
+    ensures model { D.keeps result.0 → D.keeps disk }
+{
+    let mut disk = disk;
+    let summary = match summarize(&mut disk) {
+        Ok(summary) => summary,
+        Err(fault) => return (disk, Ended::Refused(fault)),
+    };
+    match write_summary(&summary, form, writer) {
+        Ok(()) => (disk, Ended::Done),
+        Err(error) => (disk, Ended::Unwritten(error)),
+    }
+}

@@ -1,0 +1,55 @@
+//! The part of a file that is in memory.
+
+ghost use Rattle.std.specs.Prelude.{◌≡◌, ◌≤◌, ◌<◌, ◌+◌, ◌-◌, ◌^◌, length, min, IfOk};
+ghost use Rattle.disk_core.specs.Calls.{bytes_of};
+ghost use Rattle.stat_core.specs.Window.{Holds, IsWithin, OnlyReads};
+
+use disk_core::{Disk, DiskFault};
+
+/// The bytes of a read at most.
+pub(crate) const WINDOW_LEN: usize = 65_536;
+
+/// The bytes of a frame that are looked at: its gate, kind and length, and the first number of its payload.
+pub(crate) const FRONT_LEN: u64 = 14;
+
+/// Which part of the file a buffer holds.
+#[derive(Clone, Copy, Debug)]
+pub(crate) struct Window {
+    /// The place of its first byte.
+    pub(crate) start: u64,
+    /// Its bytes.
+    pub(crate) len: u64,
+}
+
+/// How many bytes from `at` on are looked at, in a file of so many.
+pub(crate) fn front_len(at: u64, bytes: u64) -> u64
+    ensures { result ≡ min 14 (bytes - at) }
+{
+    FRONT_LEN.min(bytes.saturating_sub(at))
+}
+
+/// Lets the buffer hold what stands at `at`, by one read where it doesn't yet.
+pub(crate) fn slide<D: Disk>(
+    disk: &mut D,
+    buffer: &mut [u8],
+    window: Window,
+    at: u64,
+    bytes: u64,
+) -> Result<Window, DiskFault>
+    requires length { D.keeps disk.old → bytes ≡ length (bytes_of (D.states disk.old)) }
+    requires inside { at ≤ bytes }
+    requires room { 14 ≤ length buffer.old }
+    requires within { (window.len ≤ length buffer.old) × (window.start + window.len ≤ bytes) }
+    requires holds { D.keeps disk.old → Holds (bytes_of (D.states disk.old)) buffer.old window }
+    ensures within { IfOk result (IsWithin (length buffer.old) at bytes) }
+    ensures holds { D.keeps disk.new → IfOk result (Holds (bytes_of (D.states disk.old)) buffer.new) }
+    ensures only_reads { D.keeps disk.new → OnlyReads (D.states disk.old) (D.states disk.new) }
+    ensures model { D.keeps disk.new → D.keeps disk.old }
+{
+    if window.start <= at && at + front_len(at, bytes) <= window.start + window.len {
+        return Ok(window);
+    }
+    let len = (buffer.len() as u64).min(bytes - at);
+    disk.read_at(at, &mut buffer[..len as usize])?;
+    Ok(Window { start: at, len })
+}
