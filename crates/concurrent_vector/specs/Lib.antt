@@ -1,0 +1,13 @@
+pub use Rattle.record_core.specs.Bytes
+pub use Rattle.directory_core.specs.Chain
+pub use Rattle.book_core.specs.Lists
+pub use Rattle.book_core.specs.Beginning
+pub use Rattle.book_core.specs.Growing
+pub use Rattle.book_core.specs.Snapshots
+pub use Rattle.flush_core.specs.Flusher
+pub use Rattle.flush_core.specs.Serving
+pub use Rattle.vault_core.specs.Vault
+pub use Rattle.vault_core.specs.Sharing
+pub use Rattle.vault_core.specs.Gathering
+pub use Rattle.vault_core.specs.Crewing
+pub use Rattle.vault_core.specs.Search

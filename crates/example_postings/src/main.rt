@@ -1,0 +1,120 @@
+//! Postings lists: the words of the input's lines are gathered as postings (word, line), a growth for each line, by a crew
+//! of threads. The words that are the program's arguments are then looked up.
+#![tactic(auto)]
+
+ghost use Rattle.std.specs.Prelude.{◌==◌};
+
+use concurrent_vector::{
+    CrewFault, Fault, Format, Gate, Lists, Pair, Pick, RamDisk, Receipt, Vault, crew,
+};
+use std::alloc::Global;
+use std::sync::Wait;
+use std::thread::Threads;
+use std::{env, io};
+
+/// How many threads gather.
+const GROWERS: u32 = 3;
+
+type Index = Vault<Pair, RamDisk>;
+
+/// The number of a word, by its letters and digits, whichever are capital.
+fn number_of(word: &str) -> u64 {
+    let mut number: u64 = 0xcbf2_9ce4_8422_2325;
+    for byte in word.as_bytes() {
+        if byte.is_ascii_alphanumeric() {
+            number = (number ^ byte.to_ascii_lowercase() as u64).wrapping_mul(0x100_0000_01b3);
+        }
+    }
+    number
+}
+
+/// Picks the postings of the word of that number.
+#[derive(Clone, Copy)]
+struct Word(u64);
+
+impl Pick<Pair> for Word {
+    ghost picks_of = { λ word posting. posting.key == word.0 };
+
+    fn picks(&self, posting: &Pair) -> bool {
+        posting.key == self.0
+    }
+}
+
+/// Holds nobody up.
+struct Open;
+
+impl Gate for Open {
+    ghost may_stop = { λ _ _ _. ⊥ };
+
+    fn before(&self, _grower: u16, _k: u32) -> bool {
+        true
+    }
+
+    fn after(&self, _grower: u16, _receipt: &Receipt) {}
+}
+
+/// The postings of each line that is for this grower and has words.
+fn blocks_of(alloc: Global, text: &str, grower: u32) -> Result<Vec<Vec<Pair>>, Fault> {
+    let mut blocks = Vec::new(alloc);
+    let mut line: u32 = 0;
+    for text in text.lines() {
+        line = line.wrapping_add(1);
+        let mut postings = Vec::new(alloc);
+        for word in text.split_ascii_whitespace() {
+            let (key, value) = (number_of(word), line as i64);
+            postings.push(Pair { key, value })?;
+        }
+        if line % GROWERS == grower && !postings.is_empty() {
+            blocks.push(postings)?;
+        }
+    }
+    Ok(blocks)
+}
+
+/// A vault in memory with all postings, in whichever order the growers came.
+fn index<E: Threads + Wait + Sync>(rt: &E, alloc: Global, text: &str) -> Result<Index, Fault> {
+    let mut lists = Vec::new(alloc);
+    for grower in 0..GROWERS {
+        lists.push(blocks_of(alloc, text, grower)?)?;
+    }
+    let vault = Vault::create_as(alloc, RamDisk::new(alloc), Format::Two)?;
+    let source = Lists::try_new(lists.as_slice()).ok_or(Fault::Memory)?;
+    match crew(rt, alloc, vault, &source, &Open) {
+        Ok(crewed) => Ok(crewed.vault),
+        Err(CrewFault::Share(_, fault)) => Err(Fault::Vault(fault)),
+        Err(CrewFault::Gather(gathering)) => Err(Fault::Vault(gathering.fault)),
+    }
+}
+
+/// The lines that have the word, ascending, each once.
+fn lines_with(alloc: Global, index: &Index, word: &Word) -> Result<Vec<i64>, Fault> {
+    let mut lines = Vec::new(alloc);
+    for piece in index.pieces() {
+        for posting in piece {
+            if word.picks(posting) {
+                lines.push(posting.value)?;
+            }
+        }
+    }
+    lines.sort_unstable();
+    lines.dedup();
+    Ok(lines)
+}
+
+fn main(rt: HostRuntime) -> io::Result<()> {
+    let text = io::read_to_string(rt.alloc(), rt.stdin())?;
+    let words: Vec<String> = env::args(&rt)?.skip(1).collect(rt.alloc())?;
+    let index = match index(&rt, rt.alloc(), text.as_str()) {
+        Ok(index) => index,
+        Err(fault) => return println!(rt; "{fault}"),
+    };
+    for text in &words {
+        let word = Word(number_of(text.as_str()));
+        let count = index.count_where(&rt, &word);
+        match lines_with(rt.alloc(), &index, &word) {
+            Ok(lines) => println!(rt; "{text}: {count} times, in lines {lines:?}")?,
+            Err(fault) => println!(rt; "{fault}")?,
+        }
+    }
+    Ok(())
+}

@@ -1,0 +1,237 @@
+/* See cvec_client.h. */
+#define _POSIX_C_SOURCE 200809L
+#include "cvec_client.h"
+
+#include <errno.h>
+#include <fcntl.h>
+#include <stdio.h>
+#include <string.h>
+#include <sys/wait.h>
+#include <unistd.h>
+
+enum { END = 0, GROW = 1, AWAIT = 2, LOOK = 3, READ = 4 };
+enum { REQUEST_LEN = 16, ANSWER_LEN = 24 };
+
+/* The most bytes that the records of one request have. */
+enum { RECORDS_LIMIT = (1 << 20) - 8 };
+
+/* Above all descriptors that a server's pipes have. */
+enum { FREE_DESCRIPTOR = 4 + 2 * CVEC_SEAT_LIMIT };
+
+struct answer {
+    uint32_t status, count;
+    uint64_t first, second;
+};
+
+static void put(unsigned char *bytes, uint64_t number, int len) {
+    for (int i = 0; i < len; i++)
+        bytes[i] = (unsigned char)(number >> (8 * i));
+}
+
+static uint64_t take(const unsigned char *bytes, int len) {
+    uint64_t number = 0;
+    for (int i = 0; i < len; i++)
+        number |= (uint64_t)bytes[i] << (8 * i);
+    return number;
+}
+
+static int write_all(int descriptor, const void *bytes, size_t len) {
+    const unsigned char *at = bytes;
+    while (len > 0) {
+        ssize_t n = write(descriptor, at, len);
+        if (n < 0 && errno == EINTR)
+            continue;
+        if (n <= 0)
+            return -1;
+        at += n;
+        len -= (size_t)n;
+    }
+    return 0;
+}
+
+static int read_all(int descriptor, void *bytes, size_t len) {
+    unsigned char *at = bytes;
+    while (len > 0) {
+        ssize_t n = read(descriptor, at, len);
+        if (n < 0 && errno == EINTR)
+            continue;
+        if (n <= 0)
+            return -1;
+        at += n;
+        len -= (size_t)n;
+    }
+    return 0;
+}
+
+static int send_head(struct cvec_seat *seat, uint32_t kind, uint32_t count, uint64_t start) {
+    unsigned char head[REQUEST_LEN];
+    put(head, kind, 4);
+    put(head + 4, count, 4);
+    put(head + 8, start, 8);
+    return write_all(seat->requests, head, sizeof head);
+}
+
+static int take_head(struct cvec_seat *seat, struct answer *answer) {
+    unsigned char head[ANSWER_LEN];
+    if (read_all(seat->answers, head, sizeof head)) {
+        seat->over = 1;
+        return -1;
+    }
+    answer->status = (uint32_t)take(head, 4);
+    if (answer->status >= CVEC_UNKNOWN_KIND && answer->status <= CVEC_NO_MEMORY)
+        seat->over = 1;
+    answer->count = (uint32_t)take(head + 4, 4);
+    answer->first = take(head + 8, 8);
+    answer->second = take(head + 16, 8);
+    return (int)answer->status;
+}
+
+/* Why a request may not be of so many records: the server would end the seat, and read no more of it. */
+static int refuses(const struct cvec_seat *seat, uint32_t count) {
+    if (count == 0)
+        return CVEC_NO_RECORD;
+    return count > RECORDS_LIMIT / seat->width ? CVEC_TOO_MANY : 0;
+}
+
+static int ask(struct cvec_seat *seat, uint32_t kind, uint32_t count, uint64_t start, struct answer *answer) {
+    return send_head(seat, kind, count, start) ? -1 : take_head(seat, answer);
+}
+
+/* Closes the pipes of the first so many seats: for each the server's end of its requests, the client's, the client's end of
+ * its answers, and the server's. */
+static void close_pipes(int ends[][4], int count) {
+    for (int k = 0; k < count; k++)
+        for (int i = 0; i < 4; i++)
+            close(ends[k][i]);
+}
+
+static int open_pipes(int ends[][4], int count) {
+    for (int k = 0; k < count; k++) {
+        if (pipe(ends[k])) {
+            close_pipes(ends, k);
+            return -1;
+        }
+        if (pipe(ends[k] + 2)) {
+            close(ends[k][0]);
+            close(ends[k][1]);
+            close_pipes(ends, k);
+            return -1;
+        }
+        for (int i = 0; i < 4; i++)
+            fcntl(ends[k][i], F_SETFD, FD_CLOEXEC);
+    }
+    return 0;
+}
+
+/* In the child: the server's ends get their descriptors, by way of others, so that none is overwritten, and it is run. */
+static void run(const char *program, const char *type, const char *file, int ends[][4], int count) {
+    char seats[32];
+    for (int k = 0; k < count; k++) {
+        ends[k][0] = fcntl(ends[k][0], F_DUPFD_CLOEXEC, FREE_DESCRIPTOR);
+        ends[k][3] = fcntl(ends[k][3], F_DUPFD_CLOEXEC, FREE_DESCRIPTOR);
+    }
+    for (int k = 0; k < count; k++)
+        if (dup2(ends[k][0], 3 + 2 * k) < 0 || dup2(ends[k][3], 4 + 2 * k) < 0)
+            _exit(127);
+    snprintf(seats, sizeof seats, "--seats=%d", count);
+    execlp(program, program, "serve", type, file, seats, (char *)0);
+    _exit(127);
+}
+
+int cvec_serve(struct cvec_server *server, const char *program, const char *type, const char *file, size_t width, int count) {
+    int ends[CVEC_SEAT_LIMIT][4];
+    if (count < 1 || count > CVEC_SEAT_LIMIT) {
+        errno = EINVAL;
+        return -1;
+    }
+    if (open_pipes(ends, count))
+        return -1;
+    server->count = count;
+    server->pid = fork();
+    if (server->pid < 0) {
+        close_pipes(ends, count);
+        return -1;
+    }
+    if (server->pid == 0)
+        run(program, type, file, ends, count);
+    for (int k = 0; k < count; k++) {
+        close(ends[k][0]);
+        close(ends[k][3]);
+        server->seats[k].requests = ends[k][1];
+        server->seats[k].answers = ends[k][2];
+        server->seats[k].width = width;
+        server->seats[k].over = 0;
+    }
+    return 0;
+}
+
+int cvec_send_growth(struct cvec_seat *seat, const void *records, uint32_t count) {
+    int refused = refuses(seat, count);
+    if (refused)
+        return refused;
+    if (send_head(seat, GROW, count, 0))
+        return -1;
+    return write_all(seat->requests, records, (size_t)count * seat->width);
+}
+
+int cvec_take_growth(struct cvec_seat *seat, uint64_t *number, uint64_t *start) {
+    struct answer answer;
+    int status = take_head(seat, &answer);
+    if (status == 0) {
+        *number = answer.first;
+        *start = answer.second;
+    }
+    return status;
+}
+
+int cvec_grow(struct cvec_seat *seat, const void *records, uint32_t count, uint64_t *number, uint64_t *start) {
+    int status = cvec_send_growth(seat, records, count);
+    return status ? status : cvec_take_growth(seat, number, start);
+}
+
+int cvec_await(struct cvec_seat *seat, uint64_t *settled) {
+    struct answer answer;
+    int status = ask(seat, AWAIT, 0, 0, &answer);
+    if (status == 0)
+        *settled = answer.first;
+    return status;
+}
+
+int cvec_look(struct cvec_seat *seat, uint64_t *size, uint64_t *settled) {
+    struct answer answer;
+    int status = ask(seat, LOOK, 0, 0, &answer);
+    if (status == 0) {
+        *size = answer.first;
+        *settled = answer.second;
+    }
+    return status;
+}
+
+int cvec_read(struct cvec_seat *seat, uint64_t start, void *records, uint32_t count, uint32_t *copied) {
+    struct answer answer;
+    int status = refuses(seat, count);
+    if (status == 0)
+        status = ask(seat, READ, count, start, &answer);
+    if (status != 0)
+        return status;
+    if (answer.count > count || read_all(seat->answers, records, (size_t)answer.count * seat->width))
+        return -1;
+    *copied = answer.count;
+    return 0;
+}
+
+int cvec_end(struct cvec_seat *seat) {
+    struct answer answer;
+    int status = seat->over ? 0 : ask(seat, END, 0, 0, &answer);
+    close(seat->requests);
+    close(seat->answers);
+    return status;
+}
+
+int cvec_wait(struct cvec_server *server) {
+    int status;
+    while (waitpid(server->pid, &status, 0) < 0)
+        if (errno != EINTR)
+            return -1;
+    return WIFEXITED(status) ? WEXITSTATUS(status) : -1;
+}
