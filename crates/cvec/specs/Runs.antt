@@ -1,5 +1,5 @@
 -- The runs that the program makes: a task on records of one of its types.
-use Rattle.std.specs.Prelude.{ℕ, List, Option, ◌++◌, codes, Result, Ok, Err}
+use Rattle.std.specs.Prelude.{ℕ, List, Option, Some, None, ◌++◌, codes, Result, Ok, Err}
 use Rattle.std.specs.Io.KnownBytes.{Appends, Keeps}
 use Rattle.std.specs.Int.{w32, w64}
 use Rattle.record_core.specs.Bytes.{Encoding, unsigned, signed, pair, flagged}
@@ -7,6 +7,8 @@ use Rattle.cvec.specs.declared.request.Task.{Task}
 use Rattle.cvec.specs.declared.request.Task.TheVariants.{Image, Show, Play}
 use Rattle.cvec.specs.declared.request.RecordType.{RecordType}
 use Rattle.cvec.specs.declared.request.RecordType.TheVariants.{U32, U64, I64, Pair, Flagged}
+use Rattle.cvec.specs.declared.request.Request.{Request}
+use Rattle.cvec.specs.declared.request.Request.TheVariants.{Input, File, Stat}
 use Rattle.text_core.specs.declared.refusal.Refusal.TheVariants as refusals
 use Rattle.text_core.specs.declared.status.Status.{Status}
 use Rattle.text_core.specs.declared.status.Status.TheVariants as statuses
@@ -35,9 +37,6 @@ IsRun task I64 = IsTaskRun task (signed w64) signed_spelling
 IsRun task Pair = IsTaskRun task pair pair_spelling
 IsRun task Flagged = IsTaskRun task flagged flagged_spelling
 
-abbrev pub IsSomeRun : List ℕ → Option (List ℕ) → Option (List ℕ) → Status → Type 0
-IsSomeRun input old new status = (task : Task) × (record_type : RecordType) × IsRun task record_type input old new status
-
 -- how a command over a file may end, and what it has written then: all of an answer, or the line of a refusal
 abbrev pub IsFileRun : Option (List ℕ) → Option (List ℕ) → Status → Type 0
 IsFileRun old new statuses.Done = (text : List ℕ) × Appends old new text
@@ -62,3 +61,10 @@ IsIdleRun old new statuses.Done = ⊥
 IsIdleRun old new statuses.Refused = Appends old new (refusal_line refusals.Memory)
 IsIdleRun old new statuses.OutputFailed = Unit {0}
 IsIdleRun old new statuses.Usage = Keeps old new
+
+-- the program did what it was asked for, or answered that it was asked for nothing
+abbrev pub IsAskedRun : Option Request → List ℕ → Option (List ℕ) → Option (List ℕ) → Status → Type 0
+IsAskedRun None input old new status = IsIdleRun old new status
+IsAskedRun (Some (Input task record_type)) input old new status = IsRun task record_type input old new status
+IsAskedRun (Some (File words)) input old new status = IsFileRun old new status
+IsAskedRun (Some (Stat words)) input old new status = IsFileRun old new status

@@ -1,6 +1,6 @@
 //! What standard error tells of a refusal: what was wrong with what, what stands now, and what to do next.
 
-use crate::request::{FileTask, FileWords, RecordType};
+use crate::request::{FileTask, FileWords, RecordType, Request, StatWords};
 use disk_core::DiskFault;
 use files_core::{Appended, FileFault, Stopped, Word};
 use pen_core::{OpenFault, PenFault};
@@ -17,6 +17,8 @@ pub enum Role {
     File,
     /// NEW of `upgrade`.
     New,
+    /// A pipe of `serve`.
+    Pipe,
 }
 
 /// Why a command over a file is refused.
@@ -28,14 +30,18 @@ pub enum Complaint {
     InUse(Role),
     /// As the command's engine refuses.
     Fault(FileFault),
+    /// As the command's engine refuses a damaged file. So many records are sound before the damage.
+    Damaged(u64, FileFault),
     /// `append` was refused when so much was settled.
     Appended(Appended, FileFault),
+    /// `serve` was refused when so many growths of its clients were settled.
+    Served(u64, FileFault),
 }
 
-/// A complaint of a command, as a sentence.
+/// The complaint of a command that was asked for, as a sentence.
 #[derive(Drop)]
 pub struct Sentence<'a> {
-    pub words: &'a FileWords<'a>,
+    pub request: Request<'a>,
     pub complaint: Complaint,
 }
 
@@ -75,6 +81,7 @@ fn width_of(record_type: RecordType) -> u64 {
 fn name_of<'a>(words: &FileWords<'a>, role: Role) -> &'a str {
     match (role, words.task) {
         (Role::New, FileTask::Upgrade(new)) => new,
+        (Role::Pipe, _) => "a pipe of the clients",
         _ => words.file,
     }
 }
@@ -133,7 +140,8 @@ fn write_word<W: fmt::Write>(
 /// What the file has after a refusal of the input.
 fn stands_after_input(task: FileTask<'_>) -> &'static str {
     match task {
-        FileTask::Append => "it and the lines behind it weren't grown",
+        FileTask::Append(_) => "it and the lines behind it weren't grown",
+        FileTask::Serve(_) => "what its clients were told is settled stands",
         _ => "no file was opened, and nothing was grown",
     }
 }
@@ -159,7 +167,7 @@ fn write_input<W: fmt::Write>(
             f,
             "the input is longer than 67108864 bytes; {stands}; `cvec append` takes input of any length, of lines up to this length"
         ),
-        Refusal::Memory => write!(f, "there is not enough memory for the input; {stands}"),
+        Refusal::Memory => write!(f, "there is not enough memory for it; {stands}"),
         Refusal::Scan(_) | Refusal::NotHex => write!(f, "the input is refused; {stands}"),
     }
 }
@@ -188,7 +196,7 @@ fn write_scan<W: fmt::Write>(
         ),
         ScanFault::Damaged { at, cause } => write!(
             f,
-            "{name}: it is damaged at byte {at} ({cause}): the frames before that are sound; nothing was written, and a copy of the first {at} bytes can be looked at"
+            "{name}: it is damaged at byte {at} ({cause}); nothing was written"
         ),
         ScanFault::Memory => write!(
             f,
@@ -303,24 +311,93 @@ fn write_fault<W: fmt::Write>(
     }
 }
 
+fn write_in_use<W: fmt::Write>(f: &mut Formatter<W>, name: &str) -> fmt::Result {
+    write!(
+        f,
+        "{name}: another command uses it; nothing was read or written; wait for its end"
+    )
+}
+
+fn write_of_file<W: fmt::Write>(
+    f: &mut Formatter<W>,
+    words: &FileWords<'_>,
+    complaint: &Complaint,
+) -> fmt::Result {
+    match complaint {
+        Complaint::NotOpened(role, error) => write_not_opened(f, name_of(words, *role), error),
+        Complaint::InUse(role) => write_in_use(f, name_of(words, *role)),
+        Complaint::Fault(fault) => write_fault(f, words, *fault),
+        Complaint::Damaged(sound, fault) => {
+            write_fault(f, words, *fault)?;
+            write!(f, "; the {sound} records before that are sound")
+        }
+        Complaint::Appended(appended, fault) => {
+            let lines = appended.lines;
+            write_fault(f, words, *fault)?;
+            write!(f, "; the growths of the first {lines} lines stand")
+        }
+        Complaint::Served(growths, fault) => {
+            write_fault(f, words, *fault)?;
+            write!(f, "; the first {growths} growths of its clients stand")
+        }
+    }
+}
+
+fn write_stat_fault<W: fmt::Write>(
+    f: &mut Formatter<W>,
+    name: &str,
+    fault: FileFault,
+) -> fmt::Result {
+    match fault {
+        FileFault::Open(OpenFault::Scan(ScanFault::Unborn)) => {
+            write!(
+                f,
+                "{name}: no vector was made in this file; `cvec create` makes one"
+            )
+        }
+        FileFault::Open(OpenFault::Scan(ScanFault::NotSegment)) => {
+            write!(f, "{name}: it isn't a segment file; it is as it was")
+        }
+        FileFault::Open(OpenFault::Scan(ScanFault::Version(version))) => write!(
+            f,
+            "{name}: it has version {version}, and this program reads 1 and 2; it is as it was"
+        ),
+        FileFault::Open(OpenFault::Scan(ScanFault::Damaged { at, cause })) => write!(
+            f,
+            "{name}: it is damaged at byte {at} ({cause}); nothing was written"
+        ),
+        FileFault::Open(OpenFault::Disk(fault)) => {
+            let about = about_disk(fault);
+            write!(f, "{name}: {about}; nothing was written")
+        }
+        _ => write!(f, "{name}: it is refused; it is as it was"),
+    }
+}
+
+fn write_of_stat<W: fmt::Write>(
+    f: &mut Formatter<W>,
+    words: &StatWords<'_>,
+    complaint: &Complaint,
+) -> fmt::Result {
+    let name = words.file;
+    match complaint {
+        Complaint::NotOpened(_, error) => write_not_opened(f, name, error),
+        Complaint::InUse(_) => write_in_use(f, name),
+        Complaint::Fault(fault) | Complaint::Appended(_, fault) | Complaint::Served(_, fault) =>
+            write_stat_fault(f, name, *fault),
+        Complaint::Damaged(before, fault) => {
+            write_stat_fault(f, name, *fault)?;
+            write!(f, "; the frames before that leave {before} records")
+        }
+    }
+}
+
 impl<'a> Display for Sentence<'a> {
     fn fmt<W: fmt::Write>(&self, f: &mut Formatter<W>) -> fmt::Result {
-        let words = self.words;
-        match self.complaint {
-            Complaint::NotOpened(role, error) => write_not_opened(f, name_of(words, role), &error),
-            Complaint::InUse(role) => {
-                let name = name_of(words, role);
-                write!(
-                    f,
-                    "{name}: another command uses it; nothing was read or written; wait for its end"
-                )
-            }
-            Complaint::Fault(fault) => write_fault(f, words, fault),
-            Complaint::Appended(appended, fault) => {
-                let growths = appended.growths;
-                write_fault(f, words, fault)?;
-                write!(f, "; the growths of the first {growths} lines stand")
-            }
+        match &self.request {
+            Request::File(words) => write_of_file(f, words, &self.complaint),
+            Request::Stat(words) => write_of_stat(f, words, &self.complaint),
+            Request::Input(..) => Ok(()),
         }
     }
 }

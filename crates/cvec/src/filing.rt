@@ -7,16 +7,20 @@ use crate::access::{Access, Opened, open};
 use crate::complaint::{Complaint, Role};
 use crate::meter::CountingGate;
 use crate::request::FileTask;
-use disk_core::FileDisk;
+use crate::serving::{fault_of, pipes_of, write_served};
+use disk_core::{Disk, FileDisk};
 use files_core::{
-    Deck, Ended, FileFault, Progress, append, check, clear, count, create, find, fold, list, load,
-    read_growth_lines, read_record, read_resizing, read_setting, read_window, resize, set,
-    upgrade_file,
+    Deck, Ended, FileFault, Progress, Watched, append, check, clear, count, create, find, fold,
+    list, load, read_growth_lines, read_record, read_resizing, read_setting, read_window, resize,
+    set, sound_front, upgrade_file,
 };
-use segment_core::Format;
+use pen_core::OpenFault;
+use segment_core::{Format, ScanFault};
+use serve_core::{ServeFault, serve};
 use std::alloc::Global;
 use std::fs::File;
 use std::io::{Read, Write};
+use std::num::NonZeroU32;
 use std::rt::Files;
 use std::sync::Wait;
 use std::thread::Threads;
@@ -39,6 +43,44 @@ fn status_of(ended: Ended) -> Result<Status, Complaint>
     }
 }
 
+/// The place of the damage that a fault tells of.
+fn damage_of(fault: FileFault) -> Option<u64> {
+    match fault {
+        FileFault::Open(OpenFault::Scan(ScanFault::Damaged { at, .. })) => Some(at),
+        _ => None,
+    }
+}
+
+/// The complaint of a command whose engine gave its disk back with this fault: of a damaged file with what is sound of it.
+fn complaint_of<R: TextRecord, D: Disk + Drop>(
+    alloc: Global,
+    disk: D,
+    fault: FileFault,
+) -> Complaint {
+    let mut disk = disk;
+    let Some(at) = damage_of(fault) else {
+        return Complaint::Fault(fault);
+    };
+    match sound_front::<R, D>(alloc, &mut disk, at) {
+        Ok(sound) => Complaint::Damaged(sound, fault),
+        Err(_) => Complaint::Fault(fault),
+    }
+}
+
+/// How a command ended whose engine gave its disk back so.
+fn status_on<R: TextRecord, D: Disk + Drop>(
+    alloc: Global,
+    disk: D,
+    ended: Ended,
+) -> Result<Status, Complaint>
+    ensures { (old new : Option (List ℕ)) → WritesSome old new ended → IsFiled old new result }
+{
+    match ended {
+        Ended::Refused(fault) => Err(complaint_of::<R, D>(alloc, disk, fault)),
+        ended => status_of(ended),
+    }
+}
+
 /// A command over a file, and who is told how far it is.
 #[derive(Drop)]
 pub struct Filing<'a, F, P> {
@@ -52,6 +94,11 @@ pub struct Filing<'a, F, P> {
 impl<'a, F: Files<File = File> + AllocGlobal, P: Progress + Sync> Filing<'a, F, P> {
     fn open(&self, access: Access) -> Result<Opened, Complaint> {
         open(self.files, self.file, access, Role::File)
+    }
+
+    /// The disk of a file that is read as a whole, told of as it is.
+    fn watched(&self, disk: FileDisk) -> Watched<'_, FileDisk, P> {
+        Watched::new(disk, self.progress)
     }
 
     fn create<R: TextRecord, W: Write>(
@@ -78,30 +125,35 @@ impl<'a, F: Files<File = File> + AllocGlobal, P: Progress + Sync> Filing<'a, F, 
         let growths = read_growth_lines::<R, I>(self.alloc, reader)?;
         let Opened { disk, lock: _lock } = self.open(Access::Writes)?;
         let gate = CountingGate::new(self.progress, growths.count() as u64);
-        let (_disk, ended) = load::<R, S, FileDisk, W, CountingGate<'_, P>, E>(
+        let (disk, ended) = load::<R, S, FileDisk, W, CountingGate<'_, P>, E>(
             rt, self.alloc, disk, growths, seats, &gate, writer,
         );
-        status_of(ended)
+        status_on::<R, FileDisk>(self.alloc, disk, ended)
     }
 
     fn append<R: TextRecord, S: Deck<R> + Drop, I: Read, W: Write, E: Threads + Wait + Sync>(
         &self,
         rt: &E,
+        block: NonZeroU32,
         reader: &mut I,
         writer: &mut W,
     ) -> Result<Status, Complaint>
         ensures { IsFiled (W.contents writer.old) (W.contents writer.new) result }
     {
         let Opened { disk, lock: _lock } = self.open(Access::Writes)?;
-        let (_disk, appended, ended) = append::<R, S, FileDisk, I, W, P, E>(
+        let (disk, appended, ended) = append::<R, S, FileDisk, I, W, P, E>(
             rt,
             self.alloc,
             disk,
             reader,
+            block,
             self.progress,
             writer,
         );
         match ended {
+            Ended::Refused(FileFault::Open(fault)) => {
+                Err(complaint_of::<R, FileDisk>(self.alloc, disk, FileFault::Open(fault)))
+            }
             Ended::Refused(fault) => Err(Complaint::Appended(appended, fault)),
             ended => status_of(ended),
         }
@@ -111,8 +163,9 @@ impl<'a, F: Files<File = File> + AllocGlobal, P: Progress + Sync> Filing<'a, F, 
         ensures { IsFiled (W.contents writer.old) (W.contents writer.new) result }
     {
         let Opened { disk, lock: _lock } = self.open(Access::Reads)?;
-        let (_disk, ended) = check::<R, FileDisk, W, P>(self.alloc, disk, self.progress, writer);
-        status_of(ended)
+        let disk = self.watched(disk);
+        let (disk, ended) = check::<R, Watched<'_, FileDisk, P>, W>(self.alloc, disk, writer);
+        status_on::<R, Watched<'_, FileDisk, P>>(self.alloc, disk, ended)
     }
 
     fn list<R: TextRecord, W: Write>(
@@ -128,14 +181,15 @@ impl<'a, F: Files<File = File> + AllocGlobal, P: Progress + Sync> Filing<'a, F, 
             count.map(|word| word.as_bytes()),
         )?;
         let Opened { disk, lock: _lock } = self.open(Access::Reads)?;
-        let (_disk, ended) = list::<R, FileDisk, W, P>(
+        let disk = self.watched(disk);
+        let (disk, ended) = list::<R, Watched<'_, FileDisk, P>, W, P>(
             self.alloc,
             disk,
             &window,
             self.progress,
             writer,
         );
-        status_of(ended)
+        status_on::<R, Watched<'_, FileDisk, P>>(self.alloc, disk, ended)
     }
 
     fn count<R: TextRecord, W: Write, E: Threads + Sync>(
@@ -148,8 +202,11 @@ impl<'a, F: Files<File = File> + AllocGlobal, P: Progress + Sync> Filing<'a, F, 
     {
         let record = read_record::<R>(record.as_bytes())?;
         let Opened { disk, lock: _lock } = self.open(Access::Reads)?;
-        let (_disk, ended) = count::<R, FileDisk, W, E>(rt, self.alloc, disk, record, writer);
-        status_of(ended)
+        let disk = self.watched(disk);
+        let (disk, ended) = count::<R, Watched<'_, FileDisk, P>, W, E>(
+            rt, self.alloc, disk, record, writer,
+        );
+        status_on::<R, Watched<'_, FileDisk, P>>(self.alloc, disk, ended)
     }
 
     fn find<R: TextRecord, W: Write, E: Threads + Sync>(
@@ -162,8 +219,11 @@ impl<'a, F: Files<File = File> + AllocGlobal, P: Progress + Sync> Filing<'a, F, 
     {
         let record = read_record::<R>(record.as_bytes())?;
         let Opened { disk, lock: _lock } = self.open(Access::Reads)?;
-        let (_disk, ended) = find::<R, FileDisk, W, E>(rt, self.alloc, disk, record, writer);
-        status_of(ended)
+        let disk = self.watched(disk);
+        let (disk, ended) = find::<R, Watched<'_, FileDisk, P>, W, E>(
+            rt, self.alloc, disk, record, writer,
+        );
+        status_on::<R, Watched<'_, FileDisk, P>>(self.alloc, disk, ended)
     }
 
     fn set<R: TextRecord, W: Write, E: Threads + Sync>(
@@ -177,8 +237,8 @@ impl<'a, F: Files<File = File> + AllocGlobal, P: Progress + Sync> Filing<'a, F, 
     {
         let setting = read_setting::<R>(self.alloc, start.as_bytes(), records.as_bytes())?;
         let Opened { disk, lock: _lock } = self.open(Access::Writes)?;
-        let (_disk, ended) = set::<R, FileDisk, W, E>(rt, self.alloc, disk, &setting, writer);
-        status_of(ended)
+        let (disk, ended) = set::<R, FileDisk, W, E>(rt, self.alloc, disk, &setting, writer);
+        status_on::<R, FileDisk>(self.alloc, disk, ended)
     }
 
     fn resize<R: TextRecord, W: Write>(
@@ -191,24 +251,25 @@ impl<'a, F: Files<File = File> + AllocGlobal, P: Progress + Sync> Filing<'a, F, 
     {
         let resizing = read_resizing::<R>(len.as_bytes(), record.as_bytes())?;
         let Opened { disk, lock: _lock } = self.open(Access::Writes)?;
-        let (_disk, ended) = resize::<R, FileDisk, W>(self.alloc, disk, &resizing, writer);
-        status_of(ended)
+        let (disk, ended) = resize::<R, FileDisk, W>(self.alloc, disk, &resizing, writer);
+        status_on::<R, FileDisk>(self.alloc, disk, ended)
     }
 
     fn clear<R: TextRecord, W: Write>(&self, writer: &mut W) -> Result<Status, Complaint>
         ensures { IsFiled (W.contents writer.old) (W.contents writer.new) result }
     {
         let Opened { disk, lock: _lock } = self.open(Access::Writes)?;
-        let (_disk, ended) = clear::<R, FileDisk, W>(self.alloc, disk, writer);
-        status_of(ended)
+        let (disk, ended) = clear::<R, FileDisk, W>(self.alloc, disk, writer);
+        status_on::<R, FileDisk>(self.alloc, disk, ended)
     }
 
     fn fold<R: TextRecord, W: Write>(&self, writer: &mut W) -> Result<Status, Complaint>
         ensures { IsFiled (W.contents writer.old) (W.contents writer.new) result }
     {
         let Opened { disk, lock: _lock } = self.open(Access::Writes)?;
-        let (_disk, ended) = fold::<R, FileDisk, W, P>(self.alloc, disk, self.progress, writer);
-        status_of(ended)
+        let disk = self.watched(disk);
+        let (disk, ended) = fold::<R, Watched<'_, FileDisk, P>, W>(self.alloc, disk, writer);
+        status_on::<R, Watched<'_, FileDisk, P>>(self.alloc, disk, ended)
     }
 
     fn upgrade<R: TextRecord, W: Write>(
@@ -226,10 +287,36 @@ impl<'a, F: Files<File = File> + AllocGlobal, P: Progress + Sync> Filing<'a, F, 
             disk: new,
             lock: _lock_of_new,
         } = open(self.files, new, Access::Makes, Role::New)?;
-        let (_old, _new, ended) = upgrade_file::<R, FileDisk, FileDisk, W>(
+        let old = self.watched(old);
+        let (_old, _new, ended) = upgrade_file::<R, Watched<'_, FileDisk, P>, FileDisk, W>(
             self.alloc, old, new, writer,
         );
         status_of(ended)
+    }
+
+    fn serve<R: TextRecord, W: Write, E: Threads + Wait + Sync>(
+        &self,
+        rt: &E,
+        clients: u16,
+        writer: &mut W,
+    ) -> Result<Status, Complaint>
+        ensures { IsFiled (W.contents writer.old) (W.contents writer.new) result }
+    {
+        let pipes = pipes_of(self.alloc, self.files, clients)?;
+        let Opened { disk, lock: _lock } = self.open(Access::Writes)?;
+        let (disk, served, ended) = serve::<R, FileDisk, File, File, E>(
+            rt, self.alloc, disk, pipes,
+        );
+        match ended {
+            Ok(()) => match write_served(served.growths, writer) {
+                Ok(()) => Ok(Status::Done),
+                Err(_) => Ok(Status::OutputFailed),
+            },
+            Err(ServeFault::Open(fault)) => {
+                Err(complaint_of::<R, FileDisk>(self.alloc, disk, FileFault::Open(fault)))
+            }
+            Err(fault) => Err(Complaint::Served(served.growths, fault_of(fault))),
+        }
     }
 
     /// Does the task. A complaint: it was refused, and nothing of an answer was written.
@@ -245,7 +332,7 @@ impl<'a, F: Files<File = File> + AllocGlobal, P: Progress + Sync> Filing<'a, F, 
         match task {
             FileTask::Create(format) => self.create::<R, W>(format, writer),
             FileTask::Load(seats) => self.load::<R, S, I, W, E>(rt, seats, reader, writer),
-            FileTask::Append => self.append::<R, S, I, W, E>(rt, reader, writer),
+            FileTask::Append(block) => self.append::<R, S, I, W, E>(rt, block, reader, writer),
             FileTask::Check => self.check::<R, W>(writer),
             FileTask::List { from, count } => self.list::<R, W>(from, count, writer),
             FileTask::Count(record) => self.count::<R, W, E>(rt, record, writer),
@@ -255,6 +342,7 @@ impl<'a, F: Files<File = File> + AllocGlobal, P: Progress + Sync> Filing<'a, F, 
             FileTask::Clear => self.clear::<R, W>(writer),
             FileTask::Fold => self.fold::<R, W>(writer),
             FileTask::Upgrade(new) => self.upgrade::<R, W>(new, writer),
+            FileTask::Serve(seats) => self.serve::<R, W, E>(rt, seats, writer),
         }
     }
 }

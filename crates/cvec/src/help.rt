@@ -51,6 +51,48 @@ with records for R, numbers for the other words in capitals, and two hex digits 
 Refused: line N, input, input too long, memory.
 ";
 
+const STAT: &[u8] = b"cvec stat FILE [--json] [--quiet]
+
+Tells what a file has, whatever the type of its records is, and takes little memory for a file of any length: it reads the
+first bytes of each frame, and not the records. Lengths and places are in bytes: width is that of a record, gate is the
+place where the frames end, and behind tells how many bytes behind it mean nothing. With --json it is one line, an object
+of these names and numbers.
+
+  $ echo '5 6 7' | cvec load u64 t.cv
+  loaded 1 growths, size 3
+  $ cvec stat t.cv
+  version 1
+  width 8
+  bytes 50
+  groups 1
+  changes 0
+  shrinks 0
+  folds 0
+  growths 1
+  records 3
+  size 3
+  live 0
+  gate 49
+  behind 0
+
+Refused: the file's first fault (unborn, not a segment, version V, width 0, damaged at P: CAUSE), file, and the disk's
+faults.
+";
+
+const SERVE: &[u8] = b"cvec serve TYPE FILE --seats=N
+
+Lets N other programs, of any language, grow the vector at once, 1 to 64. Client k, from 0, writes its requests to a pipe
+that this program has as descriptor 3 + 2k, and reads the answers from 4 + 2k: to grow by a block of records, to wait until
+what it grew is on the device, to look how many records there are, to read some. docs/SERVE.md has their bytes, and
+examples/c and examples/python have clients. It ends when all clients have.
+
+  $ mkfifo in out; cvec serve u64 t.cv --seats=1 3<in 4>out & ./client 3<out 4>in
+  served 1000 growths
+
+Refused: the file's first fault (unborn, not a segment, version V, width W, damaged at P: CAUSE), file (also where a pipe
+isn't there), memory, and the disk's faults.
+";
+
 const CREATE: &[u8] = b"cvec create TYPE FILE [--format=1|2]
 
 Makes a file with an empty vector. Its version is 1, or the one that is given.
@@ -73,13 +115,14 @@ Refused: line N and too large at line N (nothing is grown), input, input too lon
 full, too long, memory, and the disk's faults.
 ";
 
-const APPEND: &[u8] = b"cvec append TYPE FILE [--quiet] < LINES
+const APPEND: &[u8] = b"cvec append TYPE FILE [--block=N] [--quiet] < LINES
 
-Appends a growth for each line of an input of any length, and puts them on the device some lines at a time. Where a line is
-refused, those before it stand, and standard error tells how many they are.
+Appends growths of an input of any length, and puts them on the device some lines at a time. The records of N lines, else of
+one, are a growth; the last one may have fewer lines. Where a line is refused, those before it stand, and standard error
+tells how many they are.
 
-  $ seq 1 1000000 | cvec append u64 t.cv
-  appended 1000000 growths, size 1000000
+  $ seq 1 1000000 | cvec append u64 t.cv --block=1000
+  appended 1000 growths, size 1000000
 
 Refused: as load.
 ";
@@ -194,6 +237,8 @@ pub fn help_of(command: &str) -> Option<&'static [u8]> {
         "clear" => Some(CLEAR),
         "fold" => Some(FOLD),
         "upgrade" => Some(UPGRADE),
+        "stat" => Some(STAT),
+        "serve" => Some(SERVE),
         _ => None,
     }
 }

@@ -9,8 +9,8 @@ mod meter;
 mod noting;
 mod program;
 mod request;
-#[cfg(test)]
-mod tests;
+mod serving;
+mod telling;
 mod usage;
 mod words;
 
@@ -72,11 +72,8 @@ fn run_words<E: Threads + Wait + Sync>(rt: &HostRuntime, threads: &E, words: &[S
         Status::Usage => tell_usage(rt, words),
         Status::Done | Status::Refused => {}
     }
-    if let Some((words, complaint)) = ended.complaint {
-        let sentence = Sentence {
-            words: &words,
-            complaint,
-        };
+    if let (Some(request), Some(complaint)) = (ended.asked, ended.complaint) {
+        let sentence = Sentence { request, complaint };
         let _ = eprintln!(rt; "cvec: {sentence}");
     }
     ended.status

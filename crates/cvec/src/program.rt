@@ -1,12 +1,14 @@
 //! The program: what its words ask for, done on its input and output, and on files.
 
-ghost use Rattle.std.specs.Prelude.{◌≡◌, ◌≢◌, [], IfSome, ◌⊎◌};
+ghost use Rattle.std.specs.Prelude.{◌≡◌, ◌≢◌, [], ℕ, List, Option, IfSome, Some, None, Ok};
 ghost use Rattle.std.specs.Io.KnownBytes.{Keeps};
-ghost use Rattle.cvec.specs.Runs.{IsTaskRun, IsRun, IsSomeRun, IsIdleRun, IsFileRun, IsFiled};
+ghost use Rattle.cvec.specs.declared.request.Request.TheVariants as requests;
+ghost use Rattle.cvec.specs.Runs.{IsTaskRun, IsRun, IsAskedRun, IsFileRun, IsFiled, IsIdleRun};
 
 use crate::complaint::Complaint;
 use crate::filing::Filing;
-use crate::request::{FileWords, RecordType, Request, Task};
+use crate::request::{FileWords, RecordType, Request, StatWords, Task};
+use crate::telling::tell_stat;
 use crate::words::{WordsFault, read_words};
 use files_core::{Dealt, Progress, Silent, refuse_file};
 use play_core::play;
@@ -75,7 +77,10 @@ fn refuse_for<W: Write>(writer: &mut W, complaint: &Complaint) -> Status
     ensures { IsFileRun (W.contents writer.old) (W.contents writer.new) result }
 {
     match complaint {
-        Complaint::Fault(fault) | Complaint::Appended(_, fault) => refuse_file(writer, *fault),
+        Complaint::Fault(fault)
+        | Complaint::Damaged(_, fault)
+        | Complaint::Appended(_, fault)
+        | Complaint::Served(_, fault) => refuse_file(writer, *fault),
         Complaint::NotOpened(..) | Complaint::InUse(_) => {
             match write_line(b"refused: file", writer) {
                 Ok(()) => Status::Refused,
@@ -153,12 +158,78 @@ fn run_file<
     }
 }
 
+/// Tells what a file has.
+fn run_stat<W: Write, F: Files<File = File> + AllocGlobal, P: Progress>(
+    system: &System<'_, F, P>,
+    words: &StatWords<'_>,
+    writer: &mut W,
+) -> Result<Status, Complaint>
+    ensures { IsFiled (W.contents writer.old) (W.contents writer.new) result }
+{
+    if words.quiet {
+        tell_stat::<W, F, Silent>(system.files, &Silent, words, writer)
+    } else {
+        tell_stat::<W, F, P>(system.files, system.progress, words, writer)
+    }
+}
+
 /// How a run of the program ended, and what standard error has to tell of it.
 #[derive(Clone, Copy, Debug)]
 pub struct Outcome<'a> {
     pub status: Status,
-    /// The command over a file that was refused, and why.
-    pub complaint: Option<(FileWords<'a>, Complaint)>,
+    /// What the words asked for. `None`: nothing that the program does, or memory was refused before that was known.
+    pub asked: Option<Request<'a>>,
+    /// Why what was asked for was refused, where it was a command over a file.
+    pub complaint: Option<Complaint>,
+}
+
+/// What the words ask for: with none, what `image u64` does.
+fn read_request<'a, S: AsStr>(alloc: Global, words: &'a [S]) -> Result<Request<'a>, WordsFault>
+    ensures no_words { words.now ≡ [] → result ≡ Ok (requests.Input Task.Image RecordType.U64) }
+{
+    if words.is_empty() {
+        return Ok(Request::Input(Task::Image, RecordType::U64));
+    }
+    read_words(alloc, words)
+}
+
+/// The outcome of a command over a file that was asked for, behind the line of its refusal.
+fn outcome_of<'a, W: Write>(
+    request: Request<'a>,
+    filed: Result<Status, Complaint>,
+    writer: &mut W,
+) -> Outcome<'a>
+    ensures asked { result.asked ≡ Some request.entry }
+    ensures ends { (old : Option (List ℕ)) → IsFiled old (W.contents writer.old) filed → IsFileRun old (W.contents writer.new) result.status }
+{
+    match filed {
+        Ok(status) => Outcome {
+            status,
+            asked: Some(request),
+            complaint: None,
+        },
+        Err(complaint) => Outcome {
+            status: refuse_for(writer, &complaint),
+            asked: Some(request),
+            complaint: Some(complaint),
+        },
+    }
+}
+
+/// Answers words that ask for nothing.
+fn answer_fault<'a, W: Write>(fault: WordsFault, writer: &mut W) -> Outcome<'a>
+    ensures asked { result.asked ≡ None }
+    ensures ends { IsIdleRun (W.contents writer.old) (W.contents writer.new) result.status }
+{
+    let status = match fault {
+        WordsFault::Memory => refuse(writer, Refusal::Memory),
+        WordsFault::Usage | WordsFault::Seats | WordsFault::Block => Status::Usage,
+    };
+    Outcome {
+        status,
+        asked: None,
+        complaint: None,
+    }
 }
 
 /// Does what the words behind the program's name ask for, and with no words what `image u64` does. Words that
@@ -172,49 +243,28 @@ pub fn run<
     F: Files<File = File> + AllocGlobal,
     P: Progress + Sync,
 >(system: &System<'_, F, P>, rt: &E, words: &'a [S], reader: &mut I, writer: &mut W) -> Outcome<'a>
-    ensures no_words { words.now ≡ [] → IfSome (I.remaining reader.old) (λ input.
-        IsRun Task.Image RecordType.U64 input (W.contents writer.old) (W.contents writer.new) result.status) }
+    ensures no_words { words.now ≡ [] → result.asked ≡ Some (requests.Input Task.Image RecordType.U64) }
     ensures ends { IfSome (I.remaining reader.old) (λ input.
-        IsSomeRun input (W.contents writer.old) (W.contents writer.new) result.status
-        ⊎ (IsFileRun (W.contents writer.old) (W.contents writer.new) result.status
-        ⊎ IsIdleRun (W.contents writer.old) (W.contents writer.new) result.status)) }
+        IsAskedRun result.asked input (W.contents writer.old) (W.contents writer.new) result.status) }
     ensures usage { result.status ≡ Status.Usage → Keeps (W.contents writer.old) (W.contents writer.new) }
 {
-    if words.is_empty() {
-        return Outcome {
-            status: run_task(
-                system.alloc,
-                rt,
-                Task::Image,
-                RecordType::U64,
-                reader,
-                writer,
-            ),
-            complaint: None,
-        };
-    }
-    match read_words(system.alloc, words) {
-        Ok(Request::Input(task, record_type)) => Outcome {
+    let request = match read_request(system.alloc, words) {
+        Ok(request) => request,
+        Err(fault) => return answer_fault(fault, writer),
+    };
+    match request {
+        Request::Input(task, record_type) => Outcome {
             status: run_task(system.alloc, rt, task, record_type, reader, writer),
+            asked: Some(request),
             complaint: None,
         },
-        Ok(Request::File(words)) => match run_file(system, rt, &words, reader, writer) {
-            Ok(status) => Outcome {
-                status,
-                complaint: None,
-            },
-            Err(fault) => Outcome {
-                status: refuse_for(writer, &fault),
-                complaint: Some((words, fault)),
-            },
-        },
-        Err(WordsFault::Memory) => Outcome {
-            status: refuse(writer, Refusal::Memory),
-            complaint: None,
-        },
-        Err(WordsFault::Usage | WordsFault::Seats) => Outcome {
-            status: Status::Usage,
-            complaint: None,
-        },
+        Request::File(words) => {
+            let filed = run_file(system, rt, &words, reader, writer);
+            outcome_of(request, filed, writer)
+        }
+        Request::Stat(words) => {
+            let filed = run_stat(system, &words, writer);
+            outcome_of(request, filed, writer)
+        }
     }
 }

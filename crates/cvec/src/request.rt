@@ -1,6 +1,8 @@
 //! What the program is asked for.
 
 use segment_core::Format;
+use stat_core::Form;
+use std::num::NonZeroU32;
 
 /// What is done with the input.
 #[derive(Clone, Copy, Debug, PartialEq, Eq)]
@@ -30,8 +32,8 @@ pub enum FileTask<'a> {
     Create(Format),
     /// Growths of the input are appended, by so many growers.
     Load(u16),
-    /// Growths of an input of any length are appended.
-    Append,
+    /// Growths of an input of any length are appended, each of so many lines.
+    Append(NonZeroU32),
     /// The file is read, and what it has is told.
     Check,
     /// Records are listed: from which position on, and how many at most.
@@ -59,6 +61,8 @@ pub enum FileTask<'a> {
     Fold,
     /// The vector is copied to a new file of version 2, which has this name.
     Upgrade(&'a str),
+    /// So many clients grow the vector through pipes.
+    Serve(u16),
 }
 
 /// A command over a file.
@@ -72,6 +76,17 @@ pub struct FileWords<'a> {
     pub quiet: bool,
 }
 
+/// A look at a file whose type of record needn't be known.
+#[derive(Clone, Copy, Debug)]
+pub struct StatWords<'a> {
+    /// The file's name.
+    pub file: &'a str,
+    /// How it is told.
+    pub form: Form,
+    /// Nothing is told of how far the work is.
+    pub quiet: bool,
+}
+
 /// What the words ask for.
 #[derive(Clone, Copy, Debug)]
 pub enum Request<'a> {
@@ -79,4 +94,6 @@ pub enum Request<'a> {
     Input(Task, RecordType),
     /// Work on a file.
     File(FileWords<'a>),
+    /// What a file has is told, whatever its records are.
+    Stat(StatWords<'a>),
 }

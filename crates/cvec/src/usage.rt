@@ -14,8 +14,10 @@ show TYPE                                 lists the records of a segment file, w
 play TYPE                                 runs a script of steps over a disk in memory
 create TYPE FILE [--format=1|2]           makes a file with an empty vector
 load TYPE FILE [--seats=N]                appends a growth for each line of the input
-append TYPE FILE                          the same for input of any length, durable as it goes
+append TYPE FILE [--block=N]              the same for input of any length, a growth for N lines
+serve TYPE FILE --seats=N                 lets N other programs grow it, through pipes
 check TYPE FILE                           reads the file, and tells what it has
+stat FILE [--json]                        tells what any file has, without reading its records
 list TYPE FILE [--from=I] [--count=N]     writes its records, one a line
 count TYPE FILE --record=R                counts the records that equal R
 find TYPE FILE --record=R                 writes the position of the first one

@@ -6,12 +6,14 @@ ghost use Rattle.clap.specs.declared.error.kind.ErrorKind.TheVariants as kinds;
 ghost use Rattle.cvec.specs.declared.words.WordsFault.TheVariants as faults;
 ghost use Rattle.cvec.specs.Request.{task_word, type_word};
 
-use crate::request::{FileTask, FileWords, RecordType, Request, Task};
+use crate::request::{FileTask, FileWords, RecordType, Request, StatWords, Task};
 use clap::error::ErrorKind;
 use clap::{Arg, ArgAction, ArgMatches, Command, Error};
 use segment_core::Format;
+use stat_core::Form;
 use std::alloc::{AllocError, Global};
 use std::convert::AsStr;
+use std::num::NonZeroU32;
 use text_core::TextRecord;
 
 /// The words for the types of record.
@@ -20,7 +22,7 @@ const TYPES: [&str; 5] = ["u32", "u64", "i64", "pair", "flagged"];
 /// The words for the versions of a file.
 const FORMATS: [&str; 2] = ["1", "2"];
 
-/// The most growers that `load` takes.
+/// The most growers that `load` takes, and the most clients of `serve`.
 const SEATS_LIMIT: u64 = 64;
 
 /// Why words ask for nothing.
@@ -30,6 +32,8 @@ pub enum WordsFault {
     Usage,
     /// The number of seats is none from 1 to 64.
     Seats,
+    /// The number of lines of a block is none from 1 to 4294967295.
+    Block,
     /// A growth of memory was refused.
     Memory,
 }
@@ -79,54 +83,79 @@ fn joined<'a>(alloc: Global, name: &'a str) -> Arg<'a> {
         .action(ArgAction::Set)
 }
 
+/// A word that is there or isn't.
+fn flag<'a>(alloc: Global, name: &'a str) -> Arg<'a> {
+    Arg::new(alloc, name).long(name).action(ArgAction::SetTrue)
+}
+
 /// A command over a file.
 fn over_file<'a>(alloc: Global, name: &'a str) -> Result<Command<'a>, AllocError> {
-    let quiet = Arg::new(alloc, "quiet")
-        .long("quiet")
-        .action(ArgAction::SetTrue);
-    typed(alloc, name)?.arg(word(alloc, "FILE"))?.arg(quiet)
+    typed(alloc, name)?
+        .arg(word(alloc, "FILE"))?
+        .arg(flag(alloc, "quiet"))
 }
 
-/// The commands over files that read.
-fn reading<'a>(alloc: Global, command: Command<'a>) -> Result<Command<'a>, AllocError> {
-    let list = over_file(alloc, "list")?
-        .arg(joined(alloc, "from"))?
-        .arg(joined(alloc, "count"))?;
-    let count = over_file(alloc, "count")?.arg(joined(alloc, "record").required(true))?;
-    let find = over_file(alloc, "find")?.arg(joined(alloc, "record").required(true))?;
-    command
-        .subcommand(over_file(alloc, "check")?)?
-        .subcommand(list)?
-        .subcommand(count)?
-        .subcommand(find)
+/// The commands, in the order in which usage tells them.
+const COMMANDS: [&str; 17] = [
+    "image", "show", "play", "create", "load", "append", "serve", "upgrade", "check", "list",
+    "count", "find", "stat", "set", "resize", "clear", "fold",
+];
+
+/// A command that reads, with the words that are its own.
+fn reading<'a>(alloc: Global, name: &'a str) -> Result<Command<'a>, AllocError> {
+    let command = over_file(alloc, name)?;
+    match name {
+        "list" => command
+            .arg(joined(alloc, "from"))?
+            .arg(joined(alloc, "count")),
+        "count" | "find" => command.arg(joined(alloc, "record").required(true)),
+        _ => Ok(command),
+    }
 }
 
-/// The commands over files that append.
-fn growing<'a>(alloc: Global, command: Command<'a>) -> Result<Command<'a>, AllocError> {
-    let format = joined(alloc, "format").value_parser(FORMATS.as_slice());
-    let create = over_file(alloc, "create")?.arg(format)?;
-    let load = over_file(alloc, "load")?.arg(joined(alloc, "seats"))?;
-    let upgrade = over_file(alloc, "upgrade")?.arg(word(alloc, "NEW"))?;
-    command
-        .subcommand(create)?
-        .subcommand(load)?
-        .subcommand(over_file(alloc, "append")?)?
-        .subcommand(upgrade)
+/// A command that appends, with the words that are its own.
+fn growing<'a>(alloc: Global, name: &'a str) -> Result<Command<'a>, AllocError> {
+    let command = over_file(alloc, name)?;
+    match name {
+        "create" => command.arg(joined(alloc, "format").value_parser(FORMATS.as_slice())),
+        "load" => command.arg(joined(alloc, "seats")),
+        "append" => command.arg(joined(alloc, "block")),
+        "serve" => command.arg(joined(alloc, "seats").required(true)),
+        _ => command.arg(word(alloc, "NEW")),
+    }
 }
 
-/// The commands over files that change what is there.
-fn changing<'a>(alloc: Global, command: Command<'a>) -> Result<Command<'a>, AllocError> {
-    let set = over_file(alloc, "set")?
-        .arg(word(alloc, "START"))?
-        .arg(joined(alloc, "records").required(true))?;
-    let resize = over_file(alloc, "resize")?
-        .arg(word(alloc, "N"))?
-        .arg(joined(alloc, "record").required(true))?;
-    command
-        .subcommand(set)?
-        .subcommand(resize)?
-        .subcommand(over_file(alloc, "clear")?)?
-        .subcommand(over_file(alloc, "fold")?)
+/// A command that changes what is there, with the words that are its own.
+fn changing<'a>(alloc: Global, name: &'a str) -> Result<Command<'a>, AllocError> {
+    let command = over_file(alloc, name)?;
+    match name {
+        "set" => command
+            .arg(word(alloc, "START"))?
+            .arg(joined(alloc, "records").required(true)),
+        "resize" => command
+            .arg(word(alloc, "N"))?
+            .arg(joined(alloc, "record").required(true)),
+        _ => Ok(command),
+    }
+}
+
+/// `stat`, which takes no word of a type.
+fn stat_command<'a>(alloc: Global) -> Result<Command<'a>, AllocError> {
+    Command::new(alloc, "stat")
+        .arg(word(alloc, "FILE"))?
+        .arg(flag(alloc, "json"))?
+        .arg(flag(alloc, "quiet"))
+}
+
+/// A command with its words.
+fn command_of<'a>(alloc: Global, name: &'a str) -> Result<Command<'a>, AllocError> {
+    match name {
+        "image" | "show" | "play" => typed(alloc, name),
+        "create" | "load" | "append" | "serve" | "upgrade" => growing(alloc, name),
+        "check" | "list" | "count" | "find" => reading(alloc, name),
+        "stat" => stat_command(alloc),
+        _ => changing(alloc, name),
+    }
 }
 
 /// The task over the input that a command's name stands for.
@@ -157,18 +186,20 @@ fn record_type_of(word: &str) -> Option<RecordType>
     }
 }
 
+/// All commands.
+fn commands<'a>(alloc: Global) -> Result<Command<'a>, AllocError> {
+    let mut all = Command::new(alloc, "cvec")
+        .no_binary_name(true)
+        .subcommand_required(true);
+    for name in COMMANDS {
+        all = all.subcommand(command_of(alloc, name)?)?;
+    }
+    Ok(all)
+}
+
 /// What `clap` makes of the words.
 fn matches_of<'a, S: AsStr>(alloc: Global, words: &'a [S]) -> Result<ArgMatches<'a>, Error> {
-    let command = Command::new(alloc, "cvec")
-        .no_binary_name(true)
-        .subcommand_required(true)
-        .subcommand(typed(alloc, "image")?)?
-        .subcommand(typed(alloc, "show")?)?
-        .subcommand(typed(alloc, "play")?)?;
-    let command = growing(alloc, command)?;
-    let command = reading(alloc, command)?;
-    let command = changing(alloc, command)?;
-    command.try_get_matches_from(words)
+    commands(alloc)?.try_get_matches_from(words)
 }
 
 /// How many growers a word asks for: a number from 1 to 64.
@@ -182,6 +213,15 @@ fn seats_of(word: Option<&str>) -> Result<u16, WordsFault>
         Some(seats) if 1 <= seats && seats <= SEATS_LIMIT => Ok(seats as u16),
         _ => Err(WordsFault::Seats),
     }
+}
+
+/// How many lines a word asks for: a number from 1 on.
+fn block_of(word: Option<&str>) -> Result<NonZeroU32, WordsFault> {
+    let Some(word) = word else {
+        return Ok(NonZeroU32::MIN);
+    };
+    let lines = u32::parse(word.as_bytes()).ok_or(WordsFault::Block)?;
+    NonZeroU32::new(lines).ok_or(WordsFault::Block)
 }
 
 /// The version of a file that a word asks for.
@@ -219,7 +259,8 @@ fn worded_task<'a>(name: &str, words: &ArgMatches<'a>) -> Option<FileTask<'a>> {
 fn file_task<'a>(name: &str, words: &ArgMatches<'a>) -> Result<FileTask<'a>, WordsFault> {
     match name {
         "load" => Ok(FileTask::Load(seats_of(words.get_str("seats"))?)),
-        "append" => Ok(FileTask::Append),
+        "append" => Ok(FileTask::Append(block_of(words.get_str("block"))?)),
+        "serve" => Ok(FileTask::Serve(seats_of(words.get_str("seats"))?)),
         "check" => Ok(FileTask::Check),
         "clear" => Ok(FileTask::Clear),
         "fold" => Ok(FileTask::Fold),
@@ -227,10 +268,26 @@ fn file_task<'a>(name: &str, words: &ArgMatches<'a>) -> Result<FileTask<'a>, Wor
     }
 }
 
+/// What the words of `stat` ask for.
+fn stat_words<'a>(words: &ArgMatches<'a>) -> Result<StatWords<'a>, WordsFault> {
+    Ok(StatWords {
+        file: words.get_str("FILE").ok_or(WordsFault::Usage)?,
+        form: if words.get_flag("json") {
+            Form::Json
+        } else {
+            Form::Lines
+        },
+        quiet: words.get_flag("quiet"),
+    })
+}
+
 /// What the words ask for.
 pub fn read_words<'a, S: AsStr>(alloc: Global, words: &'a [S]) -> Result<Request<'a>, WordsFault> {
     let matches = matches_of(alloc, words)?;
     let (name, of_command) = matches.subcommand().ok_or(WordsFault::Usage)?;
+    if name == "stat" {
+        return Ok(Request::Stat(stat_words(of_command)?));
+    }
     let word = of_command.get_str("TYPE").ok_or(WordsFault::Usage)?;
     let record_type = record_type_of(word).ok_or(WordsFault::Usage)?;
     if let Some(task) = task_of(name) {
@@ -263,11 +320,10 @@ pub fn fault_of_words<S: AsStr>(alloc: Global, words: &[S]) -> Result<Option<Str
     if let Err(error) = matches_of(alloc, words) {
         return sentence_of(alloc, &error);
     }
-    match read_words(alloc, words) {
-        Err(WordsFault::Seats) => {
-            let sentence = "error: the value of --seats is a number from 1 to 64";
-            Ok(Some(String::from_str(alloc, sentence)?))
-        }
-        _ => Ok(None),
-    }
+    let sentence = match read_words(alloc, words) {
+        Err(WordsFault::Seats) => "error: the value of --seats is a number from 1 to 64",
+        Err(WordsFault::Block) => "error: the value of --block is a number from 1 to 4294967295",
+        _ => return Ok(None),
+    };
+    Ok(Some(String::from_str(alloc, sentence)?))
 }

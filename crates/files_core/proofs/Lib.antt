@@ -7,3 +7,6 @@ pub mod Windows
 pub mod Folded
 pub mod Commas
 pub mod Standing
+pub mod Scans
+pub mod Fronts
+pub mod Blocks

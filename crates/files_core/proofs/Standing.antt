@@ -74,6 +74,10 @@ module _ {R D : Type 0} (form : Encoding R) (keeps : D → Type 0) (states : D �
   stands_with v mid left size goes is stops =
       (goes.more, is ∙ ap length goes.list, λ model image image_is. (let here = stops.stands model image image_is in (here.0, subst (λ (rs : List R). OpensTo form image (rs ++ here.0)) goes.list here.1)))
 
+  -- what was gone to is given back
+  pub stands_now : (v w : VaultOf R D) (left : D) (size : ℕ) → GoesOn form keeps states v w → size ≡ length (list_of w) → left ≡ w.pen.disk → StandsWith v left size
+  stands_now v w left size goes is same = stands_with v w left size goes is (stops_here w left goes.settled same)
+
   -- ---- of a file
 
   -- a vault that was opened is settled

@@ -1,5 +1,5 @@
 -- What words spell.
-use Rattle.std.specs.Prelude.{◌≡◌, ℕ, ◌<◌, List, length, map, codes}
+use Rattle.std.specs.Prelude.{◌≡◌, ℕ, ◌<◌, List, length, map, codes, Option, Some, None}
 use Rattle.std.specs.List.{AllByRecursion}
 use Rattle.text_core.specs.Text.{Spelling, joined_by}
 use Rattle.text_core.specs.Numbers.{number_spelling}
@@ -12,6 +12,16 @@ pub record IsRecord {R : Type 0} (spelling : Spelling R) (word : List ℕ) (r : 
 -- the word is this number of 64 bits
 abbrev pub IsNumber : List ℕ → ℕ → Type 0
 IsNumber word n = IsRecord (number_spelling 64) word n
+
+-- the word, where there is one, is this number; else it is that other one
+abbrev pub IsNumberOr : Option (List ℕ) → ℕ → ℕ → Type 0
+IsNumberOr None other n = n ≡ other
+IsNumberOr (Some word) other n = IsNumber word n
+
+-- there is a word, and it is no number
+abbrev pub IsNoNumber : Option (List ℕ) → Type 0
+IsNoNumber None = ⊥
+IsNoNumber (Some word) = (n : ℕ) → ¬ (IsNumber word n)
 
 -- the word has these records, one at least, with a comma between each two
 pub record AreRecords {R : Type 0} (spelling : Spelling R) (word : List ℕ) (records : List R) : Type 0 where

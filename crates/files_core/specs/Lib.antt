@@ -10,8 +10,12 @@ pub mod Changing
 pub mod Creating
 pub mod Listing
 pub mod Checking
+pub mod Watched
+pub mod SoundFront
 pub mod Folding
 pub mod Upgraded
 pub mod GrowthLines
+pub mod LineBlocks
+pub mod InputBlocks
 pub mod Loading
 pub mod Appending

@@ -1,6 +1,6 @@
 //! `append`: growths of an input of any length, committed as they are read.
 
-ghost use Rattle.std.specs.Prelude.{◌≡◌, ◌≤◌, ◌++◌, List, length, IfOk, IfErr, OnOk};
+ghost use Rattle.std.specs.Prelude.{◌≡◌, ◌++◌, List, length, IfOk, IfErr, OnOk};
 ghost use Rattle.std.specs.Io.KnownBytes.{Appends};
 ghost use Rattle.vault_core.specs.Vault.{list_of};
 ghost use Rattle.files_core.specs.Appending.{AllOpenBehind, GoesOn, IsNotOpening, IsSettled, Stands, StandsBehind, StopsAt};
@@ -10,19 +10,22 @@ ghost use Rattle.files_core.specs.Texts.{appended_line};
 use crate::crewing::{Deck, OpenGate};
 use crate::ended::Ended;
 use crate::fault::FileFault;
-use crate::growth_lines::growths_of_lines;
+use crate::gathering::whole_blocks;
+use crate::line_blocks::{Blocks, Front, read_front};
 use crate::loading::grow_by;
 use crate::progress::Progress;
 use disk_core::Disk;
+use segment_core::Growths;
 use std::alloc::Global;
 use std::io;
 use std::io::{Read, Write};
+use std::num::NonZeroU32;
 use std::sync::Wait;
 use std::thread::Threads;
 use text_core::{INPUT_LIMIT, Refusal, TextRecord, write_line, write_numbered};
 use vault_core::Vault;
 
-/// The bytes that are read at least before lines are committed, where there are so many.
+/// The bytes that are read at least before blocks are committed, where there are so many.
 const BATCH_LEN: usize = 1_048_576;
 
 /// The bytes that one read asks for at most.
@@ -31,16 +34,32 @@ const PIECE_LEN: usize = 65_536;
 /// What `append` has settled, however it ended.
 #[derive(Clone, Copy, Debug, PartialEq, Eq)]
 pub struct Appended {
-    /// The growths of so many lines stand in the file.
+    /// So many growths stand in the file.
     pub growths: u64,
+    /// They are those of so many lines, the first: the call may be made again with the lines behind them.
+    pub lines: u64,
     /// How many records the file's vector has then; 0 where the file wasn't opened.
     pub size: u64,
 }
 
-/// Reads into the buffer until it has enough for a batch and ends in or behind a line that it has whole. Answers whether
-/// the input has ended.
+impl Appended {
+    /// Growths of lines more, and so many records then.
+    fn and(self, growths: u64, lines: u64, size: u64) -> Appended
+        ensures { result.size ≡ size }
+    {
+        Appended {
+            growths: self.growths.saturating_add(growths),
+            lines: self.lines.saturating_add(lines),
+            size,
+        }
+    }
+}
+
+/// Reads into the buffer until it has a batch more and ends in or behind a line that it has whole. Answers whether the input
+/// has ended.
 fn fill<I: Read>(reader: &mut I, buffer: &mut Vec<u8>) -> Result<bool, Refusal> {
     let mut piece = [0u8; PIECE_LEN];
+    let mut fresh: usize = 0;
     for _ in 0..=INPUT_LIMIT {
         let Ok(n) = reader.read(&mut piece) else {
             return Err(Refusal::Input);
@@ -48,10 +67,11 @@ fn fill<I: Read>(reader: &mut I, buffer: &mut Vec<u8>) -> Result<bool, Refusal> 
         if n == 0 {
             return Ok(true);
         }
-        buffer
-            .extend_from_slice(&piece[..n])
-            .map_err(|_| Refusal::Memory)?;
-        if buffer.len() >= BATCH_LEN && piece[..n].contains(&b'\n') {
+        if buffer.extend_from_slice(&piece[..n]).is_err() {
+            return Err(Refusal::Memory);
+        }
+        fresh = fresh.saturating_add(n);
+        if fresh >= BATCH_LEN && piece[..n].contains(&b'\n') {
             return Ok(false);
         }
         if buffer.len() > INPUT_LIMIT {
@@ -59,16 +79,6 @@ fn fill<I: Read>(reader: &mut I, buffer: &mut Vec<u8>) -> Result<bool, Refusal> 
         }
     }
     Err(Refusal::InputTooLong)
-}
-
-/// How many bytes the lines have that are whole.
-fn whole_lines(buffer: &[u8]) -> usize
-    ensures { result ≤ length buffer.now }
-{
-    match buffer.iter().rposition(|b| *b == b'\n') {
-        Some(at) => at + 1,
-        None => 0,
-    }
 }
 
 /// A refusal of lines behind so many others.
@@ -88,35 +98,33 @@ fn write_appended<W: Write>(writer: &mut W, appended: Appended) -> io::Result<()
     write_line(b"", writer)
 }
 
-/// Appends a growth for each of the lines, which stand behind so many others, all of them settled. Gives the vault back, and
-/// how many growths they were.
-fn append_lines<R: TextRecord, S: Deck<R> + Drop, D: Disk + Send + Drop, E: Threads + Wait + Sync>(
+/// Appends growths to a settled vault. Gives it back with them settled.
+fn append_growths<
+    R: TextRecord,
+    S: Deck<R> + Drop,
+    D: Disk + Send + Drop,
+    E: Threads + Wait + Sync,
+>(
     rt: &E,
     alloc: Global,
     vault: Vault<R, D>,
-    lines: &[u8],
-    before: u64,
-) -> Result<(Vault<R, D>, u64), (D, FileFault)>
+    growths: Growths<R>,
+) -> Result<Vault<R, D>, (D, FileFault)>
     requires { IsSettled R.form D.keeps D.states vault }
-    ensures on { IfOk result (λ r. GoesOn R.form D.keeps D.states vault r.0) }
+    ensures on { IfOk result (λ new. GoesOn R.form D.keeps D.states vault new) }
     ensures stops { IfErr result (λ r. StopsAt R.form D.keeps D.states vault r.0) }
     ensures opened { IfErr result (λ r. IsNotOpening r.1) }
 {
-    let growths = match growths_of_lines::<R>(alloc, lines) {
-        Ok(growths) => growths,
-        Err(refusal) => {
-            let fault = FileFault::Input(behind(before, refusal));
-            return Err((vault.into_disk(), fault));
-        }
-    };
-    let count = growths.count() as u64;
+    if growths.count() == 0 {
+        return Ok(vault);
+    }
     match grow_by::<R, S, D, OpenGate, E>(rt, alloc, vault, growths, 1, &OpenGate) {
-        Ok(vault) => Ok((vault, count)),
+        Ok(vault) => Ok(vault),
         Err(stopped) => Err(stopped),
     }
 }
 
-/// Appends a growth for each line of an input of any length to a vault, some lines after the other.
+/// Appends the growths of the lines of an input of any length to a vault, some blocks of lines after the other.
 fn append_all<
     R: TextRecord,
     S: Deck<R> + Drop,
@@ -129,6 +137,7 @@ fn append_all<
     alloc: Global,
     vault: Vault<R, D>,
     reader: &mut I,
+    block: NonZeroU32,
     progress: &P,
 ) -> (D, Appended, Result<(), FileFault>)
     requires { IsSettled R.form D.keeps D.states vault }
@@ -137,49 +146,54 @@ fn append_all<
     ensures opened { IfErr result.2 IsNotOpening }
 {
     let mut vault = vault;
-    let mut growths: u64 = 0;
+    let mut appended = Appended {
+        growths: 0,
+        lines: 0,
+        size: vault.len(),
+    };
     let mut buffer = Vec::new(alloc);
     for _ in 0..u64::MAX {
-        let size = vault.len();
-        let appended = Appended { growths, size };
         let ended = match fill(reader, &mut buffer) {
             Ok(ended) => ended,
             Err(refusal) => return (vault.into_disk(), appended, Err(FileFault::Input(refusal))),
         };
-        let lines = if ended {
+        let len = if ended {
             buffer.len()
         } else {
-            whole_lines(&buffer)
+            whole_blocks(&buffer, block, u64::MAX)
         };
-        let (grown, count) = match append_lines::<R, S, D, E>(
-            rt,
-            alloc,
-            vault,
-            &buffer[..lines],
-            growths,
-        ) {
+        let Front { blocks, refusal } = read_front::<R>(alloc, &buffer[..len], block);
+        let Blocks { growths, lines } = blocks;
+        let count = growths.count() as u64;
+        vault = match append_growths::<R, S, D, E>(rt, alloc, vault, growths) {
             Ok(grown) => grown,
             Err((disk, fault)) => return (disk, appended, Err(fault)),
         };
-        vault = grown;
-        growths = growths.saturating_add(count);
-        progress.at(growths, 0);
-        if ended {
-            break;
+        let before = appended.lines;
+        appended = appended.and(count, lines, vault.len());
+        progress.at(appended.growths, 0);
+        if let Some(refusal) = refusal {
+            let fault = FileFault::Input(behind(before, refusal));
+            return (vault.into_disk(), appended, Err(fault));
         }
-        buffer.drain(..lines);
+        if ended {
+            return (vault.into_disk(), appended, Ok(()));
+        }
+        buffer.drain(..len);
     }
-    let size = vault.len();
-    (vault.into_disk(), Appended { growths, size }, Ok(()))
+    let fault = FileFault::Input(Refusal::InputTooLong);
+    (vault.into_disk(), appended, Err(fault))
 }
 
-/// Appends a growth for each line of an input of any length. It reads some lines, makes their growths durable, and goes on:
-/// so `Appended` tells what stands, also where a later line is refused, and the call may be made again with the lines behind
-/// those. Progress is told of growths that stand. Writes `appended G growths, size S` at the end. `S` is
-/// `Dealt` of the record.
+/// Appends the records of an input of any length: those of so many lines, a block, are one growth, and those of the lines
+/// behind the last whole block are one more. It reads some blocks, makes their growths durable, and goes on; a growth is
+/// there whole or not at all. So `Appended` tells what stands, also where a later line is refused: the blocks before that
+/// line's stand, and the call may be made again with the lines behind them. Progress is told of growths that stand. Writes
+/// `appended G growths, size S` at the end. `S` is `Dealt` of the record.
 ///
-/// Refused: `Open`; then, at the lines that it has come to, `Input` (`Line` and `TooLargeAtLine` with the line's number in
-/// the whole input; `InputTooLong` for a line of more than `INPUT_LIMIT` bytes), and `Vault` and `Grower` as `load`.
+/// Refused: `Open`; then, at the lines that it has come to, `Input` (`Line` with the line's number in the whole input;
+/// `TooLargeAtLine` with that of the first line of a block whose growth is past the longest payload; `InputTooLong` for a
+/// block of more than `INPUT_LIMIT` bytes), and `Vault` and `Grower` as `load`.
 pub fn append<
     R: TextRecord,
     S: Deck<R> + Drop,
@@ -193,6 +207,7 @@ pub fn append<
     alloc: Global,
     disk: D,
     reader: &mut I,
+    block: NonZeroU32,
     progress: &P,
     writer: &mut W,
 ) -> (D, Appended, Ended)
@@ -205,6 +220,7 @@ pub fn append<
         Err((disk, fault)) => {
             let none = Appended {
                 growths: 0,
+                lines: 0,
                 size: 0,
             };
             return (disk, none, Ended::Refused(FileFault::Open(fault)));
@@ -212,7 +228,9 @@ pub fn append<
     };
     // Whatever a crash leaves now opens to the list.
     let _disk = vault.disk();
-    let (disk, appended, done) = append_all::<R, S, D, I, P, E>(rt, alloc, vault, reader, progress);
+    let (disk, appended, done) = append_all::<R, S, D, I, P, E>(
+        rt, alloc, vault, reader, block, progress,
+    );
     match done {
         Ok(()) => {
             let written = write_appended(writer, appended);

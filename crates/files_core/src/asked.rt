@@ -1,7 +1,8 @@
 //! What the words of a command ask for.
 
-ghost use Rattle.std.specs.Prelude.{◌≡◌, ◌<◌, ℕ, vec_len, MatchResult, IfOk};
-ghost use Rattle.files_core.specs.Asked.{IsNumber, IsRecord, AreRecords};
+ghost use Rattle.std.specs.Prelude.{◌≡◌, ◌<◌, ◌-◌, ◌^◌, ◌⊎◌, ℕ, vec_len, MatchResult, IfOk, IfErr};
+ghost use Rattle.std.specs.Option.{option_copied};
+ghost use Rattle.files_core.specs.Asked.{IsNumber, IsNumberOr, IsNoNumber, IsRecord, AreRecords};
 
 use crate::fault::{FileFault, Word};
 use std::alloc::Global;
@@ -94,16 +95,29 @@ pub fn read_resizing<R: TextRecord>(len: &[u8], text: &[u8]) -> Result<Resizing<
     Ok(Resizing { len, filler })
 }
 
+/// The number that a word is, or another where there is no word.
+fn number_or(text: Option<&[u8]>, other: u64, word: Word) -> Result<u64, FileFault>
+    ensures { MatchResult result (IsNumberOr (option_copied text.entry) other) (λ fault. (fault ≡ FileFault.Word word) × IsNoNumber (option_copied text.entry)) }
+{
+    match text {
+        Some(text) => number_of(text, word),
+        None => Ok(other),
+    }
+}
+
 /// What the words FROM and COUNT of `list` ask for: all positions, where they aren't there. Refused, in this order:
 /// `Word(From)`, `Word(Count)`.
-pub fn read_window(from: Option<&[u8]>, count: Option<&[u8]>) -> Result<Window, FileFault> {
-    let from = match from {
-        Some(text) => number_of(text, Word::From)?,
-        None => Window::ALL.from,
+pub fn read_window(from: Option<&[u8]>, count: Option<&[u8]>) -> Result<Window, FileFault>
+    ensures read { IfOk result (λ window. IsNumberOr (option_copied from.entry) 0 window.from × IsNumberOr (option_copied count.entry) (2 ^ 64 - 1) window.count) }
+    ensures refused { IfErr result (λ fault. ((fault ≡ FileFault.Word Word.From) × IsNoNumber (option_copied from.entry))
+        ⊎ ((fault ≡ FileFault.Word Word.Count) × ((n : ℕ) × IsNumberOr (option_copied from.entry) 0 n) × IsNoNumber (option_copied count.entry))) }
+{
+    let from = match number_or(from, Window::ALL.from, Word::From) {
+        Ok(from) => from,
+        Err(fault) => return Err(fault),
     };
-    let count = match count {
-        Some(text) => number_of(text, Word::Count)?,
-        None => Window::ALL.count,
-    };
-    Ok(Window { from, count })
+    match number_or(count, Window::ALL.count, Word::Count) {
+        Ok(count) => Ok(Window { from, count }),
+        Err(fault) => Err(fault),
+    }
 }

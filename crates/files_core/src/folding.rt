@@ -9,10 +9,10 @@ ghost use Rattle.vault_core.specs.Vault.{MayHold, list_of};
 ghost use Rattle.files_core.specs.Folding.{IsFolded, IsFoldRefusal, IsFoldingFault, Stays};
 ghost use Rattle.files_core.specs.Texts.{folded_line};
 
-use crate::checking::{live_changes, scan_disk};
+use crate::checking::live_changes;
 use crate::ended::Ended;
 use crate::fault::FileFault;
-use crate::progress::Progress;
+use crate::scanning::scan_disk;
 use disk_core::Disk;
 use record_core::Record;
 use std::alloc::Global;
@@ -45,18 +45,13 @@ fn write_folded<W: Write>(writer: &mut W, live: u64) -> io::Result<()>
 /// Folds all changes that are live in the file, and writes `folded` and how many they were. The file is read twice: its
 /// changes are counted, and it is opened. Refused: `Open`; then `Vault`,
 /// as `Vault::begin_fold` and `Vault::settle`.
-pub fn fold<R: Record, D: Disk, W: Write, P: Progress>(
-    alloc: Global,
-    disk: D,
-    progress: &P,
-    writer: &mut W,
-) -> (D, Ended)
+pub fn fold<R: Record, D: Disk, W: Write>(alloc: Global, disk: D, writer: &mut W) -> (D, Ended)
     ensures stays { D.keeps result.0 → EndsAs (Stays R.form D.states disk result.0) (IsFoldRefusal R.form D.states disk result.0) result.1 }
     ensures model { D.keeps result.0 → D.keeps disk }
     ensures writes { Writes (W.contents writer.old) (W.contents writer.new) (λ text. D.keeps result.0 → IsFolded R.form (bytes_of (D.states disk)) text) result.1 }
 {
     let mut disk = disk;
-    let live = match scan_disk::<R, D, P>(alloc, &mut disk, progress) {
+    let live = match scan_disk::<R, D>(alloc, &mut disk) {
         Ok(scanned) => live_changes(&scanned),
         Err(fault) => return (disk, Ended::Refused(FileFault::Open(fault))),
     };

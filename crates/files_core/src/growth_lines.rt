@@ -57,7 +57,7 @@ fn greatest_growth<R: TextRecord>() -> usize
 }
 
 /// Whether each growth fits one frame. Refused: `TooLargeAtLine`, with the number, from 1, of the first that doesn't.
-fn check_sizes<R: TextRecord>(growths: &Growths<R>) -> Result<(), Refusal>
+pub(crate) fn check_sizes<R: TextRecord>(growths: &Growths<R>) -> Result<(), Refusal>
     ensures { MatchResult result (λ _. AllFit R.form.width growths.now.0) (λ refusal. (k : ℕ) × IsFirstTooLarge R.form.width growths.now.0 k × (refusal ≡ Refusal.TooLargeAtLine (k + 1))) }
 {
     let greatest = greatest_growth::<R>();
@@ -70,7 +70,7 @@ fn check_sizes<R: TextRecord>(growths: &Growths<R>) -> Result<(), Refusal>
 }
 
 /// The growths that the lines spell, one each, whatever their sizes.
-fn read_lines<R: TextRecord>(alloc: Global, input: &[u8]) -> Result<Growths<R>, Refusal>
+pub(crate) fn read_lines<R: TextRecord>(alloc: Global, input: &[u8]) -> Result<Growths<R>, Refusal>
     ensures read { IfOk result (λ growths. AreGrowthLines R.spelling input.now growths.0) }
     ensures refused { IfErr result (IsLinesRefusal R.form.width R.spelling input.now) }
 {

@@ -3,7 +3,7 @@
 /// Is told how far work is. Contracts say nothing of it. `load` tells a `Gate` in its place.
 pub trait Progress {
     /// So much is done, of so much in all; 0 of `of` where that isn't known. It is called at most once for each piece of the
-    /// work: bytes of `check` and `fold`, growths of `append`, records of `list`.
+    /// work: growths of `append`, records of `list`, and bytes of a disk that is `Watched`.
     fn at(&self, done: u64, of: u64);
 }
 

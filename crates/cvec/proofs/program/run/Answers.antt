@@ -1,8 +1,18 @@
-use Rattle.std.proofs.Common.{inl}
-use Rattle.cvec.specs.declared.request.Task.TheVariants as tasks
-use Rattle.cvec.specs.declared.request.RecordType.TheVariants as types
-use Rattle.text_core.proofs.Small.{IfSome_weaker}
+use Rattle.cvec.proofs.Asked.{asked_run_of_file, asked_run_of_stat, no_usage_of_file}
 use Rattle.cvec.proofs.program.run.Goals as goal
 
-pub returns-then-is_empty-clause-ends : goal.returns-then-is_empty-clause-ends
-returns-then-is_empty-clause-ends g c = IfSome_weaker (g.I.Read.remaining c.args.reader.now) _ _ (λ input so. inl (tasks.Image, types.U64, so)) c.run_task.ensures.ends
+pub returns-in-File-clause-ends : goal.returns-in-File-clause-ends
+returns-in-File-clause-ends g c = asked_run_of_file (g.I.Read.remaining c.args.reader.now) _ c.in-File.words _ _ _ c.outcome_of.ensures.asked
+    (c.outcome_of.ensures.ends (g.W.Write.contents c.args.writer.now) c.run_file-filed.ensures)
+
+pub returns-in-File-clause-usage : goal.returns-in-File-clause-usage
+returns-in-File-clause-usage g c = no_usage_of_file (g.W.Write.contents c.args.writer.now) _ _ _ c.outcome_of.result.status
+    (c.outcome_of.ensures.ends (g.W.Write.contents c.args.writer.now) c.run_file-filed.ensures)
+
+pub returns-in-Stat-clause-ends : goal.returns-in-Stat-clause-ends
+returns-in-Stat-clause-ends g c = asked_run_of_stat (g.I.Read.remaining c.args.reader.now) _ c.in-Stat.words _ _ _ c.outcome_of-in-Stat.ensures.asked
+    (c.outcome_of-in-Stat.ensures.ends (g.W.Write.contents c.args.writer.now) c.run_stat-filed.ensures)
+
+pub returns-in-Stat-clause-usage : goal.returns-in-Stat-clause-usage
+returns-in-Stat-clause-usage g c = no_usage_of_file (g.W.Write.contents c.args.writer.now) _ _ _ c.outcome_of-in-Stat.result.status
+    (c.outcome_of-in-Stat.ensures.ends (g.W.Write.contents c.args.writer.now) c.run_stat-filed.ensures)

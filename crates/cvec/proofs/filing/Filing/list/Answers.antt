@@ -2,4 +2,4 @@ use Rattle.cvec.proofs.Filings.{some_written}
 use Rattle.cvec.proofs.filing.Filing.list.Goals as goal
 
 pub returns : goal.returns
-returns g c = c.status_of.ensures (g.W.Write.contents c.args.writer.now) (g.W.Write.contents c.list-disk.new.writer) (some_written (g.W.Write.contents c.args.writer.now) (g.W.Write.contents c.list-disk.new.writer) _ c.list-disk.result.1 c.list-disk.ensures.writes)
+returns g c = c.status_on.ensures (g.W.Write.contents c.args.writer.now) (g.W.Write.contents c.list-disk.new.writer) (some_written (g.W.Write.contents c.args.writer.now) (g.W.Write.contents c.list-disk.new.writer) _ c.list-disk.result.1 c.list-disk.ensures.writes)

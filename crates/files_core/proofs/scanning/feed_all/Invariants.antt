@@ -3,7 +3,7 @@ use Rattle.disk_core.specs.State.{now, IsImage}
 use Rattle.disk_core.specs.Calls.{bytes_of}
 use Rattle.disk_core.specs.Moments.{LeavesOnly}
 use Rattle.pen_core.specs.Opening.{HasTaken}
-use Rattle.files_core.proofs.checking.feed_all.Given as goal
+use Rattle.files_core.proofs.scanning.feed_all.Given as goal
 
 abbrev pub invariant-loop-at : goal.invariant-loop-at
 invariant-loop-at g l = record {

@@ -1,0 +1,60 @@
+//! Lines that are gathered: so many of them are a block.
+
+ghost use Rattle.std.specs.Prelude.{◌≡◌, ◌<◌, ◌≤◌, ◌++◌, length, OnOk, IfOk};
+ghost use Rattle.files_core.specs.LineBlocks.{AreLineBlocks};
+
+use segment_core::Growths;
+use std::alloc::{AllocError, Global};
+use std::num::NonZeroU32;
+
+/// Appends records to the growth that has not ended.
+fn extend<R: Copy>(growths: &mut Growths<R>, records: &[R]) -> Result<(), AllocError>
+    ensures { OnOk result (growths.new ≡ (growths.old.0, growths.old.1 ++ records.now)) }
+{
+    for k in 0..records.len() {
+        growths.push(records[k])?;
+    }
+    Ok(())
+}
+
+/// Gathers so many growths into one each; those behind them, which are fewer, into a last one.
+pub(crate) fn gather<R: Copy>(
+    alloc: Global,
+    lines: &Growths<R>,
+    block: u32,
+) -> Result<Growths<R>, AllocError>
+    requires { 0 < block }
+    ensures { IfOk result (λ growths. AreLineBlocks block lines.now.0 growths.0) }
+{
+    let mut growths = Growths::new(alloc);
+    let mut held: u32 = 0;
+    for k in 0..lines.count() {
+        extend(&mut growths, lines.growth(k))?;
+        held += 1;
+        if held == block {
+            growths.end()?;
+            held = 0;
+        }
+    }
+    if held > 0 {
+        growths.end()?;
+    }
+    Ok(growths)
+}
+
+/// How many bytes the whole blocks have, each of so many lines, that stand within the first lines, so many at most.
+pub(crate) fn whole_blocks(buffer: &[u8], block: NonZeroU32, most: u64) -> usize
+    ensures { result ≤ length buffer.now }
+{
+    let mut lines: u64 = 0;
+    let mut whole = 0;
+    for k in 0..buffer.len() {
+        if buffer[k] == b'\n' && lines < most {
+            lines += 1;
+            if lines % block.get() as u64 == 0 {
+                whole = k + 1;
+            }
+        }
+    }
+    whole
+}
