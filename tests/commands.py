@@ -45,7 +45,12 @@ class Model:
         return words, text, f"loaded {count} growths, size {len(self.records)}\n", 0
 
     def append(self, pick):
-        return self.grow("append", "appended", pick)
+        words, text, told, status = self.grow("append", "appended", pick)
+        if pick.random() < 0.5:
+            block, lines = pick.randint(1, 5), text.count("\n")
+            words.append(f"--block={block}")
+            told = f"appended {-(-lines // block)} growths, size {len(self.records)}\n"
+        return words, text, told, status
 
     def set(self, pick):
         count = pick.randint(1, 3)

@@ -1,0 +1,114 @@
+#!/usr/bin/env python3
+"""Four client processes append records in blocks, while the server is killed and started again ten times: each block that
+a client was told is settled stands in the file, whole and once, at the position that its growth was told.
+
+serve.py PROGRAM FOLDER [RECORDS]
+"""
+import os
+import random
+import signal
+import sys
+import time
+
+sys.path.insert(0, os.path.join(os.path.dirname(os.path.abspath(__file__)), "..", "examples", "python"))
+import cvec_client
+
+PROGRAM, FOLDER = sys.argv[1], sys.argv[2]
+RECORDS = int(sys.argv[3]) if len(sys.argv) > 3 else 1_000_000
+BLOCK, CLIENTS, KILLS = 1_000, 4, 10
+EACH = RECORDS // BLOCK // CLIENTS
+PATH = os.path.join(FOLDER, "served.cv")
+
+
+def block_of(client, number):
+    """No two blocks of this test are alike, and each tells whose it is."""
+    first = (client * EACH + number) * BLOCK
+    return list(range(first, first + BLOCK))
+
+
+def append(seat, client, number, told):
+    """Appends from this block on until all are settled, or the server is gone. Writes each that is told as settled, with
+    its position."""
+    try:
+        while number < EACH:
+            group = range(number, min(number + random.randint(1, 4), EACH))
+            starts = [seat.grow(block_of(client, n))[1] for n in group]
+            seat.settle()
+            for n, start in zip(group, starts):
+                os.write(told, f"{n} {start}\n".encode())
+            number = group[-1] + 1
+        seat.end()
+    except cvec_client.Gone:
+        pass
+
+
+def start_client(server, client, number):
+    """The client's process, and where it tells what is settled."""
+    taken, told = os.pipe()
+    pid = os.fork()
+    if pid == 0:
+        os.close(taken)
+        for other, seat in enumerate(server.seats):
+            if other != client:
+                seat.close()
+        append(server.seats[client], client, number, told)
+        os._exit(0)
+    os.close(told)
+    server.seats[client].close()
+    return pid, taken
+
+
+def told_by(taken):
+    """What a client told, once it has ended."""
+    with os.fdopen(taken) as lines:
+        return [tuple(map(int, line.split())) for line in lines]
+
+
+def one_server(settled, kill_after):
+    """Serves all clients until they have ended, or for so many seconds. Answers whether the server was killed."""
+    server = cvec_client.Server(PROGRAM, "u64", PATH, seats=CLIENTS)
+    clients = [start_client(server, client, len(settled[client])) for client in range(CLIENTS)]
+    if kill_after is not None:
+        time.sleep(kill_after)
+        server.process.send_signal(signal.SIGKILL)
+    status = server.wait()
+    for client, (pid, taken) in enumerate(clients):
+        for number, start in told_by(taken):
+            assert number == len(settled[client]), "a block was told out of turn"
+            settled[client].append(start)
+        assert os.waitstatus_to_exitcode(os.waitpid(pid, 0)[1]) == 0, "a client failed"
+    assert status in ((0,) if kill_after is None else (0, -signal.SIGKILL)), f"the server ended with {status}"
+    return status != 0
+
+
+def check(settled):
+    """The file has each settled block at its place, and only whole blocks."""
+    with cvec_client.Server(PROGRAM, "u64", PATH, seats=1) as server:
+        records = list(server.seats[0].read())
+    assert len(records) % BLOCK == 0, "a block isn't whole"
+    for at in range(0, len(records), BLOCK):
+        first = int(records[at])
+        assert first % BLOCK == 0 and records[at:at + BLOCK] == list(range(first, first + BLOCK)), "no block stands there"
+    for client, starts in enumerate(settled):
+        for number, start in enumerate(starts):
+            assert int(records[start]) == (client * EACH + number) * BLOCK, "a settled block isn't where it was told"
+    return len(records)
+
+
+def main():
+    random.seed(7)
+    if os.system(f"'{PROGRAM}' create u64 '{PATH}' >/dev/null") != 0:
+        sys.exit("no file was made")
+    settled = [[] for _ in range(CLIENTS)]
+    kills = 0
+    for _ in range(KILLS):
+        kills += one_server(settled, random.uniform(0.05, 0.4))
+        check(settled)
+    one_server(settled, None)
+    size = check(settled)
+    assert all(len(starts) == EACH for starts in settled), "a client has blocks left"
+    os.remove(PATH)
+    print(f"{CLIENTS} clients, {kills} kills, {CLIENTS * EACH} blocks settled, {size // BLOCK} blocks stand")
+
+
+main()
