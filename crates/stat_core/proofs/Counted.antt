@@ -63,3 +63,10 @@ grown_bytes shape s (Group growths records) = refl
 grown_bytes shape s (Change runs records) = refl
 grown_bytes shape s (Shrink n) = refl
 grown_bytes shape s (Fold count) = refl
+
+-- one frame more is counted
+pub grown_frames : (shape : Shape) (s : Summary) (outline : Outline) → (grown shape s outline).groups + (grown shape s outline).changes + (grown shape s outline).shrinks + (grown shape s outline).folds ≡ s.groups + s.changes + s.shrinks + s.folds + 1
+grown_frames shape s (Group growths records) = omega arith
+grown_frames shape s (Change runs records) = omega arith
+grown_frames shape s (Shrink n) = omega arith
+grown_frames shape s (Fold count) = omega arith

@@ -5,4 +5,5 @@ pub mod Next
 pub mod Walked
 pub mod Window
 pub mod Text
+pub mod Calls
 pub mod Ended

@@ -1,8 +1,10 @@
 //! The walk over the frames of a file.
 
-ghost use Rattle.std.specs.Prelude.{◌≡◌, ◌≤◌, ◌<◌, ◌-◌, ◌^◌, ℕ, List, length, drop, MatchOption, MatchResult, IfOk};
+ghost use Rattle.std.specs.Prelude.{◌≡◌, ◌≤◌, ◌<◌, ◌+◌, ◌-◌, ◌^◌, ℕ, List, length, drop, MatchOption, MatchResult, IfOk, IfErr};
 ghost use Rattle.disk_core.specs.Calls.{bytes_of, Stays};
+ghost use Rattle.disk_core.specs.Moments.{clock};
 ghost use Rattle.segment_core.specs.Fault.{IsSound};
+ghost use Rattle.stat_core.specs.Calls.{failed_in, AreCalls};
 ghost use Rattle.stat_core.specs.Next.{IsNextOutline, IsSized};
 ghost use Rattle.stat_core.specs.Summary.{tally_in, AreFew};
 ghost use Rattle.stat_core.specs.Walked.{IsSummaryOf, IsRefusal, TellsFrames};
@@ -46,6 +48,10 @@ fn walk<D: Disk>(disk: &mut D, shape: Shape, bytes: u64) -> Result<Summary, Stat
     ensures few { IfOk result AreFew }
     ensures is { D.keeps disk.new → MatchResult result (IsSummaryOf (bytes_of (D.states disk.old))) (IsRefusal (bytes_of (D.states disk.old))) }
     ensures only_reads { D.keeps disk.new → OnlyReads (D.states disk.old) (D.states disk.new) }
+    ensures calls { (before : ℕ) → before + 2 ≡ clock (D.states disk.old) → AreCalls before (clock (D.states disk.new)) result }
+    ensures faults { MatchResult result
+        (λ _. D.faults disk.new ≡ D.faults disk.old)
+        (λ fault. D.faults disk.new ≡ D.faults disk.old + failed_in fault) }
     ensures model { D.keeps disk.new → D.keeps disk.old }
 {
     let mut buffer = [0; WINDOW_LEN];
@@ -77,6 +83,11 @@ fn read_header<D: Disk>(disk: &mut D, bytes: u64) -> Result<Shape, StatFault>
     ensures wide { IfOk result (λ shape. (0 < shape.width) × (shape.width < 2 ^ 16) × (11 ≤ bytes)) }
     ensures is { D.keeps disk.new → MatchResult result (λ shape. IsSound shape.width shape.format (bytes_of (D.states disk.old))) (IsRefusal (bytes_of (D.states disk.old))) }
     ensures same { D.keeps disk.old → Stays (D.states disk.old) (D.states disk.new) }
+    ensures time { clock (D.states disk.new) ≡ clock (D.states disk.old) + 1 }
+    ensures calls { (before : ℕ) → before + 1 ≡ clock (D.states disk.old) → IfErr result (λ fault. AreCalls before (clock (D.states disk.new)) (Err fault)) }
+    ensures faults { MatchResult result
+        (λ _. D.faults disk.new ≡ D.faults disk.old)
+        (λ fault. D.faults disk.new ≡ D.faults disk.old + failed_in fault) }
     ensures model { D.keeps disk.new → D.keeps disk.old }
 {
     let mut header = [0; HEADER_LEN as usize];
@@ -95,14 +106,20 @@ fn read_frames<D: Disk>(disk: &mut D) -> Result<Summary, StatFault>
     ensures few { IfOk result AreFew }
     ensures is { D.keeps disk.new → MatchResult result (IsSummaryOf (bytes_of (D.states disk.old))) (IsRefusal (bytes_of (D.states disk.old))) }
     ensures only_reads { D.keeps disk.new → OnlyReads (D.states disk.old) (D.states disk.new) }
+    ensures calls { AreCalls (clock (D.states disk.old)) (clock (D.states disk.new)) result }
+    ensures faults { MatchResult result
+        (λ _. D.faults disk.new ≡ D.faults disk.old)
+        (λ fault. D.faults disk.new ≡ D.faults disk.old + failed_in fault) }
     ensures model { D.keeps disk.new → D.keeps disk.old }
 {
     let bytes = match disk.len() {
         Ok(bytes) => bytes,
         Err(fault) => return Err(StatFault::Disk(fault)),
     };
-    let shape = read_header(disk, bytes)?;
-    walk(disk, shape, bytes)
+    match read_header(disk, bytes) {
+        Ok(shape) => walk(disk, shape, bytes),
+        Err(fault) => Err(fault),
+    }
 }
 
 /// Counts the frames of the file on the disk. It only reads: the length, the header, and of each frame the first
@@ -115,12 +132,17 @@ fn read_frames<D: Disk>(disk: &mut D) -> Result<Summary, StatFault>
 /// that fill the payload; runs in another order or outside the vector (`Runs`, and `Range` of a change); more records
 /// than a vector may have (`TooLong`); and a record that is none (`BadRecord`).
 ///
-/// Refused: `Disk`, where a call failed; `Header`; `Frame`, with the frames before it.
+/// Refused: `Disk`, where a call failed; `Header`; `Frame`, with the frames before it. It makes three calls of the disk, and
+/// at most one more for each frame.
 pub fn summarize<D: Disk>(disk: &mut D) -> Result<Summary, StatFault>
     ensures few { IfOk result AreFew }
     ensures is { D.keeps disk.new → MatchResult result (IsSummaryOf (bytes_of (D.states disk.old))) (IsRefusal (bytes_of (D.states disk.old))) }
     ensures frames { D.keeps disk.new → TellsFrames (bytes_of (D.states disk.old)) result }
     ensures only_reads { D.keeps disk.new → OnlyReads (D.states disk.old) (D.states disk.new) }
+    ensures calls { AreCalls (clock (D.states disk.old)) (clock (D.states disk.new)) result }
+    ensures faults { MatchResult result
+        (λ _. D.faults disk.new ≡ D.faults disk.old)
+        (λ fault. D.faults disk.new ≡ D.faults disk.old + failed_in fault) }
     ensures model { D.keeps disk.new → D.keeps disk.old }
 {
     read_frames(disk)

@@ -1,7 +1,8 @@
 //! The part of a file that is in memory.
 
-ghost use Rattle.std.specs.Prelude.{◌≡◌, ◌≤◌, ◌<◌, ◌+◌, ◌-◌, ◌^◌, length, min, IfOk};
+ghost use Rattle.std.specs.Prelude.{◌≡◌, ◌≤◌, ◌<◌, ◌+◌, ◌-◌, ◌^◌, length, min, IfOk, IfErr, MatchResult};
 ghost use Rattle.disk_core.specs.Calls.{bytes_of};
+ghost use Rattle.disk_core.specs.Moments.{clock};
 ghost use Rattle.stat_core.specs.Window.{Holds, IsWithin, OnlyReads};
 
 use disk_core::{Disk, DiskFault};
@@ -44,6 +45,12 @@ pub(crate) fn slide<D: Disk>(
     ensures within { IfOk result (IsWithin (length buffer.old) at bytes) }
     ensures holds { D.keeps disk.new → IfOk result (Holds (bytes_of (D.states disk.old)) buffer.new) }
     ensures only_reads { D.keeps disk.new → OnlyReads (D.states disk.old) (D.states disk.new) }
+    ensures calls { clock (D.states disk.new) ≤ clock (D.states disk.old) + 1 }
+    ensures made { clock (D.states disk.old) ≤ clock (D.states disk.new) }
+    ensures cause { IfErr result (λ fault. fault ≡ DiskFault.Read) }
+    ensures faults { MatchResult result
+        (λ _. D.faults disk.new ≡ D.faults disk.old)
+        (λ _. D.faults disk.new ≡ D.faults disk.old + 1) }
     ensures model { D.keeps disk.new → D.keeps disk.old }
 {
     if window.start <= at && at + front_len(at, bytes) <= window.start + window.len {

@@ -4,16 +4,16 @@ use Rattle.stat_core.proofs.walking.read_frames.Goals as goal
 pub returns-in-Err-clause-only_reads : goal.returns-in-Err-clause-only_reads
 returns-in-Err-clause-only_reads g c = λ model. reads_once (g.D.Disk.states c.args.disk.now) (g.D.Disk.states c.len.new.self) (c.len.ensures.same (c.len.ensures.model model))
 
-pub returns-in_err-shape-clause-only_reads : goal.returns-in_err-shape-clause-only_reads
-returns-in_err-shape-clause-only_reads g c = λ model.
+pub returns-in-Err-read_header-clause-only_reads : goal.returns-in-Err-read_header-clause-only_reads
+returns-in-Err-read_header-clause-only_reads g c = λ model.
     let old = g.D.Disk.states c.args.disk.now in
     let mid = g.D.Disk.states c.len.new.self in
     let new = g.D.Disk.states c.read_header.new.disk in
     let before = c.read_header.ensures.model model in
     reads_on old mid new (reads_once old mid (c.len.ensures.same (c.len.ensures.model before))) (reads_once mid new (c.read_header.ensures.same before))
 
-pub returns-clause-only_reads : goal.returns-clause-only_reads
-returns-clause-only_reads g c = λ model.
+pub returns-in-Ok-read_header-clause-only_reads : goal.returns-in-Ok-read_header-clause-only_reads
+returns-in-Ok-read_header-clause-only_reads g c = λ model.
     let old = g.D.Disk.states c.args.disk.now in
     let mid = g.D.Disk.states c.len.new.self in
     let last = g.D.Disk.states c.read_header.new.disk in

@@ -1,11 +1,11 @@
-use Rattle.std.proofs.Common.{rules, ◌≤◌, ◌-◌, ℕ, List, Option, Ok, MatchOption, drop, ap, sym, subst, ◌∙◌, refl, arith}
+use Rattle.std.proofs.Common.{rules, ◌≤◌, ◌+◌, ◌-◌, ℕ, List, Option, Ok, MatchOption, drop, ap, sym, subst, ◌∙◌, refl, arith}
 use Rattle.disk_core.specs.Calls.{bytes_of}
 use Rattle.stat_core.specs.Summary.{begun, tally_in, AreFew}
 use Rattle.stat_core.specs.declared.outline.Outline.{Outline}
 use Rattle.stat_core.specs.Next.{IsNextOutline, IsSized}
 use Rattle.stat_core.specs.Walked.{Counts}
 use Rattle.stat_core.specs.Window.{Holds}
-use Rattle.stat_core.proofs.Counted.{few_begun, few_grown, count_none, count_more, grown_gate, grown_bytes}
+use Rattle.stat_core.proofs.Counted.{few_begun, few_grown, grown_frames, count_none, count_more, grown_gate, grown_bytes}
 use Rattle.stat_core.proofs.OnlyRead.{reads_nothing, reads_on}
 use Rattle.stat_core.proofs.walking.walk.Goals as goal
 
@@ -22,6 +22,9 @@ loop-window-init g c =
       model = λ model. model;
       reads = λ model. reads_nothing (g.D.Disk.states c.args.disk.now);
       holds = λ model. refl;
+      calls = omega arith;
+      made = omega arith;
+      faults = refl;
       counts = λ model. count_none c.args.shape (bytes_of (g.D.Disk.states c.args.disk.now)) c.begun-summary.result (begins ∙ ap (begun c.args.shape) (c.requires.length model));
     }
 
@@ -40,6 +43,7 @@ loop-window-preserved g c =
     let sized : IsSized c.args.shape (tally_in s) (s.bytes - s.gate) (c.in-Ok-Some.outline, c.in-Ok-Some.payload_len)
     = subst (λ (o : Option (Outline × ℕ)). MatchOption o (Unit {0}) (IsSized c.args.shape (tally_in s) (s.bytes - s.gate))) c.in-Ok-Some.field-0-is c.in-Ok-Some.ensures.sized in
     let is = c.grown-summary.ensures in
+    let frames = ap (λ t. t.groups + t.changes + t.shrinks + t.folds) is ∙ grown_frames c.args.shape s outline in
     let gate = ap (λ t. t.gate) is ∙ grown_gate c.args.shape s outline in
     let holds = λ (model : g.D.Disk.keeps c.slide.new.disk). subst (λ (image : List ℕ). Holds image c.slide.new.buffer c.in-Ok.window) (ap (λ t. t.seen) (let reads = inv.reads (c.slide.ensures.model model) in reads.same)) (c.in-Ok.ensures.holds model) in
     record {
@@ -51,6 +55,9 @@ loop-window-preserved g c =
       model = λ model. inv.model (c.slide.ensures.model model);
       reads = λ model. reads_on old mid new (inv.reads (c.slide.ensures.model model)) (c.slide.ensures.only_reads model);
       holds = holds;
+      calls = omega (arith, frames, inv.calls, c.slide.ensures.calls);
+      made = omega (arith, inv.made, c.slide.ensures.made);
+      faults = c.in-Ok.ensures.faults ∙ inv.faults;
       counts = λ model. (
           let size = sym (inv.bytes ∙ c.requires.length (inv.model (c.slide.ensures.model model))) in
           let next = subst (λ (o : Option (Outline × ℕ)). IsNextOutline c.args.shape s.gate (tally_in s) (drop s.gate (bytes_of old)) (Ok o)) c.in-Ok-Some.field-0-is (c.in-Ok-Some.ensures.next (bytes_of old) size (holds model)) in

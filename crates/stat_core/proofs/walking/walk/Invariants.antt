@@ -1,5 +1,6 @@
 use Rattle.std.proofs.Common.{◌≡◌, ◌≤◌, ◌-◌, ◌+◌}
 use Rattle.disk_core.specs.Calls.{bytes_of}
+use Rattle.disk_core.specs.Moments.{clock}
 use Rattle.stat_core.specs.Summary.{AreFew}
 use Rattle.stat_core.specs.Walked.{Counts}
 use Rattle.stat_core.specs.Window.{Holds, OnlyReads}
@@ -15,6 +16,9 @@ invariant-loop-window g l = record {
   model : g.D.Disk.keeps l.disk → g.D.Disk.keeps l.fn.disk;
   reads : g.D.Disk.keeps l.disk → OnlyReads (g.D.Disk.states l.fn.disk) (g.D.Disk.states l.disk);
   holds : g.D.Disk.keeps l.disk → Holds (bytes_of (g.D.Disk.states l.fn.disk)) l.buffer l.window;
+  calls : clock (g.D.Disk.states l.disk) ≤ clock (g.D.Disk.states l.fn.disk) + (l.summary.groups + l.summary.changes + l.summary.shrinks + l.summary.folds);
+  made : clock (g.D.Disk.states l.fn.disk) ≤ clock (g.D.Disk.states l.disk);
+  faults : g.D.Disk.faults l.disk ≡ g.D.Disk.faults l.fn.disk;
   counts : g.D.Disk.keeps l.disk → Counts l.shape (bytes_of (g.D.Disk.states l.fn.disk)) l.summary;
 }
 
