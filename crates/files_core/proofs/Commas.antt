@@ -1,9 +1,10 @@
 -- Records with a comma between each two.
-use Rattle.std.proofs.Common.{◌≡◌, ℕ, ◌<◌, suc, List, [], ◌∷◌, ◌++◌, length, map, codes, Option, Some, None, Bor, refl, sym, ap, ◌∙◌, arith}
+use Rattle.std.proofs.Common.{◌≡◌, ◌≢◌, ◌⊎◌, inl, inr, All, ℕ, ◌<◌, suc, List, [], ◌∷◌, ◌++◌, length, map, codes, Option, Some, None, Bor, refl, sym, ap, ◌∙◌, arith}
 use Rattle.std.specs.Prelude.{MatchOption}
 use Rattle.std.specs.Option.{option_copied}
 use Rattle.std.proofs.lemmas.List.{append_assoc, length-append}
 use Rattle.text_core.specs.Text.{joined_by}
+use Rattle.files_core.specs.Asked.{IsPart}
 
 -- each word and a comma
 abbrev pub ended_words : {R : Type 0} → (R → List ℕ) → List R → List ℕ
@@ -45,3 +46,27 @@ next_left text_of text words word records r after whole is before = left_more te
 pub next_shorter : (words word : List ℕ) (after : Option (Bor (List ℕ))) → MatchOption after (words ≡ word) (λ rest. words ≡ word ++ 44 ∷ rest.now) → left_len (option_copied after) < suc (length words)
 next_shorter words word None whole = omega arith
 next_shorter words word (Some rest) whole = omega (arith, ap length whole, length-append word (44 ∷ rest.now))
+
+-- what is left of a text begins it, or stands behind a comma of it
+words_begin : {R : Type 0} (text_of : R → List ℕ) (records : List R) (words : List ℕ) → (ended_words text_of records ++ words ≡ words) ⊎ ((front : List ℕ) × (ended_words text_of records ++ words ≡ front ++ 44 ∷ words))
+words_begin text_of [] words = inl refl
+words_begin text_of (r ∷ records) words = elim (words_begin text_of records words) [
+  | inl same ↦ inr (text_of r, append_assoc (text_of r) (44 ∷ ended_words text_of records) words ∙ ap (λ (t : List ℕ). text_of r ++ 44 ∷ t) same)
+  | inr some ↦ inr (text_of r ++ 44 ∷ some.0, append_assoc (text_of r) (44 ∷ ended_words text_of records) words ∙ ap (λ (t : List ℕ). text_of r ++ 44 ∷ t) some.1 ∙ sym (append_assoc (text_of r) (44 ∷ some.0) (44 ∷ words)))
+]
+
+word_ends : (after : Option (Bor (List ℕ))) (words word : List ℕ) → MatchOption after (words ≡ word) (λ rest. words ≡ word ++ 44 ∷ rest.now) → (words ≡ word) ⊎ ((behind : List ℕ) × (words ≡ word ++ 44 ∷ behind))
+word_ends None words word whole = inl whole
+word_ends (Some rest) words word whole = inr (rest.now, whole)
+
+-- the next word is a part of the text
+pub next_part : {R : Type 0} (text_of : R → List ℕ) (text words word : List ℕ) (records : List R) (after : Option (Bor (List ℕ))) → MatchOption after (words ≡ word) (λ rest. words ≡ word ++ 44 ∷ rest.now) → All (λ b. b ≢ 44) word → text ≡ ended_words text_of records ++ words → IsPart text word
+next_part text_of text words word records after whole plain before = record {
+  rest = words;
+  begins = elim (words_begin text_of records words) [
+    | inl same ↦ inl (before ∙ same)
+    | inr some ↦ inr (some.0, before ∙ some.1)
+  ];
+  ends = word_ends after words word whole;
+  plain = plain;
+}

@@ -11,12 +11,13 @@ use Rattle.book_core.specs.declared.seat.Receipt.{Receipt}
 use Rattle.book_core.specs.declared.fault.GrowFault.{GrowFault}
 use Rattle.book_core.specs.Lists.{own_of}
 use Rattle.pen_core.specs.Typed.{OpensTo}
-use Rattle.vault_core.specs.Crewing.{HasCrewed, OpensToGrown, receipt_of}
+use Rattle.vault_core.specs.Crewing.{HasCrewed, OpensToGrown, IsReason, crew_room, receipt_of}
 use Rattle.vault_core.specs.Vault.{VaultOf, list_of}
 use Rattle.files_core.specs.Dealt.{count_for, dealt}
 use Rattle.files_core.specs.declared.fault.FileFault.{FileFault}
+use Rattle.files_core.specs.declared.fault.Stopped.{Stopped}
 use Rattle.files_core.specs.declared.fault.FileFault.TheVariants as faults
-use Rattle.files_core.specs.Loading.{AreDealt, AllMade, StandBehind, Appends, IsGrowthStop, IsLoaded, IsLoadRefusal}
+use Rattle.files_core.specs.Loading.{AreDealt, AllMade, StandBehind, Appends, IsFirstStop, IsGrowthStop, IsLoaded, IsLoadRefusal, IsStopOf, line_behind}
 use Rattle.files_core.specs.Opened.{IsOpenedOn, LeavesBeforeOr}
 use Rattle.files_core.proofs.Opened.{opened_list, opened_alone, opened_then}
 
@@ -27,6 +28,9 @@ some_of f (x ∷ xs) zero y there = (x, refl, same there)
     same : Some (f x) ≡ Some y → f x ≡ y
     same is = cc
 some_of f (x ∷ xs) (suc k) y there = some_of f xs k y there
+
+one_some : {X : Type 0} {x y : X} → Some x ≡ Some y → x ≡ y
+one_some is = cc
 
 module _ {R D : Type 0} (form : Encoding R) (keeps : D → Type 0) (states : D → List State) where
   -- what a source deals is what is said of it
@@ -51,6 +55,26 @@ module _ {R D : Type 0} (form : Encoding R) (keeps : D → Type 0) (states : D �
     pub size_is : (size : ℕ) → size ≡ length (list_of new) → size ≡ length (list_of old ++ joined crewed.0)
     size_is size is = is ∙ ap length crewed.1.list_is
 
+    -- a grower has as many receipts as it made growths
+    own_long : (k : ℕ) (its : Vec Receipt) → k < growers → slice_get receipts k ≡ Some its → length its.items ≡ length (own_of k crewed.0)
+    own_long k its lt at =
+        let own = own_of k crewed.0 in
+        let there = some_of (λ its. its.items) receipts k (map (receipt_of (length (list_of old))) own) (crewed.1.receipts_are k lt) in
+        let same : its ≡ there.0 = one_some (sym at ∙ there.1) in
+        ap (λ (v : Vec Receipt). length v.items) same ∙ ap length there.2 ∙ length-map own (receipt_of (length (list_of old)))
+
+    pub stopped_as : (stopped : Stopped) → stopped.size ≡ length (list_of new) → IsFirstStop growers (count_for (length growths) growers) receipts faults stopped → IsStopOf form.width growths growers crewed.0 stopped
+    stopped_as stopped size stop =
+        let long = own_long stopped.grower stop.its stop.inside stop.its_are in
+        record {
+          inside = stop.inside;
+          line_is = stop.line_is ∙ ap (line_behind growers stopped.grower) long;
+          why = elim stop.why [
+            | inl has ↦ subst (λ n. IsReason form.width (crew_room (count_for (length growths) growers) growers) n (count_for (length growths) growers stopped.grower) (dealt growths growers stopped.grower) stopped.grower crewed.0 (length (own_of stopped.grower crewed.0)) stopped.fault) (sym size) (crewed.1.faults_are stopped.grower stopped.fault stop.inside has)
+            | inr fewer ↦ subst (λ fault. IsReason form.width (crew_room (count_for (length growths) growers) growers) stopped.size (count_for (length growths) growers stopped.grower) (dealt growths growers stopped.grower) stopped.grower crewed.0 (length (own_of stopped.grower crewed.0)) fault) (sym fewer.0) (subst (λ n. n < count_for (length growths) growers stopped.grower) long fewer.1)
+          ];
+        }
+
     pub all_made : ((k : ℕ) → k < growers → (its : Vec Receipt) → slice_get receipts k ≡ Some its → count_for (length growths) growers k ≤ length its.items) → AllMade growths growers crewed.0
     all_made enough k lt =
         let own = own_of k crewed.0 in
@@ -59,7 +83,7 @@ module _ {R D : Type 0} (form : Encoding R) (keeps : D → Type 0) (states : D �
         omega (arith, enough k lt there.0 there.1, long, crewed.1.few k lt)
 
   -- the growths stand behind the list of the file that was opened
-  pub appended_to : (disk left : D) (v : VaultOf R D) (made : List (Growth R)) → IsOpenedOn form keeps states disk v → StandBehind form keeps states v left made → keeps left → Appends form states disk left (list_of v) made
+  pub appended_to : {failures : D → ℕ} (disk left : D) (v : VaultOf R D) (made : List (Growth R)) → IsOpenedOn form keeps states failures disk v → StandBehind form keeps states v left made → keeps left → Appends form states disk left (list_of v) made
   appended_to disk left v made opened stands model =
       let before = stands.model model in
       record {
@@ -68,7 +92,7 @@ module _ {R D : Type 0} (form : Encoding R) (keeps : D → Type 0) (states : D �
         settled = stands.settled model;
       }
 
-  pub loaded_by : (growths : List (List R)) (growers : ℕ) (disk left : D) (v w : VaultOf R D) → IsOpenedOn form keeps states disk v → left ≡ w.pen.disk
+  pub loaded_by : {failures : D → ℕ} (growths : List (List R)) (growers : ℕ) (disk left : D) (v w : VaultOf R D) → IsOpenedOn form keeps states failures disk v → left ≡ w.pen.disk
       → (made : List (Growth R)) × AreDealt growths growers made × AllMade growths growers made × StandBehind form keeps states v w.pen.disk made × (list_of w ≡ list_of v ++ joined made)
       → IsLoaded form keeps states growths growers disk left (length (list_of w))
   loaded_by growths growers disk left v w opened same grown = record {
@@ -80,7 +104,7 @@ module _ {R D : Type 0} (form : Encoding R) (keeps : D → Type 0) (states : D �
     size_is = ap length grown.4;
   }
 
-  pub refused_by : (growths : List (List R)) (growers : ℕ) (disk left : D) (v : VaultOf R D) → IsOpenedOn form keeps states disk v → (fault : FileFault) → IsGrowthStop form keeps states growths growers v left fault → IsLoadRefusal form keeps states growths growers disk left fault
+  pub refused_by : {failures : D → ℕ} (growths : List (List R)) (growers : ℕ) (disk left : D) (v : VaultOf R D) → IsOpenedOn form keeps states failures disk v → (fault : FileFault) → IsGrowthStop form keeps states growths growers v left fault → IsLoadRefusal form keeps states failures growths growers disk left fault
   refused_by growths growers disk left v opened (faults.Vault fault) (inl same) = (
     list_of v,
     [],
@@ -99,7 +123,7 @@ module _ {R D : Type 0} (form : Encoding R) (keeps : D → Type 0) (states : D �
           opened_then (states disk) (states v.pen.disk) (states left) (OpensToGrown form (list_of v) some.0) (opened.only_syncs both.0) both.1,
         ),
   )
-  refused_by growths growers disk left v opened (faults.Grower stopped) stop = (list_of v, stop.0, stop.1, (λ model. appended_to disk left v stop.0 opened stop.2 model), stop.3)
+  refused_by growths growers disk left v opened (faults.Grower stopped) stop = (list_of v, stop.0, stop.1, (λ model. appended_to disk left v stop.0 opened stop.2 model), stop.3, stop.4)
   refused_by growths growers disk left v opened (faults.Open fault) stop = absurd stop
   refused_by growths growers disk left v opened (faults.Word word) stop = absurd stop
   refused_by growths growers disk left v opened (faults.Input refusal) stop = absurd stop

@@ -11,10 +11,22 @@ use Rattle.pen_core.specs.PenOf.{PenOf}
 use Rattle.pen_core.specs.Pen.{IsFoldAnswer}
 use Rattle.pen_core.specs.Typed.{OpensTo}
 use Rattle.pen_core.proofs.Pieces.{bytes_stay}
+use Rattle.vault_core.specs.declared.fault.VaultFault.{VaultFault}
+use Rattle.vault_core.specs.declared.fault.VaultFault.TheVariants.{Pen, Unsettled, WrongPhase}
+use Rattle.vault_core.specs.Commands.{IsFoldFault, failed}
 use Rattle.vault_core.specs.Vault.{VaultOf, MayHold, OpensToEither, list_of}
 use Rattle.files_core.specs.Folding.{Stays}
 use Rattle.files_core.specs.Opened.{IsOpenedOn}
 use Rattle.files_core.proofs.Opened.{opened_list, opened_again, opens_same}
+
+-- a fold that was barred made no call
+pub none_failed : {D : Type 0} (pen : PenOf D) (fault : VaultFault) → IsFoldFault pen fault → failed fault ≡ 0
+none_failed pen (Pen fault) (inl (inl broken)) = ap (λ f. failed (Pen f)) broken.0
+none_failed pen (Pen fault) (inl (inr (inl busy))) = ap (λ f. failed (Pen f)) busy.0
+none_failed pen (Pen fault) (inl (inr (inr full))) = ap (λ f. failed (Pen f)) full.0
+none_failed pen (Pen fault) (inr memory) = ap (λ f. failed (Pen f)) memory.0
+none_failed pen (Unsettled number) barred = absurd barred
+none_failed pen WrongPhase barred = absurd barred
 
 pub same_disk : {D : Type 0} (old new : PenOf D) (begun : Bool) → IsFoldAnswer old new begun → new.disk ≡ old.disk
 same_disk old new true begins = begins.disk_same
@@ -30,7 +42,7 @@ module _ {R D : Type 0} (form : Encoding R) (keeps : D → Type 0) (states : D �
       (subst (λ s. LeavesOnly (states mid.pen.disk) (states left) (OpensToEither form s (list_of mid))) sure leaves))
 
   -- a file that was scanned and opened, and whose list stays in all images
-  pub stays_by : (disk mid left : D) (v : VaultOf R D) → IsImage (now (states disk)) (bytes_of (states disk)) → OnlySyncs (states disk) (states mid) → IsOpenedOn form keeps states mid v → keeps v.pen.disk
+  pub stays_by : {faults : D → ℕ} (disk mid left : D) (v : VaultOf R D) → IsImage (now (states disk)) (bytes_of (states disk)) → OnlySyncs (states disk) (states mid) → IsOpenedOn form keeps states faults mid v → keeps v.pen.disk
       → LeavesOnly (states v.pen.disk) (states left) (MayHold form v) → Stays form states disk left
   stays_by disk mid left v reads first opened before leaves = record {
     records = list_of v;

@@ -2,6 +2,7 @@ pub mod Opened
 pub mod Changed
 pub mod Written
 pub mod GrowthLines
+pub mod Stops
 pub mod Crewed
 pub mod Windows
 pub mod Folded

@@ -1,62 +1,103 @@
 -- Growths that are appended as they are read.
-use Rattle.std.specs.Prelude.{◌≡◌, ℕ, List, ◌++◌, length}
+use Rattle.std.specs.Prelude.{◌≡◌, ℕ, ◌-◌, ◌^◌, min, List, [], ◌++◌, length, Result, Ok, Err}
 use Rattle.record_core.specs.Bytes.{Encoding}
 use Rattle.disk_core.specs.State.{State, now, IsImage}
 use Rattle.disk_core.specs.Calls.{bytes_of}
+use Rattle.disk_core.specs.Moments.{LeavesOnly}
+use Rattle.block_core.specs.Growth.{Growth}
+use Rattle.directory_core.specs.Chain.{joined}
 use Rattle.pen_core.specs.Typed.{OpensTo}
+use Rattle.vault_core.specs.Crewing.{OpensToGrown}
 use Rattle.vault_core.specs.Vault.{VaultOf, list_of}
+use Rattle.files_core.specs.declared.appending.Appended.{Appended}
 use Rattle.files_core.specs.declared.fault.FileFault.{FileFault}
 use Rattle.files_core.specs.declared.fault.FileFault.TheVariants.{Word, Input, Open, Vault, Grower, Upgrade}
-use Rattle.files_core.specs.Opened.{IsOpenFault}
+use Rattle.files_core.specs.Opened.{IsNotOpened, LeavesBeforeOr}
 
 -- each image that a crash may leave now opens to these records
 abbrev pub AllOpenTo : {R : Type 0} → Encoding R → List State → List R → Type 0
 AllOpenTo form states records = (image : List ℕ) → IsImage (now states) image → OpensTo form image records
 
--- each opens to these records and maybe some behind them
-abbrev pub AllOpenBehind : {R : Type 0} → Encoding R → List State → List R → Type 0
-AllOpenBehind {R} form states records = (image : List ℕ) → IsImage (now states) image → (behind : List R) × OpensTo form image (records ++ behind)
-
--- it isn't that the file wasn't opened
-abbrev pub IsNotOpening : FileFault → Type 0
-IsNotOpening (Open fault) = ⊥
-IsNotOpening (Word word) = Unit {0}
-IsNotOpening (Input refusal) = Unit {0}
-IsNotOpening (Vault fault) = Unit {0}
-IsNotOpening (Grower stopped) = Unit {0}
-IsNotOpening (Upgrade fault) = Unit {0}
-
--- What stands in the file: its list of before, and behind it the records that are told as settled; so each image that a
--- crash may leave opens to a list that begins so.
-pub record Stands {R D : Type 0} (form : Encoding R) (states : D → List State) (disk left : D) (size : ℕ) : Type 0 where
+-- Growths were made behind the list of a file, and are told; those that were to be made behind them, or the first of these, may
+-- stand there too. Each image meanwhile opens to the list and the first of them all, each whole; and each that a crash may leave
+-- now has all that are told.
+pub record Stands {R D : Type 0} (form : Encoding R) (states : D → List State) (disk left : D) (appended : Appended) (made more : List (Growth R)) : Type 0 where
   pub was : List R
-  pub more : List R
   pub file : OpensTo form (bytes_of (states disk)) was
-  pub settled : AllOpenBehind form (states left) (was ++ more)
-  pub size_is : size ≡ length (was ++ more)
+  pub images : LeavesBeforeOr (states disk) (states left) (OpensToGrown form was (made ++ more))
+  pub settled : (image : List ℕ) → IsImage (now (states left)) image → OpensToGrown form (was ++ joined made) more image
+  pub size_is : appended.size ≡ length (was ++ joined made)
+  pub growths_are : appended.growths ≡ min (2 ^ 64 - 1) (length made)
+
+-- what is told where the file wasn't opened
+abbrev pub nothing_appended : Appended
+nothing_appended = record { growths = 0; lines = 0; size = 0 }
+
+-- a crew stopped so
+abbrev pub IsCrewStop : FileFault → Type 0
+IsCrewStop (Vault fault) = Unit {0}
+IsCrewStop (Grower stopped) = Unit {0}
+IsCrewStop (Open fault) = ⊥
+IsCrewStop (Word word) = ⊥
+IsCrewStop (Input refusal) = ⊥
+IsCrewStop (Upgrade fault) = ⊥
 
 module _ {R D : Type 0} (form : Encoding R) (keeps : D → Type 0) (states : D → List State) where
   -- The list of the vault is settled.
   abbrev pub IsSettled : VaultOf R D → Type 0
   IsSettled v = keeps v.pen.disk → AllOpenTo form (states v.pen.disk) (list_of v)
 
-  -- a later vault of the same disk: records stand behind the list, all of them settled
-  pub record GoesOn (v w : VaultOf R D) : Type 0 where
-    pub more : List R
-    pub list : list_of w ≡ list_of v ++ more
+  -- a later vault of the same disk: these growths stand behind the list, all of them settled
+  pub record GoesOn (v w : VaultOf R D) (made : List (Growth R)) : Type 0 where
+    pub list : list_of w ≡ list_of v ++ joined made
+    pub images : keeps w.pen.disk → LeavesOnly (states v.pen.disk) (states w.pen.disk) (OpensToGrown form (list_of v) made)
     pub settled : IsSettled w
     pub model : keeps w.pen.disk → keeps v.pen.disk
 
-  -- the disk is given back: what was settled stands, and maybe more
-  pub record StopsAt (v : VaultOf R D) (left : D) : Type 0 where
-    pub stands : keeps left → AllOpenBehind form (states left) (list_of v)
+  -- behind a grower's fault all growths that were made are settled, and it tells how many records there are with them
+  abbrev pub IsGrowerStop : VaultOf R D → D → List (Growth R) → FileFault → Type 0
+  IsGrowerStop v left all (Grower stopped) = (keeps left → AllOpenTo form (states left) (list_of v ++ joined all)) × (stopped.size ≡ length (list_of v ++ joined all))
+  IsGrowerStop v left all (Vault fault) = Unit {0}
+  IsGrowerStop v left all (Open fault) = Unit {0}
+  IsGrowerStop v left all (Word word) = Unit {0}
+  IsGrowerStop v left all (Input refusal) = Unit {0}
+  IsGrowerStop v left all (Upgrade fault) = Unit {0}
+
+  -- the disk is given back by a crew that stopped: each image opens to the list and the first of some growths
+  pub record StopsAt (v : VaultOf R D) (left : D) (fault : FileFault) : Type 0 where
+    pub by_crew : IsCrewStop fault
+    pub more : List (Growth R)
+    pub images : keeps left → LeavesOnly (states v.pen.disk) (states left) (OpensToGrown form (list_of v) more)
+    pub settled : IsGrowerStop v left more fault
     pub model : keeps left → keeps v.pen.disk
 
-  -- where it was refused: at opening, or behind what stands
-  abbrev pub StandsBehind : D → D → ℕ → FileFault → Type 0
-  StandsBehind disk left size (Open fault) = IsOpenFault form (keeps left) (bytes_of (states disk)) (Open fault)
-  StandsBehind disk left size (Word word) = keeps left → Stands form states disk left size
-  StandsBehind disk left size (Input refusal) = keeps left → Stands form states disk left size
-  StandsBehind disk left size (Vault fault) = keeps left → Stands form states disk left size
-  StandsBehind disk left size (Grower stopped) = keeps left → Stands form states disk left size
-  StandsBehind disk left size (Upgrade fault) = keeps left → Stands form states disk left size
+  -- growths stand behind the list of a vault, as in a file
+  pub record StandBehindList (v : VaultOf R D) (left : D) (appended : Appended) (made more : List (Growth R)) : Type 0 where
+    pub images : keeps left → LeavesOnly (states v.pen.disk) (states left) (OpensToGrown form (list_of v) (made ++ more))
+    pub settled : keeps left → (image : List ℕ) → IsImage (now (states left)) image → OpensToGrown form (list_of v ++ joined made) more image
+    pub size_is : appended.size ≡ length (list_of v ++ joined made)
+    pub growths_are : appended.growths ≡ min (2 ^ 64 - 1) (length made)
+
+  -- all growths that were begun are told, unless a crew stopped
+  abbrev pub HasAppended : VaultOf R D → D → Appended → Result (Unit {0}) FileFault → Type 0
+  HasAppended v left appended (Ok all) = (made : List (Growth R)) × StandBehindList v left appended made []
+  HasAppended v left appended (Err (Input refusal)) = (made : List (Growth R)) × StandBehindList v left appended made []
+  HasAppended v left appended (Err (Vault fault)) = (made more : List (Growth R)) × StandBehindList v left appended made more
+  HasAppended v left appended (Err (Grower stopped)) = (made more : List (Growth R)) × StandBehindList v left appended made more × IsGrowerStop v left (made ++ more) (Grower stopped)
+  HasAppended v left appended (Err (Open fault)) = ⊥
+  HasAppended v left appended (Err (Word word)) = ⊥
+  HasAppended v left appended (Err (Upgrade fault)) = ⊥
+
+  -- all that stands in the file is told
+  abbrev pub HasAppendedAll : D → D → Appended → Type 0
+  HasAppendedAll disk left appended = (made : List (Growth R)) × (keeps left → Stands form states disk left appended made [])
+
+  -- where it was refused: at opening, and then nothing was written; at a line, and all that stands is told; or by a crew, and
+  -- behind a grower's fault all growths that were made are settled
+  abbrev pub IsAppendRefusal : (D → ℕ) → D → D → Appended → FileFault → Type 0
+  IsAppendRefusal faults disk left appended (Open fault) = (appended ≡ nothing_appended) × IsNotOpened form keeps states faults disk left fault
+  IsAppendRefusal faults disk left appended (Input refusal) = HasAppendedAll disk left appended
+  IsAppendRefusal faults disk left appended (Vault fault) = (made more : List (Growth R)) × (keeps left → Stands form states disk left appended made more)
+  IsAppendRefusal faults disk left appended (Grower stopped) = (made more : List (Growth R)) × (keeps left → (stands : Stands form states disk left appended made more) × AllOpenTo form (states left) (stands.was ++ joined (made ++ more)) × (stopped.size ≡ length (stands.was ++ joined (made ++ more))))
+  IsAppendRefusal faults disk left appended (Word word) = ⊥
+  IsAppendRefusal faults disk left appended (Upgrade fault) = ⊥

@@ -1,8 +1,12 @@
 -- What words spell.
-use Rattle.std.specs.Prelude.{◌≡◌, ℕ, ◌<◌, List, length, map, codes, Option, Some, None}
+use Rattle.std.specs.Prelude.{◌≡◌, ◌≢◌, ◌⊎◌, ℕ, ◌<◌, List, ◌∷◌, ◌++◌, length, map, codes, All, Option, Some, None}
 use Rattle.std.specs.List.{AllByRecursion}
 use Rattle.text_core.specs.Text.{Spelling, joined_by}
 use Rattle.text_core.specs.Numbers.{number_spelling}
+use Rattle.text_core.specs.declared.refusal.Refusal.TheVariants.{Memory}
+use Rattle.files_core.specs.declared.fault.Word.TheVariants.{Records}
+use Rattle.files_core.specs.declared.fault.FileFault.{FileFault}
+use Rattle.files_core.specs.declared.fault.FileFault.TheVariants.{Word, Input}
 
 -- the word is the text of this record
 pub record IsRecord {R : Type 0} (spelling : Spelling R) (word : List ℕ) (r : R) : Type 0 where
@@ -28,3 +32,16 @@ pub record AreRecords {R : Type 0} (spelling : Spelling R) (word : List ℕ) (re
   pub some : 0 < length records
   pub values : AllByRecursion spelling.is_value records
   pub text : word ≡ joined_by (codes ",") (map spelling.text_of records)
+
+-- The part stands in the word from its beginning or a comma on, up to the next comma or the end.
+pub record IsPart (word part : List ℕ) : Type 0 where
+  pub rest : List ℕ
+  pub begins : (word ≡ rest) ⊎ ((front : List ℕ) × (word ≡ front ++ 44 ∷ rest))
+  pub ends : (rest ≡ part) ⊎ ((behind : List ℕ) × (rest ≡ part ++ 44 ∷ behind))
+  pub plain : All (λ b. b ≢ 44) part
+
+-- Such a word wasn't read: a part of it between two commas is no record, or there was no memory.
+abbrev pub IsRecordsRefusal : {R : Type 0} → Spelling R → List ℕ → FileFault → Type 0
+IsRecordsRefusal {R} spelling word fault =
+    ((fault ≡ Word Records) × ((part : List ℕ) × IsPart word part × ((r : R) → ¬ (IsRecord spelling part r))))
+    ⊎ (fault ≡ Input Memory)

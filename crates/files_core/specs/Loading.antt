@@ -1,20 +1,24 @@
 -- Growths that are appended to a file by a crew.
-use Rattle.std.specs.Prelude.{◌≡◌, ◌⊎◌, ℕ, ◌<◌, List, ◌++◌, length, All, Some, slice_get}
+use Rattle.std.specs.Prelude.{◌≡◌, ◌⊎◌, ℕ, ◌+◌, ◌-◌, ◌*◌, ◌^◌, ◌<◌, min, Option, List, ◌++◌, length, All, Some, slice_get}
 use Rattle.record_core.specs.Bytes.{Encoding}
 use Rattle.disk_core.specs.State.{State, now, IsImage}
 use Rattle.disk_core.specs.Calls.{bytes_of}
 use Rattle.disk_core.specs.Moments.{LeavesOnly}
+use Rattle.std.specs.Global.{Vec}
 use Rattle.block_core.specs.Growth.{Growth}
+use Rattle.book_core.specs.declared.seat.Receipt.{Receipt}
+use Rattle.book_core.specs.declared.fault.GrowFault.{GrowFault}
+use Rattle.book_core.specs.declared.fault.GrowFault.TheVariants.{Closed}
 use Rattle.directory_core.specs.Chain.{joined, IsChained}
 use Rattle.book_core.specs.Lists.{own_of}
-use Rattle.pen_core.specs.Opening.{IsOpenRefusal, OnlySyncs}
 use Rattle.pen_core.specs.Typed.{OpensTo}
-use Rattle.vault_core.specs.Crewing.{OpensToGrown}
+use Rattle.vault_core.specs.Crewing.{OpensToGrown, IsReason, crew_room}
 use Rattle.vault_core.specs.Vault.{VaultOf, list_of}
 use Rattle.files_core.specs.declared.fault.FileFault.{FileFault}
+use Rattle.files_core.specs.declared.fault.Stopped.{Stopped}
 use Rattle.files_core.specs.declared.fault.FileFault.TheVariants.{Word, Input, Open, Vault, Grower, Upgrade}
 use Rattle.files_core.specs.Dealt.{count_for, dealt}
-use Rattle.files_core.specs.Opened.{LeavesBeforeOr}
+use Rattle.files_core.specs.Opened.{IsNotOpened, LeavesBeforeOr}
 
 -- Some growths were made by the growers, one behind the other: those of a grower have the first of the growths that are
 -- dealt to it, in order.
@@ -26,6 +30,24 @@ pub record AreDealt {R : Type 0} (growths : List (List R)) (growers : ℕ) (made
 -- all of them were made
 abbrev pub AllMade : {R : Type 0} → List (List R) → ℕ → List (Growth R) → Type 0
 AllMade growths growers made = (grower : ℕ) → grower < growers → length (own_of grower made) ≡ count_for (length growths) growers grower
+
+-- the growth that a grower didn't make, which had made so many of growers as many as these, has this line
+abbrev pub line_behind : ℕ → ℕ → ℕ → ℕ
+line_behind growers grower made = min (2 ^ 64 - 1) (made * growers + (grower + 1))
+
+-- One of so many growers stopped: by the fault that it has, or with fewer receipts than growths were named for it.
+pub record IsFirstStop (growers : ℕ) (count : ℕ → ℕ) (receipts : List (Vec Receipt)) (faults : List (Option GrowFault)) (stopped : Stopped) : Type 0 where
+  pub inside : stopped.grower < growers
+  pub its : Vec Receipt
+  pub its_are : slice_get receipts stopped.grower ≡ Some its
+  pub why : (slice_get faults stopped.grower ≡ Some (Some stopped.fault)) ⊎ ((stopped.fault ≡ Closed) × (length its.items < count stopped.grower))
+  pub line_is : stopped.line ≡ line_behind growers stopped.grower (length its.items)
+
+-- The grower that is told stopped: its first growth that wasn't made has that line, and that is why it wasn't.
+pub record IsStopOf {R : Type 0} (width : ℕ) (growths : List (List R)) (growers : ℕ) (made : List (Growth R)) (stopped : Stopped) : Type 0 where
+  pub inside : stopped.grower < growers
+  pub line_is : stopped.line ≡ line_behind growers stopped.grower (length (own_of stopped.grower made))
+  pub why : IsReason width (crew_room (count_for (length growths) growers) growers) stopped.size (count_for (length growths) growers stopped.grower) (dealt growths growers stopped.grower) stopped.grower made (length (own_of stopped.grower made)) stopped.fault
 
 module _ {R D : Type 0} (form : Encoding R) (keeps : D → Type 0) (states : D → List State) where
   -- Growths stand behind a vault's list, all of them settled, and each image that a crash may have left meanwhile opens to
@@ -39,7 +61,7 @@ module _ {R D : Type 0} (form : Encoding R) (keeps : D → Type 0) (states : D �
   -- and the first of some growths.
   abbrev pub IsGrowthStop : List (List R) → ℕ → VaultOf R D → D → FileFault → Type 0
   IsGrowthStop growths growers v left (Vault fault) = (left ≡ v.pen.disk) ⊎ ((made : List (Growth R)) × (keeps left → keeps v.pen.disk × LeavesOnly (states v.pen.disk) (states left) (OpensToGrown form (list_of v) made)))
-  IsGrowthStop growths growers v left (Grower stopped) = (made : List (Growth R)) × AreDealt growths growers made × StandBehind v left made × (stopped.size ≡ length (list_of v ++ joined made))
+  IsGrowthStop growths growers v left (Grower stopped) = (made : List (Growth R)) × AreDealt growths growers made × StandBehind v left made × (stopped.size ≡ length (list_of v ++ joined made)) × IsStopOf form.width growths growers made stopped
   IsGrowthStop growths growers v left (Open fault) = ⊥
   IsGrowthStop growths growers v left (Word word) = ⊥
   IsGrowthStop growths growers v left (Input refusal) = ⊥
@@ -63,12 +85,12 @@ pub record IsLoaded {R D : Type 0} (form : Encoding R) (keeps : D → Type 0) (s
 
 -- Why not: at opening, and then nothing was written; or by the crew, and some growths may stand, or, behind a grower's fault,
 -- those that were made stand.
-abbrev pub IsLoadRefusal : {R D : Type 0} → Encoding R → (D → Type 0) → (D → List State) → List (List R) → ℕ → D → D → FileFault → Type 0
-IsLoadRefusal form keeps states growths growers disk left (Open fault) = keeps left → IsOpenRefusal form (bytes_of (states disk)) fault × OnlySyncs (states disk) (states left)
-IsLoadRefusal {R} form keeps states growths growers disk left (Vault fault) =
+abbrev pub IsLoadRefusal : {R D : Type 0} → Encoding R → (D → Type 0) → (D → List State) → (D → ℕ) → List (List R) → ℕ → D → D → FileFault → Type 0
+IsLoadRefusal form keeps states faults growths growers disk left (Open fault) = IsNotOpened form keeps states faults disk left fault
+IsLoadRefusal {R} form keeps states faults growths growers disk left (Vault fault) =
     (was : List R) × (made : List (Growth R)) × (keeps left → OpensTo form (bytes_of (states disk)) was × LeavesBeforeOr (states disk) (states left) (OpensToGrown form was made))
-IsLoadRefusal {R} form keeps states growths growers disk left (Grower stopped) =
-    (was : List R) × (made : List (Growth R)) × AreDealt growths growers made × (keeps left → Appends form states disk left was made) × (stopped.size ≡ length (was ++ joined made))
-IsLoadRefusal form keeps states growths growers disk left (Word word) = ⊥
-IsLoadRefusal form keeps states growths growers disk left (Input refusal) = ⊥
-IsLoadRefusal form keeps states growths growers disk left (Upgrade fault) = ⊥
+IsLoadRefusal {R} form keeps states faults growths growers disk left (Grower stopped) =
+    (was : List R) × (made : List (Growth R)) × AreDealt growths growers made × (keeps left → Appends form states disk left was made) × (stopped.size ≡ length (was ++ joined made)) × IsStopOf form.width growths growers made stopped
+IsLoadRefusal form keeps states faults growths growers disk left (Word word) = ⊥
+IsLoadRefusal form keeps states faults growths growers disk left (Input refusal) = ⊥
+IsLoadRefusal form keeps states faults growths growers disk left (Upgrade fault) = ⊥

@@ -1,9 +1,9 @@
 //! `append`: growths of an input of any length, committed as they are read.
 
-ghost use Rattle.std.specs.Prelude.{◌≡◌, ◌++◌, List, length, IfOk, IfErr, OnOk};
+ghost use Rattle.std.specs.Prelude.{◌≡◌, ◌+◌, ◌-◌, ◌^◌, List, length, min, IfOk, IfErr, OnOk};
 ghost use Rattle.std.specs.Io.KnownBytes.{Appends};
-ghost use Rattle.vault_core.specs.Vault.{list_of};
-ghost use Rattle.files_core.specs.Appending.{AllOpenBehind, GoesOn, IsNotOpening, IsSettled, Stands, StandsBehind, StopsAt};
+ghost use Rattle.block_core.specs.Growth.{Growth};
+ghost use Rattle.files_core.specs.Appending.{GoesOn, HasAppended, HasAppendedAll, IsAppendRefusal, IsSettled, StopsAt};
 ghost use Rattle.files_core.specs.Ended.{EndsAs, WritesText};
 ghost use Rattle.files_core.specs.Texts.{appended_line};
 
@@ -45,7 +45,8 @@ pub struct Appended {
 impl Appended {
     /// Growths of lines more, and so many records then.
     fn and(self, growths: u64, lines: u64, size: u64) -> Appended
-        ensures { result.size ≡ size }
+        ensures size { result.size ≡ size }
+        ensures growths { result.growths ≡ min (2 ^ 64 - 1) (self.growths + growths) }
     {
         Appended {
             growths: self.growths.saturating_add(growths),
@@ -111,9 +112,8 @@ fn append_growths<
     growths: Growths<R>,
 ) -> Result<Vault<R, D>, (D, FileFault)>
     requires { IsSettled R.form D.keeps D.states vault }
-    ensures on { IfOk result (λ new. GoesOn R.form D.keeps D.states vault new) }
-    ensures stops { IfErr result (λ r. StopsAt R.form D.keeps D.states vault r.0) }
-    ensures opened { IfErr result (λ r. IsNotOpening r.1) }
+    ensures on { IfOk result (λ new. (made : List (Growth R)) × GoesOn R.form D.keeps D.states vault new made × (length made ≡ length growths.0)) }
+    ensures stops { IfErr result (λ r. StopsAt R.form D.keeps D.states vault r.0 r.1) }
 {
     if growths.count() == 0 {
         return Ok(vault);
@@ -141,9 +141,8 @@ fn append_all<
     progress: &P,
 ) -> (D, Appended, Result<(), FileFault>)
     requires { IsSettled R.form D.keeps D.states vault }
-    ensures stands { (more : List R) × (result.1.size ≡ length (list_of vault ++ more)) × (D.keeps result.0 → AllOpenBehind R.form (D.states result.0) (list_of vault ++ more)) }
+    ensures stands { HasAppended R.form D.keeps D.states vault result.0 result.1 result.2 }
     ensures model { D.keeps result.0 → D.keeps vault.pen.disk }
-    ensures opened { IfErr result.2 IsNotOpening }
 {
     let mut vault = vault;
     let mut appended = Appended {
@@ -211,7 +210,7 @@ pub fn append<
     progress: &P,
     writer: &mut W,
 ) -> (D, Appended, Ended)
-    ensures stands { EndsAs (D.keeps result.0 → Stands R.form D.states disk result.0 result.1.size) (StandsBehind R.form D.keeps D.states disk result.0 result.1.size) result.2 }
+    ensures stands { EndsAs (HasAppendedAll R.form D.keeps D.states disk result.0 result.1) (IsAppendRefusal R.form D.keeps D.states D.faults disk result.0 result.1) result.2 }
     ensures model { D.keeps result.0 → D.keeps disk }
     ensures writes { WritesText (W.contents writer.old) (W.contents writer.new) (appended_line result.1.growths result.1.size) result.2 }
 {

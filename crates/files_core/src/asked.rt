@@ -2,7 +2,7 @@
 
 ghost use Rattle.std.specs.Prelude.{◌≡◌, ◌<◌, ◌-◌, ◌^◌, ◌⊎◌, ℕ, vec_len, MatchResult, IfOk, IfErr};
 ghost use Rattle.std.specs.Option.{option_copied};
-ghost use Rattle.files_core.specs.Asked.{IsNumber, IsNumberOr, IsNoNumber, IsRecord, AreRecords};
+ghost use Rattle.files_core.specs.Asked.{IsNumber, IsNumberOr, IsNoNumber, IsRecord, AreRecords, IsRecordsRefusal};
 
 use crate::fault::{FileFault, Word};
 use std::alloc::Global;
@@ -55,6 +55,7 @@ pub fn read_record<R: TextRecord>(text: &[u8]) -> Result<R, FileFault>
 /// The records of a word, with a comma between each two.
 fn read_records<R: TextRecord>(alloc: Global, text: &[u8]) -> Result<Vec<R>, FileFault>
     ensures read { IfOk result (λ records. AreRecords R.spelling text.now records.items) }
+    ensures refused { IfErr result (IsRecordsRefusal R.spelling text.now) }
 {
     let mut records = Vec::new(alloc);
     let mut rest = Some(text);
@@ -80,19 +81,33 @@ pub fn read_setting<R: TextRecord>(
     records: &[u8],
 ) -> Result<Setting<R>, FileFault>
     ensures read { IfOk result (λ setting. IsNumber start.now setting.start × AreRecords R.spelling records.now setting.records.items) }
+    ensures refused { IfErr result (λ fault. ((fault ≡ FileFault.Word Word.Start) × ((n : ℕ) → IsNumber start.now n → ⊥))
+        ⊎ (((n : ℕ) × IsNumber start.now n) × IsRecordsRefusal R.spelling records.now fault)) }
 {
-    let start = number_of(start, Word::Start)?;
-    let records = read_records(alloc, records)?;
-    Ok(Setting { start, records })
+    let start = match number_of(start, Word::Start) {
+        Ok(start) => start,
+        Err(fault) => return Err(fault),
+    };
+    match read_records(alloc, records) {
+        Ok(records) => Ok(Setting { start, records }),
+        Err(fault) => Err(fault),
+    }
 }
 
 /// What the words N and RECORD of `resize` ask for. Refused, in this order: `Word(Length)`, `Word(Record)`.
 pub fn read_resizing<R: TextRecord>(len: &[u8], text: &[u8]) -> Result<Resizing<R>, FileFault>
     ensures read { IfOk result (λ resizing. IsNumber len.now resizing.len × IsRecord R.spelling text.now resizing.filler) }
+    ensures refused { IfErr result (λ fault. ((fault ≡ FileFault.Word Word.Length) × ((n : ℕ) → IsNumber len.now n → ⊥))
+        ⊎ ((fault ≡ FileFault.Word Word.Record) × ((n : ℕ) × IsNumber len.now n) × ((r : R) → IsRecord R.spelling text.now r → ⊥))) }
 {
-    let len = number_of(len, Word::Length)?;
-    let filler = read_record(text)?;
-    Ok(Resizing { len, filler })
+    let len = match number_of(len, Word::Length) {
+        Ok(len) => len,
+        Err(fault) => return Err(fault),
+    };
+    match read_record(text) {
+        Ok(filler) => Ok(Resizing { len, filler }),
+        Err(fault) => Err(fault),
+    }
 }
 
 /// The number that a word is, or another where there is no word.

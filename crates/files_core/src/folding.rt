@@ -1,10 +1,11 @@
 //! `fold`: live changes put into their home bytes.
 
-ghost use Rattle.std.specs.Prelude.{◌≡◌, ◌⊎◌, OnOk, IfErr};
+ghost use Rattle.std.specs.Prelude.{◌≡◌, ◌⊎◌, ◌+◌, OnOk, IfErr, MatchResult};
 ghost use Rattle.std.specs.Io.KnownBytes.{Appends};
 ghost use Rattle.disk_core.specs.Calls.{bytes_of};
 ghost use Rattle.files_core.specs.Ended.{EndsAs, Writes};
 ghost use Rattle.disk_core.specs.Moments.{LeavesOnly};
+ghost use Rattle.vault_core.specs.Commands.{failed};
 ghost use Rattle.vault_core.specs.Vault.{MayHold, list_of};
 ghost use Rattle.files_core.specs.Folding.{IsFolded, IsFoldRefusal, IsFoldingFault, Stays};
 ghost use Rattle.files_core.specs.Texts.{folded_line};
@@ -27,6 +28,9 @@ fn fold_vault<R: Record, D: Disk>(vault: &mut Vault<R, D>) -> Result<(), VaultFa
     ensures list { vault.new.blocks ≡ vault.old.blocks }
     ensures sure { D.keeps vault.new.pen.disk → (vault.new.sure ≡ vault.old.sure) ⊎ (vault.new.sure ≡ list_of vault.new) }
     ensures refused { IfErr result (IsFoldingFault vault.old.pen vault.new.pen) }
+    ensures faults { MatchResult result
+        (λ _. D.faults vault.new.pen.disk ≡ D.faults vault.old.pen.disk)
+        (λ fault. D.faults vault.new.pen.disk ≡ D.faults vault.old.pen.disk + failed fault) }
     ensures model { D.keeps vault.new.pen.disk → D.keeps vault.old.pen.disk }
 {
     // Whatever a crash leaves now opens to the list.
@@ -46,7 +50,7 @@ fn write_folded<W: Write>(writer: &mut W, live: u64) -> io::Result<()>
 /// changes are counted, and it is opened. Refused: `Open`; then `Vault`,
 /// as `Vault::begin_fold` and `Vault::settle`.
 pub fn fold<R: Record, D: Disk, W: Write>(alloc: Global, disk: D, writer: &mut W) -> (D, Ended)
-    ensures stays { D.keeps result.0 → EndsAs (Stays R.form D.states disk result.0) (IsFoldRefusal R.form D.states disk result.0) result.1 }
+    ensures stays { EndsAs (D.keeps result.0 → Stays R.form D.states disk result.0) (IsFoldRefusal R.form D.keeps D.states D.faults disk result.0) result.1 }
     ensures model { D.keeps result.0 → D.keeps disk }
     ensures writes { Writes (W.contents writer.old) (W.contents writer.new) (λ text. D.keeps result.0 → IsFolded R.form (bytes_of (D.states disk)) text) result.1 }
 {

@@ -3,6 +3,7 @@
 ghost use Rattle.std.specs.Prelude.{◌≡◌, ◌≢◌, ◌≤◌, ◌↔◌, ◌+◌, ◌++◌, ◌∷◌, ◌<◌, ◌^◌, [], ℕ, List, length, OnOk, IfOk, IfErr, IfSome, MatchResult};
 ghost use Rattle.record_core.specs.Limits.{payload_limit};
 ghost use Rattle.block_core.specs.Length.{payload_len};
+ghost use Rattle.text_core.specs.Refusals.{input_limit};
 ghost use Rattle.text_core.specs.Words.{BringsRecord};
 ghost use Rattle.files_core.specs.declared.fault.FileFault.TheVariants as faults;
 ghost use Rattle.files_core.specs.GrowthLines.{AllFit, AreGrowthLines, IsFirstTooLarge, IsGrowthLine, IsGrowthLineOf, IsLinesRefusal};
@@ -115,14 +116,15 @@ pub fn read_growth_lines<R: TextRecord, I: Read>(
     reader: &mut I,
 ) -> Result<Growths<R>, FileFault>
     ensures read { IfOk result (λ growths. IfSome (I.remaining reader.old) (λ input. AreGrowthLines R.spelling input growths.0)) }
+    ensures within { IfOk result (λ _. IfSome (I.remaining reader.old) (λ input. length input ≤ input_limit)) }
     ensures fit { IfOk result (λ growths. AllFit R.form.width growths.0) }
     ensures refused { IfErr result (λ fault. (refusal : Refusal) × (fault ≡ faults.Input refusal) × IfSome (I.remaining reader.old) (λ input. IsLinesRefusal R.form.width R.spelling input refusal)) }
 {
-    let read = match read_input(alloc, reader) {
-        Ok(input) => growths_of_lines::<R>(alloc, input.as_slice()),
-        Err(refusal) => Err(refusal),
+    let input = match read_input(alloc, reader) {
+        Ok(input) => input,
+        Err(refusal) => return Err(FileFault::Input(refusal)),
     };
-    match read {
+    match growths_of_lines::<R>(alloc, input.as_slice()) {
         Ok(growths) => Ok(growths),
         Err(refusal) => Err(FileFault::Input(refusal)),
     }

@@ -1,6 +1,6 @@
 //! `load`: growths of many growers.
 
-ghost use Rattle.std.specs.Prelude.{◌≡◌, ◌<◌, ◌≤◌, ◌^◌, ◌++◌, ℕ, List, Some, length, slice_get, OnOk, IfOk, IfErr, IfNone, IfSome, MatchOption, vec_len};
+ghost use Rattle.std.specs.Prelude.{◌≡◌, ◌⊎◌, ◌<◌, ◌≤◌, ◌^◌, ◌++◌, ℕ, List, Some, length, slice_get, OnOk, IfOk, IfErr, IfNone, IfSome, MatchOption, vec_len};
 ghost use Rattle.std.specs.Io.KnownBytes as known;
 ghost use Rattle.std.specs.Global.{Vec};
 ghost use Rattle.block_core.specs.Growth.{Growth};
@@ -8,7 +8,7 @@ ghost use Rattle.book_core.specs.declared.seat.Receipt.{Receipt};
 ghost use Rattle.directory_core.specs.Chain.{joined};
 ghost use Rattle.vault_core.specs.Vault.{list_of};
 ghost use Rattle.files_core.specs.Ended.{EndsAs, Writes};
-ghost use Rattle.files_core.specs.Loading.{AreDealt, AllMade, StandBehind, IsGrowthStop, IsLoaded, IsLoadRefusal};
+ghost use Rattle.files_core.specs.Loading.{IsFirstStop, AreDealt, AllMade, StandBehind, IsGrowthStop, IsLoaded, IsLoadRefusal};
 ghost use Rattle.files_core.specs.Texts.{loaded_line};
 
 use crate::crewing::Deck;
@@ -35,6 +35,17 @@ fn write_loaded<W: Write>(writer: &mut W, growths: u64, size: u64) -> io::Result
     write_line(b"", writer)
 }
 
+/// Why a grower stopped that has made so many of its growths, if it did.
+fn stop_of(fault: Option<GrowFault>, made: u64, count: u64) -> Option<GrowFault>
+    ensures { MatchOption result (count ≤ made) (λ stop. (fault ≡ Some stop) ⊎ ((stop ≡ GrowFault.Closed) × (made < count))) }
+{
+    match fault {
+        Some(fault) => Some(fault),
+        None if made < count => Some(GrowFault::Closed),
+        None => None,
+    }
+}
+
 /// The first grower, by its number, that made fewer growths than its source names for it, or had a fault.
 fn first_stopped<R: Record, D: Disk, S: Source<R>>(
     crewed: &Crewed<R, D>,
@@ -43,15 +54,14 @@ fn first_stopped<R: Record, D: Disk, S: Source<R>>(
     requires { (vec_len crewed.now.receipts ≡ S.growers_of source.now) × (vec_len crewed.now.faults ≡ S.growers_of source.now) }
     ensures { MatchOption result
         ((k : ℕ) → k < S.growers_of source.now → (its : Vec Receipt) → slice_get crewed.now.receipts.items k ≡ Some its → S.count_of source.now k ≤ length its.items)
-        (λ stopped. stopped.size ≡ length (list_of crewed.now.vault)) }
+        (λ stopped. (stopped.size ≡ length (list_of crewed.now.vault)) × IsFirstStop (S.growers_of source.now) (S.count_of source.now) crewed.now.receipts.items crewed.now.faults.items stopped) }
 {
     let growers = source.growers();
     for grower in 0..growers {
         let made = crewed.receipts[grower as usize].as_slice().len() as u64;
-        let fault = match crewed.faults[grower as usize] {
-            Some(fault) => fault,
-            None if made < source.count(grower) as u64 => GrowFault::Closed,
-            None => continue,
+        let count = source.count(grower) as u64;
+        let Some(fault) = stop_of(crewed.faults[grower as usize], made, count) else {
+            continue;
         };
         return Some(Stopped {
             grower,
@@ -127,7 +137,7 @@ pub fn load<
     gate: &G,
     writer: &mut W,
 ) -> (D, Ended)
-    ensures loaded { EndsAs ((size : ℕ) × IsLoaded R.form D.keeps D.states growths.0 growers disk result.0 size) (IsLoadRefusal R.form D.keeps D.states growths.0 growers disk result.0) result.1 }
+    ensures loaded { EndsAs ((size : ℕ) × IsLoaded R.form D.keeps D.states growths.0 growers disk result.0 size) (IsLoadRefusal R.form D.keeps D.states D.faults growths.0 growers disk result.0) result.1 }
     ensures writes { Writes (W.contents writer.old) (W.contents writer.new) (λ text. (size : ℕ) × IsLoaded R.form D.keeps D.states growths.0 growers disk result.0 size × (text ≡ loaded_line (length growths.0) size)) result.1 }
 {
     let vault = match Vault::<R, D>::open(alloc, disk) {

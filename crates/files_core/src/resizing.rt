@@ -25,7 +25,7 @@ pub fn resize<R: Record, D: Disk, W: Write>(
 ) -> (D, Ended)
     ensures resized { EndsAs
         (D.keeps result.0 → Replaces R.form D.states (λ was behind. behind ≡ resized asked.now.len asked.now.filler was) disk result.0)
-        (IsWorkFault R.form D.keeps D.states (IsResizeFault R.form D.keeps D.states D.faults asked.now.len asked.now.filler) disk result.0) result.1 }
+        (IsWorkFault R.form D.keeps D.states D.faults (IsResizeFault R.form D.keeps D.states D.faults asked.now.len asked.now.filler) disk result.0) result.1 }
     ensures model { D.keeps result.0 → D.keeps disk }
     ensures writes { WritesText (W.contents writer.old) (W.contents writer.new) ok_line result.1 }
 {
@@ -43,7 +43,7 @@ pub fn resize<R: Record, D: Disk, W: Write>(
 pub fn clear<R: Record, D: Disk, W: Write>(alloc: Global, disk: D, writer: &mut W) -> (D, Ended)
     ensures cleared { EndsAs
         (D.keeps result.0 → Replaces R.form D.states (λ _ behind. behind ≡ []) disk result.0)
-        (IsWorkFault R.form D.keeps D.states (IsClearFault R.form D.keeps D.states D.faults) disk result.0) result.1 }
+        (IsWorkFault R.form D.keeps D.states D.faults (IsClearFault R.form D.keeps D.states D.faults) disk result.0) result.1 }
     ensures model { D.keeps result.0 → D.keeps disk }
     ensures writes { WritesText (W.contents writer.old) (W.contents writer.new) ok_line result.1 }
 {

@@ -1,13 +1,13 @@
 //! Scanning what stands on a disk, in pieces.
 
-ghost use Rattle.std.specs.Prelude.{◌≡◌, ◌≤◌, ◌<◌, ◌+◌, ◌^◌, ◌++◌, [], ℕ, List, length, take, OnOk, IfOk, IfErr};
+ghost use Rattle.std.specs.Prelude.{◌≡◌, ◌≤◌, ◌<◌, ◌+◌, ◌^◌, ◌++◌, [], ℕ, List, length, take, OnOk, IfOk, IfErr, MatchResult};
 ghost use Rattle.disk_core.specs.Calls.{bytes_of, Stays};
 ghost use Rattle.disk_core.specs.Moments.{LeavesOnly};
 ghost use Rattle.disk_core.specs.State.{now, IsImage};
 ghost use Rattle.record_core.specs.Bytes.{IsBytes};
 ghost use Rattle.segment_core.specs.Scanned.{IsScanOf};
 ghost use Rattle.segment_core.specs.Scanner.{IsFed, IsLost};
-ghost use Rattle.pen_core.specs.Opening.{HasTaken, HasRead, IsOpenRefusal, OnlySyncs};
+ghost use Rattle.pen_core.specs.Opening.{HasTaken, HasRead, IsOpenRefusal, OnlySyncs, failed_openings};
 
 use disk_core::Disk;
 use pen_core::OpenFault;
@@ -30,6 +30,9 @@ fn feed_all<R: Record, D: Disk>(
     ensures refused { D.keeps disk.new → IfErr result (λ fault. (more : List ℕ) → IsOpenRefusal R.form (take len (bytes_of (D.states disk.old)) ++ more) fault) }
     ensures same { D.keeps disk.new → now (D.states disk.new) ≡ now (D.states disk.old) }
     ensures images { D.keeps disk.new → LeavesOnly (D.states disk.old) (D.states disk.new) (IsImage (now (D.states disk.old))) }
+    ensures faults { MatchResult result
+        (λ _. D.faults disk.new ≡ D.faults disk.old)
+        (λ fault. D.faults disk.new ≡ D.faults disk.old + failed_openings fault) }
     ensures model { D.keeps disk.new → D.keeps disk.old }
 {
     let mut buffer = [0; PIECE_LEN];
@@ -57,6 +60,9 @@ fn feed_piece<R: Record, D: Disk>(
     ensures more { OnOk result (HasTaken R.form (D.keeps disk.new) (bytes_of (D.states disk.old)) (at + length piece.old) scanner.new) }
     ensures refused { D.keeps disk.new → IfErr result (λ fault. (more : List ℕ) → IsOpenRefusal R.form (take (at + length piece.old) (bytes_of (D.states disk.old)) ++ more) fault) }
     ensures same { D.keeps disk.new → Stays (D.states disk.old) (D.states disk.new) }
+    ensures faults { MatchResult result
+        (λ _. D.faults disk.new ≡ D.faults disk.old)
+        (λ fault. D.faults disk.new ≡ D.faults disk.old + failed_openings fault) }
     ensures model { D.keeps disk.new → D.keeps disk.old }
 {
     if let Err(fault) = disk.read_at(at, piece) {
@@ -71,6 +77,7 @@ fn take_piece<R: Record>(scanner: &mut Scanner<R>, piece: &[u8]) -> Result<(), O
     ensures bytes { IsBytes piece.now }
     ensures fed { (image : List ℕ) → IsFed R.form image scanner.old → IsFed R.form (image ++ piece.now) scanner.new }
     ensures memory { IfErr result (λ fault. (fault ≡ OpenFault.Scan ScanFault.Memory) × IsLost scanner.new) }
+    ensures no_call { IfErr result (λ fault. failed_openings fault ≡ 0) }
 {
     match scanner.feed(piece) {
         Ok(()) => Ok(()),
@@ -91,6 +98,9 @@ pub(crate) fn scan_front<R: Record, D: Disk>(
     ensures refused { D.keeps disk.new → IfErr result (IsOpenRefusal R.form (take len (bytes_of (D.states disk.old)) ++ tail.now)) }
     ensures same { D.keeps disk.new → now (D.states disk.new) ≡ now (D.states disk.old) }
     ensures images { D.keeps disk.new → LeavesOnly (D.states disk.old) (D.states disk.new) (IsImage (now (D.states disk.old))) }
+    ensures faults { MatchResult result
+        (λ _. D.faults disk.new ≡ D.faults disk.old)
+        (λ fault. D.faults disk.new ≡ D.faults disk.old + failed_openings fault) }
     ensures model { D.keeps disk.new → D.keeps disk.old }
 {
     let mut scanner = Scanner::of_length(alloc, len);
@@ -115,6 +125,9 @@ pub(crate) fn scan_disk<R: Record, D: Disk>(
     ensures found { D.keeps disk.new → IfOk result (IsScanOf R.form (bytes_of (D.states disk.old))) }
     ensures refused { D.keeps disk.new → IfErr result (IsOpenRefusal R.form (bytes_of (D.states disk.old))) }
     ensures only_syncs { D.keeps disk.new → OnlySyncs (D.states disk.old) (D.states disk.new) }
+    ensures faults { MatchResult result
+        (λ _. D.faults disk.new ≡ D.faults disk.old)
+        (λ fault. D.faults disk.new ≡ D.faults disk.old + failed_openings fault) }
     ensures model { D.keeps disk.new → D.keeps disk.old }
 {
     if let Err(fault) = disk.sync() {

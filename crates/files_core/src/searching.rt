@@ -37,7 +37,7 @@ pub fn count<R: TextRecord, D: Disk, W: Write, E: Threads + Sync>(
     wanted: R,
     writer: &mut W,
 ) -> (D, Ended)
-    ensures reads { OnlyReads R.form D.keeps D.states disk result.0 result.1 }
+    ensures reads { OnlyReads R.form D.keeps D.states D.faults disk result.0 result.1 }
     ensures writes { Writes (W.contents writer.old) (W.contents writer.new) (λ text. D.keeps result.0 → IsCounted R.form R.Eq.eq wanted (bytes_of (D.states disk)) text) result.1 }
 {
     let vault = match Vault::<R, D>::open(alloc, disk) {
@@ -57,7 +57,7 @@ pub fn find<R: TextRecord, D: Disk, W: Write, E: Threads + Sync>(
     wanted: R,
     writer: &mut W,
 ) -> (D, Ended)
-    ensures reads { OnlyReads R.form D.keeps D.states disk result.0 result.1 }
+    ensures reads { OnlyReads R.form D.keeps D.states D.faults disk result.0 result.1 }
     ensures writes { Writes (W.contents writer.old) (W.contents writer.new) (λ text. D.keeps result.0 → IsFound R.form R.Eq.eq wanted (bytes_of (D.states disk)) text) result.1 }
 {
     let vault = match Vault::<R, D>::open(alloc, disk) {

@@ -1,8 +1,8 @@
 //! `set`: other records from a position on.
 
-ghost use Rattle.std.specs.Prelude.{◌≡◌, ◌<◌, length, OnOk};
+ghost use Rattle.std.specs.Prelude.{◌≡◌, ◌<◌, length, MatchResult};
 ghost use Rattle.pen_core.specs.Refusals.{change_lines, one_run};
-ghost use Rattle.vault_core.specs.Commands.{IsCommand, changed_frame};
+ghost use Rattle.vault_core.specs.Commands.{IsCommand, Stands, changed_frame};
 ghost use Rattle.vault_core.specs.Touched.{IsTouched};
 ghost use Rattle.vault_core.specs.Vault.{list_of};
 ghost use Rattle.files_core.specs.Changing.{Replaces, IsWorkFault, IsSetFault};
@@ -53,7 +53,9 @@ fn put<R: Record, D: Disk, E: Threads + Sync>(
     records: &[R],
 ) -> Result<(), VaultFault>
     requires { 0 < length records.now }
-    ensures list { OnOk result (IsTouched (given start records.now) (one_run start (length records.now)) (list_of vault.old) (list_of vault.new)) }
+    ensures list { MatchResult result
+        (λ _. IsTouched (given start records.now) (one_run start (length records.now)) (list_of vault.old) (list_of vault.new))
+        (Stands (IsTouched (given start records.now) (one_run start (length records.now)) (list_of vault.old) (list_of vault.new)) (vault.new.blocks ≡ vault.old.blocks)) }
     ensures command { IsCommand R.form D.keeps D.states D.faults (changed_frame R.form (one_run start (length records.now)) (list_of vault.new)) (change_lines vault.old.pen (one_run start (length records.now))) vault.old vault.new result }
 {
     let given = Given { start, records };
@@ -71,7 +73,7 @@ pub fn set<R: Record, D: Disk, W: Write, E: Threads + Sync>(
 ) -> (D, Ended)
     ensures set { EndsAs
         (D.keeps result.0 → Replaces R.form D.states (IsTouched (given asked.now.start asked.now.records.items) (one_run asked.now.start (length asked.now.records.items))) disk result.0)
-        (IsWorkFault R.form D.keeps D.states (IsSetFault R.form D.keeps D.states D.faults asked.now.start (length asked.now.records.items)) disk result.0) result.1 }
+        (IsWorkFault R.form D.keeps D.states D.faults (IsSetFault R.form D.keeps D.states D.faults asked.now.start asked.now.records.items) disk result.0) result.1 }
     ensures model { D.keeps result.0 → D.keeps disk }
     ensures writes { WritesText (W.contents writer.old) (W.contents writer.new) ok_line result.1 }
 {

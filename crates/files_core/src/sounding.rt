@@ -1,10 +1,11 @@
 //! What is sound of a damaged file.
 
-ghost use Rattle.std.specs.Prelude.{◌≡◌, ◌⊎◌, ◌≤◌, ◌<◌, ◌+◌, ◌^◌, MatchOption, IfOk, IfErr};
+ghost use Rattle.std.specs.Prelude.{◌≡◌, ◌⊎◌, ◌≤◌, ◌<◌, ◌+◌, ◌^◌, MatchOption, MatchResult, IfOk, IfErr};
 ghost use Rattle.disk_core.specs.Calls.{bytes_of};
 ghost use Rattle.disk_core.specs.Moments.{LeavesOnly};
 ghost use Rattle.disk_core.specs.State.{now, IsImage};
 ghost use Rattle.segment_core.specs.Fault.{damaged};
+ghost use Rattle.pen_core.specs.Opening.{failed_openings};
 ghost use Rattle.pen_core.specs.declared.fault.OpenFault.TheVariants as faults;
 ghost use Rattle.files_core.specs.SoundFront.{IsNoCutOf, IsSoundFront, IsFrontRefusal};
 
@@ -42,6 +43,9 @@ pub fn sound_front<R: Record, D: Disk>(
     ensures refused { D.keeps disk.new → IfErr result (IsFrontRefusal R.form (bytes_of (D.states disk.old)) at) }
     ensures same { D.keeps disk.new → now (D.states disk.new) ≡ now (D.states disk.old) }
     ensures images { D.keeps disk.new → LeavesOnly (D.states disk.old) (D.states disk.new) (IsImage (now (D.states disk.old))) }
+    ensures faults { MatchResult result
+        (λ _. D.faults disk.new ≡ D.faults disk.old)
+        (λ fault. D.faults disk.new ≡ D.faults disk.old + failed_openings fault) }
     ensures model { D.keeps disk.new → D.keeps disk.old }
 {
     let len = match disk.len() {

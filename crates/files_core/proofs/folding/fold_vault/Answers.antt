@@ -20,4 +20,4 @@ pub returns-clause-images : goal.returns-clause-images
 returns-clause-images g c = λ model. began_images g.R.Record.form g.D.Disk.keeps g.D.Disk.states c.args.vault.now c.begin_fold.new.self c.settle.new.self.pen.disk (same_disk _ _ _ c.in_ok-begin_fold.ensures.begun) c.begin_fold.ensures.list.0 c.begin_fold.ensures.list.1 (c.settle.ensures.images model)
 
 pub returns-clause-refused : goal.returns-clause-refused
-returns-clause-refused g c = MatchResult-weaker c.settle.result c.settle.ensures.refused (λ _ x. x) (λ fault why. inr (c.begin_fold.new.self.pen, why))
+returns-clause-refused g c = MatchResult-weaker c.settle.result c.settle.ensures.refused (λ _ x. x) (λ fault why. inr (c.begin_fold.new.self.pen, same_disk _ _ _ c.in_ok-begin_fold.ensures.begun, why))

@@ -3,7 +3,8 @@ use Rattle.disk_core.specs.Moments.{LeavesOnly}
 use Rattle.vault_core.specs.Crewing.{HasCrewed, OpensToGrown}
 use Rattle.vault_core.specs.Vault.{list_of}
 use Rattle.files_core.specs.Dealt.{count_for, dealt}
-use Rattle.files_core.proofs.Crewed.{crewed_as, are_dealt, stand_behind, size_is, all_made}
+use Rattle.files_core.specs.Loading.{IsFirstStop}
+use Rattle.files_core.proofs.Crewed.{crewed_as, stopped_as, are_dealt, stand_behind, size_is, all_made}
 use Rattle.files_core.proofs.loading.grow_by.Goals as goal
 
 pub returns-in-Err-Gather-clause-stopped : goal.returns-in-Err-Gather-clause-stopped
@@ -44,5 +45,7 @@ returns-clause-stopped g c =
       crewed.0,
       are_dealt g.R.Record.form g.D.Disk.keeps g.D.Disk.states (g.G.Gate.may_stop c.args.gate.now) growths growers c.args.vault c.in-Ok.crewed.vault receipts c.in-Ok.crewed.faults.items crewed,
       stand_behind g.R.Record.form g.D.Disk.keeps g.D.Disk.states (g.G.Gate.may_stop c.args.gate.now) growths growers c.args.vault c.in-Ok.crewed.vault receipts c.in-Ok.crewed.faults.items crewed c.into_disk-in-Some-first_stopped.result c.into_disk-in-Some-first_stopped.ensures.disk,
-      size_is g.R.Record.form g.D.Disk.keeps g.D.Disk.states (g.G.Gate.may_stop c.args.gate.now) growths growers c.args.vault c.in-Ok.crewed.vault receipts c.in-Ok.crewed.faults.items crewed _ c.in-Some-first_stopped.ensures,
+      size_is g.R.Record.form g.D.Disk.keeps g.D.Disk.states (g.G.Gate.may_stop c.args.gate.now) growths growers c.args.vault c.in-Ok.crewed.vault receipts c.in-Ok.crewed.faults.items crewed _ c.in-Some-first_stopped.ensures.0,
+      stopped_as g.R.Record.form g.D.Disk.keeps g.D.Disk.states (g.G.Gate.may_stop c.args.gate.now) growths growers c.args.vault c.in-Ok.crewed.vault receipts c.in-Ok.crewed.faults.items crewed _ c.in-Some-first_stopped.ensures.0
+          (subst (λ n. IsFirstStop n (count_for (length growths) growers) receipts c.in-Ok.crewed.faults.items c.in-Some-first_stopped.stopped) s.0 (subst (λ (count : ℕ → ℕ). IsFirstStop (g.S.Source.growers_of c.in-Some.source) count receipts c.in-Ok.crewed.faults.items c.in-Some-first_stopped.stopped) s.1 c.in-Some-first_stopped.ensures.1)),
     )

@@ -11,7 +11,7 @@ returns-in-Ok-resize-clause-resized g c =
     let v = c.in-Ok.vault in
     let e = c.in-Ok.ensures in
     let n = c.args.asked.now.len in
-    let opened : IsOpenedOn g.R.Record.form g.D.Disk.keeps g.D.Disk.states c.args.disk c.in-Ok.vault = record { rests = e.rests; opened = e.opened; sure = e.sure; only_syncs = e.only_syncs; model = e.model } in
+    let opened : IsOpenedOn g.R.Record.form g.D.Disk.keeps g.D.Disk.states g.D.Disk.faults c.args.disk c.in-Ok.vault = record { rests = e.rests; opened = e.opened; sure = e.sure; only_syncs = e.only_syncs; faults_same = e.faults; model = e.model } in
     told_ends _ _ _ _ c.told.ensures (elim (three_ways (length (list_of v)) n) [
       | inl up ↦ replaced_by g.R.Record.form g.D.Disk.keeps g.D.Disk.states g.D.Disk.faults (λ was behind. behind ≡ resized n c.args.asked.now.filler was) _ _ v c.resize.new.self opened c.into_disk.ensures.disk c.into_disk.ensures.images c.in-Ok-resize.ensures.list _ _ (c.in-Ok-resize.ensures.up up)
       | inr (inl down) ↦ replaced_by g.R.Record.form g.D.Disk.keeps g.D.Disk.states g.D.Disk.faults (λ was behind. behind ≡ resized n c.args.asked.now.filler was) _ _ v c.resize.new.self opened c.into_disk.ensures.disk c.into_disk.ensures.images c.in-Ok-resize.ensures.list _ _ (c.in-Ok-resize.ensures.down down)
@@ -22,7 +22,7 @@ pub returns-in-Err-resize-clause-resized : goal.returns-in-Err-resize-clause-res
 returns-in-Err-resize-clause-resized g c =
     let v = c.in-Ok.vault in
     let e = c.in-Ok.ensures in
-    let opened : IsOpenedOn g.R.Record.form g.D.Disk.keeps g.D.Disk.states c.args.disk c.in-Ok.vault = record { rests = e.rests; opened = e.opened; sure = e.sure; only_syncs = e.only_syncs; model = e.model } in (
+    let opened : IsOpenedOn g.R.Record.form g.D.Disk.keeps g.D.Disk.states g.D.Disk.faults c.args.disk c.in-Ok.vault = record { rests = e.rests; opened = e.opened; sure = e.sure; only_syncs = e.only_syncs; faults_same = e.faults; model = e.model } in (
       v,
       c.resize.new.self,
       opened,
@@ -30,6 +30,7 @@ returns-in-Err-resize-clause-resized g c =
       record {
         up = c.in-Err-resize.ensures.up;
         down = c.in-Err-resize.ensures.down;
-        other = λ same. not_broken g.R.Record.form g.D.Disk.keeps g.D.Disk.states _ v _ opened (c.in-Err-resize.ensures.nothing same).1;
+        list = c.in-Err-resize.ensures.list;
+        other = λ same. not_broken g.R.Record.form g.D.Disk.keeps g.D.Disk.states g.D.Disk.faults _ v _ opened (c.in-Err-resize.ensures.nothing same).1;
       },
     )

@@ -12,6 +12,7 @@ loop-at-init g c =
     let old = g.D.Disk.states c.args.disk.now in
     record {
       inside = omega arith;
+      faults = refl;
       model = λ model. model;
       taken = taken_nothing g.R.Record.form (g.D.Disk.keeps c.args.disk.now) (bytes_of old) c.args.scanner.now c.requires.begun;
       same = λ model. refl;
@@ -42,6 +43,7 @@ loop-at-preserved g c =
     let new = g.D.Disk.states c.feed_piece.new.disk in
     record {
       inside = omega (arith, c.min-n.ensures, c.loop-at.invariant.inside);
+      faults = c.in_default.ensures.faults ∙ c.loop-at.invariant.faults;
       model = λ model. c.loop-at.invariant.model (c.feed_piece.ensures.model model);
       taken = (
           let size : length (take c.min-n.result c.loop-at.buffer) ≡ c.min-n.result = omega (arith, length-take c.min-n.result c.loop-at.buffer, c.min-n.ensures) in

@@ -8,6 +8,7 @@ use Rattle.files_core.proofs.scanning.feed_all.Given as goal
 abbrev pub invariant-loop-at : goal.invariant-loop-at
 invariant-loop-at g l = record {
   inside : l.at ≤ l.len;
+  faults : g.D.Disk.faults l.disk ≡ g.D.Disk.faults l.fn.disk;
   model : g.D.Disk.keeps l.disk → g.D.Disk.keeps l.fn.disk;
   taken : HasTaken g.R.Record.form (g.D.Disk.keeps l.disk) (bytes_of (g.D.Disk.states l.fn.disk)) l.at l.scanner;
   same : g.D.Disk.keeps l.disk → now (g.D.Disk.states l.disk) ≡ now (g.D.Disk.states l.fn.disk);

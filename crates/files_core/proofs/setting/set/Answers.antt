@@ -1,8 +1,8 @@
-use Rattle.std.proofs.Common.{List, length, Err, sym, subst}
-use Rattle.pen_core.specs.Refusals.{change_lines, one_run}
-use Rattle.vault_core.specs.Commands.{IsCommand, changed_frame}
+use Rattle.std.proofs.Common.{List, length, sym, subst}
+use Rattle.pen_core.specs.Refusals.{one_run}
 use Rattle.vault_core.specs.Touched.{IsTouched}
 use Rattle.vault_core.specs.Vault.{list_of}
+use Rattle.files_core.specs.Changing.{IsSetFault}
 use Rattle.files_core.specs.Given.{given}
 use Rattle.files_core.specs.Opened.{IsOpenedOn}
 use Rattle.files_core.proofs.Opened.{told_ends}
@@ -15,7 +15,7 @@ returns-in-Ok-put-clause-set g c =
     let w = c.put.new.vault in
     let e = c.in-Ok.ensures in
     let start = c.args.asked.now.start in
-    let opened : IsOpenedOn g.R.Record.form g.D.Disk.keeps g.D.Disk.states c.args.disk c.in-Ok.vault = record { rests = e.rests; opened = e.opened; sure = e.sure; only_syncs = e.only_syncs; model = e.model } in
+    let opened : IsOpenedOn g.R.Record.form g.D.Disk.keeps g.D.Disk.states g.D.Disk.faults c.args.disk c.in-Ok.vault = record { rests = e.rests; opened = e.opened; sure = e.sure; only_syncs = e.only_syncs; faults_same = e.faults; model = e.model } in
     told_ends _ _ _ _ c.told.ensures (replaced_by g.R.Record.form g.D.Disk.keeps g.D.Disk.states g.D.Disk.faults _ _ _ v w opened c.into_disk.ensures.disk c.into_disk.ensures.images
     (subst (λ (rs : List g.row.R.Denot). IsTouched (given start rs) (one_run start (length rs)) (list_of v) (list_of w)) c.as_slice.ensures.value c.in-Ok-put.ensures.list) _ _ c.in-Ok-put.ensures.command)
 
@@ -25,10 +25,10 @@ returns-in-Err-put-clause-set g c =
     let w = c.put.new.vault in
     let e = c.in-Ok.ensures in
     let start = c.args.asked.now.start in
-    let opened : IsOpenedOn g.R.Record.form g.D.Disk.keeps g.D.Disk.states c.args.disk c.in-Ok.vault = record { rests = e.rests; opened = e.opened; sure = e.sure; only_syncs = e.only_syncs; model = e.model } in (
+    let opened : IsOpenedOn g.R.Record.form g.D.Disk.keeps g.D.Disk.states g.D.Disk.faults c.args.disk c.in-Ok.vault = record { rests = e.rests; opened = e.opened; sure = e.sure; only_syncs = e.only_syncs; faults_same = e.faults; model = e.model } in (
       v,
       w,
       opened,
       sym c.into_disk-in-Err-put.ensures.disk,
-      subst (λ (rs : List g.row.R.Denot). IsCommand g.R.Record.form g.D.Disk.keeps g.D.Disk.states g.D.Disk.faults (changed_frame g.R.Record.form (one_run start (length rs)) (list_of w)) (change_lines v.pen (one_run start (length rs))) v w (Err c.in-Err-put.fault)) c.as_slice.ensures.value c.in-Err-put.ensures.command,
+      subst (λ (rs : List g.row.R.Denot). IsSetFault g.R.Record.form g.D.Disk.keeps g.D.Disk.states g.D.Disk.faults start rs v w c.in-Err-put.fault) c.as_slice.ensures.value (record { command = c.in-Err-put.ensures.command; list = c.in-Err-put.ensures.list }),
     )
