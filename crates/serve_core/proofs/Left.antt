@@ -10,13 +10,12 @@ use Rattle.pen_core.specs.Opening.{IsOpened, OnlySyncs}
 use Rattle.pen_core.specs.PenOf.{PenOf}
 use Rattle.pen_core.specs.Typed.{OpensTo}
 use Rattle.directory_core.specs.Chain.{joined}
-use Rattle.block_core.specs.Growth.{Growth}
 use Rattle.book_core.specs.Lists.{Phase, joined_pieces}
 use Rattle.flush_core.specs.Flusher.{FlusherOf, IsFlusherOf, OpensToFirst, OpensToJob}
 use Rattle.flush_core.specs.Serving.{Serves}
 use Rattle.vault_core.specs.Vault.{VaultOf, OpensToEither, MayHold, list_of}
 use Rattle.vault_core.specs.Crewing.{OpensToGrown}
-use Rattle.serve_core.specs.Serving.{IsServed, OpensBehind}
+use Rattle.serve_core.specs.Serving.{IsServed, IsAllServed, OpensBehind}
 
 module _ {R D : Type 0} (form : Encoding R) (keeps : D → Type 0) (states : D → List State) (disk : D) (vault : VaultOf R D)
     (opened : keeps vault.pen.disk → IsOpened form (bytes_of (states disk)) vault.pen (list_of vault)) (syncs : keeps vault.pen.disk → OnlySyncs (states disk) (states vault.pen.disk)) where
@@ -27,23 +26,25 @@ module _ {R D : Type 0} (form : Encoding R) (keeps : D → Type 0) (states : D �
   before_or P kept = LeavesOnly-weaker (states disk) (states vault.pen.disk) (IsImage (now (states disk))) (λ image. IsImage (now (states disk)) image ⊎ P image) (λ image is. inl is) (syncs kept).left_before
 
   -- no client was served
-  pub not_shared : (left : D) → left ≡ vault.pen.disk → (keeps vault.pen.disk → vault.sure ≡ list_of vault) → (keeps left → (image : List ℕ) → IsImage (now (states left)) image → MayHold form vault image) → keeps left → IsServed form states disk left 0
+  pub not_shared : (left : D) → left ≡ vault.pen.disk → (keeps vault.pen.disk → vault.sure ≡ list_of vault) → (keeps left → (image : List ℕ) → IsImage (now (states left)) image → MayHold form vault image) → keeps left → (served : IsServed form states disk left 0) × (served.growths ≡ [])
   not_shared left same sure images kept =
-      let still : keeps vault.pen.disk = subst keeps same kept in
-      record {
-        before = list_of vault;
-        growths = [];
-        file = file still;
-        few = omega arith;
-        meanwhile = subst (λ d. LeavesOnly (states disk) (states d) (λ image. IsImage (now (states disk)) image ⊎ OpensToGrown form (list_of vault) [] image)) (sym same) (before_or (OpensToGrown form (list_of vault) []) still);
-        stands = λ image is. record { count = 0; at_least = omega arith; known = omega arith; opens = subst (OpensTo form image) (sym (append-nil (list_of vault))) (one image (sure still) (images kept image is)) };
-      }
+      let still : keeps vault.pen.disk = subst keeps same kept in (
+        record {
+          before = list_of vault;
+          growths = [];
+          file = file still;
+          few = omega arith;
+          meanwhile = subst (λ d. LeavesOnly (states disk) (states d) (λ image. IsImage (now (states disk)) image ⊎ OpensToGrown form (list_of vault) [] image)) (sym same) (before_or (OpensToGrown form (list_of vault) []) still);
+          stands = λ image is. record { count = 0; at_least = omega arith; known = omega arith; opens = subst (OpensTo form image) (sym (append-nil (list_of vault))) (one image (sure still) (images kept image is)) };
+        },
+        refl,
+      )
     where
       one : (image : List ℕ) → vault.sure ≡ list_of vault → OpensToEither form vault.sure (list_of vault) image → OpensTo form image (list_of vault)
       one image is (inl opens) = subst (OpensTo form image) is opens
       one image is (inr opens) = opens
 
-  pub handed_back : (back : VaultOf R D) → back ≡ vault → (left : D) → left ≡ back.pen.disk → (keeps vault.pen.disk → vault.sure ≡ list_of vault) → (keeps left → (image : List ℕ) → IsImage (now (states left)) image → MayHold form back image) → keeps left → IsServed form states disk left 0
+  pub handed_back : (back : VaultOf R D) → back ≡ vault → (left : D) → left ≡ back.pen.disk → (keeps vault.pen.disk → vault.sure ≡ list_of vault) → (keeps left → (image : List ℕ) → IsImage (now (states left)) image → MayHold form back image) → keeps left → (served : IsServed form states disk left 0) × (served.growths ≡ [])
   handed_back back is left same sure images kept = not_shared left (same ∙ ap (λ (v : VaultOf R D). v.pen.disk) is) sure (λ k image at. subst (λ (v : VaultOf R D). MayHold form v image) is (images k image at)) kept
 
   module _ (live : Phase R) (begun served : FlusherOf R D) (blocks : live.blocks ≡ vault.blocks) (pen : begun.pen ≡ vault.pen) (of : IsFlusherOf (keeps served.pen.disk) live served) (goes : Serves form keeps states begun served) where
@@ -96,6 +97,6 @@ module _ {R D : Type 0} (form : Encoding R) (keeps : D → Type 0) (states : D �
           }
 
       -- and all that they grew is settled
-      pub all_settled : served.settled ≡ length served.pass.entries → (was : IsServed form states disk left settled) × (settled ≡ length was.growths)
+      pub all_settled : served.settled ≡ length served.pass.entries → IsAllServed form states disk left settled
       unfolding was_served
       all_settled all = (was_served, count_is ∙ all)

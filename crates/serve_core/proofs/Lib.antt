@@ -1,3 +1,4 @@
 pub mod Bytes
 pub mod Talks
 pub mod Left
+pub mod Refused

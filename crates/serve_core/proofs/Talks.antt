@@ -1,22 +1,26 @@
 -- A conversation goes on.
-use Rattle.std.proofs.Common.{◌≡◌, ◌≢◌, ℕ, ◌+◌, ◌<◌, ◌≤◌, max, List, [], ◌∷◌, ◌++◌, length, All, Option, sym, refl, subst, ap, arith, ◌∙◌, append_assoc, None, Some, IfSome, inl, inr}
+use Rattle.std.proofs.Common.{◌≡◌, ℕ, ◌+◌, ◌<◌, ◌≤◌, max, List, [], ◌∷◌, ◌++◌, length, All, Contains, Option, sym, refl, subst, ap, arith, ◌∙◌, append_assoc, None, Some, IfSome, ◌⊎◌, inl, inr}
 use Rattle.std.specs.Io.KnownBytes.{Consumes, Appends}
 use Rattle.std.proofs.KnownBytes.{Consumes-nil, Consumes-trans}
 use Rattle.std.proofs.lemmas.List.{length-append, append-nil}
-use Rattle.std.proofs.lemmas.List.Elements.{All-nil, All-push, All-weaker}
+use Rattle.std.proofs.lemmas.List.Elements.{All-nil, All-cons, All-push, All-weaker, Contains-append_left, Contains-push}
+use Rattle.std.proofs.lemmas.Bool.{cases_lt}
 use Rattle.record_core.specs.Bytes.{Encoding}
 use Rattle.block_core.specs.Growth.{Growth}
 use Rattle.book_core.specs.declared.seat.Receipt.{Receipt}
 use Rattle.book_core.specs.Lists.{Phase, Seated, IsSeatOf}
-use Rattle.book_core.specs.Growing.{Grown, growth_of}
+use Rattle.book_core.specs.Growing.{Grown, SeatIsTold, growth_of}
+use Rattle.book_core.specs.Marks.{MarkEnd}
+use Rattle.book_core.specs.declared.mark.MarkState.{MarkState}
 use Rattle.serve_core.specs.declared.talking.TalkEnd.{TalkEnd}
-use Rattle.serve_core.specs.declared.talking.TalkEnd.TheVariants.{OutputFailed}
+use Rattle.serve_core.specs.declared.talking.TalkEnd.TheVariants.{Ended, Gone, Refused, OutputFailed, Memory}
 use Rattle.serve_core.specs.Answers.{answer_bytes}
-use Rattle.serve_core.specs.Talks.{AllBelow, AreExchanges, Exchange, IsExchange, IsOfRequest, HasTalked, asked, told}
+use Rattle.serve_core.specs.Talks.{AllBelow, IsNextOf, HasUnsettled, AreExchanges, Exchange, IsExchange, IsOfRequest, IsDone, IsUntold, GoesOn, AllGoOn, EndsTalk, EndsSo, HasTalked, asked, told, told_of}
 use Rattle.serve_core.specs.Requests.{IsHead, head_of}
 use Rattle.serve_core.specs.declared.request.Head.{Head}
 use Rattle.serve_core.specs.declared.request.Request.{Request}
 use Rattle.serve_core.specs.declared.answer.Answer.{Answer}
+use Rattle.serve_core.specs.declared.answer.Answer.TheVariants as answers
 
 pub Appends-then : (u v w : Option (List ℕ)) (a b : List ℕ) → Appends u v a → Appends v w b → Appends u w (a ++ b)
 Appends-then None v w a b x y = tt
@@ -28,74 +32,185 @@ Appends-nil : (a : Option (List ℕ)) → Appends a a []
 Appends-nil None = tt
 Appends-nil (Some x) = sym (append-nil x)
 
--- a bound of their numbers that is no less
-pub below_weaker : {R : Type 0} (seat : Seated R) (n m : ℕ) → n ≤ m → AllBelow n seat → AllBelow m seat
-below_weaker seat n m le all = All-weaker (λ g. g.number < n) (λ g. g.number < m) (λ g lt. omega (arith, le, lt)) seat.made all
+-- all that were made are below that
+pub next_below : {R : Type 0} (n m : ℕ) (made : List (Growth R)) (seat : Seated R) → IsNextOf n made → seat.made ≡ made → n ≤ m → AllBelow m seat
+next_below {R} n m made seat next is le =
+    subst (All (λ (g : Growth R). g.number < m)) (sym is) (All-weaker (λ (g : Growth R). g.number < n) (λ (g : Growth R). g.number < m) (λ g lt. omega (arith, le, lt)) made next.below)
+
+pub next_same : {R : Type 0} (n m : ℕ) (made : List (Growth R)) → IsNextOf n made → n ≡ m → IsNextOf m made
+next_same n m made next is = subst (λ k. IsNextOf k made) is next
+
+-- the last isn't settled
+pub last_unsettled : {R : Type 0} (number count : ℕ) (state : MarkState) (old new : Seated R) → IsNextOf (number + 1) old.made → SeatIsTold old new count state → count ≤ number → HasUnsettled new
+last_unsettled {R} number count state old new next is le =
+    let last = next.last (omega arith) in
+    let told : new.mark.told.count ≡ count = ap (λ (m : MarkEnd). m.told.count) is.mark in (
+      last.0,
+      subst (λ (made : List (Growth R)). Contains made last.0) (sym is.same.1) last.1,
+      omega (arith, told, le, last.2),
+    )
+
+-- none was made
+next_of_none : {R : Type 0} (made : List (Growth R)) → made ≡ [] → IsNextOf 0 made
+next_of_none {R} made none = record {
+  below = subst (All (λ (g : Growth R). g.number < 0)) (sym none) (All-nil (λ (g : Growth R). g.number < 0));
+  last = λ some. absurd (omega (arith, some));
+}
 
 -- the seat has made one more
-pub below_grown : {R : Type 0} (live : Phase R) (old new : Seated R) (records : List R) (receipt : Receipt) (n : ℕ) → Grown live old new records receipt → AllBelow n old → AllBelow (max (length new.pass.entries) n) new
-below_grown {R} live old new records receipt n grown all =
-    let growth = growth_of old grown.before records in
-    let m = max (length new.pass.entries) n in
-    let known : length new.pass.entries ≡ length grown.before + 1 = ap length grown.ends ∙ length-append grown.before (growth ∷ []) in
-    let mine : growth.number < m = omega (arith, known) in
-    let others : All (λ (g : Growth R). g.number < m) old.made = below_weaker old n m (omega arith) all in
-    subst (All (λ (g : Growth R). g.number < m)) (sym grown.made) (All-push (λ (g : Growth R). g.number < m) old.made growth others mine)
+pub next_grown : {R : Type 0} (live : Phase R) (old new : Seated R) (records : List R) (receipt : Receipt) (n : ℕ) → Grown live old new records receipt → IsNextOf n old.made → IsNextOf (max (length new.pass.entries) n) new.made
+next_grown {R} live old new records receipt n grown next = subst (IsNextOf (max (length new.pass.entries) n)) (sym grown.made) (record { below = All-push (λ (g : Growth R). g.number < max (length new.pass.entries) n) old.made (growth_of old grown.before records) others mine; last = λ some. one (cases_lt (length new.pass.entries) n) })
+  where
+    known : length new.pass.entries ≡ length grown.before + 1
+    known = ap length grown.ends ∙ length-append grown.before (growth_of old grown.before records ∷ [])
+
+    mine : (growth_of old grown.before records).number < max (length new.pass.entries) n
+    mine = omega (arith, known)
+
+    others : All (λ (g : Growth R). g.number < max (length new.pass.entries) n) old.made
+    others = All-weaker (λ (g : Growth R). g.number < n) (λ (g : Growth R). g.number < max (length new.pass.entries) n) (λ g lt. omega (arith, lt)) old.made next.below
+
+    one : (length new.pass.entries < n) ⊎ (n ≤ length new.pass.entries)
+        → (g : Growth R) × Contains (old.made ++ growth_of old grown.before records ∷ []) g × (g.number + 1 ≡ max (length new.pass.entries) n)
+    one (inl above) =
+        let last = next.last (omega (arith, above)) in
+        (last.0, Contains-append_left old.made (growth_of old grown.before records ∷ []) last.0 last.1, omega (arith, above, last.2))
+    one (inr below) = (growth_of old grown.before records, Contains-push old.made (growth_of old grown.before records), omega (arith, below, known))
 
 -- What holds between two requests.
 pub record IsTalking {R : Type 0} (form : Encoding R) (live : Phase R) (seat : Seated R) (input output : Option (List ℕ)) (next : ℕ) (seat_now : Seated R) (input_now output_now : Option (List ℕ)) : Type 0 where
   pub of : IsSeatOf live seat_now
-  pub numbers : AllBelow next seat_now
+  pub numbers : IsNextOf next seat_now.made
   pub exchanges : List (Exchange R)
   pub are : AreExchanges form live seat exchanges seat_now
   pub requests : Consumes input input_now (asked exchanges)
   pub answers : Appends output output_now (told form exchanges)
+  pub go_on : AllGoOn exchanges
+
+-- no answer ends a conversation for want of memory
+no_memory : (answer : Answer) → EndsTalk Memory answer → ⊥
+no_memory answers.Ended is = cc
+no_memory (answers.Refused refusal) is = let e = is.1 in cc
+no_memory (answers.Grown number start) is = is
+no_memory (answers.Settled growths) is = is
+no_memory (answers.Looked size settled) is = is
+no_memory (answers.Piece start) is = is
+
+-- nor as the end of the requests does
+not_gone : (answer : Answer) → EndsTalk Gone answer → ⊥
+not_gone answers.Ended is = cc
+not_gone (answers.Refused refusal) is = let e = is.1 in cc
+not_gone (answers.Grown number start) is = is
+not_gone (answers.Settled growths) is = is
+not_gone (answers.Looked size settled) is = is
+not_gone (answers.Piece start) is = is
 
 module _ {R : Type 0} (form : Encoding R) (live : Phase R) (seat : Seated R) (input output : Option (List ℕ)) where
-  pub begins : (next : ℕ) → IsSeatOf live seat → seat.made ≡ [] → IsTalking form live seat input output next seat input output
-  begins next of none = record {
+  pub begins : IsSeatOf live seat → seat.made ≡ [] → IsTalking form live seat input output 0 seat input output
+  begins of none = record {
     of = of;
-    numbers = subst (λ made. All (λ g. g.number < next) made) (sym none) (All-nil (λ g. g.number < next));
+    numbers = next_of_none seat.made none;
     exchanges = [];
     are = refl;
     requests = Consumes-nil input;
     answers = Appends-nil output;
+    go_on = All-nil (λ (e : Exchange R). GoesOn e.answer);
   }
 
-  module _ (next then : ℕ) (mid new : Seated R) (input_mid input_new output_mid output_new : Option (List ℕ)) (so_far : IsTalking form live seat input output next mid input_mid output_mid)
-      (out : List ℕ) (done : (e : Exchange R) × IsExchange form live mid e new × Consumes input_mid input_new (e.head ++ e.block) × (out ≡ answer_bytes form e.answer e.records)) where
-    read_more : Consumes input input_new (asked so_far.exchanges ++ (done.0.head ++ done.0.block))
-    read_more = Consumes-trans input input_mid input_new (asked so_far.exchanges) (done.0.head ++ done.0.block) so_far.requests done.2
+  module _ (next : ℕ) (mid new : Seated R) (input_mid input_new output_mid : Option (List ℕ)) (so_far : IsTalking form live seat input output next mid input_mid output_mid)
+      (done : IsDone form live mid new input_mid input_new) where
+    read_more : Consumes input input_new (asked so_far.exchanges ++ (done.exchange.head ++ done.exchange.block))
+    read_more = Consumes-trans input input_mid input_new (asked so_far.exchanges) (done.exchange.head ++ done.exchange.block) so_far.requests done.read
 
-    pub goes_on : IsSeatOf live new → AllBelow then new → Appends output_mid output_new out → IsTalking form live seat input output then new input_new output_new
-    goes_on of numbers wrote = record {
+    wrote_more : (answer : Answer) (out : List ℕ) (output_new : Option (List ℕ)) → done.exchange.answer ≡ answer → out ≡ answer_bytes form answer done.exchange.records → Appends output_mid output_new out
+        → Appends output output_new (told form so_far.exchanges ++ answer_bytes form done.exchange.answer done.exchange.records)
+    wrote_more answer out output_new is bytes wrote =
+        Appends-then output output_mid output_new (told form so_far.exchanges) (answer_bytes form done.exchange.answer done.exchange.records) so_far.answers
+        (subst (Appends output_mid output_new) (bytes ∙ ap (λ (a : Answer). answer_bytes form a done.exchange.records) (sym is)) wrote)
+
+    pub goes_on : (then : ℕ) (answer : Answer) (out : List ℕ) (output_new : Option (List ℕ)) → done.exchange.answer ≡ answer → out ≡ answer_bytes form answer done.exchange.records → Appends output_mid output_new out
+        → IsSeatOf live new → IsNextOf then new.made → GoesOn answer → IsTalking form live seat input output then new input_new output_new
+    goes_on then answer out output_new is bytes wrote of numbers goes = record {
       of = of;
       numbers = numbers;
-      exchanges = done.0 ∷ so_far.exchanges;
-      are = (mid, so_far.are, done.1);
+      exchanges = done.exchange ∷ so_far.exchanges;
+      are = (mid, so_far.are, done.is);
       requests = read_more;
-      answers = Appends-then output output_mid output_new (told form so_far.exchanges) (answer_bytes form done.0.answer done.0.records) so_far.answers (subst (Appends output_mid output_new) done.3 wrote);
+      answers = wrote_more answer out output_new is bytes wrote;
+      go_on = All-cons (λ (e : Exchange R). GoesOn e.answer) done.exchange so_far.exchanges (subst GoesOn (sym is) goes) so_far.go_on;
     }
 
-    pub fails : (end : TalkEnd) → end ≡ OutputFailed → HasTalked form live seat input output output_new end
-    fails end is = record {
-      exchanges = done.0 ∷ so_far.exchanges;
-      last = new;
-      are = (mid, so_far.are, done.1);
+    -- the answer was written, and the conversation ends behind it
+    pub ends : (answer : Answer) (out : List ℕ) (output_new : Option (List ℕ)) (end : TalkEnd) → done.exchange.answer ≡ answer → out ≡ answer_bytes form answer done.exchange.records → Appends output_mid output_new out
+        → EndsTalk end answer → HasTalked form live seat new input input_new output output_new end
+    ends answer out output_new end is bytes wrote so = record {
+      exchanges = done.exchange ∷ so_far.exchanges;
+      are = (mid, so_far.are, done.is);
       rest = input_new;
       requests = read_more;
-      answers = λ other. absurd (other is);
+      left = λ _. refl;
+      answers = λ _. told_all end answer (wrote_more answer out output_new is bytes wrote) so;
+      ends = ends_so end (subst (EndsTalk end) (sym is) so);
+    }
+      where
+        told_all : (end : TalkEnd) (answer : Answer) → Appends output output_new (told form (done.exchange ∷ so_far.exchanges)) → EndsTalk end answer → Appends output output_new (told form (told_of end (done.exchange ∷ so_far.exchanges)))
+        told_all Ended answer wrote is = wrote
+        told_all Gone answer wrote is = wrote
+        told_all (Refused refusal) answer wrote is = wrote
+        told_all OutputFailed answer wrote is = wrote
+        told_all Memory answer wrote is = absurd (no_memory answer is)
+
+        ends_so : (end : TalkEnd) → EndsTalk end done.exchange.answer → EndsSo end (done.exchange ∷ so_far.exchanges)
+        ends_so Ended is = (is, so_far.go_on)
+        ends_so Gone is = absurd (not_gone done.exchange.answer is)
+        ends_so (Refused refusal) is = (is, so_far.go_on)
+        ends_so OutputFailed is = so_far.go_on
+        ends_so Memory is = so_far.go_on
+
+    -- the answer wasn't written
+    pub fails : (output_new : Option (List ℕ)) → HasTalked form live seat new input input_new output output_new OutputFailed
+    fails output_new = record {
+      exchanges = done.exchange ∷ so_far.exchanges;
+      are = (mid, so_far.are, done.is);
+      rest = input_new;
+      requests = read_more;
+      left = λ _. refl;
+      answers = λ other. absurd (other refl);
+      ends = so_far.go_on;
     }
 
-  pub has_talked : (next : ℕ) (now : Seated R) (input_now output_now : Option (List ℕ)) (end : TalkEnd) → IsTalking form live seat input output next now input_now output_now → HasTalked form live seat input output output_now end
-  has_talked next now input_now output_now end so_far = record {
+    -- there was no memory for it
+    pub lacks_memory : HasTalked form live seat new input input_new output output_mid Memory
+    lacks_memory = record {
+      exchanges = done.exchange ∷ so_far.exchanges;
+      are = (mid, so_far.are, done.is);
+      rest = input_new;
+      requests = read_more;
+      left = λ _. refl;
+      answers = λ _. so_far.answers;
+      ends = so_far.go_on;
+    }
+
+  -- the requests ended
+  pub gone : (next : ℕ) (mid now : Seated R) (input_mid input_now output_now : Option (List ℕ)) → IsTalking form live seat input output next mid input_mid output_now → now ≡ mid → HasTalked form live seat now input input_now output output_now Gone
+  gone next mid now input_mid input_now output_now so_far is = record {
     exchanges = so_far.exchanges;
-    last = now;
-    are = so_far.are;
-    rest = input_now;
+    are = subst (AreExchanges form live seat so_far.exchanges) (sym is) so_far.are;
+    rest = input_mid;
     requests = so_far.requests;
+    left = λ other. absurd (other refl);
     answers = λ _. so_far.answers;
+    ends = so_far.go_on;
   }
+
+  -- nothing was told of the newest request
+  pub untold : (next : ℕ) (mid now : Seated R) (input_mid input_now output_now : Option (List ℕ)) (end : TalkEnd) → IsTalking form live seat input output next mid input_mid output_now
+      → IsUntold form live mid now input_mid input_now end → HasTalked form live seat now input input_now output output_now end
+  untold next mid now input_mid input_now output_now Gone so_far is = gone next mid now input_mid input_now output_now so_far is
+  untold next mid now input_mid input_now output_now Memory so_far is = lacks_memory next mid now input_mid input_now output_now so_far is
+  untold next mid now input_mid input_now output_now Ended so_far is = absurd is
+  untold next mid now input_mid input_now output_now (Refused refusal) so_far is = absurd is
+  untold next mid now input_mid input_now output_now OutputFailed so_far is = absurd is
 
 -- a request with this head was answered so
 pub some_exchange : {R X : Type 0} (form : Encoding R) (live : Phase R) (old new : Seated R) (head block : List ℕ) (numbers : Head) (request : Request) (records : X → List R) (result : Option (Answer × X))

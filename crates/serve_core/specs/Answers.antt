@@ -1,5 +1,5 @@
 -- The answers to a client, as bytes.
-use Rattle.std.specs.Prelude.{◌≡◌, ℕ, nat_lt, Bool, List, ◌++◌, length}
+use Rattle.std.specs.Prelude.{ℕ, nat_lt, Bool, List, ◌++◌, length}
 use Rattle.std.specs.List.{flat_map}
 use Rattle.std.specs.Int.{w32, w64, to_le_bytes}
 use Rattle.record_core.specs.Bytes.{Encoding}

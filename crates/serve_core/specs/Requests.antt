@@ -1,5 +1,5 @@
 -- The requests of a client, as bytes.
-use Rattle.std.specs.Prelude.{◌≡◌, ℕ, ◌<◌, ◌≤◌, List, take, drop}
+use Rattle.std.specs.Prelude.{◌≡◌, ℕ, ◌<◌, ◌≤◌, List, length, take, drop}
 use Rattle.std.specs.Int.{w32, w64, from_le_bytes}
 use Rattle.serve_core.specs.declared.request.Request.{Request}
 use Rattle.serve_core.specs.declared.request.Request.TheVariants.{End, Grow, Await, Look, Read}
@@ -9,6 +9,7 @@ use Rattle.serve_core.specs.declared.refusal.Refusal.TheVariants as refusals
 
 -- The numbers of these 16 bytes, each with its lowest byte first: kind, count, start.
 pub record IsHead (bytes : List ℕ) (head : Head) : Type 0 where
+  pub len : length bytes ≡ 16
   pub kind : head.kind ≡ from_le_bytes w32 (take 4 bytes)
   pub count : head.count ≡ from_le_bytes w32 (take 4 (drop 4 bytes))
   pub start : head.start ≡ from_le_bytes w64 (drop 8 bytes)

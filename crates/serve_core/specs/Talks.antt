@@ -1,15 +1,17 @@
 -- What one client asks and is told.
-use Rattle.std.specs.Prelude.{◌≡◌, ◌≢◌, ◌⊎◌, ℕ, ◌<◌, ◌≤◌, List, [], ◌∷◌, ◌++◌, length, take, All, Option}
+use Rattle.std.specs.Prelude.{◌≡◌, ◌≢◌, ◌⊎◌, ℕ, ◌+◌, ◌*◌, ◌<◌, ◌≤◌, true, false, List, [], ◌∷◌, ◌++◌, length, take, All, Contains, Option}
 use Rattle.std.specs.Io.KnownBytes.{Consumes, Appends}
 use Rattle.record_core.specs.Bytes.{Encoding}
-use Rattle.record_core.specs.Cells.{AreRecords}
+use Rattle.record_core.specs.Cells.{AreRecords, IsFirstBad}
 use Rattle.record_core.specs.Limits.{payload_limit}
-use Rattle.block_core.specs.Length.{payload_len}
+use Rattle.block_core.specs.Growth.{Growth}
+use Rattle.block_core.specs.Length.{IsBlockLength, payload_len}
+use Rattle.book_core.specs.declared.fault.GrowFault.TheVariants as faults
 use Rattle.book_core.specs.declared.mark.MarkState.{MarkState}
+use Rattle.book_core.specs.declared.mark.MarkState.TheVariants as states
 use Rattle.book_core.specs.declared.seat.Receipt.{Receipt}
-use Rattle.book_core.specs.Marks.{IsOver}
-use Rattle.book_core.specs.Lists.{Phase, Seated, IsRestOfPiece, list_of, pieces_of}
-use Rattle.book_core.specs.Growing.{Grown, SeatLearns, SeatIsTold, size_of}
+use Rattle.book_core.specs.Lists.{Phase, Seated, HasJustItsOwn, IsRestOfPiece, list_of, pieces_of}
+use Rattle.book_core.specs.Growing.{Grown, SeatLearns, SeatIsTold, IsBookRefusal, IsStray, size_of}
 use Rattle.serve_core.specs.declared.refusal.Refusal.{Refusal}
 use Rattle.serve_core.specs.declared.refusal.Refusal.TheVariants as refusals
 use Rattle.serve_core.specs.declared.request.Head.{Head}
@@ -18,9 +20,9 @@ use Rattle.serve_core.specs.declared.request.Request.TheVariants as requests
 use Rattle.serve_core.specs.declared.answer.Answer.{Answer}
 use Rattle.serve_core.specs.declared.answer.Answer.TheVariants as answers
 use Rattle.serve_core.specs.declared.talking.TalkEnd.{TalkEnd}
-use Rattle.serve_core.specs.declared.talking.TalkEnd.TheVariants.{OutputFailed}
+use Rattle.serve_core.specs.declared.talking.TalkEnd.TheVariants.{Ended, Gone, Refused, OutputFailed, Memory}
 use Rattle.serve_core.specs.Requests.{IsHead, head_of, IsNoRequest}
-use Rattle.serve_core.specs.Answers.{answer_bytes}
+use Rattle.serve_core.specs.Answers.{answer_bytes, ends_talk}
 
 -- why a request may not be of so many records
 abbrev pub IsCountRefusal : ℕ → ℕ → Refusal → Type 0
@@ -32,34 +34,82 @@ IsCountRefusal width n other = ⊥
 abbrev pub AllBelow : {R : Type 0} → ℕ → Seated R → Type 0
 AllBelow n seat = All (λ growth. growth.number < n) seat.made
 
+-- the number next to the last of the growths that were made; 0 where there are none
+pub record IsNextOf {R : Type 0} (next : ℕ) (made : List (Growth R)) : Type 0 where
+  pub below : All (λ growth. growth.number < next) made
+  pub last : 0 < next → (growth : Growth R) × Contains made growth × (growth.number + 1 ≡ next)
+
+-- by what the mark told, one of the growths that the seat made isn't settled
+abbrev pub HasUnsettled : {R : Type 0} → Seated R → Type 0
+HasUnsettled {R} seat = (growth : Growth R) × Contains seat.made growth × (seat.mark.told.count ≤ growth.number)
+
+-- so many records may be grown, and these are the bytes of so many
+pub record IsBlock (width count : ℕ) (block : List ℕ) : Type 0 where
+  pub len : IsBlockLength width count
+  pub bytes : length block ≡ count * width
+
+-- the bytes are just so many records
+pub record HasRecords {R : Type 0} (form : Encoding R) (count : ℕ) (block : List ℕ) : Type 0 where
+  pub bytes : IsBlock form.width count block
+  pub records : List R
+  pub len : length records ≡ count
+  pub are : AreRecords form block records
+
+-- Why a growth of so many records by these bytes isn't made, told a seat that is then this. Of the first three no bytes were
+-- read; of the last four the book refused records that are some.
+abbrev pub IsGrowthRefusal : {R : Type 0} → Encoding R → Phase R → ℕ → List ℕ → Seated R → Refusal → Type 0
+IsGrowthRefusal form live count block seat refusals.NoRecord = (count ≡ 0) × (block ≡ [])
+IsGrowthRefusal form live count block seat refusals.TooMany = (payload_limit < payload_len form.width count) × (block ≡ [])
+IsGrowthRefusal form live count block seat refusals.NoMemory = IsBlockLength form.width count × (block ≡ [])
+IsGrowthRefusal form live count block seat refusals.BadRecord = IsBlock form.width count block × (i : ℕ) × IsFirstBad form block count i
+IsGrowthRefusal form live count block seat refusals.Memory = IsBlock form.width count block
+IsGrowthRefusal form live count block seat refusals.Closed = HasRecords form count block × IsBookRefusal live seat count faults.Closed
+IsGrowthRefusal form live count block seat refusals.Full = HasRecords form count block × IsBookRefusal live seat count faults.Full
+IsGrowthRefusal form live count block seat refusals.TooLong = HasRecords form count block × IsBookRefusal live seat count faults.TooLong
+IsGrowthRefusal form live count block seat refusals.Strayed = HasRecords form count block × (n : ℕ) × IsBookRefusal live seat count (faults.Strayed n)
+IsGrowthRefusal form live count block seat other = ⊥
+
 -- What a seat is told of a growth of so many records by these bytes: it made one growth, of just the records that the bytes
--- are, and is told its number and its start; or it made none.
+-- are, and is told its number and its start; or it made none, and is told why.
 abbrev pub IsOfGrowth : {R : Type 0} → Encoding R → Phase R → ℕ → List ℕ → Seated R → Seated R → Answer → Type 0
 IsOfGrowth {R} form live count block old new (answers.Grown number start) =
-    (records : List R) × (length records ≡ count) × AreRecords form block records
-    × (receipt : Receipt) × Grown live old new records receipt × (receipt.number ≡ number) × (receipt.start ≡ start)
-IsOfGrowth form live count block old new (answers.Refused refusal) = SeatLearns old new
+    (has : HasRecords form count block)
+    × (receipt : Receipt) × Grown live old new has.records receipt × (receipt.number ≡ number) × (receipt.start ≡ start)
+IsOfGrowth form live count block old new (answers.Refused refusal) = SeatLearns old new × IsGrowthRefusal form live count block new refusal
 IsOfGrowth form live count block old new other = ⊥
 
--- Of waiting: so many growths are settled, and all that the seat made are among them; or the mark is over.
+-- no more is settled: the server has ended, or the file refused
+abbrev pub IsOverRefusal : MarkState → Refusal → Type 0
+IsOverRefusal states.Ended refusal = refusal ≡ refusals.Ended
+IsOverRefusal states.Broken refusal = refusal ≡ refusals.Broken
+IsOverRefusal states.Running refusal = ⊥
+
+-- Of waiting: so many growths are settled, and all that the seat made are among them; or one of them isn't, and the mark is
+-- over, as the refusal says.
 abbrev pub IsOfWaiting : {R : Type 0} → Seated R → Seated R → Answer → Type 0
 IsOfWaiting old new (answers.Settled growths) = SeatIsTold old new growths new.mark.told.state × AllBelow growths new
-IsOfWaiting old new (answers.Refused refusal) = SeatIsTold old new new.mark.told.count new.mark.told.state × IsOver new.mark.told.state
+IsOfWaiting old new (answers.Refused refusal) = SeatIsTold old new new.mark.told.count new.mark.told.state × IsOverRefusal new.mark.told.state refusal × HasUnsettled new
 IsOfWaiting old new other = ⊥
 
--- Of looking: the size that it then knows, and how many growths the mark then tells as settled.
+-- why a seat isn't told of the size
+abbrev pub IsLookRefusal : {R : Type 0} → Seated R → Refusal → Type 0
+IsLookRefusal seat refusals.Strayed = (n : ℕ) × IsStray seat n
+IsLookRefusal seat other = ⊥
+
+-- Of looking: the size that it then knows, where of its own growths its list has just those that it made, and how many growths
+-- the mark then tells as settled.
 abbrev pub IsOfLooking : {R : Type 0} → Phase R → Seated R → Seated R → Answer → Type 0
-IsOfLooking {R} live old new (answers.Looked size settled) = (mid : Seated R) × SeatLearns old mid × (size ≡ size_of live mid) × (state : MarkState) × SeatIsTold mid new settled state
-IsOfLooking live old new (answers.Refused refusal) = SeatLearns old new
+IsOfLooking {R} live old new (answers.Looked size settled) = (mid : Seated R) × SeatLearns old mid × HasJustItsOwn mid × (size ≡ size_of live mid) × (state : MarkState) × SeatIsTold mid new settled state
+IsOfLooking live old new (answers.Refused refusal) = SeatLearns old new × IsLookRefusal new refusal
 IsOfLooking live old new other = ⊥
 
 -- Of reading: the records from that position on, to the end of the piece that has it, at most so many; none past the end.
-abbrev pub IsOfReading : {R : Type 0} → Phase R → ℕ → ℕ → Seated R → Seated R → Answer → List R → Type 0
-IsOfReading {R} live start count old new (answers.Piece at) records =
-    (at ≡ start) × (new ≡ old)
+abbrev pub IsOfReading : {R : Type 0} → Encoding R → Phase R → ℕ → ℕ → Seated R → Seated R → Answer → List R → Type 0
+IsOfReading {R} form live start count old new (answers.Piece at) records =
+    (at ≡ start) × (new ≡ old) × IsBlockLength form.width count
     × (((length (list_of live old) ≤ start) × (records ≡ [])) ⊎ ((rest : List R) × IsRestOfPiece (pieces_of live old) start rest × (records ≡ take count rest)))
-IsOfReading live start count old new (answers.Refused refusal) records = (new ≡ old) × (records ≡ [])
-IsOfReading live start count old new other records = ⊥
+IsOfReading form live start count old new (answers.Refused refusal) records = (new ≡ old) × (records ≡ []) × IsCountRefusal form.width count refusal
+IsOfReading form live start count old new other records = ⊥
 
 -- What is told of a request with these bytes behind its head.
 abbrev pub IsOfRequest : {R : Type 0} → Encoding R → Phase R → Request → List ℕ → Seated R → Seated R → Answer → List R → Type 0
@@ -67,7 +117,7 @@ IsOfRequest form live requests.End block old new answer records = (answer ≡ an
 IsOfRequest form live (requests.Grow count) block old new answer records = IsOfGrowth form live count block old new answer × (records ≡ [])
 IsOfRequest form live requests.Await block old new answer records = IsOfWaiting old new answer × (block ≡ []) × (records ≡ [])
 IsOfRequest form live requests.Look block old new answer records = IsOfLooking live old new answer × (block ≡ []) × (records ≡ [])
-IsOfRequest form live (requests.Read start count) block old new answer records = IsOfReading live start count old new answer records × (block ≡ [])
+IsOfRequest form live (requests.Read start count) block old new answer records = IsOfReading form live start count old new answer records × (block ≡ [])
 
 -- A request and what was told: the bytes of its head and those behind it, the answer and its records.
 pub record Exchange (R : Type 0) : Type 0 where
@@ -96,6 +146,18 @@ pub record IsExchange {R : Type 0} (form : Encoding R) (live : Phase R) (old : S
   pub head : IsHead e.head numbers
   pub told : IsTurnedAway numbers old e new ⊎ IsAnswered form live numbers old e new
 
+-- one request was read and done
+pub record IsDone {R : Type 0} (form : Encoding R) (live : Phase R) (old new : Seated R) (input rest : Option (List ℕ)) : Type 0 where
+  pub exchange : Exchange R
+  pub is : IsExchange form live old exchange new
+  pub read : Consumes input rest (exchange.head ++ exchange.block)
+
+-- Why nothing is told: the requests ended, and the seat is as it was; or there was no memory to tell what was done.
+abbrev pub IsUntold : {R : Type 0} → Encoding R → Phase R → Seated R → Seated R → Option (List ℕ) → Option (List ℕ) → TalkEnd → Type 0
+IsUntold form live old new input rest Gone = new ≡ old
+IsUntold form live old new input rest Memory = IsDone form live old new input rest
+IsUntold form live old new input rest other = ⊥
+
 -- one after the other, the newest first
 abbrev pub AreExchanges : {R : Type 0} → Encoding R → Phase R → Seated R → List (Exchange R) → Seated R → Type 0
 AreExchanges form live old [] new = new ≡ old
@@ -111,12 +173,43 @@ abbrev pub told : {R : Type 0} → Encoding R → List (Exchange R) → List ℕ
 told form [] = []
 told form (e ∷ earlier) = told form earlier ++ answer_bytes form e.answer e.records
 
--- What came of a conversation: its requests are what the stream began with, each was answered, by the seat as it was then,
--- and just their answers were written, unless a write failed.
-pub record HasTalked {R : Type 0} (form : Encoding R) (live : Phase R) (seat : Seated R) (input output written : Option (List ℕ)) (end : TalkEnd) : Type 0 where
+-- a conversation goes on behind that answer
+abbrev pub GoesOn : Answer → Type 0
+GoesOn answers.Ended = ⊥
+GoesOn (answers.Refused refusal) = ends_talk refusal ≡ false
+GoesOn other = Unit {0}
+
+-- or ends so
+abbrev pub EndsTalk : TalkEnd → Answer → Type 0
+EndsTalk end answers.Ended = end ≡ Ended
+EndsTalk end (answers.Refused refusal) = (ends_talk refusal ≡ true) × (end ≡ Refused refusal)
+EndsTalk end other = ⊥
+
+abbrev pub AllGoOn : {R : Type 0} → List (Exchange R) → Type 0
+AllGoOn exchanges = All (λ e. GoesOn e.answer) exchanges
+
+-- The newest answer is that with which a conversation ends so, and behind each of those before it the conversation goes on;
+-- where the newest couldn't be told it doesn't matter which it is, and where the requests ended all go on.
+abbrev pub EndsSo : {R : Type 0} → TalkEnd → List (Exchange R) → Type 0
+EndsSo Gone exchanges = AllGoOn exchanges
+EndsSo end [] = ⊥
+EndsSo OutputFailed (e ∷ earlier) = AllGoOn earlier
+EndsSo Memory (e ∷ earlier) = AllGoOn earlier
+EndsSo end (e ∷ earlier) = EndsTalk end e.answer × AllGoOn earlier
+
+-- those that were told: all but the newest, where there was no memory for its answer
+abbrev pub told_of : {R : Type 0} → TalkEnd → List (Exchange R) → List (Exchange R)
+told_of Memory (e ∷ earlier) = earlier
+told_of end exchanges = exchanges
+
+-- What came of a conversation: its requests are what the stream began with, each was done by the seat as it was then, which
+-- is now as they left it, and just their answers were written, unless a write failed. No byte was read behind them, unless
+-- the stream ended within a request; and it ended as the answers say.
+pub record HasTalked {R : Type 0} (form : Encoding R) (live : Phase R) (seat now : Seated R) (input remains output written : Option (List ℕ)) (end : TalkEnd) : Type 0 where
   pub exchanges : List (Exchange R)
-  pub last : Seated R
-  pub are : AreExchanges form live seat exchanges last
+  pub are : AreExchanges form live seat exchanges now
   pub rest : Option (List ℕ)
   pub requests : Consumes input rest (asked exchanges)
-  pub answers : end ≢ OutputFailed → Appends output written (told form exchanges)
+  pub left : end ≢ Gone → remains ≡ rest
+  pub answers : end ≢ OutputFailed → Appends output written (told form (told_of end exchanges))
+  pub ends : EndsSo end exchanges

@@ -1,11 +1,12 @@
 //! The server: a thread for each client, and one that commits what they grow.
 
-ghost use Rattle.std.specs.Prelude.{◌≡◌, [], IfErr, OnOk};
+ghost use Rattle.std.specs.Prelude.{◌≡◌, [], vec_len, IfErr, OnOk};
 ghost use Rattle.book_core.specs.Lists.{IsSeatOf};
 ghost use Rattle.book_core.specs.Beginning.{AreNewSeats};
 ghost use Rattle.flush_core.specs.Flusher.{IsFlusherOf};
-ghost use Rattle.flush_core.specs.Serving.{Serves, HasEnded};
-ghost use Rattle.serve_core.specs.Serving.{IsLeft};
+ghost use Rattle.flush_core.specs.Serving.{Serves, HasEnded, IsServeFault};
+ghost use Rattle.flush_core.specs.Refusals.{failed};
+ghost use Rattle.serve_core.specs.Serving.{IsLeft, IsServeRefusal, CountsFailed, failed_calls};
 
 use crate::talking::{TalkEnd, talk};
 use book_core::{Live, Seat};
@@ -142,6 +143,8 @@ fn flush_all<R: Record, D: Disk, E: Wait>(
     ensures of { IsFlusherOf (D.keeps result.0.pen.disk) live.now result.0 }
     ensures served { Serves R.form D.keeps D.states flusher result.0 }
     ensures ended { OnOk result.1 (HasEnded result.0) }
+    ensures refused { IfErr result.1 (IsServeFault R.form.width flusher result.0) }
+    ensures faults { CountsFailed failed (D.faults flusher.pen.disk) (D.faults result.0.pen.disk) result.1 }
 {
     let mut flusher = flusher;
     let flushed = flusher.serve(rt, live);
@@ -173,6 +176,8 @@ fn run_phase<
     ensures of { IsFlusherOf (D.keeps result.0.0.pen.disk) live.now result.0.0 }
     ensures served { Serves R.form D.keeps D.states flusher result.0.0 }
     ensures ended { OnOk result.0.1 (HasEnded result.0.0) }
+    ensures refused { IfErr result.0.1 (IsServeFault R.form.width flusher result.0.0) }
+    ensures faults { CountsFailed failed (D.faults flusher.pen.disk) (D.faults result.0.0.pen.disk) result.0.1 }
 {
     thread::join(
         rt,
@@ -181,6 +186,8 @@ fn run_phase<
             ensures of { IsFlusherOf (D.keeps result.0.pen.disk) live.entry.now result.0 }
             ensures served { Serves R.form D.keeps D.states flusher result.0 }
             ensures ended { OnOk result.1 (HasEnded result.0) }
+            ensures refused { IfErr result.1 (IsServeFault R.form.width flusher result.0) }
+            ensures faults { CountsFailed failed (D.faults flusher.pen.disk) (D.faults result.0.pen.disk) result.1 }
         { flush_all(rt, live, flusher) },
         move || -> Result<Vec<TalkEnd>, AllocError>
             requires { AreNewSeats live.now.directory live.now.mark seats.items }
@@ -200,6 +207,8 @@ pub fn serve<
     E: Threads + Wait + Sync,
 >(rt: &E, alloc: Global, disk: D, pipes: Vec<Pipes<I, W>>) -> (D, Served, Result<(), ServeFault>)
     ensures left { D.keeps result.0 → IsLeft R.form D.states disk result.0 result.1.growths result.2 }
+    ensures refused { IfErr result.2 (IsServeRefusal (vec_len pipes)) }
+    ensures faults { CountsFailed failed_calls (D.faults disk) (D.faults result.0) result.2 }
     ensures model { D.keeps result.0 → D.keeps disk }
 {
     let mut served = Served {

@@ -1,12 +1,12 @@
 //! One client's conversation: its requests are read and answered one after the other, each by the seat as it is then.
 
-ghost use Rattle.std.specs.Prelude.{◌≡◌, ◌≤◌, ◌+◌, ◌*◌, ◌++◌, [], length, OnOk, IfSome, MatchResult};
+ghost use Rattle.std.specs.Prelude.{◌≡◌, ◌≤◌, ◌+◌, ◌*◌, [], length, IfOk, IfErr, IfSome, IfNone, MatchOption, MatchResult};
 ghost use Rattle.std.specs.Io.KnownBytes.{Consumes};
 ghost use Rattle.record_core.specs.Limits.{payload_limit};
 ghost use Rattle.block_core.specs.Length.{IsBlockLength};
 ghost use Rattle.book_core.specs.Lists.{IsSeatOf};
 ghost use Rattle.serve_core.specs.Answers.{answer_bytes};
-ghost use Rattle.serve_core.specs.Talks.{IsCountRefusal, AllBelow, IsOfGrowth, IsOfWaiting, IsOfLooking, IsOfReading, IsOfRequest, Exchange, IsExchange, HasTalked};
+ghost use Rattle.serve_core.specs.Talks.{IsCountRefusal, IsNextOf, IsBlock, IsOfGrowth, IsOfWaiting, IsOfLooking, IsOfReading, IsOfRequest, Exchange, IsExchange, IsDone, IsUntold, GoesOn, EndsTalk, HasTalked};
 
 use crate::answer::Answer;
 use crate::refusal::Refusal;
@@ -55,10 +55,10 @@ fn grow_block<R: Record, E: Wait>(
     block: &[u8],
 ) -> Answer
     requires of { IsSeatOf live.now seat.old }
-    requires numbers { AllBelow next.old seat.old }
-    requires block { length block.now ≡ count * R.form.width }
+    requires numbers { IsNextOf next.old seat.old.made }
+    requires block { IsBlock R.form.width count block.now }
     ensures of { IsSeatOf live.now seat.new }
-    ensures numbers { AllBelow next.new seat.new }
+    ensures numbers { IsNextOf next.new seat.new.made }
     ensures told { IsOfGrowth R.form live.now count block.now seat.old seat.new result }
 {
     let Ok(mut records) = Vec::with_capacity(alloc, count as usize) else {
@@ -96,11 +96,12 @@ fn grow<R: Record, I: Read, E: Wait>(
     block: &mut Vec<u8>,
 ) -> Option<Answer>
     requires of { IsSeatOf live.now seat.old }
-    requires numbers { AllBelow next.old seat.old }
+    requires numbers { IsNextOf next.old seat.old.made }
     requires empty { block.old.items ≡ [] }
     ensures of { IsSeatOf live.now seat.new }
-    ensures numbers { AllBelow next.new seat.new }
+    ensures numbers { IsNextOf next.new seat.new.made }
     ensures told { IfSome result (IsOfGrowth R.form live.now count block.new.items seat.old seat.new) }
+    ensures gone { IfNone result (seat.new ≡ seat.old) }
     ensures read { IfSome result (λ _. Consumes (I.remaining requests.old) (I.remaining requests.new) block.new.items) }
 {
     if let Err(refusal) = check_count::<R>(count) {
@@ -115,7 +116,7 @@ fn grow<R: Record, I: Read, E: Wait>(
     Some(grow_block(rt, alloc, live, seat, next, count, block.as_slice()))
 }
 
-/// Waits until the growth of that number is settled, behind which the seat grew none.
+/// Waits until the growth of that number is settled, the last of the seat's.
 fn await_number<R: Record, E: Wait>(
     rt: &E,
     live: &Live<R>,
@@ -123,7 +124,7 @@ fn await_number<R: Record, E: Wait>(
     number: u64,
 ) -> Answer
     requires of { IsSeatOf live.now seat.old }
-    requires numbers { AllBelow (number + 1) seat.old }
+    requires numbers { IsNextOf (number + 1) seat.old.made }
     ensures of { IsSeatOf live.now seat.new }
     ensures made { seat.new.made ≡ seat.old.made }
     ensures told { IsOfWaiting seat.old seat.new result }
@@ -139,10 +140,10 @@ fn await_number<R: Record, E: Wait>(
     }
 }
 
-/// Waits until all that the seat grew is settled, whose numbers are below `next`.
+/// Waits until all that the seat grew is settled: the number before `next` is that of the last.
 fn await_own<R: Record, E: Wait>(rt: &E, live: &Live<R>, seat: &mut Seat<R>, next: u64) -> Answer
     requires of { IsSeatOf live.now seat.old }
-    requires numbers { AllBelow next seat.old }
+    requires numbers { IsNextOf next seat.old.made }
     ensures of { IsSeatOf live.now seat.new }
     ensures made { seat.new.made ≡ seat.old.made }
     ensures told { IsOfWaiting seat.old seat.new result }
@@ -177,7 +178,7 @@ fn read<'a, R: Record>(
 ) -> (Answer, &'a [R])
     requires of { IsSeatOf live.now seat.old }
     ensures same { seat.new ≡ seat.old }
-    ensures told { IsOfReading live.now start count seat.old seat.new result.0 result.1.now }
+    ensures told { IsOfReading R.form live.now start count seat.old seat.new result.0 result.1.now }
     ensures few { length result.1.now * R.form.width ≤ payload_limit }
 {
     if let Err(refusal) = check_count::<R>(count) {
@@ -202,11 +203,12 @@ fn act<'a, R: Record, I: Read, E: Wait>(
     block: &mut Vec<u8>,
 ) -> Option<(Answer, &'a [R])>
     requires of { IsSeatOf live.now seat.old }
-    requires numbers { AllBelow next.old seat.old }
+    requires numbers { IsNextOf next.old seat.old.made }
     requires empty { block.old.items ≡ [] }
     ensures of { IsSeatOf live.now seat.new }
-    ensures numbers { AllBelow next.new seat.new }
+    ensures numbers { IsNextOf next.new seat.new.made }
     ensures told { IfSome result (λ r. IsOfRequest R.form live.now request block.new.items seat.old seat.new r.0 r.1.now) }
+    ensures gone { IfNone result (seat.new ≡ seat.old) }
     ensures read { IfSome result (λ _. Consumes (I.remaining requests.old) (I.remaining requests.new) block.new.items) }
     ensures few { IfSome result (λ r. length r.1.now * R.form.width ≤ payload_limit) }
 {
@@ -234,11 +236,12 @@ fn respond<'a, R: Record, I: Read, E: Wait>(
     block: &mut Vec<u8>,
 ) -> Option<(Answer, &'a [R])>
     requires of { IsSeatOf live.now seat.old }
-    requires numbers { AllBelow next.old seat.old }
+    requires numbers { IsNextOf next.old seat.old.made }
     requires empty { block.old.items ≡ [] }
     ensures of { IsSeatOf live.now seat.new }
-    ensures numbers { AllBelow next.new seat.new }
+    ensures numbers { IsNextOf next.new seat.new.made }
     ensures told { IfSome result (λ r. IsExchange R.form live.now seat.old (record { head = head.now; block = block.new.items; answer = r.0; records = r.1.now }) seat.new) }
+    ensures gone { IfNone result (seat.new ≡ seat.old) }
     ensures read { IfSome result (λ _. Consumes (I.remaining requests.old) (I.remaining requests.new) block.new.items) }
     ensures few { IfSome result (λ r. length r.1.now * R.form.width ≤ payload_limit) }
 {
@@ -259,10 +262,11 @@ fn exchange<R: Record, I: Read, E: Wait>(
     out: &mut Vec<u8>,
 ) -> Result<Answer, TalkEnd>
     requires of { IsSeatOf live.now seat.old }
-    requires numbers { AllBelow next.old seat.old }
+    requires numbers { IsNextOf next.old seat.old.made }
     ensures of { IsSeatOf live.now seat.new }
-    ensures numbers { AllBelow next.new seat.new }
-    ensures done { OnOk result ((e : Exchange R) × IsExchange R.form live.now seat.old e seat.new × Consumes (I.remaining requests.old) (I.remaining requests.new) (e.head ++ e.block) × (out.new.items ≡ answer_bytes R.form e.answer e.records)) }
+    ensures numbers { IsNextOf next.new seat.new.made }
+    ensures done { IfOk result (λ answer. (done : IsDone R.form live.now seat.old seat.new (I.remaining requests.old) (I.remaining requests.new)) × (done.exchange.answer ≡ answer) × (out.new.items ≡ answer_bytes R.form answer done.exchange.records)) }
+    ensures untold { IfErr result (IsUntold R.form live.now seat.old seat.new (I.remaining requests.old) (I.remaining requests.new)) }
 {
     out.clear();
     let mut block = Vec::new(alloc);
@@ -281,7 +285,9 @@ fn exchange<R: Record, I: Read, E: Wait>(
 }
 
 /// How a conversation ends with this answer, if it does.
-fn end_of(answer: Answer) -> Option<TalkEnd> {
+fn end_of(answer: Answer) -> Option<TalkEnd>
+    ensures { MatchOption result (GoesOn answer) (λ end. EndsTalk end answer) }
+{
     match answer {
         Answer::Ended => Some(TalkEnd::Ended),
         Answer::Refused(refusal) if refusal.ends_talk() => Some(TalkEnd::Refused(refusal)),
@@ -302,7 +308,7 @@ pub fn talk<R: Record, I: Read, W: Write, E: Wait>(
     requires of { IsSeatOf live.now seat.old }
     requires none { seat.old.made ≡ [] }
     ensures of { IsSeatOf live.now seat.new }
-    ensures talked { HasTalked R.form live.now seat.old (I.remaining requests.old) (W.contents answers.old) (W.contents answers.new) result }
+    ensures talked { HasTalked R.form live.now seat.old seat.new (I.remaining requests.old) (I.remaining requests.new) (W.contents answers.old) (W.contents answers.new) result }
 {
     let mut next = 0;
     let mut out = Vec::new(alloc);
