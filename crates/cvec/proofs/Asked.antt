@@ -6,7 +6,8 @@ use Rattle.cvec.specs.declared.request.Request.{Request}
 use Rattle.cvec.specs.declared.request.FileWords.{FileWords}
 use Rattle.cvec.specs.declared.request.StatWords.{StatWords}
 use Rattle.cvec.specs.declared.request.Request.TheVariants.{File, Stat}
-use Rattle.cvec.specs.Runs.{IsAskedRun, IsFileRun}
+use Rattle.cvec.specs.declared.complaint.Complaint.{Complaint}
+use Rattle.cvec.specs.Runs.{IsAskedRun, IsFileRun, IsComplaintTold, IsAskedTold}
 use Rattle.text_core.specs.declared.status.Status.{Status}
 use Rattle.text_core.specs.declared.status.Status.TheVariants as statuses
 
@@ -26,3 +27,13 @@ asked_run_of_stat (Some input) asked words old new status is run =
 
 pub no_usage_of_file : (old new earlier later : Option (List ℕ)) (status : Status) → IsFileRun old new status → status ≡ statuses.Usage → Keeps earlier later
 no_usage_of_file old new earlier later status run is = absurd (subst (λ (s : Status). IsFileRun old new s) is run)
+
+pub told_of_file : (asked : Option Request) (words : FileWords) (old new : Option (List ℕ)) (status : Status) (complaint : Option Complaint)
+    → asked ≡ Some (File words) → IsComplaintTold old new status complaint → IsAskedTold asked old new status complaint
+told_of_file asked words old new status complaint is told =
+    subst (λ (a : Option Request). IsAskedTold a old new status complaint) (sym is) told
+
+pub told_of_stat : (asked : Option Request) (words : StatWords) (old new : Option (List ℕ)) (status : Status) (complaint : Option Complaint)
+    → asked ≡ Some (Stat words) → IsComplaintTold old new status complaint → IsAskedTold asked old new status complaint
+told_of_stat asked words old new status complaint is told =
+    subst (λ (a : Option Request). IsAskedTold a old new status complaint) (sym is) told

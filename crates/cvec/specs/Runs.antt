@@ -1,5 +1,5 @@
 -- The runs that the program makes: a task on records of one of its types.
-use Rattle.std.specs.Prelude.{ℕ, List, Option, Some, None, ◌++◌, codes, Result, Ok, Err}
+use Rattle.std.specs.Prelude.{◌≡◌, ◌≢◌, ℕ, List, Option, Some, None, ◌++◌, codes, Result, Ok, Err}
 use Rattle.std.specs.Io.KnownBytes.{Appends, Keeps}
 use Rattle.std.specs.Int.{w32, w64}
 use Rattle.record_core.specs.Bytes.{Encoding, unsigned, signed, pair, flagged}
@@ -14,7 +14,9 @@ use Rattle.text_core.specs.declared.status.Status.{Status}
 use Rattle.text_core.specs.declared.status.Status.TheVariants as statuses
 use Rattle.files_core.specs.declared.ended.Ended.{Ended}
 use Rattle.files_core.specs.declared.ended.Ended.TheVariants.{Done, OutputFailed, Refused}
+use Rattle.files_core.specs.Faults.{fault_line}
 use Rattle.cvec.specs.declared.complaint.Complaint.{Complaint}
+use Rattle.cvec.specs.declared.complaint.Complaint.TheVariants as complaints
 use Rattle.text_core.specs.Text.{Spelling, ended_line}
 use Rattle.text_core.specs.Numbers.{number_spelling}
 use Rattle.text_core.specs.SignedNumbers.{signed_spelling}
@@ -52,8 +54,39 @@ WritesSome old new (Refused fault) = Keeps old new
 
 -- what a command over a file has written before the line of a refusal
 abbrev pub IsFiled : Option (List ℕ) → Option (List ℕ) → Result Status Complaint → Type 0
-IsFiled old new (Ok status) = IsFileRun old new status
+IsFiled old new (Ok statuses.Done) = (text : List ℕ) × Appends old new text
+IsFiled old new (Ok statuses.Refused) = ⊥
+IsFiled old new (Ok statuses.OutputFailed) = Unit {0}
+IsFiled old new (Ok statuses.Usage) = ⊥
 IsFiled old new (Err complaint) = Keeps old new
+
+-- the line that is printed of a complaint
+abbrev pub complaint_line : Complaint → List ℕ
+complaint_line (complaints.NotOpened role error) = codes "refused: " ++ ended_line (codes "file")
+complaint_line (complaints.InUse role) = codes "refused: " ++ ended_line (codes "file")
+complaint_line (complaints.Fault fault) = fault_line fault
+complaint_line (complaints.Damaged sound fault) = fault_line fault
+complaint_line (complaints.Appended appended fault) = fault_line fault
+complaint_line (complaints.Served growths fault) = fault_line fault
+
+-- the line of a complaint was written, or output failed
+abbrev pub IsComplaintRun : Option (List ℕ) → Option (List ℕ) → Complaint → Status → Type 0
+IsComplaintRun old new complaint statuses.Done = ⊥
+IsComplaintRun old new complaint statuses.Refused = Appends old new (complaint_line complaint)
+IsComplaintRun old new complaint statuses.OutputFailed = Unit {0}
+IsComplaintRun old new complaint statuses.Usage = ⊥
+
+-- a command over a file was refused just where there is a complaint of it
+abbrev pub IsComplaintTold : Option (List ℕ) → Option (List ℕ) → Status → Option Complaint → Type 0
+IsComplaintTold old new status None = status ≢ statuses.Refused
+IsComplaintTold old new status (Some complaint) = IsComplaintRun old new complaint status
+
+-- the same of what was asked for; there is no complaint of anything else
+abbrev pub IsAskedTold : Option Request → Option (List ℕ) → Option (List ℕ) → Status → Option Complaint → Type 0
+IsAskedTold None old new status complaint = complaint ≡ None
+IsAskedTold (Some (Input task record_type)) old new status complaint = complaint ≡ None
+IsAskedTold (Some (File words)) old new status complaint = IsComplaintTold old new status complaint
+IsAskedTold (Some (Stat words)) old new status complaint = IsComplaintTold old new status complaint
 
 -- the program gave no engine its work: memory was refused, or the words ask for nothing
 abbrev pub IsIdleRun : Option (List ℕ) → Option (List ℕ) → Status → Type 0

@@ -86,9 +86,11 @@ fn name_of<'a>(words: &FileWords<'a>, role: Role) -> &'a str {
     }
 }
 
-/// What to do about a file that isn't opened.
-fn about_error(error: &io::Error) -> &'static str {
+/// What to do about a file or a pipe that isn't opened.
+fn about_error(role: Role, error: &io::Error) -> &'static str {
     match error.kind() {
+        ErrorKind::NotFound if role == Role::Pipe =>
+            "it isn't there: descriptors 3 and 4 are those of the first client, and two more those of each further one",
         ErrorKind::NotFound =>
             "there is no such file, or no folder for it; `cvec create` makes a file",
         ErrorKind::PermissionDenied => "you may not read and write it, or make it in its folder",
@@ -110,9 +112,10 @@ fn about_disk(fault: DiskFault) -> &'static str {
 fn write_not_opened<W: fmt::Write>(
     f: &mut Formatter<W>,
     name: &str,
+    role: Role,
     error: &io::Error,
 ) -> fmt::Result {
-    let about = about_error(error);
+    let about = about_error(role, error);
     write!(f, "{name}: {about} ({error}); nothing was read or written")
 }
 
@@ -223,7 +226,8 @@ fn write_open<W: fmt::Write>(
 /// What is wrong, and what to do next, where a vault refuses and nothing was written.
 fn about_pen(fault: PenFault) -> &'static str {
     match fault {
-        PenFault::Exists => "there is a vector in this file already; it is as it was",
+        PenFault::Exists =>
+            "there is a vector in this file already; it is as it was; remove it, or name another file",
         PenFault::Unfolded =>
             "changes are live, and with them it can't become shorter; it is as it was; `cvec fold` first",
         PenFault::OutOfRange =>
@@ -255,14 +259,33 @@ fn write_vault<W: fmt::Write>(f: &mut Formatter<W>, name: &str, fault: VaultFaul
             let about = about_pen(fault);
             write!(f, "{name}: {about}")
         }
-        VaultFault::Unsettled(number) => write!(
+        VaultFault::Unsettled(_) => write!(
             f,
-            "{name}: the growths from number {number} on aren't on the device; those before it stand; give the lines behind them again"
+            "{name}: not all growths are known to be on the device; it opens to the vector of before, and the first of them"
         ),
         VaultFault::WrongPhase => write!(
             f,
             "{name}: the growers didn't come back; what is settled stands"
         ),
+    }
+}
+
+/// What stands where a command that makes many growths was refused by the file.
+fn write_growth_fault<W: fmt::Write>(
+    f: &mut Formatter<W>,
+    name: &str,
+    fault: VaultFault,
+) -> fmt::Result {
+    match fault {
+        VaultFault::Pen(PenFault::TooLarge) => write!(
+            f,
+            "{name}: the input has more lines than the 1048568 growths that are made at once; it is as it was; `cvec append` takes any number of lines"
+        ),
+        VaultFault::Pen(PenFault::Broken) | VaultFault::Unsettled(_) => write!(
+            f,
+            "{name}: the system didn't write it, or put it on the device, which may be full; it opens to the vector of before, and behind it some of the growths; `cvec check` tells how many records there are"
+        ),
+        fault => write_vault(f, name, fault),
     }
 }
 
@@ -285,10 +308,7 @@ fn write_upgrade<W: fmt::Write>(
     let new = name_of(words, Role::New);
     match fault {
         UpgradeFault::Old(fault) => write_open(f, name, words.record_type, fault),
-        UpgradeFault::NotOld => write!(
-            f,
-            "{name}: it has version 2 already; both files are as they were"
-        ),
+        UpgradeFault::NotOld => write!(f, "{name}: it has version 2 already; nothing was written"),
         UpgradeFault::New(fault) => {
             write_vault(f, new, fault)?;
             write!(f, "; {name} is as it was")
@@ -305,7 +325,10 @@ fn write_fault<W: fmt::Write>(
         FileFault::Word(word) => write_word(f, words, word),
         FileFault::Input(refusal) => write_input(f, words, refusal),
         FileFault::Open(fault) => write_open(f, words.file, words.record_type, fault),
-        FileFault::Vault(fault) => write_vault(f, words.file, fault),
+        FileFault::Vault(fault) => match words.task {
+            FileTask::Load(_) | FileTask::Append(_) => write_growth_fault(f, words.file, fault),
+            _ => write_vault(f, words.file, fault),
+        },
         FileFault::Grower(stopped) => write_stopped(f, words.file, stopped),
         FileFault::Upgrade(fault) => write_upgrade(f, words, fault),
     }
@@ -324,7 +347,9 @@ fn write_of_file<W: fmt::Write>(
     complaint: &Complaint,
 ) -> fmt::Result {
     match complaint {
-        Complaint::NotOpened(role, error) => write_not_opened(f, name_of(words, *role), error),
+        Complaint::NotOpened(role, error) => {
+            write_not_opened(f, name_of(words, *role), *role, error)
+        }
         Complaint::InUse(role) => write_in_use(f, name_of(words, *role)),
         Complaint::Fault(fault) => write_fault(f, words, *fault),
         Complaint::Damaged(sound, fault) => {
@@ -334,7 +359,14 @@ fn write_of_file<W: fmt::Write>(
         Complaint::Appended(appended, fault) => {
             let lines = appended.lines;
             write_fault(f, words, *fault)?;
-            write!(f, "; the growths of the first {lines} lines stand")
+            write!(f, "; the growths of the first {lines} lines stand")?;
+            match fault {
+                FileFault::Vault(_) | FileFault::Grower(_) => write!(
+                    f,
+                    ", and maybe some behind them"
+                ),
+                _ => Ok(()),
+            }
         }
         Complaint::Served(growths, fault) => {
             write_fault(f, words, *fault)?;
@@ -370,6 +402,10 @@ fn write_stat_fault<W: fmt::Write>(
             let about = about_disk(fault);
             write!(f, "{name}: {about}; nothing was written")
         }
+        FileFault::Open(OpenFault::Scan(ScanFault::Width(_))) => write!(
+            f,
+            "{name}: its records have no bytes by its head, which no vector has; it is as it was"
+        ),
         _ => write!(f, "{name}: it is refused; it is as it was"),
     }
 }
@@ -381,7 +417,7 @@ fn write_of_stat<W: fmt::Write>(
 ) -> fmt::Result {
     let name = words.file;
     match complaint {
-        Complaint::NotOpened(_, error) => write_not_opened(f, name, error),
+        Complaint::NotOpened(role, error) => write_not_opened(f, name, *role, error),
         Complaint::InUse(_) => write_in_use(f, name),
         Complaint::Fault(fault) | Complaint::Appended(_, fault) | Complaint::Served(_, fault) =>
             write_stat_fault(f, name, *fault),

@@ -25,6 +25,7 @@ use std::rt::Files;
 use std::sync::Wait;
 use std::thread::Threads;
 use text_core::{Status, TextRecord};
+use vault_core::UpgradeFault;
 
 impl From<FileFault> for Complaint {
     fn from(fault: FileFault) -> Complaint {
@@ -46,7 +47,9 @@ fn status_of(ended: Ended) -> Result<Status, Complaint>
 /// The place of the damage that a fault tells of.
 fn damage_of(fault: FileFault) -> Option<u64> {
     match fault {
-        FileFault::Open(OpenFault::Scan(ScanFault::Damaged { at, .. })) => Some(at),
+        FileFault::Open(OpenFault::Scan(ScanFault::Damaged { at, .. }))
+        | FileFault::Upgrade(UpgradeFault::Old(OpenFault::Scan(ScanFault::Damaged { at, .. }))) =>
+            Some(at),
         _ => None,
     }
 }
@@ -288,10 +291,10 @@ impl<'a, F: Files<File = File> + AllocGlobal, P: Progress + Sync> Filing<'a, F, 
             lock: _lock_of_new,
         } = open(self.files, new, Access::Makes, Role::New)?;
         let old = self.watched(old);
-        let (_old, _new, ended) = upgrade_file::<R, Watched<'_, FileDisk, P>, FileDisk, W>(
+        let (old, _new, ended) = upgrade_file::<R, Watched<'_, FileDisk, P>, FileDisk, W>(
             self.alloc, old, new, writer,
         );
-        status_of(ended)
+        status_on::<R, Watched<'_, FileDisk, P>>(self.alloc, old, ended)
     }
 
     fn serve<R: TextRecord, W: Write, E: Threads + Wait + Sync>(

@@ -11,9 +11,8 @@ const IMAGE: &[u8] = b"cvec image TYPE
 Makes a segment file of the group lines of the input, one group each, and writes it as a hex line. A group line has growths
 with ' | ' between each two, and a growth has records with a space between each two.
 
-  $ echo '1 2 | 3' | cvec image u64
-  01435645435345470108000101240000000200000002000000010000000100000000000000020000000000000003000000000000
-  0000
+  $ echo 5 | cvec image u64
+  01435645435345470108000101100000000100000001000000050000000000000000
 
 Refused: line N, too large at line N, input, input too long, memory.
 ";
@@ -86,7 +85,8 @@ that this program has as descriptor 3 + 2k, and reads the answers from 4 + 2k: t
 what it grew is on the device, to look how many records there are, to read some. docs/SERVE.md has their bytes, and
 examples/c and examples/python have clients. It ends when all clients have.
 
-  $ mkfifo in out; cvec serve u64 t.cv --seats=1 3<in 4>out & ./client 3<out 4>in
+  $ mkfifo requests answers
+  $ cvec serve u64 t.cv --seats=1 3<requests 4>answers & your_program 3>requests 4<answers
   served 1000 growths
 
 Refused: the file's first fault (unborn, not a segment, version V, width W, damaged at P: CAUSE), file (also where a pipe
@@ -106,13 +106,15 @@ Refused: exists (the file stays as it is), file, memory, and the disk's faults.
 const LOAD: &[u8] = b"cvec load TYPE FILE [--seats=N] [--quiet] < LINES
 
 Appends a growth for each line of the input: records with one space between each two. N growers (1 to 64, else 1) take the
-lines in turn. When it has told 'loaded', all growths are on the device. The input has at most 67108864 bytes.
+lines in turn. When it has told 'loaded', all growths are on the device. The input has at most 67108864 bytes and 1048568
+lines; 'append' takes any.
 
   $ echo '5 6 7' | cvec load u64 t.cv
   loaded 1 growths, size 3
 
-Refused: line N and too large at line N (nothing is grown), input, input too long, file, the file's first fault, closed,
-full, too long, memory, and the disk's faults.
+Refused: line N and too large at line N (nothing is grown), input, input too long, file, the file's first fault, too
+large (too many lines; nothing is grown), closed, full, too long, broken (the device may be full; some growths may
+stand), memory, and the disk's faults.
 ";
 
 const APPEND: &[u8] = b"cvec append TYPE FILE [--block=N] [--quiet] < LINES
@@ -124,7 +126,7 @@ tells how many they are.
   $ seq 1 1000000 | cvec append u64 t.cv --block=1000
   appended 1000 growths, size 1000000
 
-Refused: as load.
+Refused: as load, but for too many lines.
 ";
 
 const CHECK: &[u8] = b"cvec check TYPE FILE [--quiet]
@@ -135,7 +137,8 @@ has, and how many changes are live, which `fold` puts into their home bytes.
   $ cvec check u64 t.cv
   ok version 1 width 8 size 3 frames 1 live 0
 
-Refused: the file's first fault (unborn, not a segment, version V, width W, damaged at P: CAUSE), file, memory.
+Refused: the file's first fault (unborn, not a segment, version V, width W, damaged at P: CAUSE), file, memory, and the
+disk's faults.
 ";
 
 const LIST: &[u8] = b"cvec list TYPE FILE [--from=I] [--count=N] [--quiet]
@@ -145,27 +148,27 @@ Writes the records one a line: all, or those from position I on, N at most.
   $ cvec list u64 t.cv --from=1 --count=1
   6
 
-Refused: word, file, the file's first fault, memory.
+Refused: word, file, the file's first fault, memory, and the disk's faults.
 ";
 
-const COUNT: &[u8] = b"cvec count TYPE FILE --record=R
+const COUNT: &[u8] = b"cvec count TYPE FILE --record=R [--quiet]
 
 Writes how many records equal R.
 
   $ cvec count u64 t.cv --record=6
   1
 
-Refused: word, file, the file's first fault, memory.
+Refused: word, file, the file's first fault, memory, and the disk's faults.
 ";
 
-const FIND: &[u8] = b"cvec find TYPE FILE --record=R
+const FIND: &[u8] = b"cvec find TYPE FILE --record=R [--quiet]
 
 Writes the least position whose record equals R, or none.
 
   $ cvec find u64 t.cv --record=4
   none
 
-Refused: word, file, the file's first fault, memory.
+Refused: word, file, the file's first fault, memory, and the disk's faults.
 ";
 
 const SET: &[u8] = b"cvec set TYPE FILE START --records=R,R,..
@@ -185,7 +188,8 @@ Makes the length N: by records R behind the last one, or by taking the last ones
   $ cvec resize u64 t.cv 2 --record=0
   ok
 
-Refused: word, file, the file's first fault, unfolded (fold first), out of range, file full, memory, and the disk's faults.
+Refused: word, file, the file's first fault, unfolded (fold first), out of range, too large, file full, memory, and the
+disk's faults.
 ";
 
 const CLEAR: &[u8] = b"cvec clear TYPE FILE
@@ -208,7 +212,7 @@ Puts the live changes into their home bytes, and writes how many they were. Then
 Refused: file, the file's first fault, file full, memory, and the disk's faults.
 ";
 
-const UPGRADE: &[u8] = b"cvec upgrade TYPE FILE NEW
+const UPGRADE: &[u8] = b"cvec upgrade TYPE FILE NEW [--quiet]
 
 Copies the vector of a file of version 1 to a new file of version 2. FILE stays as it is. One that was stopped is begun
 again, on another new file.
@@ -216,7 +220,8 @@ again, on another new file.
   $ cvec upgrade u64 t.cv n.cv
   upgraded size 3
 
-Refused: file, old and FILE's first fault, not version 1, new exists, and new with the faults of a write.
+Refused: file, old and FILE's first fault, not version 1, new exists (remove NEW, or name another file), and new with the
+faults of a write.
 ";
 
 /// What is told of a command.

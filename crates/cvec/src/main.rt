@@ -16,7 +16,7 @@ mod words;
 
 use crate::complaint::Sentence;
 use crate::help::told_of;
-use crate::meter::Meter;
+use crate::meter::{Behind, Meter};
 use crate::noting::Noting;
 use crate::program::{System, run};
 use crate::usage::write_usage;
@@ -52,14 +52,16 @@ fn words_of(rt: &HostRuntime) -> io::Result<Vec<String>> {
 /// Runs the words over standard input and output, and tells on standard error what neither of them has.
 fn run_words<E: Threads + Wait + Sync>(rt: &HostRuntime, threads: &E, words: &[String]) -> Status {
     let alloc = rt.alloc();
-    let Ok(buffer) = BufWriter::with_capacity(alloc, OUTPUT_BUFFER_LEN, io::writer(rt)) else {
+    let meter = Meter::new(rt, rt.stderr().is_terminal());
+    let shares_terminal = rt.stdout().is_terminal();
+    let behind = Behind::new(io::writer(rt), shares_terminal.then_some(&meter));
+    let Ok(buffer) = BufWriter::with_capacity(alloc, OUTPUT_BUFFER_LEN, behind) else {
         return refuse_memory(rt);
     };
     let mut output = Noting::new(buffer);
     if let Some(text) = told_of(words) {
         return tell(rt, text, &mut output);
     }
-    let meter = Meter::new(rt, rt.stderr().is_terminal());
     let system = System {
         alloc,
         files: rt,

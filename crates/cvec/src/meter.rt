@@ -2,8 +2,8 @@
 
 use book_core::Receipt;
 use files_core::Progress;
-use std::io;
-use std::sync::atomic::{AtomicU64, Ordering};
+use std::io::{self, Write};
+use std::sync::atomic::{AtomicBool, AtomicU64, Ordering};
 use std::time::Instant;
 use vault_core::Gate;
 
@@ -18,6 +18,12 @@ pub struct Meter<'a> {
     begun: Option<Instant>,
     /// When the next line is due, in milliseconds from the begin.
     due: AtomicU64,
+    /// When the pass that is under way began, in milliseconds from the begin.
+    pass: AtomicU64,
+    /// How much of the pass was done when that was last told.
+    done: AtomicU64,
+    /// Nothing is told any more.
+    over: AtomicBool,
 }
 
 impl<'a> Meter<'a> {
@@ -28,7 +34,20 @@ impl<'a> Meter<'a> {
             rt,
             begun,
             due: AtomicU64::new(PAUSE),
+            pass: AtomicU64::new(0),
+            done: AtomicU64::new(0),
+            over: AtomicBool::new(false),
         }
+    }
+
+    /// When the pass began that has done so much after so many milliseconds. Work of several passes, as reading a file and
+    /// listing its records, falls back where the next one begins; threads that tell of one pass fall back by less than half.
+    fn pass_of(&self, passed: u64, done: u64) -> u64 {
+        let before = self.done.swap(done, Ordering::SeqCst);
+        if done < before / 2 {
+            self.pass.store(passed, Ordering::SeqCst);
+        }
+        self.pass.load(Ordering::SeqCst)
     }
 
     /// Writes a line, where one is due.
@@ -38,24 +57,30 @@ impl<'a> Meter<'a> {
             .as_secs()
             .saturating_mul(1000)
             .saturating_add(u64::from(since.subsec_millis()));
+        let pass = self.pass_of(passed, done);
         let due = self.due.load(Ordering::SeqCst);
         if passed < due {
             return Ok(());
         }
         self.due
             .store(passed.saturating_add(PAUSE), Ordering::SeqCst);
-        let rate = done.saturating_mul(1000) / passed.max(1);
+        let time = passed.saturating_sub(pass);
+        let rate = done.saturating_mul(1000) / time.max(1);
         if of == 0 {
             return eprint!(self.rt; "\r{done} done, {rate} a second\x1b[K");
         }
         let percent = done.saturating_mul(100) / of;
         let left = of.saturating_sub(done) / rate.max(1);
-        eprint!(self.rt; "\r{percent} %, {rate} a second, {left} seconds left\x1b[K")
+        eprint!(self.rt;
+            "\r{done} of {of}, {percent} %, {rate} a second, {left} seconds left\x1b[K"
+        )
     }
 
-    /// Takes the line away.
+    /// Takes the line away. No other is told.
     pub fn end(&self) {
-        if self.begun.is_some() && self.due.load(Ordering::SeqCst) > PAUSE {
+        let was_over = self.over.swap(true, Ordering::SeqCst);
+        let has_told = self.due.load(Ordering::SeqCst) > PAUSE;
+        if self.begun.is_some() && has_told && !was_over {
             let _ = eprint!(self.rt; "\r\x1b[K");
         }
     }
@@ -63,9 +88,46 @@ impl<'a> Meter<'a> {
 
 impl<'a> Progress for Meter<'a> {
     fn at(&self, done: u64, of: u64) {
-        if let Some(begun) = self.begun {
-            let _ = self.tell(begun, done, of);
+        let is_over = self.over.load(Ordering::SeqCst);
+        match self.begun {
+            Some(begun) if !is_over => {
+                let _ = self.tell(begun, done, of);
+            }
+            _ => {}
         }
+    }
+}
+
+/// Writes to the writer inside. Where a meter is given it ends before, for its line would stand in what is written: both
+/// are on one terminal.
+#[derive(Drop)]
+pub struct Behind<'a, W> {
+    inner: W,
+    meter: Option<&'a Meter<'a>>,
+}
+
+impl<'a, W> Behind<'a, W> {
+    pub fn new(inner: W, meter: Option<&'a Meter<'a>>) -> Behind<'a, W> {
+        Behind { inner, meter }
+    }
+
+    fn end_meter(&self) {
+        if let Some(meter) = self.meter {
+            meter.end();
+        }
+    }
+}
+
+impl<'a, W: Write> Write for Behind<'a, W> {
+    ghost contents = { λ behind. W.contents behind.inner };
+
+    fn write(&mut self, buf: &[u8]) -> io::Result<usize> {
+        self.end_meter();
+        self.inner.write(buf)
+    }
+
+    fn flush(&mut self) -> io::Result<()> {
+        self.inner.flush()
     }
 }
 

@@ -1,9 +1,10 @@
 //! The program: what its words ask for, done on its input and output, and on files.
 
-ghost use Rattle.std.specs.Prelude.{◌≡◌, ◌≢◌, [], ℕ, List, Option, IfSome, Some, None, Ok};
-ghost use Rattle.std.specs.Io.KnownBytes.{Keeps};
+ghost use Rattle.std.specs.Prelude.{◌≡◌, ◌≢◌, [], ℕ, List, Option, IfSome, Some, None, Ok, ◌++◌, ◌⊎◌, codes};
+ghost use Rattle.std.specs.Io.KnownBytes.{Keeps, Appends};
+ghost use Rattle.text_core.specs.Text.{ended_line};
 ghost use Rattle.cvec.specs.declared.request.Request.TheVariants as requests;
-ghost use Rattle.cvec.specs.Runs.{IsTaskRun, IsRun, IsAskedRun, IsFileRun, IsFiled, IsIdleRun};
+ghost use Rattle.cvec.specs.Runs.{IsTaskRun, IsRun, IsAskedRun, IsFileRun, IsFiled, IsIdleRun, IsComplaintRun, IsComplaintTold, IsAskedTold};
 
 use crate::complaint::Complaint;
 use crate::filing::Filing;
@@ -72,21 +73,28 @@ fn run_task<I: Read, W: Write, E: Threads + Wait + Sync>(
     }
 }
 
+/// Writes the line of a file that isn't opened.
+fn refuse_unopened<W: Write>(writer: &mut W) -> Status
+    ensures refused { result ≡ Status.Refused → Appends (W.contents writer.old) (W.contents writer.new) (codes "refused: " ++ ended_line (codes "file")) }
+    ensures ends { (result ≡ Status.Refused) ⊎ (result ≡ Status.OutputFailed) }
+{
+    match write_line(b"refused: file", writer) {
+        Ok(()) => Status::Refused,
+        Err(_) => Status::OutputFailed,
+    }
+}
+
 /// Writes the line of a complaint.
 fn refuse_for<W: Write>(writer: &mut W, complaint: &Complaint) -> Status
-    ensures { IsFileRun (W.contents writer.old) (W.contents writer.new) result }
+    ensures { IsComplaintRun (W.contents writer.old) (W.contents writer.new) complaint.now result }
 {
     match complaint {
         Complaint::Fault(fault)
         | Complaint::Damaged(_, fault)
         | Complaint::Appended(_, fault)
         | Complaint::Served(_, fault) => refuse_file(writer, *fault),
-        Complaint::NotOpened(..) | Complaint::InUse(_) => {
-            match write_line(b"refused: file", writer) {
-                Ok(()) => Status::Refused,
-                Err(_) => Status::OutputFailed,
-            }
-        }
+        Complaint::NotOpened(..) => refuse_unopened(writer),
+        Complaint::InUse(_) => refuse_unopened(writer),
     }
 }
 
@@ -201,6 +209,7 @@ fn outcome_of<'a, W: Write>(
 ) -> Outcome<'a>
     ensures asked { result.asked ≡ Some request.entry }
     ensures ends { (old : Option (List ℕ)) → IsFiled old (W.contents writer.old) filed → IsFileRun old (W.contents writer.new) result.status }
+    ensures told { (old : Option (List ℕ)) → IsFiled old (W.contents writer.old) filed → IsComplaintTold old (W.contents writer.new) result.status result.complaint }
 {
     match filed {
         Ok(status) => Outcome {
@@ -219,6 +228,7 @@ fn outcome_of<'a, W: Write>(
 /// Answers words that ask for nothing.
 fn answer_fault<'a, W: Write>(fault: WordsFault, writer: &mut W) -> Outcome<'a>
     ensures asked { result.asked ≡ None }
+    ensures told { result.complaint ≡ None }
     ensures ends { IsIdleRun (W.contents writer.old) (W.contents writer.new) result.status }
 {
     let status = match fault {
@@ -247,6 +257,7 @@ pub fn run<
     ensures ends { IfSome (I.remaining reader.old) (λ input.
         IsAskedRun result.asked input (W.contents writer.old) (W.contents writer.new) result.status) }
     ensures usage { result.status ≡ Status.Usage → Keeps (W.contents writer.old) (W.contents writer.new) }
+    ensures told { IsAskedTold result.asked (W.contents writer.old) (W.contents writer.new) result.status result.complaint }
 {
     let request = match read_request(system.alloc, words) {
         Ok(request) => request,
