@@ -2,7 +2,6 @@
 //! that the Collatz sequence takes from it to 1.
 #![tactic(auto)]
 
-ghost use Rattle.std.specs.Prelude.{IfOk};
 ghost use Rattle.concurrent_vector.specs.Lists.{IsSeatOf};
 ghost use Rattle.concurrent_vector.specs.Beginning.{AreNewSeats};
 
@@ -36,80 +35,26 @@ fn steps(n: u64) -> i64 {
     1000
 }
 
-/// One thread, with its seat and the first number of its share.
-#[derive(Drop)]
-struct Worker<'a> {
-    live: &'a Live<Pair>,
-    seat: Seat<Pair>,
-    first: u64,
-    ghost of: { IsSeatOf live.now seat },
-}
-
-impl Worker<'_> {
-    /// Pushes a result for each number of its share.
-    fn run<E: Wait>(self, rt: &E, alloc: Global) -> Result<(), Fault> {
-        let Worker { live, seat, first } = self;
-        let mut results = Appender::new(alloc, seat, BLOCK)?;
-        for k in 0..SHARE {
-            let key = first.wrapping_add(k);
-            results.push(
-                rt,
-                live,
-                Pair {
-                    key,
-                    value: steps(key),
-                },
-            )?;
-        }
-        results.finish(rt, live)?;
-        Ok(())
-    }
-}
-
-/// A worker for each seat.
-fn workers_of<'a>(
-    alloc: Global,
-    live: &'a Live<Pair>,
-    seats: Vec<Seat<Pair>>,
-) -> Result<Vec<Worker<'a>>, Fault>
-    requires { AreNewSeats live.now.directory live.now.mark seats.items }
+/// One thread: pushes a result for each number of its share, which its seat's id chooses.
+fn work<E: Wait>(rt: &E, alloc: Global, live: &Live<Pair>, seat: Seat<Pair>) -> Result<(), Fault>
+    requires { IsSeatOf live.now seat }
 {
-    let mut seats = seats;
-    let mut workers = Vec::new(alloc);
-    for share in 0..THREADS {
-        if let Some(seat) = live.take_seat(&mut seats) {
-            let first = (share as u64).wrapping_mul(SHARE).wrapping_add(1);
-            workers.push(Worker { live, seat, first })?;
-        }
+    let first = (seat.id() as u64).wrapping_mul(SHARE).wrapping_add(1);
+    let mut results = Appender::new(alloc, seat, BLOCK)?;
+    for k in 0..SHARE {
+        let key = first.wrapping_add(k);
+        let value = steps(key);
+        results.push(rt, live, Pair { key, value })?;
     }
-    Ok(workers)
-}
-
-/// A phase without a file, a seat for each worker, and one more to read by.
-fn begin(alloc: Global) -> Result<(Live<Pair>, Vec<Seat<Pair>>, Seat<Pair>), Fault>
-    ensures { IfOk result (λ begun.
-        AreNewSeats begun.0.directory begun.0.mark begun.1.items × IsSeatOf begun.0 begun.2) }
-{
-    let room = (THREADS as u64).saturating_mul(SHARE.div_ceil(BLOCK));
-    match Live::begin(alloc, Vec::new(alloc), room, THREADS + 1) {
-        Ok(
-            Begun {
-                live,
-                mut seats,
-                ..
-            },
-        ) => {
-            let reader = live.take_seat(&mut seats).ok_or(Fault::Memory)?;
-            Ok((live, seats, reader))
-        }
-        Err((_, fault)) => Err(Fault::Grow(fault)),
-    }
+    results.finish(rt, live)?;
+    Ok(())
 }
 
 /// How many results there are, and the one with the most steps; of several, that of the least number.
 fn longest(live: &Live<Pair>, seat: &mut Seat<Pair>) -> Result<(u64, Pair), Fault>
     requires { IsSeatOf live.now seat.old }
 {
+    live.look(seat)?;
     let results = live.snapshot(seat)?;
     let mut most = Pair { key: 0, value: -1 };
     for result in results.iter() {
@@ -120,21 +65,38 @@ fn longest(live: &Live<Pair>, seat: &mut Seat<Pair>) -> Result<(u64, Pair), Faul
     Ok((results.len(), most))
 }
 
-/// Why a worker stopped, if one did.
-fn check(ended: Vec<Result<(), Fault>>) -> Result<(), Fault> {
+/// A thread for each seat, until all have ended.
+fn fill<E: Threads + Wait + Sync>(
+    rt: &E,
+    alloc: Global,
+    live: &Live<Pair>,
+    seats: Vec<Seat<Pair>>,
+) -> Result<(), Fault>
+    requires { AreNewSeats live.now.directory live.now.mark seats.items }
+{
+    let ended = thread::map_vec(
+        rt,
+        seats,
+        &|seat: Seat<Pair>| -> Result<(), Fault>
+            requires { IsSeatOf live.now seat }
+        { work(rt, alloc, live, seat) },
+    )?;
     for one in ended {
         one?;
     }
     Ok(())
 }
 
-/// Runs the pool, and reads what it collected.
+/// Runs the pool, in a phase without a file, and reads what it collected by one more seat.
 fn collect<E: Threads + Wait + Sync>(rt: &E, alloc: Global) -> Result<(u64, Pair), Fault> {
-    let (live, seats, mut reader) = begin(alloc)?;
-    let workers = workers_of(alloc, &live, seats)?;
-    let ended = thread::map_vec(rt, workers, &|worker: Worker| worker.run(rt, alloc))?;
-    check(ended)?;
-    live.look(&mut reader)?;
+    let room = (THREADS as u64).saturating_mul(SHARE.div_ceil(BLOCK));
+    let Begun {
+        live,
+        mut seats,
+        ..
+    } = Live::begin(alloc, Vec::new(alloc), room, THREADS + 1)?;
+    let mut reader = live.take_seat(&mut seats).ok_or(Fault::Memory)?;
+    fill(rt, alloc, &live, seats)?;
     longest(&live, &mut reader)
 }
 

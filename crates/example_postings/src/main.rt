@@ -90,10 +90,8 @@ fn index<E: Threads + Wait + Sync>(rt: &E, alloc: Global, text: &str) -> Result<
 fn lines_with(alloc: Global, index: &Index, word: &Word) -> Result<Vec<i64>, Fault> {
     let mut lines = Vec::new(alloc);
     for piece in index.pieces() {
-        for posting in piece {
-            if word.picks(posting) {
-                lines.push(posting.value)?;
-            }
+        for posting in piece.iter().filter(|posting| word.picks(*posting)) {
+            lines.push(posting.value)?;
         }
     }
     lines.sort_unstable();
