@@ -2,7 +2,9 @@
 """Four client processes append records in blocks, while the server is killed and started again ten times: each block that
 a client was told is settled stands in the file, whole and once, at the position that its growth was told.
 
-serve.py PROGRAM FOLDER [RECORDS]
+serve.py PROGRAM FOLDER [RECORDS [CLIENT]]
+
+CLIENT is the built examples/c/append_blocks.c: every second client is it, and the others use the client in Python.
 """
 import os
 import random
@@ -15,6 +17,7 @@ import cvec_client
 
 PROGRAM, FOLDER = sys.argv[1], sys.argv[2]
 RECORDS = int(sys.argv[3]) if len(sys.argv) > 3 else 1_000_000
+CLIENT_IN_C = sys.argv[4] if len(sys.argv) > 4 else None
 BLOCK, CLIENTS, KILLS = 1_000, 4, 10
 EACH = RECORDS // BLOCK // CLIENTS
 PATH = os.path.join(FOLDER, "served.cv")
@@ -42,6 +45,15 @@ def append(seat, client, number, told):
         pass
 
 
+def become_client_in_c(seat, client, number, told):
+    """Is the client in C from here on, which appends the same blocks."""
+    for descriptor in (seat.requests, seat.answers):
+        os.set_inheritable(descriptor, True)
+    os.dup2(told, 1)
+    words = (seat.requests, seat.answers, number, EACH, client * EACH, BLOCK)
+    os.execv(CLIENT_IN_C, [CLIENT_IN_C, *map(str, words)])
+
+
 def start_client(server, client, number):
     """The client's process, and where it tells what is settled."""
     taken, told = os.pipe()
@@ -51,6 +63,8 @@ def start_client(server, client, number):
         for other, seat in enumerate(server.seats):
             if other != client:
                 seat.close()
+        if CLIENT_IN_C and client % 2 == 1:
+            become_client_in_c(server.seats[client], client, number, told)
         append(server.seats[client], client, number, told)
         os._exit(0)
     os.close(told)
