@@ -1,6 +1,7 @@
 #!/usr/bin/env python3
 """Four client processes append records in blocks, while the server is killed and started again ten times: each block that
-a client was told is settled stands in the file, whole and once, at the position that its growth was told.
+a client was told is settled stands in the file, whole and once, at the position that its growth was told. Before that, a
+seat whose request an exception has left is told nothing more.
 
 serve.py PROGRAM FOLDER [RECORDS [CLIENT]]
 
@@ -20,7 +21,7 @@ RECORDS = int(sys.argv[3]) if len(sys.argv) > 3 else 1_000_000
 CLIENT_IN_C = sys.argv[4] if len(sys.argv) > 4 else None
 BLOCK, CLIENTS, KILLS = 1_000, 4, 10
 EACH = RECORDS // BLOCK // CLIENTS
-PATH = os.path.join(FOLDER, "served.cv")
+PATH, LATE_PATH = os.path.join(FOLDER, "served.cv"), os.path.join(FOLDER, "late.cv")
 
 
 def block_of(client, number):
@@ -85,12 +86,13 @@ def one_server(settled, kill_after):
     if kill_after is not None:
         time.sleep(kill_after)
         server.process.send_signal(signal.SIGKILL)
-    status = server.wait()
+    # Before the server is waited for: a client whose pipe is full goes on only when that is read.
     for client, (pid, taken) in enumerate(clients):
         for number, start in told_by(taken):
             assert number == len(settled[client]), "a block was told out of turn"
             settled[client].append(start)
         assert os.waitstatus_to_exitcode(os.waitpid(pid, 0)[1]) == 0, "a client failed"
+    status = server.wait()
     assert status in ((0,) if kill_after is None else (0, -signal.SIGKILL)), f"the server ended with {status}"
     return status != 0
 
@@ -109,10 +111,65 @@ def check(settled):
     return len(records)
 
 
+class Late(Exception):
+    """A request takes too long."""
+
+
+def raise_late(*_):
+    raise Late()
+
+
+def leave(server, request):
+    """Makes a request of a server that stands still, which the handler of a signal leaves."""
+    server.process.send_signal(signal.SIGSTOP)
+    os.waitid(os.P_PID, server.process.pid, os.WSTOPPED)
+    signal.setitimer(signal.ITIMER_REAL, 0.5)
+    try:
+        request()
+    except Late:
+        return
+    finally:
+        server.process.send_signal(signal.SIGCONT)
+    raise AssertionError("a server that stands still answers")
+
+
+def is_gone(request):
+    try:
+        request()
+    except cvec_client.Gone:
+        return True
+    return False
+
+
+def check_left_requests():
+    """What a seat asks behind a request that was left isn't answered by that one's answer, and its end waits for nothing."""
+    signal.signal(signal.SIGALRM, raise_late)
+    create(LATE_PATH)
+    with cvec_client.Server(PROGRAM, "u64", LATE_PATH, seats=3) as server:
+        settling, growing, other = server.seats
+        settling.grow([5])
+        growing.look()
+        leave(server, settling.settle)
+        leave(server, lambda: growing.grow(range(20_000)))  # more than a pipe holds
+        signal.alarm(60)
+        assert is_gone(settling.settle) and is_gone(growing.look), "a seat goes on behind a request that was left"
+        other.grow([6])
+        other.settle()
+    signal.alarm(0)
+    with cvec_client.Server(PROGRAM, "u64", LATE_PATH) as server:
+        assert list(server.seats[0].read()) == [5, 6], "a request that was left has grown the vector"
+    os.remove(LATE_PATH)
+
+
+def create(path):
+    if os.system(f"'{PROGRAM}' create u64 '{path}' >/dev/null") != 0:
+        sys.exit("no file was made")
+
+
 def main():
     random.seed(7)
-    if os.system(f"'{PROGRAM}' create u64 '{PATH}' >/dev/null") != 0:
-        sys.exit("no file was made")
+    check_left_requests()
+    create(PATH)
     settled = [[] for _ in range(CLIENTS)]
     kills = 0
     for _ in range(KILLS):

@@ -14,13 +14,16 @@
 
 enum { GROUP = 4, LONGEST = 131071 };
 
+/* What isn't told is no refusal, and the server goes on. */
+enum { UNTOLD = 100 };
+
 static uint64_t block[LONGEST];
 
 static int grow_block(struct cvec_seat *seat, uint64_t number, uint32_t length, uint64_t *start) {
     uint64_t before;
     for (uint32_t at = 0; at < length; at++)
         block[at] = number * length + at;
-    return cvec_grow(seat, block, length, &before, start);
+    return cvec_seat_grow(seat, block, length, &before, start);
 }
 
 /* 0: so many blocks from this number on are durable, and were told. */
@@ -30,20 +33,20 @@ static int append_group(struct cvec_seat *seat, uint64_t number, uint64_t count,
     for (uint64_t at = 0; at < count; at++)
         if ((fault = grow_block(seat, base + number + at, length, &starts[at])) != 0)
             return fault;
-    if ((fault = cvec_await(seat, &settled)) != 0)
+    if ((fault = cvec_seat_await(seat, &settled)) != 0)
         return fault;
     for (uint64_t at = 0; at < count; at++)
         printf("%" PRIu64 " %" PRIu64 "\n", number + at, starts[at]);
-    return fflush(stdout) == 0 ? 0 : -1;
+    return fflush(stdout) == 0 ? 0 : UNTOLD;
 }
 
 int main(int argc, char **argv) {
     if (argc != 7)
         return 2;
-    struct cvec_seat seat = {atoi(argv[1]), atoi(argv[2]), sizeof(uint64_t), 0};
+    struct cvec_seat seat;
     uint64_t number = strtoull(argv[3], NULL, 10), end = strtoull(argv[4], NULL, 10), base = strtoull(argv[5], NULL, 10);
     unsigned long length = strtoul(argv[6], NULL, 10);
-    if (length == 0 || length > LONGEST)
+    if (length == 0 || length > LONGEST || cvec_seat_of(&seat, "u64", atoi(argv[1]), atoi(argv[2])))
         return 2;
     signal(SIGPIPE, SIG_IGN);
     for (uint64_t count; number < end; number += count) {
@@ -54,5 +57,5 @@ int main(int argc, char **argv) {
         if (fault != 0)
             return fault == -1 ? 0 : 1;
     }
-    return cvec_end(&seat) > 0 ? 1 : 0;
+    return cvec_seat_end(&seat) > 0 ? 1 : 0;
 }

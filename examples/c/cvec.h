@@ -40,13 +40,14 @@ enum cvec_status {
     CVEC_NO_FRAME = 12,    /* no whole open frame begins there */
     /* of cvec_file.c alone */
     CVEC_EXISTS = 32,      /* there is a file already */
-    CVEC_IN_USE = 33,      /* another process has it open by cvec_create or cvec_open */
+    CVEC_IN_USE = 33,      /* open already by cvec_create or cvec_open, in this process too, or locked (flock) otherwise */
     CVEC_BROKEN = 34,      /* a call of the system has failed on this file before: open it again */
     CVEC_DISK_OPEN = 35,   /* a call of the system failed, errno says why: open, or flock */
     CVEC_DISK_LENGTH = 36, /* fstat */
-    CVEC_DISK_READ = 37,   /* pread, or mmap */
+    CVEC_DISK_READ = 37,   /* pread */
     CVEC_DISK_WRITE = 38,  /* pwrite */
-    CVEC_DISK_SYNC = 39    /* fdatasync, or fsync of the folder. Restart the system before the file is opened again */
+    CVEC_DISK_SYNC = 39,   /* fdatasync, or fsync of the folder. Restart the system before the file is opened again */
+    CVEC_FORKED = 40       /* the process from which this one was forked has opened it: here it can only be closed */
 };
 
 /* Why an image is damaged, in the order in which docs/FORMAT.md looks for it. */
@@ -194,21 +195,25 @@ uint32_t cvec_frame_at(const uint8_t *image, size_t len, uint64_t at, uint8_t ve
 /* The type of a file's records. */
 typedef enum cvec_type { CVEC_U32, CVEC_U64, CVEC_I64, CVEC_PAIR, CVEC_FLAGGED } cvec_type;
 
-/* A file that is open for reading and appending, by one thread at a time. */
+/* A file that is open for reading and appending, by one thread at a time, in the process that opened it: one that is forked
+ * can only close it, and until it does, ends or runs another program, the file is in use. */
 typedef struct cvec_file {
     int fd;
     cvec_type type;
     bool broken;
+    int process; /* the one that opened it */
     cvec_stat stat;
     uint8_t *bytes; /* of the last append, to be used again */
     size_t room;
 } cvec_file;
 
-/* Makes a file, and syncs its folder. What is there stays: CVEC_EXISTS. Where it is refused *file is closed. */
+/* Makes a file of version 1, and syncs its folder. What is there stays: CVEC_EXISTS; but for at most CVEC_EMPTY_LEN bytes
+ * that are no file yet (CVEC_UNBORN), which are overwritten. Where it is refused *file is closed. */
 uint32_t cvec_create(cvec_file *file, const char *path, cvec_type type);
 
 /* Opens a file and checks it: CVEC_DONE, or why not, as cvec_check_TYPE and the system's calls answer. Nothing is
- * written. Where it is refused *file is closed. */
+ * written. It takes memory for the bytes of the file and for its records, and gives it back. Where it is refused *file is
+ * closed. */
 uint32_t cvec_open(cvec_file *file, const char *path, cvec_type type, cvec_fault *fault);
 
 /* Appends the records as one growth: all of them or none. CVEC_DONE: they are durable. A refusal from CVEC_VERSION to
@@ -216,7 +221,7 @@ uint32_t cvec_open(cvec_file *file, const char *path, cvec_type type, cvec_fault
  * or none. The records are of the file's type. */
 uint32_t cvec_append(cvec_file *file, const void *records, size_t count);
 
-/* Copies records out, as cvec_read_TYPE does. It maps the file. */
+/* Copies records out, as cvec_read_TYPE does. It takes as much memory as cvec_open. */
 uint32_t cvec_read(const cvec_file *file, uint64_t from, void *out, size_t room, uint64_t *count, cvec_fault *fault);
 
 /* Closes the file. What was appended stands. A file that is closed may be closed again. */

@@ -1,9 +1,10 @@
 /* See cvec_client.h. */
-#define _POSIX_C_SOURCE 200809L
+#define _GNU_SOURCE 1
 #include "cvec_client.h"
 
 #include <errno.h>
 #include <fcntl.h>
+#include <signal.h>
 #include <stdio.h>
 #include <string.h>
 #include <sys/wait.h>
@@ -22,6 +23,18 @@ struct answer {
     uint32_t status, count;
     uint64_t first, second;
 };
+
+/* The bytes of a record of this type, or 0. */
+static size_t width_of(const char *type) {
+    static const struct {
+        const char *name;
+        size_t width;
+    } types[] = {{"u32", 4}, {"u64", 8}, {"i64", 8}, {"pair", 16}, {"flagged", 9}};
+    for (size_t k = 0; k < sizeof types / sizeof *types; k++)
+        if (strcmp(types[k].name, type) == 0)
+            return types[k].width;
+    return 0;
+}
 
 static void put(unsigned char *bytes, uint64_t number, int len) {
     for (int i = 0; i < len; i++)
@@ -63,22 +76,33 @@ static int read_all(int descriptor, void *bytes, size_t len) {
     return 0;
 }
 
+/* What a seat that is over asked would never be answered. */
+static int send_bytes(struct cvec_seat *seat, const void *bytes, size_t len) {
+    if (!seat->over && write_all(seat->requests, bytes, len))
+        seat->over = 1;
+    return seat->over ? -1 : 0;
+}
+
+static int take_bytes(struct cvec_seat *seat, void *bytes, size_t len) {
+    if (!seat->over && read_all(seat->answers, bytes, len))
+        seat->over = 1;
+    return seat->over ? -1 : 0;
+}
+
 static int send_head(struct cvec_seat *seat, uint32_t kind, uint32_t count, uint64_t start) {
     unsigned char head[REQUEST_LEN];
     put(head, kind, 4);
     put(head + 4, count, 4);
     put(head + 8, start, 8);
-    return write_all(seat->requests, head, sizeof head);
+    return send_bytes(seat, head, sizeof head);
 }
 
 static int take_head(struct cvec_seat *seat, struct answer *answer) {
     unsigned char head[ANSWER_LEN];
-    if (read_all(seat->answers, head, sizeof head)) {
-        seat->over = 1;
+    if (take_bytes(seat, head, sizeof head))
         return -1;
-    }
     answer->status = (uint32_t)take(head, 4);
-    if (answer->status >= CVEC_UNKNOWN_KIND && answer->status <= CVEC_NO_MEMORY)
+    if (answer->status >= CVEC_REFUSED_UNKNOWN_KIND && answer->status <= CVEC_REFUSED_NO_MEMORY)
         seat->over = 1;
     answer->count = (uint32_t)take(head + 4, 4);
     answer->first = take(head + 8, 8);
@@ -89,8 +113,8 @@ static int take_head(struct cvec_seat *seat, struct answer *answer) {
 /* Why a request may not be of so many records: the server would end the seat, and read no more of it. */
 static int refuses(const struct cvec_seat *seat, uint32_t count) {
     if (count == 0)
-        return CVEC_NO_RECORD;
-    return count > RECORDS_LIMIT / seat->width ? CVEC_TOO_MANY : 0;
+        return CVEC_REFUSED_NO_RECORD;
+    return count > RECORDS_LIMIT / seat->width ? CVEC_REFUSED_TOO_MANY : 0;
 }
 
 static int ask(struct cvec_seat *seat, uint32_t kind, uint32_t count, uint64_t start, struct answer *answer) {
@@ -105,31 +129,42 @@ static void close_pipes(int ends[][4], int count) {
             close(ends[k][i]);
 }
 
+/* None of them is left to a program that another thread starts meanwhile. */
 static int open_pipes(int ends[][4], int count) {
     for (int k = 0; k < count; k++) {
-        if (pipe(ends[k])) {
+        if (pipe2(ends[k], O_CLOEXEC)) {
             close_pipes(ends, k);
             return -1;
         }
-        if (pipe(ends[k] + 2)) {
+        if (pipe2(ends[k] + 2, O_CLOEXEC)) {
             close(ends[k][0]);
             close(ends[k][1]);
             close_pipes(ends, k);
             return -1;
         }
-        for (int i = 0; i < 4; i++)
-            fcntl(ends[k][i], F_SETFD, FD_CLOEXEC);
     }
     return 0;
 }
 
-/* In the child: the server's ends get their descriptors, by way of others, so that none is overwritten, and it is run. */
+/* In the child: what the server writes at its end isn't to stand among the client's lines. */
+static void mute(void) {
+    int nothing = open("/dev/null", O_WRONLY);
+    if (nothing < 0 || dup2(nothing, STDOUT_FILENO) < 0)
+        _exit(127);
+    if (nothing != STDOUT_FILENO)
+        close(nothing);
+}
+
+/* In the child: the server's ends get their descriptors, by way of others, so that none is overwritten, and it is run. A
+ * client that is gone is to end its seat, and no signal the server. */
 static void run(const char *program, const char *type, const char *file, int ends[][4], int count) {
     char seats[32];
     for (int k = 0; k < count; k++) {
         ends[k][0] = fcntl(ends[k][0], F_DUPFD_CLOEXEC, FREE_DESCRIPTOR);
         ends[k][3] = fcntl(ends[k][3], F_DUPFD_CLOEXEC, FREE_DESCRIPTOR);
     }
+    mute();
+    signal(SIGPIPE, SIG_IGN);
     for (int k = 0; k < count; k++)
         if (dup2(ends[k][0], 3 + 2 * k) < 0 || dup2(ends[k][3], 4 + 2 * k) < 0)
             _exit(127);
@@ -138,9 +173,20 @@ static void run(const char *program, const char *type, const char *file, int end
     _exit(127);
 }
 
-int cvec_serve(struct cvec_server *server, const char *program, const char *type, const char *file, size_t width, int count) {
+int cvec_seat_of(struct cvec_seat *seat, const char *type, int requests, int answers) {
+    seat->requests = requests;
+    seat->answers = answers;
+    seat->width = width_of(type);
+    seat->over = 0;
+    if (seat->width > 0)
+        return 0;
+    errno = EINVAL;
+    return -1;
+}
+
+int cvec_server_start(struct cvec_server *server, const char *program, const char *type, const char *file, int count) {
     int ends[CVEC_SEAT_LIMIT][4];
-    if (count < 1 || count > CVEC_SEAT_LIMIT) {
+    if (count < 1 || count > CVEC_SEAT_LIMIT || width_of(type) == 0) {
         errno = EINVAL;
         return -1;
     }
@@ -157,24 +203,21 @@ int cvec_serve(struct cvec_server *server, const char *program, const char *type
     for (int k = 0; k < count; k++) {
         close(ends[k][0]);
         close(ends[k][3]);
-        server->seats[k].requests = ends[k][1];
-        server->seats[k].answers = ends[k][2];
-        server->seats[k].width = width;
-        server->seats[k].over = 0;
+        cvec_seat_of(&server->seats[k], type, ends[k][1], ends[k][2]);
     }
     return 0;
 }
 
-int cvec_send_growth(struct cvec_seat *seat, const void *records, uint32_t count) {
+int cvec_seat_send_growth(struct cvec_seat *seat, const void *records, uint32_t count) {
     int refused = refuses(seat, count);
     if (refused)
         return refused;
     if (send_head(seat, GROW, count, 0))
         return -1;
-    return write_all(seat->requests, records, (size_t)count * seat->width);
+    return send_bytes(seat, records, (size_t)count * seat->width);
 }
 
-int cvec_take_growth(struct cvec_seat *seat, uint64_t *number, uint64_t *start) {
+int cvec_seat_take_growth(struct cvec_seat *seat, uint64_t *number, uint64_t *start) {
     struct answer answer;
     int status = take_head(seat, &answer);
     if (status == 0) {
@@ -184,12 +227,12 @@ int cvec_take_growth(struct cvec_seat *seat, uint64_t *number, uint64_t *start) 
     return status;
 }
 
-int cvec_grow(struct cvec_seat *seat, const void *records, uint32_t count, uint64_t *number, uint64_t *start) {
-    int status = cvec_send_growth(seat, records, count);
-    return status ? status : cvec_take_growth(seat, number, start);
+int cvec_seat_grow(struct cvec_seat *seat, const void *records, uint32_t count, uint64_t *number, uint64_t *start) {
+    int status = cvec_seat_send_growth(seat, records, count);
+    return status ? status : cvec_seat_take_growth(seat, number, start);
 }
 
-int cvec_await(struct cvec_seat *seat, uint64_t *settled) {
+int cvec_seat_await(struct cvec_seat *seat, uint64_t *settled) {
     struct answer answer;
     int status = ask(seat, AWAIT, 0, 0, &answer);
     if (status == 0)
@@ -197,7 +240,7 @@ int cvec_await(struct cvec_seat *seat, uint64_t *settled) {
     return status;
 }
 
-int cvec_look(struct cvec_seat *seat, uint64_t *size, uint64_t *settled) {
+int cvec_seat_look(struct cvec_seat *seat, uint64_t *size, uint64_t *settled) {
     struct answer answer;
     int status = ask(seat, LOOK, 0, 0, &answer);
     if (status == 0) {
@@ -207,20 +250,22 @@ int cvec_look(struct cvec_seat *seat, uint64_t *size, uint64_t *settled) {
     return status;
 }
 
-int cvec_read(struct cvec_seat *seat, uint64_t start, void *records, uint32_t count, uint32_t *copied) {
+int cvec_seat_read(struct cvec_seat *seat, uint64_t start, void *records, uint32_t count, uint32_t *copied) {
     struct answer answer;
     int status = refuses(seat, count);
     if (status == 0)
         status = ask(seat, READ, count, start, &answer);
     if (status != 0)
         return status;
-    if (answer.count > count || read_all(seat->answers, records, (size_t)answer.count * seat->width))
+    if (answer.count > count)
+        seat->over = 1;
+    if (take_bytes(seat, records, (size_t)answer.count * seat->width))
         return -1;
     *copied = answer.count;
     return 0;
 }
 
-int cvec_end(struct cvec_seat *seat) {
+int cvec_seat_end(struct cvec_seat *seat) {
     struct answer answer;
     int status = seat->over ? 0 : ask(seat, END, 0, 0, &answer);
     close(seat->requests);
@@ -228,7 +273,7 @@ int cvec_end(struct cvec_seat *seat) {
     return status;
 }
 
-int cvec_wait(struct cvec_server *server) {
+int cvec_server_wait(struct cvec_server *server) {
     int status;
     while (waitpid(server->pid, &status, 0) < 0)
         if (errno != EINTR)

@@ -1,11 +1,14 @@
 /* A client of `cvec serve`, for C99 and C++ on POSIX systems: it starts a server over a segment file and grows and reads its
- * vector by pipes. docs/SERVE.md tells the bytes. It isn't proved.
+ * vector by pipes. docs/SERVE.md tells the bytes. It isn't proved. It may stand beside cvec.h in one program.
  *
  * A seat belongs to one thread at a time; the seats of a server may be in many. Functions that answer an int answer 0, the
  * number of a refusal (enum cvec_refusal), or -1 where the pipes have failed: the server has ended. Behind -1 and behind the
- * first six refusals the seat can only be ended, but for CVEC_NO_RECORD and CVEC_TOO_MANY, which are found before anything is
- * sent. What is to be written by a call is written only where it answers 0. A program that goes on behind a server's end
- * ignores SIGPIPE. */
+ * first six refusals the seat is over, and answers -1 to all but its end; not so behind CVEC_REFUSED_NO_RECORD and
+ * CVEC_REFUSED_TOO_MANY, which are found before anything is sent. What is to be written by a call is written only where it
+ * answers 0. A program that goes on behind a server's end ignores SIGPIPE.
+ *
+ * Records stand one behind the other with no gaps, each as in the file: little-endian, a pair in 16 bytes, its key first,
+ * and a flagged in 9, its key and 0 or 1. So a cvec_flagged of cvec.h is no record here. */
 #ifndef CVEC_CLIENT_H
 #define CVEC_CLIENT_H
 
@@ -22,19 +25,19 @@ extern "C" {
 
 /* Why a request is refused. */
 enum cvec_refusal {
-    CVEC_UNKNOWN_KIND = 1,
-    CVEC_STRAY_NUMBER = 2,
-    CVEC_NO_RECORD = 3,
-    CVEC_TOO_MANY = 4,   /* more than 2^20 - 8 bytes of records */
-    CVEC_BAD_RECORD = 5, /* a record that is none of the type: nothing was grown */
-    CVEC_NO_MEMORY = 6,
-    CVEC_GROWTH_MEMORY = 7,
-    CVEC_CLOSED = 8,
-    CVEC_FULL = 9,       /* the server has taken 1,048,568 growths */
-    CVEC_TOO_LONG = 10,  /* the vector would have more than 2^32 records */
-    CVEC_STRAYED = 11,
-    CVEC_ENDED = 12,     /* it isn't settled, and won't be */
-    CVEC_BROKEN = 13     /* it isn't known to be settled: the file refused */
+    CVEC_REFUSED_UNKNOWN_KIND = 1,
+    CVEC_REFUSED_STRAY_NUMBER = 2,
+    CVEC_REFUSED_NO_RECORD = 3,
+    CVEC_REFUSED_TOO_MANY = 4,   /* more than 2^20 - 8 bytes of records */
+    CVEC_REFUSED_BAD_RECORD = 5, /* a record that is none of the type: nothing was grown */
+    CVEC_REFUSED_NO_MEMORY = 6,
+    CVEC_REFUSED_GROWTH_MEMORY = 7,
+    CVEC_REFUSED_CLOSED = 8,
+    CVEC_REFUSED_FULL = 9,      /* the server has taken 1,048,568 growths */
+    CVEC_REFUSED_TOO_LONG = 10, /* the vector would have more than 2^32 records */
+    CVEC_REFUSED_STRAYED = 11,
+    CVEC_REFUSED_ENDED = 12, /* it isn't settled, and won't be */
+    CVEC_REFUSED_BROKEN = 13 /* it isn't known to be settled: the file refused */
 };
 
 /* One seat's ends of its two pipes, and the bytes of a record. */
@@ -42,7 +45,7 @@ struct cvec_seat {
     int requests;
     int answers;
     size_t width;
-    int over; /* the server reads no more of it */
+    int over; /* the server reads no more of it, or an answer wasn't read whole */
 };
 
 struct cvec_server {
@@ -51,33 +54,37 @@ struct cvec_server {
     struct cvec_seat seats[CVEC_SEAT_LIMIT];
 };
 
-/* Starts `program serve type file --seats=count`, whose records have so many bytes. -1: see errno. A program that can't be
- * run shows as a server that has ended. */
-int cvec_serve(struct cvec_server *server, const char *program, const char *type, const char *file, size_t width, int count);
+/* Starts `program serve type file --seats=count`, with /dev/null as its standard output. -1: see errno. A program that can't
+ * be run shows as a server that has ended. */
+int cvec_server_start(struct cvec_server *server, const char *program, const char *type, const char *file, int count);
+
+/* A seat of a server that another program started, by its descriptors here. -1: there is no such type of records. */
+int cvec_seat_of(struct cvec_seat *seat, const char *type, int requests, int answers);
 
 /* Publishes so many records as one growth: how many growths of this server stand before it, and where it begins. */
-int cvec_grow(struct cvec_seat *seat, const void *records, uint32_t count, uint64_t *number, uint64_t *start);
+int cvec_seat_grow(struct cvec_seat *seat, const void *records, uint32_t count, uint64_t *number, uint64_t *start);
 
 /* The two halves of it, for growths that are sent before the answers of earlier ones are read. A pipe holds few answers
  * that nobody reads: some 2,700 on Linux. */
-int cvec_send_growth(struct cvec_seat *seat, const void *records, uint32_t count);
-int cvec_take_growth(struct cvec_seat *seat, uint64_t *number, uint64_t *start);
+int cvec_seat_send_growth(struct cvec_seat *seat, const void *records, uint32_t count);
+int cvec_seat_take_growth(struct cvec_seat *seat, uint64_t *number, uint64_t *start);
 
 /* Waits until all that this seat grew is durable: so many growths of the server are. */
-int cvec_await(struct cvec_seat *seat, uint64_t *settled);
+int cvec_seat_await(struct cvec_seat *seat, uint64_t *settled);
 
 /* How many records the vector has, with those of other seats, and how many growths of the server are durable. */
-int cvec_look(struct cvec_seat *seat, uint64_t *size, uint64_t *settled);
+int cvec_seat_look(struct cvec_seat *seat, uint64_t *size, uint64_t *settled);
 
 /* Copies records from position start on, at most count of them, as far as they stand in one piece: so many. None: the seat
  * knows none there. */
-int cvec_read(struct cvec_seat *seat, uint64_t start, void *records, uint32_t count, uint32_t *copied);
+int cvec_seat_read(struct cvec_seat *seat, uint64_t start, void *records, uint32_t count, uint32_t *copied);
 
-/* Ends the seat, and closes its pipes. */
-int cvec_end(struct cvec_seat *seat);
+/* Ends the seat, and closes its pipes. 0 also where it was over before. */
+int cvec_seat_end(struct cvec_seat *seat);
 
-/* Waits until the server has ended, which it does behind its last seat: its exit status, or -1. */
-int cvec_wait(struct cvec_server *server);
+/* Waits until the server has ended, which it does behind its last seat: its exit status, 0 where all that was grown is
+ * durable, or -1. */
+int cvec_server_wait(struct cvec_server *server);
 
 #ifdef __cplusplus
 }

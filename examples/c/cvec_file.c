@@ -8,7 +8,6 @@
 #include <stdlib.h>
 #include <string.h>
 #include <sys/file.h>
-#include <sys/mman.h>
 #include <sys/stat.h>
 #include <unistd.h>
 
@@ -68,9 +67,30 @@ static uint32_t frame_of(cvec_type type, const cvec_stat *stat, const void *reco
 
 /* ---- the calls */
 
+/* Whether a signal has interrupted the call that answered this. */
+static bool was_interrupted(ssize_t done) { return done < 0 && errno == EINTR; }
+
+static int open_path(const char *path, int flags) {
+    int fd;
+    do fd = open(path, flags | O_CLOEXEC, 0666);
+    while (was_interrupted(fd));
+    return fd;
+}
+
+static uint32_t lock(int fd) {
+    int done;
+    do done = flock(fd, LOCK_EX | LOCK_NB);
+    while (was_interrupted(done));
+    if (done == 0) return CVEC_DONE;
+    return errno == EWOULDBLOCK ? CVEC_IN_USE : CVEC_DISK_OPEN;
+}
+
 static uint32_t length_of(int fd, uint64_t *len) {
     struct stat found;
-    if (fstat(fd, &found) != 0) return CVEC_DISK_LENGTH;
+    int done;
+    do done = fstat(fd, &found);
+    while (was_interrupted(done));
+    if (done != 0) return CVEC_DISK_LENGTH;
     *len = (uint64_t)found.st_size;
     return CVEC_DONE;
 }
@@ -78,7 +98,8 @@ static uint32_t length_of(int fd, uint64_t *len) {
 static uint32_t write_at(int fd, uint64_t at, const uint8_t *bytes, size_t len) {
     while (len > 0) {
         ssize_t done = pwrite(fd, bytes, len, (off_t)at);
-        if (done < 0 && errno == EINTR) continue;
+        if (was_interrupted(done)) continue;
+        if (done == 0) errno = EIO;
         if (done <= 0) return CVEC_DISK_WRITE;
         bytes += done;
         at += (uint64_t)done;
@@ -87,17 +108,24 @@ static uint32_t write_at(int fd, uint64_t at, const uint8_t *bytes, size_t len) 
     return CVEC_DONE;
 }
 
-static uint32_t read_first(int fd, uint8_t *byte) {
-    ssize_t done;
-    do done = pread(fd, byte, 1, 0);
-    while (done < 0 && errno == EINTR);
-    return done == 1 ? CVEC_DONE : CVEC_DISK_READ;
+/* A file that ends before that was cut meanwhile. */
+static uint32_t read_at(int fd, uint64_t at, uint8_t *bytes, size_t len) {
+    while (len > 0) {
+        ssize_t done = pread(fd, bytes, len, (off_t)at);
+        if (was_interrupted(done)) continue;
+        if (done == 0) errno = EIO;
+        if (done <= 0) return CVEC_DISK_READ;
+        bytes += done;
+        at += (uint64_t)done;
+        len -= (size_t)done;
+    }
+    return CVEC_DONE;
 }
 
 static uint32_t sync_data(int fd) {
     int done;
     do done = fdatasync(fd);
-    while (done != 0 && errno == EINTR);
+    while (was_interrupted(done));
     return done == 0 ? CVEC_DONE : CVEC_DISK_SYNC;
 }
 
@@ -119,10 +147,12 @@ static uint32_t sync_folder(const char *path) {
     if (whole == NULL) return CVEC_DISK_SYNC;
     char *name = strrchr(whole, '/');
     name[name == whole ? 1 : 0] = '\0';
-    int fd = open(whole, O_RDONLY | O_DIRECTORY | O_CLOEXEC);
+    int fd = open_path(whole, O_RDONLY | O_DIRECTORY);
     free(whole);
     if (fd < 0) return CVEC_DISK_SYNC;
-    int done = fsync(fd);
+    int done;
+    do done = fsync(fd);
+    while (was_interrupted(done));
     close(fd);
     return done == 0 ? CVEC_DONE : CVEC_DISK_SYNC;
 }
@@ -131,37 +161,40 @@ static uint32_t sync_folder(const char *path) {
 static uint32_t open_alone(cvec_file *file, const char *path, cvec_type type, int flags) {
     memset(file, 0, sizeof *file);
     file->type = type;
-    file->fd = open(path, O_RDWR | O_CLOEXEC | flags, 0666);
+    file->process = (int)getpid();
+    file->fd = open_path(path, O_RDWR | flags);
     if (file->fd < 0) return CVEC_DISK_OPEN;
-    if (flock(file->fd, LOCK_EX | LOCK_NB) != 0) return errno == EWOULDBLOCK ? CVEC_IN_USE : CVEC_DISK_OPEN;
+    uint32_t answer = lock(file->fd);
+    if (answer != CVEC_DONE) return answer;
     file->bytes = malloc(FIRST_ROOM);
     if (file->bytes == NULL) return CVEC_MEMORY;
     file->room = FIRST_ROOM;
     return CVEC_DONE;
 }
 
-/* The bytes of the file, and one more where it has none: the length of a map is at least 1. */
+/* Why no call may be made on the file, if none may. The lock is that of a forked process too, so it stops neither. */
+static uint32_t refusal_of(const cvec_file *file) {
+    if (file->fd < 0 || file->broken) return CVEC_BROKEN;
+    return file->process == (int)getpid() ? CVEC_DONE : CVEC_FORKED;
+}
+
+/* The bytes of a file, read into memory: of a device that fails a map would end the process. */
 struct image {
-    const uint8_t *bytes;
+    uint8_t *bytes;
     size_t len;
 };
 
-static uint32_t map_file(int fd, struct image *image) {
-    static const uint8_t nothing[1];
+static uint32_t load(int fd, struct image *image) {
     uint64_t len = 0;
     uint32_t answer = length_of(fd, &len);
     if (answer != CVEC_DONE) return answer;
-    image->bytes = nothing;
+    if (len >= SIZE_MAX) return CVEC_MEMORY;
     image->len = (size_t)len;
-    if (len == 0) return CVEC_DONE;
-    void *at = mmap(NULL, (size_t)len, PROT_READ, MAP_SHARED, fd, 0);
-    if (at == MAP_FAILED) return CVEC_DISK_READ;
-    image->bytes = at;
-    return CVEC_DONE;
-}
-
-static void unmap(const struct image *image) {
-    if (image->len > 0) munmap((void *)(uintptr_t)image->bytes, image->len);
+    image->bytes = malloc(image->len + 1); /* of no bytes malloc may give NULL */
+    if (image->bytes == NULL) return CVEC_MEMORY;
+    answer = read_at(fd, 0, image->bytes, image->len);
+    if (answer != CVEC_DONE) free(image->bytes);
+    return answer;
 }
 
 /* ---- a file that is made: a sync, a look whether there is one, its first byte shut, and a commit at place 0 */
@@ -173,7 +206,7 @@ static uint32_t shut_first(int fd) {
     if (answer != CVEC_DONE) return answer;
     if (len > CVEC_EMPTY_LEN) return CVEC_EXISTS;
     if (len < 2) return write_synced(fd, 0, &closed_gate, 1);
-    answer = read_first(fd, &first);
+    answer = read_at(fd, 0, &first, 1);
     if (answer != CVEC_DONE) return answer;
     return first == open_gate ? CVEC_EXISTS : CVEC_DONE;
 }
@@ -201,10 +234,10 @@ static uint32_t look(cvec_file *file, const char *path, cvec_type type, cvec_fau
     struct image image;
     uint32_t answer = open_alone(file, path, type, 0);
     if (answer == CVEC_DONE) answer = sync_data(file->fd);
-    if (answer == CVEC_DONE) answer = map_file(file->fd, &image);
+    if (answer == CVEC_DONE) answer = load(file->fd, &image);
     if (answer != CVEC_DONE) return answer;
     answer = check(type, image.bytes, image.len, &file->stat, fault);
-    unmap(&image);
+    free(image.bytes);
     return answer;
 }
 
@@ -236,8 +269,9 @@ static uint32_t make_frame(cvec_file *file, const void *records, size_t count, c
 
 uint32_t cvec_append(cvec_file *file, const void *records, size_t count) {
     cvec_stat next;
-    if (file->fd < 0 || file->broken) return CVEC_BROKEN;
-    uint32_t answer = make_frame(file, count > 0 ? records : no_records, count, &next);
+    uint32_t answer = refusal_of(file);
+    if (answer != CVEC_DONE) return answer;
+    answer = make_frame(file, count > 0 ? records : no_records, count, &next);
     if (answer != CVEC_DONE) return answer;
     answer = commit(file->fd, file->stat.gate, file->bytes, (size_t)(next.gate + 1 - file->stat.gate));
     if (answer != CVEC_DONE) {
@@ -251,16 +285,18 @@ uint32_t cvec_append(cvec_file *file, const void *records, size_t count) {
 uint32_t cvec_read(const cvec_file *file, uint64_t from, void *out, size_t room, uint64_t *count, cvec_fault *fault) {
     struct image image;
     memset(fault, 0, sizeof *fault);
-    if (file->fd < 0 || file->broken) return CVEC_BROKEN;
-    uint32_t answer = map_file(file->fd, &image);
+    uint32_t answer = refusal_of(file);
+    if (answer == CVEC_DONE) answer = load(file->fd, &image);
     if (answer != CVEC_DONE) return answer;
     answer = read_records(file->type, image.bytes, image.len, from, room > 0 ? out : no_room, room, count, fault);
-    unmap(&image);
+    free(image.bytes);
     return answer;
 }
 
 void cvec_close(cvec_file *file) {
+    int why = errno;
     if (file->fd >= 0) close(file->fd);
+    errno = why;
     free(file->bytes);
     memset(file, 0, sizeof *file);
     file->fd = -1;
@@ -292,6 +328,7 @@ const char *cvec_status_text(uint32_t status) {
     case CVEC_DISK_READ: return "disk read";
     case CVEC_DISK_WRITE: return "disk write";
     case CVEC_DISK_SYNC: return "disk sync";
+    case CVEC_FORKED: return "forked";
     default: return "unknown";
     }
 }

@@ -1,8 +1,10 @@
 /* A test of cvec_file.c: every call of the system fails once, and what the file has then is what it had before the function
- * that was running, or what it has after. Prints the calls of a run in which none fails: ./faults FILE */
+ * that was running, or what it has after; and a forked process is refused. Prints the calls of a run in which none fails:
+ * ./faults FILE */
 #define _DEFAULT_SOURCE 1
 #include <stdio.h>
 #include <sys/types.h>
+#include <sys/wait.h>
 #include <unistd.h>
 
 static int left = -1; /* the calls that pass before one fails; none does below 0 */
@@ -64,6 +66,28 @@ static int found(const char *path) {
     return status == CVEC_DONE && memcmp(seen, numbers, 8 * count) == 0 ? (int)count : -2;
 }
 
+/* In a forked process: whether it is refused. It would append where its parent does. */
+static int is_refused(cvec_file *file) {
+    uint64_t seen[4], count = 0;
+    cvec_fault fault;
+    uint32_t appended = cvec_append(file, numbers + 3, 1), read = cvec_read(file, 0, seen, 4, &count, &fault);
+    cvec_close(file);
+    return appended == CVEC_FORKED && read == CVEC_FORKED;
+}
+
+/* Whether a file whose process has forked has what that appended then. */
+static int stays_of_one_process(const char *path) {
+    cvec_file file;
+    int status = 1;
+    if (cvec_create(&file, path, CVEC_U64) != CVEC_DONE) return 0;
+    pid_t child = fork();
+    if (child == 0) _exit(is_refused(&file) ? 0 : 1);
+    if (child < 0 || waitpid(child, &status, 0) != child) return 0;
+    uint32_t appended = cvec_append(&file, numbers, 3);
+    cvec_close(&file);
+    return status == 0 && appended == CVEC_DONE && found(path) == 3;
+}
+
 /* The next size behind this one. */
 static int next(int size) { return size == -1 ? 0 : size == 0 ? 3 : 4; }
 
@@ -80,6 +104,11 @@ int main(int argc, char **argv) {
             printf("call %d failed: %d were durable, %d are there\n", calls, done, size);
             lost = 1;
         }
+    }
+    remove(argv[1]);
+    if (!stays_of_one_process(argv[1])) {
+        puts("a forked process has the file too");
+        lost = 1;
     }
     remove(argv[1]);
     traced = 1;

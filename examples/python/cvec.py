@@ -9,22 +9,23 @@
             ...
 
 The library is found by the environment's CVEC_LIBRARY, and else beside this module. With numpy, records are arrays; without
-it they are lists and memoryviews, of tuples and bytes for the two types with two fields."""
+it they are lists and memoryviews, of tuples and bytes for the two types with two fields. Threads may share a file: its calls
+take turns."""
 import builtins
 import ctypes
 import mmap
 import os
-import struct
+import threading
 from ctypes import POINTER, byref, c_int, c_int64, c_size_t, c_uint8, c_uint16, c_uint32, c_uint64, c_void_p
 
-try:
-    import numpy
-except ImportError:
-    numpy = None
+from cvec_records import IN_C, IN_FILE, numpy
 
 FIRST_GATE = 11
 GROUP, CHANGE, SHRINK, FOLD = 1, 2, 3, 4
-_NO_ROOM = 11
+_UNBORN, _DAMAGED, _NO_ROOM, _FORKED = 1, 5, 11, 40
+
+# The statuses of which errno says why.
+_OF_SYSTEM = range(35, 40)
 
 
 class Pair(ctypes.Structure):
@@ -58,29 +59,24 @@ class Home(ctypes.Structure):
 
 
 class _File(ctypes.Structure):
-    _fields_ = [("fd", c_int), ("type", c_int), ("broken", ctypes.c_bool), ("stat", Stat), ("bytes", c_void_p),
-                ("room", c_size_t)]
+    _fields_ = [("fd", c_int), ("type", c_int), ("broken", ctypes.c_bool), ("process", c_int), ("stat", Stat),
+                ("bytes", c_void_p), ("room", c_size_t)]
 
 
 class _Type:
-    """A record type: its number, as C has it, and as it stands in a file."""
+    """A record type: its number, a record as C has it, and its forms in C and in a file."""
 
-    def __init__(self, number, name, record, in_file, fields):
-        self.number, self.name, self.record, self.in_file, self.fields = number, name, record, in_file, fields
-
-    def dtype(self, packed):
-        """That of numpy: as it stands in a file, or as C has it."""
-        if len(self.fields) == 1:
-            return numpy.dtype(self.fields[0][1])
-        return numpy.dtype(self.fields, align=not packed)
+    def __init__(self, number, name, record):
+        self.number, self.name, self.record = number, name, record
+        self.in_c, self.in_file = IN_C[name], IN_FILE[name]
 
 
 _TYPES = {it.name: it for it in [
-    _Type(0, "u32", c_uint32, "<I", [("", "<u4")]),
-    _Type(1, "u64", c_uint64, "<Q", [("", "<u8")]),
-    _Type(2, "i64", c_int64, "<q", [("", "<i8")]),
-    _Type(3, "pair", Pair, "<Qq", [("key", "<u8"), ("value", "<i8")]),
-    _Type(4, "flagged", Flagged, "<Q?", [("key", "<u8"), ("flag", "?")]),
+    _Type(0, "u32", c_uint32),
+    _Type(1, "u64", c_uint64),
+    _Type(2, "i64", c_int64),
+    _Type(3, "pair", Pair),
+    _Type(4, "flagged", Flagged),
 ]}
 
 
@@ -111,27 +107,38 @@ _LIB = _library()
 
 
 class Error(Exception):
-    """A refusal: its status and fault, by the names of cvec.h."""
+    """A refusal: its status and fault, by the names of cvec.h, and the system's number of why a call failed."""
 
-    def __init__(self, status, fault=None):
+    def __init__(self, status, fault=None, errno=0):
         fault = fault or Fault()
-        self.status, self.at, self.cause, self.found = status, fault.at, fault.cause, fault.found
+        self.status, self.at, self.cause, self.found, self.errno = status, fault.at, fault.cause, fault.found, errno
         text = _LIB.cvec_status_text(status).decode()
-        if status == 5:
+        if status == _DAMAGED:
             text += f" at {fault.at}: {_LIB.cvec_cause_text(fault.cause).decode()}"
+        if status in _OF_SYSTEM:
+            text += f": {os.strerror(errno)}"
         super().__init__(text)
 
 
 def _pass(status, fault=None):
     if status != 0:
-        raise Error(status, fault)
+        raise Error(status, fault, ctypes.get_errno() if status in _OF_SYSTEM else 0)
+
+
+def _name_of(path):
+    """The path as C has it."""
+    name = os.fsencode(path)
+    if b"\0" in name:
+        raise ValueError("a path has a zero byte")
+    return name
 
 
 class File:
-    """A file that is open for reading and appending; create() and open() make one."""
+    """A file that is open for reading and appending, by the process that opened it; create() and open() make one."""
 
     def __init__(self, kind, raw):
         self._kind, self._raw = kind, raw
+        self._process, self._lock = os.getpid(), threading.RLock()
 
     def __enter__(self):
         return self
@@ -140,66 +147,86 @@ class File:
         self.close()
 
     def __len__(self):
-        return self._raw.stat.size
+        return self.stat.size
+
+    def _is_forked(self):
+        """Whether this process isn't the one that opened it. A thread that held the lock then never lets go of it here."""
+        return self._process != os.getpid()
+
+    def _turn(self):
+        """The lock under which a call is made: ctypes lets other threads run meanwhile."""
+        if self._is_forked():
+            raise Error(_FORKED)
+        return self._lock
 
     @property
     def stat(self):
-        """What the file holds."""
-        return self._raw.stat
+        """What the file holds now."""
+        with self._turn():
+            return Stat.from_buffer_copy(self._raw.stat)
 
     def append(self, records):
-        """Appends the records as one growth: durable when it returns, and all of them or none whatever happens."""
-        kind = self._kind
-        if numpy is not None:
-            row = numpy.ascontiguousarray(records, dtype=kind.dtype(packed=False))
-            at, count = row.ctypes.data, len(row)
-        else:
-            records = list(records)
-            row = (kind.record * len(records))(*records)
-            at, count = ctypes.addressof(row), len(row)
-        _pass(_LIB.cvec_append(byref(self._raw), at, count))
+        """Appends the records as one growth: durable when it returns, and all of them or none whatever happens. ValueError:
+        not all are records of the type, and nothing was appended."""
+        data = self._kind.in_c.pack(records)
+        count = len(data) // self._kind.in_c.width
+        row = (self._kind.record * count).from_buffer_copy(data)
+        with self._turn():
+            _pass(_LIB.cvec_append(byref(self._raw), ctypes.addressof(row), count))
 
     def read(self, start=0, count=None):
         """A copy of the records from a position on, all of them or so many."""
-        kind, fault, done = self._kind, Fault(), c_uint64()
-        left = max(0, len(self) - start)
-        room = left if count is None else min(left, count)
-        row = (kind.record * room)()
-        _pass(_LIB.cvec_read(byref(self._raw), start, ctypes.addressof(row), room, byref(done), byref(fault)), fault)
-        if numpy is not None:
-            kept = kind.dtype(packed=False)
-            return numpy.frombuffer(row, dtype=kept, count=done.value) if done.value > 0 else numpy.empty(0, dtype=kept)
-        if len(kind.fields) == 1:
-            return list(row)[:done.value]
-        return [tuple(getattr(it, name) for name, _ in kind.fields) for it in row[:done.value]]
+        if start < 0:
+            raise ValueError("a position is below 0")
+        fault, done = Fault(), c_uint64()
+        with self._turn():
+            left = max(0, self._raw.stat.size - start)
+            room = left if count is None else min(left, count)
+            row = (self._kind.record * room)()
+            _pass(_LIB.cvec_read(byref(self._raw), start, ctypes.addressof(row), room, byref(done), byref(fault)), fault)
+        return self._kind.in_c.unpack((c_uint8 * (done.value * self._kind.in_c.width)).from_buffer(row))
 
     def close(self):
-        _LIB.cvec_close(byref(self._raw))
+        """Closes the file. What was appended stands."""
+        if self._is_forked():
+            self._let_go()
+            return
+        with self._lock:
+            _LIB.cvec_close(byref(self._raw))
+
+    def _let_go(self):
+        """Closes the descriptor alone: a thread that isn't here may have been at the rest."""
+        descriptor, self._raw.fd = self._raw.fd, -1
+        if descriptor >= 0:
+            os.close(descriptor)
+
+    __del__ = close
 
 
 def create(path, kind):
-    """Makes a file of this record type: u32, u64, i64, pair or flagged. One that is there stays, and is refused."""
-    raw = _File()
-    _pass(_LIB.cvec_create(byref(raw), os.fsencode(path), _TYPES[kind].number))
-    return File(_TYPES[kind], raw)
+    """Makes a file of version 1 and this record type: u32, u64, i64, pair or flagged. One that is there stays, and is
+    refused."""
+    kind, raw = _TYPES[kind], _File()
+    _pass(_LIB.cvec_create(byref(raw), _name_of(path), kind.number))
+    return File(kind, raw)
 
 
 def open(path, kind):
     """Opens a file of this record type, and checks it."""
-    raw, fault = _File(), Fault()
-    _pass(_LIB.cvec_open(byref(raw), os.fsencode(path), _TYPES[kind].number, byref(fault)), fault)
-    return File(_TYPES[kind], raw)
+    kind, raw, fault = _TYPES[kind], _File(), Fault()
+    _pass(_LIB.cvec_open(byref(raw), _name_of(path), kind.number, byref(fault)), fault)
+    return File(kind, raw)
 
 
 class Map:
     """A file that is mapped, and checked when it was: its records are seen where they stand in it. What is appended later
-    isn't. The file must not be folded or cut meanwhile."""
+    isn't. The file must not be folded or cut meanwhile. A device that fails ends the process, as with any map (SIGBUS)."""
 
     def __init__(self, path, kind):
         self._kind, self.stat = _TYPES[kind], Stat()
         with builtins.open(path, "rb") as file:
             if os.fstat(file.fileno()).st_size == 0:
-                raise Error(1)
+                raise Error(_UNBORN)
             # A private map, since ctypes takes the address of what may be written alone. Nothing is.
             self._map = mmap.mmap(file.fileno(), 0, access=mmap.ACCESS_COPY)
         self._bytes = (c_uint8 * len(self._map)).from_buffer(self._map)
@@ -230,11 +257,17 @@ class Map:
     def __len__(self):
         return self.stat.size
 
+    def _open_map(self):
+        if self._map is None:
+            raise ValueError("the map is closed")
+        return self._map
+
     def frames(self):
         """The file's frames, each with the place of its gate."""
         at, frame = FIRST_GATE, Frame()
-        while _LIB.cvec_frame_at(ctypes.addressof(self._bytes), len(self._map), at, self.stat.version, self.stat.width,
-                                 byref(frame)) == 0:
+        while at < self.stat.gate:
+            length, stat = len(self._open_map()), self.stat
+            _pass(_LIB.cvec_frame_at(ctypes.addressof(self._bytes), length, at, stat.version, stat.width, byref(frame)))
             yield at, Frame.from_buffer_copy(frame)
             at = frame.next
 
@@ -252,23 +285,25 @@ class Map:
                 yield self._view(home.place, home.count)
 
     def _view(self, at, count):
+        form, seen = self._kind.in_file, self._open_map()
         if numpy is not None:
-            view = numpy.frombuffer(self._map, dtype=self._kind.dtype(packed=True), count=count, offset=at)
+            view = numpy.frombuffer(seen, dtype=form.dtype, count=count, offset=at)
             view.flags.writeable = False
             return view
-        view = memoryview(self._map).toreadonly()[at:at + count * self.stat.width]
-        return view.cast(self._kind.in_file[1:]) if len(self._kind.fields) == 1 else view
+        view = memoryview(seen).toreadonly()[at:at + count * form.width]
+        return view.cast(form.record.format[1:]) if form.is_number else view
 
     def records(self):
         """The records of the pieces, one by one."""
+        form = self._kind.in_file
         for piece in self.pieces():
             if numpy is not None:
                 yield from piece.tolist()
-            elif len(self._kind.fields) == 1:
+            elif form.is_number:
                 yield from piece
             else:
-                yield from struct.iter_unpack(self._kind.in_file, piece)
+                yield from form.record.iter_unpack(piece)
 
     def close(self):
         """Lets go of the file. Pieces that are still held keep the map."""
-        self._bytes = None
+        self._bytes = self._map = None

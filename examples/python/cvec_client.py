@@ -8,21 +8,19 @@ tells the bytes. It isn't proved.
 
 A seat belongs to one thread or process at a time. With numpy, records are arrays; without it they are lists, of tuples for
 the two types with two fields."""
+import fcntl
 import os
+import signal
 import struct
 import subprocess
 
-try:
-    import numpy
-except ImportError:
-    numpy = None
+from cvec_records import IN_FILE, numpy
 
 END, GROW, AWAIT, LOOK, READ = range(5)
 REFUSALS = {
     1: "unknown kind", 2: "stray number", 3: "no record", 4: "too many records", 5: "bad record", 6: "no memory",
     7: "memory", 8: "closed", 9: "full", 10: "too long", 11: "strayed", 12: "ended", 13: "broken",
 }
-FORMATS = {"u32": "<I", "u64": "<Q", "i64": "<q", "pair": "<Qq", "flagged": "<Q?"}
 LIMIT = 2 ** 20 - 8
 
 
@@ -35,7 +33,12 @@ class Refused(Exception):
 
 
 class Gone(Exception):
-    """The server has ended."""
+    """The server has ended, or reads no more of this seat."""
+
+
+def _close(descriptors):
+    for descriptor in descriptors:
+        os.close(descriptor)
 
 
 class Seat:
@@ -44,11 +47,7 @@ class Seat:
     def __init__(self, requests, answers, type):
         self.requests, self.answers = requests, answers
         self.over = False
-        self.record = struct.Struct(FORMATS[type])
-        self.dtype = numpy and {
-            "u32": "<u4", "u64": "<u8", "i64": "<i8",
-            "pair": [("key", "<u8"), ("value", "<i8")], "flagged": [("key", "<u8"), ("flag", "?")],
-        }[type]
+        self.form = IN_FILE[type]
 
     def _write(self, data):
         view = memoryview(data)
@@ -56,7 +55,6 @@ class Seat:
             while view:
                 view = view[os.write(self.requests, view):]
         except BrokenPipeError:
-            self.over = True
             raise Gone() from None
 
     def _take(self, count):
@@ -64,58 +62,51 @@ class Seat:
         while count:
             part = os.read(self.answers, count)
             if not part:
-                self.over = True
                 raise Gone()
             parts.append(part)
             count -= len(part)
         return b"".join(parts)
 
-    def _answer(self):
-        status, count, first, second = struct.unpack("<IIQQ", self._take(24))
-        if status:
-            # Behind one of these the server reads no more of this seat.
-            self.over = status <= 6
-            raise Refused(status)
-        return count, first, second
-
     def _ask(self, kind, count=0, start=0, data=b""):
+        """The numbers of the answer, and the bytes of its records."""
+        if self.over:
+            raise Gone()
+        # Whatever ends this before the whole answer is read, as a signal's handler may, leaves the next one to no request.
+        self.over = True
         self._write(struct.pack("<IIQ", kind, count, start) + data)
-        return self._answer()
+        status, count, first, second = struct.unpack("<IIQQ", self._take(24))
+        records = self._take(count * self.form.width)
+        # Behind one of the first six the server reads no more of this seat.
+        self.over = 1 <= status <= 6
+        if status:
+            raise Refused(status)
+        return first, second, records
 
     def _check(self, count):
         if count == 0:
             raise Refused(3)
-        if count > LIMIT // self.record.size:
+        if count > LIMIT // self.form.width:
             raise Refused(4)
         return count
 
-    def _bytes(self, records):
-        if numpy:
-            return numpy.ascontiguousarray(records, dtype=self.dtype).tobytes()
-        pack = self.record.pack
-        return b"".join(pack(*r) if isinstance(r, tuple) else pack(r) for r in records)
-
     def grow(self, records):
-        """Publishes the records as one growth: how many growths of this server stand before it, and where it begins."""
-        data = self._bytes(records)
-        return self._ask(GROW, self._check(len(data) // self.record.size), 0, data)[1:]
+        """Publishes the records as one growth: how many growths of this server stand before it, and where it begins.
+        ValueError: not all are records of the type, and nothing was asked."""
+        data = self.form.pack(records)
+        return self._ask(GROW, self._check(len(data) // self.form.width), 0, data)[:2]
 
     def settle(self):
         """Waits until all that this seat grew is durable: so many growths of the server are."""
-        return self._ask(AWAIT)[1]
+        return self._ask(AWAIT)[0]
 
     def look(self):
         """How many records the vector has, with those of other seats, and how many growths of the server are durable."""
-        return self._ask(LOOK)[1:]
+        return self._ask(LOOK)[:2]
 
     def piece(self, start, count=None):
         """Records from a position on, as far as they stand in one piece. None: the seat knows none there."""
-        most = LIMIT // self.record.size if count is None else self._check(count)
-        count, _, _ = self._ask(READ, most, start)
-        data = self._take(count * self.record.size)
-        if numpy:
-            return numpy.frombuffer(data, dtype=self.dtype)
-        return [r[0] if len(r) == 1 else r for r in self.record.iter_unpack(data)]
+        most = LIMIT // self.form.width if count is None else self._check(count)
+        return self.form.unpack(self._ask(READ, most, start)[2])
 
     def read(self, start=0):
         """All records from a position on, as far as they stand now."""
@@ -124,18 +115,17 @@ class Seat:
             pieces.append(self.piece(start))
             start += len(pieces[-1])
         if numpy:
-            return numpy.concatenate(pieces) if pieces else numpy.empty(0, dtype=self.dtype)
+            return numpy.concatenate(pieces) if pieces else numpy.empty(0, dtype=self.form.dtype)
         return [record for piece in pieces for record in piece]
 
     def close(self):
         """Closes the pipes, of which the server then sees the end."""
-        for descriptor in (self.requests, self.answers):
-            if descriptor is not None:
-                os.close(descriptor)
-        self.requests = self.answers = None
+        descriptors = [it for it in (self.requests, self.answers) if it is not None]
+        self.requests, self.answers, self.over = None, None, True
+        _close(descriptors)
 
     def end(self):
-        """Asks for the end, and closes the pipes."""
+        """Asks for the end, unless the seat is over, and closes the pipes."""
         try:
             if self.requests is not None and not self.over:
                 self._ask(END)
@@ -143,42 +133,51 @@ class Seat:
             self.close()
 
 
+def _prepare(descriptors):
+    """In the child: gives them the places from 3 on, by way of others above all of these, so that none is overwritten. A
+    client that is gone is to end its seat, and no signal the server."""
+    signal.signal(signal.SIGPIPE, signal.SIG_IGN)
+    high = [fcntl.fcntl(it, fcntl.F_DUPFD_CLOEXEC, 3 + len(descriptors)) for it in descriptors]
+    for at, descriptor in enumerate(high):
+        os.dup2(descriptor, 3 + at)
+
+
 class Server:
-    """A server over a file, and its seats."""
+    """A server over a file, and its seats. Its standard output goes to /dev/null."""
 
     def __init__(self, program, type, file, seats=1):
-        ours, theirs = [], []
-        for _ in range(seats):
-            asked, asks = os.pipe()
-            told, tells = os.pipe()
-            theirs += [asked, tells]
-            ours.append((asks, told))
+        IN_FILE[type]  # before a pipe is made
         words = [program, "serve", type, str(file), f"--seats={seats}"]
-        free = 4 + 2 * seats
-
-        def place():
-            # First above all of their places, so that none is overwritten.
-            import fcntl
-            high = [fcntl.fcntl(d, fcntl.F_DUPFD_CLOEXEC, free + 1) for d in theirs]
-            for at, descriptor in enumerate(high):
-                os.dup2(descriptor, 3 + at)
-
-        self.process = subprocess.Popen(words, preexec_fn=place, close_fds=False, stdin=subprocess.DEVNULL)
-        for descriptor in theirs:
-            os.close(descriptor)
-        self.seats = [Seat(asks, told, type) for asks, told in ours]
+        ours, theirs = [], []
+        try:
+            for _ in range(seats):
+                for mine in (1, 0):
+                    ends = os.pipe()
+                    ours.append(ends[mine])
+                    theirs.append(ends[1 - mine])
+            self.process = subprocess.Popen(words, preexec_fn=lambda: _prepare(theirs), close_fds=False,
+                                            stdin=subprocess.DEVNULL, stdout=subprocess.DEVNULL)
+        except BaseException:
+            _close(ours)
+            raise
+        finally:
+            _close(theirs)
+        self.seats = [Seat(requests, answers, type) for requests, answers in zip(ours[::2], ours[1::2])]
 
     def wait(self):
-        """Waits until the server has ended, which it does behind its last seat: its exit status."""
+        """Waits until the server has ended, which it does behind its last seat: its exit status, 0 where all that was grown
+        is durable."""
         return self.process.wait()
 
     def __enter__(self):
         return self
 
-    def __exit__(self, *_):
+    def __exit__(self, fault, *_):
         for seat in self.seats:
             try:
                 seat.end()
             except (Gone, Refused):
                 pass
-        self.wait()
+        status = self.wait()
+        if status != 0 and fault is None:
+            raise Gone(f"the server ended with status {status}")

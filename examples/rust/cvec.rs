@@ -10,6 +10,7 @@
 
 use std::ffi::{CStr, CString, c_char, c_int};
 use std::fmt;
+use std::io;
 use std::marker::PhantomData;
 use std::os::unix::ffi::OsStrExt;
 use std::path::Path;
@@ -67,15 +68,21 @@ pub struct Frame {
     pub kind: u8,
 }
 
-/// A refusal: its number in `cvec.h`, and of a damaged file where and why.
+/// A refusal: its number in `cvec.h`, of a damaged file where and why, and of a call of the system the system's number of
+/// why it failed.
 #[derive(Clone, Copy, Debug, PartialEq, Eq)]
 pub struct Error {
     pub status: u32,
     pub fault: Fault,
+    pub errno: Option<i32>,
 }
 
 /// The number of a file that is damaged.
 const DAMAGED: u32 = 5;
+
+/// The numbers of the system's calls that fail, of which the first is to open a file.
+const OF_SYSTEM: std::ops::RangeInclusive<u32> = DISK_OPEN..=39;
+const DISK_OPEN: u32 = 35;
 
 impl fmt::Display for Error {
     fn fmt(&self, f: &mut fmt::Formatter<'_>) -> fmt::Result {
@@ -85,14 +92,19 @@ impl fmt::Display for Error {
         if self.status == DAMAGED {
             write!(f, " at {}: {}", self.fault.at, cause.to_string_lossy())?;
         }
+        if let Some(errno) = self.errno {
+            write!(f, ": {}", io::Error::from_raw_os_error(errno))?;
+        }
         Ok(())
     }
 }
 
 impl std::error::Error for Error {}
 
+/// To be asked right behind the call that answered it.
 fn told(status: u32, fault: Fault) -> Result<(), Error> {
-    if status == 0 { Ok(()) } else { Err(Error { status, fault }) }
+    let errno = if OF_SYSTEM.contains(&status) { io::Error::last_os_error().raw_os_error() } else { None };
+    if status == 0 { Ok(()) } else { Err(Error { status, fault, errno }) }
 }
 
 #[repr(C)]
@@ -100,6 +112,7 @@ struct RawFile {
     fd: c_int,
     kind: c_int,
     broken: bool,
+    process: c_int,
     stat: Stat,
     bytes: *mut u8,
     room: usize,
@@ -170,7 +183,7 @@ pub fn frame_at(image: &[u8], at: u64, version: u8, width: u16) -> Option<Frame>
     (status == 0).then_some(frame)
 }
 
-/// A file that is open for reading and appending.
+/// A file that is open for reading and appending, by the process that opened it.
 pub struct File<R: Record> {
     raw: RawFile,
     of: PhantomData<R>,
@@ -180,18 +193,16 @@ pub struct File<R: Record> {
 unsafe impl<R: Record> Send for File<R> {}
 
 fn closed() -> RawFile {
-    RawFile { fd: -1, kind: 0, broken: true, stat: Stat::default(), bytes: std::ptr::null_mut(), room: 0 }
+    RawFile { fd: -1, kind: 0, broken: true, process: 0, stat: Stat::default(), bytes: std::ptr::null_mut(), room: 0 }
 }
 
-/// The number of a path that the system has no name for.
-const DISK_OPEN: u32 = 35;
-
+/// A path with a zero byte is none that the system has a name for.
 fn name_of(path: &Path) -> Result<CString, Error> {
-    CString::new(path.as_os_str().as_bytes()).map_err(|_| Error { status: DISK_OPEN, fault: Fault::default() })
+    CString::new(path.as_os_str().as_bytes()).map_err(|_| Error { status: DISK_OPEN, fault: Fault::default(), errno: None })
 }
 
 impl<R: Record> File<R> {
-    /// Makes a file. One that is there stays, and is refused.
+    /// Makes a file of version 1. One that is there stays, and is refused.
     pub fn create(path: &Path) -> Result<File<R>, Error> {
         let name = name_of(path)?;
         let mut raw = closed();

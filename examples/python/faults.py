@@ -1,0 +1,176 @@
+"""A test of cvec.py: what isn't a record is refused, threads lose nothing, a forked process appends nothing, and what is
+closed is let go: faults.py FOLDER [plain]. With 'plain' it does so without numpy."""
+import gc
+import os
+import sys
+import threading
+
+if sys.argv[2:] == ["plain"]:
+    sys.modules["numpy"] = None
+import cvec
+
+numpy = cvec.numpy
+PATH = os.path.join(sys.argv[1], "faults.cv")
+THREADS, GROWTHS = 4, 25
+
+GOOD = {
+    "u32": [0, 2 ** 32 - 1],
+    "u64": [0, 2 ** 63, 2 ** 64 - 1],
+    "i64": [-2 ** 63, 2 ** 63 - 1],
+    "pair": [(2 ** 64 - 1, -2 ** 63), (0, 2 ** 63 - 1)],
+    "flagged": [(2 ** 64 - 1, True), (0, False)],
+}
+BAD = {
+    "u32": [[-1], [2 ** 32], [1.0], ["1"], [[1, 2]], [None], 1],
+    "u64": [[-1], [2 ** 64], [1.5], [1, 2 ** 64 + 1], [(1, 2)]],
+    "i64": [[2 ** 63], [-2 ** 63 - 1], [1.0]],
+    "pair": [[(1, 2 ** 63)], [(-1, 1)], [(1.0, 1)], [(1,)], [(1, 2, 3)], [1, 2]],
+    "flagged": [[(2 ** 64, True)], [(-1, True)], [True]],
+}
+
+
+def made(kind):
+    if os.path.exists(PATH):
+        os.remove(PATH)
+    return cvec.create(PATH, kind)
+
+
+def listed(kind):
+    with cvec.open(PATH, kind) as file:
+        return file.read().tolist() if numpy else file.read()
+
+
+def check_refused(file, rows):
+    for row in rows:
+        try:
+            file.append(row)
+        except ValueError:
+            continue
+        raise AssertionError(f"appended: {row!r}")
+
+
+def check_rows():
+    for kind, row in GOOD.items():
+        with made(kind) as file:
+            assert len(file.read()) == 0
+            check_refused(file, BAD[kind])
+            file.append(it for it in row)
+            check_refused(file, BAD[kind])
+        assert listed(kind) == row, kind
+        with cvec.Map(PATH, kind) as seen:
+            assert list(seen.records()) == row, kind
+    with made("flagged") as file:
+        file.append([(1, 5), (2, 0)])
+    assert listed("flagged") == [(1, True), (2, False)]
+
+
+def flags(numbers):
+    """Flags that are seen in other bytes."""
+    seen = numpy.zeros(len(numbers), dtype=[("key", "<u8"), ("flag", "?")])
+    seen["flag"] = numpy.array(numbers, dtype="u1").view("?")
+    return seen
+
+
+def check_arrays():
+    array = numpy.array
+    with made("u32") as file:
+        check_refused(file, [array([2 ** 32]), array([-1]), array([1.0]), array([[1, 2]]), array(1), array(["1"]),
+                             flags([1]), array([2 ** 64], dtype=object), array([1], dtype="m8[s]")])
+        file.append(array([7, 8, 9, 10], dtype=">i8")[::2])
+        file.append(array([11], dtype=object))
+    assert listed("u32") == [7, 9, 11]
+    with made("i64") as file:
+        check_refused(file, [array([2 ** 63], dtype="u8"), array([1, 2 ** 63])])
+    with made("pair") as file:
+        check_refused(file, [array([(1, 2)], dtype=[("value", "<i8"), ("key", "<u8")]), array([1, 2]), flags([1]),
+                             array([(1, 2 ** 63)], dtype=[("key", "<u8"), ("value", "<u8")]), array([[1, 2], [3, 4]])])
+        file.append(array([(1, 2), (3, 4)], dtype=[("key", "u1"), ("value", "i2")]))
+    assert listed("pair") == [(1, 2), (3, 4)]
+    assert cvec.IN_C["flagged"].pack(flags([255, 0, 2]))[8::16] == b"\1\0\1"
+    with made("flagged") as file:
+        file.append(flags([255, 0, 2]))
+        with cvec.Map(PATH, "flagged") as seen:
+            file.append(list(seen.pieces())[0])
+    assert listed("flagged") == [(0, True), (0, False), (0, True)] * 2
+
+
+def check_threads():
+    """What each thread was told is durable is there."""
+    told = []
+
+    def run(file, thread):
+        for number in range(GROWTHS):
+            file.append([thread * GROWTHS + number])
+            told.append(thread * GROWTHS + number)
+
+    with made("u64") as file:
+        threads = [threading.Thread(target=run, args=(file, thread)) for thread in range(THREADS)]
+        for thread in threads:
+            thread.start()
+        for thread in threads:
+            thread.join()
+    assert sorted(listed("u64")) == sorted(told) == list(range(THREADS * GROWTHS))
+
+
+def is_forked(call):
+    try:
+        call()
+    except cvec.Error as refusal:
+        return str(refusal) == "forked"
+    return False
+
+
+def check_fork():
+    with made("u64") as file:
+        child = os.fork()
+        if child == 0:
+            refused = is_forked(lambda: file.append([5, 6])) and is_forked(file.read)
+            file.close()
+            os._exit(0 if refused else 1)
+        assert os.waitpid(child, 0)[1] == 0, "a forked process appends or reads"
+        file.append([7])
+    assert listed("u64") == [7]
+
+
+def refusal_of(call, *words):
+    try:
+        call(*words)
+    except (cvec.Error, ValueError) as refusal:
+        return str(refusal)
+    raise AssertionError("not refused")
+
+
+def check_closing():
+    made("u64").append([5])  # nobody holds the file
+    gc.collect()
+    with cvec.open(PATH, "u64") as file:
+        before = file.stat
+        with open(PATH, "ab") as longer:
+            longer.write(bytes(100))
+        seen = cvec.Map(PATH, "u64")
+        held = list(seen.pieces())
+        file.append([6])
+        assert before.size == 1 and file.stat.size == len(file) == 2
+        assert len(list(seen.frames())) == seen.stat.frames == 1
+        seen.close()
+        assert [list(piece) for piece in held] == [[5]]
+        assert refusal_of(lambda: list(seen.pieces())) == refusal_of(lambda: list(seen.frames())) == "the map is closed"
+        held.clear()
+        del seen
+    assert refusal_of(file.append, [1]) == refusal_of(file.read) == "broken"
+    if os.path.exists("/proc/self/maps"):
+        with open("/proc/self/maps") as maps:
+            assert PATH not in maps.read(), "a map is left"
+    os.remove(PATH)
+    assert refusal_of(cvec.open, PATH, "u64") == "disk open: No such file or directory"
+    assert "zero byte" in refusal_of(cvec.create, PATH + "\0x", "u64")
+    assert not os.path.exists(PATH)
+
+
+check_rows()
+if numpy is not None:
+    check_arrays()
+check_threads()
+check_fork()
+check_closing()
+print("with numpy" if numpy else "without numpy")
