@@ -7,26 +7,27 @@ use Rattle.cvec.specs.declared.request.FileWords.{FileWords}
 use Rattle.cvec.specs.declared.request.StatWords.{StatWords}
 use Rattle.cvec.specs.declared.request.Request.TheVariants.{File, Stat}
 use Rattle.cvec.specs.declared.complaint.Complaint.{Complaint}
+use Rattle.cvec.specs.Answers.{IsAnswerTo}
 use Rattle.cvec.specs.Runs.{IsAskedRun, IsFileRun, IsComplaintTold, IsAskedTold}
 use Rattle.text_core.specs.declared.status.Status.{Status}
 use Rattle.text_core.specs.declared.status.Status.TheVariants as statuses
 
 pub asked_run_of_file : (known : Option (List ℕ)) (asked : Option Request) (words : FileWords) (old new : Option (List ℕ)) (status : Status)
-    → asked ≡ Some (File words) → IsFileRun old new status
+    → asked ≡ Some (File words) → IsFileRun (IsAnswerTo (File words)) old new status
     → IfSome known (λ input. IsAskedRun asked input old new status)
 asked_run_of_file None asked words old new status is run = tt
 asked_run_of_file (Some input) asked words old new status is run =
     subst (λ (a : Option Request). IsAskedRun a input old new status) (sym is) run
 
 pub asked_run_of_stat : (known : Option (List ℕ)) (asked : Option Request) (words : StatWords) (old new : Option (List ℕ)) (status : Status)
-    → asked ≡ Some (Stat words) → IsFileRun old new status
+    → asked ≡ Some (Stat words) → IsFileRun (IsAnswerTo (Stat words)) old new status
     → IfSome known (λ input. IsAskedRun asked input old new status)
 asked_run_of_stat None asked words old new status is run = tt
 asked_run_of_stat (Some input) asked words old new status is run =
     subst (λ (a : Option Request). IsAskedRun a input old new status) (sym is) run
 
-pub no_usage_of_file : (old new earlier later : Option (List ℕ)) (status : Status) → IsFileRun old new status → status ≡ statuses.Usage → Keeps earlier later
-no_usage_of_file old new earlier later status run is = absurd (subst (λ (s : Status). IsFileRun old new s) is run)
+pub no_usage_of_file : (IsAnswer : List ℕ → Type 0) (old new earlier later : Option (List ℕ)) (status : Status) → IsFileRun IsAnswer old new status → status ≡ statuses.Usage → Keeps earlier later
+no_usage_of_file IsAnswer old new earlier later status run is = absurd (subst (IsFileRun IsAnswer old new) is run)
 
 pub told_of_file : (asked : Option Request) (words : FileWords) (old new : Option (List ℕ)) (status : Status) (complaint : Option Complaint)
     → asked ≡ Some (File words) → IsComplaintTold old new status complaint → IsAskedTold asked old new status complaint

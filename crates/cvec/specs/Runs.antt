@@ -9,6 +9,7 @@ use Rattle.cvec.specs.declared.request.RecordType.{RecordType}
 use Rattle.cvec.specs.declared.request.RecordType.TheVariants.{U32, U64, I64, Pair, Flagged}
 use Rattle.cvec.specs.declared.request.Request.{Request}
 use Rattle.cvec.specs.declared.request.Request.TheVariants.{Input, File, Stat}
+use Rattle.cvec.specs.Answers.{IsAnswerTo}
 use Rattle.text_core.specs.declared.refusal.Refusal.TheVariants as refusals
 use Rattle.text_core.specs.declared.status.Status.{Status}
 use Rattle.text_core.specs.declared.status.Status.TheVariants as statuses
@@ -40,25 +41,25 @@ IsRun task Pair = IsTaskRun task pair pair_spelling
 IsRun task Flagged = IsTaskRun task flagged flagged_spelling
 
 -- how a command over a file may end, and what it has written then: all of an answer, or the line of a refusal
-abbrev pub IsFileRun : Option (List ℕ) → Option (List ℕ) → Status → Type 0
-IsFileRun old new statuses.Done = (text : List ℕ) × Appends old new text
-IsFileRun old new statuses.Refused = (name : List ℕ) × Appends old new (codes "refused: " ++ ended_line name)
-IsFileRun old new statuses.OutputFailed = Unit {0}
-IsFileRun old new statuses.Usage = ⊥
+abbrev pub IsFileRun : (List ℕ → Type 0) → Option (List ℕ) → Option (List ℕ) → Status → Type 0
+IsFileRun IsAnswer old new statuses.Done = (text : List ℕ) × IsAnswer text × Appends old new text
+IsFileRun IsAnswer old new statuses.Refused = (name : List ℕ) × Appends old new (codes "refused: " ++ ended_line name)
+IsFileRun IsAnswer old new statuses.OutputFailed = Unit {0}
+IsFileRun IsAnswer old new statuses.Usage = ⊥
 
--- what an engine over a file has written: an answer, maybe a part of it, or nothing
-abbrev pub WritesSome : Option (List ℕ) → Option (List ℕ) → Ended → Type 0
-WritesSome old new Done = (text : List ℕ) × Appends old new text
-WritesSome old new OutputFailed = Unit {0}
-WritesSome old new (Refused fault) = Keeps old new
+-- how a command ends whose engine ended so
+abbrev pub IsStatusOf : Ended → Result Status Complaint → Type 0
+IsStatusOf Done filed = filed ≡ Ok statuses.Done
+IsStatusOf OutputFailed filed = filed ≡ Ok statuses.OutputFailed
+IsStatusOf (Refused fault) filed = (complaint : Complaint) × (filed ≡ Err complaint)
 
 -- what a command over a file has written before the line of a refusal
-abbrev pub IsFiled : Option (List ℕ) → Option (List ℕ) → Result Status Complaint → Type 0
-IsFiled old new (Ok statuses.Done) = (text : List ℕ) × Appends old new text
-IsFiled old new (Ok statuses.Refused) = ⊥
-IsFiled old new (Ok statuses.OutputFailed) = Unit {0}
-IsFiled old new (Ok statuses.Usage) = ⊥
-IsFiled old new (Err complaint) = Keeps old new
+abbrev pub IsFiled : (List ℕ → Type 0) → Option (List ℕ) → Option (List ℕ) → Result Status Complaint → Type 0
+IsFiled IsAnswer old new (Ok statuses.Done) = (text : List ℕ) × IsAnswer text × Appends old new text
+IsFiled IsAnswer old new (Ok statuses.Refused) = ⊥
+IsFiled IsAnswer old new (Ok statuses.OutputFailed) = Unit {0}
+IsFiled IsAnswer old new (Ok statuses.Usage) = ⊥
+IsFiled IsAnswer old new (Err complaint) = Keeps old new
 
 -- the line that is printed of a complaint
 abbrev pub complaint_line : Complaint → List ℕ
@@ -99,5 +100,5 @@ IsIdleRun old new statuses.Usage = Keeps old new
 abbrev pub IsAskedRun : Option Request → List ℕ → Option (List ℕ) → Option (List ℕ) → Status → Type 0
 IsAskedRun None input old new status = IsIdleRun old new status
 IsAskedRun (Some (Input task record_type)) input old new status = IsRun task record_type input old new status
-IsAskedRun (Some (File words)) input old new status = IsFileRun old new status
-IsAskedRun (Some (Stat words)) input old new status = IsFileRun old new status
+IsAskedRun (Some (File words)) input old new status = IsFileRun (IsAnswerTo (File words)) old new status
+IsAskedRun (Some (Stat words)) input old new status = IsFileRun (IsAnswerTo (Stat words)) old new status

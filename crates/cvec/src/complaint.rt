@@ -1,13 +1,15 @@
 //! What standard error tells of a refusal: what was wrong with what, what stands now, and what to do next.
 
 use crate::request::{FileTask, FileWords, RecordType, Request, StatWords};
+use directory_core::GROWTH_LIMIT;
 use disk_core::DiskFault;
 use files_core::{Appended, FileFault, Stopped, Word};
 use pen_core::{OpenFault, PenFault};
+use record_core::PAYLOAD_LIMIT;
 use segment_core::ScanFault;
 use std::fmt::{self, Display, Formatter};
 use std::io::{self, ErrorKind};
-use text_core::Refusal;
+use text_core::{INPUT_LIMIT, Refusal};
 use vault_core::{UpgradeFault, VaultFault};
 
 /// Which of a command's files.
@@ -45,17 +47,6 @@ pub struct Sentence<'a> {
     pub complaint: Complaint,
 }
 
-/// The word of a type.
-fn type_name(record_type: RecordType) -> &'static str {
-    match record_type {
-        RecordType::U32 => "u32",
-        RecordType::U64 => "u64",
-        RecordType::I64 => "i64",
-        RecordType::Pair => "pair",
-        RecordType::Flagged => "flagged",
-    }
-}
-
 /// The text of a record of a type.
 fn record_form(record_type: RecordType) -> &'static str {
     match record_type {
@@ -64,16 +55,6 @@ fn record_form(record_type: RecordType) -> &'static str {
         RecordType::I64 => "a number from -9223372036854775808 to 9223372036854775807",
         RecordType::Pair => "a u64 and an i64 with a colon between them, as 7:-3",
         RecordType::Flagged => "a u64 and 0 or 1 with a colon between them, as 5:1",
-    }
-}
-
-/// How many bytes a record of a type has.
-fn width_of(record_type: RecordType) -> u64 {
-    match record_type {
-        RecordType::U32 => 4,
-        RecordType::U64 | RecordType::I64 => 8,
-        RecordType::Pair => 16,
-        RecordType::Flagged => 9,
     }
 }
 
@@ -149,6 +130,22 @@ fn stands_after_input(task: FileTask<'_>) -> &'static str {
     }
 }
 
+/// What to do about a growth that is longer than a frame.
+fn about_long_growth(task: FileTask<'_>) -> &'static str {
+    match task {
+        FileTask::Append(_) => "give a smaller --block, or cut the line into shorter ones",
+        _ => "cut the line into shorter ones",
+    }
+}
+
+/// What to do about too long an input, or one growth of it.
+fn about_long_input(task: FileTask<'_>) -> &'static str {
+    match task {
+        FileTask::Append(_) => "that is of one growth: give a smaller --block, or cut its lines",
+        _ => "`cvec append` takes input of any length",
+    }
+}
+
 fn write_input<W: fmt::Write>(
     f: &mut Formatter<W>,
     words: &FileWords<'_>,
@@ -161,42 +158,78 @@ fn write_input<W: fmt::Write>(
             f,
             "line {n} of the input is no growth, which is records with one space between each two, each {record}; {stands}"
         ),
-        Refusal::TooLargeAtLine(n) => write!(
-            f,
-            "the growth of line {n} of the input is longer than the 1048576 bytes of a frame; {stands}; cut the line into shorter ones"
-        ),
+        Refusal::TooLargeAtLine(n) => {
+            let about = about_long_growth(words.task);
+            write!(
+                f,
+                "the growth of line {n} of the input is longer than the {} bytes of a frame; {stands}; {about}",
+                PAYLOAD_LIMIT
+            )
+        }
         Refusal::Input => write!(f, "standard input couldn't be read; {stands}"),
-        Refusal::InputTooLong => write!(
-            f,
-            "the input is longer than 67108864 bytes; {stands}; `cvec append` takes input of any length, of lines up to this length"
-        ),
+        Refusal::InputTooLong => {
+            let about = about_long_input(words.task);
+            write!(
+                f,
+                "the input is longer than {} bytes; {stands}; {about}",
+                INPUT_LIMIT
+            )
+        }
         Refusal::Memory => write!(f, "there is not enough memory for it; {stands}"),
         Refusal::Scan(_) | Refusal::NotHex => write!(f, "the input is refused; {stands}"),
     }
 }
 
+/// What is wrong with the width of a file's records, by the type that was given, if one was.
+fn write_width<W: fmt::Write>(
+    f: &mut Formatter<W>,
+    name: &str,
+    record_type: Option<RecordType>,
+    found: u16,
+) -> fmt::Result {
+    match record_type {
+        Some(record_type) => {
+            let of_type = record_type.word();
+            let width = record_type.width();
+            write!(
+                f,
+                "{name}: its records have {found} bytes, and those of {of_type} have {width}; give the type that it was made with"
+            )
+        }
+        None => write!(
+            f,
+            "{name}: its records have no bytes by its head, which no vector has; it is as it was"
+        ),
+    }
+}
+
+/// What is wrong with the bytes of a file, by the type of its records, if one was given.
 fn write_scan<W: fmt::Write>(
     f: &mut Formatter<W>,
     name: &str,
-    record_type: RecordType,
+    record_type: Option<RecordType>,
     fault: ScanFault,
 ) -> fmt::Result {
-    let of_type = type_name(record_type);
-    let width = width_of(record_type);
     match fault {
-        ScanFault::Unborn => write!(
-            f,
-            "{name}: no vector was made in this file; `cvec create {of_type} {name}` makes one"
-        ),
+        ScanFault::Unborn => match record_type {
+            Some(record_type) => {
+                let of_type = record_type.word();
+                write!(
+                    f,
+                    "{name}: no vector was made in this file; `cvec create {of_type} {name}` makes one"
+                )
+            }
+            None => write!(
+                f,
+                "{name}: no vector was made in this file; `cvec create` makes one"
+            ),
+        },
         ScanFault::NotSegment => write!(f, "{name}: it isn't a segment file; it is as it was"),
         ScanFault::Version(version) => write!(
             f,
             "{name}: it has version {version}, and this program reads 1 and 2; it is as it was"
         ),
-        ScanFault::Width(found) => write!(
-            f,
-            "{name}: its records have {found} bytes, and those of {of_type} have {width}; give the type that it was made with"
-        ),
+        ScanFault::Width(found) => write_width(f, name, record_type, found),
         ScanFault::Damaged { at, cause } => write!(
             f,
             "{name}: it is damaged at byte {at} ({cause}); nothing was written"
@@ -211,7 +244,7 @@ fn write_scan<W: fmt::Write>(
 fn write_open<W: fmt::Write>(
     f: &mut Formatter<W>,
     name: &str,
-    record_type: RecordType,
+    record_type: Option<RecordType>,
     fault: OpenFault,
 ) -> fmt::Result {
     match fault {
@@ -223,7 +256,7 @@ fn write_open<W: fmt::Write>(
     }
 }
 
-/// What is wrong, and what to do next, where a vault refuses and nothing was written.
+/// What is wrong, what stands, and what to do next, where a vault refuses a command.
 fn about_pen(fault: PenFault) -> &'static str {
     match fault {
         PenFault::Exists =>
@@ -279,7 +312,8 @@ fn write_growth_fault<W: fmt::Write>(
     match fault {
         VaultFault::Pen(PenFault::TooLarge) => write!(
             f,
-            "{name}: the input has more lines than the 1048568 growths that are made at once; it is as it was; `cvec append` takes any number of lines"
+            "{name}: the input has more lines than the {} growths that are made at once; it is as it was; `cvec append` takes any number of lines",
+            GROWTH_LIMIT
         ),
         VaultFault::Pen(PenFault::Broken) | VaultFault::Unsettled(_) => write!(
             f,
@@ -287,6 +321,30 @@ fn write_growth_fault<W: fmt::Write>(
         ),
         fault => write_vault(f, name, fault),
     }
+}
+
+/// Why no more growths of clients were put on the device.
+fn about_served(fault: VaultFault) -> &'static str {
+    match fault {
+        VaultFault::Pen(PenFault::Disk(fault)) => about_disk(fault),
+        VaultFault::Pen(PenFault::Broken) =>
+            "the system didn't write it, or put it on the device, which may be full",
+        VaultFault::Pen(PenFault::FileFull) => "it is as long as such a file can become",
+        VaultFault::Pen(PenFault::Memory) => "there is not enough memory",
+        _ => "not all growths of the clients are known to be on the device",
+    }
+}
+
+fn write_served_fault<W: fmt::Write>(
+    f: &mut Formatter<W>,
+    name: &str,
+    fault: VaultFault,
+) -> fmt::Result {
+    let about = about_served(fault);
+    write!(
+        f,
+        "{name}: {about}; what stood before stands, and what a client was told is settled"
+    )
 }
 
 fn write_stopped<W: fmt::Write>(f: &mut Formatter<W>, name: &str, stopped: Stopped) -> fmt::Result {
@@ -299,6 +357,21 @@ fn write_stopped<W: fmt::Write>(f: &mut Formatter<W>, name: &str, stopped: Stopp
     )
 }
 
+/// Why the new file of `upgrade` isn't the vector of the old one, and what to do next.
+fn about_new(fault: VaultFault) -> &'static str {
+    match fault {
+        VaultFault::Pen(PenFault::Exists) =>
+            "there is a vector in this file already; it is as it was; remove it, or name another file",
+        VaultFault::Pen(PenFault::Memory) =>
+            "there is not enough memory; it may have a part; begin again on another new file",
+        VaultFault::Pen(PenFault::Disk(DiskFault::Length | DiskFault::Read)) =>
+            "the system didn't tell its length, or didn't read it; begin again on another new file",
+        VaultFault::Pen(PenFault::Disk(DiskFault::Write | DiskFault::Sync) | PenFault::Broken) =>
+            "the system didn't write it, or put it on the device, which may be full; it may have a part; begin again on another new file",
+        _ => "it may have a part; begin again on another new file",
+    }
+}
+
 fn write_upgrade<W: fmt::Write>(
     f: &mut Formatter<W>,
     words: &FileWords<'_>,
@@ -307,11 +380,11 @@ fn write_upgrade<W: fmt::Write>(
     let name = words.file;
     let new = name_of(words, Role::New);
     match fault {
-        UpgradeFault::Old(fault) => write_open(f, name, words.record_type, fault),
+        UpgradeFault::Old(fault) => write_open(f, name, Some(words.record_type), fault),
         UpgradeFault::NotOld => write!(f, "{name}: it has version 2 already; nothing was written"),
         UpgradeFault::New(fault) => {
-            write_vault(f, new, fault)?;
-            write!(f, "; {name} is as it was")
+            let about = about_new(fault);
+            write!(f, "{new}: {about}; {name} is as it was")
         }
     }
 }
@@ -324,9 +397,10 @@ fn write_fault<W: fmt::Write>(
     match fault {
         FileFault::Word(word) => write_word(f, words, word),
         FileFault::Input(refusal) => write_input(f, words, refusal),
-        FileFault::Open(fault) => write_open(f, words.file, words.record_type, fault),
+        FileFault::Open(fault) => write_open(f, words.file, Some(words.record_type), fault),
         FileFault::Vault(fault) => match words.task {
             FileTask::Load(_) | FileTask::Append(_) => write_growth_fault(f, words.file, fault),
+            FileTask::Serve(_) => write_served_fault(f, words.file, fault),
             _ => write_vault(f, words.file, fault),
         },
         FileFault::Grower(stopped) => write_stopped(f, words.file, stopped),
@@ -381,31 +455,7 @@ fn write_stat_fault<W: fmt::Write>(
     fault: FileFault,
 ) -> fmt::Result {
     match fault {
-        FileFault::Open(OpenFault::Scan(ScanFault::Unborn)) => {
-            write!(
-                f,
-                "{name}: no vector was made in this file; `cvec create` makes one"
-            )
-        }
-        FileFault::Open(OpenFault::Scan(ScanFault::NotSegment)) => {
-            write!(f, "{name}: it isn't a segment file; it is as it was")
-        }
-        FileFault::Open(OpenFault::Scan(ScanFault::Version(version))) => write!(
-            f,
-            "{name}: it has version {version}, and this program reads 1 and 2; it is as it was"
-        ),
-        FileFault::Open(OpenFault::Scan(ScanFault::Damaged { at, cause })) => write!(
-            f,
-            "{name}: it is damaged at byte {at} ({cause}); nothing was written"
-        ),
-        FileFault::Open(OpenFault::Disk(fault)) => {
-            let about = about_disk(fault);
-            write!(f, "{name}: {about}; nothing was written")
-        }
-        FileFault::Open(OpenFault::Scan(ScanFault::Width(_))) => write!(
-            f,
-            "{name}: its records have no bytes by its head, which no vector has; it is as it was"
-        ),
+        FileFault::Open(fault) => write_open(f, name, None, fault),
         _ => write!(f, "{name}: it is refused; it is as it was"),
     }
 }

@@ -1,7 +1,9 @@
 //! The commands over files: words first, then the input, then the file.
 
 ghost use Rattle.std.specs.Prelude.{ℕ, List, Option};
-ghost use Rattle.cvec.specs.Runs.{IsFiled, WritesSome};
+ghost use Rattle.cvec.specs.declared.request.FileTask.TheVariants as tasks;
+ghost use Rattle.cvec.specs.Answers.{IsAnswer};
+ghost use Rattle.cvec.specs.Runs.{IsFiled, IsStatusOf};
 
 use crate::access::{Access, Opened, open};
 use crate::complaint::{Complaint, Role};
@@ -35,7 +37,7 @@ impl From<FileFault> for Complaint {
 
 /// How a command ended whose engine ended so.
 fn status_of(ended: Ended) -> Result<Status, Complaint>
-    ensures { (old new : Option (List ℕ)) → WritesSome old new ended → IsFiled old new result }
+    ensures { IsStatusOf ended result }
 {
     match ended {
         Ended::Done => Ok(Status::Done),
@@ -76,7 +78,7 @@ fn status_on<R: TextRecord, D: Disk + Drop>(
     disk: D,
     ended: Ended,
 ) -> Result<Status, Complaint>
-    ensures { (old new : Option (List ℕ)) → WritesSome old new ended → IsFiled old new result }
+    ensures { IsStatusOf ended result }
 {
     match ended {
         Ended::Refused(fault) => Err(complaint_of::<R, D>(alloc, disk, fault)),
@@ -109,7 +111,7 @@ impl<'a, F: Files<File = File> + AllocGlobal, P: Progress + Sync> Filing<'a, F, 
         format: Format,
         writer: &mut W,
     ) -> Result<Status, Complaint>
-        ensures { IsFiled (W.contents writer.old) (W.contents writer.new) result }
+        ensures { IsFiled (IsAnswer R.spelling (tasks.Create format)) (W.contents writer.old) (W.contents writer.new) result }
     {
         let Opened { disk, lock: _lock } = self.open(Access::Makes)?;
         let (_disk, ended) = create::<R, FileDisk, W>(self.alloc, disk, format, writer);
@@ -123,7 +125,7 @@ impl<'a, F: Files<File = File> + AllocGlobal, P: Progress + Sync> Filing<'a, F, 
         reader: &mut I,
         writer: &mut W,
     ) -> Result<Status, Complaint>
-        ensures { IsFiled (W.contents writer.old) (W.contents writer.new) result }
+        ensures { IsFiled (IsAnswer R.spelling (tasks.Load seats)) (W.contents writer.old) (W.contents writer.new) result }
     {
         let growths = read_growth_lines::<R, I>(self.alloc, reader)?;
         let Opened { disk, lock: _lock } = self.open(Access::Writes)?;
@@ -141,7 +143,7 @@ impl<'a, F: Files<File = File> + AllocGlobal, P: Progress + Sync> Filing<'a, F, 
         reader: &mut I,
         writer: &mut W,
     ) -> Result<Status, Complaint>
-        ensures { IsFiled (W.contents writer.old) (W.contents writer.new) result }
+        ensures { IsFiled (IsAnswer R.spelling (tasks.Append block)) (W.contents writer.old) (W.contents writer.new) result }
     {
         let Opened { disk, lock: _lock } = self.open(Access::Writes)?;
         let (disk, appended, ended) = append::<R, S, FileDisk, I, W, P, E>(
@@ -163,7 +165,7 @@ impl<'a, F: Files<File = File> + AllocGlobal, P: Progress + Sync> Filing<'a, F, 
     }
 
     fn check<R: TextRecord, W: Write>(&self, writer: &mut W) -> Result<Status, Complaint>
-        ensures { IsFiled (W.contents writer.old) (W.contents writer.new) result }
+        ensures { IsFiled (IsAnswer R.spelling tasks.Check) (W.contents writer.old) (W.contents writer.new) result }
     {
         let Opened { disk, lock: _lock } = self.open(Access::Reads)?;
         let disk = self.watched(disk);
@@ -177,7 +179,7 @@ impl<'a, F: Files<File = File> + AllocGlobal, P: Progress + Sync> Filing<'a, F, 
         count: Option<&str>,
         writer: &mut W,
     ) -> Result<Status, Complaint>
-        ensures { IsFiled (W.contents writer.old) (W.contents writer.new) result }
+        ensures { IsFiled (IsAnswer R.spelling (tasks.List from.entry count.entry)) (W.contents writer.old) (W.contents writer.new) result }
     {
         let window = read_window(
             from.map(|word| word.as_bytes()),
@@ -201,7 +203,7 @@ impl<'a, F: Files<File = File> + AllocGlobal, P: Progress + Sync> Filing<'a, F, 
         record: &str,
         writer: &mut W,
     ) -> Result<Status, Complaint>
-        ensures { IsFiled (W.contents writer.old) (W.contents writer.new) result }
+        ensures { IsFiled (IsAnswer R.spelling (tasks.Count «record».entry)) (W.contents writer.old) (W.contents writer.new) result }
     {
         let record = read_record::<R>(record.as_bytes())?;
         let Opened { disk, lock: _lock } = self.open(Access::Reads)?;
@@ -218,7 +220,7 @@ impl<'a, F: Files<File = File> + AllocGlobal, P: Progress + Sync> Filing<'a, F, 
         record: &str,
         writer: &mut W,
     ) -> Result<Status, Complaint>
-        ensures { IsFiled (W.contents writer.old) (W.contents writer.new) result }
+        ensures { IsFiled (IsAnswer R.spelling (tasks.Find «record».entry)) (W.contents writer.old) (W.contents writer.new) result }
     {
         let record = read_record::<R>(record.as_bytes())?;
         let Opened { disk, lock: _lock } = self.open(Access::Reads)?;
@@ -236,7 +238,7 @@ impl<'a, F: Files<File = File> + AllocGlobal, P: Progress + Sync> Filing<'a, F, 
         records: &str,
         writer: &mut W,
     ) -> Result<Status, Complaint>
-        ensures { IsFiled (W.contents writer.old) (W.contents writer.new) result }
+        ensures { IsFiled (IsAnswer R.spelling (tasks.Set start.entry records.entry)) (W.contents writer.old) (W.contents writer.new) result }
     {
         let setting = read_setting::<R>(self.alloc, start.as_bytes(), records.as_bytes())?;
         let Opened { disk, lock: _lock } = self.open(Access::Writes)?;
@@ -250,7 +252,7 @@ impl<'a, F: Files<File = File> + AllocGlobal, P: Progress + Sync> Filing<'a, F, 
         record: &str,
         writer: &mut W,
     ) -> Result<Status, Complaint>
-        ensures { IsFiled (W.contents writer.old) (W.contents writer.new) result }
+        ensures { IsFiled (IsAnswer R.spelling (tasks.Resize len.entry «record».entry)) (W.contents writer.old) (W.contents writer.new) result }
     {
         let resizing = read_resizing::<R>(len.as_bytes(), record.as_bytes())?;
         let Opened { disk, lock: _lock } = self.open(Access::Writes)?;
@@ -259,7 +261,7 @@ impl<'a, F: Files<File = File> + AllocGlobal, P: Progress + Sync> Filing<'a, F, 
     }
 
     fn clear<R: TextRecord, W: Write>(&self, writer: &mut W) -> Result<Status, Complaint>
-        ensures { IsFiled (W.contents writer.old) (W.contents writer.new) result }
+        ensures { IsFiled (IsAnswer R.spelling tasks.Clear) (W.contents writer.old) (W.contents writer.new) result }
     {
         let Opened { disk, lock: _lock } = self.open(Access::Writes)?;
         let (disk, ended) = clear::<R, FileDisk, W>(self.alloc, disk, writer);
@@ -267,7 +269,7 @@ impl<'a, F: Files<File = File> + AllocGlobal, P: Progress + Sync> Filing<'a, F, 
     }
 
     fn fold<R: TextRecord, W: Write>(&self, writer: &mut W) -> Result<Status, Complaint>
-        ensures { IsFiled (W.contents writer.old) (W.contents writer.new) result }
+        ensures { IsFiled (IsAnswer R.spelling tasks.Fold) (W.contents writer.old) (W.contents writer.new) result }
     {
         let Opened { disk, lock: _lock } = self.open(Access::Writes)?;
         let disk = self.watched(disk);
@@ -280,7 +282,7 @@ impl<'a, F: Files<File = File> + AllocGlobal, P: Progress + Sync> Filing<'a, F, 
         new: &str,
         writer: &mut W,
     ) -> Result<Status, Complaint>
-        ensures { IsFiled (W.contents writer.old) (W.contents writer.new) result }
+        ensures { IsFiled (IsAnswer R.spelling (tasks.Upgrade new.entry)) (W.contents writer.old) (W.contents writer.new) result }
     {
         let Opened {
             disk: old,
@@ -303,7 +305,7 @@ impl<'a, F: Files<File = File> + AllocGlobal, P: Progress + Sync> Filing<'a, F, 
         clients: u16,
         writer: &mut W,
     ) -> Result<Status, Complaint>
-        ensures { IsFiled (W.contents writer.old) (W.contents writer.new) result }
+        ensures { IsFiled (IsAnswer R.spelling (tasks.Serve clients)) (W.contents writer.old) (W.contents writer.new) result }
     {
         let pipes = pipes_of(self.alloc, self.files, clients)?;
         let Opened { disk, lock: _lock } = self.open(Access::Writes)?;
@@ -330,7 +332,7 @@ impl<'a, F: Files<File = File> + AllocGlobal, P: Progress + Sync> Filing<'a, F, 
         reader: &mut I,
         writer: &mut W,
     ) -> Result<Status, Complaint>
-        ensures { IsFiled (W.contents writer.old) (W.contents writer.new) result }
+        ensures { IsFiled (IsAnswer R.spelling task.entry) (W.contents writer.old) (W.contents writer.new) result }
     {
         match task {
             FileTask::Create(format) => self.create::<R, W>(format, writer),

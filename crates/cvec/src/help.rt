@@ -120,8 +120,8 @@ stand), memory, and the disk's faults.
 const APPEND: &[u8] = b"cvec append TYPE FILE [--block=N] [--quiet] < LINES
 
 Appends growths of an input of any length, and puts them on the device some lines at a time. The records of N lines, else of
-one, are a growth; the last one may have fewer lines. Where a line is refused, those before it stand, and standard error
-tells how many they are.
+one, are a growth; the last one may have fewer lines. Where a line is refused, the growths before the one that it is in
+stand, and standard error tells of how many lines they are.
 
   $ seq 1 1000000 | cvec append u64 t.cv --block=1000
   appended 1000 growths, size 1000000

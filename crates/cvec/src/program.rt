@@ -4,6 +4,7 @@ ghost use Rattle.std.specs.Prelude.{◌≡◌, ◌≢◌, [], ℕ, List, Option,
 ghost use Rattle.std.specs.Io.KnownBytes.{Keeps, Appends};
 ghost use Rattle.text_core.specs.Text.{ended_line};
 ghost use Rattle.cvec.specs.declared.request.Request.TheVariants as requests;
+ghost use Rattle.cvec.specs.Answers.{IsAnswerTo};
 ghost use Rattle.cvec.specs.Runs.{IsTaskRun, IsRun, IsAskedRun, IsFileRun, IsFiled, IsIdleRun, IsComplaintRun, IsComplaintTold, IsAskedTold};
 
 use crate::complaint::Complaint;
@@ -112,7 +113,7 @@ fn run_filing<
     reader: &mut I,
     writer: &mut W,
 ) -> Result<Status, Complaint>
-    ensures { IsFiled (W.contents writer.old) (W.contents writer.new) result }
+    ensures { IsFiled (IsAnswerTo (requests.File words.now)) (W.contents writer.old) (W.contents writer.new) result }
 {
     let task = words.task;
     match words.record_type {
@@ -140,7 +141,7 @@ fn run_file<
     reader: &mut I,
     writer: &mut W,
 ) -> Result<Status, Complaint>
-    ensures { IsFiled (W.contents writer.old) (W.contents writer.new) result }
+    ensures { IsFiled (IsAnswerTo (requests.File words.now)) (W.contents writer.old) (W.contents writer.new) result }
 {
     let alloc = system.alloc;
     let files = system.files;
@@ -172,7 +173,7 @@ fn run_stat<W: Write, F: Files<File = File> + AllocGlobal, P: Progress>(
     words: &StatWords<'_>,
     writer: &mut W,
 ) -> Result<Status, Complaint>
-    ensures { IsFiled (W.contents writer.old) (W.contents writer.new) result }
+    ensures { IsFiled (IsAnswerTo (requests.Stat words.now)) (W.contents writer.old) (W.contents writer.new) result }
 {
     if words.quiet {
         tell_stat::<W, F, Silent>(system.files, &Silent, words, writer)
@@ -208,8 +209,8 @@ fn outcome_of<'a, W: Write>(
     writer: &mut W,
 ) -> Outcome<'a>
     ensures asked { result.asked ≡ Some request.entry }
-    ensures ends { (old : Option (List ℕ)) → IsFiled old (W.contents writer.old) filed → IsFileRun old (W.contents writer.new) result.status }
-    ensures told { (old : Option (List ℕ)) → IsFiled old (W.contents writer.old) filed → IsComplaintTold old (W.contents writer.new) result.status result.complaint }
+    ensures ends { (old : Option (List ℕ)) → IsFiled (IsAnswerTo request.entry) old (W.contents writer.old) filed → IsFileRun (IsAnswerTo request.entry) old (W.contents writer.new) result.status }
+    ensures told { (old : Option (List ℕ)) → IsFiled (IsAnswerTo request.entry) old (W.contents writer.old) filed → IsComplaintTold old (W.contents writer.new) result.status result.complaint }
 {
     match filed {
         Ok(status) => Outcome {

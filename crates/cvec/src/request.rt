@@ -1,5 +1,9 @@
 //! What the program is asked for.
 
+ghost use Rattle.std.specs.Prelude.{◌≡◌};
+ghost use Rattle.cvec.specs.Request.{type_word};
+
+use record_core::{Flagged, Pair, width_of};
 use segment_core::Format;
 use stat_core::Form;
 use std::num::NonZeroU32;
@@ -23,6 +27,32 @@ pub enum RecordType {
     I64,
     Pair,
     Flagged,
+}
+
+impl RecordType {
+    /// The word of the type.
+    pub fn word(self) -> &'static str
+        ensures { result.now ≡ type_word self }
+    {
+        match self {
+            RecordType::U32 => "u32",
+            RecordType::U64 => "u64",
+            RecordType::I64 => "i64",
+            RecordType::Pair => "pair",
+            RecordType::Flagged => "flagged",
+        }
+    }
+
+    /// How many bytes a record of the type has.
+    pub fn width(self) -> usize {
+        match self {
+            RecordType::U32 => width_of::<u32>(),
+            RecordType::U64 => width_of::<u64>(),
+            RecordType::I64 => width_of::<i64>(),
+            RecordType::Pair => width_of::<Pair>(),
+            RecordType::Flagged => width_of::<Flagged>(),
+        }
+    }
 }
 
 /// What is done with a file. Words of records and numbers are as they were given.

@@ -1,8 +1,8 @@
 //! The clients of `serve`: their pipes, and what is told of them at the end.
 
-ghost use Rattle.std.specs.Prelude.{◌++◌, codes, decimal, OnOk};
+ghost use Rattle.std.specs.Prelude.{OnOk};
 ghost use Rattle.std.specs.Io.KnownBytes.{Appends};
-ghost use Rattle.text_core.specs.Text.{ended_line};
+ghost use Rattle.cvec.specs.Answers.{served_line};
 
 use crate::complaint::{Complaint, Role};
 use files_core::FileFault;
@@ -98,7 +98,7 @@ pub fn fault_of(fault: ServeFault) -> FileFault {
 
 /// Writes how many growths of clients stand in the file.
 pub fn write_served<W: Write>(growths: u64, writer: &mut W) -> io::Result<()>
-    ensures { OnOk result (Appends (W.contents writer.old) (W.contents writer.new) (ended_line ((codes "served " ++ decimal growths) ++ codes " growths"))) }
+    ensures { OnOk result (Appends (W.contents writer.old) (W.contents writer.new) (served_line growths)) }
 {
     write_numbered(writer, b"served ", growths)?;
     write_line(b" growths", writer)

@@ -1,5 +1,7 @@
 //! What a file has, told without the type of its records.
 
+ghost use Rattle.cvec.specs.declared.request.Request.TheVariants as requests;
+ghost use Rattle.cvec.specs.Answers.{IsAnswerTo};
 ghost use Rattle.cvec.specs.Runs.{IsFiled};
 
 use crate::access::{Access, Opened, open};
@@ -33,7 +35,7 @@ pub fn tell_stat<W: Write, F: Files<File = File> + AllocGlobal, P: Progress>(
     words: &StatWords<'_>,
     writer: &mut W,
 ) -> Result<Status, Complaint>
-    ensures { IsFiled (W.contents writer.old) (W.contents writer.new) result }
+    ensures { IsFiled (IsAnswerTo (requests.Stat words.now)) (W.contents writer.old) (W.contents writer.new) result }
 {
     let Opened { disk, lock: _lock } = open(files, words.file, Access::Reads, Role::File)?;
     let disk = Watched::new(disk, progress);

@@ -6,7 +6,7 @@ returns-in-File-clause-ends g c = asked_run_of_file (g.I.Read.remaining c.args.r
     (c.outcome_of.ensures.ends (g.W.Write.contents c.args.writer.now) c.run_file-filed.ensures)
 
 pub returns-in-File-clause-usage : goal.returns-in-File-clause-usage
-returns-in-File-clause-usage g c = no_usage_of_file (g.W.Write.contents c.args.writer.now) _ _ _ c.outcome_of.result.status
+returns-in-File-clause-usage g c = no_usage_of_file _ (g.W.Write.contents c.args.writer.now) _ _ _ c.outcome_of.result.status
     (c.outcome_of.ensures.ends (g.W.Write.contents c.args.writer.now) c.run_file-filed.ensures)
 
 pub returns-in-Stat-clause-ends : goal.returns-in-Stat-clause-ends
@@ -14,7 +14,7 @@ returns-in-Stat-clause-ends g c = asked_run_of_stat (g.I.Read.remaining c.args.r
     (c.outcome_of-in-Stat.ensures.ends (g.W.Write.contents c.args.writer.now) c.run_stat-filed.ensures)
 
 pub returns-in-Stat-clause-usage : goal.returns-in-Stat-clause-usage
-returns-in-Stat-clause-usage g c = no_usage_of_file (g.W.Write.contents c.args.writer.now) _ _ _ c.outcome_of-in-Stat.result.status
+returns-in-Stat-clause-usage g c = no_usage_of_file _ (g.W.Write.contents c.args.writer.now) _ _ _ c.outcome_of-in-Stat.result.status
     (c.outcome_of-in-Stat.ensures.ends (g.W.Write.contents c.args.writer.now) c.run_stat-filed.ensures)
 
 pub returns-in-File-clause-told : goal.returns-in-File-clause-told
