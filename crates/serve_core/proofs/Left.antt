@@ -1,5 +1,6 @@
 -- What a server leaves.
 use Rattle.std.proofs.Common.{◌≡◌, ◌⊎◌, ℕ, ◌≤◌, List, [], ◌++◌, length, take, inl, inr, refl, sym, ap, subst, ◌∙◌, arith}
+use lib.Seq.{take-nil}
 use Rattle.std.proofs.lemmas.List.{append-nil}
 use Rattle.record_core.specs.Bytes.{Encoding}
 use Rattle.disk_core.specs.State.{State, IsImage, now}
@@ -13,7 +14,7 @@ use Rattle.directory_core.specs.Chain.{joined}
 use Rattle.book_core.specs.Lists.{Phase, joined_pieces}
 use Rattle.flush_core.specs.Flusher.{FlusherOf, IsFlusherOf, OpensToFirst, OpensToJob}
 use Rattle.flush_core.specs.Serving.{Serves}
-use Rattle.vault_core.specs.Vault.{VaultOf, OpensToEither, MayHold, list_of}
+use Rattle.vault_core.specs.Vault.{VaultOf, MayHold, list_of}
 use Rattle.vault_core.specs.Crewing.{OpensToGrown}
 use Rattle.serve_core.specs.Serving.{IsServed, IsAllServed, OpensBehind}
 
@@ -25,9 +26,9 @@ module _ {R D : Type 0} (form : Encoding R) (keeps : D → Type 0) (states : D �
   before_or : (P : List ℕ → Type 0) → keeps vault.pen.disk → LeavesOnly (states disk) (states vault.pen.disk) (λ image. IsImage (now (states disk)) image ⊎ P image)
   before_or P kept = LeavesOnly-weaker (states disk) (states vault.pen.disk) (IsImage (now (states disk))) (λ image. IsImage (now (states disk)) image ⊎ P image) (λ image is. inl is) (syncs kept).left_before
 
-  -- no client was served
-  pub not_shared : (left : D) → left ≡ vault.pen.disk → (keeps vault.pen.disk → vault.sure ≡ list_of vault) → (keeps left → (image : List ℕ) → IsImage (now (states left)) image → MayHold form vault image) → keeps left → (served : IsServed form states disk left 0) × (served.growths ≡ [])
-  not_shared left same sure images kept =
+  -- the file opens to the list as ever
+  nothing_grown : (left : D) → left ≡ vault.pen.disk → ((image : List ℕ) → IsImage (now (states left)) image → OpensTo form image (list_of vault)) → keeps left → (served : IsServed form states disk left 0) × (served.growths ≡ [])
+  nothing_grown left same opens kept =
       let still : keeps vault.pen.disk = subst keeps same kept in (
         record {
           before = list_of vault;
@@ -35,17 +36,40 @@ module _ {R D : Type 0} (form : Encoding R) (keeps : D → Type 0) (states : D �
           file = file still;
           few = omega arith;
           meanwhile = subst (λ d. LeavesOnly (states disk) (states d) (λ image. IsImage (now (states disk)) image ⊎ OpensToGrown form (list_of vault) [] image)) (sym same) (before_or (OpensToGrown form (list_of vault) []) still);
-          stands = λ image is. record { count = 0; at_least = omega arith; known = omega arith; opens = subst (OpensTo form image) (sym (append-nil (list_of vault))) (one image (sure still) (images kept image is)) };
+          stands = λ image is. record { count = 0; at_least = omega arith; known = omega arith; opens = subst (OpensTo form image) (sym (append-nil (list_of vault))) (opens image is) };
         },
         refl,
       )
-    where
-      one : (image : List ℕ) → vault.sure ≡ list_of vault → OpensToEither form vault.sure (list_of vault) image → OpensTo form image (list_of vault)
-      one image is (inl opens) = subst (OpensTo form image) is opens
-      one image is (inr opens) = opens
 
+  -- no phase was begun
   pub handed_back : (back : VaultOf R D) → back ≡ vault → (left : D) → left ≡ back.pen.disk → (keeps vault.pen.disk → vault.sure ≡ list_of vault) → (keeps left → (image : List ℕ) → IsImage (now (states left)) image → MayHold form back image) → keeps left → (served : IsServed form states disk left 0) × (served.growths ≡ [])
-  handed_back back is left same sure images kept = not_shared left (same ∙ ap (λ (v : VaultOf R D). v.pen.disk) is) sure (λ k image at. subst (λ (v : VaultOf R D). MayHold form v image) is (images k image at)) kept
+  handed_back back is left same sure images kept =
+      nothing_grown left whole (λ image at. one image (subst (λ (v : VaultOf R D). MayHold form v image) is (images kept image at))) kept
+    where
+      whole : left ≡ vault.pen.disk
+      whole = same ∙ ap (λ (v : VaultOf R D). v.pen.disk) is
+
+      one : (image : List ℕ) → MayHold form vault image → OpensTo form image (list_of vault)
+      one image (inl opens) = subst (OpensTo form image) (sure (subst keeps whole kept)) opens
+      one image (inr opens) = opens
+
+  -- a phase was begun, and none of its clients served
+  pub not_started : (live : Phase R) (begun back : FlusherOf R D) → live.blocks ≡ vault.blocks → begun.pen ≡ vault.pen → IsFlusherOf (keeps vault.pen.disk) live begun → begun.pass.entries ≡ [] → back ≡ begun
+      → (left : D) → left ≡ back.pen.disk → (keeps left → (image : List ℕ) → IsImage (now (states left)) image → OpensToJob form back image) → keeps left → (served : IsServed form states disk left 0) × (served.growths ≡ [])
+  not_started live begun back blocks pen of none is left same images kept =
+      nothing_grown left whole (λ image at. first image (subst (λ (f : FlusherOf R D). OpensToJob form f image) is (images kept image at))) kept
+    where
+      whole : left ≡ vault.pen.disk
+      whole = same ∙ ap (λ (f : FlusherOf R D). f.pen.disk) is ∙ ap (λ (p : PenOf D). p.disk) pen
+
+      opening : begun.opening ≡ list_of vault
+      opening = of.opening (subst keeps whole kept) ∙ ap joined_pieces blocks
+
+      list : (n : ℕ) → begun.opening ++ joined (take n begun.pass.entries) ≡ list_of vault
+      list n = rw (none, take-nil, append-nil) opening
+
+      first : (image : List ℕ) → OpensToJob form begun image → OpensTo form image (list_of vault)
+      first image job = subst (OpensTo form image) (list job.kept.count) job.kept.opens
 
   module _ (live : Phase R) (begun served : FlusherOf R D) (blocks : live.blocks ≡ vault.blocks) (pen : begun.pen ≡ vault.pen) (of : IsFlusherOf (keeps served.pen.disk) live served) (goes : Serves form keeps states begun served) where
     opening : keeps served.pen.disk → served.opening ≡ list_of vault

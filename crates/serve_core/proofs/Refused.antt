@@ -15,7 +15,7 @@ use Rattle.vault_core.specs.declared.fault.VaultFault.{VaultFault}
 use Rattle.vault_core.specs.declared.fault.VaultFault.TheVariants as vaults
 use Rattle.vault_core.specs.Vault.{VaultOf}
 use Rattle.vault_core.specs.Sharing.{IsShareFault, IsNotShared, IsTooLarge}
-use Rattle.serve_core.specs.Serving.{IsShareRefusal, IsFlushRefusal}
+use Rattle.serve_core.specs.Serving.{IsShareRefusal, IsStop}
 
 -- a pen that rests may begin a job
 ready : {D : Type 0} (width size : ℕ) (pen : PenOf D) → IsAtRest width size pen → first_refusal (ready_lines pen) ≡ None
@@ -44,17 +44,17 @@ none_served vault width size clients seats (vaults.Pen fault) rest is (inr of) =
 none_served vault width size clients seats (vaults.Unsettled number) rest is of = absurd of
 none_served vault width size clients seats vaults.WrongPhase rest is of = absurd of
 
--- what was grown wasn't settled, by a pen that wasn't broken
-pub not_flushed : {R D : Type 0} (width : ℕ) (old new : FlusherOf R D) (fault : FlushFault) → old.pen.broken ≡ false → IsServeFault width old new fault → IsFlushRefusal fault
-not_flushed width old new (flushes.Pen pens.Broken) whole is = absurd (cc)
-not_flushed width old new (flushes.Pen pens.Busy) whole is = absurd is
-not_flushed width old new (flushes.Pen pens.OldFormat) whole is = absurd is
-not_flushed width old new (flushes.Pen pens.Runs) whole is = absurd is
-not_flushed width old new (flushes.Pen pens.OutOfRange) whole is = absurd is
-not_flushed width old new (flushes.Pen pens.TooLarge) whole is = absurd is
-not_flushed width old new (flushes.Pen pens.Unfolded) whole is = absurd is
-not_flushed width old new (flushes.Pen pens.FileFull) whole is = tt
-not_flushed width old new (flushes.Pen pens.Memory) whole is = tt
-not_flushed width old new (flushes.Pen pens.Exists) whole is = absurd is
-not_flushed width old new (flushes.Pen (pens.Disk cause)) whole is = tt
-not_flushed width old new (flushes.Strayed number) whole is = tt
+-- why a flusher stopped whose pen wasn't broken
+pub stopped : {R D : Type 0} (width : ℕ) (old new : FlusherOf R D) (fault : FlushFault) → old.pen.broken ≡ false → IsServeFault width old new fault → IsStop width new fault
+stopped width old new (flushes.Pen pens.Broken) whole is = absurd (cc)
+stopped width old new (flushes.Pen pens.Busy) whole is = absurd is
+stopped width old new (flushes.Pen pens.OldFormat) whole is = absurd is
+stopped width old new (flushes.Pen pens.Runs) whole is = absurd is
+stopped width old new (flushes.Pen pens.OutOfRange) whole is = absurd is
+stopped width old new (flushes.Pen pens.TooLarge) whole is = absurd is
+stopped width old new (flushes.Pen pens.Unfolded) whole is = absurd is
+stopped width old new (flushes.Pen pens.FileFull) whole is = is
+stopped width old new (flushes.Pen pens.Memory) whole is = is
+stopped width old new (flushes.Pen pens.Exists) whole is = absurd is
+stopped width old new (flushes.Pen (pens.Disk cause)) whole is = is
+stopped width old new (flushes.Strayed number) whole is = (is.1, is.0)

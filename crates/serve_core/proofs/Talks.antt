@@ -15,7 +15,7 @@ use Rattle.book_core.specs.declared.mark.MarkState.{MarkState}
 use Rattle.serve_core.specs.declared.talking.TalkEnd.{TalkEnd}
 use Rattle.serve_core.specs.declared.talking.TalkEnd.TheVariants.{Ended, Gone, Refused, OutputFailed, Memory}
 use Rattle.serve_core.specs.Answers.{answer_bytes}
-use Rattle.serve_core.specs.Talks.{AllBelow, IsNextOf, HasUnsettled, AreExchanges, Exchange, IsExchange, IsOfRequest, IsDone, IsUntold, GoesOn, AllGoOn, EndsTalk, EndsSo, HasTalked, asked, told, told_of}
+use Rattle.serve_core.specs.Talks.{AllBelow, IsNextOf, HasUnsettled, AreExchanges, Exchange, IsExchange, IsOfRequest, IsDone, IsUntold, TalkGoesOn, AllGoOn, EndsTalk, EndsSo, HasTalked, asked, told, told_of}
 use Rattle.serve_core.specs.Requests.{IsHead, head_of}
 use Rattle.serve_core.specs.declared.request.Head.{Head}
 use Rattle.serve_core.specs.declared.request.Request.{Request}
@@ -114,7 +114,7 @@ module _ {R : Type 0} (form : Encoding R) (live : Phase R) (seat : Seated R) (in
     are = refl;
     requests = Consumes-nil input;
     answers = Appends-nil output;
-    go_on = All-nil (λ (e : Exchange R). GoesOn e.answer);
+    go_on = All-nil (λ (e : Exchange R). TalkGoesOn e.answer);
   }
 
   module _ (next : ℕ) (mid new : Seated R) (input_mid input_new output_mid : Option (List ℕ)) (so_far : IsTalking form live seat input output next mid input_mid output_mid)
@@ -129,7 +129,7 @@ module _ {R : Type 0} (form : Encoding R) (live : Phase R) (seat : Seated R) (in
         (subst (Appends output_mid output_new) (bytes ∙ ap (λ (a : Answer). answer_bytes form a done.exchange.records) (sym is)) wrote)
 
     pub goes_on : (then : ℕ) (answer : Answer) (out : List ℕ) (output_new : Option (List ℕ)) → done.exchange.answer ≡ answer → out ≡ answer_bytes form answer done.exchange.records → Appends output_mid output_new out
-        → IsSeatOf live new → IsNextOf then new.made → GoesOn answer → IsTalking form live seat input output then new input_new output_new
+        → IsSeatOf live new → IsNextOf then new.made → TalkGoesOn answer → IsTalking form live seat input output then new input_new output_new
     goes_on then answer out output_new is bytes wrote of numbers goes = record {
       of = of;
       numbers = numbers;
@@ -137,7 +137,7 @@ module _ {R : Type 0} (form : Encoding R) (live : Phase R) (seat : Seated R) (in
       are = (mid, so_far.are, done.is);
       requests = read_more;
       answers = wrote_more answer out output_new is bytes wrote;
-      go_on = All-cons (λ (e : Exchange R). GoesOn e.answer) done.exchange so_far.exchanges (subst GoesOn (sym is) goes) so_far.go_on;
+      go_on = All-cons (λ (e : Exchange R). TalkGoesOn e.answer) done.exchange so_far.exchanges (subst TalkGoesOn (sym is) goes) so_far.go_on;
     }
 
     -- the answer was written, and the conversation ends behind it

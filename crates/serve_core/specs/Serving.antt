@@ -1,5 +1,5 @@
 -- What a server leaves.
-use Rattle.std.specs.Prelude.{◌≡◌, ◌⊎◌, ℕ, ◌+◌, ◌<◌, ◌≤◌, List, [], ◌++◌, length, take, MatchResult}
+use Rattle.std.specs.Prelude.{◌≡◌, ◌⊎◌, ℕ, ◌+◌, ◌<◌, ◌≤◌, List, [], ◌++◌, length, take, true, None, OnOk, IfErr, MatchResult}
 use Rattle.std.specs.declared.result.Result.{Result}
 use Rattle.std.specs.declared.result.Result.TheVariants.{Ok, Err}
 use Rattle.record_core.specs.Bytes.{Encoding}
@@ -12,14 +12,17 @@ use Rattle.pen_core.specs.declared.fault.PenFault.TheVariants as pens
 use Rattle.block_core.specs.Growth.{Growth}
 use Rattle.directory_core.specs.Chain.{joined}
 use Rattle.book_core.specs.Beginning.{seat_limit}
+use Rattle.book_core.specs.Lists.{Phase}
 use Rattle.flush_core.specs.declared.fault.FlushFault.{FlushFault}
 use Rattle.flush_core.specs.declared.fault.FlushFault.TheVariants as flushes
-use Rattle.flush_core.specs.Refusals.{failed}
+use Rattle.flush_core.specs.Flusher.{FlusherOf, IsFlusherOf, OpensToJob}
+use Rattle.flush_core.specs.Serving.{Serves, HasEnded, IsServeFault}
+use Rattle.flush_core.specs.Refusals.{IsNotBegun, failed}
 use Rattle.vault_core.specs.declared.fault.VaultFault.{VaultFault}
 use Rattle.vault_core.specs.declared.fault.VaultFault.TheVariants.{Pen}
 use Rattle.vault_core.specs.Crewing.{OpensToGrown}
 use Rattle.serve_core.specs.declared.serving.ServeFault.{ServeFault}
-use Rattle.serve_core.specs.declared.serving.ServeFault.TheVariants.{Open, Share, Flush, Memory}
+use Rattle.serve_core.specs.declared.serving.ServeFault.TheVariants.{Open, Share, Thread, Flush}
 
 -- the image opens to these records and those of the first of the growths, at least so many of them
 pub record OpensBehind {R : Type 0} (form : Encoding R) (before : List R) (growths : List (Growth R)) (settled : ℕ) (image : List ℕ) : Type 0 where
@@ -43,14 +46,14 @@ pub record IsServed {R D : Type 0} (form : Encoding R) (states : D → List Stat
 abbrev pub IsAllServed : {R D : Type 0} → Encoding R → (D → List State) → D → D → ℕ → Type 0
 IsAllServed form states disk left settled = (served : IsServed form states disk left settled) × (settled ≡ length served.growths)
 
--- Where nothing was refused, or no more than the memory for the clients' threads, all growths are settled. Where the file
--- wasn't opened nothing was written, and where no client was served nothing was grown.
+-- Where nothing was refused all growths are settled. Where the file wasn't opened nothing was written, and where no client
+-- was served nothing was grown.
 abbrev pub IsLeft : {R D X : Type 0} → Encoding R → (D → List State) → D → D → ℕ → Result X ServeFault → Type 0
 IsLeft form states disk left settled (Ok x) = IsAllServed form states disk left settled
 IsLeft form states disk left settled (Err (Open fault)) = (settled ≡ 0) × OnlySyncs (states disk) (states left) × IsOpenRefusal form (bytes_of (states disk)) fault
 IsLeft form states disk left settled (Err (Share fault)) = (served : IsServed form states disk left settled) × (served.growths ≡ [])
+IsLeft form states disk left settled (Err Thread) = (served : IsServed form states disk left settled) × (served.growths ≡ [])
 IsLeft form states disk left settled (Err (Flush fault)) = IsServed form states disk left settled
-IsLeft form states disk left settled (Err Memory) = IsAllServed form states disk left settled
 
 -- why no client was served, of so many
 abbrev pub IsShareRefusal : ℕ → VaultFault → Type 0
@@ -58,29 +61,47 @@ IsShareRefusal clients (Pen pens.TooLarge) = (clients ≡ 0) ⊎ (seat_limit < c
 IsShareRefusal clients (Pen pens.Memory) = (0 < clients) × (clients ≤ seat_limit)
 IsShareRefusal clients other = ⊥
 
--- why what was grown wasn't settled: the file has no room for the next group or there was no memory for it, a call of the
--- device failed, or a growth strayed
-abbrev pub IsFlushRefusal : FlushFault → Type 0
-IsFlushRefusal (flushes.Pen pens.FileFull) = Unit {0}
-IsFlushRefusal (flushes.Pen pens.Memory) = Unit {0}
-IsFlushRefusal (flushes.Pen (pens.Disk cause)) = Unit {0}
-IsFlushRefusal (flushes.Strayed number) = Unit {0}
-IsFlushRefusal other = ⊥
+-- Why a flusher stopped before all was settled: the file has no room for the next group or there was no memory for it, a
+-- call of the device failed, or the growth behind those that it knows strayed.
+abbrev pub IsStop : {R D : Type 0} → ℕ → FlusherOf R D → FlushFault → Type 0
+IsStop width f (flushes.Pen pens.FileFull) = (f.pen.job ≡ None) × IsNotBegun width f pens.FileFull
+IsStop width f (flushes.Pen pens.Memory) = (f.pen.job ≡ None) × IsNotBegun width f pens.Memory
+IsStop width f (flushes.Pen (pens.Disk cause)) = f.pen.broken ≡ true
+IsStop width f (flushes.Strayed number) = (f.pen.job ≡ None) × (number ≡ length f.pass.entries)
+IsStop width f other = ⊥
 
--- why so many clients weren't served; that the file wasn't opened is told by what is left
-abbrev pub IsServeRefusal : ℕ → ServeFault → Type 0
-IsServeRefusal clients (Open fault) = Unit {0}
-IsServeRefusal clients (Share fault) = IsShareRefusal clients fault
-IsServeRefusal clients (Flush fault) = IsFlushRefusal fault
-IsServeRefusal clients Memory = Unit {0}
+-- The flusher that stopped so over that disk: it has settled so many growths, and whatever the disk may leave opens to what
+-- the flusher has in the file.
+pub record HasStopped {R D : Type 0} (form : Encoding R) (keeps : D → Type 0) (states : D → List State) (left : D) (settled : ℕ) (fault : FlushFault) : Type 0 where
+  pub flusher : FlusherOf R D
+  pub disk_is : left ≡ flusher.pen.disk
+  pub settled_is : settled ≡ flusher.settled
+  pub file : keeps left → (image : List ℕ) → IsImage (now (states left)) image → OpensToJob form flusher image
+  pub why : IsStop form.width flusher fault
+
+-- Why so many clients weren't served, or what they grew wasn't settled; that the file wasn't opened is told by what is left.
+abbrev pub IsServeRefusal : {R D : Type 0} → Encoding R → (D → Type 0) → (D → List State) → ℕ → D → ℕ → ServeFault → Type 0
+IsServeRefusal form keeps states clients left settled (Open fault) = Unit {0}
+IsServeRefusal form keeps states clients left settled (Share fault) = IsShareRefusal clients fault
+IsServeRefusal form keeps states clients left settled Thread = (0 < clients) × (clients ≤ seat_limit)
+IsServeRefusal form keeps states clients left settled (Flush fault) = HasStopped form keeps states left settled fault
 
 -- by success no call of the device has failed, and by a fault as many as that tells
 abbrev pub CountsFailed : {X F : Type 0} → (F → ℕ) → ℕ → ℕ → Result X F → Type 0
 CountsFailed count old new result = MatchResult result (λ _. new ≡ old) (λ fault. new ≡ old + count fault)
 
+-- The flusher of a phase has served until that came of it: the growths that it settled stand, all of them where it wasn't
+-- refused, and the calls of the device failed as often as the fault tells.
+pub record HasFlushed {R D : Type 0} (form : Encoding R) (keeps : D → Type 0) (states : D → List State) (faults : D → ℕ) (live : Phase R) (old new : FlusherOf R D) {X : Type 0} (flushed : Result X FlushFault) : Type 0 where
+  pub of : IsFlusherOf (keeps new.pen.disk) live new
+  pub served : Serves form keeps states old new
+  pub ended : OnOk flushed (HasEnded new)
+  pub refused : IfErr flushed (IsServeFault form.width old new)
+  pub counts : CountsFailed failed (faults old.pen.disk) (faults new.pen.disk) flushed
+
 -- how many calls of the device have failed where this is answered
 abbrev pub failed_calls : ServeFault → ℕ
 failed_calls (Open fault) = failed_openings fault
 failed_calls (Share fault) = 0
+failed_calls Thread = 0
 failed_calls (Flush fault) = failed fault
-failed_calls Memory = 0

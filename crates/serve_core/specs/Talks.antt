@@ -174,10 +174,10 @@ told form [] = []
 told form (e ∷ earlier) = told form earlier ++ answer_bytes form e.answer e.records
 
 -- a conversation goes on behind that answer
-abbrev pub GoesOn : Answer → Type 0
-GoesOn answers.Ended = ⊥
-GoesOn (answers.Refused refusal) = ends_talk refusal ≡ false
-GoesOn other = Unit {0}
+abbrev pub TalkGoesOn : Answer → Type 0
+TalkGoesOn answers.Ended = ⊥
+TalkGoesOn (answers.Refused refusal) = ends_talk refusal ≡ false
+TalkGoesOn other = Unit {0}
 
 -- or ends so
 abbrev pub EndsTalk : TalkEnd → Answer → Type 0
@@ -186,7 +186,7 @@ EndsTalk end (answers.Refused refusal) = (ends_talk refusal ≡ true) × (end �
 EndsTalk end other = ⊥
 
 abbrev pub AllGoOn : {R : Type 0} → List (Exchange R) → Type 0
-AllGoOn exchanges = All (λ e. GoesOn e.answer) exchanges
+AllGoOn exchanges = All (λ e. TalkGoesOn e.answer) exchanges
 
 -- The newest answer is that with which a conversation ends so, and behind each of those before it the conversation goes on;
 -- where the newest couldn't be told it doesn't matter which it is, and where the requests ended all go on.

@@ -6,7 +6,7 @@ ghost use Rattle.record_core.specs.Limits.{payload_limit};
 ghost use Rattle.block_core.specs.Length.{IsBlockLength};
 ghost use Rattle.book_core.specs.Lists.{IsSeatOf};
 ghost use Rattle.serve_core.specs.Answers.{answer_bytes};
-ghost use Rattle.serve_core.specs.Talks.{IsCountRefusal, IsNextOf, IsBlock, IsOfGrowth, IsOfWaiting, IsOfLooking, IsOfReading, IsOfRequest, Exchange, IsExchange, IsDone, IsUntold, GoesOn, EndsTalk, HasTalked};
+ghost use Rattle.serve_core.specs.Talks.{IsCountRefusal, IsNextOf, IsBlock, IsOfGrowth, IsOfWaiting, IsOfLooking, IsOfReading, IsOfRequest, Exchange, IsExchange, IsDone, IsUntold, TalkGoesOn, EndsTalk, HasTalked};
 
 use crate::answer::Answer;
 use crate::refusal::Refusal;
@@ -251,7 +251,7 @@ fn respond<'a, R: Record, I: Read, E: Wait>(
     }
 }
 
-/// Reads one request, does what it asks, and leaves the bytes of the answer in `out`.
+/// Reads one request, does what it asks, and leaves the bytes of the answer in `out`. Those of a growth go through `block`.
 fn exchange<R: Record, I: Read, E: Wait>(
     rt: &E,
     alloc: Global,
@@ -259,6 +259,7 @@ fn exchange<R: Record, I: Read, E: Wait>(
     seat: &mut Seat<R>,
     next: &mut u64,
     requests: &mut I,
+    block: &mut Vec<u8>,
     out: &mut Vec<u8>,
 ) -> Result<Answer, TalkEnd>
     requires of { IsSeatOf live.now seat.old }
@@ -269,13 +270,12 @@ fn exchange<R: Record, I: Read, E: Wait>(
     ensures untold { IfErr result (IsUntold R.form live.now seat.old seat.new (I.remaining requests.old) (I.remaining requests.new)) }
 {
     out.clear();
-    let mut block = Vec::new(alloc);
+    block.clear();
     let mut head = [0u8; HEAD_LEN];
     let Ok(()) = requests.read_exact(&mut head) else {
         return Err(TalkEnd::Gone);
     };
-    let Some((told, records)) = respond(rt, alloc, live, seat, next, &head, requests, &mut block)
-    else {
+    let Some((told, records)) = respond(rt, alloc, live, seat, next, &head, requests, block) else {
         return Err(TalkEnd::Gone);
     };
     match told.append_to(records, out) {
@@ -286,7 +286,7 @@ fn exchange<R: Record, I: Read, E: Wait>(
 
 /// How a conversation ends with this answer, if it does.
 fn end_of(answer: Answer) -> Option<TalkEnd>
-    ensures { MatchOption result (GoesOn answer) (λ end. EndsTalk end answer) }
+    ensures { MatchOption result (TalkGoesOn answer) (λ end. EndsTalk end answer) }
 {
     match answer {
         Answer::Ended => Some(TalkEnd::Ended),
@@ -311,9 +311,12 @@ pub fn talk<R: Record, I: Read, W: Write, E: Wait>(
     ensures talked { HasTalked R.form live.now seat.old seat.new (I.remaining requests.old) (I.remaining requests.new) (W.contents answers.old) (W.contents answers.new) result }
 {
     let mut next = 0;
+    let mut block = Vec::new(alloc);
     let mut out = Vec::new(alloc);
     for _ in 0..u64::MAX {
-        let told = match exchange(rt, alloc, live, seat, &mut next, requests, &mut out) {
+        let told = match exchange(
+            rt, alloc, live, seat, &mut next, requests, &mut block, &mut out,
+        ) {
             Ok(told) => told,
             Err(end) => return end,
         };
