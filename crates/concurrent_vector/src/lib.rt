@@ -11,7 +11,7 @@
 //! | make a file, or open one | `FileDisk::make`, `FileDisk::open`; `Vault::create_as`, `Vault::open` |
 //! | append from many threads, and be done when all is durable | `crew`, with a `Source` such as `Lists` |
 //! | append from threads of my own | `Vault::share`, `Live::take_seat`, then `Live::grow_slice`, `push_back`, or an `Appender` |
-//! | commit meanwhile | `Flusher::serve` in a thread of its own, until `Live::close` |
+//! | commit meanwhile | `Flusher::serve` until `Live::close`, in the calling thread or in one that is started before any grower |
 //! | know what a crash can't take any more | `Live::await_receipt`, `Live::settled` |
 //! | read meanwhile | `Live::look`, then `get`, `piece`, `pieces`, `pieces_from`; `Live::snapshot` for many reads |
 //! | change records in place | `Vault::change`, `change_runs`; `begin_fold`, `settle` |
@@ -28,7 +28,7 @@ pub use book_core::{
     Appender, Begun, GrowFault, Live, Mark, MarkState, Receipt, Records, SEAT_LIMIT, Seat,
     SettleFault, Snapshot, Writer,
 };
-pub use directory_core::{GROWTH_LIMIT, Pass};
+pub use directory_core::{DirFault, GROWTH_LIMIT, Pass};
 pub use disk_core::{
     Blow, Choice, Disk, DiskFault, FileDisk, FuseDisk, ImageLength, PendingBytes, RamDisk,
 };

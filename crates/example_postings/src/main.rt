@@ -4,9 +4,7 @@
 
 ghost use Rattle.std.specs.Prelude.{◌==◌};
 
-use concurrent_vector::{
-    CrewFault, Fault, Format, Gate, Lists, Pair, Pick, RamDisk, Receipt, Vault, crew,
-};
+use concurrent_vector::{Fault, Format, Gate, Lists, Pair, Pick, RamDisk, Receipt, Vault, crew};
 use std::alloc::Global;
 use std::sync::Wait;
 use std::thread::Threads;
@@ -53,19 +51,27 @@ impl Gate for Open {
     fn after(&self, _grower: u16, _receipt: &Receipt) {}
 }
 
+/// The postings of one line's words.
+fn postings_of(alloc: Global, text: &str, line: u32) -> Result<Vec<Pair>, Fault> {
+    let mut postings = Vec::new(alloc);
+    for word in text.split_ascii_whitespace() {
+        let (key, value) = (number_of(word), line as i64);
+        postings.push(Pair { key, value })?;
+    }
+    Ok(postings)
+}
+
 /// The postings of each line that is for this grower and has words.
 fn blocks_of(alloc: Global, text: &str, grower: u32) -> Result<Vec<Vec<Pair>>, Fault> {
     let mut blocks = Vec::new(alloc);
     let mut line: u32 = 0;
     for text in text.lines() {
         line = line.wrapping_add(1);
-        let mut postings = Vec::new(alloc);
-        for word in text.split_ascii_whitespace() {
-            let (key, value) = (number_of(word), line as i64);
-            postings.push(Pair { key, value })?;
-        }
-        if line % GROWERS == grower && !postings.is_empty() {
-            blocks.push(postings)?;
+        if line % GROWERS == grower {
+            let postings = postings_of(alloc, text, line)?;
+            if !postings.is_empty() {
+                blocks.push(postings)?;
+            }
         }
     }
     Ok(blocks)
@@ -79,11 +85,8 @@ fn index<E: Threads + Wait + Sync>(rt: &E, alloc: Global, text: &str) -> Result<
     }
     let vault = Vault::create_as(alloc, RamDisk::new(alloc), Format::Two)?;
     let source = Lists::try_new(lists.as_slice()).ok_or(Fault::Memory)?;
-    match crew(rt, alloc, vault, &source, &Open) {
-        Ok(crewed) => Ok(crewed.vault),
-        Err(CrewFault::Share(_, fault)) => Err(Fault::Vault(fault)),
-        Err(CrewFault::Gather(gathering)) => Err(Fault::Vault(gathering.fault)),
-    }
+    let crewed = crew(rt, alloc, vault, &source, &Open)?;
+    Ok(crewed.vault)
 }
 
 /// The lines that have the word, ascending, each once.

@@ -7,7 +7,8 @@ ghost use Rattle.concurrent_vector.specs.Beginning.{AreNewSeats};
 ghost use Rattle.concurrent_vector.specs.Flusher.{IsFlusherOf};
 
 use concurrent_vector::{
-    Disk, Fault, FileDisk, Format, GROWTH_LIMIT, Live, OpenFault, Pair, ScanFault, Seat, Vault,
+    Disk, Fault, FileDisk, Flusher, Format, GROWTH_LIMIT, Live, OpenFault, Pair, ScanFault, Seat,
+    Vault,
 };
 use std::alloc::Global;
 use std::sync::Wait;
@@ -47,7 +48,7 @@ fn sense<E: Wait>(rt: &E, live: &Live<Pair>, seat: Seat<Pair>) -> Result<u64, Fa
     Ok(whole)
 }
 
-/// A thread for each seat, and then the flusher ends. How many batches are durable, and stood among whole ones.
+/// A thread for each seat, and then the flusher may end. How many batches are durable, and stood among whole ones.
 fn work<E: Threads + Wait + Sync>(
     rt: &E,
     live: &Live<Pair>,
@@ -70,26 +71,46 @@ fn work<E: Threads + Wait + Sync>(
     Ok(whole)
 }
 
+/// Lets the sensors work, and commits what they append in this thread, which runs already: no sensor waits for a thread
+/// that the system may refuse. How many batches are durable, and stood among whole ones.
+fn serve<E: Threads + Wait + Sync, D: Disk + Drop>(
+    rt: &E,
+    live: &Live<Pair>,
+    flusher: Flusher<Pair, D>,
+    seats: Vec<Seat<Pair>>,
+) -> Result<u64, Fault>
+    requires flusher { IsFlusherOf (D.keeps flusher.pen.disk) live.now flusher }
+    requires seats { AreNewSeats live.now.directory live.now.mark seats.items }
+{
+    thread::scope(
+        thread::scope_env(),
+        rt,
+        move |scope| -> Result<u64, Fault>
+            requires { IsFlusherOf (D.keeps flusher.pen.disk) live.now flusher × AreNewSeats live.now.directory live.now.mark seats.items }
+        {
+            let mut flusher = flusher;
+            let working = scope.spawn(
+                move || -> Result<u64, Fault>
+                    requires { AreNewSeats live.now.directory live.now.mark seats.items }
+                { work(rt, live, seats) },
+            )?;
+            flusher.serve(rt, live)?;
+            working.join(rt)
+        },
+    )
+}
+
 /// Opens the store, appends to it and reads it. How many samples were there, and how many batches are new.
-fn grow<E: Threads + Wait + Sync, D: Disk + Send + Drop>(
+fn grow<E: Threads + Wait + Sync, D: Disk + Drop>(
     rt: &E,
     alloc: Global,
     disk: D,
 ) -> Result<(u64, u64), Fault> {
     let store = open(alloc, disk)?;
     let before = store.len();
-    let (live, mut flusher, seats) = store.share(GROWTH_LIMIT, SENSORS)?;
-    let (served, worked) = thread::join(
-        rt,
-        || -> Result<(), Fault>
-            requires { IsFlusherOf (D.keeps flusher.pen.disk) live flusher }
-        { Ok(flusher.serve(rt, &live)?) },
-        || -> Result<u64, Fault>
-            requires { AreNewSeats live.directory live.mark seats.items }
-        { work(rt, &live, seats) },
-    );
-    served?;
-    Ok((before, worked?))
+    let (live, flusher, seats) = store.share(GROWTH_LIMIT, SENSORS)?;
+    let new = serve(rt, &live, flusher, seats)?;
+    Ok((before, new))
 }
 
 /// The store in the file, a new one where there is none.
