@@ -12,6 +12,8 @@ use Rattle.book_core.specs.declared.fault.GrowFault.{GrowFault}
 use Rattle.book_core.specs.Lists.{own_of}
 use Rattle.pen_core.specs.Typed.{OpensTo}
 use Rattle.vault_core.specs.Crewing.{HasCrewed, OpensToGrown, IsReason, crew_room, receipt_of}
+use Rattle.vault_core.specs.declared.fault.VaultFault.{VaultFault}
+use Rattle.vault_core.specs.Sharing.{IsShareFault}
 use Rattle.vault_core.specs.Vault.{VaultOf, list_of}
 use Rattle.files_core.specs.Dealt.{count_for, dealt}
 use Rattle.files_core.specs.declared.fault.FileFault.{FileFault}
@@ -31,6 +33,14 @@ some_of f (x ∷ xs) (suc k) y there = some_of f xs k y there
 
 one_some : {X : Type 0} {x y : X} → Some x ≡ Some y → x ≡ y
 one_some is = cc
+
+-- a source's room is that of what it deals
+pub same_room : (count other_count : ℕ → ℕ) (n other_n : ℕ) → count ≡ other_count → n ≡ other_n → crew_room count n ≡ crew_room other_count other_n
+same_room count other_count n other_n same_count same_n = ap (λ (c : ℕ → ℕ). crew_room c n) same_count ∙ ap (λ m. crew_room other_count m) same_n
+
+pub share_as : {R D : Type 0} (v : VaultOf R D) (count other_count : ℕ → ℕ) (n other_n : ℕ) (fault : VaultFault) → count ≡ other_count → n ≡ other_n → IsShareFault v (crew_room count n) n fault → IsShareFault v (crew_room other_count other_n) other_n fault
+share_as v count other_count n other_n fault same_count same_n refused =
+    subst (λ m. IsShareFault v (crew_room other_count m) m fault) same_n (subst (λ (c : ℕ → ℕ). IsShareFault v (crew_room c n) n fault) same_count refused)
 
 module _ {R D : Type 0} (form : Encoding R) (keeps : D → Type 0) (states : D → List State) where
   -- what a source deals is what is said of it
@@ -105,23 +115,25 @@ module _ {R D : Type 0} (form : Encoding R) (keeps : D → Type 0) (states : D �
   }
 
   pub refused_by : {failures : D → ℕ} (growths : List (List R)) (growers : ℕ) (disk left : D) (v : VaultOf R D) → IsOpenedOn form keeps states failures disk v → (fault : FileFault) → IsGrowthStop form keeps states growths growers v left fault → IsLoadRefusal form keeps states failures growths growers disk left fault
-  refused_by growths growers disk left v opened (faults.Vault fault) (inl same) = (
+  refused_by growths growers disk left v opened (faults.Vault fault) (inl (same, why)) = (
     list_of v,
     [],
-    λ model.
+    (λ model.
         let before = subst keeps same model in (
           opened_list form (bytes_of (states disk)) v.pen (list_of v) (opened.opened before),
           subst (λ d. LeavesBeforeOr (states disk) (states d) (OpensToGrown form (list_of v) [])) (sym same) (opened_alone (states disk) (states v.pen.disk) (OpensToGrown form (list_of v) []) (opened.only_syncs before)),
-        ),
+        )),
+    inl (v, opened, same, why),
   )
   refused_by growths growers disk left v opened (faults.Vault fault) (inr some) = (
     list_of v,
     some.0,
-    λ model.
-        let both = some.1 model in (
+    (λ model.
+        let both = some.2 model in (
           opened_list form (bytes_of (states disk)) v.pen (list_of v) (opened.opened both.0),
           opened_then (states disk) (states v.pen.disk) (states left) (OpensToGrown form (list_of v) some.0) (opened.only_syncs both.0) both.1,
-        ),
+        )),
+    inr some.1,
   )
   refused_by growths growers disk left v opened (faults.Grower stopped) stop = (list_of v, stop.0, stop.1, (λ model. appended_to disk left v stop.0 opened stop.2 model), stop.3, stop.4)
   refused_by growths growers disk left v opened (faults.Open fault) stop = absurd stop

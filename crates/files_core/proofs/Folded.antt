@@ -1,5 +1,5 @@
 -- Files that are folded.
-use Rattle.std.proofs.Common.{◌≡◌, ℕ, Bool, true, false, List, ◌⊎◌, inl, inr, subst, ap, refl}
+use Rattle.std.proofs.Common.{◌≡◌, ℕ, ◌≤◌, Bool, true, false, List, None, Result, Ok, Err, OnOk, IfSome, ◌⊎◌, inl, inr, subst, sym, ap, refl, ◌∙◌, arith}
 use Rattle.record_core.specs.Bytes.{Encoding}
 use Rattle.disk_core.specs.State.{State, now, IsImage}
 use Rattle.disk_core.specs.Calls.{bytes_of}
@@ -15,7 +15,11 @@ use Rattle.vault_core.specs.declared.fault.VaultFault.{VaultFault}
 use Rattle.vault_core.specs.declared.fault.VaultFault.TheVariants.{Pen, Unsettled, WrongPhase}
 use Rattle.vault_core.specs.Commands.{IsFoldFault, failed}
 use Rattle.vault_core.specs.Vault.{VaultOf, MayHold, OpensToEither, list_of}
-use Rattle.files_core.specs.Folding.{Stays}
+use Rattle.segment_core.specs.Frame.{Fold}
+use Rattle.segment_core.specs.Tally.{after}
+use Rattle.segment_core.specs.declared.tally.Tally.{Tally}
+use Rattle.vault_core.specs.Settles.{IsFiledBy, IsIdle, IsOrderly, StandsInFile, with_fold, with_job}
+use Rattle.files_core.specs.Folding.{IsAllFolded, Stays}
 use Rattle.files_core.specs.Opened.{IsOpenedOn}
 use Rattle.files_core.proofs.Opened.{opened_list, opened_again, opens_same}
 
@@ -31,6 +35,48 @@ none_failed pen WrongPhase barred = absurd barred
 pub same_disk : {D : Type 0} (old new : PenOf D) (begun : Bool) → IsFoldAnswer old new begun → new.disk ≡ old.disk
 same_disk old new true begins = begins.disk_same
 same_disk old new false none = ap (λ p. p.disk) none.1
+
+-- where a fold is settled that was begun with no job in hand no change is live, nor where none was to be folded
+pub folds_all : {D : Type 0} (keeps : Type 0) (old mid new : PenOf D) (begun : Bool) → old.job ≡ None → IsFoldAnswer old mid begun → IsIdle new → StandsInFile keeps mid new → IsAllFolded new
+folds_all keeps old mid new true no_job begins idle stands = (idle, none_live)
+  where
+    job : mid.job ≡ None
+    job = begins.job_same ∙ no_job
+
+    orderly : IsOrderly mid
+    orderly = subst (λ j. IfSome j (λ job. IsFiledBy job.frame mid.fold)) (sym job) tt
+
+    tally : new.tally ≡ after mid.tally (Fold old.tally.changes)
+    tally = stands.tally_is orderly ∙ ap (λ j. with_fold after mid.fold (with_job after j mid.tally)) job ∙ ap (λ f. with_fold after f mid.tally) begins.fold_is
+
+    changes : new.tally.changes ≡ old.tally.changes
+    changes = ap (λ (t : Tally). t.changes) tally ∙ ap (λ (t : Tally). t.changes) begins.tally_same
+
+    folded : new.tally.folded ≡ old.tally.changes
+    folded = ap (λ (t : Tally). t.folded) tally
+
+    none_live : new.tally.changes ≤ new.tally.folded
+    none_live = omega (arith, changes, folded)
+folds_all keeps old mid new false no_job none idle stands = (idle, none_live)
+  where
+    job : mid.job ≡ None
+    job = ap (λ p. p.job) none.1 ∙ no_job
+
+    fold : mid.fold ≡ None
+    fold = ap (λ p. p.fold) none.1 ∙ none.0.1
+
+    orderly : IsOrderly mid
+    orderly = subst (λ j. IfSome j (λ job. IsFiledBy job.frame mid.fold)) (sym job) tt
+
+    tally : new.tally ≡ old.tally
+    tally = stands.tally_is orderly ∙ ap (λ j. with_fold after mid.fold (with_job after j mid.tally)) job ∙ ap (λ f. with_fold after f mid.tally) fold ∙ ap (λ p. p.tally) none.1
+
+    none_live : new.tally.changes ≤ new.tally.folded
+    none_live = omega (arith, ap (λ (t : Tally). t.changes) tally, ap (λ (t : Tally). t.folded) tally, none.0.2)
+
+pub both_ok : {X E : Type 0} {A B C : Type 0} (result : Result X E) → OnOk result A → OnOk result B → (A → B → C) → OnOk result C
+both_ok (Ok x) a b make = make a b
+both_ok (Err e) a b make = tt
 
 module _ {R D : Type 0} (form : Encoding R) (keeps : D → Type 0) (states : D → List State) where
   -- from the vault on that begins, which has the same list on the same disk

@@ -1,5 +1,5 @@
 -- A file that a command has opened.
-use Rattle.std.proofs.Common.{◌≡◌, ◌⊎◌, ℕ, List, Some, None, Option, Result, Ok, Err, MatchResult, OnOk, inl, inr, refl, sym, subst}
+use Rattle.std.proofs.Common.{◌≡◌, ◌⊎◌, ℕ, ◌+◌, List, Some, None, Option, Result, Ok, Err, MatchResult, OnOk, inl, inr, refl, sym, ap, subst, ◌∙◌, arith}
 use Rattle.std.specs.Io.KnownBytes.{Appends}
 use Rattle.files_core.specs.declared.ended.Ended.{Ended}
 use Rattle.files_core.specs.declared.ended.Ended.TheVariants.{Done, OutputFailed}
@@ -52,6 +52,11 @@ same_keeps keeps left own same model = subst keeps same model
 pub told_ends : {X E : Type 0} (done : Type 0) (refused : FileFault → Type 0) (written : Result X E) (ended : Ended) → MatchResult written (λ _. ended ≡ Done) (λ _. ended ≡ OutputFailed) → done → EndsAs done refused ended
 told_ends done refused (Ok x) ended told holds = subst (EndsAs done refused) (sym told) holds
 told_ends done refused (Err e) ended told holds = subst (EndsAs done refused) (sym told) holds
+
+-- no call had failed where its work is done
+pub told_counts : {D X E : Type 0} (faults : D → ℕ) (failed : Ended → ℕ) (disk left : D) (written : Result X E) (ended : Ended) → failed Done ≡ 0 → failed OutputFailed ≡ 0 → MatchResult written (λ _. ended ≡ Done) (λ _. ended ≡ OutputFailed) → faults left ≡ faults disk → faults left ≡ faults disk + failed ended
+told_counts faults failed disk left (Ok x) ended done half told same = let none : failed ended ≡ 0 = ap failed told ∙ done in omega (arith, none, same)
+told_counts faults failed disk left (Err e) ended done half told same = let none : failed ended ≡ 0 = ap failed told ∙ half in omega (arith, none, same)
 
 -- one of two lists that are the same one
 pub opens_same : {R : Type 0} (form : Encoding R) (was behind records : List R) (image : List ℕ) → was ≡ records → behind ≡ records → OpensToEither form was behind image → OpensTo form image records

@@ -1,5 +1,5 @@
 -- Scans of the first bytes that stand on a disk.
-use Rattle.std.proofs.Common.{◌≡◌, ℕ, ◌+◌, ◌≤◌, List, [], ◌++◌, length, length-take, take, drop, refl, sym, ap, subst, ◌∙◌, arith}
+use Rattle.std.proofs.Common.{◌≡◌, ℕ, ◌≤◌, List, [], ◌++◌, length, length-take, take, drop, refl, sym, ap, subst, ◌∙◌, arith}
 use Rattle.std.proofs.lemmas.List.{append_assoc, length-append, take-append-drop, take-take, take_all, append-nil}
 use Rattle.record_core.specs.Bytes.{Encoding}
 use Rattle.disk_core.specs.State.{State}
@@ -10,7 +10,7 @@ use Rattle.segment_core.specs.declared.scanner.Stage.TheVariants as stages
 use Rattle.segment_core.specs.Fault.{IsRefused}
 use Rattle.segment_core.specs.Scanner.{IsFed, IsLost}
 use Rattle.segment_core.proofs.Fed.{fed_at}
-use Rattle.pen_core.specs.Opening.{HasTaken, HasRead}
+use Rattle.pen_core.specs.Opening.{HasRead}
 
 -- where memory is refused behind these bytes, it is so whatever follows them
 pub lost_behind : {R : Type 0} (form : Encoding R) (image front more : List ℕ) (scanner : Scanner R) → image ≡ front → IsFed form image scanner → IsLost scanner → IsRefused form (front ++ more) Memory

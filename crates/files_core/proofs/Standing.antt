@@ -1,6 +1,7 @@
 -- Growths that are appended as they are read.
-use Rattle.std.proofs.Common.{◌≡◌, ℕ, suc, ◌+◌, ◌-◌, ◌^◌, ◌<◌, min, Bool, List, [], ◌∷◌, ◌++◌, length, take, All, Ok, Err, zero-add, inl, inr, refl, sym, ap, subst, ◌∙◌, arith}
+use Rattle.std.proofs.Common.{◌≡◌, ◌⊎◌, ℕ, suc, ◌+◌, ◌-◌, ◌*◌, ◌^◌, ◌<◌, ◌≤◌, min, Bool, List, [], ◌∷◌, ◌++◌, length, take, All, Ok, Err, zero-add, inl, inr, refl, sym, ap, subst, ◌∙◌, arith}
 use Rattle.std.specs.Prelude.{cond}
+use Rattle.std.proofs.Math.Nat.{add-mul}
 use Rattle.std.proofs.lemmas.Bool.{eq-eqb}
 use Rattle.std.proofs.lemmas.List.{append_assoc, append-nil, length-append, take-append-le}
 use Rattle.std.proofs.lemmas.List.Concat.{flat_map-append}
@@ -12,16 +13,19 @@ use Rattle.disk_core.specs.Moments.{LeavesOnly}
 use Rattle.disk_core.proofs.JoinedMoments.{LeavesOnly-start, LeavesOnly-join, LeavesOnly-weaker}
 use Rattle.block_core.specs.Growth.{Growth}
 use Rattle.book_core.specs.Lists.{own_of}
+use Rattle.book_core.specs.declared.fault.GrowFault.{GrowFault}
+use Rattle.book_core.specs.declared.fault.GrowFault.TheVariants as grow_faults
 use Rattle.directory_core.specs.Chain.{joined}
 use Rattle.pen_core.specs.Typed.{OpensTo}
-use Rattle.vault_core.specs.Crewing.{OpensToGrown}
+use Rattle.vault_core.specs.Crewing.{OpensToGrown, IsReason, crew_room}
 use Rattle.vault_core.specs.Vault.{VaultOf, MayHold, list_of}
 use Rattle.files_core.specs.declared.appending.Appended.{Appended}
 use Rattle.files_core.specs.declared.fault.FileFault.{FileFault}
 use Rattle.files_core.specs.declared.fault.FileFault.TheVariants as faults
-use Rattle.files_core.specs.Appending.{GoesOn, HasAppended, HasAppendedAll, IsAppendRefusal, IsSettled, StandBehindList, Stands, StopsAt}
-use Rattle.files_core.specs.Dealt.{count_for}
-use Rattle.files_core.specs.Loading.{AreDealt, AllMade, StandBehind, IsGrowthStop}
+use Rattle.files_core.specs.declared.fault.Stopped.{Stopped}
+use Rattle.files_core.specs.Appending.{AreLinesOf, AreOfBlocks, GrowsTo, HasAppended, HasAppendedAll, IsAppendRefusal, IsBatchStop, IsSettled, IsStopTold, StandBehindList, GrowthsStand, StopsAt}
+use Rattle.files_core.specs.Dealt.{count_for, dealt}
+use Rattle.files_core.specs.Loading.{AreDealt, AllMade, StandBehind, IsGrowthStop, IsStopOf}
 use Rattle.files_core.specs.Opened.{IsOpenedOn}
 use Rattle.files_core.proofs.Opened.{opened_list, opened_then, opens_same}
 
@@ -67,6 +71,16 @@ behind_grown form list mid one two image is grown = record {
 pub counts_on : (most told n all : ℕ) → told ≡ min most n → min most (told + all) ≡ min most (n + all)
 counts_on most told n all is = omega arith
 
+-- those of whole blocks, and the lines of more of them
+pub lines_on : (most block told n more all : ℕ) → told ≡ min most (n * block) → all ≡ min most (told + more * block) → all ≡ min most ((n + more) * block)
+lines_on most block told n more all is then =
+    let both : (n + more) * block ≡ n * block + more * block = add-mul n more block in
+    omega arith
+
+-- the lines behind others, of which the last growth may have fewer than a block
+pub lines_last : (most block before all told whole lines : ℕ) → all ≡ min most (before + whole) → told ≡ min (before + lines) most → (lines ≤ whole) × (whole < lines + block) → (told ≤ all) × (all < told + block)
+lines_last most block before all told whole lines is then within = (omega (arith, within.0), omega (arith, within.0, within.1))
+
 -- ---- one grower's growths are all
 
 own_first : {R : Type 0} (made : List (Growth R)) → All (λ growth. growth.seat < 1) made → own_of 0 made ≡ made
@@ -79,6 +93,27 @@ own_first (growth ∷ made) all =
 all_for_one : (n : ℕ) → count_for n 1 0 ≡ n
 all_for_one n = omega arith
 
+-- one that stopped had growths left to make, or none were made
+growths_left : {R : Type 0} (width room size count : ℕ) (block : ℕ → List R) (id : ℕ) (growths : List (Growth R)) (m : ℕ) (fault : GrowFault) → IsReason width room size count block id growths m fault → (m < count) ⊎ (m ≡ 0)
+growths_left width room size count block id growths m grow_faults.Closed why = inl why
+growths_left width room size count block id growths m grow_faults.Full why = inl why.0
+growths_left width room size count block id growths m grow_faults.TooLong why = inl why.0
+growths_left width room size count block id growths m (grow_faults.Strayed k) why = inl why.0
+growths_left width room size count block id growths m grow_faults.Memory why = why
+growths_left width room size count block id growths m grow_faults.Empty why = inl why.0
+growths_left width room size count block id growths m grow_faults.TooLarge why = inl why.0
+
+behind_own : (line made all grower : ℕ) → grower < 1 → all < 2 ^ 64 → (made < count_for all 1 grower) ⊎ (made ≡ 0) → line ≡ min (2 ^ 64 - 1) (made * 1 + (grower + 1)) → line - 1 ≡ made
+behind_own line made all grower one few (inl less) is = omega arith
+behind_own line made all grower one few (inr none) is = omega arith
+
+-- its line tells how many it made
+made_by_one : {R : Type 0} (width : ℕ) (batch : List (List R)) (own : List (Growth R)) (stopped : Stopped) → length batch < 2 ^ 64 → AreDealt batch 1 own → IsStopOf width batch 1 own stopped → stopped.line - 1 ≡ length own
+made_by_one width batch own stopped few own_are stop =
+    let first : stopped.grower ≡ 0 = omega (arith, stop.inside) in
+    let mine : length (own_of stopped.grower own) ≡ length own = ap (λ (k : ℕ). length (own_of k own)) first ∙ ap length (own_first own own_are.by_growers) in
+    behind_own stopped.line (length (own_of stopped.grower own)) (length batch) stopped.grower stop.inside few (growths_left width (crew_room (count_for (length batch) 1) 1) stopped.size (count_for (length batch) 1 stopped.grower) (dealt batch 1 stopped.grower) stopped.grower own (length (own_of stopped.grower own)) stopped.fault stop.why) stop.line_is ∙ mine
+
 all_counted : {R : Type 0} (growths : List (List R)) (made : List (Growth R)) → AreDealt growths 1 made → AllMade growths 1 made → length made ≡ length growths
 all_counted growths made dealt all = ap length (sym (own_first made dealt.by_growers)) ∙ all 0 (omega arith) ∙ all_for_one (length growths)
 
@@ -88,16 +123,16 @@ module _ {R D : Type 0} (form : Encoding R) (keeps : D → Type 0) (states : D �
 
   -- ---- one batch
 
-  pub goes_nowhere : (v : VaultOf R D) → IsSettled form keeps states v → GoesOn form keeps states v v []
-  goes_nowhere v settled = record {
+  pub grows_nowhere : (v : VaultOf R D) → IsSettled form keeps states v → GrowsTo form keeps states v v []
+  grows_nowhere v settled = record {
     list = sym (append-nil (list_of v));
     images = λ model. LeavesOnly-start (states v.pen.disk) (OpensToGrown form (list_of v) []) (λ image is. none_grown form (list_of v) [] image (settled model image is));
     settled = settled;
     model = λ model. model;
   }
 
-  pub goes_on : (growths : List (List R)) (v w : VaultOf R D) → (made : List (Growth R)) × AreDealt growths 1 made × AllMade growths 1 made × StandBehind form keeps states v w.pen.disk made × (list_of w ≡ list_of v ++ joined made) → (made : List (Growth R)) × GoesOn form keeps states v w made × (length made ≡ length growths)
-  goes_on growths v w grown = (
+  pub grows_to : (growths : List (List R)) (v w : VaultOf R D) → (made : List (Growth R)) × AreDealt growths 1 made × AllMade growths 1 made × StandBehind form keeps states v w.pen.disk made × (list_of w ≡ list_of v ++ joined made) → (made : List (Growth R)) × GrowsTo form keeps states v w made × (length made ≡ length growths)
+  grows_to growths v w grown = (
     grown.0,
     record {
       list = grown.4;
@@ -108,59 +143,67 @@ module _ {R D : Type 0} (form : Encoding R) (keeps : D → Type 0) (states : D �
     all_counted growths grown.0 grown.1 grown.2,
   )
 
-  pub stops_by : (growths : List (List R)) (growers : ℕ) (v : VaultOf R D) (left : D) (fault : FileFault) → IsSettled form keeps states v → IsGrowthStop form keeps states growths growers v left fault → StopsAt form keeps states v left fault
-  stops_by growths growers v left (faults.Vault fault) settled (inl same) = subst (λ d. StopsAt form keeps states v d (faults.Vault fault)) (sym same) (record {
+  pub stops_by : (growths : List (List R)) (v : VaultOf R D) (left : D) (fault : FileFault) → IsSettled form keeps states v → IsGrowthStop form keeps states growths 1 v left fault → StopsAt form keeps states growths v left fault
+  stops_by growths v left (faults.Vault fault) settled (inl (same, why)) = subst (λ d. StopsAt form keeps states growths v d (faults.Vault fault)) (sym same) (record {
     by_crew = tt;
     more = [];
     settled = tt;
     images = λ model. LeavesOnly-start (states v.pen.disk) (OpensToGrown form (list_of v) []) (λ image is. none_grown form (list_of v) [] image (settled model image is));
     model = λ model. model;
   })
-  stops_by growths growers v left (faults.Vault fault) settled (inr some) = record { by_crew = tt; more = some.0; images = λ model. (some.1 model).1; settled = tt; model = λ model. (some.1 model).0 }
-  stops_by growths growers v left (faults.Grower stopped) settled stop = record { by_crew = tt; more = stop.0; images = stop.2.images; settled = (stop.2.settled, stop.3); model = stop.2.model }
-  stops_by growths growers v left (faults.Open fault) settled stop = absurd stop
-  stops_by growths growers v left (faults.Word word) settled stop = absurd stop
-  stops_by growths growers v left (faults.Input refusal) settled stop = absurd stop
-  stops_by growths growers v left (faults.Upgrade fault) settled stop = absurd stop
+  stops_by growths v left (faults.Vault fault) settled (inr some) = record { by_crew = tt; more = some.0; images = λ model. (some.2 model).1; settled = tt; model = λ model. (some.2 model).0 }
+  stops_by growths v left (faults.Grower stopped) settled stop = record { by_crew = tt; more = stop.0; images = stop.2.images; settled = (stop.2.settled, stop.3, stop.1, stop.4); model = stop.2.model }
+  stops_by growths v left (faults.Open fault) settled stop = absurd stop
+  stops_by growths v left (faults.Word word) settled stop = absurd stop
+  stops_by growths v left (faults.Input refusal) settled stop = absurd stop
+  stops_by growths v left (faults.Upgrade fault) settled stop = absurd stop
 
   -- ---- one batch after the other
 
-  -- so far these growths were made, and are told
-  pub record HasGone (v w : VaultOf R D) (appended : Appended) : Type 0 where
+  -- so far these growths were made, each of a whole block, and are told
+  pub record HasGone (block : ℕ) (v w : VaultOf R D) (appended : Appended) : Type 0 where
     pub made : List (Growth R)
-    pub goes : GoesOn form keeps states v w made
+    pub goes : GrowsTo form keeps states v w made
     pub size_is : appended.size ≡ length (list_of w)
     pub growths_are : appended.growths ≡ min (2 ^ 64 - 1) (length made)
+    pub lines_are : AreOfBlocks block appended made
 
-  leaves_further : (v mid : VaultOf R D) (left : D) (one two : List (Growth R)) → GoesOn form keeps states v mid one → keeps mid.pen.disk → LeavesOnly (states mid.pen.disk) (states left) (OpensToGrown form (list_of mid) two) → LeavesOnly (states v.pen.disk) (states left) (OpensToGrown form (list_of v) (one ++ two))
+  leaves_further : (v mid : VaultOf R D) (left : D) (one two : List (Growth R)) → GrowsTo form keeps states v mid one → keeps mid.pen.disk → LeavesOnly (states mid.pen.disk) (states left) (OpensToGrown form (list_of mid) two) → LeavesOnly (states v.pen.disk) (states left) (OpensToGrown form (list_of v) (one ++ two))
   leaves_further v mid left one two first model leaves =
       LeavesOnly-join (states v.pen.disk) (states mid.pen.disk) (states left) (OpensToGrown form (list_of v) (one ++ two))
       (LeavesOnly-weaker (states v.pen.disk) (states mid.pen.disk) (OpensToGrown form (list_of v) one) (OpensToGrown form (list_of v) (one ++ two)) (λ image grown. more_grown form (list_of v) one two image grown) (first.images model))
       (LeavesOnly-weaker (states mid.pen.disk) (states left) (OpensToGrown form (list_of mid) two) (OpensToGrown form (list_of v) (one ++ two)) (λ image grown. behind_grown form (list_of v) (list_of mid) one two image first.list grown) leaves)
 
-  goes_both : (v mid w : VaultOf R D) (one two : List (Growth R)) → GoesOn form keeps states v mid one → GoesOn form keeps states mid w two → GoesOn form keeps states v w (one ++ two)
-  goes_both v mid w one two first then = record {
+  grows_further : (v mid w : VaultOf R D) (one two : List (Growth R)) → GrowsTo form keeps states v mid one → GrowsTo form keeps states mid w two → GrowsTo form keeps states v w (one ++ two)
+  grows_further v mid w one two first then = record {
     list = then.list ∙ ap (λ (rs : List R). rs ++ joined two) first.list ∙ append_assoc (list_of v) (joined one) (joined two) ∙ ap (λ (rs : List R). list_of v ++ rs) (sym (joined_on one two));
     images = λ model. leaves_further v mid w.pen.disk one two first (then.model model) (then.images model);
     settled = then.settled;
     model = λ model. first.model (then.model model);
   }
 
-  pub gone_nowhere : (v : VaultOf R D) (appended : Appended) → IsSettled form keeps states v → appended.growths ≡ 0 → appended.size ≡ length (list_of v) → HasGone v v appended
-  gone_nowhere v appended settled none size = record { made = []; goes = goes_nowhere v settled; size_is = size; growths_are = none }
+  pub gone_nowhere : (block : ℕ) (v : VaultOf R D) (appended : Appended) → IsSettled form keeps states v → appended.growths ≡ 0 → appended.lines ≡ 0 → appended.size ≡ length (list_of v) → HasGone block v v appended
+  gone_nowhere block v appended settled none no_line size = record { made = []; goes = grows_nowhere v settled; size_is = size; growths_are = none; lines_are = no_line ∙ no_block }
+    where
+      no_block : 0 ≡ min (2 ^ 64 - 1) (0 * block)
+      no_block = omega arith
 
-  pub gone_further : (v mid w : VaultOf R D) (before after : Appended) (growths : List (List R)) → HasGone v mid before → (made : List (Growth R)) × GoesOn form keeps states mid w made × (length made ≡ length growths)
-      → after.size ≡ length (list_of w) → after.growths ≡ min (2 ^ 64 - 1) (before.growths + length growths) → HasGone v w after
-  gone_further v mid w before after growths gone then size is = record {
+  pub gone_further : (block : ℕ) (v mid w : VaultOf R D) (before after : Appended) (growths : List (List R)) → HasGone block v mid before → (made : List (Growth R)) × GrowsTo form keeps states mid w made × (length made ≡ length growths)
+      → after.size ≡ length (list_of w) → after.growths ≡ min (2 ^ 64 - 1) (before.growths + length growths) → after.lines ≡ min (2 ^ 64 - 1) (before.lines + length growths * block) → HasGone block v w after
+  gone_further block v mid w before after growths gone then size is lines = record {
     made = gone.made ++ then.0;
-    goes = goes_both v mid w gone.made then.0 gone.goes then.1;
+    goes = grows_further v mid w gone.made then.0 gone.goes then.1;
     size_is = size;
-    growths_are = is ∙ counts_on (2 ^ 64 - 1) before.growths (length gone.made) (length growths) gone.growths_are ∙ ap (min (2 ^ 64 - 1)) (ap (λ n. length gone.made + n) (sym then.2) ∙ sym (length-append gone.made then.0));
+    growths_are = is ∙ counts_on (2 ^ 64 - 1) before.growths (length gone.made) (length growths) gone.growths_are ∙ ap (min (2 ^ 64 - 1)) count;
+    lines_are = lines_on (2 ^ 64 - 1) block before.lines (length gone.made) (length growths) after.lines gone.lines_are lines ∙ ap (λ n. min (2 ^ 64 - 1) (n * block)) count;
   }
+    where
+      count : length gone.made + length growths ≡ length (gone.made ++ then.0)
+      count = ap (λ n. length gone.made + n) (sym then.2) ∙ sym (length-append gone.made then.0)
 
   -- what was gone to is given back
-  pub stands_now : (v w : VaultOf R D) (left : D) (appended : Appended) → HasGone v w appended → left ≡ w.pen.disk → (made : List (Growth R)) × StandBehindList form keeps states v left appended made []
-  stands_now v w left appended gone same = (
+  pub stands_now : (block : ℕ) (v w : VaultOf R D) (left : D) (appended : Appended) → HasGone block v w appended → left ≡ w.pen.disk → (made : List (Growth R)) × StandBehindList form keeps states v left appended made [] × AreOfBlocks block appended made
+  stands_now block v w left appended gone same = (
     gone.made,
     subst (λ d. StandBehindList form keeps states v d appended gone.made []) (sym same) (record {
       images = λ model. subst (λ gs. LeavesOnly (states v.pen.disk) (states w.pen.disk) (OpensToGrown form (list_of v) gs)) (sym (append-nil gone.made)) (gone.goes.images model);
@@ -168,30 +211,80 @@ module _ {R D : Type 0} (form : Encoding R) (keeps : D → Type 0) (states : D �
       size_is = gone.size_is ∙ ap length gone.goes.list;
       growths_are = gone.growths_are;
     }),
+    gone.lines_are,
   )
 
-  stands_with : (v mid : VaultOf R D) (left : D) (appended : Appended) (fault : FileFault) (gone : HasGone v mid appended) (stops : StopsAt form keeps states mid left fault) → StandBehindList form keeps states v left appended gone.made stops.more
-  stands_with v mid left appended fault gone stops = record {
+  -- all of it, where the last growth may be of fewer lines
+  pub stands_last : (block : ℕ) (v w : VaultOf R D) (left : D) (appended told : Appended) → HasGone block v w appended → left ≡ w.pen.disk → told.size ≡ appended.size → told.growths ≡ appended.growths
+      → (told.lines ≤ appended.lines) × (appended.lines < told.lines + block) → (made : List (Growth R)) × StandBehindList form keeps states v left told made [] × AreLinesOf block told made
+  stands_last block v w left appended told gone same size growths lines =
+      let now = stands_now block v w left appended gone same in (
+        now.0,
+        record { images = now.1.images; settled = now.1.settled; size_is = size ∙ now.1.size_is; growths_are = growths ∙ now.1.growths_are },
+        record { no_more = omega (arith, lines.0, now.2); no_less = omega (arith, lines.1, now.2) },
+      )
+
+  stands_with : (block : ℕ) (batch : List (List R)) (v mid : VaultOf R D) (left : D) (appended : Appended) (fault : FileFault) (gone : HasGone block v mid appended) (stops : StopsAt form keeps states batch mid left fault) → StandBehindList form keeps states v left appended gone.made stops.more
+  stands_with block batch v mid left appended fault gone stops = record {
     images = λ model. leaves_further v mid left gone.made stops.more gone.goes (stops.model model) (stops.images model);
     settled = λ model image is. subst (λ (rs : List R). OpensToGrown form rs stops.more image) gone.goes.list ((stops.images model).newest image is);
     size_is = gone.size_is ∙ ap length gone.goes.list;
     growths_are = gone.growths_are;
   }
 
+  -- a grower stopped behind that: what it made stands too
+  module _ (block : ℕ) (batch : List (List R)) (v mid : VaultOf R D) (left : D) (before after : Appended) (stopped : Stopped) (told : FileFault) (few : length batch < 2 ^ 64) (gone : HasGone block v mid before) (stops : StopsAt form keeps states batch mid left (faults.Grower stopped)) (tells : IsStopTold block before (faults.Grower stopped) after told) where
+    count_own : stopped.line - 1 ≡ length stops.more
+    count_own = made_by_one form.width batch stops.more stopped few stops.settled.2 stops.settled.3
+
+    count_all : length gone.made + (stopped.line - 1) ≡ length (gone.made ++ stops.more)
+    count_all = ap (λ n. length gone.made + n) count_own ∙ sym (length-append gone.made stops.more)
+
+    list_all : list_of mid ++ joined stops.more ≡ list_of v ++ joined (gone.made ++ stops.more)
+    list_all = list_on (list_of v) (list_of mid) gone.made stops.more gone.goes.list
+
+    size_all : stopped.size ≡ length (list_of v ++ joined (gone.made ++ stops.more))
+    size_all = stops.settled.1 ∙ ap length list_all
+
+    stands_all : StandBehindList form keeps states v left after (gone.made ++ stops.more) []
+    stands_all = record {
+      images = λ model. subst (λ gs. LeavesOnly (states v.pen.disk) (states left) (OpensToGrown form (list_of v) gs)) (sym (append-nil (gone.made ++ stops.more))) (leaves_further v mid left gone.made stops.more gone.goes (stops.model model) (stops.images model));
+      settled = λ model image is. none_grown form (list_of v ++ joined (gone.made ++ stops.more)) [] image (subst (OpensTo form image) list_all (stops.settled.0 model image is));
+      size_is = tells.2 ∙ size_all;
+      growths_are = tells.0 ∙ counts_on (2 ^ 64 - 1) before.growths (length gone.made) (stopped.line - 1) gone.growths_are ∙ ap (min (2 ^ 64 - 1)) count_all;
+    }
+
+    lines_all : AreOfBlocks block after (gone.made ++ stops.more)
+    lines_all = lines_on (2 ^ 64 - 1) block before.lines (length gone.made) (stopped.line - 1) after.lines gone.lines_are tells.1 ∙ ap (λ n. min (2 ^ 64 - 1) (n * block)) count_all
+
+    batch_stop : IsBatchStop form.width after (gone.made ++ stops.more) (record stopped { line = min (2 ^ 64 - 1) (after.lines + 1) })
+    batch_stop = record {
+      grower_is = omega (arith, stops.settled.3.inside);
+      line_is = refl;
+      size_is = sym tells.2;
+      batch = batch;
+      before = gone.made;
+      own = stops.more;
+      made_are = refl;
+      own_are = stops.settled.2;
+      why = stops.settled.3.why;
+    }
+
+    stopped_grower : HasAppended form keeps states block v left after (Err told)
+    stopped_grower = subst (λ fault. HasAppended form keeps states block v left after (Err fault)) (sym tells.3) (gone.made ++ stops.more, stands_all, lines_all, batch_stop)
+
   -- a crew stopped behind that
-  pub stopped_with : (v mid : VaultOf R D) (left : D) (appended : Appended) (fault : FileFault) → HasGone v mid appended → StopsAt form keeps states mid left fault → HasAppended form keeps states v left appended (Err fault)
-  stopped_with v mid left appended (faults.Vault fault) gone stops = (gone.made, stops.more, stands_with v mid left appended (faults.Vault fault) gone stops)
-  stopped_with v mid left appended (faults.Grower stopped) gone stops =
-      let all : list_of mid ++ joined stops.more ≡ list_of v ++ joined (gone.made ++ stops.more) = list_on (list_of v) (list_of mid) gone.made stops.more gone.goes.list in (
-        gone.made,
-        stops.more,
-        stands_with v mid left appended (faults.Grower stopped) gone stops,
-        ((λ model image is. subst (OpensTo form image) all (stops.settled.0 model image is)), stops.settled.1 ∙ ap length all),
-      )
-  stopped_with v mid left appended (faults.Open fault) gone stops = absurd stops.by_crew
-  stopped_with v mid left appended (faults.Word word) gone stops = absurd stops.by_crew
-  stopped_with v mid left appended (faults.Input refusal) gone stops = absurd stops.by_crew
-  stopped_with v mid left appended (faults.Upgrade fault) gone stops = absurd stops.by_crew
+  pub stopped_with : (block : ℕ) (batch : List (List R)) (v mid : VaultOf R D) (left : D) (before after : Appended) (fault told : FileFault) → length batch < 2 ^ 64 → HasGone block v mid before → StopsAt form keeps states batch mid left fault
+      → IsStopTold block before fault after told → HasAppended form keeps states block v left after (Err told)
+  stopped_with block batch v mid left before after (faults.Vault fault) told few gone stops tells =
+      subst (λ f. HasAppended form keeps states block v left after (Err f)) (sym tells.1)
+      (subst (λ a. HasAppended form keeps states block v left a (Err (faults.Vault fault))) (sym tells.0)
+      (gone.made, stops.more, stands_with block batch v mid left before (faults.Vault fault) gone stops, gone.lines_are))
+  stopped_with block batch v mid left before after (faults.Grower stopped) told few gone stops tells = stopped_grower block batch v mid left before after stopped told few gone stops tells
+  stopped_with block batch v mid left before after (faults.Open fault) told few gone stops tells = absurd stops.by_crew
+  stopped_with block batch v mid left before after (faults.Word word) told few gone stops tells = absurd stops.by_crew
+  stopped_with block batch v mid left before after (faults.Input refusal) told few gone stops tells = absurd stops.by_crew
+  stopped_with block batch v mid left before after (faults.Upgrade fault) told few gone stops tells = absurd stops.by_crew
 
   -- ---- of a file
 
@@ -201,9 +294,9 @@ module _ {R D : Type 0} (form : Encoding R) (keeps : D → Type 0) (states : D �
       let mine = subst keeps (sym same) model in
       opens_same form v.sure (list_of v) (list_of v) image (opened.sure model) refl (may mine image (subst (λ d. IsImage (now (states d)) image) (sym same) is))
 
-  module _ (failures : D → ℕ) (disk left : D) (v : VaultOf R D) (appended : Appended) (opened : IsOpenedOn form keeps states failures disk v) (back : keeps left → keeps v.pen.disk) where
-    stands_in : (made more : List (Growth R)) → StandBehindList form keeps states v left appended made more → keeps left → Stands form states disk left appended made more
-    stands_in made more stands model = record {
+  module _ (failures : D → ℕ) (block : ℕ) (disk left : D) (v : VaultOf R D) (appended : Appended) (opened : IsOpenedOn form keeps states failures disk v) (back : keeps left → keeps v.pen.disk) where
+    growths_stand : (made more : List (Growth R)) → StandBehindList form keeps states v left appended made more → keeps left → GrowthsStand form states disk left appended made more
+    growths_stand made more stands model = record {
       was = list_of v;
       file = opened_list form (bytes_of (states disk)) v.pen (list_of v) (opened.opened (back model));
       images = opened_then (states disk) (states v.pen.disk) (states left) (OpensToGrown form (list_of v) (made ++ more)) (opened.only_syncs (back model)) (stands.images model);
@@ -212,14 +305,14 @@ module _ {R D : Type 0} (form : Encoding R) (keeps : D → Type 0) (states : D �
       growths_are = stands.growths_are;
     }
 
-    pub appended_all : HasAppended form keeps states v left appended (Ok tt) → HasAppendedAll form keeps states disk left appended
-    appended_all has = (has.0, stands_in has.0 [] has.1)
+    pub appended_all : HasAppended form keeps states block v left appended (Ok tt) → HasAppendedAll form keeps states block disk left appended
+    appended_all has = (has.0, growths_stand has.0 [] has.1, has.2)
 
-    pub appended_some : (fault : FileFault) → HasAppended form keeps states v left appended (Err fault) → IsAppendRefusal form keeps states failures disk left appended fault
-    unfolding stands_in
-    appended_some (faults.Input refusal) has = (has.0, stands_in has.0 [] has.1)
-    appended_some (faults.Vault fault) has = (has.0, has.1, stands_in has.0 has.1 has.2)
-    appended_some (faults.Grower stopped) has = (has.0, has.1, λ model. (stands_in has.0 has.1 has.2 model, has.3.0 model, has.3.1))
+    pub appended_some : (fault : FileFault) → HasAppended form keeps states block v left appended (Err fault) → IsAppendRefusal form keeps states failures block disk left appended fault
+    unfolding growths_stand
+    appended_some (faults.Input refusal) has = (has.0, growths_stand has.0 [] has.1, has.2)
+    appended_some (faults.Vault fault) has = (has.0, has.1, growths_stand has.0 has.1 has.2, has.3)
+    appended_some (faults.Grower stopped) has = (has.0, growths_stand has.0 [] has.1, has.2, has.3)
     appended_some (faults.Open fault) has = absurd has
     appended_some (faults.Word word) has = absurd has
     appended_some (faults.Upgrade fault) has = absurd has

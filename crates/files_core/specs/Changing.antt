@@ -1,11 +1,12 @@
 -- Commands that put one list in the place of another.
-use Rattle.std.specs.Prelude.{◌≡◌, ℕ, ◌+◌, ◌-◌, ◌*◌, ◌<◌, List, ◌∷◌, [], length, replicate, Err}
+use Rattle.std.specs.Prelude.{◌≡◌, ℕ, ◌+◌, ◌-◌, ◌*◌, ◌<◌, List, ◌∷◌, [], length, replicate, Ok, Err}
 use Rattle.record_core.specs.Bytes.{Encoding}
 use Rattle.disk_core.specs.State.{State, now, IsImage}
 use Rattle.disk_core.specs.Calls.{bytes_of}
 use Rattle.segment_core.specs.Frame.{Shrink}
 use Rattle.segment_core.specs.Written.{group_frame}
 use Rattle.pen_core.specs.Refusals.{group_lines, shrink_lines, change_lines, one_run}
+use Rattle.pen_core.specs.Pen.{IsKept}
 use Rattle.pen_core.specs.Typed.{OpensTo}
 use Rattle.vault_core.specs.declared.fault.VaultFault.{VaultFault}
 use Rattle.vault_core.specs.Commands.{IsCommand, Stands, changed_frame, resized}
@@ -53,3 +54,33 @@ module _ {R D : Type 0} (form : Encoding R) (keeps : D → Type 0) (states : D �
     pub down : n < length (list_of v) → IsCommand form keeps states faults (Shrink n) (shrink_lines v.pen n) v w (Err fault)
     pub other : n ≡ length (list_of v) → ⊥
     pub list : Stands (list_of w ≡ resized n r (list_of v)) (w.blocks ≡ v.blocks) fault
+
+  -- ---- what was done
+
+  -- The file was opened as one vault, and is that of another, which was made of it so: the frames that the other has more were
+  -- written, and none else.
+  pub record HasWorked (IsDone : VaultOf R D → VaultOf R D → Type 0) (disk left : D) : Type 0 where
+    pub before : VaultOf R D
+    pub after : VaultOf R D
+    pub opened : IsOpenedOn form keeps states faults disk before
+    pub disk_is : after.pen.disk ≡ left
+    pub kept : keeps left → IsKept (states left) after.pen
+    pub done : IsDone before after
+
+  -- records were put in the place of those from a position on, as one change of just these
+  pub record IsSet (start : ℕ) (records : List R) (v w : VaultOf R D) : Type 0 where
+    pub list : IsTouched (given start records) (one_run start (length records)) (list_of v) (list_of w)
+    pub command : IsCommand form keeps states faults (changed_frame form (one_run start (length records)) (list_of w)) (change_lines v.pen (one_run start (length records))) v w (Ok tt)
+
+  -- its length was made n: by one growth of copies, by a shrink, or it was n already
+  pub record IsResized (n : ℕ) (r : R) (v w : VaultOf R D) : Type 0 where
+    pub list : list_of w ≡ resized n r (list_of v)
+    pub up : length (list_of v) < n → IsCommand form keeps states faults (group_frame form (replicate (n - length (list_of v)) r ∷ [])) (group_lines v.pen (n - length (list_of v)) (8 + (n - length (list_of v)) * form.width)) v w (Ok tt)
+    pub down : n < length (list_of v) → IsCommand form keeps states faults (Shrink n) (shrink_lines v.pen n) v w (Ok tt)
+    pub same : n ≡ length (list_of v) → w ≡ v
+
+  -- all records were taken away, by a shrink, or there was none
+  pub record IsCleared (v w : VaultOf R D) : Type 0 where
+    pub list : list_of w ≡ []
+    pub some : 0 < length (list_of v) → IsCommand form keeps states faults (Shrink 0) (shrink_lines v.pen 0) v w (Ok tt)
+    pub none : list_of v ≡ [] → w ≡ v

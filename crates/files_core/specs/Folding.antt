@@ -1,5 +1,5 @@
 -- A file whose live changes are folded.
-use Rattle.std.specs.Prelude.{◌≡◌, ◌⊎◌, ℕ, ◌+◌, ◌-◌, List}
+use Rattle.std.specs.Prelude.{◌≡◌, ◌⊎◌, ℕ, ◌+◌, ◌-◌, ◌≤◌, List}
 use Rattle.record_core.specs.Bytes.{Encoding}
 use Rattle.disk_core.specs.State.{State, now, IsImage}
 use Rattle.disk_core.specs.Calls.{bytes_of}
@@ -8,11 +8,14 @@ use Rattle.segment_core.specs.Scanned.{IsScanOf}
 use Rattle.pen_core.specs.Typed.{OpensTo}
 use Rattle.vault_core.specs.declared.fault.VaultFault.{VaultFault}
 use Rattle.vault_core.specs.Commands.{IsFoldFault, failed}
-use Rattle.vault_core.specs.Settles.{IsSettleFault}
+use Rattle.vault_core.specs.Settles.{IsIdle, IsSettleFault}
 use Rattle.vault_core.specs.Vault.{VaultOf}
+use Rattle.pen_core.specs.Pen.{IsKept}
 use Rattle.pen_core.specs.PenOf.{PenOf}
 use Rattle.disk_core.specs.Moments.{LeavesOnly}
 use Rattle.pen_core.specs.Opening.{IsOpenRefusal, OnlySyncs, failed_openings}
+use Rattle.files_core.specs.declared.ended.Ended.{Ended}
+use Rattle.files_core.specs.declared.ended.Ended.TheVariants.{Done, OutputFailed, Refused}
 use Rattle.files_core.specs.declared.fault.FileFault.{FileFault}
 use Rattle.files_core.specs.declared.fault.FileFault.TheVariants.{Word, Input, Open, Vault, Grower, Upgrade}
 use Rattle.files_core.specs.Opened.{IsOpenedOn, LeavesBeforeOr}
@@ -27,6 +30,31 @@ pub record IsFolded {R : Type 0} (form : Encoding R) (bytes text : List ℕ) : T
 -- why a vault wasn't folded: the fold wasn't begun, and nothing has changed, or it was, on the same disk, and a call of that failed
 abbrev pub IsFoldingFault : {D : Type 0} → PenOf D → PenOf D → VaultFault → Type 0
 IsFoldingFault {D} old new fault = (IsFoldFault old fault × (new.disk ≡ old.disk)) ⊎ ((mid : PenOf D) × (mid.disk ≡ old.disk) × IsSettleFault mid new fault)
+
+-- nothing is in hand, and no change is live
+abbrev pub IsAllFolded : {D : Type 0} → PenOf D → Type 0
+IsAllFolded pen = IsIdle pen × (pen.tally.changes ≤ pen.tally.folded)
+
+-- The file on the disk is that of a pen of which no change is live: whatever a crash may leave now opens to its frames.
+pub record NoneLive {D : Type 0} (keeps : D → Type 0) (states : D → List State) (left : D) : Type 0 where
+  pub pen : PenOf D
+  pub disk_is : pen.disk ≡ left
+  pub folded : IsAllFolded pen
+  pub kept : keeps left → IsKept (states left) pen
+
+-- how many calls of the disk had failed where a fold was refused so
+abbrev pub failed_fold : FileFault → ℕ
+failed_fold (Open fault) = failed_openings fault
+failed_fold (Vault fault) = failed fault
+failed_fold (Word word) = 0
+failed_fold (Input refusal) = 0
+failed_fold (Grower stopped) = 0
+failed_fold (Upgrade fault) = 0
+
+abbrev pub failed_folding : Ended → ℕ
+failed_folding Done = 0
+failed_folding OutputFailed = 0
+failed_folding (Refused fault) = failed_fold fault
 
 -- The list of the file stays: each image opens to it.
 pub record Stays {R D : Type 0} (form : Encoding R) (states : D → List State) (disk left : D) : Type 0 where

@@ -5,11 +5,36 @@ use Rattle.disk_core.specs.State.{State}
 use Rattle.disk_core.specs.Calls.{bytes_of}
 use Rattle.segment_core.specs.declared.format.Format.TheVariants.{One, Two}
 use Rattle.segment_core.specs.Shape.{limit_of}
-use Rattle.vault_core.specs.Upgrading.{IsCopied, IsFileOf, IsUpgradeFault}
+use Rattle.vault_core.specs.Upgrading.{AreOldCalls, IsCopied, IsFileOf, IsUpgradeFault, failed_of_old}
 use Rattle.vault_core.specs.Vault.{VaultOf, list_of}
+use Rattle.files_core.specs.declared.ended.Ended.{Ended}
+use Rattle.files_core.specs.declared.ended.Ended.TheVariants.{Done, OutputFailed, Refused}
 use Rattle.files_core.specs.declared.fault.FileFault.{FileFault}
 use Rattle.files_core.specs.declared.fault.FileFault.TheVariants.{Word, Input, Open, Vault, Grower, Upgrade}
 use Rattle.files_core.specs.Texts.{upgraded_line}
+
+-- how many calls of the old disk were made, in a file of so many bytes, where it wasn't upgraded for this reason
+abbrev pub AreCallsBefore : ℕ → ℕ → FileFault → Type 0
+AreCallsBefore len calls (Upgrade fault) = AreOldCalls len fault calls
+AreCallsBefore len calls (Word word) = ⊥
+AreCallsBefore len calls (Input refusal) = ⊥
+AreCallsBefore len calls (Open fault) = ⊥
+AreCallsBefore len calls (Vault fault) = ⊥
+AreCallsBefore len calls (Grower stopped) = ⊥
+
+-- and how many of them failed
+abbrev pub failed_before : FileFault → ℕ
+failed_before (Upgrade fault) = failed_of_old fault
+failed_before (Word word) = 0
+failed_before (Input refusal) = 0
+failed_before (Open fault) = 0
+failed_before (Vault fault) = 0
+failed_before (Grower stopped) = 0
+
+abbrev pub failed_upgrading : Ended → ℕ
+failed_upgrading Done = 0
+failed_upgrading OutputFailed = 0
+failed_upgrading (Refused fault) = failed_before fault
 
 -- so many records are the longest growth of a file of version 2
 abbrev pub IsGreatestPiece : ℕ → ℕ → Type 0

@@ -1,15 +1,16 @@
 //! `append`: growths of an input of any length, committed as they are read.
 
-ghost use Rattle.std.specs.Prelude.{◌≡◌, ◌+◌, ◌-◌, ◌^◌, List, length, min, IfOk, IfErr, OnOk};
+ghost use Rattle.std.specs.Prelude.{◌≡◌, ◌+◌, ◌-◌, ◌*◌, ◌^◌, List, length, min, IfOk, IfErr, OnOk};
 ghost use Rattle.std.specs.Io.KnownBytes.{Appends};
+ghost use Rattle.std.specs.NonZero.{non_zero_u32_get};
 ghost use Rattle.block_core.specs.Growth.{Growth};
-ghost use Rattle.files_core.specs.Appending.{GoesOn, HasAppended, HasAppendedAll, IsAppendRefusal, IsSettled, StopsAt};
+ghost use Rattle.files_core.specs.Appending.{GrowsTo, HasAppended, HasAppendedAll, IsAppendRefusal, IsSettled, IsStopTold, StopsAt};
 ghost use Rattle.files_core.specs.Ended.{EndsAs, WritesText};
 ghost use Rattle.files_core.specs.Texts.{appended_line};
 
 use crate::crewing::{Deck, OpenGate};
 use crate::ended::Ended;
-use crate::fault::FileFault;
+use crate::fault::{FileFault, Stopped};
 use crate::gathering::whole_blocks;
 use crate::line_blocks::{Blocks, Front, read_front};
 use crate::loading::grow_by;
@@ -36,50 +37,82 @@ const PIECE_LEN: usize = 65_536;
 pub struct Appended {
     /// So many growths stand in the file.
     pub growths: u64,
-    /// They are those of so many lines, the first: the call may be made again with the lines behind them.
+    /// They are those of so many lines, the first: the call may be made again with the lines behind them. But behind a
+    /// `Vault` fault some growths of the lines behind them may stand too, and the file alone tells how many.
     pub lines: u64,
     /// How many records the file's vector has then; 0 where the file wasn't opened.
     pub size: u64,
 }
 
 impl Appended {
-    /// Growths of lines more, and so many records then.
-    fn and(self, growths: u64, lines: u64, size: u64) -> Appended
+    /// Growths more, each of a whole block of lines, and so many records then.
+    fn and(self, growths: u64, block: NonZeroU32, size: u64) -> Appended
         ensures size { result.size ≡ size }
         ensures growths { result.growths ≡ min (2 ^ 64 - 1) (self.growths + growths) }
+        ensures lines { result.lines ≡ min (2 ^ 64 - 1) (self.lines + growths * non_zero_u32_get block) }
     {
+        let lines = growths.saturating_mul(block.get() as u64);
         Appended {
             growths: self.growths.saturating_add(growths),
             lines: self.lines.saturating_add(lines),
             size,
         }
     }
+
+    /// What is told where a crew stopped so in a batch behind these: behind a grower's fault the growths of the batch that it
+    /// made stand, and its line is that of the whole input.
+    fn behind_stop(self, block: NonZeroU32, fault: FileFault) -> (Appended, FileFault)
+        ensures { IsStopTold (non_zero_u32_get block) self fault result.0 result.1 }
+    {
+        match fault {
+            FileFault::Grower(stopped) => {
+                let made = stopped.line.saturating_sub(1);
+                let told = self.and(made, block, stopped.size);
+                let stopped = Stopped {
+                    grower: stopped.grower,
+                    line: told.lines.saturating_add(1),
+                    fault: stopped.fault,
+                    size: stopped.size,
+                };
+                (told, FileFault::Grower(stopped))
+            }
+            other => (self, other),
+        }
+    }
 }
 
-/// Reads into the buffer until it has a batch more and ends in or behind a line that it has whole. Answers whether the input
-/// has ended.
-fn fill<I: Read>(reader: &mut I, buffer: &mut Vec<u8>) -> Result<bool, Refusal> {
+/// What is to come of an input behind what was read.
+#[derive(Clone, Copy, Debug, PartialEq, Eq)]
+enum Rest {
+    More,
+    Nothing,
+    /// It wasn't read.
+    Unread(Refusal),
+}
+
+/// Reads into the buffer until it has a batch more and ends in or behind a line that it has whole.
+fn fill<I: Read>(reader: &mut I, buffer: &mut Vec<u8>) -> Rest {
     let mut piece = [0u8; PIECE_LEN];
     let mut fresh: usize = 0;
     for _ in 0..=INPUT_LIMIT {
         let Ok(n) = reader.read(&mut piece) else {
-            return Err(Refusal::Input);
+            return Rest::Unread(Refusal::Input);
         };
         if n == 0 {
-            return Ok(true);
+            return Rest::Nothing;
         }
         if buffer.extend_from_slice(&piece[..n]).is_err() {
-            return Err(Refusal::Memory);
+            return Rest::Unread(Refusal::Memory);
         }
         fresh = fresh.saturating_add(n);
         if fresh >= BATCH_LEN && piece[..n].contains(&b'\n') {
-            return Ok(false);
+            return Rest::More;
         }
         if buffer.len() > INPUT_LIMIT {
-            return Err(Refusal::InputTooLong);
+            return Rest::Unread(Refusal::InputTooLong);
         }
     }
-    Err(Refusal::InputTooLong)
+    Rest::Unread(Refusal::InputTooLong)
 }
 
 /// A refusal of lines behind so many others.
@@ -112,8 +145,8 @@ fn append_growths<
     growths: Growths<R>,
 ) -> Result<Vault<R, D>, (D, FileFault)>
     requires { IsSettled R.form D.keeps D.states vault }
-    ensures on { IfOk result (λ new. (made : List (Growth R)) × GoesOn R.form D.keeps D.states vault new made × (length made ≡ length growths.0)) }
-    ensures stops { IfErr result (λ r. StopsAt R.form D.keeps D.states vault r.0 r.1) }
+    ensures on { IfOk result (λ new. (made : List (Growth R)) × GrowsTo R.form D.keeps D.states vault new made × (length made ≡ length growths.0)) }
+    ensures stops { IfErr result (λ r. StopsAt R.form D.keeps D.states growths.0 vault r.0 r.1) }
 {
     if growths.count() == 0 {
         return Ok(vault);
@@ -141,7 +174,7 @@ fn append_all<
     progress: &P,
 ) -> (D, Appended, Result<(), FileFault>)
     requires { IsSettled R.form D.keeps D.states vault }
-    ensures stands { HasAppended R.form D.keeps D.states vault result.0 result.1 result.2 }
+    ensures stands { HasAppended R.form D.keeps D.states (non_zero_u32_get block) vault result.0 result.1 result.2 }
     ensures model { D.keeps result.0 → D.keeps vault.pen.disk }
 {
     let mut vault = vault;
@@ -152,31 +185,38 @@ fn append_all<
     };
     let mut buffer = Vec::new(alloc);
     for _ in 0..u64::MAX {
-        let ended = match fill(reader, &mut buffer) {
-            Ok(ended) => ended,
-            Err(refusal) => return (vault.into_disk(), appended, Err(FileFault::Input(refusal))),
-        };
-        let len = if ended {
-            buffer.len()
-        } else {
-            whole_blocks(&buffer, block, u64::MAX)
+        let rest = fill(reader, &mut buffer);
+        let len = match rest {
+            Rest::Nothing => buffer.len(),
+            Rest::More | Rest::Unread(_) => whole_blocks(&buffer, block),
         };
         let Front { blocks, refusal } = read_front::<R>(alloc, &buffer[..len], block);
         let Blocks { growths, lines } = blocks;
         let count = growths.count() as u64;
         vault = match append_growths::<R, S, D, E>(rt, alloc, vault, growths) {
             Ok(grown) => grown,
-            Err((disk, fault)) => return (disk, appended, Err(fault)),
+            Err((disk, fault)) => {
+                let (told, fault) = appended.behind_stop(block, fault);
+                return (disk, told, Err(fault));
+            }
         };
         let before = appended.lines;
-        appended = appended.and(count, lines, vault.len());
+        appended = appended.and(count, block, vault.len());
         progress.at(appended.growths, 0);
         if let Some(refusal) = refusal {
             let fault = FileFault::Input(behind(before, refusal));
             return (vault.into_disk(), appended, Err(fault));
         }
-        if ended {
-            return (vault.into_disk(), appended, Ok(()));
+        match rest {
+            Rest::More => {}
+            Rest::Nothing => {
+                // The last block may have fewer lines.
+                appended.lines = before.saturating_add(lines);
+                return (vault.into_disk(), appended, Ok(()));
+            }
+            Rest::Unread(refusal) => {
+                return (vault.into_disk(), appended, Err(FileFault::Input(refusal)));
+            }
         }
         buffer.drain(..len);
     }
@@ -191,8 +231,9 @@ fn append_all<
 /// `appended G growths, size S` at the end. `S` is `Dealt` of the record.
 ///
 /// Refused: `Open`; then, at the lines that it has come to, `Input` (`Line` with the line's number in the whole input;
-/// `TooLargeAtLine` with that of the first line of a block whose growth is past the longest payload; `InputTooLong` for a
-/// block of more than `INPUT_LIMIT` bytes), and `Vault` and `Grower` as `load`.
+/// `TooLargeAtLine` with that of the first line of a block whose growth is past the longest payload; and, behind the whole
+/// blocks that were read, `Input`, where a read failed, `Memory`, and `InputTooLong` for a block of more than `INPUT_LIMIT`
+/// bytes), and `Vault` and `Grower` as `load`. The line of `Grower` is the first behind those that are told.
 pub fn append<
     R: TextRecord,
     S: Deck<R> + Drop,
@@ -210,7 +251,7 @@ pub fn append<
     progress: &P,
     writer: &mut W,
 ) -> (D, Appended, Ended)
-    ensures stands { EndsAs (HasAppendedAll R.form D.keeps D.states disk result.0 result.1) (IsAppendRefusal R.form D.keeps D.states D.faults disk result.0 result.1) result.2 }
+    ensures stands { EndsAs (HasAppendedAll R.form D.keeps D.states (non_zero_u32_get block) disk result.0 result.1) (IsAppendRefusal R.form D.keeps D.states D.faults (non_zero_u32_get block) disk result.0 result.1) result.2 }
     ensures model { D.keeps result.0 → D.keeps disk }
     ensures writes { WritesText (W.contents writer.old) (W.contents writer.new) (appended_line result.1.growths result.1.size) result.2 }
 {

@@ -36,7 +36,7 @@ pub enum Word {
 pub struct Stopped {
     /// Which grower, counted from 0.
     pub grower: u16,
-    /// The line of the input, counted from 1, whose growth it didn't make.
+    /// The line of the input, counted from 1, whose growth it didn't make: the first one of a growth of many lines.
     pub line: u64,
     pub fault: GrowFault,
     /// How many records the file's vector has now, with those of the growths that were made.

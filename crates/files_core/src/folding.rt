@@ -1,13 +1,13 @@
 //! `fold`: live changes put into their home bytes.
 
-ghost use Rattle.std.specs.Prelude.{◌≡◌, ◌⊎◌, ◌+◌, OnOk, IfErr, MatchResult};
+ghost use Rattle.std.specs.Prelude.{◌≡◌, ◌⊎◌, ◌+◌, None, OnOk, IfErr, MatchResult};
 ghost use Rattle.std.specs.Io.KnownBytes.{Appends};
 ghost use Rattle.disk_core.specs.Calls.{bytes_of};
 ghost use Rattle.files_core.specs.Ended.{EndsAs, Writes};
 ghost use Rattle.disk_core.specs.Moments.{LeavesOnly};
 ghost use Rattle.vault_core.specs.Commands.{failed};
 ghost use Rattle.vault_core.specs.Vault.{MayHold, list_of};
-ghost use Rattle.files_core.specs.Folding.{IsFolded, IsFoldRefusal, IsFoldingFault, Stays};
+ghost use Rattle.files_core.specs.Folding.{IsAllFolded, IsFolded, IsFoldRefusal, IsFoldingFault, NoneLive, Stays, failed_folding};
 ghost use Rattle.files_core.specs.Texts.{folded_line};
 
 use crate::checking::live_changes;
@@ -22,11 +22,12 @@ use std::io::Write;
 use text_core::{write_line, write_numbered};
 use vault_core::{Vault, VaultFault};
 
-/// Folds all live changes, and settles.
+/// Folds all live changes, and settles: where no job was in hand, nothing is live then.
 fn fold_vault<R: Record, D: Disk>(vault: &mut Vault<R, D>) -> Result<(), VaultFault>
     ensures images { D.keeps vault.new.pen.disk → LeavesOnly (D.states vault.old.pen.disk) (D.states vault.new.pen.disk) (MayHold R.form vault.old) }
     ensures list { vault.new.blocks ≡ vault.old.blocks }
     ensures sure { D.keeps vault.new.pen.disk → (vault.new.sure ≡ vault.old.sure) ⊎ (vault.new.sure ≡ list_of vault.new) }
+    ensures folded { vault.old.pen.job ≡ None → OnOk result (IsAllFolded vault.new.pen) }
     ensures refused { IfErr result (IsFoldingFault vault.old.pen vault.new.pen) }
     ensures faults { MatchResult result
         (λ _. D.faults vault.new.pen.disk ≡ D.faults vault.old.pen.disk)
@@ -46,11 +47,13 @@ fn write_folded<W: Write>(writer: &mut W, live: u64) -> io::Result<()>
     write_line(b"", writer)
 }
 
-/// Folds all changes that are live in the file, and writes `folded` and how many they were. The file is read twice: its
-/// changes are counted, and it is opened. Refused: `Open`; then `Vault`,
-/// as `Vault::begin_fold` and `Vault::settle`.
+/// Folds all changes that are live in the file, so that none is then, and writes `folded` and how many they were. The file
+/// is read twice: its changes are counted, and it is opened. Refused: `Open`; then `Vault`, as `Vault::begin_fold` and
+/// `Vault::settle`.
 pub fn fold<R: Record, D: Disk, W: Write>(alloc: Global, disk: D, writer: &mut W) -> (D, Ended)
     ensures stays { EndsAs (D.keeps result.0 → Stays R.form D.states disk result.0) (IsFoldRefusal R.form D.keeps D.states D.faults disk result.0) result.1 }
+    ensures none_live { EndsAs (NoneLive D.keeps D.states result.0) (λ _. Unit {0}) result.1 }
+    ensures faults { D.faults result.0 ≡ D.faults disk + failed_folding result.1 }
     ensures model { D.keeps result.0 → D.keeps disk }
     ensures writes { Writes (W.contents writer.old) (W.contents writer.new) (λ text. D.keeps result.0 → IsFolded R.form (bytes_of (D.states disk)) text) result.1 }
 {

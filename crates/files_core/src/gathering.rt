@@ -1,6 +1,7 @@
 //! Lines that are gathered: so many of them are a block.
 
 ghost use Rattle.std.specs.Prelude.{◌≡◌, ◌<◌, ◌≤◌, ◌++◌, length, OnOk, IfOk};
+ghost use Rattle.std.specs.NonZero.{non_zero_u32_get};
 ghost use Rattle.files_core.specs.LineBlocks.{AreLineBlocks};
 
 use segment_core::Growths;
@@ -18,7 +19,7 @@ fn extend<R: Copy>(growths: &mut Growths<R>, records: &[R]) -> Result<(), AllocE
 }
 
 /// Gathers so many growths into one each; those behind them, which are fewer, into a last one.
-pub(crate) fn gather<R: Copy>(
+fn gather_some<R: Copy>(
     alloc: Global,
     lines: &Growths<R>,
     block: u32,
@@ -42,19 +43,61 @@ pub(crate) fn gather<R: Copy>(
     Ok(growths)
 }
 
-/// How many bytes the whole blocks have, each of so many lines, that stand within the first lines, so many at most.
-pub(crate) fn whole_blocks(buffer: &[u8], block: NonZeroU32, most: u64) -> usize
+/// The same. Where each line is a block the lines are the growths, and nothing is copied.
+pub(crate) fn gather<R: Copy>(
+    alloc: Global,
+    lines: Growths<R>,
+    block: NonZeroU32,
+) -> Result<Growths<R>, AllocError>
+    ensures { IfOk result (λ growths. AreLineBlocks (non_zero_u32_get block) lines.0 growths.0) }
+{
+    if block.get() == 1 {
+        return Ok(lines);
+    }
+    gather_some(alloc, &lines, block.get())
+}
+
+/// How many bytes the whole lines have.
+fn whole_lines(buffer: &[u8]) -> usize
     ensures { result ≤ length buffer.now }
 {
+    let mut len = buffer.len();
+    while len > 0 && buffer[len - 1] != b'\n' {
+        len -= 1;
+    }
+    len
+}
+
+/// How many bytes the whole blocks have, each of so many lines, that stand within the first lines, so many at most.
+pub(crate) fn first_blocks(buffer: &[u8], block: NonZeroU32, most: u64) -> usize
+    ensures { result ≤ length buffer.now }
+{
+    let size = block.get();
     let mut lines: u64 = 0;
+    let mut held: u32 = 0;
     let mut whole = 0;
     for k in 0..buffer.len() {
-        if buffer[k] == b'\n' && lines < most {
+        if lines == most {
+            return whole;
+        }
+        if buffer[k] == b'\n' {
             lines += 1;
-            if lines % block.get() as u64 == 0 {
+            held += 1;
+            if held == size {
                 whole = k + 1;
+                held = 0;
             }
         }
     }
     whole
+}
+
+/// How many bytes the whole blocks have, each of so many lines.
+pub(crate) fn whole_blocks(buffer: &[u8], block: NonZeroU32) -> usize
+    ensures { result ≤ length buffer.now }
+{
+    if block.get() == 1 {
+        return whole_lines(buffer);
+    }
+    first_blocks(buffer, block, u64::MAX)
 }

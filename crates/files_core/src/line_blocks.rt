@@ -5,7 +5,7 @@ ghost use Rattle.std.specs.NonZero.{non_zero_u32_get};
 ghost use Rattle.files_core.specs.GrowthLines.{AllFit};
 ghost use Rattle.files_core.specs.InputBlocks.{AreInputBlocks};
 
-use crate::gathering::{gather, whole_blocks};
+use crate::gathering::{first_blocks, gather};
 use crate::growth_lines::{check_sizes, read_lines};
 use segment_core::Growths;
 use std::alloc::Global;
@@ -46,15 +46,13 @@ pub(crate) fn read_blocks<R: TextRecord>(
     ensures read { IfOk result (λ blocks. AreInputBlocks R.spelling (non_zero_u32_get block) input.now blocks.growths.0 blocks.lines) }
     ensures fit { IfOk result (λ blocks. AllFit R.form.width blocks.growths.0) }
 {
-    let lines = read_lines::<R>(alloc, input)?;
-    let Ok(growths) = gather(alloc, &lines, block.get()) else {
+    let spelled = read_lines::<R>(alloc, input)?;
+    let lines = spelled.count() as u64;
+    let Ok(growths) = gather(alloc, spelled, block) else {
         return Err(Refusal::Memory);
     };
     match check_sizes(&growths) {
-        Ok(()) => Ok(Blocks {
-            growths,
-            lines: lines.count() as u64,
-        }),
+        Ok(()) => Ok(Blocks { growths, lines }),
         Err(Refusal::TooLargeAtLine(n)) => {
             Err(Refusal::TooLargeAtLine(first_line(n, block.get())))
         }
@@ -85,7 +83,7 @@ fn read_before<R: TextRecord>(
     let mut refusal = refusal;
     let mut len = input.len();
     for _ in 0..FRONTS {
-        len = whole_blocks(&input[..len], block, lines_before(refusal));
+        len = first_blocks(&input[..len], block, lines_before(refusal));
         match read_blocks::<R>(alloc, &input[..len], block) {
             Ok(blocks) => {
                 return Front {

@@ -2,7 +2,7 @@
 
 ghost use Rattle.std.specs.Prelude.{◌≡◌, []};
 ghost use Rattle.vault_core.specs.Commands.{resized};
-ghost use Rattle.files_core.specs.Changing.{Replaces, IsWorkFault, IsResizeFault, IsClearFault};
+ghost use Rattle.files_core.specs.Changing.{HasWorked, IsCleared, IsClearFault, IsResized, IsResizeFault, IsWorkFault, Replaces};
 ghost use Rattle.files_core.specs.Ended.{EndsAs, WritesText};
 ghost use Rattle.files_core.specs.Texts.{ok_line};
 
@@ -26,6 +26,7 @@ pub fn resize<R: Record, D: Disk, W: Write>(
     ensures resized { EndsAs
         (D.keeps result.0 → Replaces R.form D.states (λ was behind. behind ≡ resized asked.now.len asked.now.filler was) disk result.0)
         (IsWorkFault R.form D.keeps D.states D.faults (IsResizeFault R.form D.keeps D.states D.faults asked.now.len asked.now.filler) disk result.0) result.1 }
+    ensures written { EndsAs (HasWorked R.form D.keeps D.states D.faults (IsResized R.form D.keeps D.states D.faults asked.now.len asked.now.filler) disk result.0) (λ _. Unit {0}) result.1 }
     ensures model { D.keeps result.0 → D.keeps disk }
     ensures writes { WritesText (W.contents writer.old) (W.contents writer.new) ok_line result.1 }
 {
@@ -44,6 +45,7 @@ pub fn clear<R: Record, D: Disk, W: Write>(alloc: Global, disk: D, writer: &mut 
     ensures cleared { EndsAs
         (D.keeps result.0 → Replaces R.form D.states (λ _ behind. behind ≡ []) disk result.0)
         (IsWorkFault R.form D.keeps D.states D.faults (IsClearFault R.form D.keeps D.states D.faults) disk result.0) result.1 }
+    ensures written { EndsAs (HasWorked R.form D.keeps D.states D.faults (IsCleared R.form D.keeps D.states D.faults) disk result.0) (λ _. Unit {0}) result.1 }
     ensures model { D.keeps result.0 → D.keeps disk }
     ensures writes { WritesText (W.contents writer.old) (W.contents writer.new) ok_line result.1 }
 {

@@ -5,7 +5,7 @@ ghost use Rattle.pen_core.specs.Refusals.{change_lines, one_run};
 ghost use Rattle.vault_core.specs.Commands.{IsCommand, Stands, changed_frame};
 ghost use Rattle.vault_core.specs.Touched.{IsTouched};
 ghost use Rattle.vault_core.specs.Vault.{list_of};
-ghost use Rattle.files_core.specs.Changing.{Replaces, IsWorkFault, IsSetFault};
+ghost use Rattle.files_core.specs.Changing.{HasWorked, IsSet, IsSetFault, IsWorkFault, Replaces};
 ghost use Rattle.files_core.specs.Ended.{EndsAs, WritesText};
 ghost use Rattle.files_core.specs.Given.{given};
 ghost use Rattle.files_core.specs.Texts.{ok_line};
@@ -74,6 +74,7 @@ pub fn set<R: Record, D: Disk, W: Write, E: Threads + Sync>(
     ensures set { EndsAs
         (D.keeps result.0 → Replaces R.form D.states (IsTouched (given asked.now.start asked.now.records.items) (one_run asked.now.start (length asked.now.records.items))) disk result.0)
         (IsWorkFault R.form D.keeps D.states D.faults (IsSetFault R.form D.keeps D.states D.faults asked.now.start asked.now.records.items) disk result.0) result.1 }
+    ensures written { EndsAs (HasWorked R.form D.keeps D.states D.faults (IsSet R.form D.keeps D.states D.faults asked.now.start asked.now.records.items) disk result.0) (λ _. Unit {0}) result.1 }
     ensures model { D.keeps result.0 → D.keeps disk }
     ensures writes { WritesText (W.contents writer.old) (W.contents writer.new) ok_line result.1 }
 {

@@ -1,12 +1,13 @@
-use Rattle.std.proofs.Common.{List, ℕ, ◌+◌, sym, subst, ap, ◌∙◌}
+use Rattle.std.proofs.Common.{List, ℕ, ◌+◌, refl, sym, subst, ap, ◌∙◌}
 use Rattle.disk_core.specs.Moments.{LeavesOnly}
 use Rattle.pen_core.specs.Opening.{IsOpenRefusal, failed_openings}
 use Rattle.pen_core.proofs.Pieces.{bytes_stay}
 use Rattle.vault_core.specs.Commands.{failed}
 use Rattle.vault_core.specs.Vault.{MayHold}
+use Rattle.files_core.specs.Folding.{failed_folding}
 use Rattle.files_core.specs.Opened.{IsOpenedOn}
 use Rattle.files_core.specs.Texts.{folded_line}
-use Rattle.files_core.proofs.Opened.{told_answer, told_ends, opened_again}
+use Rattle.files_core.proofs.Opened.{told_answer, told_counts, told_ends, opened_again}
 use Rattle.files_core.proofs.Folded.{stays_by}
 use Rattle.files_core.proofs.folding.fold.Goals as goal
 
@@ -62,3 +63,20 @@ returns-in-Err-fold_vault-clause-stays g c =
           stays_by g.R.Record.form g.D.Disk.keeps g.D.Disk.states c.args.disk c.scan_disk.new.disk c.into_disk-in-Err-fold_vault.result c.in-Ok-open.vault (g.met.D.Disk.reads_an_image c.args.disk (c.scan_disk.ensures.model (e.model before))) (c.scan_disk.ensures.only_syncs (e.model before)) opened before
           (subst (λ d. LeavesOnly (g.D.Disk.states c.in-Ok-open.vault.pen.disk) (g.D.Disk.states d) (MayHold g.R.Record.form c.in-Ok-open.vault)) (sym c.into_disk-in-Err-fold_vault.ensures.disk) (c.fold_vault.ensures.images own));
     }
+
+pub returns-in-Ok-fold_vault-clause-none_live : goal.returns-in-Ok-fold_vault-clause-none_live
+returns-in-Ok-fold_vault-clause-none_live g c = told_ends _ _ _ _ c.told.ensures (record {
+  pen = c.fold_vault.new.vault.pen;
+  disk_is = sym c.into_disk.ensures.disk;
+  folded = c.in-Ok-fold_vault.ensures.folded c.in-Ok-open.ensures.rests.no_job;
+  kept = c.into_disk.ensures.kept;
+})
+
+pub returns-in-Ok-fold_vault-clause-faults : goal.returns-in-Ok-fold_vault-clause-faults
+returns-in-Ok-fold_vault-clause-faults g c = told_counts g.D.Disk.faults failed_folding _ _ _ _ refl refl c.told.ensures (ap g.D.Disk.faults c.into_disk.ensures.disk ∙ c.in-Ok-fold_vault.ensures.faults ∙ c.in-Ok-open.ensures.faults ∙ c.in-Ok.ensures.faults)
+
+pub returns-in-Err-fold_vault-clause-faults : goal.returns-in-Err-fold_vault-clause-faults
+returns-in-Err-fold_vault-clause-faults g c = ap g.D.Disk.faults c.into_disk-in-Err-fold_vault.ensures.disk ∙ c.in-Err-fold_vault.ensures.faults ∙ ap (λ n. n + failed c.in-Err-fold_vault.fault) (c.in-Ok-open.ensures.faults ∙ c.in-Ok.ensures.faults)
+
+pub returns-in-Err-open-clause-faults : goal.returns-in-Err-open-clause-faults
+returns-in-Err-open-clause-faults g c = c.in-Err-open.ensures.faults ∙ ap (λ n. n + failed_openings c.in-Err-open.fault) c.in-Ok.ensures.faults

@@ -4,7 +4,7 @@ use Rattle.disk_core.specs.State.{now, IsImage}
 use Rattle.disk_core.specs.Moments.{LeavesOnly}
 use Rattle.disk_core.proofs.JoinedMoments.{LeavesOnly-start}
 use Rattle.vault_core.specs.Vault.{MayHold}
-use Rattle.files_core.proofs.Folded.{same_disk, began_images}
+use Rattle.files_core.proofs.Folded.{same_disk, began_images, both_ok, folds_all}
 use Rattle.files_core.proofs.folding.fold_vault.Goals as goal
 
 pub returns-in_err-begin_fold-clause-images : goal.returns-in_err-begin_fold-clause-images
@@ -21,3 +21,6 @@ returns-clause-images g c = λ model. began_images g.R.Record.form g.D.Disk.keep
 
 pub returns-clause-refused : goal.returns-clause-refused
 returns-clause-refused g c = MatchResult-weaker c.settle.result c.settle.ensures.refused (λ _ x. x) (λ fault why. inr (c.begin_fold.new.self.pen, same_disk _ _ _ c.in_ok-begin_fold.ensures.begun, why))
+
+pub returns-clause-folded : goal.returns-clause-folded
+returns-clause-folded g c = λ no_job. both_ok c.settle.result c.settle.ensures.idle c.settle.ensures.file (λ idle stands. folds_all _ c.args.vault.now.pen c.begin_fold.new.self.pen c.settle.new.self.pen _ no_job c.in_ok-begin_fold.ensures.begun idle stands)

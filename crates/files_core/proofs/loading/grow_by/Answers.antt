@@ -1,22 +1,41 @@
-use Rattle.std.proofs.Common.{ℕ, ◌<◌, ◌≤◌, length, map, inr, refl, sym, subst}
+use Rattle.std.proofs.Common.{ℕ, ◌<◌, ◌≤◌, length, map, inl, inr, refl, sym, ap, subst, ◌∙◌}
 use Rattle.disk_core.specs.Moments.{LeavesOnly}
 use Rattle.vault_core.specs.Crewing.{HasCrewed, OpensToGrown}
+use Rattle.vault_core.specs.Gathering.{AreOf}
 use Rattle.vault_core.specs.Vault.{list_of}
 use Rattle.files_core.specs.Dealt.{count_for, dealt}
 use Rattle.files_core.specs.Loading.{IsFirstStop}
-use Rattle.files_core.proofs.Crewed.{crewed_as, stopped_as, are_dealt, stand_behind, size_is, all_made}
+use Rattle.files_core.proofs.Crewed.{crewed_as, same_room, share_as, stopped_as, are_dealt, stand_behind, size_is, all_made}
 use Rattle.files_core.proofs.loading.grow_by.Goals as goal
 
 pub returns-in-Err-Gather-clause-stopped : goal.returns-in-Err-Gather-clause-stopped
 returns-in-Err-Gather-clause-stopped g c =
     let left = c.in-Err-Gather.gathering in
     let back = rw c.in-Err-Gather.field-0-is at c.in-Err-Gather.ensures.refused in
+    let s = c.in-Some.ensures in
     inr (
       left.flusher.pass.entries,
+      record {
+        live = left.live;
+        seats = left.seats.items;
+        flusher = left.flusher;
+        room_is = back.1 ∙ same_room _ _ _ _ s.1 s.0;
+        as_many = back.3 ∙ s.0;
+        parts = subst (λ d. AreOf (g.D.Disk.keeps d) left.live left.seats.items left.flusher) (sym c.into_parts-disk.ensures.disk) back.5;
+        disk_is = sym c.into_parts-disk.ensures.disk;
+        made_are = refl;
+        why = back.6;
+      },
       λ model.
           let own = subst g.D.Disk.keeps c.into_parts-disk.ensures.disk model in
           (back.4 own, subst (λ d. LeavesOnly (g.D.Disk.states c.args.vault.pen.disk) (g.D.Disk.states d) (OpensToGrown g.R.Record.form (list_of c.args.vault) left.flusher.pass.entries)) (sym c.into_parts-disk.ensures.disk) (back.7 own)),
     )
+
+pub returns-in-Err-Share-clause-stopped : goal.returns-in-Err-Share-clause-stopped
+returns-in-Err-Share-clause-stopped g c =
+    let back = rw c.in-Err-Share.field-0-is at c.in-Err-Share.ensures.refused in
+    let s = c.in-Some.ensures in
+    inl (c.into_disk-in-Err-Share.ensures.disk ∙ ap (λ v. v.pen.disk) back.0, inr (share_as {R = g.row.R.Denot} {D = g.row.D.Denot} c.args.vault _ _ _ _ c.in-Err-Share.fault s.1 s.0 back.1))
 
 pub returns-in-None-clause-grown : goal.returns-in-None-clause-grown
 returns-in-None-clause-grown g c =

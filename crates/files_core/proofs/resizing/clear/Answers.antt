@@ -32,3 +32,16 @@ returns-in-Err-clear-clause-cleared g c =
         list = c.in-Err-clear.ensures.list;
       },
     )
+
+pub returns-in-Ok-clear-clause-written : goal.returns-in-Ok-clear-clause-written
+returns-in-Ok-clear-clause-written g c =
+    let e = c.in-Ok.ensures in
+    let r = c.in-Ok-clear.ensures in
+    told_ends _ _ _ _ c.told.ensures (record {
+      before = c.in-Ok.vault;
+      after = c.clear.new.self;
+      opened = record { rests = e.rests; opened = e.opened; sure = e.sure; only_syncs = e.only_syncs; faults_same = e.faults; model = e.model };
+      disk_is = sym c.into_disk.ensures.disk;
+      kept = c.into_disk.ensures.kept;
+      done = record { list = r.list; some = r.command; none = λ none. (r.nothing none).0 };
+    })

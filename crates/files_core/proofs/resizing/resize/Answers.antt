@@ -34,3 +34,16 @@ returns-in-Err-resize-clause-resized g c =
         other = λ same. not_broken g.R.Record.form g.D.Disk.keeps g.D.Disk.states g.D.Disk.faults _ v _ opened (c.in-Err-resize.ensures.nothing same).1;
       },
     )
+
+pub returns-in-Ok-resize-clause-written : goal.returns-in-Ok-resize-clause-written
+returns-in-Ok-resize-clause-written g c =
+    let e = c.in-Ok.ensures in
+    let r = c.in-Ok-resize.ensures in
+    told_ends _ _ _ _ c.told.ensures (record {
+      before = c.in-Ok.vault;
+      after = c.resize.new.self;
+      opened = record { rests = e.rests; opened = e.opened; sure = e.sure; only_syncs = e.only_syncs; faults_same = e.faults; model = e.model };
+      disk_is = sym c.into_disk.ensures.disk;
+      kept = c.into_disk.ensures.kept;
+      done = record { list = r.list; up = r.up; down = r.down; same = λ same. (r.nothing same).0 };
+    })

@@ -1,8 +1,6 @@
-use Rattle.std.proofs.Common.{◌≡◌, ◌++◌, [], length, take, sym, ap, subst, ◌∙◌}
+use Rattle.std.proofs.Common.{ap, subst, ◌∙◌}
 use Rattle.std.specs.Prelude.{IfOk, IfErr}
-use Rattle.std.proofs.lemmas.List.{append-nil, take_all}
 use Rattle.disk_core.specs.State.{now}
-use Rattle.disk_core.specs.Calls.{bytes_of}
 use Rattle.segment_core.specs.Scanned.{IsScanOf}
 use Rattle.pen_core.specs.Opening.{IsOpenRefusal}
 use Rattle.pen_core.proofs.Births.{stays_only}

@@ -1,4 +1,3 @@
-use Rattle.disk_core.specs.State.{now}
 use Rattle.pen_core.proofs.Births.{stays_only}
 use Rattle.pen_core.proofs.Pieces.{reads_behind}
 use Rattle.files_core.proofs.Fronts.{read_twice, sound_whole, refused_whole, cut_at, sound_cut, refused_cut}

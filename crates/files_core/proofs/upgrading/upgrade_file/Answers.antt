@@ -1,6 +1,7 @@
 use Rattle.std.proofs.Common.{sym, refl, ap, arith}
 use Rattle.files_core.specs.Texts.{upgraded_line}
-use Rattle.files_core.proofs.Opened.{told_answer, told_ends}
+use Rattle.files_core.specs.Upgraded.{failed_upgrading}
+use Rattle.files_core.proofs.Opened.{told_answer, told_counts, told_ends}
 use Rattle.files_core.proofs.upgrading.upgrade_file.Goals as goal
 
 pub upgrade-requires-after_bounds : goal.upgrade-requires-after_bounds
@@ -30,3 +31,11 @@ returns-in-Ok-clause-writes g c = told_answer _ _ _ _ _ _ c.told.ensures c.write
   disk_is = sym c.into_disk.ensures.disk;
   told = ap upgraded_line c.len.ensures.is;
 })
+
+pub returns-in-Ok-clause-old_calls : goal.returns-in-Ok-clause-old_calls
+returns-in-Ok-clause-old_calls g c =
+    let calls = c.in-Ok.ensures.old_calls in
+    (calls.0, calls.1, told_ends _ _ _ _ c.told.ensures calls.2)
+
+pub returns-in-Ok-clause-old_faults : goal.returns-in-Ok-clause-old_faults
+returns-in-Ok-clause-old_faults g c = told_counts g.D.Disk.faults failed_upgrading _ _ _ _ refl refl c.told.ensures c.in-Ok.ensures.old_faults

@@ -1,0 +1,5 @@
+use Rattle.std.proofs.Common.{◌≤◌, ◌<◌}
+use Rattle.files_core.proofs.gathering.first_blocks.Given as goal
+
+abbrev pub invariant-loop-k : goal.invariant-loop-k
+invariant-loop-k l = (l.whole ≤ l.k) × (l.lines ≤ l.k) × (l.held < l.size)
