@@ -21,10 +21,10 @@ use Rattle.files_core.specs.declared.fault.FileFault.TheVariants.{Word, Input, O
 use Rattle.files_core.specs.Opened.{IsOpenedOn, LeavesBeforeOr}
 use Rattle.files_core.specs.Texts.{folded_line}
 
--- the text tells how many changes are live in the file that the bytes are
-pub record IsFolded {R : Type 0} (form : Encoding R) (bytes text : List ℕ) : Type 0 where
+-- the text tells how many changes a scan finds live: of the bytes, where these are known
+pub record IsFolded {R : Type 0} (form : Encoding R) (known : Type 0) (bytes text : List ℕ) : Type 0 where
   pub scanned : Scanned R
-  pub scan : IsScanOf form bytes scanned
+  pub scan : known → IsScanOf form bytes scanned
   pub told : text ≡ folded_line (scanned.changes - scanned.folded)
 
 -- why a vault wasn't folded: the fold wasn't begun, and nothing has changed, or it was, on the same disk, and a call of that failed

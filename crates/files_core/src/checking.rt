@@ -42,7 +42,7 @@ fn write_checked<R, W: Write>(writer: &mut W, scanned: &Scanned<R>) -> io::Resul
 /// `Open`, with the file's first fault.
 pub fn check<R: Record, D: Disk, W: Write>(alloc: Global, disk: D, writer: &mut W) -> (D, Ended)
     ensures reads { OnlyReads R.form D.keeps D.states D.faults disk result.0 result.1 }
-    ensures writes { Writes (W.contents writer.old) (W.contents writer.new) (λ text. D.keeps result.0 → IsChecked R.form (bytes_of (D.states disk)) text) result.1 }
+    ensures writes { Writes (W.contents writer.old) (W.contents writer.new) (IsChecked R.form (D.keeps result.0) (bytes_of (D.states disk))) result.1 }
 {
     let mut disk = disk;
     match scan_disk::<R, D>(alloc, &mut disk) {

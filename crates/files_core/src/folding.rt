@@ -55,7 +55,7 @@ pub fn fold<R: Record, D: Disk, W: Write>(alloc: Global, disk: D, writer: &mut W
     ensures none_live { EndsAs (NoneLive D.keeps D.states result.0) (λ _. Unit {0}) result.1 }
     ensures faults { D.faults result.0 ≡ D.faults disk + failed_folding result.1 }
     ensures model { D.keeps result.0 → D.keeps disk }
-    ensures writes { Writes (W.contents writer.old) (W.contents writer.new) (λ text. D.keeps result.0 → IsFolded R.form (bytes_of (D.states disk)) text) result.1 }
+    ensures writes { Writes (W.contents writer.old) (W.contents writer.new) (IsFolded R.form (D.keeps result.0) (bytes_of (D.states disk))) result.1 }
 {
     let mut disk = disk;
     let live = match scan_disk::<R, D>(alloc, &mut disk) {

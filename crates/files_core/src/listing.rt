@@ -88,7 +88,7 @@ pub fn list<R: TextRecord, D: Disk, W: Write, P: Progress>(
     writer: &mut W,
 ) -> (D, Ended)
     ensures reads { OnlyReads R.form D.keeps D.states D.faults disk result.0 result.1 }
-    ensures writes { Writes (W.contents writer.old) (W.contents writer.new) (λ text. D.keeps result.0 → IsListed R.form R.spelling.text_of window.now (bytes_of (D.states disk)) text) result.1 }
+    ensures writes { Writes (W.contents writer.old) (W.contents writer.new) (IsListed R.form R.spelling.text_of window.now (D.keeps result.0) (bytes_of (D.states disk))) result.1 }
 {
     let vault = match Vault::<R, D>::open(alloc, disk) {
         Ok(vault) => vault,

@@ -9,7 +9,7 @@ ghost use Rattle.vault_core.specs.Search.{IsFirst};
 ghost use Rattle.files_core.specs.Ended.{Writes};
 ghost use Rattle.files_core.specs.Opened.{OnlyReads};
 ghost use Rattle.files_core.specs.Searching.{IsCounted, IsFound};
-ghost use Rattle.files_core.specs.Texts.{number_line};
+ghost use Rattle.files_core.specs.Texts.{number_line, found_line};
 
 use crate::ended::Ended;
 use crate::fault::FileFault;
@@ -29,6 +29,16 @@ fn write_number_line<W: Write>(writer: &mut W, n: u64) -> io::Result<()>
     write_line(b"", writer)
 }
 
+/// Writes a position, or that there is none.
+fn write_found<W: Write>(writer: &mut W, found: Option<u64>) -> io::Result<()>
+    ensures { OnOk result (Appends (W.contents writer.old) (W.contents writer.new) (found_line found)) }
+{
+    match found {
+        Some(position) => write_number_line(writer, position),
+        None => write_line(b"none", writer),
+    }
+}
+
 /// Writes how many records of the file's vector equal this one. Refused: `Open`.
 pub fn count<R: TextRecord, D: Disk, W: Write, E: Threads + Sync>(
     rt: &E,
@@ -38,7 +48,7 @@ pub fn count<R: TextRecord, D: Disk, W: Write, E: Threads + Sync>(
     writer: &mut W,
 ) -> (D, Ended)
     ensures reads { OnlyReads R.form D.keeps D.states D.faults disk result.0 result.1 }
-    ensures writes { Writes (W.contents writer.old) (W.contents writer.new) (λ text. D.keeps result.0 → IsCounted R.form R.Eq.eq wanted (bytes_of (D.states disk)) text) result.1 }
+    ensures writes { Writes (W.contents writer.old) (W.contents writer.new) (IsCounted R.form R.Eq.eq wanted (D.keeps result.0) (bytes_of (D.states disk))) result.1 }
 {
     let vault = match Vault::<R, D>::open(alloc, disk) {
         Ok(vault) => vault,
@@ -58,15 +68,13 @@ pub fn find<R: TextRecord, D: Disk, W: Write, E: Threads + Sync>(
     writer: &mut W,
 ) -> (D, Ended)
     ensures reads { OnlyReads R.form D.keeps D.states D.faults disk result.0 result.1 }
-    ensures writes { Writes (W.contents writer.old) (W.contents writer.new) (λ text. D.keeps result.0 → IsFound R.form R.Eq.eq wanted (bytes_of (D.states disk)) text) result.1 }
+    ensures writes { Writes (W.contents writer.old) (W.contents writer.new) (IsFound R.form R.Eq.eq wanted (D.keeps result.0) (bytes_of (D.states disk))) result.1 }
 {
     let vault = match Vault::<R, D>::open(alloc, disk) {
         Ok(vault) => vault,
         Err((disk, fault)) => return (disk, Ended::Refused(FileFault::Open(fault))),
     };
-    let written = match vault.find_first(rt, &Equals { record: wanted }) {
-        Some(position) => write_number_line(writer, position),
-        None => write_line(b"none", writer),
-    };
+    let found = vault.find_first(rt, &Equals { record: wanted });
+    let written = write_found(writer, found);
     (vault.into_disk(), Ended::told(written))
 }

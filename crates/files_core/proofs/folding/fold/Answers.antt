@@ -37,9 +37,9 @@ returns-in-Ok-fold_vault-clause-stays g c =
     (subst (λ d. LeavesOnly (g.D.Disk.states c.in-Ok-open.vault.pen.disk) (g.D.Disk.states d) (MayHold g.R.Record.form c.in-Ok-open.vault)) (sym c.into_disk.ensures.disk) (c.fold_vault.ensures.images own)))
 
 pub returns-in-Ok-fold_vault-clause-writes : goal.returns-in-Ok-fold_vault-clause-writes
-returns-in-Ok-fold_vault-clause-writes g c = told_answer _ _ _ _ _ _ c.told.ensures c.write_folded.ensures (λ model. record {
+returns-in-Ok-fold_vault-clause-writes g c = told_answer _ _ _ _ _ _ c.told.ensures c.write_folded.ensures (record {
   scanned = c.in-Ok.scanned;
-  scan = c.in-Ok.ensures.found (c.in-Ok-open.ensures.model (c.fold_vault.ensures.model (subst g.D.Disk.keeps c.into_disk.ensures.disk model)));
+  scan = λ model. c.in-Ok.ensures.found (c.in-Ok-open.ensures.model (c.fold_vault.ensures.model (subst g.D.Disk.keeps c.into_disk.ensures.disk model)));
   told = ap folded_line c.live_changes-live.ensures;
 })
 
