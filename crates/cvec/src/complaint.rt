@@ -125,8 +125,17 @@ fn write_word<W: fmt::Write>(
 fn stands_after_input(task: FileTask<'_>) -> &'static str {
     match task {
         FileTask::Append(_) => "it and the lines behind it weren't grown",
-        FileTask::Serve(_) => "what its clients were told is settled stands",
+        FileTask::Serve(_) => "no client was served",
         _ => "no file was opened, and nothing was grown",
+    }
+}
+
+/// What there is no memory for.
+fn no_memory(task: FileTask<'_>) -> &'static str {
+    match task {
+        FileTask::Serve(_) =>
+            "there is not enough memory, or the system starts no thread for each client",
+        _ => "there is not enough memory for it",
     }
 }
 
@@ -175,7 +184,7 @@ fn write_input<W: fmt::Write>(
                 INPUT_LIMIT
             )
         }
-        Refusal::Memory => write!(f, "there is not enough memory for it; {stands}"),
+        Refusal::Memory => write!(f, "{}; {stands}", no_memory(words.task)),
         Refusal::Scan(_) | Refusal::NotHex => write!(f, "the input is refused; {stands}"),
     }
 }
@@ -435,10 +444,7 @@ fn write_of_file<W: fmt::Write>(
             write_fault(f, words, *fault)?;
             write!(f, "; the growths of the first {lines} lines stand")?;
             match fault {
-                FileFault::Vault(_) | FileFault::Grower(_) => write!(
-                    f,
-                    ", and maybe some behind them"
-                ),
+                FileFault::Vault(_) => write!(f, ", and maybe some behind them"),
                 _ => Ok(()),
             }
         }

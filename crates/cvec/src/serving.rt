@@ -92,7 +92,7 @@ pub fn fault_of(fault: ServeFault) -> FileFault {
         ServeFault::Flush(FlushFault::Strayed(number)) => FileFault::Vault(VaultFault::Unsettled(
             number,
         )),
-        ServeFault::Memory => FileFault::Input(Refusal::Memory),
+        ServeFault::Thread => FileFault::Input(Refusal::Memory),
     }
 }
 
