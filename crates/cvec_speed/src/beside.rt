@@ -1,17 +1,16 @@
 //! One thread grows a vector while others sum it.
 
-ghost use Rattle.std.specs.Prelude.{◌<◌, IfOk};
-ghost use Rattle.book_core.specs.Lists.{IsSeatOf};
+ghost use Rattle.std.specs.Prelude.{◌<◌};
 ghost use Rattle.book_core.specs.Beginning.{AreNewSeats};
 
+use crate::barrier::{Barrier, Span};
 use crate::fault::SpeedFault;
 use crate::figure::Figure;
-use crate::gate::{Gate, Span};
 use crate::mix::mixed;
-use crate::phase::{begin, put_blocks, take_seat};
-use crate::reading::{Total, total_of};
+use crate::phase::{Seated, begin, seat_all};
+use crate::reading::Total;
 use book_core::{Live, Seat};
-use std::alloc::{AllocError, Global};
+use std::alloc::Global;
 use std::sync::Wait;
 use std::sync::atomic::{AtomicBool, Ordering};
 use std::thread;
@@ -37,17 +36,34 @@ pub struct BesideSizes {
 #[derive(Drop)]
 struct Course<'a> {
     block: &'a [u64],
+    /// How many growths there are at most.
+    growths: u64,
     most: Duration,
-    gate: Gate,
+    barrier: Barrier,
     /// Whether the grower has ended.
     ended: AtomicBool,
+}
+
+impl Course<'_> {
+    /// Whether that begin is longer ago than all may take.
+    fn is_over<E: Clock>(&self, rt: &E, start: Instant) -> Result<bool, SpeedFault> {
+        Ok(start.elapsed(rt)? > self.most)
+    }
+
+    /// Whether there is nothing more to sum.
+    fn has_ended<E: Clock>(&self, rt: &E, start: Instant) -> Result<bool, SpeedFault> {
+        if self.ended.load(Ordering::SeqCst) {
+            return Ok(true);
+        }
+        self.is_over(rt, start)
+    }
 }
 
 /// What one thread does.
 #[derive(Clone, Copy)]
 enum Task {
-    /// Makes so many growths.
-    Grow(u64),
+    /// Makes growths.
+    Grow,
     /// Sums all that it knows, again and again.
     Sum,
 }
@@ -61,59 +77,20 @@ struct Work {
     span: Span,
 }
 
-/// One thread, with its seat.
-#[derive(Drop)]
-struct Worker<'a> {
-    live: &'a Live<u64>,
-    seat: Seat<u64>,
-    task: Task,
-    ghost of: { IsSeatOf live.now seat },
-}
-
-impl<'a> Worker<'a> {
-    /// Does its task once all threads are there.
-    fn run<E: Wait + Clock>(
-        self,
-        rt: &E,
-        alloc: Global,
-        course: &Course,
-    ) -> Result<Work, SpeedFault> {
-        let Worker { live, seat, task } = self;
-        let came = course.gate.pass(rt)?;
-        let start = Instant::now(rt)?;
-        let records = match task {
-            Task::Grow(growths) => grow_on(rt, alloc, live, seat, course, growths)?,
-            Task::Sum => sum_on(rt, live, seat, course)?,
-        };
-        let done = Instant::now(rt)?;
-        Ok(Work {
-            task,
-            records,
-            took: done.duration_since(start),
-            span: Span { came, done },
-        })
-    }
-}
-
-/// Makes so many growths, or as many as it can in the time, then tells the others that it has ended. Answers how
-/// many records it grew.
+/// Makes growths, as many as it can in the time, then tells the others that it has ended. Answers how many records it
+/// grew.
 fn grow_on<E: Wait + Clock>(
     rt: &E,
     alloc: Global,
-    live: &Live<u64>,
-    seat: Seat<u64>,
+    own: &mut Seated,
     course: &Course,
-    growths: u64,
-) -> Result<u64, SpeedFault>
-    requires { IsSeatOf live.now seat }
-{
-    let mut seat = seat;
-    let start = Instant::now(rt)?;
+    start: Instant,
+) -> Result<u64, SpeedFault> {
     let mut made: u64 = 0;
-    for _ in 0..growths {
-        put_blocks(rt, alloc, live, &mut seat, course.block, 1)?;
+    for _ in 0..course.growths {
+        own.put(rt, alloc, course.block)?;
         made = made.wrapping_add(1);
-        if made % BETWEEN_LOOKS == 1 && start.elapsed(rt)? > course.most {
+        if made % BETWEEN_LOOKS == 1 && course.is_over(rt, start)? {
             break;
         }
     }
@@ -121,53 +98,70 @@ fn grow_on<E: Wait + Clock>(
     Ok(made.wrapping_mul(course.block.len() as u64))
 }
 
+/// Sums all that there is, and compares it. Answers how many records it summed.
+fn sum_once(own: &mut Seated, block: &[u64]) -> Result<u64, SpeedFault> {
+    own.look()?;
+    let total = own.total();
+    total.check(Total::of_copies(block, own.piece_count()))?;
+    Ok(total.count)
+}
+
 /// Sums all that there is, again and again, until the grower has ended or the time is over. Answers how many records
 /// it summed.
 fn sum_on<E: Wait + Clock>(
     rt: &E,
-    live: &Live<u64>,
-    seat: Seat<u64>,
+    own: &mut Seated,
     course: &Course,
-) -> Result<u64, SpeedFault>
-    requires { IsSeatOf live.now seat }
-{
-    let mut seat = seat;
-    let start = Instant::now(rt)?;
+    start: Instant,
+) -> Result<u64, SpeedFault> {
     let mut records: u64 = 0;
     for _ in rt.forever() {
-        if course.ended.load(Ordering::SeqCst) || start.elapsed(rt)? > course.most {
+        if course.has_ended(rt, start)? {
             break;
         }
-        live.look(&mut seat)?;
-        let total = total_of(live, &mut seat);
-        if total != Total::of_copies(course.block, live.piece_count(&seat)) {
-            return Err(SpeedFault::Content);
-        }
-        records = records.wrapping_add(total.count);
+        records = records.wrapping_add(sum_once(own, course.block)?);
     }
     Ok(records)
 }
 
-/// A grower, and a reader for each further seat.
-fn workers_of<'a>(
+/// Does a task from that moment on.
+fn work_on<E: Wait + Clock>(
+    rt: &E,
     alloc: Global,
-    live: &'a Live<u64>,
-    seats: Vec<Seat<u64>>,
-    growths: u64,
-) -> Result<Vec<Worker<'a>>, AllocError>
-    requires { AreNewSeats live.now.directory live.now.mark seats.items }
-{
-    let mut seats = seats;
-    let count = seats.len();
-    let mut workers = Vec::with_capacity(alloc, count)?;
-    let mut task = Task::Grow(growths);
-    for _ in 0..count {
-        if let Some(seat) = take_seat(live, &mut seats) {
-            workers.push(Worker { live, seat, task })?;
-            task = Task::Sum;
-        }
+    own: &mut Seated,
+    task: Task,
+    course: &Course,
+    start: Instant,
+) -> Result<u64, SpeedFault> {
+    match task {
+        Task::Grow => grow_on(rt, alloc, own, course, start),
+        Task::Sum => sum_on(rt, own, course, start),
     }
-    Ok(workers)
+}
+
+/// What one thread does once all threads are there: that of the first seat grows, and the others sum.
+fn work_as<E: Wait + Clock>(
+    rt: &E,
+    alloc: Global,
+    own: Seated,
+    course: &Course,
+) -> Result<Work, SpeedFault> {
+    let mut own = own;
+    let task = if own.number() == 0 {
+        Task::Grow
+    } else {
+        Task::Sum
+    };
+    let came = course.barrier.pass(rt)?;
+    let start = Instant::now(rt)?;
+    let records = work_on(rt, alloc, &mut own, task, course, start)?;
+    let span = Span::since(rt, came)?;
+    Ok(Work {
+        task,
+        records,
+        took: span.done.duration_since(start),
+        span,
+    })
 }
 
 /// What all threads did: how many records the grower grew, in how much time of its own, and how many the readers
@@ -191,7 +185,7 @@ impl Done {
     fn with(self, work: Work) -> Done {
         let span = Some(work.span.joined(self.span));
         match work.task {
-            Task::Grow(_) => Done {
+            Task::Grow => Done {
                 grown: work.records,
                 growing: work.took,
                 span,
@@ -215,45 +209,51 @@ impl Done {
 
     /// What was grown, and what was summed.
     fn figures(self, readers: u16) -> [Figure; 2] {
-        let grown = Figure {
-            work: "beside.grow",
-            threads: readers as u64,
-            n: self.grown,
-            time: self.growing,
-            detail: None,
-        };
-        let summed = Figure {
-            work: "beside.sum",
-            n: self.summed,
-            time: Span::time(self.span),
-            ..grown
-        };
-        [grown, summed]
+        let threads = readers as u64;
+        [
+            Figure::new("beside.grow", threads, self.grown, self.growing),
+            Figure::new("beside.sum", threads, self.summed, Span::time(self.span)),
+        ]
     }
 }
 
-/// A phase with so many growths by copies of the block, and room for so many more; its new seats, one for each
-/// worker; and the seat that made those growths.
-fn begin_filled<E: Wait>(
+/// Runs a thread for each seat, the first of which grows.
+fn run_workers<E: Threads + Wait + Clock + Sync>(
     rt: &E,
     alloc: Global,
+    workers: Vec<Seated>,
     sizes: BesideSizes,
     block: &[u64],
-) -> Result<(Live<u64>, Vec<Seat<u64>>, Seat<u64>), SpeedFault>
-    ensures { IfOk result (λ begun.
-        AreNewSeats begun.0.directory begun.0.mark begun.1.items × IsSeatOf begun.0 begun.2) }
-{
-    let before = sizes.before / sizes.block as u64;
-    let more = sizes.n / sizes.block as u64;
-    let seats = sizes.readers.saturating_add(2);
-    let (live, mut seats) = begin(alloc, before.saturating_add(more), seats)?;
-    let mut seat = take_seat(&live, &mut seats).ok_or(SpeedFault::Memory)?;
-    put_blocks(rt, alloc, &live, &mut seat, block, before)?;
-    Ok((live, seats, seat))
+) -> Result<Done, SpeedFault> {
+    let course = Course {
+        block,
+        growths: sizes.n / sizes.block as u64,
+        most: sizes.most,
+        barrier: Barrier::new(workers.len() as u64),
+        ended: AtomicBool::new(false),
+    };
+    let works = thread::map_vec(rt, workers, &|own: Seated| work_as(rt, alloc, own, &course))?;
+    Done::of_all(works)
 }
 
-/// Runs a worker for each seat, the first of which grows.
-fn run_workers<E: Threads + Wait + Clock + Sync>(
+/// Makes the first growths by the seat, runs the workers, and compares all that was grown.
+fn work_all<E: Threads + Wait + Clock + Sync>(
+    rt: &E,
+    alloc: Global,
+    first: Option<Seated>,
+    workers: Vec<Seated>,
+    sizes: BesideSizes,
+    block: &[u64],
+) -> Result<Done, SpeedFault> {
+    let mut first = first.ok_or(SpeedFault::Memory)?;
+    first.put_blocks(rt, alloc, block, sizes.before / sizes.block as u64)?;
+    let done = run_workers(rt, alloc, workers, sizes, block)?;
+    sum_once(&mut first, block)?;
+    Ok(done)
+}
+
+/// Runs all by the seats: one for each worker, and the last one for the first growths.
+fn work_by<E: Threads + Wait + Clock + Sync>(
     rt: &E,
     alloc: Global,
     live: &Live<u64>,
@@ -263,19 +263,22 @@ fn run_workers<E: Threads + Wait + Clock + Sync>(
 ) -> Result<Done, SpeedFault>
     requires { AreNewSeats live.now.directory live.now.mark seats.items }
 {
-    let course = Course {
-        block,
-        most: sizes.most,
-        gate: Gate::new(seats.len() as u64),
-        ended: AtomicBool::new(false),
-    };
-    let workers = workers_of(alloc, live, seats, sizes.n / sizes.block as u64)?;
-    let works = thread::map_vec(
-        rt,
-        workers,
-        &|worker: Worker| worker.run(rt, alloc, &course),
-    )?;
-    Done::of_all(works)
+    let mut workers = seat_all(alloc, live, seats)?;
+    let first = workers.pop();
+    work_all(rt, alloc, first, workers, sizes, block)
+}
+
+/// Runs all in a phase of their own.
+fn work_in_phase<E: Threads + Wait + Clock + Sync>(
+    rt: &E,
+    alloc: Global,
+    sizes: BesideSizes,
+    block: &[u64],
+) -> Result<Done, SpeedFault> {
+    let before = sizes.before / sizes.block as u64;
+    let room = before.saturating_add(sizes.n / sizes.block as u64);
+    let (live, seats) = begin(alloc, room, sizes.readers.saturating_add(2))?;
+    work_by(rt, alloc, &live, seats, sizes, block)
 }
 
 /// One thread grows, and others sum all that there is, again and again, until it has ended. Each sum is compared
@@ -286,11 +289,6 @@ pub fn beside<E: Threads + Wait + Clock + Sync>(
     sizes: BesideSizes,
 ) -> Result<Vec<Figure>, SpeedFault> {
     let block = mixed(alloc, 0, sizes.block as usize)?;
-    let (live, seats, mut last) = begin_filled(rt, alloc, sizes, block.as_slice())?;
-    let done = run_workers(rt, alloc, &live, seats, sizes, block.as_slice())?;
-    live.look(&mut last)?;
-    if total_of(&live, &mut last) != Total::of_copies(block.as_slice(), live.piece_count(&last)) {
-        return Err(SpeedFault::Content);
-    }
+    let done = work_in_phase(rt, alloc, sizes, block.as_slice())?;
     Ok(Vec::from_array(alloc, done.figures(sizes.readers))?)
 }

@@ -4,7 +4,7 @@ ghost use Rattle.std.specs.Prelude.{◌≡◌, IfOk};
 
 use crate::fault::SpeedFault;
 use disk_core::Disk;
-use pen_core::{Pen, Ticked};
+use pen_core::Pen;
 use segment_core::Format;
 use std::alloc::Global;
 
@@ -25,12 +25,8 @@ pub fn create<D: Disk + Drop>(alloc: Global, disk: D, format: Format) -> Result<
 pub fn commit<D: Disk>(pen: &mut Pen<D>) -> Result<(), SpeedFault>
     ensures { pen.new.shape ≡ pen.old.shape }
 {
-    for _ in 0..4 {
-        match pen.tick_log() {
-            Ok(Ticked::Done) => return Ok(()),
-            Ok(_) => {}
-            Err(fault) => return Err(SpeedFault::Pen(fault)),
-        }
+    match pen.settle_log() {
+        Ok(()) => Ok(()),
+        Err(fault) => Err(SpeedFault::Pen(fault)),
     }
-    Ok(())
 }

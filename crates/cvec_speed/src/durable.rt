@@ -1,18 +1,16 @@
 //! Threads append blocks to a vector, while one more thread commits them to its file.
 
-ghost use Rattle.std.specs.Prelude.{◌<◌};
-ghost use Rattle.book_core.specs.Beginning.{AreNewSeats};
-
+use crate::barrier::{Barrier, Span};
 use crate::fault::SpeedFault;
 use crate::figure::{Detail, Figure, Waits};
-use crate::gate::{Gate, Span};
-use crate::phase::take_seat;
+use crate::grow::GrowSizes;
+use crate::phase::{Seated, seat_all};
 use crate::pool::Pool;
-use crate::producer::{Course, Pace, Produced, Producer};
+use crate::producer::{Course, Pace, Produced, produce};
 use crate::reading::Total;
-use crate::served::{Served, serve_beside};
+use crate::served::{Committer, Served, serve_beside};
 use crate::store::{make_disk, open_disk, open_pen};
-use book_core::{Live, Seat};
+use book_core::Live;
 use directory_core::GROWTH_LIMIT;
 use disk_core::Disk;
 use std::alloc::{AllocError, AllocGlobal, Global};
@@ -40,11 +38,8 @@ pub enum Mode {
 pub struct DurableSizes<'a> {
     pub dir: &'a str,
     pub mode: Mode,
-    pub threads: u16,
-    pub block: u32,
-    pub n: u64,
+    pub grow: GrowSizes,
     pub most: Duration,
-    ghost some: { (0 < threads) × (0 < block) },
 }
 
 impl DurableSizes<'_> {
@@ -60,7 +55,7 @@ impl DurableSizes<'_> {
         match self.mode {
             Mode::Wait1 => Pace::Rounds(1, self.most),
             Mode::Wait64 => Pace::Rounds(64, self.most),
-            Mode::Flow => Pace::Flow(self.n / self.threads as u64),
+            Mode::Flow => Pace::Flow(self.grow.n / self.grow.threads as u64),
         }
     }
 
@@ -68,58 +63,31 @@ impl DurableSizes<'_> {
     fn room(self) -> u64 {
         match self.pace() {
             Pace::Rounds(_, _) => GROWTH_LIMIT,
-            Pace::Flow(blocks) => blocks.saturating_mul(self.threads as u64),
+            Pace::Flow(blocks) => blocks.saturating_mul(self.grow.threads as u64),
         }
     }
-}
-
-/// A producer for each seat.
-fn producers_of<'a>(
-    alloc: Global,
-    live: &'a Live<u64>,
-    seats: Vec<Seat<u64>>,
-) -> Result<Vec<Producer<'a>>, AllocError>
-    requires { AreNewSeats live.now.directory live.now.mark seats.items }
-{
-    let mut seats = seats;
-    let count = seats.len();
-    let mut producers = Vec::with_capacity(alloc, count)?;
-    for thread in 0..count {
-        if let Some(seat) = take_seat(live, &mut seats) {
-            producers.push(Producer {
-                live,
-                seat,
-                thread: thread as u64,
-            })?;
-        }
-    }
-    Ok(producers)
 }
 
 /// Runs a producer for each seat, each in a thread of its own. `Thread`, and none appends, where one can't be started.
 fn run_producers<E: Threads + Wait + Clock + Sync>(
     rt: &E,
     alloc: Global,
-    live: &Live<u64>,
-    seats: Vec<Seat<u64>>,
+    producers: Vec<Seated>,
     course: &Course,
-) -> Result<Vec<Result<Produced, SpeedFault>>, SpeedFault>
-    requires { AreNewSeats live.now.directory live.now.mark seats.items }
-{
-    let producers = producers_of(alloc, live, seats)?;
+) -> Result<Vec<Result<Produced, SpeedFault>>, SpeedFault> {
     thread::scope(
         thread::scope_env(),
         rt,
         move |scope| -> Result<Vec<Result<Produced, SpeedFault>>, SpeedFault> {
             let mut running = Vec::with_capacity(alloc, producers.len())?;
             let mut produced = Vec::with_capacity(alloc, producers.len())?;
-            for producer in producers {
-                let started = match scope.spawn(move || producer.run(rt, alloc, course)) {
+            for own in producers {
+                let started = match scope.spawn(move || produce(rt, alloc, own, course)) {
                     Ok(thread) => running.push(thread).is_ok(),
                     Err(_) => false,
                 };
                 if !started {
-                    course.gate.give_up();
+                    course.barrier.give_up();
                     return Err(SpeedFault::Thread);
                 }
             }
@@ -139,6 +107,30 @@ struct Outcome {
 }
 
 /// Runs the producers beside who commits, and closes the phase.
+fn run_beside<E: Threads + Wait + Clock + Sync, D: Disk + Send + Drop>(
+    rt: &E,
+    alloc: Global,
+    live: &Live<u64>,
+    producers: Vec<Seated>,
+    committer: Committer<'_, D>,
+    course: &Course,
+) -> Result<Outcome, SpeedFault> {
+    let (produced, ended) = serve_beside(
+        rt,
+        committer,
+        move || -> Result<Vec<Result<Produced, SpeedFault>>, SpeedFault> {
+            let produced = run_producers(rt, alloc, producers, course);
+            live.close(rt);
+            produced
+        },
+    )?;
+    Ok(Outcome {
+        produced: produced?,
+        ended: ended?,
+    })
+}
+
+/// Runs them in the phase.
 fn run_all<E: Threads + Wait + Clock + Sync, D: Disk + Send + Drop>(
     rt: &E,
     alloc: Global,
@@ -150,23 +142,14 @@ fn run_all<E: Threads + Wait + Clock + Sync, D: Disk + Send + Drop>(
         seats,
         flusher,
     } = phase;
-    let shared = &live;
-    let (produced, ended) = serve_beside(
-        rt,
-        shared,
+    let committer = Committer {
+        live: &live,
         flusher,
-        move || -> Result<Vec<Result<Produced, SpeedFault>>, SpeedFault>
-            requires { AreNewSeats shared.now.directory shared.now.mark seats.items }
-        {
-            let produced = run_producers(rt, alloc, shared, seats, course);
-            shared.close(rt);
-            produced
-        },
-    )?;
-    Ok(Outcome {
-        produced: produced?,
-        ended: ended?,
-    })
+    };
+    match seat_all(alloc, &live, seats) {
+        Ok(producers) => run_beside(rt, alloc, &live, producers, committer, course),
+        Err(_) => Err(SpeedFault::Memory),
+    }
 }
 
 /// What all threads did, put together.
@@ -245,10 +228,7 @@ fn check<E: Files<File = File>>(
 ) -> Result<(), SpeedFault> {
     let disk = open_disk(rt, alloc, dir)?;
     let (_pen, records) = open_pen(alloc, disk)?;
-    if Total::NOTHING.with(records.as_slice()) != total {
-        return Err(SpeedFault::Content);
-    }
-    Ok(())
+    Total::NOTHING.with(records.as_slice()).check(total)
 }
 
 /// Appends the blocks to a new file in the folder, and puts together what all threads did.
@@ -259,10 +239,28 @@ fn append<E: Threads + Wait + Clock + Sync + Files<File = File> + AllocGlobal>(
     course: &Course,
 ) -> Result<(Sums, Instant), SpeedFault> {
     let disk = make_disk(rt, alloc, sizes.dir)?;
-    let phase = Served::begin(alloc, disk, sizes.room(), sizes.threads)?;
+    let phase = Served::begin(alloc, disk, sizes.room(), sizes.grow.threads)?;
     let outcome = run_all(rt, alloc, phase, course)?;
     let sums = Sums::of_all(alloc, &course.pool, outcome.produced)?;
     Ok((sums, outcome.ended))
+}
+
+/// The figure of all that the threads did.
+fn figure_of(sizes: DurableSizes, sums: &mut Sums, ended: Instant) -> Figure {
+    let time = sums.time(sizes.mode, ended);
+    let figure = Figure::new(
+        sizes.name(),
+        sizes.grow.threads as u64,
+        sums.total.count,
+        time,
+    );
+    match sums.waits() {
+        Some(waits) => Figure {
+            detail: Some(Detail::Waits(waits)),
+            ..figure
+        },
+        None => figure,
+    }
 }
 
 /// Threads append blocks, and one more commits them by groups of all that is there. Then the file is opened, and its
@@ -273,18 +271,11 @@ pub fn durable<E: Threads + Wait + Clock + Sync + Files<File = File> + AllocGlob
     sizes: DurableSizes,
 ) -> Result<Vec<Figure>, SpeedFault> {
     let course = Course {
-        pool: Pool::new(alloc, sizes.block)?,
-        gate: Gate::new(sizes.threads as u64),
+        pool: Pool::new(alloc, sizes.grow.block)?,
+        barrier: Barrier::new(sizes.grow.threads as u64),
         pace: sizes.pace(),
     };
     let (mut sums, ended) = append(rt, alloc, sizes, &course)?;
     check(rt, alloc, sizes.dir, sums.total)?;
-    let figure = Figure {
-        work: sizes.name(),
-        threads: sizes.threads as u64,
-        n: sums.total.count,
-        time: sums.time(sizes.mode, ended),
-        detail: sums.waits().map(|waits| Detail::Waits(waits)),
-    };
-    Ok(Vec::from_array(alloc, [figure])?)
+    figure_of(sizes, &mut sums, ended).alone(alloc)
 }

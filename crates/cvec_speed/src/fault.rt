@@ -10,7 +10,7 @@ use thiserror::Error;
 use vault_core::VaultFault;
 
 /// Why a work has no figure.
-#[derive(Clone, Copy, Debug, PartialEq, Eq, Error)]
+#[derive(Clone, Copy, Debug, Error)]
 pub enum SpeedFault {
     /// The work makes no growth, or more than one phase has room for.
     #[error("no growth, or more than a phase has room for")]
@@ -79,11 +79,7 @@ impl From<GrowFault> for SpeedFault {
 
 impl From<FreshFault> for SpeedFault {
     fn from(fault: FreshFault) -> SpeedFault {
-        SpeedFault::Grow(match fault {
-            FreshFault::Empty => GrowFault::Empty,
-            FreshFault::TooLarge => GrowFault::TooLarge,
-            FreshFault::Memory => GrowFault::Memory,
-        })
+        SpeedFault::Grow(GrowFault::from(fault))
     }
 }
 

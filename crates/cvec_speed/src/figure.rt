@@ -1,5 +1,7 @@
 //! A figure, as one flat line of JSON.
 
+use crate::fault::SpeedFault;
+use std::alloc::Global;
 use std::fmt;
 use std::time::Duration;
 
@@ -40,6 +42,27 @@ pub struct Figure {
     pub n: u64,
     pub time: Duration,
     pub detail: Option<Detail>,
+}
+
+impl Figure {
+    /// Of so many records that so many threads made or read in that time.
+    pub fn new(work: &'static str, threads: u64, n: u64, time: Duration) -> Figure {
+        Figure {
+            work,
+            threads,
+            n,
+            time,
+            detail: None,
+        }
+    }
+
+    /// The only figure of its work.
+    pub fn alone(self, alloc: Global) -> Result<Vec<Figure>, SpeedFault> {
+        match Vec::from_array(alloc, [self]) {
+            Ok(figures) => Ok(figures),
+            Err(_) => Err(SpeedFault::Memory),
+        }
+    }
 }
 
 /// Ten-thousandths, with a point.

@@ -1,14 +1,18 @@
 //! A fold of a file's live changes.
 
-ghost use Rattle.std.specs.Prelude.{◌<◌};
+ghost use Rattle.std.specs.Prelude.{◌<◌, length};
+ghost use Rattle.std.specs.Int.{w64};
+ghost use Rattle.record_core.specs.Bytes.{unsigned};
+ghost use Rattle.segment_core.specs.Raw.{AreCellsOf};
+ghost use Rattle.pen_core.specs.Opening.{IsAtRest};
 
 use crate::change::{changed, commit_changes};
-use crate::commit::{commit, create};
+use crate::commit::commit;
 use crate::fault::SpeedFault;
 use crate::figure::{Detail, Figure};
 use crate::mix::mix;
 use crate::reading::Total;
-use crate::store::{commit_records, make_disk, open_pen};
+use crate::store::{StoreSizes, make_filled, open_pen};
 use disk_core::{Disk, FileDisk};
 use pen_core::{FoldStage, HomeTicked, Pen};
 use segment_core::Format;
@@ -72,11 +76,28 @@ fn changed_disk<E: Files<File = File> + AllocGlobal>(
     alloc: Global,
     sizes: FoldSizes,
 ) -> Result<FileDisk, SpeedFault> {
-    let disk = make_disk(rt, alloc, sizes.dir)?;
-    let mut pen = create(alloc, disk, Format::Two)?;
-    commit_records(alloc, &mut pen, BLOCK, sizes.positions())?;
+    let unchanged = StoreSizes {
+        dir: sizes.dir,
+        block: BLOCK,
+        n: sizes.positions(),
+    };
+    let mut pen = make_filled(rt, alloc, unchanged, Format::Two)?;
     commit_changes(alloc, &mut pen, sizes.runs(), sizes.run)?;
     Ok(pen.into_disk())
+}
+
+/// Begins a fold of all changes of a file that has these records. How long that took.
+fn time_begin<E: Clock, D: Disk>(
+    rt: &E,
+    pen: &mut Pen<D>,
+    records: &[u64],
+) -> Result<Duration, SpeedFault>
+    requires rests { IsAtRest 8 (length records.now) pen.old }
+    requires cells { D.keeps pen.old.disk → AreCellsOf (unsigned w64) pen.old.vector records.now }
+{
+    let start = Instant::now(rt)?;
+    pen.begin_fold::<u64>(&[records])?;
+    Ok(start.elapsed(rt)?)
 }
 
 /// A pen over the disk's file, with a fold of all its changes in hand, and how long its begin took.
@@ -85,13 +106,8 @@ fn begin_fold<E: Clock, D: Disk + Drop>(
     alloc: Global,
     disk: D,
 ) -> Result<(Pen<D>, Duration), SpeedFault> {
-    let (mut pen, records) = match Pen::open::<u64>(alloc, disk) {
-        Ok(opened) => opened,
-        Err((_, fault)) => return Err(SpeedFault::Open(fault)),
-    };
-    let start = Instant::now(rt)?;
-    pen.begin_fold::<u64>(&[records.as_slice()])?;
-    let time = start.elapsed(rt)?;
+    let (mut pen, records) = open_pen(alloc, disk)?;
+    let time = time_begin(rt, &mut pen, records.as_slice())?;
     Ok((pen, time))
 }
 
@@ -117,10 +133,26 @@ fn end_fold<D: Disk>(pen: &mut Pen<D>) -> Result<(), SpeedFault> {
 /// Opens the file again, and compares the records.
 fn check<D: Disk + Drop>(alloc: Global, disk: D, sizes: FoldSizes) -> Result<(), SpeedFault> {
     let (_pen, records) = open_pen(alloc, disk)?;
-    if Total::NOTHING.with(records.as_slice()) != sizes.total() {
-        return Err(SpeedFault::Content);
-    }
-    Ok(())
+    Total::NOTHING.with(records.as_slice()).check(sizes.total())
+}
+
+/// Ends the fold. How long that took.
+fn time_end<E: Clock, D: Disk>(rt: &E, pen: &mut Pen<D>) -> Result<Duration, SpeedFault> {
+    let start = Instant::now(rt)?;
+    end_fold(pen)?;
+    Ok(start.elapsed(rt)?)
+}
+
+/// Ends the fold, and compares the file's records. How long its end took.
+fn end_and_check<E: Clock, D: Disk + Drop>(
+    rt: &E,
+    alloc: Global,
+    mut pen: Pen<D>,
+    sizes: FoldSizes,
+) -> Result<Duration, SpeedFault> {
+    let time = time_end(rt, &mut pen)?;
+    check(alloc, pen.into_disk(), sizes)?;
+    Ok(time)
 }
 
 /// Makes a file of which every other run of positions is changed, and folds the changes: the begin of the fold, and all
@@ -131,21 +163,15 @@ pub fn fold<E: Files<File = File> + Clock + AllocGlobal>(
     sizes: FoldSizes,
 ) -> Result<Vec<Figure>, SpeedFault> {
     let disk = changed_disk(rt, alloc, sizes)?;
-    let (mut pen, time) = begin_fold(rt, alloc, disk)?;
+    let (pen, time) = begin_fold(rt, alloc, disk)?;
     let begin = Figure {
-        work: "fold.begin",
-        threads: 1,
-        n: sizes.changed(),
-        time,
         detail: Some(Detail::Writes(writes_left(&pen))),
+        ..Figure::new("fold.begin", 1, sizes.changed(), time)
     };
-    let start = Instant::now(rt)?;
-    end_fold(&mut pen)?;
     let homes = Figure {
         work: "fold.homes",
-        time: start.elapsed(rt)?,
+        time: end_and_check(rt, alloc, pen, sizes)?,
         ..begin
     };
-    check(alloc, pen.into_disk(), sizes)?;
     Ok(Vec::from_array(alloc, [begin, homes])?)
 }

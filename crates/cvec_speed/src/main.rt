@@ -3,6 +3,7 @@
 #![tactic(auto)]
 
 mod append;
+mod barrier;
 mod beside;
 mod change;
 mod commit;
@@ -11,7 +12,6 @@ mod durable;
 mod fault;
 mod figure;
 mod fold;
-mod gate;
 mod group;
 mod grow;
 mod memory;
@@ -34,6 +34,7 @@ use crate::beside::beside;
 use crate::crew::crewed;
 use crate::durable::durable;
 use crate::fault::SpeedFault;
+use crate::figure::Figure;
 use crate::fold::fold;
 use crate::grow::grow;
 use crate::memory::memory;
@@ -83,12 +84,12 @@ fn main(rt: HostRuntime) -> io::Result<ExitCode> {
     Ok(ExitCode::from(status))
 }
 
-/// Does the work, and writes its figures, or why there are none.
-fn measure<E: Threads + Wait + Clock + Files<File = File> + AllocGlobal + Print + Eprint + Sync>(
+/// Does the work.
+fn figures_of<E: Threads + Wait + Clock + Files<File = File> + AllocGlobal + Eprint + Sync>(
     rt: &E,
     work: Work,
-) -> io::Result<u8> {
-    let done = match work {
+) -> Result<Vec<Figure>, SpeedFault> {
+    match work {
         Work::Grow(sizes) => grow(rt, rt.alloc(), sizes),
         Work::Append(sizes) => append(rt, rt.alloc(), sizes),
         Work::Beside(sizes) => beside(rt, rt.alloc(), sizes),
@@ -102,12 +103,25 @@ fn measure<E: Threads + Wait + Clock + Files<File = File> + AllocGlobal + Print 
         Work::Crew(sizes) => crewed(rt, rt.alloc(), sizes),
         Work::Waits(sizes) => waits(rt, rt.alloc(), sizes),
         Work::Stress(sizes) => stress(rt, rt.alloc(), sizes),
-    };
-    match done {
+    }
+}
+
+/// Writes each figure in a line.
+fn tell<E: Print>(rt: &E, figures: &[Figure]) -> io::Result<()> {
+    for figure in figures {
+        println!(rt; "{figure}")?;
+    }
+    Ok(())
+}
+
+/// Does the work, and writes its figures, or why there are none.
+fn measure<E: Threads + Wait + Clock + Files<File = File> + AllocGlobal + Print + Eprint + Sync>(
+    rt: &E,
+    work: Work,
+) -> io::Result<u8> {
+    match figures_of(rt, work) {
         Ok(figures) => {
-            for figure in &figures {
-                println!(rt; "{figure}")?;
-            }
+            tell(rt, figures.as_slice())?;
             Ok(0)
         }
         // A phase can't do it, so this program has no such work.

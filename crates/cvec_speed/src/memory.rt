@@ -1,17 +1,18 @@
 //! How much memory the records of a vector take.
 
-ghost use Rattle.book_core.specs.Beginning.{AreNewSeats};
 ghost use Rattle.std.specs.Prelude.{◌<◌};
+ghost use Rattle.book_core.specs.Beginning.{AreNewSeats};
 
 use crate::fault::SpeedFault;
 use crate::figure::{Detail, Figure, MemoryUse};
 use crate::mix::mixed;
-use crate::phase::{begin, put_blocks, put_records, take_seat};
+use crate::phase::{begin, seat_one};
+use book_core::{Live, Seat};
 use std::alloc::{AllocGlobal, Global};
 use std::fs;
 use std::rt::Files;
 use std::sync::Wait;
-use std::time::{Clock, Instant};
+use std::time::{Clock, Duration, Instant};
 
 /// Growths of how many records are made, and about how many records in all.
 #[derive(Clone, Copy)]
@@ -62,35 +63,54 @@ fn per_record(kib: u64, records: u64) -> u64 {
         .unwrap_or(0)
 }
 
+/// Fills the vector by so many copies of the block. How many records it has, what the memory is then, and how long that
+/// took since its begin.
+fn fill_by<E: Wait + Clock + Files + AllocGlobal>(
+    rt: &E,
+    alloc: Global,
+    live: &Live<u64>,
+    seats: Vec<Seat<u64>>,
+    block: &[u64],
+    growths: u64,
+    start: Instant,
+) -> Result<(u64, Resident, Duration), SpeedFault>
+    requires { AreNewSeats live.now.directory live.now.mark seats.items }
+{
+    let mut own = seat_one(live, seats)?;
+    own.put_copies(rt, alloc, block, growths)?;
+    let time = start.elapsed(rt)?;
+    Ok((own.size(), Resident::now(rt)?, time))
+}
+
+/// Fills a new vector.
+fn fill<E: Wait + Clock + Files + AllocGlobal>(
+    rt: &E,
+    alloc: Global,
+    block: &[u64],
+    growths: u64,
+) -> Result<(u64, Resident, Duration), SpeedFault> {
+    let start = Instant::now(rt)?;
+    let (live, seats) = begin(alloc, growths, 1)?;
+    fill_by(rt, alloc, &live, seats, block, growths, start)
+}
+
 /// One thread fills a vector by copies of one block. The process's memory is asked before it and after it.
 pub fn memory<E: Wait + Clock + Files + AllocGlobal>(
     rt: &E,
     alloc: Global,
     sizes: MemorySizes,
 ) -> Result<Vec<Figure>, SpeedFault> {
-    let growths = sizes.n / sizes.block as u64;
     let block = mixed(alloc, 0, sizes.block as usize)?;
     let before = Resident::now(rt)?;
-    let start = Instant::now(rt)?;
-    let (live, mut seats) = begin(alloc, growths, 1)?;
-    let mut seat = take_seat(&live, &mut seats).ok_or(SpeedFault::Memory)?;
-    if let [record] = block.as_slice() {
-        put_records(rt, &live, &mut seat, *record, growths)?;
-    } else {
-        put_blocks(rt, alloc, &live, &mut seat, block.as_slice(), growths)?;
-    }
-    let time = start.elapsed(rt)?;
-    let after = Resident::now(rt)?;
-    let n = live.size(&seat);
-    let figure = Figure {
-        work: "memory",
-        threads: 1,
-        n,
-        time,
-        detail: Some(Detail::Memory(MemoryUse {
-            at_end: per_record(after.own.saturating_sub(before.own), n),
-            highest: per_record(after.highest_own.saturating_sub(before.own), n),
-        })),
+    let growths = sizes.n / sizes.block as u64;
+    let (n, after, time) = fill(rt, alloc, block.as_slice(), growths)?;
+    let memory = MemoryUse {
+        at_end: per_record(after.own.saturating_sub(before.own), n),
+        highest: per_record(after.highest_own.saturating_sub(before.own), n),
     };
-    Ok(Vec::from_array(alloc, [figure])?)
+    Figure {
+        detail: Some(Detail::Memory(memory)),
+        ..Figure::new("memory", 1, n, time)
+    }
+    .alone(alloc)
 }

@@ -4,11 +4,10 @@ ghost use Rattle.std.specs.Prelude.{◌+◌, ◌*◌, ◌%◌, ◌^◌, nat_eq, 
 ghost use Rattle.flush_core.specs.Flusher.{IsFlusherOf};
 ghost use Rattle.book_core.specs.Lists as lists;
 
-use crate::commit::create;
 use crate::fault::SpeedFault;
 use crate::figure::Figure;
 use crate::mix::mix;
-use crate::store::{commit_records, make_disk};
+use crate::store::{StoreSizes, make_filled};
 use block_core::{Fresh, Touch};
 use book_core::{Live, Seat};
 use disk_core::{Disk, FileDisk};
@@ -69,9 +68,12 @@ fn owned_vault<E: Files<File = File> + AllocGlobal>(
     alloc: Global,
     sizes: OwnedSizes,
 ) -> Result<Vault<u64, FileDisk>, SpeedFault> {
-    let disk = make_disk(rt, alloc, sizes.dir)?;
-    let mut pen = create(alloc, disk, Format::Two)?;
-    commit_records(alloc, &mut pen, BLOCK, sizes.n)?;
+    let filled = StoreSizes {
+        dir: sizes.dir,
+        block: BLOCK,
+        n: sizes.n,
+    };
+    let pen = make_filled(rt, alloc, filled, Format::Two)?;
     match Vault::open(alloc, pen.into_disk()) {
         Ok(vault) => Ok(vault),
         Err((_, fault)) => Err(SpeedFault::Open(fault)),
@@ -85,13 +87,7 @@ fn figure_of<E: Clock>(
     n: u64,
     start: Instant,
 ) -> Result<Figure, SpeedFault> {
-    Ok(Figure {
-        work,
-        threads: 4,
-        n,
-        time: start.elapsed(rt)?,
-        detail: None,
-    })
+    Ok(Figure::new(work, 4, n, start.elapsed(rt)?))
 }
 
 /// Finds the first record that equals that of a place.
@@ -111,6 +107,21 @@ fn find<E: Threads + Clock + Sync, D: Disk>(
     Ok(figure)
 }
 
+/// Counts all its records of one kind.
+fn count<E: Threads + Clock + Sync, D: Disk>(
+    rt: &E,
+    vault: &Vault<u64, D>,
+) -> Result<Figure, SpeedFault> {
+    let n = vault.len();
+    let start = Instant::now(rt)?;
+    let count = vault.count_where(rt, &LowSeven);
+    let figure = figure_of(rt, "search.count", n, start)?;
+    if count > n {
+        return Err(SpeedFault::Content);
+    }
+    Ok(figure)
+}
+
 /// Counts and finds over all its records, on all processors.
 fn search<E: Threads + Clock + Sync, D: Disk>(
     rt: &E,
@@ -118,60 +129,106 @@ fn search<E: Threads + Clock + Sync, D: Disk>(
     vault: &Vault<u64, D>,
 ) -> Result<Vec<Figure>, SpeedFault> {
     let n = vault.len();
-    let start = Instant::now(rt)?;
-    let count = vault.count_where(rt, &LowSeven);
-    let counted = figure_of(rt, "search.count", n, start)?;
-    if count > n {
-        return Err(SpeedFault::Content);
-    }
+    let counted = count(rt, vault)?;
     let front = find(rt, vault, "search.find-front", 0)?;
     let mid = find(rt, vault, "search.find-mid", n / 2)?;
     let end = find(rt, vault, "search.find-end", n.saturating_sub(1))?;
     Ok(Vec::from_array(alloc, [counted, front, mid, end])?)
 }
 
-/// Changes the first records, appends some, and joins the blocks.
-fn command<E: Threads + Clock + Sync, D: Disk>(
+/// Changes its first records.
+fn change<E: Threads + Clock + Sync, D: Disk>(
     rt: &E,
-    alloc: Global,
     vault: &mut Vault<u64, D>,
-) -> Result<Vec<Figure>, SpeedFault> {
-    let n = vault.len();
+) -> Result<Figure, SpeedFault> {
+    let changed = CHANGED.min(vault.len());
     let start = Instant::now(rt)?;
-    vault.change(rt, 0, CHANGED.min(n), &Tripled)?;
-    let changed = figure_of(rt, "vault.change", CHANGED.min(n), start)?;
-    let start = Instant::now(rt)?;
-    vault.resize(n.saturating_add(GROWN), 7)?;
-    let resized = figure_of(rt, "vault.resize", GROWN, start)?;
-    let start = Instant::now(rt)?;
-    vault.compact()?;
-    let joined = figure_of(rt, "vault.compact", vault.len(), start)?;
-    Ok(Vec::from_array(alloc, [changed, resized, joined])?)
+    vault.change(rt, 0, changed, &Tripled)?;
+    figure_of(rt, "vault.change", changed, start)
 }
 
-/// One seat grows so many records, which are then committed.
-fn grow_all<E: Wait, D: Disk + Drop>(
-    rt: &E,
-    alloc: Global,
-    live: &Live<u64>,
-    flusher: &mut Flusher<u64, D>,
-    seat: &mut Seat<u64>,
-    growths: u64,
-) -> Result<(), SpeedFault>
-    requires of { IsFlusherOf (D.keeps flusher.old.pen.disk) live.now flusher.old }
-    requires seat { lists.IsSeatOf live.now seat.old }
-    ensures of { IsFlusherOf (D.keeps flusher.new.pen.disk) live.now flusher.new }
-    ensures seat { lists.IsSeatOf live.now seat.new }
-{
-    for growth in 0..growths {
-        let fresh = Fresh::filled(alloc, GATHERED, mix(growth))?;
-        if let Err((_, fault)) = live.grow(rt, seat, fresh) {
-            return Err(SpeedFault::Grow(fault));
+/// Appends records.
+fn resize<E: Clock, D: Disk>(rt: &E, vault: &mut Vault<u64, D>) -> Result<Figure, SpeedFault> {
+    let n = vault.len().saturating_add(GROWN);
+    let start = Instant::now(rt)?;
+    vault.resize(n, 7)?;
+    figure_of(rt, "vault.resize", GROWN, start)
+}
+
+/// Joins its blocks.
+fn compact<E: Clock, D: Disk>(rt: &E, vault: &mut Vault<u64, D>) -> Result<Figure, SpeedFault> {
+    let start = Instant::now(rt)?;
+    vault.compact()?;
+    figure_of(rt, "vault.compact", vault.len(), start)
+}
+
+/// A vault that is lent to one seat.
+#[derive(Drop)]
+struct Lent<D: Disk> {
+    live: Live<u64>,
+    flusher: Flusher<u64, D>,
+    seat: Seat<u64>,
+    ghost of: { IsFlusherOf (D.keeps flusher.pen.disk) live flusher },
+    ghost seated: { lists.IsSeatOf live seat },
+}
+
+impl<D: Disk + Drop> Lent<D> {
+    /// Lends a vault for so many growths.
+    fn new(vault: Vault<u64, D>, growths: u64) -> Result<Lent<D>, SpeedFault> {
+        let (live, flusher, mut seats) = match vault.share(growths, 1) {
+            Ok(shared) => shared,
+            Err((_, fault)) => return Err(SpeedFault::Vault(fault)),
+        };
+        match live.take_seat(&mut seats) {
+            Some(seat) => Ok(Lent {
+                live,
+                flusher,
+                seat,
+            }),
+            None => Err(SpeedFault::Room),
         }
     }
-    live.close(rt);
-    flusher.serve(rt, live)?;
-    Ok(())
+
+    /// Grows by as many records as are gathered of each growth, all of them that one.
+    fn grow<E: Wait>(&mut self, rt: &E, alloc: Global, record: u64) -> Result<(), SpeedFault> {
+        let fresh = Fresh::filled(alloc, GATHERED, record)?;
+        match self.live.grow(rt, &mut self.seat, fresh) {
+            Ok(_) => Ok(()),
+            Err((_, fault)) => Err(SpeedFault::Grow(fault)),
+        }
+    }
+
+    /// Closes the phase, and commits all growths.
+    fn commit<E: Wait>(&mut self, rt: &E) -> Result<(), SpeedFault> {
+        self.live.close(rt);
+        match self.flusher.serve(rt, &self.live) {
+            Ok(()) => Ok(()),
+            Err(fault) => Err(SpeedFault::Flush(fault)),
+        }
+    }
+
+    /// Makes so many growths, which are then committed.
+    fn grow_all<E: Wait>(&mut self, rt: &E, alloc: Global, growths: u64) -> Result<(), SpeedFault> {
+        for growth in 0..growths {
+            self.grow(rt, alloc, mix(growth))?;
+        }
+        self.commit(rt)
+    }
+
+    /// Times how the vault is taken back.
+    fn take_back<E: Clock>(self, rt: &E, alloc: Global) -> Result<Figure, SpeedFault> {
+        let Lent {
+            live,
+            flusher,
+            seat,
+        } = self;
+        let back = Vec::from_array(alloc, [seat])?;
+        let start = Instant::now(rt)?;
+        match gather(alloc, live, back, flusher) {
+            Ok(vault) => figure_of(rt, "vault.gather", vault.len(), start),
+            Err(gathering) => Err(SpeedFault::Vault(gathering.fault)),
+        }
+    }
 }
 
 /// Lends the vault to one seat that grows about as many records as it has, and times how it is taken back.
@@ -182,20 +239,22 @@ fn phase<E: Wait + Clock, D: Disk + Drop>(
     n: u64,
 ) -> Result<Figure, SpeedFault> {
     let growths = n / GATHERED;
-    let (live, mut flusher, mut seats) = match vault.share(growths.max(1), 1) {
-        Ok(shared) => shared,
-        Err((_, fault)) => return Err(SpeedFault::Vault(fault)),
-    };
-    let Some(mut seat) = live.take_seat(&mut seats) else {
-        return Err(SpeedFault::Room);
-    };
-    grow_all(rt, alloc, &live, &mut flusher, &mut seat, growths)?;
-    let back = Vec::from_array(alloc, [seat])?;
-    let start = Instant::now(rt)?;
-    match gather(alloc, live, back, flusher) {
-        Ok(vault) => figure_of(rt, "vault.gather", vault.len(), start),
-        Err(gathering) => Err(SpeedFault::Vault(gathering.fault)),
-    }
+    let mut lent = Lent::new(vault, growths.max(1))?;
+    lent.grow_all(rt, alloc, growths)?;
+    lent.take_back(rt, alloc)
+}
+
+/// Searches, changes the first records, appends some, and joins the blocks.
+fn command<E: Threads + Clock + Sync, D: Disk>(
+    rt: &E,
+    alloc: Global,
+    vault: &mut Vault<u64, D>,
+) -> Result<Vec<Figure>, SpeedFault> {
+    let mut figures = search(rt, alloc, vault)?;
+    figures.push(change(rt, vault)?)?;
+    figures.push(resize(rt, vault)?)?;
+    figures.push(compact(rt, vault)?)?;
+    Ok(figures)
 }
 
 /// Makes a file of so many records, and does with its vault what one owner does.
@@ -205,9 +264,7 @@ pub fn owned<E: Threads + Wait + Clock + Files<File = File> + AllocGlobal + Sync
     sizes: OwnedSizes,
 ) -> Result<Vec<Figure>, SpeedFault> {
     let mut vault = owned_vault(rt, alloc, sizes)?;
-    let mut figures = search(rt, alloc, &vault)?;
-    let mut commands = command(rt, alloc, &mut vault)?;
-    figures.append(&mut commands)?;
+    let mut figures = command(rt, alloc, &mut vault)?;
     figures.push(phase(rt, alloc, vault, sizes.n)?)?;
     Ok(figures)
 }

@@ -1,14 +1,15 @@
-//! A growth phase that is measured.
+//! A growth phase that is measured, and its seats.
 
-ghost use Rattle.std.specs.Prelude.{◌≡◌, IfSome, IfOk};
+ghost use Rattle.std.specs.Prelude.{IfOk};
 ghost use Rattle.book_core.specs.Lists.{IsSeatOf};
 ghost use Rattle.book_core.specs.Beginning.{AreNewSeats};
 
 use crate::fault::SpeedFault;
+use crate::reading::Total;
 use block_core::Fresh;
-use book_core::{Begun, Live, Seat};
+use book_core::{Begun, Live, Seat, Snapshot};
 use directory_core::GROWTH_LIMIT;
-use std::alloc::Global;
+use std::alloc::{AllocError, Global};
 use std::sync::Wait;
 
 /// A phase over no records, with room for so many growths, and its seats, which are so many.
@@ -28,49 +29,189 @@ pub fn begin(
     }
 }
 
-/// The last seat of a row of new ones.
-pub fn take_seat(live: &Live<u64>, seats: &mut Vec<Seat<u64>>) -> Option<Seat<u64>>
-    requires { AreNewSeats live.now.directory live.now.mark seats.old.items }
-    ensures rest { AreNewSeats live.now.directory live.now.mark seats.new.items }
-    ensures seat { IfSome result (λ seat. IsSeatOf live.now seat) }
-{
-    seats.pop()
+/// One thread's seat in a phase.
+#[derive(Drop)]
+pub struct Seated<'a> {
+    live: &'a Live<u64>,
+    seat: Seat<u64>,
+    /// Its number among the seats.
+    number: usize,
+    ghost of: { IsSeatOf live.now seat },
 }
 
-/// Grows so many times by copies of the block.
-pub fn put_blocks<E: Wait>(
-    rt: &E,
+/// The new seats, numbered from 0 on.
+pub fn seat_all<'a>(
     alloc: Global,
-    live: &Live<u64>,
-    seat: &mut Seat<u64>,
-    block: &[u64],
-    growths: u64,
-) -> Result<(), SpeedFault>
-    requires { IsSeatOf live.now seat.old }
-    ensures { IsSeatOf live.now seat.new }
+    live: &'a Live<u64>,
+    seats: Vec<Seat<u64>>,
+) -> Result<Vec<Seated<'a>>, AllocError>
+    requires { AreNewSeats live.now.directory live.now.mark seats.items }
 {
-    for _ in 0..growths {
-        let fresh = Fresh::from_slice(alloc, block)?;
-        if let Err((_, fault)) = live.grow(rt, seat, fresh) {
-            return Err(SpeedFault::Grow(fault));
+    let mut seats = seats;
+    let count = seats.len();
+    let mut all = Vec::with_capacity(alloc, count)?;
+    for number in 0..count {
+        if let Some(seat) = live.take_seat(&mut seats) {
+            all.push(Seated { live, seat, number })?;
         }
     }
-    Ok(())
+    Ok(all)
 }
 
-/// Grows so many times by one record.
-pub fn put_records<E: Wait>(
-    rt: &E,
-    live: &Live<u64>,
-    seat: &mut Seat<u64>,
-    record: u64,
-    growths: u64,
-) -> Result<(), SpeedFault>
-    requires { IsSeatOf live.now seat.old }
-    ensures { IsSeatOf live.now seat.new }
+/// The last one of the new seats.
+pub fn seat_one<'a>(live: &'a Live<u64>, seats: Vec<Seat<u64>>) -> Result<Seated<'a>, SpeedFault>
+    requires { AreNewSeats live.now.directory live.now.mark seats.items }
 {
-    for _ in 0..growths {
-        live.push_back(rt, seat, record)?;
+    let mut seats = seats;
+    match live.take_seat(&mut seats) {
+        Some(seat) => Ok(Seated {
+            live,
+            seat,
+            number: 0,
+        }),
+        None => Err(SpeedFault::Memory),
     }
-    Ok(())
+}
+
+impl<'a> Seated<'a> {
+    /// The vector that the seat is of.
+    pub fn live(&self) -> &'a Live<u64> {
+        self.live
+    }
+
+    /// Its number among the seats.
+    pub fn number(&self) -> usize {
+        self.number
+    }
+
+    /// The vector, and the seat.
+    pub fn into_parts(self) -> (&'a Live<u64>, Seat<u64>)
+        ensures { IsSeatOf result.0.now result.1 }
+    {
+        let Seated { live, seat, .. } = self;
+        (live, seat)
+    }
+
+    /// Appends a block. Its number.
+    pub fn put<E: Wait>(
+        &mut self,
+        rt: &E,
+        alloc: Global,
+        block: &[u64],
+    ) -> Result<u64, SpeedFault> {
+        let fresh = Fresh::from_slice(alloc, block)?;
+        match self.live.grow(rt, &mut self.seat, fresh) {
+            Ok(receipt) => Ok(receipt.number),
+            Err((_, fault)) => Err(SpeedFault::Grow(fault)),
+        }
+    }
+
+    /// Appends a record.
+    fn put_record<E: Wait>(&mut self, rt: &E, record: u64) -> Result<(), SpeedFault> {
+        match self.live.push_back(rt, &mut self.seat, record) {
+            Ok(_) => Ok(()),
+            Err(fault) => Err(SpeedFault::Grow(fault)),
+        }
+    }
+
+    /// Grows so many times by copies of the block.
+    pub fn put_blocks<E: Wait>(
+        &mut self,
+        rt: &E,
+        alloc: Global,
+        block: &[u64],
+        growths: u64,
+    ) -> Result<(), SpeedFault> {
+        for _ in 0..growths {
+            self.put(rt, alloc, block)?;
+        }
+        Ok(())
+    }
+
+    /// Grows so many times by one record.
+    fn put_records<E: Wait>(
+        &mut self,
+        rt: &E,
+        record: u64,
+        growths: u64,
+    ) -> Result<(), SpeedFault> {
+        for _ in 0..growths {
+            self.put_record(rt, record)?;
+        }
+        Ok(())
+    }
+
+    /// Grows so many times by copies of the block, or by its record, where it has one.
+    pub fn put_copies<E: Wait>(
+        &mut self,
+        rt: &E,
+        alloc: Global,
+        block: &[u64],
+        growths: u64,
+    ) -> Result<(), SpeedFault> {
+        if let [record] = block {
+            self.put_records(rt, *record, growths)
+        } else {
+            self.put_blocks(rt, alloc, block, growths)
+        }
+    }
+
+    /// How many growths are durable, as far as it is told.
+    pub fn settled(&mut self) -> u64 {
+        self.live.settled(&mut self.seat).0
+    }
+
+    /// Waits until the growth of that number is durable.
+    pub fn wait_for<E: Wait>(&mut self, rt: &E, number: u64) -> Result<(), SpeedFault> {
+        let (settled, _) = self.live.await_settled(rt, &mut self.seat, number);
+        if settled <= number {
+            return Err(SpeedFault::Unsettled);
+        }
+        Ok(())
+    }
+
+    /// Learns what all seats have grown.
+    pub fn look(&mut self) -> Result<(), SpeedFault> {
+        match self.live.look(&mut self.seat) {
+            Ok(_) => Ok(()),
+            Err(fault) => Err(SpeedFault::Grow(fault)),
+        }
+    }
+
+    /// How many records it knows.
+    pub fn size(&self) -> u64 {
+        self.live.size(&self.seat)
+    }
+
+    /// In how many pieces the records stand that it knows.
+    pub fn piece_count(&self) -> u64 {
+        self.live.piece_count(&self.seat)
+    }
+
+    /// All that it knows, read piece by piece.
+    pub fn total(&mut self) -> Total {
+        let mut total = Total::NOTHING;
+        for number in 0..self.live.piece_count(&self.seat) {
+            let Some(piece) = self.live.piece_at(&mut self.seat, number) else {
+                break;
+            };
+            total = total.with(piece);
+        }
+        total
+    }
+
+    /// All that it knows, to be read at random.
+    pub fn snapshot(&mut self) -> Result<Snapshot<'a, u64>, SpeedFault> {
+        match self.live.snapshot(&mut self.seat) {
+            Ok(snapshot) => Ok(snapshot),
+            Err(fault) => Err(SpeedFault::Grow(fault)),
+        }
+    }
+}
+
+/// All that there is, read by this seat piece by piece. Refused `Memory`, where there is no seat.
+pub fn total_by(seat: Option<Seated>) -> Result<Total, SpeedFault> {
+    let mut last = seat.ok_or(SpeedFault::Memory)?;
+    last.look()?;
+    Ok(last.total())
 }

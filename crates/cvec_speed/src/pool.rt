@@ -24,6 +24,7 @@ pub struct Pool {
 }
 
 impl Pool {
+    /// Ready for blocks of so many records.
     pub fn new(alloc: Global, block: u32) -> Result<Pool, AllocError> {
         let block = block as usize;
         let records = mixed(alloc, 0, PLACES as usize + block)?;

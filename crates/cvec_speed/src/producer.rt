@@ -1,13 +1,10 @@
 //! A thread that appends blocks, and waits until they are durable.
 
-ghost use Rattle.book_core.specs.Lists.{IsSeatOf};
-
+use crate::barrier::{Barrier, Span};
 use crate::fault::SpeedFault;
-use crate::gate::{Gate, Span};
+use crate::phase::Seated;
 use crate::pool::Pool;
-use block_core::Fresh;
-use book_core::{Live, Seat};
-use std::alloc::Global;
+use std::alloc::{AllocError, Global};
 use std::sync::Wait;
 use std::time::{Clock, Duration, Instant};
 
@@ -24,20 +21,22 @@ pub enum Pace {
 #[derive(Drop)]
 pub struct Course {
     pub pool: Pool,
-    pub gate: Gate,
+    pub barrier: Barrier,
     pub pace: Pace,
 }
 
-/// One thread, with its seat.
+/// One thread, with its seat. Its blocks are those of the pool for its number.
 #[derive(Drop)]
-pub struct Producer<'a> {
-    pub live: &'a Live<u64>,
-    pub seat: Seat<u64>,
-    pub thread: u64,
-    ghost of: { IsSeatOf live.now seat },
+struct Producer<'a> {
+    own: Seated<'a>,
+    pool: &'a Pool,
+    /// How many blocks it has appended.
+    blocks: u64,
+    /// How long each of its rounds took.
+    rounds: Vec<Duration>,
 }
 
-/// How many blocks a thread appended, when, and how long each of its rounds took.
+/// How many blocks the thread of that number appended, when, and how long each of its rounds took.
 #[derive(Drop)]
 pub struct Produced {
     pub thread: u64,
@@ -46,136 +45,105 @@ pub struct Produced {
     pub rounds: Vec<Duration>,
 }
 
-/// Appends a block. Its number.
-pub fn put<E: Wait>(
-    rt: &E,
-    alloc: Global,
-    live: &Live<u64>,
-    seat: &mut Seat<u64>,
-    block: &[u64],
-) -> Result<u64, SpeedFault>
-    requires { IsSeatOf live.now seat.old }
-    ensures { IsSeatOf live.now seat.new }
-{
-    let fresh = Fresh::from_slice(alloc, block)?;
-    match live.grow(rt, seat, fresh) {
-        Ok(receipt) => Ok(receipt.number),
-        Err((_, fault)) => Err(SpeedFault::Grow(fault)),
-    }
-}
-
-/// Appends so many blocks of a thread, from that number on. The number of the last one in the vector.
-fn put_all<E: Wait>(
-    rt: &E,
-    alloc: Global,
-    live: &Live<u64>,
-    seat: &mut Seat<u64>,
-    pool: &Pool,
-    thread: u64,
-    first: u64,
-    blocks: u64,
-) -> Result<u64, SpeedFault>
-    requires { IsSeatOf live.now seat.old }
-    ensures { IsSeatOf live.now seat.new }
-{
-    let mut last = 0;
-    for k in 0..blocks {
-        let block = pool.block(thread, first.wrapping_add(k));
-        last = put(rt, alloc, live, seat, block)?;
-    }
-    Ok(last)
-}
-
-/// Waits until the growth of that number is durable.
-pub fn wait_for<E: Wait>(
-    rt: &E,
-    live: &Live<u64>,
-    seat: &mut Seat<u64>,
-    number: u64,
-) -> Result<(), SpeedFault>
-    requires { IsSeatOf live.now seat.old }
-    ensures { IsSeatOf live.now seat.new }
-{
-    let (settled, _) = live.await_settled(rt, seat, number);
-    if settled <= number {
-        return Err(SpeedFault::Unsettled);
-    }
-    Ok(())
-}
-
-/// Appends blocks and waits, round by round, for so long. How long each round took.
-fn put_in_rounds<E: Wait + Clock>(
-    rt: &E,
-    alloc: Global,
-    live: &Live<u64>,
-    seat: &mut Seat<u64>,
-    pool: &Pool,
-    thread: u64,
-    batch: u64,
-    most: Duration,
-) -> Result<Vec<Duration>, SpeedFault>
-    requires { IsSeatOf live.now seat.old }
-{
-    let mut rounds = Vec::new(alloc);
-    let start = Instant::now(rt)?;
-    let mut last = start;
-    let mut first: u64 = 0;
-    for _ in rt.forever() {
-        let number = put_all(rt, alloc, live, seat, pool, thread, first, batch)?;
-        wait_for(rt, live, seat, number)?;
-        let now = Instant::now(rt)?;
-        rounds.push(now.duration_since(last))?;
-        first = first.wrapping_add(batch);
-        last = now;
-        if now.duration_since(start) >= most {
-            break;
-        }
-    }
-    Ok(rounds)
-}
-
 impl Producer<'_> {
-    /// Appends its blocks. How many, and how long each round took.
-    fn produce<E: Wait + Clock>(
-        self,
-        rt: &E,
-        alloc: Global,
-        pool: &Pool,
-        pace: Pace,
-    ) -> Result<(u64, Vec<Duration>), SpeedFault> {
-        let Producer {
-            live,
-            mut seat,
-            thread,
-        } = self;
-        match pace {
-            Pace::Rounds(batch, most) => {
-                let rounds = put_in_rounds(rt, alloc, live, &mut seat, pool, thread, batch, most)?;
-                Ok((batch.saturating_mul(rounds.len() as u64), rounds))
-            }
-            Pace::Flow(blocks) => {
-                put_all(rt, alloc, live, &mut seat, pool, thread, 0, blocks)?;
-                Ok((blocks, Vec::new(alloc)))
-            }
-        }
+    /// Appends the next block. Its number in the vector.
+    fn put<E: Wait>(&mut self, rt: &E, alloc: Global) -> Result<u64, SpeedFault> {
+        let block = self.pool.block(self.own.number() as u64, self.blocks);
+        self.blocks = self.blocks.wrapping_add(1);
+        self.own.put(rt, alloc, block)
     }
 
-    /// Appends its blocks once all threads are there.
-    pub fn run<E: Wait + Clock>(
-        self,
+    /// Appends the next so many blocks. The number of the last one in the vector.
+    fn put_all<E: Wait>(&mut self, rt: &E, alloc: Global, blocks: u64) -> Result<u64, SpeedFault> {
+        let mut last = 0;
+        for _ in 0..blocks {
+            last = self.put(rt, alloc)?;
+        }
+        Ok(last)
+    }
+
+    /// Appends so many blocks, and waits until they are durable.
+    fn put_and_wait<E: Wait>(
+        &mut self,
         rt: &E,
         alloc: Global,
-        course: &Course,
-    ) -> Result<Produced, SpeedFault> {
-        let thread = self.thread;
-        let came = course.gate.pass(rt)?;
-        let (blocks, rounds) = self.produce(rt, alloc, &course.pool, course.pace)?;
-        let done = Instant::now(rt)?;
-        Ok(Produced {
-            thread,
-            blocks,
-            span: Span { came, done },
-            rounds,
-        })
+        blocks: u64,
+    ) -> Result<(), SpeedFault> {
+        let number = self.put_all(rt, alloc, blocks)?;
+        self.own.wait_for(rt, number)
     }
+
+    /// Notes how long a round took.
+    fn note(&mut self, took: Duration) -> Result<(), AllocError> {
+        self.rounds.push(took)?;
+        Ok(())
+    }
+
+    /// Appends blocks and waits, round by round, for so long.
+    fn put_in_rounds<E: Wait + Clock>(
+        &mut self,
+        rt: &E,
+        alloc: Global,
+        batch: u64,
+        most: Duration,
+    ) -> Result<(), SpeedFault> {
+        let start = Instant::now(rt)?;
+        let mut last = start;
+        for _ in rt.forever() {
+            self.put_and_wait(rt, alloc, batch)?;
+            let now = Instant::now(rt)?;
+            self.note(now.duration_since(last))?;
+            last = now;
+            if now.duration_since(start) >= most {
+                break;
+            }
+        }
+        Ok(())
+    }
+
+    /// Appends its blocks.
+    fn produce<E: Wait + Clock>(
+        &mut self,
+        rt: &E,
+        alloc: Global,
+        pace: Pace,
+    ) -> Result<(), SpeedFault> {
+        match pace {
+            Pace::Rounds(batch, most) => self.put_in_rounds(rt, alloc, batch, most),
+            Pace::Flow(blocks) => match self.put_all(rt, alloc, blocks) {
+                Ok(_) => Ok(()),
+                Err(fault) => Err(fault),
+            },
+        }
+    }
+}
+
+/// What one thread does: it appends its blocks once all threads are there.
+pub fn produce<E: Wait + Clock>(
+    rt: &E,
+    alloc: Global,
+    own: Seated,
+    course: &Course,
+) -> Result<Produced, SpeedFault> {
+    let mut producer = Producer {
+        own,
+        pool: &course.pool,
+        blocks: 0,
+        rounds: Vec::new(alloc),
+    };
+    let came = course.barrier.pass(rt)?;
+    producer.produce(rt, alloc, course.pace)?;
+    let span = Span::since(rt, came)?;
+    let Producer {
+        own,
+        blocks,
+        rounds,
+        ..
+    } = producer;
+    Ok(Produced {
+        thread: own.number() as u64,
+        blocks,
+        span,
+        rounds,
+    })
 }

@@ -1,20 +1,20 @@
 //! Reading a vector in order, and at places without a pattern.
 
-ghost use Rattle.std.specs.Prelude.{◌≡◌, ◌<◌, IfOk};
-ghost use Rattle.book_core.specs.Lists.{IsSeatOf};
+ghost use Rattle.std.specs.Prelude.{◌<◌};
+ghost use Rattle.book_core.specs.Beginning.{AreNewSeats};
 
+use crate::barrier::{Barrier, Span};
 use crate::fault::SpeedFault;
 use crate::figure::Figure;
-use crate::gate::{Gate, Span};
 use crate::mix::{below, mix, mixed, sum_of_mixed};
-use crate::phase::{begin, put_blocks, take_seat};
-use crate::reading::{Total, total_of};
+use crate::phase::{Seated, begin, seat_one};
+use crate::reading::Total;
 use book_core::{Live, Seat, Snapshot};
 use std::alloc::Global;
 use std::sync::Wait;
 use std::thread;
 use std::thread::Threads;
-use std::time::{Clock, Duration, Instant};
+use std::time::{Clock, Instant};
 
 /// With how many threads it is read at places without a pattern.
 const THREADS: [usize; 3] = [1, 2, 4];
@@ -27,6 +27,15 @@ const MANY: usize = 32;
 enum Asking {
     OneByOne,
     ManyAtOnce,
+}
+
+impl Asking {
+    fn name(self) -> &'static str {
+        match self {
+            Asking::OneByOne => "read.random",
+            Asking::ManyAtOnce => "read.many",
+        }
+    }
 }
 
 /// Of how many records each growth is, how many records there are, and how many each thread reads.
@@ -42,19 +51,17 @@ pub struct ReadSizes {
 fn fill<E: Wait>(
     rt: &E,
     alloc: Global,
-    live: &Live<u64>,
-    seat: &mut Seat<u64>,
-    sizes: ReadSizes,
+    own: &mut Seated,
+    block: u64,
+    n: u64,
 ) -> Result<(), SpeedFault>
-    requires { IsSeatOf live.now seat.old }
-    ensures { IsSeatOf live.now seat.new }
+    requires { 0 < block }
 {
-    let block = sizes.block as u64;
-    for growth in 0..sizes.n.div_ceil(block) {
+    for growth in 0..n.div_ceil(block) {
         let at = growth.wrapping_mul(block);
-        let len = block.min(sizes.n.saturating_sub(at));
+        let len = block.min(n.saturating_sub(at));
         let records = mixed(alloc, at, len as usize)?;
-        put_blocks(rt, alloc, live, seat, records.as_slice(), 1)?;
+        own.put(rt, alloc, records.as_slice())?;
     }
     Ok(())
 }
@@ -134,26 +141,31 @@ fn wanted_last(sizes: ReadSizes) -> u64 {
     last
 }
 
+/// The sum of what a thread reads.
+fn sum_as(asking: Asking, snapshot: &Snapshot<'_, u64>, first: u64, sizes: ReadSizes) -> u64 {
+    match asking {
+        Asking::OneByOne => sum_at_random(snapshot, first, sizes),
+        Asking::ManyAtOnce => sum_of_many(snapshot, first, sizes),
+    }
+}
+
 /// One thread reads at random once all threads are there, and compares the sum.
 fn read_as<E: Wait + Clock>(
     rt: &E,
     snapshot: &Snapshot<'_, u64>,
-    gate: &Gate,
+    barrier: &Barrier,
     id: u64,
     sizes: ReadSizes,
     asking: Asking,
 ) -> Result<Span, SpeedFault> {
     let first = id << 32;
-    let came = gate.pass(rt)?;
-    let sum = match asking {
-        Asking::OneByOne => sum_at_random(snapshot, first, sizes),
-        Asking::ManyAtOnce => sum_of_many(snapshot, first, sizes),
-    };
-    let done = Instant::now(rt)?;
+    let came = barrier.pass(rt)?;
+    let sum = sum_as(asking, snapshot, first, sizes);
+    let span = Span::since(rt, came)?;
     if sum != wanted_sum(first, sizes) {
         return Err(SpeedFault::Content);
     }
-    Ok(Span { came, done })
+    Ok(span)
 }
 
 /// So many threads read one snapshot at random.
@@ -165,57 +177,28 @@ fn read_at_random<E: Threads + Wait + Clock + Sync>(
     sizes: ReadSizes,
     asking: Asking,
 ) -> Result<Figure, SpeedFault> {
-    let gate = Gate::new(threads as u64);
+    let barrier = Barrier::new(threads as u64);
     let spans = thread::map_indices(
         rt,
         alloc,
         threads,
-        &|id| { read_as(rt, snapshot, &gate, id as u64, sizes, asking) },
+        &|id| { read_as(rt, snapshot, &barrier, id as u64, sizes, asking) },
     )?;
-    Ok(Figure {
-        work: match asking {
-            Asking::OneByOne => "read.random",
-            Asking::ManyAtOnce => "read.many",
-        },
-        threads: threads as u64,
-        n: sizes.draws.saturating_mul(threads as u64),
-        time: Span::time_of_all(spans)?,
-        detail: None,
-    })
-}
-
-/// What one thread read.
-fn figure_of(work: &'static str, n: u64, time: Duration) -> Figure {
-    Figure {
-        work,
-        threads: 1,
-        n,
-        time,
-        detail: None,
-    }
+    let n = sizes.draws.saturating_mul(threads as u64);
+    let time = Span::time_of_all(spans)?;
+    Ok(Figure::new(asking.name(), threads as u64, n, time))
 }
 
 /// Reads all records in order, and compares their sum.
-fn read_in_order<E: Clock>(
-    rt: &E,
-    live: &Live<u64>,
-    seat: &mut Seat<u64>,
-    n: u64,
-) -> Result<Figure, SpeedFault>
-    requires { IsSeatOf live.now seat.old }
-    ensures { seat.new ≡ seat.old }
-{
+fn read_in_order<E: Clock>(rt: &E, own: &mut Seated, n: u64) -> Result<Figure, SpeedFault> {
     let start = Instant::now(rt)?;
-    let total = total_of(live, seat);
+    let total = own.total();
     let time = start.elapsed(rt)?;
-    let wanted = Total {
+    total.check(Total {
         count: n,
         sum: sum_of_mixed(n),
-    };
-    if total != wanted {
-        return Err(SpeedFault::Content);
-    }
-    Ok(figure_of("read.seq", n, time))
+    })?;
+    Ok(Figure::new("read.seq", 1, n, time))
 }
 
 /// Reads a row of a quarter as many records, each at a place that the one before it gives, and compares the last
@@ -231,26 +214,11 @@ fn read_in_a_row<E: Clock>(
     if last != wanted_last(sizes) {
         return Err(SpeedFault::Content);
     }
-    Ok(figure_of("read.random-dependent", sizes.draws / 4, time))
+    Ok(Figure::new("read.random-dependent", 1, sizes.draws / 4, time))
 }
 
-/// A vector of so many records, and the seat that filled it.
-fn begin_filled<E: Wait>(
-    rt: &E,
-    alloc: Global,
-    sizes: ReadSizes,
-) -> Result<(Live<u64>, Seat<u64>), SpeedFault>
-    ensures { IfOk result (λ begun. IsSeatOf begun.0 begun.1) }
-{
-    let room = sizes.n.div_ceil(sizes.block as u64);
-    let (live, mut seats) = begin(alloc, room, 1)?;
-    let mut seat = take_seat(&live, &mut seats).ok_or(SpeedFault::Memory)?;
-    fill(rt, alloc, &live, &mut seat, sizes)?;
-    Ok((live, seat))
-}
-
-/// Reads at random by 1, 2 and 4 threads, one by one and many at once, and in a row.
-fn read_snapshot<E: Threads + Wait + Clock + Sync>(
+/// Reads at random by 1, 2 and 4 threads, one by one and many at once.
+fn read_by_threads<E: Threads + Wait + Clock + Sync>(
     rt: &E,
     alloc: Global,
     snapshot: &Snapshot<'_, u64>,
@@ -262,8 +230,37 @@ fn read_snapshot<E: Threads + Wait + Clock + Sync>(
             figures.push(read_at_random(rt, alloc, snapshot, threads, sizes, asking)?)?;
         }
     }
-    figures.push(read_in_a_row(rt, snapshot, sizes)?)?;
     Ok(figures)
+}
+
+/// Reads in order, then, from a snapshot, at random and in a row.
+fn read_all<E: Threads + Wait + Clock + Sync>(
+    rt: &E,
+    alloc: Global,
+    own: &mut Seated,
+    sizes: ReadSizes,
+) -> Result<Vec<Figure>, SpeedFault> {
+    let in_order = read_in_order(rt, own, sizes.n)?;
+    let snapshot = own.snapshot()?;
+    let mut figures = read_by_threads(rt, alloc, &snapshot, sizes)?;
+    figures.push(read_in_a_row(rt, &snapshot, sizes)?)?;
+    figures.push(in_order)?;
+    Ok(figures)
+}
+
+/// Fills the vector, and reads it in each way.
+fn read_by<E: Threads + Wait + Clock + Sync>(
+    rt: &E,
+    alloc: Global,
+    live: &Live<u64>,
+    seats: Vec<Seat<u64>>,
+    sizes: ReadSizes,
+) -> Result<Vec<Figure>, SpeedFault>
+    requires { AreNewSeats live.now.directory live.now.mark seats.items }
+{
+    let mut own = seat_one(live, seats)?;
+    fill(rt, alloc, &mut own, sizes.block as u64, sizes.n)?;
+    read_all(rt, alloc, &mut own, sizes)
 }
 
 /// Fills a vector, and reads it in order, then, from a snapshot, by 1, 2 and 4 threads at places without a pattern, one by
@@ -275,15 +272,13 @@ pub fn read<E: Threads + Wait + Clock + Sync>(
     sizes: ReadSizes,
 ) -> Result<Vec<Figure>, SpeedFault> {
     // Whole rows of places, so that each way of asking reads as many.
+    let draws = sizes.draws / MANY as u64 * MANY as u64;
+    let block = sizes.block as u64;
+    let (live, seats) = begin(alloc, sizes.n.div_ceil(block), 1)?;
     let sizes = ReadSizes {
         block: sizes.block,
         n: sizes.n,
-        draws: sizes.draws / MANY as u64 * MANY as u64,
+        draws,
     };
-    let (live, mut seat) = begin_filled(rt, alloc, sizes)?;
-    let in_order = read_in_order(rt, &live, &mut seat, sizes.n)?;
-    let snapshot = live.snapshot(&mut seat)?;
-    let mut figures = read_snapshot(rt, alloc, &snapshot, sizes)?;
-    figures.push(in_order)?;
-    Ok(figures)
+    read_by(rt, alloc, &live, seats, sizes)
 }

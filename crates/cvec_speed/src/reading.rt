@@ -1,19 +1,17 @@
-//! Reading all that a seat knows, piece by piece.
+//! What was read, or is to be.
 
-ghost use Rattle.std.specs.Prelude.{◌≡◌};
-ghost use Rattle.book_core.specs.Lists.{IsSeatOf};
-
+use crate::fault::SpeedFault;
 use crate::mix::sum_of;
-use book_core::{Live, Seat};
 
 /// How many records were read, and their sum, which wraps.
-#[derive(Clone, Copy, Debug, PartialEq, Eq)]
+#[derive(Clone, Copy, PartialEq, Eq)]
 pub struct Total {
     pub count: u64,
     pub sum: u64,
 }
 
 impl Total {
+    /// No record.
     pub const NOTHING: Total = Total { count: 0, sum: 0 };
 
     /// These records too.
@@ -39,19 +37,11 @@ impl Total {
             sum: self.sum.wrapping_add(other.sum),
         }
     }
-}
-
-/// All that the seat knows, read piece by piece.
-pub fn total_of(live: &Live<u64>, seat: &mut Seat<u64>) -> Total
-    requires { IsSeatOf live.now seat.old }
-    ensures { seat.new ≡ seat.old }
-{
-    let mut total = Total::NOTHING;
-    for number in 0..live.piece_count(seat) {
-        let Some(piece) = live.piece_at(seat, number) else {
-            break;
-        };
-        total = total.with(piece);
+    /// Refused `Content`, unless it is that one.
+    pub fn check(self, wanted: Total) -> Result<(), SpeedFault> {
+        if self != wanted {
+            return Err(SpeedFault::Content);
+        }
+        Ok(())
     }
-    total
 }

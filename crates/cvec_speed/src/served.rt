@@ -73,17 +73,33 @@ impl<D: Disk + Drop> Served<D> {
     }
 }
 
-/// Commits what others grow until the phase is closed and all of it is durable. Answers when that was.
-fn serve<E: Wait + Clock, D: Disk + Drop>(
-    rt: &E,
-    live: &Live<u64>,
-    mut flusher: Flusher<u64, D>,
-) -> Result<Instant, SpeedFault>
-    requires { IsFlusherOf (D.keeps flusher.pen.disk) live.now flusher }
-{
-    match flusher.serve(rt, live) {
-        Ok(()) => Ok(Instant::now(rt)?),
-        Err(fault) => Err(SpeedFault::Flush(fault)),
+/// Who commits a phase's growths.
+#[derive(Drop)]
+pub struct Committer<'a, D: Disk> {
+    pub live: &'a Live<u64>,
+    pub flusher: Flusher<u64, D>,
+    ghost of: { IsFlusherOf (D.keeps flusher.pen.disk) live.now flusher },
+}
+
+impl<D: Disk + Drop> Committer<'_, D> {
+    /// Commits what others grow until the phase is closed and all of it is durable.
+    fn commit<E: Wait>(&mut self, rt: &E) -> Result<(), SpeedFault> {
+        match self.flusher.serve(rt, self.live) {
+            Ok(()) => Ok(()),
+            Err(fault) => Err(SpeedFault::Flush(fault)),
+        }
+    }
+
+    /// Commits it, and answers when all was durable.
+    fn commit_all<E: Wait + Clock>(&mut self, rt: &E) -> Result<Instant, SpeedFault> {
+        self.commit(rt)?;
+        Ok(Instant::now(rt)?)
+    }
+
+    /// What the thread does that commits.
+    fn serve<E: Wait + Clock>(self, rt: &E) -> Result<Instant, SpeedFault> {
+        let mut committer = self;
+        committer.commit_all(rt)
     }
 }
 
@@ -97,25 +113,18 @@ pub fn serve_beside<
     F: FnOnce() -> T,
 >(
     rt: &E,
-    live: &Live<u64>,
-    flusher: Flusher<u64, D>,
+    committer: Committer<'_, D>,
     grow: F,
 ) -> Result<(T, Result<Instant, SpeedFault>), SpeedFault>
-    requires of { IsFlusherOf (D.keeps flusher.pen.disk) live.now flusher }
-    requires grow { F.pre grow }
+    requires { F.pre grow }
 {
     thread::scope(
         thread::scope_env(),
         rt,
         move |scope| -> Result<(T, Result<Instant, SpeedFault>), SpeedFault>
-            requires { IsFlusherOf (D.keeps flusher.pen.disk) live.now flusher × F.pre grow }
+            requires { F.pre grow }
         {
-            let started = scope.spawn(
-                move || -> Result<Instant, SpeedFault>
-                    requires { IsFlusherOf (D.keeps flusher.pen.disk) live.now flusher }
-                { serve(rt, live, flusher) },
-            );
-            let Ok(serving) = started else {
+            let Ok(serving) = scope.spawn(move || committer.serve(rt)) else {
                 return Err(SpeedFault::Thread);
             };
             let grown = grow();

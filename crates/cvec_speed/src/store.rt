@@ -1,6 +1,10 @@
 //! A vector's file in a folder: it is made, and opened again.
 
-ghost use Rattle.std.specs.Prelude.{◌≡◌, ◌<◌, ◌^◌};
+ghost use Rattle.std.specs.Prelude.{◌≡◌, ◌<◌, ◌^◌, length, IfOk};
+ghost use Rattle.std.specs.Int.{w64};
+ghost use Rattle.record_core.specs.Bytes.{unsigned};
+ghost use Rattle.segment_core.specs.Raw.{AreCellsOf};
+ghost use Rattle.pen_core.specs.Opening.{IsAtRest};
 
 use crate::commit::create;
 use crate::fault::SpeedFault;
@@ -14,8 +18,9 @@ use record_core::PAYLOAD_LIMIT;
 use segment_core::Format;
 use std::alloc::{AllocError, AllocGlobal, Global};
 use std::fs::File;
+use std::io;
 use std::rt::Files;
-use std::time::{Clock, Instant};
+use std::time::{Clock, Duration, Instant};
 
 /// In which folder the file stands, of how many records each of its growths is, and how many records there are.
 #[derive(Clone, Copy)]
@@ -31,6 +36,14 @@ fn path_in(alloc: Global, dir: &str) -> Result<String, AllocError> {
     format!(in alloc; "{dir}/vector.cvec")
 }
 
+/// The disk, unless the system refuses its file.
+fn disk_of(made: io::Result<FileDisk>) -> Result<FileDisk, SpeedFault> {
+    match made {
+        Ok(disk) => Ok(disk),
+        Err(error) => Err(SpeedFault::File(error.kind())),
+    }
+}
+
 /// The file in this folder, which is made where there is none.
 pub fn make_disk<E: Files<File = File> + AllocGlobal>(
     rt: &E,
@@ -38,7 +51,7 @@ pub fn make_disk<E: Files<File = File> + AllocGlobal>(
     dir: &str,
 ) -> Result<FileDisk, SpeedFault> {
     let path = path_in(alloc, dir)?;
-    FileDisk::make(rt, path.as_str()).map_err(|error| SpeedFault::File(error.kind()))
+    disk_of(FileDisk::make(rt, path.as_str()))
 }
 
 /// The file in this folder.
@@ -48,7 +61,7 @@ pub fn open_disk<E: Files<File = File>>(
     dir: &str,
 ) -> Result<FileDisk, SpeedFault> {
     let path = path_in(alloc, dir)?;
-    FileDisk::open(rt, path.as_str()).map_err(|error| SpeedFault::File(error.kind()))
+    disk_of(FileDisk::open(rt, path.as_str()))
 }
 
 /// How many records stand in the longest group of whole growths of so many records, whose payload is at most 1 MiB:
@@ -64,7 +77,7 @@ fn records_in_a_group(block: u64) -> u64
 
 /// Commits so many records, in growths of `block`, by groups that are as long as may be. The record at a place is
 /// `mix` of it.
-pub fn commit_records<D: Disk>(
+fn commit_records<D: Disk>(
     alloc: Global,
     pen: &mut Pen<D>,
     block: u32,
@@ -84,24 +97,63 @@ pub fn commit_records<D: Disk>(
     Ok(())
 }
 
+/// A pen over a new file in the folder, whose records are those of so many places.
+pub fn make_filled<E: Files<File = File> + AllocGlobal>(
+    rt: &E,
+    alloc: Global,
+    sizes: StoreSizes,
+    format: Format,
+) -> Result<Pen<FileDisk>, SpeedFault>
+    ensures { IfOk result (λ pen. pen.shape.width ≡ 8) }
+{
+    let disk = make_disk(rt, alloc, sizes.dir)?;
+    let mut pen = create(alloc, disk, format)?;
+    commit_records(alloc, &mut pen, sizes.block, sizes.n)?;
+    Ok(pen)
+}
+
 /// Leaves a file of version 1 in the folder. It has no figure.
 pub fn build<E: Files<File = File> + AllocGlobal>(
     rt: &E,
     alloc: Global,
     sizes: StoreSizes,
 ) -> Result<Vec<Figure>, SpeedFault> {
-    let disk = make_disk(rt, alloc, sizes.dir)?;
-    let mut pen = create(alloc, disk, Format::One)?;
-    commit_records(alloc, &mut pen, sizes.block, sizes.n)?;
+    make_filled(rt, alloc, sizes, Format::One)?;
     Ok(Vec::new(alloc))
 }
 
 /// Opens the file on the disk, and gives its vector.
-pub fn open_pen<D: Disk + Drop>(alloc: Global, disk: D) -> Result<(Pen<D>, Vec<u64>), SpeedFault> {
+pub fn open_pen<D: Disk + Drop>(alloc: Global, disk: D) -> Result<(Pen<D>, Vec<u64>), SpeedFault>
+    ensures rests { IfOk result (λ r. IsAtRest 8 (length r.1.items) r.0) }
+    ensures cells { IfOk result (λ r. D.keeps r.0.disk → AreCellsOf (unsigned w64) r.0.vector r.1.items) }
+{
     match Pen::open::<u64>(alloc, disk) {
         Ok(opened) => Ok(opened),
         Err((_, fault)) => Err(SpeedFault::Open(fault)),
     }
+}
+
+/// What the records come to, and how long it took since that moment until they stood in memory.
+fn total_since<E: Clock>(
+    rt: &E,
+    start: Instant,
+    records: &[u64],
+) -> Result<(Total, Duration), SpeedFault> {
+    let time = start.elapsed(rt)?;
+    Ok((Total::NOTHING.with(records), time))
+}
+
+/// Opens the file in the folder until all its records stand in memory in order. What they come to, and how long that
+/// took.
+fn total_opened<E: Files<File = File> + Clock>(
+    rt: &E,
+    alloc: Global,
+    dir: &str,
+) -> Result<(Total, Duration), SpeedFault> {
+    let start = Instant::now(rt)?;
+    let disk = open_disk(rt, alloc, dir)?;
+    let (_pen, records) = open_pen(alloc, disk)?;
+    total_since(rt, start, records.as_slice())
 }
 
 /// Opens the file in the folder until all its records stand in memory in order, and compares their number and sum. The
@@ -112,23 +164,10 @@ pub fn open<E: Files<File = File> + Clock>(
     sizes: StoreSizes,
     work: &'static str,
 ) -> Result<Vec<Figure>, SpeedFault> {
-    let start = Instant::now(rt)?;
-    let disk = open_disk(rt, alloc, sizes.dir)?;
-    let (_pen, records) = open_pen(alloc, disk)?;
-    let time = start.elapsed(rt)?;
-    let wanted = Total {
+    let (total, time) = total_opened(rt, alloc, sizes.dir)?;
+    total.check(Total {
         count: sizes.n,
         sum: sum_of_mixed(sizes.n),
-    };
-    if Total::NOTHING.with(records.as_slice()) != wanted {
-        return Err(SpeedFault::Content);
-    }
-    let figure = Figure {
-        work,
-        threads: 1,
-        n: sizes.n,
-        time,
-        detail: None,
-    };
-    Ok(Vec::from_array(alloc, [figure])?)
+    })?;
+    Figure::new(work, 1, sizes.n, time).alone(alloc)
 }

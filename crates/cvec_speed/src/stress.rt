@@ -1,7 +1,5 @@
 //! Phases with any number of threads, that end in each way there is: does each thread come to its end?
 
-ghost use Rattle.std.specs.Prelude.{◌<◌};
-
 use crate::fault::SpeedFault;
 use crate::figure::Figure;
 use crate::mix::{below, mix};
@@ -46,12 +44,5 @@ pub fn stress<E: Threads + Wait + Clock + Eprint + Sync>(
         )?;
         rounds = rounds.wrapping_add(sizes.rounds.wrapping_mul(threads as u64));
     }
-    let figure = Figure {
-        work: "stress",
-        threads: sizes.threads as u64,
-        n: rounds,
-        time: start.elapsed(rt)?,
-        detail: None,
-    };
-    Ok(Vec::from_array(alloc, [figure])?)
+    Figure::new("stress", sizes.threads as u64, rounds, start.elapsed(rt)?).alone(alloc)
 }

@@ -1,19 +1,14 @@
 //! Threads wait for each of their growths, in phase after phase, while one more commits them: is each of them woken?
 
-ghost use Rattle.std.specs.Prelude.{◌<◌};
-ghost use Rattle.book_core.specs.Lists.{IsSeatOf};
-ghost use Rattle.book_core.specs.Beginning.{AreNewSeats};
-
 use crate::fault::SpeedFault;
 use crate::figure::Figure;
 use crate::mix::{below, mix};
-use crate::phase::take_seat;
-use crate::producer::{put, wait_for};
-use crate::served::{Served, serve_beside};
+use crate::phase::{Seated, seat_all};
+use crate::served::{Committer, Served, serve_beside};
 use crate::watch::Watch;
-use book_core::{GrowFault, Live, Seat};
-use disk_core::{Blow, FuseDisk, RamDisk};
-use std::alloc::{AllocError, Global};
+use book_core::{GrowFault, Live};
+use disk_core::{Blow, Disk, FuseDisk, RamDisk};
+use std::alloc::Global;
 use std::sync::Wait;
 use std::thread;
 use std::thread::Threads;
@@ -30,7 +25,7 @@ const FIRST_PAUSE: u64 = 1 << 13;
 const LONGEST_PAUSE: u64 = 1 << 16;
 
 /// How a phase ends.
-#[derive(Clone, Copy, PartialEq, Eq)]
+#[derive(Clone, Copy)]
 pub enum End {
     /// Each thread makes all of its rounds.
     Whole,
@@ -45,7 +40,7 @@ impl End {
     fn allows(self, left: Result<(), SpeedFault>) -> bool {
         match left {
             Ok(()) => true,
-            Err(SpeedFault::Grow(GrowFault::Closed)) => self == End::Closed,
+            Err(SpeedFault::Grow(GrowFault::Closed)) => matches!(self, End::Closed),
             Err(SpeedFault::Unsettled) => matches!(self, End::Stopped(_)),
             Err(_) => false,
         }
@@ -88,88 +83,72 @@ fn next_pause(draws: u64, too_short: bool, number: u64) -> u64 {
     }
 }
 
-/// One thread, with its seat.
-#[derive(Drop)]
-struct Waiter<'a> {
-    live: &'a Live<u64>,
-    seat: Seat<u64>,
-    first: u64,
-    ghost of: { IsSeatOf live.now seat },
+/// What the threads of a phase do: so many rounds each, and how the phase ends.
+#[derive(Clone, Copy)]
+struct Course {
+    phase: u64,
+    rounds: u64,
+    end: End,
 }
 
-/// Makes so many rounds: a growth, a pause, and the wait for the growth.
+impl Course {
+    /// Whether a thread that has made so many rounds is to close the phase.
+    fn closes_at(self, round: u64) -> bool {
+        matches!(self.end, End::Closed) && round == self.rounds / 2
+    }
+}
+
+/// One round: a growth of that record, a pause, and the wait for the growth. The next record, and the next pause.
+fn make_round<E: Wait>(
+    rt: &E,
+    alloc: Global,
+    own: &mut Seated,
+    record: u64,
+    draws: u64,
+) -> Result<(u64, u64), SpeedFault> {
+    let number = own.put(rt, alloc, &[record])?;
+    let record = pause(record, draws);
+    let draws = next_pause(draws, own.settled() <= number, record);
+    own.wait_for(rt, number)?;
+    Ok((record, draws))
+}
+
+/// Makes all rounds of a thread.
 fn make_rounds<E: Wait>(
     rt: &E,
     alloc: Global,
-    live: &Live<u64>,
-    seat: &mut Seat<u64>,
-    first: u64,
-    rounds: u64,
-    end: End,
+    own: &mut Seated,
+    course: Course,
     watch: &Watch,
-) -> Result<(), SpeedFault>
-    requires { IsSeatOf live.now seat.old }
-    ensures { IsSeatOf live.now seat.new }
-{
-    let mut record = first;
-    let mut draws = below(first, FIRST_PAUSE);
-    for round in 0..rounds {
-        if end == End::Closed && round == rounds / 2 {
-            live.close(rt);
+) -> Result<(), SpeedFault> {
+    let mut record = mix(course.phase).wrapping_add(own.number() as u64);
+    let mut draws = below(record, FIRST_PAUSE);
+    for round in 0..course.rounds {
+        if course.closes_at(round) {
+            own.live().close(rt);
         }
-        let number = put(rt, alloc, live, seat, &[record])?;
-        record = pause(record, draws);
-        let (settled, _) = live.settled(seat);
-        draws = next_pause(draws, settled <= number, record);
-        wait_for(rt, live, seat, number)?;
+        (record, draws) = make_round(rt, alloc, own, record, draws)?;
         watch.count();
     }
     Ok(())
 }
 
-impl Waiter<'_> {
-    /// Makes its rounds, and leaves.
-    fn run<E: Wait>(
-        self,
-        rt: &E,
-        alloc: Global,
-        rounds: u64,
-        end: End,
-        watch: &Watch,
-    ) -> Result<(), SpeedFault> {
-        let Waiter {
-            live,
-            mut seat,
-            first,
-        } = self;
-        let made = make_rounds(rt, alloc, live, &mut seat, first, rounds, end, watch);
-        watch.leave(rt);
-        if end.allows(made) { Ok(()) } else { made }
-    }
-}
-
-/// A waiter for each seat.
-fn waiters_of<'a>(
+/// What one thread does: it makes its rounds, and leaves.
+fn wait_as<E: Wait>(
+    rt: &E,
     alloc: Global,
-    live: &'a Live<u64>,
-    seats: Vec<Seat<u64>>,
-    phase: u64,
-) -> Result<Vec<Waiter<'a>>, AllocError>
-    requires { AreNewSeats live.now.directory live.now.mark seats.items }
-{
-    let mut seats = seats;
-    let count = seats.len();
-    let mut waiters = Vec::with_capacity(alloc, count)?;
-    for thread in 0..count {
-        if let Some(seat) = take_seat(live, &mut seats) {
-            waiters.push(Waiter {
-                live,
-                seat,
-                first: mix(phase).wrapping_add(thread as u64),
-            })?;
-        }
+    own: Seated,
+    course: Course,
+    watch: &Watch,
+) -> Result<(), SpeedFault> {
+    let mut own = own;
+    let made = make_rounds(rt, alloc, &mut own, course, watch);
+    watch.leave(rt);
+    if course.end.allows(made) {
+        Ok(())
+    } else {
+        made
     }
-    Ok(waiters)
 }
 
 /// Waits until the threads are through. Where they stand still it tells so, and closes the phase, so that those end that
@@ -197,35 +176,69 @@ fn run_waiters<E: Threads + Wait + Clock + Eprint + Sync>(
     rt: &E,
     alloc: Global,
     live: &Live<u64>,
-    seats: Vec<Seat<u64>>,
-    rounds: u64,
-    end: End,
-    phase: u64,
-) -> Result<(), SpeedFault>
-    requires { AreNewSeats live.now.directory live.now.mark seats.items }
-{
+    waiters: Vec<Seated>,
+    course: Course,
+) -> Result<(), SpeedFault> {
     let watch = &Watch::new();
-    let waiters = waiters_of(alloc, live, seats, phase)?;
     thread::scope(
         thread::scope_env(),
         rt,
         move |scope| -> Result<(), SpeedFault> {
             let threads = waiters.len() as u64;
             let mut running = Vec::with_capacity(alloc, waiters.len())?;
-            for waiter in waiters {
-                let Ok(thread) = scope.spawn(move || waiter.run(rt, alloc, rounds, end, watch))
-                else {
+            for own in waiters {
+                let Ok(thread) = scope.spawn(move || wait_as(rt, alloc, own, course, watch)) else {
                     return Err(SpeedFault::Thread);
                 };
                 running.push(thread)?;
             }
-            watch_over(rt, live, watch, threads, phase)?;
+            watch_over(rt, live, watch, threads, course.phase)?;
             for thread in running {
                 thread.join(rt)?;
             }
             Ok(())
         },
     )
+}
+
+/// Runs the waiters beside who commits, and closes the phase. How the commits ended.
+fn run_beside<E: Threads + Wait + Clock + Eprint + Sync, D: Disk + Send + Drop>(
+    rt: &E,
+    alloc: Global,
+    live: &Live<u64>,
+    waiters: Vec<Seated>,
+    committer: Committer<'_, D>,
+    course: Course,
+) -> Result<Result<Instant, SpeedFault>, SpeedFault> {
+    let (waited, ended) = serve_beside(rt, committer, move || -> Result<(), SpeedFault> {
+        let waited = run_waiters(rt, alloc, live, waiters, course);
+        live.close(rt);
+        waited
+    })?;
+    waited?;
+    Ok(ended)
+}
+
+/// Runs them in the phase.
+fn run_all<E: Threads + Wait + Clock + Eprint + Sync, D: Disk + Send + Drop>(
+    rt: &E,
+    alloc: Global,
+    served: Served<D>,
+    course: Course,
+) -> Result<Result<Instant, SpeedFault>, SpeedFault> {
+    let Served {
+        live,
+        seats,
+        flusher,
+    } = served;
+    let committer = Committer {
+        live: &live,
+        flusher,
+    };
+    match seat_all(alloc, &live, seats) {
+        Ok(waiters) => run_beside(rt, alloc, &live, waiters, committer, course),
+        Err(_) => Err(SpeedFault::Memory),
+    }
 }
 
 /// A phase of its own, over a new file in memory, with so many threads. How many growths it settled isn't told: where the
@@ -241,27 +254,9 @@ pub fn run_phase<E: Threads + Wait + Clock + Eprint + Sync>(
     let room = rounds.saturating_mul(threads as u64);
     let disk = FuseDisk::new(RamDisk::new(alloc), end.calls(), Blow::Stop);
     let served = Served::begin(alloc, disk, room, threads)?;
-    let Served {
-        live,
-        seats,
-        flusher,
-    } = served;
-    let shared = &live;
-    let (waited, ended) = serve_beside(
-        rt,
-        shared,
-        flusher,
-        move || -> Result<(), SpeedFault>
-            requires { AreNewSeats shared.now.directory shared.now.mark seats.items }
-        {
-            let waited = run_waiters(rt, alloc, shared, seats, rounds, end, phase);
-            shared.close(rt);
-            waited
-        },
-    )?;
-    waited?;
-    match ended {
-        Err(fault) if end.calls() == u64::MAX => Err(fault),
+    let course = Course { phase, rounds, end };
+    match run_all(rt, alloc, served, course)? {
+        Err(fault) if !matches!(end, End::Stopped(_)) => Err(fault),
         _ => Ok(()),
     }
 }
@@ -278,12 +273,6 @@ pub fn waits<E: Threads + Wait + Clock + Eprint + Sync>(
         run_phase(rt, alloc, sizes.threads, sizes.rounds, End::Whole, phase)?;
     }
     let rounds = sizes.rounds.wrapping_mul(sizes.threads as u64);
-    let figure = Figure {
-        work: "waits",
-        threads: sizes.threads as u64,
-        n: rounds.wrapping_mul(sizes.phases),
-        time: start.elapsed(rt)?,
-        detail: None,
-    };
-    Ok(Vec::from_array(alloc, [figure])?)
+    let n = rounds.wrapping_mul(sizes.phases);
+    Figure::new("waits", sizes.threads as u64, n, start.elapsed(rt)?).alone(alloc)
 }

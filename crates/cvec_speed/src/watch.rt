@@ -14,6 +14,7 @@ pub struct Watch {
 }
 
 impl Watch {
+    /// No thread has made a round, and none is through.
     pub fn new() -> Watch {
         Watch {
             rounds: AtomicU64::new(0),

@@ -37,7 +37,7 @@ pub enum Work<'a> {
 }
 
 /// Why words name no work.
-#[derive(Clone, Copy, Debug, PartialEq, Eq)]
+#[derive(Clone, Copy)]
 pub enum WordsFault {
     /// The first word is no work, or there is none.
     NoWork,
@@ -62,61 +62,82 @@ fn size_of(words: &[String], name: &str) -> Option<u64> {
     text_of(words, name)?.parse().ok()
 }
 
-fn grow_sizes(words: &[String]) -> Option<GrowSizes> {
-    let threads = u16::try_from(size_of(words, "threads")?).ok()?;
-    let block = u32::try_from(size_of(words, "block")?).ok()?;
-    let n = size_of(words, "n")?;
-    if threads == 0 || block == 0 {
-        return None;
+/// The number of threads, at least one.
+fn threads_of(words: &[String]) -> Option<u16>
+    ensures { IfSome result (λ threads. 0 < threads) }
+{
+    match text_of(words, "threads")?.parse() {
+        Ok(0) | Err(_) => None,
+        Ok(threads) => Some(threads),
     }
-    Some(GrowSizes { threads, block, n })
 }
 
-fn beside_sizes(words: &[String]) -> Option<BesideSizes> {
-    let readers = u16::try_from(size_of(words, "threads")?).ok()?;
-    let block = u32::try_from(size_of(words, "block")?).ok()?;
-    let before = size_of(words, "preload")?;
-    let n = size_of(words, "n")?;
-    let most = Duration::from_millis(size_of(words, "cap_ms")?);
-    if block == 0 {
-        return None;
+/// The length of that name, at least 1.
+fn length_of(words: &[String], name: &str) -> Option<u32>
+    ensures { IfSome result (λ length. 0 < length) }
+{
+    match text_of(words, name)?.parse() {
+        Ok(0) | Err(_) => None,
+        Ok(length) => Some(length),
     }
-    Some(BesideSizes {
-        readers,
-        block,
-        before,
-        n,
-        most,
+}
+
+/// The milliseconds of that name.
+fn time_of(words: &[String], name: &str) -> Option<Duration> {
+    Some(Duration::from_millis(size_of(words, name)?))
+}
+
+fn grow_sizes(words: &[String]) -> Option<GrowSizes> {
+    Some(GrowSizes {
+        threads: threads_of(words)?,
+        block: length_of(words, "block")?,
+        n: size_of(words, "n")?,
     })
 }
 
-fn read_sizes(words: &[String]) -> Option<ReadSizes> {
-    let block = u32::try_from(size_of(words, "block")?).ok()?;
-    let n = size_of(words, "n")?;
-    let draws = size_of(words, "draws")?;
-    if block == 0 {
-        return None;
-    }
-    Some(ReadSizes { block, n, draws })
+fn grow_work(words: &[String]) -> Option<Work<'_>> {
+    Some(Work::Grow(grow_sizes(words)?))
 }
 
-fn memory_sizes(words: &[String]) -> Option<MemorySizes> {
-    let block = u32::try_from(size_of(words, "block")?).ok()?;
-    let n = size_of(words, "n")?;
-    if block == 0 {
-        return None;
-    }
-    Some(MemorySizes { block, n })
+fn append_work(words: &[String]) -> Option<Work<'_>> {
+    Some(Work::Append(grow_sizes(words)?))
+}
+
+fn beside_work(words: &[String]) -> Option<Work<'_>> {
+    Some(Work::Beside(BesideSizes {
+        readers: text_of(words, "threads")?.parse().ok()?,
+        block: length_of(words, "block")?,
+        before: size_of(words, "preload")?,
+        n: size_of(words, "n")?,
+        most: time_of(words, "cap_ms")?,
+    }))
+}
+
+fn read_work(words: &[String]) -> Option<Work<'_>> {
+    Some(Work::Read(ReadSizes {
+        block: length_of(words, "block")?,
+        n: size_of(words, "n")?,
+        draws: size_of(words, "draws")?,
+    }))
+}
+
+fn memory_work(words: &[String]) -> Option<Work<'_>> {
+    Some(Work::Memory(MemorySizes {
+        block: length_of(words, "block")?,
+        n: size_of(words, "n")?,
+    }))
 }
 
 fn store_sizes(words: &[String]) -> Option<StoreSizes<'_>> {
-    let dir = text_of(words, "dir")?;
-    let block = u32::try_from(size_of(words, "block")?).ok()?;
-    let n = size_of(words, "n")?;
-    if block == 0 {
-        return None;
-    }
-    Some(StoreSizes { dir, block, n })
+    Some(StoreSizes {
+        dir: text_of(words, "dir")?,
+        block: length_of(words, "block")?,
+        n: size_of(words, "n")?,
+    })
+}
+
+fn build_work(words: &[String]) -> Option<Work<'_>> {
+    Some(Work::Build(store_sizes(words)?))
 }
 
 /// The name of a figure of opening.
@@ -132,14 +153,12 @@ fn open_work(words: &[String]) -> Option<Work<'_>> {
     Some(Work::Open(store_sizes(words)?, figure_name(words)?))
 }
 
-fn fold_sizes(words: &[String]) -> Option<FoldSizes<'_>> {
-    let dir = text_of(words, "dir")?;
-    let run = u32::try_from(size_of(words, "run")?).ok()?;
-    let n = size_of(words, "n")?;
-    if run == 0 {
-        return None;
-    }
-    Some(FoldSizes { dir, run, n })
+fn fold_work(words: &[String]) -> Option<Work<'_>> {
+    Some(Work::Fold(FoldSizes {
+        dir: text_of(words, "dir")?,
+        run: length_of(words, "run")?,
+        n: size_of(words, "n")?,
+    }))
 }
 
 fn mode_of(words: &[String]) -> Option<Mode> {
@@ -151,60 +170,43 @@ fn mode_of(words: &[String]) -> Option<Mode> {
     }
 }
 
-fn durable_sizes(words: &[String]) -> Option<DurableSizes<'_>> {
-    let dir = text_of(words, "dir")?;
-    let mode = mode_of(words)?;
-    let threads = u16::try_from(size_of(words, "threads")?).ok()?;
-    let block = u32::try_from(size_of(words, "block")?).ok()?;
-    let n = size_of(words, "n")?;
-    let most = Duration::from_millis(size_of(words, "box_ms")?);
-    if threads == 0 || block == 0 {
-        return None;
-    }
-    Some(DurableSizes {
-        dir,
-        mode,
-        threads,
-        block,
-        n,
-        most,
-    })
+fn durable_work(words: &[String]) -> Option<Work<'_>> {
+    Some(Work::Durable(DurableSizes {
+        dir: text_of(words, "dir")?,
+        mode: mode_of(words)?,
+        grow: grow_sizes(words)?,
+        most: time_of(words, "box_ms")?,
+    }))
+}
+
+fn owned_work(words: &[String]) -> Option<Work<'_>> {
+    Some(Work::Owned(OwnedSizes {
+        dir: text_of(words, "dir")?,
+        n: size_of(words, "n")?,
+    }))
+}
+
+fn crew_work(words: &[String]) -> Option<Work<'_>> {
+    Some(Work::Crew(CrewSizes {
+        dir: text_of(words, "dir")?,
+        grow: grow_sizes(words)?,
+    }))
 }
 
 fn waits_sizes(words: &[String]) -> Option<WaitsSizes> {
-    let threads = u16::try_from(size_of(words, "threads")?).ok()?;
-    let phases = size_of(words, "phases")?;
-    let rounds = size_of(words, "rounds")?;
-    if threads == 0 {
-        return None;
-    }
     Some(WaitsSizes {
-        threads,
-        phases,
-        rounds,
+        threads: threads_of(words)?,
+        phases: size_of(words, "phases")?,
+        rounds: size_of(words, "rounds")?,
     })
 }
 
-fn owned_sizes(words: &[String]) -> Option<OwnedSizes<'_>> {
-    let dir = text_of(words, "dir")?;
-    let n = size_of(words, "n")?;
-    Some(OwnedSizes { dir, n })
+fn waits_work(words: &[String]) -> Option<Work<'_>> {
+    Some(Work::Waits(waits_sizes(words)?))
 }
 
-fn crew_sizes(words: &[String]) -> Option<CrewSizes<'_>> {
-    let dir = text_of(words, "dir")?;
-    let threads = u16::try_from(size_of(words, "threads")?).ok()?;
-    let block = u32::try_from(size_of(words, "block")?).ok()?;
-    let n = size_of(words, "n")?;
-    if threads == 0 || block == 0 {
-        return None;
-    }
-    Some(CrewSizes {
-        dir,
-        threads,
-        block,
-        n,
-    })
+fn stress_work(words: &[String]) -> Option<Work<'_>> {
+    Some(Work::Stress(waits_sizes(words)?))
 }
 
 /// What the words ask for.
@@ -213,19 +215,19 @@ pub fn read_words(words: &[String]) -> Result<Work<'_>, WordsFault> {
         return Err(WordsFault::NoWork);
     };
     let work = match work.as_str() {
-        "grow" => grow_sizes(sizes).map(|sizes| Work::Grow(sizes)),
-        "append" => grow_sizes(sizes).map(|sizes| Work::Append(sizes)),
-        "beside" => beside_sizes(sizes).map(|sizes| Work::Beside(sizes)),
-        "read" => read_sizes(sizes).map(|sizes| Work::Read(sizes)),
-        "memory" => memory_sizes(sizes).map(|sizes| Work::Memory(sizes)),
-        "open-build" => store_sizes(sizes).map(|sizes| Work::Build(sizes)),
+        "grow" => grow_work(sizes),
+        "append" => append_work(sizes),
+        "beside" => beside_work(sizes),
+        "read" => read_work(sizes),
+        "memory" => memory_work(sizes),
+        "open-build" => build_work(sizes),
         "open-read" => open_work(sizes),
-        "fold" => fold_sizes(sizes).map(|sizes| Work::Fold(sizes)),
-        "vault" => owned_sizes(sizes).map(|sizes| Work::Owned(sizes)),
-        "crew" => crew_sizes(sizes).map(|sizes| Work::Crew(sizes)),
-        "durable" => durable_sizes(sizes).map(|sizes| Work::Durable(sizes)),
-        "waits" => waits_sizes(sizes).map(|sizes| Work::Waits(sizes)),
-        "stress" => waits_sizes(sizes).map(|sizes| Work::Stress(sizes)),
+        "fold" => fold_work(sizes),
+        "vault" => owned_work(sizes),
+        "crew" => crew_work(sizes),
+        "durable" => durable_work(sizes),
+        "waits" => waits_work(sizes),
+        "stress" => stress_work(sizes),
         _ => return Err(WordsFault::NoWork),
     };
     work.ok_or(WordsFault::NoSize)

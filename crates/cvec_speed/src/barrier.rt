@@ -11,16 +11,17 @@ const PATIENCE: u64 = 60;
 
 /// Where so many threads wait until all of them are there.
 #[derive(Drop)]
-pub struct Gate {
+pub struct Barrier {
     there: AtomicU64,
     threads: u64,
     /// Whether one of them never comes.
     given_up: AtomicBool,
 }
 
-impl Gate {
-    pub fn new(threads: u64) -> Gate {
-        Gate {
+impl Barrier {
+    /// None of so many threads is there yet.
+    pub fn new(threads: u64) -> Barrier {
+        Barrier {
             there: AtomicU64::new(0),
             threads,
             given_up: AtomicBool::new(false),
@@ -53,7 +54,7 @@ impl Gate {
     }
 }
 
-/// When a thread came to the gate, and when it was done.
+/// When a thread came to the barrier, and when it was done.
 #[derive(Clone, Copy)]
 pub struct Span {
     pub came: Instant,
@@ -61,6 +62,14 @@ pub struct Span {
 }
 
 impl Span {
+    /// From that coming on until now.
+    pub fn since<E: Clock>(rt: &E, came: Instant) -> Result<Span, SpeedFault> {
+        Ok(Span {
+            came,
+            done: Instant::now(rt)?,
+        })
+    }
+
     /// The later coming, and the later end.
     pub fn joined(self, other: Option<Span>) -> Span {
         match other {
@@ -72,7 +81,7 @@ impl Span {
         }
     }
 
-    /// The time of joined spans: from the coming of the last thread, which opened the gate, to the end of the last
+    /// The time of joined spans: from the coming of the last thread, which let all pass, to the end of the last
     /// one.
     pub fn time(joined: Option<Span>) -> Duration {
         match joined {

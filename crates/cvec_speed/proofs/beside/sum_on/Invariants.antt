@@ -1,5 +1,0 @@
-use Rattle.book_core.specs.Lists.{IsSeatOf}
-use Rattle.cvec_speed.proofs.beside.sum_on.Given as goal
-
-abbrev pub invariant-loop : goal.invariant-loop
-invariant-loop g l = IsSeatOf l.live l.seat
