@@ -280,6 +280,3 @@ impl<R: Record> Directory<R> {
         }
     }
 }
-
-#[cfg(test)]
-mod tests;

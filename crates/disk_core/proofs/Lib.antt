@@ -3,7 +3,6 @@ pub mod JoinedMoments
 pub mod ImageLemmas
 pub mod PendingLemmas
 pub mod CallLemmas
-pub mod CommitLemmas
 mod ContentsLemmas
 mod LogLemmas
 pub mod FileLemmas

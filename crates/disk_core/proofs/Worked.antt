@@ -5,7 +5,6 @@ use Rattle.std.specs.Prelude.{◌↔◌, slice_index}
 use Rattle.disk_core.specs.declared.extent.Extent.{Extent}
 use Rattle.disk_core.specs.State.{State, now, settled, written, made_of, is_within, IsImage}
 use Rattle.disk_core.specs.Choice.{is_pending, pending_below, pending_count}
-use Rattle.disk_core.specs.Commit.{IsOldButBody, IsNewButGate, IsOldOrNew}
 use Rattle.disk_core.specs.Moments.{LeftSince, LeftBetween, LeavesOnly}
 
 abbrev extent : ℕ → ℕ → Extent
@@ -171,31 +170,3 @@ place_past = refl
 
 two_below : pending_below unsynced 3 ≡ 2
 two_below = refl
-
--- ---- a commit of the last two of three bytes and one past the end, behind a gate at place 0
-
--- before it is synced, and while it isn't opened: the byte outside of the body stays
-old_but_body : (a b c : ℕ) → IsOldButBody three 1 3 (1 ∷ a ∷ b ∷ c ∷ [])
-old_but_body a b c = record { no_shorter = omega arith; no_longer = omega arith; each = first_byte_stays (1 ∷ a ∷ b ∷ c ∷ []) refl }
-
-not_old : (a b c : ℕ) → IsOldButBody three 1 3 (9 ∷ a ∷ b ∷ c ∷ []) → ⊥
-not_old a b c is = differ 1 9 (omega arith) (sym (is.each 0 (omega arith) refl))
-
--- once it is synced: the gate alone may be anything
-new_but_gate : (a : ℕ) → IsNewButGate 0 (1 ∷ 7 ∷ 8 ∷ 9 ∷ []) (a ∷ 7 ∷ 8 ∷ 9 ∷ [])
-new_but_gate a = record { same_length = refl; each = each }
-  where
-    each : (i : ℕ) → i < 4 → (i ≡ 0 → ⊥) → slice_index (a ∷ 7 ∷ 8 ∷ 9 ∷ []) i ≡ slice_index (1 ∷ 7 ∷ 8 ∷ 9 ∷ []) i
-    each zero lt other = absurd (other refl)
-    each (suc i) lt other = refl
-
-not_new : (a : ℕ) → IsNewButGate 0 (1 ∷ 7 ∷ 8 ∷ 9 ∷ []) (a ∷ 2 ∷ 8 ∷ 9 ∷ []) → ⊥
-not_new a is = differ 2 7 (omega arith) (is.each 1 (omega arith) (λ one. differ 0 1 (omega arith) (sym one)))
-
-not_new_and_short : (a : ℕ) → IsNewButGate 0 (1 ∷ 7 ∷ 8 ∷ 9 ∷ []) (a ∷ 7 ∷ 8 ∷ []) → ⊥
-not_new_and_short a is = differ 3 4 (omega arith) is.same_length
-
--- neither: another byte outside of the body, and one of the body missing
-neither_old_nor_new : IsOldOrNew three 1 (7 ∷ 8 ∷ 9 ∷ []) 0 (9 ∷ 7 ∷ 2 ∷ 9 ∷ []) → ⊥
-neither_old_nor_new (inl old) = not_old 7 2 9 old
-neither_old_nor_new (inr new) = differ 2 8 (omega arith) (new.each 2 (omega arith) (λ two. differ 0 2 (omega arith) (sym two)))

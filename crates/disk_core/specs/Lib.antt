@@ -2,7 +2,6 @@ pub mod State
 pub mod Calls
 pub mod Moments
 pub mod Fault
-pub mod Commit
 pub mod History
 pub mod Contents
 pub mod Choice

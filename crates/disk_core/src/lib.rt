@@ -4,8 +4,6 @@
 
 mod blow;
 mod choice;
-#[cfg(test)]
-mod commit;
 mod contents;
 mod disk;
 mod event;
@@ -13,15 +11,11 @@ mod extent;
 mod fault;
 mod file;
 mod file_event;
-#[cfg(test)]
-mod file_tests;
 mod fuse;
 mod image;
 mod log;
 mod ram;
 mod snapshot;
-#[cfg(test)]
-mod tests;
 mod truth;
 
 pub use blow::Blow;

@@ -1,0 +1,80 @@
+//! Blocks: their greatest length, and what was written through what they lend.
+
+use block_core::{Entry, Fresh, FreshFault, Label, Touch};
+use std::alloc::Global;
+use std::test::Fail;
+
+/// The square of the place, whatever stood there.
+struct Squares;
+
+impl Touch<u64> for Squares {
+    ghost use Rattle.std.specs.Prelude.{◌*◌};
+
+    ghost one = { λ _ at _. at * at };
+
+    fn one(&self, at: u64, _r: u64) -> u64 {
+        at * at
+    }
+}
+
+/// Why no block of so many records is made.
+fn refused(alloc: Global, n: u64) -> Option<FreshFault> {
+    Fresh::filled(alloc, n, 1u64).err()
+}
+
+/// The most records of u64: 8 + 131,071 * 8 is 1,048,576.
+#[test]
+fn a_block_is_as_long_as_one_frame_holds(rt: HostRuntime) {
+    let alloc = rt.alloc();
+    let faults = [0, 1, 131_071, 131_072, u64::MAX].map(|n| refused(alloc, n));
+    let large = Some(FreshFault::TooLarge);
+    let want = [Some(FreshFault::Empty), None, None, large, large];
+    assert_eq!(rt; faults, want);
+}
+
+#[test]
+fn parts_and_halves_are_written_through(rt: HostRuntime) -> Result<(), Fail> {
+    let mut fresh = Fresh::filled(rt.alloc(), 10, 0u64)?;
+    let mut at = 0u64;
+    for part in fresh.parts_mut(3) {
+        if at < 10 && part.len() <= 3 {
+            Squares.touch(at, part);
+        }
+        at = at.wrapping_add(part.len() as u64);
+    }
+    let (front, back) = fresh.split_mut(2);
+    front[0] = 7;
+    back[0] = 8;
+    let want = [7, 1, 8, 9, 16, 25, 36, 49, 64, 81];
+    assert_eq!(rt; (fresh.records(), at), (want.as_slice(), 10));
+    Ok(())
+}
+
+const LABEL: Label = Label {
+    number: 4,
+    start: 9,
+    seat: 2,
+    serial: 3,
+};
+
+/// What an entry says of itself.
+fn label_of(entry: &Entry<u64>) -> [u64; 4] {
+    [
+        entry.number(),
+        entry.start(),
+        entry.seat() as u64,
+        entry.serial(),
+    ]
+}
+
+#[test]
+fn a_sealed_block_has_its_label_and_its_records(rt: HostRuntime) -> Result<(), Fail> {
+    let entry = Fresh::from_slice(rt.alloc(), &[5u64, 6, 7])?.seal(LABEL);
+    let label = label_of(&entry);
+    let fresh = Fresh::unseal(entry);
+    assert_eq!(rt;
+        (label, fresh.records()),
+        ([4, 9, 2, 3], [5, 6, 7].as_slice())
+    );
+    Ok(())
+}

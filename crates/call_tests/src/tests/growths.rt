@@ -1,0 +1,179 @@
+//! Growths by each call, appenders, and what seats read of them.
+
+ghost use Rattle.std.specs.Prelude.{◌≡◌};
+ghost use Rattle.book_core.specs.Lists.{IsSeatOf};
+
+use block_core::Fresh;
+use book_core::{Appender, Begun, GrowFault, Live, Receipt, Seat};
+use std::alloc::Global;
+use std::sync::Wait;
+use std::test::Fail;
+
+/// A book and its two seats.
+#[derive(Drop)]
+struct Two {
+    live: Live<u64>,
+    first: Seat<u64>,
+    second: Seat<u64>,
+    ghost of: { IsSeatOf live first × IsSeatOf live second },
+}
+
+/// A book over no records, with that room and two seats.
+fn begin_two(alloc: Global, room: u64) -> Option<Two> {
+    let Ok(begun) = Live::begin(alloc, Vec::new(alloc), room, 2) else {
+        return None;
+    };
+    let Begun {
+        live,
+        mut seats,
+        ..
+    } = begun;
+    let second = live.take_seat(&mut seats)?;
+    let first = live.take_seat(&mut seats)?;
+    Some(Two {
+        live,
+        first,
+        second,
+    })
+}
+
+/// The start and the length of a growth.
+fn range_of(receipt: Receipt) -> [u64; 2] {
+    [receipt.start, receipt.len]
+}
+
+/// The ranges that stand behind three records: of a growth to 5, of one record and of two copies; and whether a second
+/// growth to 5 makes none.
+fn fill_up_and_grow<E: Wait>(
+    rt: &E,
+    live: &Live<u64>,
+    seat: &mut Seat<u64>,
+) -> Option<([[u64; 2]; 3], bool)>
+    requires { IsSeatOf live.now seat.old }
+{
+    live.grow_by(rt, seat, 3, 1).ok()?;
+    let filled = live.grow_to_at_least(rt, seat, 5, 9).ok()??;
+    let again = live.grow_to_at_least(rt, seat, 5, 9).ok()?;
+    let one = live.push_back(rt, seat, 4).ok()?;
+    let copies = live.grow_by(rt, seat, 2, 8).ok()?;
+    Some(([filled, one, copies].map(range_of), again.is_none()))
+}
+
+#[test]
+fn growths_stand_behind_one_another(rt: HostRuntime) -> Result<(), Fail> {
+    let Two {
+        live,
+        mut first,
+        ..
+    } = begin_two(rt.alloc(), 8).ok_or("no book")?;
+    let grown = fill_up_and_grow(&rt, &live, &mut first);
+    assert_eq!(rt; grown, Some(([[3, 2], [5, 1], [6, 2]], true)));
+    Ok(())
+}
+
+/// What the four growth calls are refused for once the book is closed.
+fn grow_closed<E: Wait>(
+    rt: &E,
+    alloc: Global,
+    live: &Live<u64>,
+    seat: &mut Seat<u64>,
+) -> Option<[Option<GrowFault>; 4]>
+    requires { IsSeatOf live.now seat.old }
+{
+    live.close(rt);
+    let fresh = Fresh::from_slice(alloc, &[7]).ok()?;
+    let block = match live.grow(rt, seat, fresh) {
+        Ok(_) => None,
+        Err((_, fault)) => Some(fault),
+    };
+    Some([
+        block,
+        live.push_back(rt, seat, 1).err(),
+        live.grow_by(rt, seat, 2, 1).err(),
+        live.grow_to_at_least(rt, seat, 9, 1).err(),
+    ])
+}
+
+#[test]
+fn a_closed_book_refuses_each_growth(rt: HostRuntime) -> Result<(), Fail> {
+    let Two {
+        live,
+        mut first,
+        ..
+    } = begin_two(rt.alloc(), 8).ok_or("no book")?;
+    let closed = grow_closed(&rt, rt.alloc(), &live, &mut first);
+    assert_eq!(rt; closed, Some([Some(GrowFault::Closed); 4]));
+    Ok(())
+}
+
+/// The sizes that two seats know behind [1, 2] of the first and [3] of the second, before the first meets the second
+/// and after.
+fn meet_after_two<E: Wait>(
+    rt: &E,
+    live: &Live<u64>,
+    first: &mut Seat<u64>,
+    second: &mut Seat<u64>,
+) -> Option<[u64; 4]>
+    requires { IsSeatOf live.now first.old × IsSeatOf live.now second.old }
+    ensures { IsSeatOf live.now first.new }
+{
+    live.grow_slice(rt, first, &[1, 2]).ok()?;
+    live.push_back(rt, second, 3).ok()?;
+    let before = [live.size(first), live.size(second)];
+    live.meet(first, second);
+    Some([before[0], before[1], live.size(first), live.size(second)])
+}
+
+/// The records at four positions, and how many pieces there are and stand from a position on.
+fn read_each(live: &Live<u64>, seat: &mut Seat<u64>) -> ([Option<u64>; 4], [u64; 2])
+    requires { IsSeatOf live.now seat.old }
+{
+    let zeroth = live.get(seat, 0).copied();
+    let first = live.get(seat, 1).copied();
+    let second = live.get(seat, 2).copied();
+    let third = live.get(seat, 3).copied();
+    let pieces = live.pieces(seat).left();
+    let behind = live.pieces_from(seat, 2).left();
+    ([zeroth, first, second, third], [pieces, behind])
+}
+
+#[test]
+fn a_seat_reads_what_it_meets(rt: HostRuntime) -> Result<(), Fail> {
+    let Two {
+        live,
+        mut first,
+        mut second,
+        ..
+    } = begin_two(rt.alloc(), 8).ok_or("no book")?;
+    let sizes = meet_after_two(&rt, &live, &mut first, &mut second);
+    let read = read_each(&live, &mut first);
+    let want = ([Some(1), Some(2), Some(3), None], [2, 1]);
+    assert_eq!(rt; (sizes, read), (Some([2, 3, 3, 3]), want));
+    Ok(())
+}
+
+/// Pushes 0, 1, .. 6 by an appender of three, and answers what a snapshot then has.
+fn append_seven<E: Wait>(
+    rt: &E,
+    alloc: Global,
+    live: &Live<u64>,
+    seat: Seat<u64>,
+) -> Option<Vec<u64>>
+    requires { IsSeatOf live.now seat }
+{
+    let mut appender = Appender::new(alloc, seat, 3).ok()?;
+    for v in 0..7 {
+        appender.push(rt, live, v).ok()?;
+    }
+    let (mut seat, _) = appender.finish(rt, live).ok()?;
+    let snapshot = live.snapshot(&mut seat).ok()?;
+    snapshot.iter().copied().collect(alloc).ok()
+}
+
+#[test]
+fn records_are_grown_by_in_blocks(rt: HostRuntime) -> Result<(), Fail> {
+    let Two { live, first, .. } = begin_two(rt.alloc(), 8).ok_or("no book")?;
+    let records = append_seven(&rt, rt.alloc(), &live, first).ok_or("refused")?;
+    assert_eq!(rt; records.as_slice(), [0, 1, 2, 3, 4, 5, 6].as_slice());
+    Ok(())
+}

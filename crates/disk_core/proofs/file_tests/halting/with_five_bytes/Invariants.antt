@@ -1,5 +1,0 @@
-use Rattle.disk_core.proofs.FileLemmas.{five_bytes}
-use Rattle.disk_core.proofs.file_tests.halting.with_five_bytes.Given as goal
-
-abbrev pub ghost-over : goal.ghost-over
-ghost-over g a = five_bytes

@@ -1,0 +1,15 @@
+use Rattle.std.proofs.Common.{ap, subst, ◌∙◌}
+use Rattle.book_core.specs.Marks.{MarkEnd}
+use Rattle.pen_core.specs.PenOf.{PenOf}
+use Rattle.thread_tests.proofs.tests.serving.find_growths.Goals as goal
+
+pub returns : goal.returns
+returns g c =
+    let is = c.requires in
+    let learns = c.look.ensures.learns in
+    record {
+      directory = learns.of_same ∙ is.directory;
+      mark = ap (λ (m : MarkEnd). m.of) learns.mark_same ∙ is.mark;
+      before = learns.before_same ∙ is.before;
+      opening = λ model. learns.opening_same ∙ is.opening (subst (λ (p : PenOf _). g.D.Disk.keeps p.disk) learns.pen_same model);
+    }

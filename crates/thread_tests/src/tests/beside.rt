@@ -1,0 +1,83 @@
+//! A crew grows in threads beside one another.
+
+use book_core::Receipt;
+use disk_core::RamDisk;
+use segment_core::Format;
+use std::alloc::{AllocError, Global};
+use std::sync::Wait;
+use std::sync::atomic::{AtomicU64, Ordering};
+use std::test::Fail;
+use std::thread::Threads;
+use vault_core::{Crewed, Gate, Lists, Vault, crew};
+
+/// A gate at which each of two growers waits for the other, and that notes their receipts.
+#[derive(Drop)]
+struct Both {
+    here: [AtomicU64; 2],
+    starts: [AtomicU64; 2],
+}
+
+impl Gate for Both {
+    ghost may_stop = { λ _ _ _. Unit {0} };
+
+    fn before(&self, grower: u16, _k: u32) -> bool {
+        let mine = (grower % 2) as usize;
+        self.here[mine].store(1, Ordering::SeqCst);
+        for _ in 0..100_000_000u64 {
+            if self.here[1 - mine].load(Ordering::SeqCst) == 1 {
+                return true;
+            }
+        }
+        false
+    }
+
+    fn after(&self, grower: u16, receipt: &Receipt) {
+        self.starts[(grower % 2) as usize].store(receipt.start, Ordering::SeqCst);
+    }
+}
+
+/// A vault over a new file in memory.
+fn new_vault(alloc: Global) -> Option<Vault<u64, RamDisk>> {
+    Vault::create_as(alloc, RamDisk::new(alloc), Format::One).ok()
+}
+
+/// For each of two growers one block of one record.
+fn two_lists(alloc: Global) -> Result<Vec<Vec<Vec<u64>>>, AllocError> {
+    let mut lists = Vec::new(alloc);
+    for record in 1..3u64 {
+        let one = Vec::from_slice(alloc, &[record])?;
+        let mut blocks = Vec::new(alloc);
+        blocks.push(one)?;
+        lists.push(blocks)?;
+    }
+    Ok(lists)
+}
+
+/// Whether both growers made their growth, where the gate was told: of the records 1 and 2, one each.
+fn have_both(crewed: &Crewed<u64, RamDisk>, gate: &Both) -> bool {
+    let mut found = true;
+    for (record, its) in [1, 2].iter().zip(crewed.receipts.iter()) {
+        let told = gate.starts[(record - 1) as usize].load(Ordering::SeqCst);
+        let starts = its.iter().map(|receipt| receipt.start);
+        found = found && starts.eq([told]) && crewed.vault.get(told) == Some(record);
+    }
+    found && crewed.vault.len() == 2
+}
+
+#[test]
+fn two_growers_grow_beside_each_other(rt: HostRuntime) -> Result<(), Fail> {
+    let alloc = rt.alloc();
+    let lists = two_lists(alloc)?;
+    let vault = new_vault(alloc).ok_or("no vault")?;
+    let gate = Both {
+        here: [AtomicU64::new(0), AtomicU64::new(0)],
+        starts: [AtomicU64::new(9), AtomicU64::new(9)],
+    };
+    let source = Lists::try_new(lists.as_slice()).ok_or("too many")?;
+    let Ok(crewed) = crew(&rt, alloc, vault, &source, &gate) else {
+        return Err(Fail::from("no crew"));
+    };
+    let unfaulted = crewed.faults.as_slice() == [None, None].as_slice();
+    assert_eq!(rt; (unfaulted, have_both(&crewed, &gate)), (true, true));
+    Ok(())
+}
