@@ -1,5 +1,5 @@
 -- The bytes of record i stand at i times the width, in what is written and in what is read.
-use Rattle.std.proofs.Common.{◌≡◌, ℕ, zero, suc, subst, ◌-◌, ◌+◌, ◌*◌, ◌≤◌, ◌<◌, List, [], ◌∷◌, ◌++◌, length, take, drop, get_or, Option, Some, None, refl, sym, ap, ◌∙◌, arith, inl, inr}
+use Rattle.std.proofs.Common.{◌≡◌, ℕ, zero, suc, subst, ◌-◌, ◌+◌, ◌*◌, ◌≤◌, ◌<◌, List, [], ◌∷◌, ◌++◌, length, take, drop, get_or, Option, Some, None, refl, sym, ap, ◌∙◌, arith, rules, inl, inr}
 use Rattle.std.specs.Prelude.{slice_get, slice_set, IsSome}
 use Rattle.std.specs.List.{flat_map}
 use Rattle.std.proofs.lemmas.Bool.{cases_lt}
@@ -123,3 +123,13 @@ AreRecords_read form bytes count i records filled all read = record {
   filled = filled ∙ ap (λ n. n * form.width) (sym all ∙ sym read.so_far);
   each = λ k lt. read.each k (omega (arith, read.so_far));
 }
+
+-- ---- what was read stands
+
+pub slice_get-inside : {X : Type 0} (xs : List X) (i : ℕ) → i < length xs → IsSome (slice_get xs i)
+slice_get-inside [] i lt = absurd (omega arith)
+slice_get-inside (x ∷ xs) zero lt = search rules
+slice_get-inside (x ∷ xs) (suc i) lt = slice_get-inside xs i (omega arith)
+
+pub HasRead_some : {R : Type 0} (form : Encoding R) (bytes : List ℕ) (i : ℕ) (rs : List R) → HasRead form bytes i rs → (k : ℕ) → k < i → IsSome (form.value_of (cell form.width bytes k))
+HasRead_some form bytes i rs read k lt = subst IsSome (sym (read.each k lt)) (slice_get-inside rs k (omega arith))

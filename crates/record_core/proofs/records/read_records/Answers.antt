@@ -2,7 +2,7 @@ use Rattle.std.proofs.Common.{◌≡◌, true, cond, List, [], ◌∷◌, ◌++�
 use Rattle.std.specs.Prelude.{is_ok}
 use Rattle.std.proofs.lemmas.List.{append-nil, append_assoc}
 use Rattle.record_core.specs.Cells.{cell}
-use Rattle.record_core.proofs.Cells.{cell_is, HasRead_more, HasRead_all, AreRecords_read}
+use Rattle.record_core.proofs.Cells.{cell_is, HasRead_some, HasRead_more, HasRead_all, AreRecords_read}
 use Rattle.record_core.proofs.records.read_records.Goals as goal
 
 pub loop-i-init : goal.loop-i-init
@@ -26,3 +26,8 @@ pub returns-clause-kept : goal.returns-clause-kept
 returns-clause-kept g c =
     let read = c.loop-i.invariant in
     (read.0, read.1, HasRead_all g.R.Record.form c.args.bytes.now c.loop-i.i read.0 read.2, tt)
+
+pub returns-in_default-clause-bad : goal.returns-in_default-clause-bad
+returns-in_default-clause-bad g c =
+    let now : g.R.Record.form.value_of (cell g.R.Record.form.width c.args.bytes.now c.loop-i.i) ≡ c.take.result = ap g.R.Record.form.value_of (cell_is g.R.Record.form.width c.width_of-width.result c.args.bytes.now c.loop-i.i c.width_of-width.ensures.is) ∙ sym c.take.ensures in
+    record { inside = omega arith; bad = now ∙ c.in_default.is; before = HasRead_some g.R.Record.form c.args.bytes.now c.loop-i.i c.loop-i.invariant.0 c.loop-i.invariant.2 }
