@@ -1,8 +1,11 @@
-use Rattle.std.proofs.Common.{◌≡◌, ◌+◌, length, take, length-take, refl, ap, ◌∙◌, arith}
+use Rattle.std.proofs.Common.{◌≡◌, ◌+◌, ◌-◌, length, take, length-take, inl, inr, refl, ap, subst, ◌∙◌, arith}
 use Rattle.disk_core.specs.State.{now, IsImage}
 use Rattle.disk_core.specs.Calls.{bytes_of}
+use Rattle.disk_core.specs.Moments.{clock}
 use Rattle.disk_core.proofs.JoinedMoments.{LeavesOnly-start}
-use Rattle.pen_core.proofs.Pieces.{taken_nothing, taken_same, one_more_stays, next_piece, needed_more}
+use Rattle.segment_core.specs.Scanner.{IsDecided}
+use Rattle.pen_core.specs.Opening.{pieces_of, pieces_front}
+use Rattle.pen_core.proofs.Pieces.{taken_nothing, taken_same, one_more_stays, next_piece, needed_more, needed_enough, read_all}
 use Rattle.pen_core.proofs.open.feed_all.Goals as goal
 
 pub loop-at-init : goal.loop-at-init
@@ -47,4 +50,28 @@ loop-at-preserved g c =
           let m = c.feed_piece.ensures.model model in
           needed_more g.R.Record.form (g.D.Disk.keeps c.loop-at.disk) (bytes_of old) c.loop-at.at c.loop-at.scanner c.loop-at.invariant.taken m (c.loop-at.invariant.whole c.loop-at-test.true) (c.if-not-is_decided.ensures.cut refl) c.in_ok-feed_piece.ensures.lost (c.loop-at.invariant.needed m) k (omega (arith, lt, next.one_more)));
       faults = c.in_ok-feed_piece.ensures.faults ∙ c.loop-at.invariant.faults;
+    }
+
+pub returns-else-not-is_decided-clause-reads : goal.returns-else-not-is_decided-clause-reads
+returns-else-not-is_decided-clause-reads g c = λ model.
+    let old = g.D.Disk.states c.args.disk.now in
+    let reads : pieces_of c.loop-at.at ≡ clock (g.D.Disk.states c.loop-at.disk) - clock old = omega (arith, c.loop-at.invariant.time) in
+    let whole = c.loop-at.invariant.whole c.loop-at-test.true in
+    record {
+      enough = inr (subst (λ n. IsDecided g.R.Record.form (pieces_front n (bytes_of old))) reads
+          (needed_enough g.R.Record.form (g.D.Disk.keeps c.loop-at.disk) (bytes_of old) c.loop-at.at c.loop-at.scanner c.loop-at.invariant.taken model whole (c.if-not-is_decided.ensures.same refl)));
+      needed = λ k lt. c.loop-at.invariant.needed model k (omega (arith, lt, reads));
+    }
+
+pub returns-after-loop-at-clause-read : goal.returns-after-loop-at-clause-read
+returns-after-loop-at-clause-read g c = read_all g.R.Record.form (g.D.Disk.keeps c.loop-at.disk) (bytes_of (g.D.Disk.states c.args.disk.now)) c.args.len c.loop-at.at c.loop-at.scanner c.loop-at.invariant.taken c.loop-at.invariant.inside (omega arith) c.loop-at-test.false
+
+pub returns-after-loop-at-clause-reads : goal.returns-after-loop-at-clause-reads
+returns-after-loop-at-clause-reads g c = λ model.
+    let old = g.D.Disk.states c.args.disk.now in
+    let reads : clock (g.D.Disk.states c.loop-at.disk) - clock old ≡ pieces_of c.loop-at.at = omega (arith, c.loop-at.invariant.time) in
+    let end : c.loop-at.at ≡ length (bytes_of old) = omega (arith, c.requires.length (c.loop-at.invariant.model model)) in
+    record {
+      enough = inl (reads ∙ ap pieces_of end);
+      needed = λ k lt. c.loop-at.invariant.needed model k (omega (arith, lt, reads));
     }
