@@ -1,5 +1,5 @@
 -- The frames that are begun, from the tests of a begin.
-use Rattle.std.proofs.Common.{◌≡◌, ℕ, ◌+◌, ◌^◌, ◌≤◌, ◌<◌, Bool, false, List, Option, Some, None, refl, sym, ◌∙◌, arith}
+use Rattle.std.proofs.Common.{◌≡◌, ℕ, ◌+◌, ◌^◌, ◌≤◌, ◌<◌, Bool, false, List, Option, Some, None, refl, sym, subst, ◌∙◌, arith}
 use Rattle.std.specs.Prelude.{nat_le}
 use Rattle.std.specs.Option.{is_some}
 use Rattle.std.proofs.lemmas.Bool.{le-ltb, leb-false}
@@ -17,6 +17,10 @@ use Rattle.pen_core.specs.Inside.{job_of}
 pub no_step : (shape : Shape) (bytes : List ℕ) (o : Option Step) → is_some (job_of shape bytes o) ≡ false → o ≡ None
 no_step shape bytes None is = refl
 no_step shape bytes (Some step) is = absurd cc
+
+-- the bytes tell nothing then
+pub no_job_same : (shape : Shape) (bytes bytes' : List ℕ) (o : Option Step) → o ≡ None → job_of shape bytes' o ≡ job_of shape bytes o
+no_job_same shape bytes bytes' o idle = subst (λ s. job_of shape bytes' s ≡ job_of shape bytes s) (sym idle) refl
 
 -- a frame that doesn't fill the file, nor does a fold's behind it
 pub all_fits : (full : Bool) (gate payload fold : ℕ) → full ≡ nat_le (2 ^ 48) (gate + (6 + payload) + fold) → full ≡ false → gate + (6 + payload) + fold < 2 ^ 48

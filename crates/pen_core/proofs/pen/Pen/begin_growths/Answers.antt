@@ -12,7 +12,7 @@ use Rattle.segment_core.specs.Parsed.{vector_before}
 use Rattle.segment_core.proofs.Written.{sum-lengths}
 use Rattle.pen_core.specs.declared.step.Step.TheVariants.{Body}
 use Rattle.pen_core.specs.Refusals.{is_full, fold_len}
-use Rattle.pen_core.proofs.Begins.{no_step, all_fits, not_full}
+use Rattle.pen_core.proofs.Begins.{no_step, no_job_same, all_fits, not_full}
 use Rattle.pen_core.proofs.Growths.{few_growths, group_begun, group_at, group_tells}
 use Rattle.pen_core.specs.InHand.{fold_of}
 use Rattle.pen_core.proofs.InHand.{group_held}
@@ -57,7 +57,16 @@ overflow_add-payload-2 g c =
     let most = mul-le c.in-Some.records c.width_of.result (2 ^ 32) (2 ^ 16) small.1 (omega (arith, c.width_of.ensures.range.1)) in
     omega (arith, small.0, small.1)
 
+pub push_reserved-requires : goal.push_reserved-requires
+push_reserved-requires g c = omega (arith, on_ok c.reserve.result (sym c.is_err.ensures.value ∙ c.if-is_err.false) c.reserve.ensures.ok)
+
 -- ---- the pen
+
+pub invariant_of-self : goal.invariant_of-self
+invariant_of-self g c =
+    let s = c.self.inside in
+    at_rest (g.D.Disk.keeps s.disk) (g.D.Disk.states s.disk) s.shape s.gate s.tally s.next s.bytes.items s.bytes.items s.step s.broken s.homes (record { homes = c.reserve.new.self; live = s.homes.live }) s.live s.fold c.self.invariant.0 c.self.invariant.1 c.self.invariant.2
+    (no_step s.shape s.bytes.items s.step (subst (λ v. is_some v.job ≡ false) (sym c.self.view_is) c.in_ok-ready.ensures.idle)) c.reserve.ensures.items refl
 
 pub invariant_of-self-then-is_err-2 : goal.invariant_of-self-then-is_err-2
 invariant_of-self-then-is_err-2 g c =
@@ -136,7 +145,26 @@ returns-clause-next g c = rw (← c.self.view_is) (
     (subst (λ v. v.broken ≡ false) (sym c.self.view_is) c.in_ok-ready.ensures.whole) (no_step s.shape s.bytes.items s.step (subst (λ v. is_some v.job ≡ false) (sym c.self.view_is) c.in_ok-ready.ensures.idle)) (g.met.D.Disk.reads_an_image s.disk)
     spelled laws.width_in_range.0 width laws.width_of_bytes c.requires.some c.requires.each short fits room (vector_before s.shape s.gate (bytes_of (g.D.Disk.states s.disk))) records (on_ok c.append_group.result (sym c.is_err-2.ensures.value ∙ c.if-is_err-2.false) c.append_group.ensures.read_again) read)
 
+-- ---- where memory is refused
+
+pub returns-then-is_err-2-clause-unchanged : goal.returns-then-is_err-2-clause-unchanged
+returns-then-is_err-2-clause-unchanged g c = rw (← c.self.view_is) (
+    let s = c.self.inside in
+    let idle = no_step s.shape s.bytes.items s.step (subst (λ v. is_some v.job ≡ false) (sym c.self.view_is) c.in_ok-ready.ensures.idle) in
+    record { disk_same = refl; file_same = record { frames_same = refl; vector_same = refl }; job_same = no_job_same s.shape s.bytes.items c.append_group.new.file.items s.step idle; broken_same = refl; shape_same = refl; fold_same = refl; tally_same = refl; gate_same = refl })
+
+pub returns-then-is_err-3-clause-unchanged : goal.returns-then-is_err-3-clause-unchanged
+returns-then-is_err-3-clause-unchanged g c = rw (← c.self.view_is) (
+    let s = c.self.inside in
+    let idle = no_step s.shape s.bytes.items s.step (subst (λ v. is_some v.job ≡ false) (sym c.self.view_is) c.in_ok-ready.ensures.idle) in
+    record { disk_same = refl; file_same = record { frames_same = refl; vector_same = refl }; job_same = no_job_same s.shape s.bytes.items c.push.new.self.items s.step idle; broken_same = refl; shape_same = refl; fold_same = refl; tally_same = refl; gate_same = refl })
+
 -- ---- what may be pending
+
+pub returns-then-is_err-clause-kept : goal.returns-then-is_err-clause-kept
+returns-then-is_err-clause-kept g c =
+    let s = c.self.inside in
+    λ model. pen_kept s.fold (g.D.Disk.keeps s.disk) (g.D.Disk.states s.disk) s.shape s.gate s.tally s.next s.bytes.items s.step s.broken c.self.invariant.0 model s.disk (vec_capacity s.bytes)
 
 pub returns-then-is_err-2-clause-kept : goal.returns-then-is_err-2-clause-kept
 returns-then-is_err-2-clause-kept g c =
