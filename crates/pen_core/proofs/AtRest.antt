@@ -1,16 +1,19 @@
--- No job is in hand: the memory for one may have grown, and hold other bytes.
-use Rattle.std.proofs.Common.{◌≡◌, ℕ, Bool, List, Option, None, sym, subst}
+-- No job, or no fold, is in hand: the memory for one may have grown, and hold other bytes.
+use Rattle.std.proofs.Common.{◌≡◌, ℕ, Bool, List, Option, None, refl, sym, subst, ◌∙◌}
 use Rattle.disk_core.specs.State.{State}
 use Rattle.segment_core.specs.declared.format.Shape.{Shape}
 use Rattle.segment_core.specs.declared.found.Homes.{Homes}
 use Rattle.segment_core.specs.declared.tally.Tally.{Tally}
 use Rattle.pen_core.specs.declared.fold.Fold.{Fold}
+use Rattle.pen_core.specs.declared.stage.FoldStage.{FoldStage}
+use Rattle.pen_core.specs.declared.stage.FoldStage.TheVariants as stages
 use Rattle.pen_core.specs.declared.step.Step.{Step}
-use Rattle.pen_core.specs.InHand.{IsFold}
+use Rattle.pen_core.specs.PenOf.{FoldOf}
+use Rattle.pen_core.specs.InHand.{IsFold, IsInHand, fold_of, in_stage}
 use Rattle.pen_core.specs.Inside.{IsPen}
 use Rattle.pen_core.specs.Listed.{IsListed}
 use Rattle.pen_core.specs.Pen.{open_count}
-use Rattle.pen_core.proofs.InHand.{fold_same}
+use Rattle.pen_core.proofs.InHand.{fold_same, no_fold_at, no_fold_seen, pen_unfolded}
 use Rattle.pen_core.proofs.Listed.{listed_same}
 
 pub pen_same : (count : ℕ) (keeps : Type 0) (states : List State) (shape : Shape) (gate : ℕ) (tally next : Tally) (bytes bytes' : List ℕ) (o : Option Step) (broken : Bool) → IsPen count keeps states shape gate tally next bytes o broken → o ≡ None → IsPen count keeps states shape gate tally next bytes' o broken
@@ -36,3 +39,41 @@ at_rest keeps states shape gate tally next bytes bytes' o broken homes homes' li
   listed_same keeps states shape gate tally bytes o homes live listed idle bytes' homes' homes_same live_same,
   fold_same keeps states shape gate tally bytes bytes' o broken fold is_fold idle,
 )
+
+-- ---- no fold
+
+pub unfolded : (fold : Fold) → fold_of fold ≡ None → fold.stage ≡ stages.None
+unfolded fold none = at fold.stage _ none
+  where
+    at : (stage : FoldStage) (f : FoldOf) → in_stage stage f ≡ None → stage ≡ stages.None
+    at stages.None f none = refl
+    at (stages.Home n) f none = absurd cc
+    at stages.Sync f none = absurd cc
+    at stages.Ready f none = absurd cc
+    at stages.Filed f none = absurd cc
+
+module _ (fold fold' : Fold) (none : fold_of fold ≡ None) (same : fold'.stage ≡ fold.stage) where
+  none' : fold'.stage ≡ stages.None
+  none' = same ∙ unfolded fold none
+
+  pub unfolded_seen : fold_of fold' ≡ fold_of fold
+  unfolded_seen = no_fold_seen fold' none' ∙ sym none
+
+  -- the invariant
+  pub unfolded_rest : (keeps : Type 0) (states : List State) (shape : Shape) (gate : ℕ) (tally next : Tally) (bytes : List ℕ) (o : Option Step) (broken : Bool) (homes : Homes) (live : ℕ)
+      → IsPen (open_count fold.stage fold.count) keeps states shape gate tally next bytes o broken → IsListed keeps states shape gate tally bytes o homes live fold
+      → IsPen (open_count fold'.stage fold'.count) keeps states shape gate tally next bytes o broken × IsListed keeps states shape gate tally bytes o homes live fold' × IsFold keeps states shape gate tally bytes o broken fold'
+  unfolded_rest keeps states shape gate tally next bytes o broken homes live pen listed = (
+    pen_unfolded keeps states shape gate tally next bytes o broken fold' none' (subst (λ stage. IsPen (open_count stage fold.count) keeps states shape gate tally next bytes o broken) (unfolded fold none) pen),
+    record {
+      frames = listed.frames;
+      legal = listed.legal;
+      gate_is = listed.gate_is;
+      tally_is = listed.tally_is;
+      lists = listed.lists;
+      filed = λ count is. (let clash = sym (unfolded fold none) ∙ (listed.filed count is).0 in absurd cc);
+      runs_are = λ held. absurd (subst IsInHand none' held);
+      same = listed.same;
+    },
+    no_fold_at keeps states shape gate tally bytes o broken fold' none',
+  )

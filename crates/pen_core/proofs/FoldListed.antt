@@ -1,7 +1,7 @@
 -- A fold that is begun, by a pen's fields: what its calls ask for, and what it knows of its disk.
-use Rattle.std.proofs.Common.{◌≡◌, ℕ, ◌<◌, ◌^◌, true, List, [], ◌∷◌, length, map, take, Option, All, sym, ap, subst, ◌∙◌, arith}
+use Rattle.std.proofs.Common.{◌≡◌, ℕ, ◌≤◌, ◌<◌, ◌^◌, true, List, [], ◌∷◌, length, map, take, Option, All, sym, ap, subst, ◌∙◌, arith}
 use Rattle.std.specs.List.{AllByRecursion}
-use Rattle.std.proofs.lemmas.List.{take_at}
+use Rattle.std.proofs.lemmas.List.{length-append, take_at}
 use Rattle.disk_core.specs.State.{State, now}
 use Rattle.disk_core.specs.Calls.{bytes_of}
 use Rattle.record_core.specs.Bytes.{Encoding}
@@ -47,6 +47,9 @@ module _ (keeps : Type 0) (states : List State) (shape : Shape) (gate : ℕ) (ta
 
   pub small_live : All (EndsBy (2 ^ 32)) runs_now
   small_live = subst (All (EndsBy (2 ^ 32))) (sym runs_are) (live_runs_small shape frames listed.legal)
+
+  pub live_inside : live ≤ length homes.live.items
+  live_inside = omega (arith, listed.lists.counted, ap length listed.lists.live_is, length-append (live_runs shape frames) (runs_ahead (frame_in_hand shape bytes step)))
 
   pub says_homes : SaysHomes shape frames homes.homes.items
   says_homes = SaysHomes-listed shape frames (frame_in_hand shape bytes step) homes live listed.lists

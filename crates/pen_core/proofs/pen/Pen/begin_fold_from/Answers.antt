@@ -9,8 +9,9 @@ use Rattle.pen_core.specs.Covered.{IsCover}
 use Rattle.pen_core.specs.HomeRuns.{AreHomesTo}
 use Rattle.pen_core.specs.Pen.{IsReadyToFold}
 use Rattle.pen_core.specs.Plan.{IsPlan}
-use Rattle.pen_core.proofs.KeptPen.{kept_folding}
-use Rattle.pen_core.proofs.FoldListed.{some_live, small_live, inside_cover}
+use Rattle.pen_core.proofs.AtRest.{unfolded_rest, unfolded_seen}
+use Rattle.pen_core.proofs.KeptPen.{kept_folding, kept_unchanged}
+use Rattle.pen_core.proofs.FoldListed.{some_live, small_live, live_inside, inside_cover}
 use Rattle.pen_core.proofs.HomesTo.{AreHomesTo-pen}
 use Rattle.pen_core.proofs.Taken.{plan_for, taken, some_left, whole_taken, length_left}
 use Rattle.pen_core.proofs.pen.Pen.begin_fold_from.Goals as goal
@@ -18,6 +19,12 @@ use Rattle.pen_core.proofs.pen.Pen.begin_fold_from.Goals as goal
 on_ok : {A E P : Type 0} (r : Result A E) → is_err r ≡ false → OnOk r P → P
 on_ok (Ok value) is p = p
 on_ok (Err error) is p = absurd cc
+
+pub slice_bounds-live-end : goal.slice_bounds-live-end
+slice_bounds-live-end g c =
+    let s = c.self.inside in
+    let inside = live_inside (g.D.Disk.keeps s.disk) (g.D.Disk.states s.disk) s.shape s.gate s.tally s.bytes.items s.step s.homes s.live c.self.invariant.1 in
+    sym (length-take-le s.live c.deref.result.now (omega (arith, inside, ap length c.deref.ensures.value)))
 
 pub plan-requires-clause-some : goal.plan-requires-clause-some
 plan-requires-clause-some g c κs within =
@@ -40,6 +47,40 @@ plan-requires-clause-homes g c κs within =
     let ready = subst (λ v. IsReadyToFold v true) (sym c.self.view_is) (subst (IsReadyToFold c.args.self.now) c.if-not-branch.false c.in_ok-ready_fold.ensures.ready) in
     subst (AreHomesTo s.shape.width s.tally.size) (sym c.deref-2.ensures.value)
     (AreHomesTo-pen (g.D.Disk.keeps s.disk) (g.D.Disk.states s.disk) s.shape s.gate s.tally s.next s.bytes.items s.step s.homes s.live (omega (arith, ready.3)) c.self.invariant.0.job c.self.invariant.1)
+
+-- ---- where memory is refused
+
+pub invariant_of-self : goal.invariant_of-self
+invariant_of-self g c =
+    let s = c.self.inside in
+    let none = (subst (λ v. IsReadyToFold v true) (sym c.self.view_is) (subst (IsReadyToFold c.args.self.now) c.if-not-branch.false c.in_ok-ready_fold.ensures.ready)).1 in
+    unfolded_rest s.fold c.plan.new.self none c.plan.ensures.same.0 (g.D.Disk.keeps s.disk) (g.D.Disk.states s.disk) s.shape s.gate s.tally s.next s.bytes.items s.step s.broken s.homes s.live c.self.invariant.0 c.self.invariant.1
+
+pub returns-then-is_err-clause-unchanged : goal.returns-then-is_err-clause-unchanged
+returns-then-is_err-clause-unchanged g c = rw (← c.self.view_is) (
+    let s = c.self.inside in
+    let none = (subst (λ v. IsReadyToFold v true) (sym c.self.view_is) (subst (IsReadyToFold c.args.self.now) c.if-not-branch.false c.in_ok-ready_fold.ensures.ready)).1 in
+    record { disk_same = refl; file_same = record { frames_same = refl; vector_same = refl }; job_same = refl; broken_same = refl; shape_same = refl; fold_same = unfolded_seen s.fold c.plan.new.self none c.plan.ensures.same.0; tally_same = refl; gate_same = refl })
+
+pub returns-then-is_err-clause-kept : goal.returns-then-is_err-clause-kept
+returns-then-is_err-clause-kept g c = kept_unchanged g.D.Disk.keeps g.D.Disk.states c.args.self.now _ c.ready_fold.ensures.kept (returns-then-is_err-clause-unchanged g c)
+
+pub invariant_of-self-then-is_err-2 : goal.invariant_of-self-then-is_err-2
+invariant_of-self-then-is_err-2 g c =
+    let s = c.self.inside in
+    let none = (subst (λ v. IsReadyToFold v true) (sym c.self.view_is) (subst (IsReadyToFold c.args.self.now) c.if-not-branch.false c.in_ok-ready_fold.ensures.ready)).1 in
+    unfolded_rest s.fold (record c.plan.new.self { frame = c.put_fold.new.bytes }) none c.plan.ensures.same.0 (g.D.Disk.keeps s.disk) (g.D.Disk.states s.disk) s.shape s.gate s.tally s.next s.bytes.items s.step s.broken s.homes s.live c.self.invariant.0 c.self.invariant.1
+
+pub returns-then-is_err-2-clause-unchanged : goal.returns-then-is_err-2-clause-unchanged
+returns-then-is_err-2-clause-unchanged g c = rw (← c.self.view_is) (
+    let s = c.self.inside in
+    let none = (subst (λ v. IsReadyToFold v true) (sym c.self.view_is) (subst (IsReadyToFold c.args.self.now) c.if-not-branch.false c.in_ok-ready_fold.ensures.ready)).1 in
+    record { disk_same = refl; file_same = record { frames_same = refl; vector_same = refl }; job_same = refl; broken_same = refl; shape_same = refl; fold_same = unfolded_seen s.fold (record c.plan.new.self { frame = c.put_fold.new.bytes }) none c.plan.ensures.same.0; tally_same = refl; gate_same = refl })
+
+pub returns-then-is_err-2-clause-kept : goal.returns-then-is_err-2-clause-kept
+returns-then-is_err-2-clause-kept g c = kept_unchanged g.D.Disk.keeps g.D.Disk.states c.args.self.now _ c.ready_fold.ensures.kept (returns-then-is_err-2-clause-unchanged g c)
+
+-- ---- a fold is begun
 
 pub invariant_of-self-2 : goal.invariant_of-self-2
 invariant_of-self-2 g c =
