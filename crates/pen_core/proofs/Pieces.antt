@@ -22,8 +22,9 @@ use Rattle.segment_core.specs.Found.{AreHomesOf}
 use Rattle.segment_core.specs.Scanned.{IsScanOf}
 use Rattle.segment_core.specs.Scanner.{IsFed, IsLost, IsDecided, IsCutShort}
 use Rattle.segment_core.proofs.Fed.{fed_at, next_part}
-use Rattle.pen_core.specs.Opening.{HasTaken, HasRead, IsFoundOn, OnlySyncs, AreCallsMade, AreNeeded, pieces_of, pieces_front}
-use Rattle.pen_core.specs.declared.fault.OpenFault.TheVariants.{Disk}
+use Rattle.pen_core.specs.Opening.{HasTaken, HasRead, IsFoundOn, OnlySyncs, IsReadFault, AreCallsMade, AreNeeded, AreReadsMade, calls_of, pieces_of, pieces_front}
+use Rattle.pen_core.specs.declared.fault.OpenFault.{OpenFault}
+use Rattle.pen_core.specs.declared.fault.OpenFault.TheVariants.{Scan, Disk}
 use Rattle.pen_core.proofs.Births.{stays_only}
 
 IsBytes-append : (front behind : List ℕ) → IsBytes front → IsBytes behind → IsBytes (front ++ behind)
@@ -109,6 +110,11 @@ needed_behind form old last new same time needed =
     let n : clock new - clock last ≡ clock new - clock old - 2 = omega arith in
     subst (λ (bs : List ℕ). AreNeeded form bs (clock new - clock old - 2)) same (subst (AreNeeded form (bytes_of last)) n needed)
 
+pub reads_made_behind : {R : Type 0} (form : Encoding R) (old last new : List State) (fault : OpenFault) → bytes_of last ≡ bytes_of old → clock last ≡ clock old + 2 → AreReadsMade form (bytes_of last) fault (clock new - clock last) → AreReadsMade form (bytes_of old) fault (clock new - clock old - 2)
+reads_made_behind form old last new fault same time made =
+    let n : clock new - clock last ≡ clock new - clock old - 2 = omega arith in
+    subst (λ (bs : List ℕ). AreReadsMade form bs fault (clock new - clock old - 2)) same (subst (AreReadsMade form (bytes_of last) fault) n made)
+
 -- ---- a disk that is only synced and read
 
 -- the sync has failed
@@ -158,6 +164,13 @@ made_a_sync len n cause is one = subst (λ f. AreCallsMade len (Disk f) n) (sym 
 
 pub made_a_length : (len n : ℕ) (cause : DiskFault) → cause ≡ causes.Length → n ≡ 2 → AreCallsMade len (Disk cause) n
 made_a_length len n cause is two = subst (λ f. AreCallsMade len (Disk f) n) (sym is) two
+
+pub made_reads : (len n : ℕ) (fault : OpenFault) → IsReadFault fault → 2 < n → n ≤ calls_of len → len < 2 ^ 64 → AreCallsMade len fault n
+made_reads len n (Scan fault) is some most short = (omega arith, most, short)
+made_reads len n (Disk causes.Read) is some most short = (some, most, short)
+made_reads len n (Disk causes.Sync) is some most short = absurd is
+made_reads len n (Disk causes.Length) is some most short = absurd is
+made_reads len n (Disk causes.Write) is some most short = absurd is
 
 -- ---- what was read of the disk's bytes
 

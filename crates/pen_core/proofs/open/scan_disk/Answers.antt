@@ -1,10 +1,11 @@
 use Rattle.std.proofs.Common.{ℕ, ◌-◌, List, length, inr, refl, sym, ap, subst, ◌∙◌, arith}
+use Rattle.std.proofs.lemmas.Result.{err_from_is_err_and}
 use Rattle.disk_core.specs.State.{now}
 use Rattle.disk_core.specs.Calls.{bytes_of}
 use Rattle.disk_core.specs.Moments.{clock}
 use Rattle.segment_core.specs.Fault.{IsRefused}
 use Rattle.pen_core.proofs.Births.{stays_only}
-use Rattle.pen_core.proofs.Pieces.{only_syncs_failed, only_syncs_settled, reads_behind, made_a_sync, made_a_length, settled_behind, found_on, fed_whole, needed_behind}
+use Rattle.pen_core.proofs.Pieces.{only_syncs_failed, only_syncs_settled, reads_behind, made_a_sync, made_a_length, settled_behind, made_reads, found_on, fed_whole, needed_behind, reads_made_behind}
 use Rattle.pen_core.proofs.open.scan_disk.Goals as goal
 
 pub returns-in-Err-clause-only_syncs : goal.returns-in-Err-clause-only_syncs
@@ -107,3 +108,26 @@ returns-in-Err-end_with-clause-reads g c = λ model.
     let behind = c.len.ensures.model (c.feed_all.ensures.model model) in
     inr (needed_behind g.R.Record.form old last (g.D.Disk.states c.feed_all.new.disk) (ap (λ s. s.seen) (ap now (c.len.ensures.same behind) ∙ ap now (c.in_default.ensures.done (c.sync.ensures.model behind))))
     (omega (arith, c.sync.ensures.time, c.len.ensures.time)) (c.in_ok-feed_all.ensures.reads model))
+
+pub returns-in_err-feed_all-clause-time : goal.returns-in_err-feed_all-clause-time
+returns-in_err-feed_all-clause-time g c =
+    let n = clock (g.D.Disk.states c.feed_all.new.disk) - clock (g.D.Disk.states c.args.disk.now) in
+    let p = err_from_is_err_and c.from_residual.result c.from_residual.ensures.1 in
+    let read = c.in_err-feed_all.ensures.time in (
+      c.in-Ok.len,
+      (λ model.
+          let behind = c.len.ensures.model (c.feed_all.ensures.model model) in
+          c.in-Ok.ensures.value (c.feed_all.ensures.model model) ∙ ap (λ s. length s.seen) (ap now (c.in_default.ensures.done (c.sync.ensures.model behind)))),
+      rw (p.1, p.2) (made_reads c.in-Ok.len n c.in_err-feed_all.field-0.0 c.in_err-feed_all.ensures.cause
+          (omega (arith, c.sync.ensures.time, c.len.ensures.time, read.0)) (omega (arith, c.sync.ensures.time, c.len.ensures.time, read.1)) (omega arith)),
+    )
+
+pub returns-in_err-feed_all-clause-reads : goal.returns-in_err-feed_all-clause-reads
+returns-in_err-feed_all-clause-reads g c = λ model.
+    let old = g.D.Disk.states c.args.disk.now in
+    let last = g.D.Disk.states c.len.new.self in
+    let behind = c.len.ensures.model (c.feed_all.ensures.model model) in
+    let p = err_from_is_err_and c.from_residual.result c.from_residual.ensures.1 in
+    rw (p.1, p.2) (reads_made_behind g.R.Record.form old last (g.D.Disk.states c.feed_all.new.disk) c.in_err-feed_all.field-0.0
+        (ap (λ s. s.seen) (ap now (c.len.ensures.same behind) ∙ ap now (c.in_default.ensures.done (c.sync.ensures.model behind))))
+        (omega (arith, c.sync.ensures.time, c.len.ensures.time)) (c.in_err-feed_all.ensures.reads model))
