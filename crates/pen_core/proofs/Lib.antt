@@ -1,6 +1,7 @@
 pub mod Again
 pub mod Held
 pub mod Calls
+pub mod ChangeRefused
 pub mod Parsed
 pub mod Ticks
 pub mod Overlaid
