@@ -4,7 +4,7 @@ use Rattle.pen_core.specs.declared.fault.OpenFault.{OpenFault}
 use Rattle.pen_core.specs.declared.fault.OpenFault.TheVariants as open_faults
 use Rattle.vault_core.specs.declared.upgrading.UpgradeFault.{UpgradeFault}
 use Rattle.vault_core.specs.declared.upgrading.UpgradeFault.TheVariants as upgrade_faults
-use Rattle.text_core.specs.FaultNames.{disk_name, vault_name, grow_name}
+use Rattle.fault_names.specs.Names.{disk_name, vault_name, grow_name}
 use Rattle.text_core.specs.Refusals.{scan_name, name_of}
 use Rattle.text_core.specs.Text.{ended_line}
 use Rattle.files_core.specs.declared.fault.FileFault.{FileFault}

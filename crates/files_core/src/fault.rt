@@ -5,13 +5,11 @@ ghost use Rattle.std.specs.Io.KnownBytes.{Appends};
 ghost use Rattle.files_core.specs.Faults.{open_name, upgrade_name, fault_name, fault_line};
 
 use book_core::GrowFault;
+use fault_names::{write_disk_fault, write_grow_fault, write_vault_fault};
 use pen_core::OpenFault;
 use std::io;
 use std::io::Write;
-use text_core::{
-    Refusal, Status, write_disk_fault, write_grow_fault, write_line, write_name, write_scan_fault,
-    write_vault_fault,
-};
+use text_core::{Refusal, Status, write_line, write_name, write_scan_fault};
 use vault_core::{UpgradeFault, VaultFault};
 
 /// The words of a command that have to be of a form.

@@ -10,7 +10,7 @@ use Rattle.drive_core.specs.declared.fault.Fault.{Fault}
 use Rattle.drive_core.specs.declared.fault.Fault.TheVariants as faults
 use Rattle.drive_core.specs.Step.{Answer, Fine, Size, Grown, Listed, Told, Took, Raised, Begun, Ticked, Refused}
 use Rattle.text_core.specs.GroupLine.{growth_text}
-use Rattle.text_core.specs.FaultNames.{vault_name, grow_name}
+use Rattle.fault_names.specs.Names.{vault_name, grow_name}
 use Rattle.text_core.specs.Refusals.{scan_name}
 use Rattle.text_core.specs.Text.{ended_line}
 

@@ -5,9 +5,10 @@ ghost use Rattle.std.specs.Io.KnownBytes.{Appends};
 ghost use Rattle.play_core.specs.Answers.{fault_name};
 
 use drive_core::Fault;
+use fault_names::{write_grow_fault, write_vault_fault};
 use std::io;
 use std::io::Write;
-use text_core::{write_grow_fault, write_scan_fault, write_vault_fault};
+use text_core::write_scan_fault;
 
 /// Writes the name of the fault.
 pub fn write_fault<W: Write>(writer: &mut W, fault: Fault) -> io::Result<()>

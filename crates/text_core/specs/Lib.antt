@@ -9,7 +9,6 @@ pub mod GroupLine
 pub mod Words
 pub mod HexLine
 pub mod Refusals
-pub mod FaultNames
 pub mod Drafts
 pub mod Engines
 pub mod Status

@@ -2,7 +2,6 @@
 //! and `show` makes lines of a segment file.
 #![tactic(auto)]
 
-mod fault_name;
 mod file_of_lines;
 mod flagged;
 mod group_line;
@@ -19,7 +18,6 @@ mod signed_number;
 mod status;
 mod text;
 
-pub use fault_name::{write_disk_fault, write_grow_fault, write_pen_fault, write_vault_fault};
 pub use group_line::{BAR, LineFault, cut};
 pub use imaging::image;
 pub use input::{INPUT_LIMIT, read_input};

@@ -2,14 +2,14 @@
 
 ghost use Rattle.std.specs.Prelude.{OnOk};
 ghost use Rattle.std.specs.Io.KnownBytes.{Appends};
-ghost use Rattle.text_core.specs.FaultNames.{disk_name, pen_name, vault_name, grow_name};
+ghost use Rattle.fault_names.specs.Names.{disk_name, pen_name, vault_name, grow_name};
 
-use crate::refusal::write_numbered;
 use book_core::GrowFault;
 use disk_core::DiskFault;
 use pen_core::PenFault;
 use std::io;
 use std::io::Write;
+use text_core::write_numbered;
 use vault_core::VaultFault;
 
 /// Writes the name of a device's fault.
