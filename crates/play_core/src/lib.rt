@@ -12,4 +12,6 @@ mod step_line;
 mod verb;
 
 pub use answer_line::write_answers;
+pub use asked::Asked;
 pub use playing::play;
+pub use step_line::read_step_line;
