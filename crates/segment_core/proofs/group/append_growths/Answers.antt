@@ -1,6 +1,7 @@
 use Rattle.std.proofs.Common.{◌≡◌, ◌+◌, ◌++◌, List, ℕ, length, take, sym, ap, subst, ◌∙◌, append_assoc, arith}
 use Rattle.std.specs.List.{flat_map}
-use Rattle.std.proofs.lemmas.List.{length-append}
+use Rattle.std.proofs.lemmas.List.{length-append, take_all}
+use Rattle.std.proofs.lemmas.Result.{err_from_is_err_and}
 use Rattle.std.proofs.lemmas.List.Concat.{flat_map-append}
 use Rattle.record_core.specs.Cells.{AreReadAgain}
 use Rattle.record_core.proofs.Cells.{length-flat_map_bytes}
@@ -50,3 +51,19 @@ returns-in_err-append_records-clause-room g c room =
     let grown = so_far.capacity in
     let never = c.in_err-append_records.ensures.room (omega arith) in
     absurd cc
+
+pub returns-clause-bytes : goal.returns-clause-bytes
+returns-clause-bytes g c =
+    let all = take_all c.loop-k.k (g.G.GrowthList.growths c.args.group.now) (omega arith) in
+    c.loop-k.invariant.bytes ∙ ap (λ (gs : List (List g.row.R.Denot)). c.args.file.now.items ++ flat_map g.R.Record.form.bytes_of (joined gs)) all
+
+pub returns-clause-read_again : goal.returns-clause-read_again
+returns-clause-read_again g c =
+    let all = take_all c.loop-k.k (g.G.GrowthList.growths c.args.group.now) (omega arith) in
+    subst (λ (gs : List (List g.row.R.Denot)). AreReadAgain g.R.Record.form (joined gs)) all c.loop-k.invariant.read_again
+
+pub returns-in_err-append_records-clause-bytes : goal.returns-in_err-append_records-clause-bytes
+returns-in_err-append_records-clause-bytes g c = let p = err_from_is_err_and c.from_residual.result c.from_residual.ensures.1 in rw p.1 tt
+
+pub returns-in_err-append_records-clause-read_again : goal.returns-in_err-append_records-clause-read_again
+returns-in_err-append_records-clause-read_again g c = let p = err_from_is_err_and c.from_residual.result c.from_residual.ensures.1 in rw p.1 tt
