@@ -1,5 +1,6 @@
-use Rattle.std.proofs.Common.{◌+◌, ◌-◌, ◌*◌, length, ℕ, refl, arith}
+use Rattle.std.proofs.Common.{◌≡◌, ◌+◌, ◌-◌, ◌*◌, length, ℕ, refl, subst, arith}
 use Rattle.segment_core.specs.Vector.{place_among}
+use Rattle.segment_core.specs.Found.{IsLaid}
 use Rattle.segment_core.proofs.FoundLaid.{laid_nothing, laid_set, place_among_none, stands_part, cell_within}
 use Rattle.segment_core.proofs.found.lay.Goals as goal
 
@@ -16,3 +17,9 @@ loop-k-preserved g c =
     c.width_of-width.ensures.is refl (omega (arith, c.loop-k.auto.records)) refl (c.loop-k.invariant image stands)
     (c.in_ok-record.ensures.decoded image (stands_part image c.args.place c.args.area.now (k * w) (k * w + w - k * w) stands within))
     c.in_ok-record.ensures.others
+
+pub returns : goal.returns
+returns g c = λ image stands. (
+    let all : c.loop-k.k ≡ c.args.count = omega (arith, c.loop-k-test.false, c.loop-k.auto.k-end) in
+    subst (λ (n : ℕ). IsLaid g.R.Record.form image (place_among g.R.Record.form.width c.args.place c.args.start n) c.args.records.now c.args.notes.now c.loop-k.records c.loop-k.notes) all
+    (c.loop-k.invariant image stands))

@@ -1,11 +1,12 @@
-use Rattle.std.proofs.Common.{◌≡◌, ◌+◌, ℕ, List, Ok, Some, Err, length, drop, ap, subst, ◌∙◌, arith, inl, inr}
+use Rattle.std.proofs.Common.{◌≡◌, ◌+◌, ℕ, true, List, Ok, Some, Err, length, drop, ap, subst, ◌∙◌, arith, inl, inr}
 use Rattle.std.proofs.lemmas.List.{take_rest, drop-drop}
 use Rattle.std.proofs.lemmas.Result.{err_from_is_err_and}
 use Rattle.segment_core.specs.declared.fault.ScanFault.{ScanFault}
 use Rattle.segment_core.specs.declared.format.Shape.{Shape}
 use Rattle.segment_core.specs.declared.frame.Unread.TheVariants.{Fault}
 use Rattle.segment_core.specs.Frame.{frame_text}
-use Rattle.segment_core.specs.Reading.{Seen, IsNext, BeginsWith, IsFaulty}
+use Rattle.segment_core.specs.Reading.{Seen, IsNext, BeginsWith, IsShort, IsFaulty}
+use Rattle.segment_core.specs.Fault.{is_closed}
 use Rattle.segment_core.specs.Walk.{StandsBefore, IsWalkRefused}
 use Rattle.segment_core.proofs.Walked.{stands_behind, inside_image, nearer, refused_by_lines, refused_by_order}
 use Rattle.segment_core.proofs.walk.Walk.read.Goals as goal
@@ -74,3 +75,14 @@ returns-in-Err-Fault-clause-err g c = λ image stands. (
     let left : List ℕ = drop c.loop-frame.used c.args.bytes.now in
     let faulty = faulty_read c.loop-frame.self.shape c.loop-frame.self.at left _ c.in-Err-Fault.fault (take_rest c.args.bytes.now c.loop-frame.used) (rw c.in-Err-Fault.field-0-is at c.in-Err-Fault.ensures) in
     subst (λ s. IsWalkRefused s image c.in-Err-Fault.fault) c.loop-frame.invariant.same (inl (refused_by_lines g.R.Record.form image left c.loop-frame.self c.in-Err-Fault.fault (c.loop-frame.invariant.stands image stands) faulty)))
+
+-- what ends the frames
+pub returns-in-Ok-None-clause-tail : goal.returns-in-Ok-None-clause-tail
+returns-in-Ok-None-clause-tail g c =
+    let next = rw c.in-Ok-None.field-0-is at c.in-Ok-None.ensures in
+    (c.loop-frame.invariant.inside, subst (λ (bs : List ℕ). is_closed bs ≡ true) (take_rest c.args.bytes.now c.loop-frame.used) next)
+
+pub returns-in-Err-Short-clause-tail : goal.returns-in-Err-Short-clause-tail
+returns-in-Err-Short-clause-tail g c =
+    let next = rw c.in-Err-Short.field-0-is at c.in-Err-Short.ensures in
+    (c.loop-frame.invariant.inside, subst (IsShort c.loop-frame.self.shape c.loop-frame.self.at) (take_rest c.args.bytes.now c.loop-frame.used) next)
