@@ -129,5 +129,5 @@ returns-in_err-feed_all-clause-reads g c = λ model.
     let behind = c.len.ensures.model (c.feed_all.ensures.model model) in
     let p = err_from_is_err_and c.from_residual.result c.from_residual.ensures.1 in
     rw (p.1, p.2) (reads_made_behind g.R.Record.form old last (g.D.Disk.states c.feed_all.new.disk) c.in_err-feed_all.field-0.0
-        (ap (λ s. s.seen) (ap now (c.len.ensures.same behind) ∙ ap now (c.in_default.ensures.done (c.sync.ensures.model behind))))
-        (omega (arith, c.sync.ensures.time, c.len.ensures.time)) (c.in_err-feed_all.ensures.reads model))
+    (ap (λ s. s.seen) (ap now (c.len.ensures.same behind) ∙ ap now (c.in_default.ensures.done (c.sync.ensures.model behind))))
+    (omega (arith, c.sync.ensures.time, c.len.ensures.time)) (c.in_err-feed_all.ensures.reads model))
