@@ -104,9 +104,6 @@ class Run:
         self.writes.append(write)
         self.sets.append(set(lists or self.sets[-1]))
 
-    def sync_all(self, lists=None):
-        self.call(lists)
-
     def after(self):
         return {listed(self.file.records)}
 
@@ -197,7 +194,9 @@ class Run:
             return "step"
         if fold["stage"] == "home":
             fold["stage"] = "synced"
-            self.call()
+            # This sync is that of the whole file, with a gate that a commit has opened.
+            gated = self.job and self.job["k"] == 3
+            self.call(self.job["after"] if gated else None)
             return "step"
         if self.job or fold["stage"] == "filed":
             return "waiting"
@@ -214,10 +213,9 @@ class Run:
             return "idle"
         job["k"] += 1
         if job["k"] == 1:
-            job["before"] = set(self.sets[-1])
             job["make"]()
             job["after"] = self.after()
-        self.commit_calls(job["k"], job["before"], job["after"])
+        self.commit_calls(job["k"], self.sets[-1], job["after"])
         if job["k"] < 4:
             return "step"
         if job["make"] == self.end_fold:
@@ -280,7 +278,7 @@ class Run:
 
     def gather(self):
         if self.phase["settled"] < len(self.phase["growths"]):
-            raise Refused(f"unsettled {len(self.phase['growths']) - self.phase['settled']}")
+            raise Refused(f"unsettled {self.phase['settled']}")
         self.state = "exclusive"
         return f"size {len(self.file.records)}"
 
@@ -335,8 +333,15 @@ class Run:
         return " | ".join(sorted(before, key=lambda s: s.encode()))
 
 
+def tally(texts, between):
+    counts = {}
+    for text in texts:
+        counts[text] = counts.get(text, 0) + 1
+    return between.join(t if n == 1 else f"{n} x {t}" for t, n in counts.items())
+
+
 def one(texts):
-    return texts[0] if len(set(texts)) == 1 else "; ".join(texts)
+    return texts[0] if len(set(texts)) == 1 else tally(texts, "; ")
 
 
 def grown(step, k):
@@ -372,12 +377,11 @@ def answered(run, step, old):
     if verb == "images":
         return run, run.stopped(len(run.writes))
     if verb == "repeat":
-        counts = {}
+        answers = []
         for k in range(int(words[1])):
             for part in " ".join(words[2:]).split(";"):
-                answer = run.answer(grown(part.strip(), k))
-                counts[answer] = counts.get(answer, 0) + 1
-        return run, " | ".join(a if n == 1 else f"{n} x {a}" for a, n in counts.items())
+                answers.append(run.answer(grown(part.strip(), k)))
+        return run, tally(answers, " | ")
     if verb == "stop":
         return run, one([run.stopped(k) for k in span(words[1])])
     if verb == "fail":

@@ -21,9 +21,10 @@ const IMAGE_LIMIT: usize = 4_096;
 /// The calls of an opening and of a commit.
 const RESIZE_CALLS: u64 = 7;
 
-/// An image, and what it opens to.
+/// An image with its hash, and what it opens to.
 #[derive(Drop)]
 struct Known {
+    hash: u64,
     image: Vec<u8>,
     list: Vec<u8>,
 }
@@ -183,9 +184,9 @@ impl Looks {
     }
 
     /// What an image that was looked at before opens to.
-    fn find(&self, image: &[u8]) -> io::Result<Option<Vec<u8>>> {
+    fn find(&self, hash: u64, image: &[u8]) -> io::Result<Option<Vec<u8>>> {
         for known in self.known.iter() {
-            if known.image.as_slice() == image {
+            if known.hash == hash && known.image.as_slice() == image {
                 return Ok(Some(copied(self.alloc, known.list.as_slice())?));
             }
         }
@@ -198,12 +199,17 @@ impl Looks {
         rt: &E,
         image: Vec<u8>,
     ) -> io::Result<Vec<u8>> {
-        if let Some(list) = self.find(image.as_slice())? {
+        let hash = hash_of(image.as_slice());
+        if let Some(list) = self.find(hash, image.as_slice())? {
             return Ok(list);
         }
         let list = list_of::<R, E>(self.alloc, rt, image.as_slice())?;
         let kept = copied(self.alloc, list.as_slice())?;
-        self.known.push(Known { image, list: kept })?;
+        self.known.push(Known {
+            hash,
+            image,
+            list: kept,
+        })?;
         Ok(list)
     }
 

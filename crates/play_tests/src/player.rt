@@ -55,6 +55,7 @@ impl<R: TextRecord> Player<R> {
     fn begin_with(&mut self, bytes: Vec<u8>) -> io::Result<()> {
         self.disk = RamDisk::from_bytes(self.alloc, copied(self.alloc, bytes.as_slice())?);
         self.begin = bytes;
+        self.looks = Looks::new(self.alloc);
         self.steps = Vec::new(self.alloc);
         self.calls = 0;
         Ok(())
