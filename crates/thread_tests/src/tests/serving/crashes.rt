@@ -41,12 +41,13 @@ fn put_by_two<E: Threads + Wait + Sync>(
     rt: &E,
     alloc: Global,
     live: &Live<u64>,
-    first: Seat<u64>,
-    second: Seat<u64>,
+    mut seats: Vec<Seat<u64>>,
 ) -> Option<(Seat<u64>, u64)>
-    requires { lists.IsSeatOf live.now first × lists.IsSeatOf live.now second }
+    requires { AreNewSeats live.now.directory live.now.mark seats.items }
     ensures { IfSome result (λ grown. lists.IsSeatOf live.now grown.0) }
 {
+    let first = take_seat(live, &mut seats)?;
+    let second = take_seat(live, &mut seats)?;
     let (one, other) = thread::join(
         rt,
         move || -> Option<(Seat<u64>, u64)>
@@ -57,45 +58,6 @@ fn put_by_two<E: Threads + Wait + Sync>(
             requires { lists.IsSeatOf live.now second }
             ensures { IfSome result (λ grown. lists.IsSeatOf live.entry.now grown.0) }
         { put_and_await(rt, alloc, live, second) },
-    );
-    let (seat, told) = one?;
-    let (_, other_told) = other?;
-    Some((seat, told.max(other_told)))
-}
-
-/// Two seats of a row of new ones.
-fn take_two(live: &Live<u64>, seats: &mut Vec<Seat<u64>>) -> Option<(Seat<u64>, Seat<u64>)>
-    requires { AreNewSeats live.now.directory live.now.mark seats.old.items }
-    ensures rest { AreNewSeats live.now.directory live.now.mark seats.new.items }
-    ensures two { IfSome result (λ two. lists.IsSeatOf live.now two.0 × lists.IsSeatOf live.now two.1) }
-{
-    let first = take_seat(live, seats)?;
-    let second = take_seat(live, seats)?;
-    Some((first, second))
-}
-
-/// Four growers at once: one of their seats, and the most that one was told.
-fn put_by_four<E: Threads + Wait + Sync>(
-    rt: &E,
-    alloc: Global,
-    live: &Live<u64>,
-    mut seats: Vec<Seat<u64>>,
-) -> Option<(Seat<u64>, u64)>
-    requires { AreNewSeats live.now.directory live.now.mark seats.items }
-    ensures { IfSome result (λ grown. lists.IsSeatOf live.now grown.0) }
-{
-    let (a, b) = take_two(live, &mut seats)?;
-    let (c, d) = take_two(live, &mut seats)?;
-    let (one, other) = thread::join(
-        rt,
-        move || -> Option<(Seat<u64>, u64)>
-            requires { lists.IsSeatOf live.now a × lists.IsSeatOf live.now b }
-            ensures { IfSome result (λ grown. lists.IsSeatOf live.entry.now grown.0) }
-        { put_by_two(rt, alloc, live, a, b) },
-        move || -> Option<(Seat<u64>, u64)>
-            requires { lists.IsSeatOf live.now c × lists.IsSeatOf live.now d }
-            ensures { IfSome result (λ grown. lists.IsSeatOf live.entry.now grown.0) }
-        { put_by_two(rt, alloc, live, c, d) },
     );
     let (seat, told) = one?;
     let (_, other_told) = other?;
@@ -123,7 +85,7 @@ struct Grown {
     records: Vec<u64>,
 }
 
-/// Four growers at once, and then the book is closed.
+/// Two growers at once, and then the book is closed.
 fn put_and_close<E: Threads + Wait + Sync>(
     rt: &E,
     alloc: Global,
@@ -132,7 +94,7 @@ fn put_and_close<E: Threads + Wait + Sync>(
 ) -> Option<Grown>
     requires { AreNewSeats live.now.directory live.now.mark seats.items }
 {
-    let grown = put_by_four(rt, alloc, live, seats);
+    let grown = put_by_two(rt, alloc, live, seats);
     live.close(rt);
     let (seat, told) = grown?;
     let records = all_records(alloc, live, seat)?;
@@ -146,8 +108,8 @@ struct Left<D: Disk> {
     grown: Grown,
 }
 
-/// Serves four growers.
-fn serve_four<D: Disk + Drop + Send, E: Threads + Wait + Sync>(
+/// Serves two growers.
+fn serve_two<D: Disk + Drop + Send, E: Threads + Wait + Sync>(
     rt: &E,
     alloc: Global,
     phase: Phase<D>,
@@ -238,8 +200,8 @@ fn left_after<E: Threads + Wait + Sync>(
         calls.wrapping_add(3),
         blow,
     );
-    let phase = phase_over(alloc, fuse, 4 * GROWTHS, 4)?;
-    serve_four(rt, alloc, phase)
+    let phase = phase_over(alloc, fuse, 2 * GROWTHS, 2)?;
+    serve_two(rt, alloc, phase)
 }
 
 /// Whether what is left holds what it must at each of 25 moments at which the disk stops or fails.
@@ -267,10 +229,10 @@ fn a_disk_that_stops_or_fails_has_the_settled_growths(rt: HostRuntime) -> Result
 }
 
 #[test]
-fn all_growths_of_four_growers_are_settled(rt: HostRuntime) -> Result<(), Fail> {
+fn all_growths_of_two_growers_are_settled(rt: HostRuntime) -> Result<(), Fail> {
     let left = left_after(&rt, rt.alloc(), 1_000_000, Blow::Stop).ok_or("not served")?;
     let served = (left.served.ended, left.served.settled);
     let prefixes = are_prefixes(rt.alloc(), left)?;
-    assert_eq!(rt; (served, prefixes), ((true, 4 * GROWTHS), true));
+    assert_eq!(rt; (served, prefixes), ((true, 2 * GROWTHS), true));
     Ok(())
 }
