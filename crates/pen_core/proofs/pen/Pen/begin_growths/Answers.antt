@@ -26,6 +26,9 @@ on_ok : {A E P : Type 0} (r : Result A E) → is_err r ≡ false → OnOk r P �
 on_ok (Ok value) is p = p
 on_ok (Err error) is p = absurd cc
 
+below_more : {n m : ℕ} → n + 1 ≤ m → n < m
+below_more h = omega arith
+
 pushed : {A E : Type 0} (r : Result A E) → is_err r ≡ false → (old new : List ℕ) → cond (is_ok r) new old ≡ new
 pushed (Ok value) is old new = refl
 pushed (Err error) is old new = absurd cc
@@ -58,7 +61,7 @@ overflow_add-payload-2 g c =
     omega (arith, small.0, small.1)
 
 pub push_reserved-requires : goal.push_reserved-requires
-push_reserved-requires g c = omega (arith, on_ok c.reserve.result (sym c.is_err.ensures.value ∙ c.if-is_err.false) c.reserve.ensures.ok)
+push_reserved-requires g c = below_more (on_ok c.reserve.result (sym c.is_err.ensures.value ∙ c.if-is_err.false) c.reserve.ensures.ok)
 
 -- ---- the pen
 
