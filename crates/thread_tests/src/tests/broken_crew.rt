@@ -108,19 +108,33 @@ fn take_seat_in<D: Disk>(live: &Live<u64>, flusher: &mut Flusher<u64, D>, seat: 
     flusher.take_in(live, seat);
 }
 
+/// Takes the last of the seats in.
+fn take_last_in<D: Disk>(
+    live: &Live<u64>,
+    flusher: &mut Flusher<u64, D>,
+    seats: &mut Vec<Seat<u64>>,
+)
+    requires flusher { IsFlusherOf (D.keeps flusher.old.pen.disk) live.now flusher.old }
+    requires seats { All (lists.IsSeatOf live.now) seats.old.items }
+    ensures flusher { IsFlusherOf (D.keeps flusher.new.pen.disk) live.now flusher.new }
+    ensures seats { All (lists.IsSeatOf live.now) seats.new.items }
+{
+    if let Some(seat) = take_seat(live, seats) {
+        take_seat_in(live, flusher, seat);
+    }
+}
+
 /// Takes both seats in. The disk, and how many growths are settled.
 fn take_both_in<D: Disk + Drop>(
     live: &Live<u64>,
     mut flusher: Flusher<u64, D>,
     mut seats: Vec<Seat<u64>>,
-) -> Option<(D, u64)>
+) -> (D, u64)
     requires { AreOf (D.keeps flusher.pen.disk) live.now seats.items flusher }
 {
-    let second = take_seat(live, &mut seats)?;
-    let first = take_seat(live, &mut seats)?;
-    take_seat_in(live, &mut flusher, first);
-    take_seat_in(live, &mut flusher, second);
-    Some(flusher.into_parts())
+    take_last_in(live, &mut flusher, &mut seats);
+    take_last_in(live, &mut flusher, &mut seats);
+    flusher.into_parts()
 }
 
 /// What a crew leaves whose disk lets so many calls pass behind the creation: the disk, and how many growths are settled.
@@ -147,7 +161,7 @@ fn left_after<E: Threads + Wait + Sync>(
                 flusher,
                 ..
             } = parts;
-            let (disk, settled) = take_both_in(&live, flusher, seats).ok_or("no seats")?;
+            let (disk, settled) = take_both_in(&live, flusher, seats);
             Ok(Some((disk.into_inner(), settled)))
         }
         Err(_) => Err(Fail::from("not begun")),

@@ -89,26 +89,35 @@ fn put_by_turns<E: Wait>(
 }
 
 /// What both seats find after 500 growths of each by turns and 500 more of each from two threads.
-fn grow_two_thousand<E: Threads + Wait + Sync>(rt: &E, two: Two) -> Option<[u64; 2]> {
-    let Two {
-        live,
-        mut first,
-        mut second,
-        ..
-    } = two;
-    if !put_by_turns(rt, &live, &mut first, &mut second, 500) {
+fn grow_two_thousand<E: Threads + Wait + Sync>(
+    rt: &E,
+    live: &Live<u64>,
+    mut first: Seat<u64>,
+    mut second: Seat<u64>,
+) -> Option<[u64; 2]>
+    requires { IsSeatOf live.now first × IsSeatOf live.now second }
+{
+    if !put_by_turns(rt, live, &mut first, &mut second, 500) {
         return None;
     }
-    let (mut first, mut second) = put_by_two(rt, &live, first, second, 500)?;
+    let (mut first, mut second) = put_by_two(rt, live, first, second, 500)?;
     Some([live.look(&mut first).ok()?, live.look(&mut second).ok()?])
+}
+
+/// The same of the seats of a book.
+fn grow_both<E: Threads + Wait + Sync>(rt: &E, two: Two) -> Option<[u64; 2]> {
+    let Two {
+        live,
+        first,
+        second,
+        ..
+    } = two;
+    grow_two_thousand(rt, &live, first, second)
 }
 
 #[test]
 fn either_seat_finds_all_growths(rt: HostRuntime) -> Result<(), Fail> {
-    let found = match begin_two(rt.alloc(), 2_000) {
-        Some(two) => grow_two_thousand(&rt, two),
-        None => None,
-    };
+    let found = begin_two(rt.alloc(), 2_000).and_then(|two| grow_both(&rt, two));
     assert_eq!(rt; found, Some([2_000, 2_000]));
     Ok(())
 }

@@ -3,6 +3,7 @@
 ghost use Rattle.std.specs.Prelude.{IfSome};
 ghost use Rattle.book_core.specs.Lists as lists;
 ghost use Rattle.book_core.specs.Beginning.{AreNewSeats};
+ghost use Rattle.flush_core.specs.Flusher.{IsFlusherOf};
 
 use super::*;
 use disk_core::{Blow, FuseDisk};
@@ -109,30 +110,39 @@ struct Left<D: Disk> {
 }
 
 /// Serves two growers.
+fn serve_seats<D: Disk + Drop + Send, E: Threads + Wait + Sync>(
+    rt: &E,
+    alloc: Global,
+    live: &Live<u64>,
+    seats: Vec<Seat<u64>>,
+    flusher: Flusher<u64, D>,
+) -> Option<(Option<Grown>, Served<D>)>
+    requires seats { AreNewSeats live.now.directory live.now.mark seats.items }
+    requires flusher { IsFlusherOf (D.keeps flusher.pen.disk) live.now flusher }
+{
+    serve_beside(
+        rt,
+        live,
+        flusher,
+        move || -> Option<Grown>
+            requires { AreNewSeats live.now.directory live.now.mark seats.items }
+        { put_and_close(rt, alloc, live, seats) },
+    )
+}
+
+/// Serves two growers of a phase.
 fn serve_two<D: Disk + Drop + Send, E: Threads + Wait + Sync>(
     rt: &E,
     alloc: Global,
     phase: Phase<D>,
-) -> Option<Left<D>> {
+) -> Option<(Option<Grown>, Served<D>)> {
     let Phase {
         live,
         seats,
         flusher,
         ..
     } = phase;
-    let shared = &live;
-    let (grown, served) = serve_beside(
-        rt,
-        shared,
-        flusher,
-        move || -> Option<Grown>
-            requires { AreNewSeats shared.now.directory shared.now.mark seats.items }
-        { put_and_close(rt, alloc, shared, seats) },
-    )?;
-    Some(Left {
-        served,
-        grown: grown?,
-    })
+    serve_seats(rt, alloc, &live, seats, flusher)
 }
 
 /// The images that are looked at: what stands at the pending places, each with both lengths.
@@ -201,7 +211,11 @@ fn left_after<E: Threads + Wait + Sync>(
         blow,
     );
     let phase = phase_over(alloc, fuse, 2 * GROWTHS, 2)?;
-    serve_two(rt, alloc, phase)
+    let (grown, served) = serve_two(rt, alloc, phase)?;
+    Some(Left {
+        served,
+        grown: grown?,
+    })
 }
 
 /// Whether what is left holds what it must at each of 25 moments at which the disk stops or fails.

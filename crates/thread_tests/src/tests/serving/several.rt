@@ -43,28 +43,41 @@ fn await_third<E: Wait>(rt: &E, live: &Live<u64>, mut seat: Seat<u64>) -> (u64, 
     told
 }
 
-/// Serves what is known while a grower waits for the last of it.
-fn serve_waiting<E: Threads + Wait + Sync>(
+/// Serves while the grower with that seat waits for the third growth.
+fn serve_seat<D: Disk + Drop + Send, E: Threads + Wait + Sync>(
     rt: &E,
-    phase: Phase<RamDisk>,
-) -> Option<((u64, MarkState), Served<RamDisk>)> {
+    live: &Live<u64>,
+    flusher: Flusher<u64, D>,
+    seat: Option<Seat<u64>>,
+) -> Option<((u64, MarkState), Served<D>)>
+    requires flusher { IsFlusherOf (D.keeps flusher.pen.disk) live.now flusher }
+    requires seat { IfSome seat (λ seat. lists.IsSeatOf live.now seat) }
+{
+    let seat = seat?;
+    serve_beside(
+        rt,
+        live,
+        flusher,
+        move || -> (u64, MarkState)
+            requires { lists.IsSeatOf live.now seat }
+        { await_third(rt, live, seat) },
+    )
+}
+
+/// Serves what is known while a grower waits for the last of it.
+fn serve_waiting<D: Disk + Drop + Send, E: Threads + Wait + Sync>(
+    rt: &E,
+    phase: Phase<D>,
+) -> Option<((u64, MarkState), Served<D>)> {
     let Phase {
         live,
         mut seats,
         mut flusher,
         ..
     } = phase;
-    let seat = put_three(rt, &live, &mut seats)?;
-    find_growths(&live, &mut flusher).ok()?;
-    let shared = &live;
-    serve_beside(
-        rt,
-        shared,
-        flusher,
-        move || -> (u64, MarkState)
-            requires { lists.IsSeatOf shared.now seat }
-        { await_third(rt, shared, seat) },
-    )
+    let seat = put_three(rt, &live, &mut seats);
+    let _ = find_growths(&live, &mut flusher);
+    serve_seat(rt, &live, flusher, seat)
 }
 
 #[test]

@@ -1,6 +1,8 @@
 //! Growers beside one who serves them.
 
+ghost use Rattle.std.specs.Prelude.{IfSome};
 ghost use Rattle.book_core.specs.Lists as lists;
+ghost use Rattle.flush_core.specs.Flusher.{IsFlusherOf};
 
 use super::*;
 use std::thread::Threads;
@@ -35,28 +37,41 @@ fn grow_and_close<E: Wait>(
 }
 
 /// The same while another thread serves, and what is left.
+fn serve_seat<D: Disk + Drop + Send, E: Threads + Wait + Sync>(
+    rt: &E,
+    alloc: Global,
+    live: &Live<u64>,
+    flusher: Flusher<u64, D>,
+    seat: Option<Seat<u64>>,
+) -> Option<(Option<(u64, MarkState, u64)>, Served<D>)>
+    requires flusher { IsFlusherOf (D.keeps flusher.pen.disk) live.now flusher }
+    requires seat { IfSome seat (λ seat. lists.IsSeatOf live.now seat) }
+{
+    let seat = seat?;
+    serve_beside(
+        rt,
+        live,
+        flusher,
+        move || -> Option<(u64, MarkState, u64)>
+            requires { lists.IsSeatOf live.now seat }
+        { grow_and_close(rt, alloc, live, seat) },
+    )
+}
+
+/// The same of a phase.
 fn served<D: Disk + Drop + Send, E: Threads + Wait + Sync>(
     rt: &E,
     alloc: Global,
     phase: Phase<D>,
-) -> Option<((u64, MarkState, u64), Served<D>)> {
+) -> Option<(Option<(u64, MarkState, u64)>, Served<D>)> {
     let Phase {
         live,
         mut seats,
         flusher,
         ..
     } = phase;
-    let seat = take_seat(&live, &mut seats)?;
-    let shared = &live;
-    let (grown, left) = serve_beside(
-        rt,
-        shared,
-        flusher,
-        move || -> Option<(u64, MarkState, u64)>
-            requires { lists.IsSeatOf shared.now seat }
-        { grow_and_close(rt, alloc, shared, seat) },
-    )?;
-    Some((grown?, left))
+    let seat = take_seat(&live, &mut seats);
+    serve_seat(rt, alloc, &live, flusher, seat)
 }
 
 #[test]
@@ -69,7 +84,7 @@ fn a_grower_waits_for_its_growth_and_grows_on(rt: HostRuntime) -> Result<(), Fai
         return Err(Fail::from("not served"));
     };
     let found = (grown, left.ended, left.settled);
-    assert_eq!(rt; found, ((1, MarkState::Running, 1), true, 2));
+    assert_eq!(rt; found, (Some((1, MarkState::Running, 1)), true, 2));
     let records = opened(rt.alloc(), &left.disk, &OLD)?;
     assert_eq!(rt; records.as_slice(), [1, 2, 3].as_slice());
     Ok(())
