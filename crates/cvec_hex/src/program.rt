@@ -1,0 +1,48 @@
+//! The program: what its words ask for, done on its input and output.
+
+ghost use Rattle.std.specs.Prelude.{◌≡◌, ◌≢◌, IfSome};
+ghost use Rattle.cvec_hex.specs.Runs.{IsTaskRun, IsRun};
+
+use crate::request::{RecordType, Request, Task};
+use record_core::{Flagged, Pair};
+use std::alloc::Global;
+use std::io::{Read, Write};
+use text_core::{Status, TextRecord, image, show};
+
+/// Does the task on records of one type.
+fn run_of<R: TextRecord, I: Read, W: Write>(
+    alloc: Global,
+    task: Task,
+    reader: &mut I,
+    writer: &mut W,
+) -> Status
+    ensures ends { IfSome (I.remaining reader.old) (λ input.
+        IsTaskRun task R.form R.spelling input (W.contents writer.old) (W.contents writer.new) result) }
+    ensures no_usage { result ≢ Status.Usage }
+{
+    match task {
+        Task::Image => image::<R, I, W>(alloc, reader, writer),
+        Task::Show => show::<R, I, W>(alloc, reader, writer),
+    }
+}
+
+/// Does what is asked for.
+pub fn run<I: Read, W: Write>(
+    alloc: Global,
+    request: Request,
+    reader: &mut I,
+    writer: &mut W,
+) -> Status
+    ensures ends { IfSome (I.remaining reader.old) (λ input.
+        IsRun request input (W.contents writer.old) (W.contents writer.new) result) }
+    ensures no_usage { result ≢ Status.Usage }
+{
+    let task = request.task;
+    match request.record_type {
+        RecordType::U32 => run_of::<u32, I, W>(alloc, task, reader, writer),
+        RecordType::U64 => run_of::<u64, I, W>(alloc, task, reader, writer),
+        RecordType::I64 => run_of::<i64, I, W>(alloc, task, reader, writer),
+        RecordType::Pair => run_of::<Pair, I, W>(alloc, task, reader, writer),
+        RecordType::Flagged => run_of::<Flagged, I, W>(alloc, task, reader, writer),
+    }
+}
