@@ -33,20 +33,29 @@ impl Barrier {
         self.given_up.store(true, Ordering::SeqCst);
     }
 
+    /// Whether all threads are there, for one that came then and waits. `Thread`, where one never comes: as where threads
+    /// that can't be started run one after the other.
+    fn is_open<E: Clock>(&self, rt: &E, came: Instant) -> Result<bool, SpeedFault> {
+        if self.there.load(Ordering::SeqCst) >= self.threads {
+            return Ok(true);
+        }
+        if came.elapsed(rt)? > Duration::from_secs(PATIENCE) {
+            self.give_up();
+        }
+        if self.given_up.load(Ordering::SeqCst) {
+            return Err(SpeedFault::Thread);
+        }
+        Ok(false)
+    }
+
     /// Waits until all threads are there. It yields and asks again, so that all start at once. Answers when this
-    /// thread came. `Thread`, where one never comes: as where threads that can't be started run one after the other.
+    /// thread came. Refused as `is_open`.
     pub fn pass<E: Wait + Clock>(&self, rt: &E) -> Result<Instant, SpeedFault> {
         let came = Instant::now(rt)?;
         self.there.fetch_add(1, Ordering::SeqCst);
         for _ in rt.forever() {
-            if self.there.load(Ordering::SeqCst) >= self.threads {
+            if self.is_open(rt, came)? {
                 break;
-            }
-            if came.elapsed(rt)? > Duration::from_secs(PATIENCE) {
-                self.give_up();
-            }
-            if self.given_up.load(Ordering::SeqCst) {
-                return Err(SpeedFault::Thread);
             }
             thread::yield_now();
         }

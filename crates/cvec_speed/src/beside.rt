@@ -143,10 +143,9 @@ fn work_on<E: Wait + Clock>(
 fn work_as<E: Wait + Clock>(
     rt: &E,
     alloc: Global,
-    own: Seated,
+    own: &mut Seated,
     course: &Course,
 ) -> Result<Work, SpeedFault> {
-    let mut own = own;
     let task = if own.number() == 0 {
         Task::Grow
     } else {
@@ -154,7 +153,7 @@ fn work_as<E: Wait + Clock>(
     };
     let came = course.barrier.pass(rt)?;
     let start = Instant::now(rt)?;
-    let records = work_on(rt, alloc, &mut own, task, course, start)?;
+    let records = work_on(rt, alloc, own, task, course, start)?;
     let span = Span::since(rt, came)?;
     Ok(Work {
         task,
@@ -232,7 +231,14 @@ fn run_workers<E: Threads + Wait + Clock + Sync>(
         barrier: Barrier::new(workers.len() as u64),
         ended: AtomicBool::new(false),
     };
-    let works = thread::map_vec(rt, workers, &|own: Seated| work_as(rt, alloc, own, &course))?;
+    let works = thread::map_vec(
+        rt,
+        workers,
+        &|own: Seated| {
+            let mut own = own;
+            work_as(rt, alloc, &mut own, &course)
+        },
+    )?;
     Done::of_all(works)
 }
 

@@ -5,17 +5,16 @@ ghost use Rattle.std.specs.Prelude.{◌≡◌, IfOk};
 use crate::fault::SpeedFault;
 use disk_core::Disk;
 use pen_core::Pen;
-use segment_core::Format;
 use std::alloc::Global;
 
 /// The bytes of a record.
 const WIDTH: u16 = 8;
 
 /// A pen over a new file.
-pub fn create<D: Disk + Drop>(alloc: Global, disk: D, format: Format) -> Result<Pen<D>, SpeedFault>
+pub fn create<D: Disk + Drop>(alloc: Global, disk: D) -> Result<Pen<D>, SpeedFault>
     ensures { IfOk result (λ pen. pen.shape.width ≡ 8) }
 {
-    match Pen::create_as(alloc, disk, WIDTH, format) {
+    match Pen::create(alloc, disk, WIDTH) {
         Ok(pen) => Ok(pen),
         Err((_, fault)) => Err(SpeedFault::Pen(fault)),
     }

@@ -4,20 +4,17 @@ use crate::barrier::{Barrier, Span};
 use crate::fault::SpeedFault;
 use crate::figure::{Detail, Figure, Waits};
 use crate::grow::GrowSizes;
-use crate::phase::{Seated, seat_all};
 use crate::pool::Pool;
-use crate::producer::{Course, Pace, Produced, produce};
+use crate::producer::{Course, Pace, Produced};
 use crate::reading::Total;
-use crate::served::{Committer, Served, serve_beside};
-use crate::store::{make_disk, open_disk, open_pen};
-use book_core::Live;
+use crate::served::Served;
+use crate::store::{make_disk, total_opened};
+use crate::together::{Done, Outcome, Role, run_all};
 use directory_core::GROWTH_LIMIT;
-use disk_core::Disk;
 use std::alloc::{AllocError, AllocGlobal, Global};
 use std::fs::File;
 use std::rt::Files;
 use std::sync::Wait;
-use std::thread;
 use std::thread::Threads;
 use std::time::{Clock, Duration, Instant};
 
@@ -68,90 +65,6 @@ impl DurableSizes<'_> {
     }
 }
 
-/// Runs a producer for each seat, each in a thread of its own. `Thread`, and none appends, where one can't be started.
-fn run_producers<E: Threads + Wait + Clock + Sync>(
-    rt: &E,
-    alloc: Global,
-    producers: Vec<Seated>,
-    course: &Course,
-) -> Result<Vec<Result<Produced, SpeedFault>>, SpeedFault> {
-    thread::scope(
-        thread::scope_env(),
-        rt,
-        move |scope| -> Result<Vec<Result<Produced, SpeedFault>>, SpeedFault> {
-            let mut running = Vec::with_capacity(alloc, producers.len())?;
-            let mut produced = Vec::with_capacity(alloc, producers.len())?;
-            for own in producers {
-                let started = match scope.spawn(move || produce(rt, alloc, own, course)) {
-                    Ok(thread) => running.push(thread).is_ok(),
-                    Err(_) => false,
-                };
-                if !started {
-                    course.barrier.give_up();
-                    return Err(SpeedFault::Thread);
-                }
-            }
-            for thread in running {
-                produced.push(thread.join(rt))?;
-            }
-            Ok(produced)
-        },
-    )
-}
-
-/// What all threads did, and when the last commit had ended.
-#[derive(Drop)]
-struct Outcome {
-    produced: Vec<Result<Produced, SpeedFault>>,
-    ended: Instant,
-}
-
-/// Runs the producers beside who commits, and closes the phase.
-fn run_beside<E: Threads + Wait + Clock + Sync, D: Disk + Send + Drop>(
-    rt: &E,
-    alloc: Global,
-    live: &Live<u64>,
-    producers: Vec<Seated>,
-    committer: Committer<'_, D>,
-    course: &Course,
-) -> Result<Outcome, SpeedFault> {
-    let (produced, ended) = serve_beside(
-        rt,
-        committer,
-        move || -> Result<Vec<Result<Produced, SpeedFault>>, SpeedFault> {
-            let produced = run_producers(rt, alloc, producers, course);
-            live.close(rt);
-            produced
-        },
-    )?;
-    Ok(Outcome {
-        produced: produced?,
-        ended: ended?,
-    })
-}
-
-/// Runs them in the phase.
-fn run_all<E: Threads + Wait + Clock + Sync, D: Disk + Send + Drop>(
-    rt: &E,
-    alloc: Global,
-    phase: Served<D>,
-    course: &Course,
-) -> Result<Outcome, SpeedFault> {
-    let Served {
-        live,
-        seats,
-        flusher,
-    } = phase;
-    let committer = Committer {
-        live: &live,
-        flusher,
-    };
-    match seat_all(alloc, &live, seats) {
-        Ok(producers) => run_beside(rt, alloc, &live, producers, committer, course),
-        Err(_) => Err(SpeedFault::Memory),
-    }
-}
-
 /// What all threads did, put together.
 #[derive(Drop)]
 struct Sums {
@@ -182,14 +95,12 @@ impl Sums {
         Ok(())
     }
 
-    fn of_all(
-        alloc: Global,
-        pool: &Pool,
-        produced: Vec<Result<Produced, SpeedFault>>,
-    ) -> Result<Sums, SpeedFault> {
+    fn of_all(alloc: Global, pool: &Pool, done: Vec<Done>) -> Result<Sums, SpeedFault> {
         let mut sums = Sums::new(alloc);
-        for one in produced {
-            sums.add(pool, one?)?;
+        for one in done {
+            if let Some(produced) = one? {
+                sums.add(pool, produced)?;
+            }
         }
         Ok(sums)
     }
@@ -219,20 +130,8 @@ fn at_hundredth(times: &[Duration], hundredths: usize) -> Option<Duration> {
     times.get(at).copied()
 }
 
-/// Opens the file in the folder, and compares its records.
-fn check<E: Files<File = File>>(
-    rt: &E,
-    alloc: Global,
-    dir: &str,
-    total: Total,
-) -> Result<(), SpeedFault> {
-    let disk = open_disk(rt, alloc, dir)?;
-    let (_pen, records) = open_pen(alloc, disk)?;
-    Total::NOTHING.with(records.as_slice()).check(total)
-}
-
 /// Appends the blocks to a new file in the folder, and puts together what all threads did.
-fn append<E: Threads + Wait + Clock + Sync + Files<File = File> + AllocGlobal>(
+fn append<E: Threads + Wait + Clock + Eprint + Sync + Files<File = File> + AllocGlobal>(
     rt: &E,
     alloc: Global,
     sizes: DurableSizes,
@@ -240,9 +139,10 @@ fn append<E: Threads + Wait + Clock + Sync + Files<File = File> + AllocGlobal>(
 ) -> Result<(Sums, Instant), SpeedFault> {
     let disk = make_disk(rt, alloc, sizes.dir)?;
     let phase = Served::begin(alloc, disk, sizes.room(), sizes.grow.threads)?;
-    let outcome = run_all(rt, alloc, phase, course)?;
-    let sums = Sums::of_all(alloc, &course.pool, outcome.produced)?;
-    Ok((sums, outcome.ended))
+    let Outcome { done, ended } = run_all(rt, alloc, phase, Role::Produce(course))?;
+    let (done, ended) = (done?, ended?);
+    let sums = Sums::of_all(alloc, &course.pool, done)?;
+    Ok((sums, ended))
 }
 
 /// The figure of all that the threads did.
@@ -265,7 +165,7 @@ fn figure_of(sizes: DurableSizes, sums: &mut Sums, ended: Instant) -> Figure {
 
 /// Threads append blocks, and one more commits them by groups of all that is there. Then the file is opened, and its
 /// records are compared. Refused `Thread`, where one of the threads can't be started.
-pub fn durable<E: Threads + Wait + Clock + Sync + Files<File = File> + AllocGlobal>(
+pub fn durable<E: Threads + Wait + Clock + Eprint + Sync + Files<File = File> + AllocGlobal>(
     rt: &E,
     alloc: Global,
     sizes: DurableSizes,
@@ -276,6 +176,7 @@ pub fn durable<E: Threads + Wait + Clock + Sync + Files<File = File> + AllocGlob
         pace: sizes.pace(),
     };
     let (mut sums, ended) = append(rt, alloc, sizes, &course)?;
-    check(rt, alloc, sizes.dir, sums.total)?;
+    let (total, _) = total_opened(rt, alloc, sizes.dir)?;
+    total.check(sums.total)?;
     figure_of(sizes, &mut sums, ended).alone(alloc)
 }

@@ -5,69 +5,75 @@ use book_core::GrowFault;
 use flush_core::FlushFault;
 use pen_core::{OpenFault, PenFault};
 use std::alloc::{AllocError, AllocFailed};
-use std::io;
-use thiserror::Error;
-use vault_core::VaultFault;
+use std::{fmt, io};
 
 /// Why a work has no figure.
-#[derive(Clone, Copy, Debug, Error)]
+#[derive(Clone, Copy)]
 pub enum SpeedFault {
     /// The work makes no growth, or more than one phase has room for.
-    #[error("no growth, or more than a phase has room for")]
     Room,
     /// A growth, or the phase, was refused.
-    #[error("a growth was refused: {0}")]
     Grow(GrowFault),
     /// What was read isn't what was grown.
-    #[error("wrong content")]
     Content,
     /// A growth of memory was refused.
-    #[error("memory")]
     Memory,
     /// The clock, or what the system tells of the memory, can't be read.
-    #[error("the system tells no time or no memory")]
     System,
     /// The system refuses the file.
-    #[error("the file: {0}")]
     File(io::ErrorKind),
     /// A pen refused, or its disk failed.
-    #[error("a pen refused: {0}")]
     Pen(PenFault),
     /// A file wasn't opened.
-    #[error("not opened: {0}")]
     Open(OpenFault),
     /// Who commits refused, or its disk failed.
-    #[error("no commit: {0}")]
     Flush(FlushFault),
-    /// A vault refused, or its disk failed.
-    #[error("a vault refused: {0}")]
-    Vault(VaultFault),
     /// A growth won't be durable any more.
-    #[error("not durable")]
     Unsettled,
     /// The system starts no further thread.
-    #[error("a thread can't be started")]
     Thread,
     /// Threads that wait for each other stand still, in the phase of that number.
-    #[error("threads stand still in phase {0}")]
     Still(u64),
+}
+
+impl SpeedFault {
+    /// What is wrong, but for the fault of what lies below.
+    fn text(self) -> &'static str {
+        match self {
+            SpeedFault::Room => "no growth, or more than a phase has room for",
+            SpeedFault::Grow(_) => "a growth was refused: ",
+            SpeedFault::Content => "wrong content",
+            SpeedFault::Memory => "memory",
+            SpeedFault::System => "the system tells no time or no memory",
+            SpeedFault::File(_) => "the file: ",
+            SpeedFault::Pen(_) => "a pen refused: ",
+            SpeedFault::Open(_) => "not opened: ",
+            SpeedFault::Flush(_) => "no commit: ",
+            SpeedFault::Unsettled => "not durable",
+            SpeedFault::Thread => "a thread can't be started",
+            SpeedFault::Still(_) => "threads stand still in phase ",
+        }
+    }
+}
+
+impl fmt::Display for SpeedFault {
+    fn fmt<W: fmt::Write>(&self, f: &mut fmt::Formatter<W>) -> fmt::Result {
+        f.write_str(self.text())?;
+        match *self {
+            SpeedFault::Grow(fault) => fmt::Display::fmt(&fault, f),
+            SpeedFault::File(kind) => fmt::Display::fmt(&kind, f),
+            SpeedFault::Pen(fault) => fmt::Display::fmt(&fault, f),
+            SpeedFault::Open(fault) => fmt::Display::fmt(&fault, f),
+            SpeedFault::Flush(fault) => fmt::Display::fmt(&fault, f),
+            SpeedFault::Still(phase) => fmt::Display::fmt(&phase, f),
+            _ => Ok(()),
+        }
+    }
 }
 
 impl From<PenFault> for SpeedFault {
     fn from(fault: PenFault) -> SpeedFault {
         SpeedFault::Pen(fault)
-    }
-}
-
-impl From<VaultFault> for SpeedFault {
-    fn from(fault: VaultFault) -> SpeedFault {
-        SpeedFault::Vault(fault)
-    }
-}
-
-impl From<FlushFault> for SpeedFault {
-    fn from(fault: FlushFault) -> SpeedFault {
-        SpeedFault::Flush(fault)
     }
 }
 

@@ -25,8 +25,6 @@ pub struct Waits {
 pub enum Detail {
     /// What memory its records took.
     Memory(MemoryUse),
-    /// How many writes of a disk it made.
-    Writes(u64),
     /// How long its rounds took.
     Waits(Waits),
 }
@@ -107,7 +105,6 @@ impl fmt::Display for Detail {
                 write!(f, ",\"bytes_per_record\":{at_end}")?;
                 write!(f, ",\"peak_bytes_per_record\":{highest}")
             }
-            Detail::Writes(writes) => write!(f, ",\"writes\":{writes}"),
             Detail::Waits(waits) => write!(f, "{waits}"),
         }
     }

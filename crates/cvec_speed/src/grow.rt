@@ -1,8 +1,9 @@
-//! Many threads grow one vector.
+//! Many threads grow one vector, by blocks, or by records through appenders.
 
 ghost use Rattle.std.specs.Prelude.{◌<◌};
 ghost use Rattle.book_core.specs.Beginning.{AreNewSeats};
 
+use crate::append::{append_all, total_of_threads};
 use crate::barrier::{Barrier, Span};
 use crate::fault::SpeedFault;
 use crate::figure::Figure;
@@ -43,16 +44,24 @@ fn total_of_blocks(blocks: &[Vec<u64>], growths: u64) -> Total {
     total
 }
 
-/// What one thread does: so many growths by copies of its block, once all threads are there.
+/// What each thread does.
+#[derive(Clone, Copy)]
+enum Growing<'a> {
+    /// So many growths by copies of its block.
+    Copies(&'a [Vec<u64>], u64),
+    /// So many records through an appender, by blocks of so many.
+    Records(u64, u64),
+}
+
+/// So many growths by copies of the thread's block, once all threads are there.
 fn grow_copies<E: Wait + Clock>(
     rt: &E,
     alloc: Global,
-    own: Seated,
+    own: &mut Seated,
     blocks: &[Vec<u64>],
     growths: u64,
     barrier: &Barrier,
 ) -> Result<Span, SpeedFault> {
-    let mut own = own;
     let Some(block) = blocks.get(own.number()) else {
         return Err(SpeedFault::Room);
     };
@@ -61,19 +70,35 @@ fn grow_copies<E: Wait + Clock>(
     Span::since(rt, came)
 }
 
-/// Runs a thread for each block, and answers how long they took.
+/// What one thread does.
+fn grow_as<E: Wait + Clock>(
+    rt: &E,
+    alloc: Global,
+    own: Seated,
+    growing: Growing,
+    barrier: &Barrier,
+) -> Result<Span, SpeedFault> {
+    let mut own = own;
+    match growing {
+        Growing::Copies(blocks, growths) => {
+            grow_copies(rt, alloc, &mut own, blocks, growths, barrier)
+        }
+        Growing::Records(count, block) => append_all(rt, alloc, own, count, block, barrier),
+    }
+}
+
+/// Runs a thread for each seat, and answers how long they took.
 fn run_growers<E: Threads + Wait + Clock + Sync>(
     rt: &E,
     alloc: Global,
     growers: Vec<Seated>,
-    blocks: &[Vec<u64>],
-    growths: u64,
+    growing: Growing,
 ) -> Result<Duration, SpeedFault> {
-    let barrier = Barrier::new(blocks.len() as u64);
+    let barrier = Barrier::new(growers.len() as u64);
     let spans = thread::map_vec(
         rt,
         growers,
-        &|own: Seated| { grow_copies(rt, alloc, own, blocks, growths, &barrier) },
+        &|own: Seated| { grow_as(rt, alloc, own, growing, &barrier) },
     )?;
     Span::time_of_all(spans)
 }
@@ -84,28 +109,28 @@ fn grow_by<E: Threads + Wait + Clock + Sync>(
     alloc: Global,
     live: &Live<u64>,
     seats: Vec<Seat<u64>>,
-    blocks: &[Vec<u64>],
-    growths: u64,
+    growing: Growing,
 ) -> Result<(Total, Duration), SpeedFault>
     requires { AreNewSeats live.now.directory live.now.mark seats.items }
 {
     let mut growers = seat_all(alloc, live, seats)?;
     let last = growers.pop();
-    let time = run_growers(rt, alloc, growers, blocks, growths)?;
+    let time = run_growers(rt, alloc, growers, growing)?;
     Ok((total_by(last)?, time))
 }
 
-/// Runs the growers in a phase of their own.
+/// So many threads grow in a phase of their own, each by so many growths at most. What they grew in all, and how long they
+/// took.
 fn grow_all<E: Threads + Wait + Clock + Sync>(
     rt: &E,
     alloc: Global,
     threads: u16,
-    blocks: &[Vec<u64>],
     growths: u64,
+    growing: Growing,
 ) -> Result<(Total, Duration), SpeedFault> {
     let room = growths.saturating_mul(threads as u64);
     let (live, seats) = begin(alloc, room, threads.saturating_add(1))?;
-    grow_by(rt, alloc, &live, seats, blocks, growths)
+    grow_by(rt, alloc, &live, seats, growing)
 }
 
 /// Threads make growths by turns as they come, each by copies of a ready block of its own, and none before all are
@@ -117,7 +142,24 @@ pub fn grow<E: Threads + Wait + Clock + Sync>(
 ) -> Result<Vec<Figure>, SpeedFault> {
     let growths = sizes.n / sizes.threads as u64 / sizes.block as u64;
     let blocks = blocks_of(alloc, sizes.threads, sizes.block as usize)?;
-    let (total, time) = grow_all(rt, alloc, sizes.threads, blocks.as_slice(), growths)?;
+    let growing = Growing::Copies(blocks.as_slice(), growths);
+    let (total, time) = grow_all(rt, alloc, sizes.threads, growths, growing)?;
     total.check(total_of_blocks(blocks.as_slice(), growths))?;
     Figure::new("grow", sizes.threads as u64, total.count, time).alone(alloc)
+}
+
+/// Threads append records one by one, each through an appender of so many, and none before all are there. What was grown
+/// is then read and compared.
+pub fn append<E: Threads + Wait + Clock + Sync>(
+    rt: &E,
+    alloc: Global,
+    sizes: GrowSizes,
+) -> Result<Vec<Figure>, SpeedFault> {
+    let threads = sizes.threads;
+    let count = sizes.n / threads as u64;
+    let block = sizes.block as u64;
+    let growing = Growing::Records(count, block);
+    let (total, time) = grow_all(rt, alloc, threads, count.div_ceil(block), growing)?;
+    total.check(total_of_threads(threads, count))?;
+    Figure::new("append", threads as u64, total.count, time).alone(alloc)
 }

@@ -5,18 +5,14 @@
 mod append;
 mod barrier;
 mod beside;
-mod change;
 mod commit;
-mod crew;
 mod durable;
 mod fault;
 mod figure;
-mod fold;
 mod group;
 mod grow;
 mod memory;
 mod mix;
-mod owned;
 mod phase;
 mod pool;
 mod producer;
@@ -25,20 +21,18 @@ mod reading;
 mod served;
 mod store;
 mod stress;
+mod together;
+mod waiter;
 mod waits;
 mod watch;
 mod words;
 
-use crate::append::append;
 use crate::beside::beside;
-use crate::crew::crewed;
 use crate::durable::durable;
 use crate::fault::SpeedFault;
 use crate::figure::Figure;
-use crate::fold::fold;
-use crate::grow::grow;
+use crate::grow::{append, grow};
 use crate::memory::memory;
-use crate::owned::owned;
 use crate::read::read;
 use crate::store::{build, open};
 use crate::stress::stress;
@@ -60,10 +54,7 @@ read block= n= draws=                        one thread, and then 1, 2 and 4, re
 memory block= n=                             what memory one thread's growths take
 open-build dir= block= n=                    a vector's file is made in a folder
 open-read dir= block= n= work=               it is opened; work is open.warm or open.cold
-fold dir= run= n=                            changes of runs of positions are folded
 durable dir= mode= threads= block= n= box_ms=   threads append to a file; mode is wait1, wait64 or flow
-vault dir= n=                                one owner searches, changes, lengthens and lends out a file's vector
-crew dir= threads= block= n=                 a crew appends to a file, one thread for each grower
 waits threads= phases= rounds=               threads wait for each growth, in phase after phase, over a file in memory
 stress threads= phases= rounds=              as waits, with up to so many threads; phases end, are closed, or their disk stops
 ";
@@ -97,10 +88,7 @@ fn figures_of<E: Threads + Wait + Clock + Files<File = File> + AllocGlobal + Epr
         Work::Memory(sizes) => memory(rt, rt.alloc(), sizes),
         Work::Build(sizes) => build(rt, rt.alloc(), sizes),
         Work::Open(sizes, work) => open(rt, rt.alloc(), sizes, work),
-        Work::Fold(sizes) => fold(rt, rt.alloc(), sizes),
         Work::Durable(sizes) => durable(rt, rt.alloc(), sizes),
-        Work::Owned(sizes) => owned(rt, rt.alloc(), sizes),
-        Work::Crew(sizes) => crewed(rt, rt.alloc(), sizes),
         Work::Waits(sizes) => waits(rt, rt.alloc(), sizes),
         Work::Stress(sizes) => stress(rt, rt.alloc(), sizes),
     }

@@ -6,7 +6,7 @@ ghost use Rattle.book_core.specs.Beginning.{AreNewSeats};
 use crate::fault::SpeedFault;
 use crate::figure::{Detail, Figure, MemoryUse};
 use crate::mix::mixed;
-use crate::phase::{begin, seat_one};
+use crate::phase::{Seated, begin, seat_one};
 use book_core::{Live, Seat};
 use std::alloc::{AllocGlobal, Global};
 use std::fs;
@@ -63,8 +63,21 @@ fn per_record(kib: u64, records: u64) -> u64 {
         .unwrap_or(0)
 }
 
-/// Fills the vector by so many copies of the block. How many records it has, what the memory is then, and how long that
-/// took since its begin.
+/// Fills the vector by so many copies of the block. What the memory is then, and how long that took since its begin.
+fn fill_timed<E: Wait + Clock + Files + AllocGlobal>(
+    rt: &E,
+    alloc: Global,
+    own: &mut Seated,
+    block: &[u64],
+    growths: u64,
+    start: Instant,
+) -> Result<(Resident, Duration), SpeedFault> {
+    own.put_copies(rt, alloc, block, growths)?;
+    let time = start.elapsed(rt)?;
+    Ok((Resident::now(rt)?, time))
+}
+
+/// As `fill_timed`, by one of the seats, and how many records the vector then has.
 fn fill_by<E: Wait + Clock + Files + AllocGlobal>(
     rt: &E,
     alloc: Global,
@@ -77,9 +90,8 @@ fn fill_by<E: Wait + Clock + Files + AllocGlobal>(
     requires { AreNewSeats live.now.directory live.now.mark seats.items }
 {
     let mut own = seat_one(live, seats)?;
-    own.put_copies(rt, alloc, block, growths)?;
-    let time = start.elapsed(rt)?;
-    Ok((own.size(), Resident::now(rt)?, time))
+    let (memory, time) = fill_timed(rt, alloc, &mut own, block, growths, start)?;
+    Ok((own.size(), memory, time))
 }
 
 /// Fills a new vector.

@@ -116,9 +116,37 @@ impl Producer<'_> {
             },
         }
     }
+
+    /// Appends its blocks once all threads are there. From when to when.
+    fn run<E: Wait + Clock>(
+        &mut self,
+        rt: &E,
+        alloc: Global,
+        course: &Course,
+    ) -> Result<Span, SpeedFault> {
+        let came = course.barrier.pass(rt)?;
+        self.produce(rt, alloc, course.pace)?;
+        Span::since(rt, came)
+    }
+
+    /// What it did in that span.
+    fn produced(self, span: Span) -> Produced {
+        let Producer {
+            own,
+            blocks,
+            rounds,
+            ..
+        } = self;
+        Produced {
+            thread: own.number() as u64,
+            blocks,
+            span,
+            rounds,
+        }
+    }
 }
 
-/// What one thread does: it appends its blocks once all threads are there.
+/// What one thread does: it appends its blocks once all threads are there. What it did.
 pub fn produce<E: Wait + Clock>(
     rt: &E,
     alloc: Global,
@@ -131,19 +159,8 @@ pub fn produce<E: Wait + Clock>(
         blocks: 0,
         rounds: Vec::new(alloc),
     };
-    let came = course.barrier.pass(rt)?;
-    producer.produce(rt, alloc, course.pace)?;
-    let span = Span::since(rt, came)?;
-    let Producer {
-        own,
-        blocks,
-        rounds,
-        ..
-    } = producer;
-    Ok(Produced {
-        thread: own.number() as u64,
-        blocks,
-        span,
-        rounds,
-    })
+    match producer.run(rt, alloc, course) {
+        Ok(span) => Ok(producer.produced(span)),
+        Err(fault) => Err(fault),
+    }
 }

@@ -16,8 +16,6 @@ use flush_core::Flusher;
 use pen_core::Pen;
 use std::alloc::Global;
 use std::sync::Wait;
-use std::thread;
-use std::thread::Threads;
 use std::time::{Clock, Instant};
 
 /// A phase, its new seats, and who commits its growths.
@@ -97,38 +95,8 @@ impl<D: Disk + Drop> Committer<'_, D> {
     }
 
     /// What the thread does that commits.
-    fn serve<E: Wait + Clock>(self, rt: &E) -> Result<Instant, SpeedFault> {
+    pub fn serve<E: Wait + Clock>(self, rt: &E) -> Result<Instant, SpeedFault> {
         let mut committer = self;
         committer.commit_all(rt)
     }
-}
-
-/// Commits in a thread of its own, which is started before anything grows, and calls the growers beside it, who close the
-/// phase. What these answer, and when all was durable. `Thread`, and they aren't called, where that thread can't be
-/// started: a grower that waits for its growth would wait for ever.
-pub fn serve_beside<
-    E: Threads + Wait + Clock + Sync,
-    D: Disk + Send + Drop,
-    T: Drop,
-    F: FnOnce() -> T,
->(
-    rt: &E,
-    committer: Committer<'_, D>,
-    grow: F,
-) -> Result<(T, Result<Instant, SpeedFault>), SpeedFault>
-    requires { F.pre grow }
-{
-    thread::scope(
-        thread::scope_env(),
-        rt,
-        move |scope| -> Result<(T, Result<Instant, SpeedFault>), SpeedFault>
-            requires { F.pre grow }
-        {
-            let Ok(serving) = scope.spawn(move || committer.serve(rt)) else {
-                return Err(SpeedFault::Thread);
-            };
-            let grown = grow();
-            Ok((grown, serving.join(rt)))
-        },
-    )
 }

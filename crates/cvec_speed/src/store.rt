@@ -15,7 +15,6 @@ use crate::reading::Total;
 use disk_core::{Disk, FileDisk};
 use pen_core::Pen;
 use record_core::PAYLOAD_LIMIT;
-use segment_core::Format;
 use std::alloc::{AllocError, AllocGlobal, Global};
 use std::fs::File;
 use std::io;
@@ -97,28 +96,15 @@ fn commit_records<D: Disk>(
     Ok(())
 }
 
-/// A pen over a new file in the folder, whose records are those of so many places.
-pub fn make_filled<E: Files<File = File> + AllocGlobal>(
-    rt: &E,
-    alloc: Global,
-    sizes: StoreSizes,
-    format: Format,
-) -> Result<Pen<FileDisk>, SpeedFault>
-    ensures { IfOk result (λ pen. pen.shape.width ≡ 8) }
-{
-    let disk = make_disk(rt, alloc, sizes.dir)?;
-    let mut pen = create(alloc, disk, format)?;
-    commit_records(alloc, &mut pen, sizes.block, sizes.n)?;
-    Ok(pen)
-}
-
-/// Leaves a file of version 1 in the folder. It has no figure.
+/// Leaves a file of version 1 in the folder, whose records are those of so many places. It has no figure.
 pub fn build<E: Files<File = File> + AllocGlobal>(
     rt: &E,
     alloc: Global,
     sizes: StoreSizes,
 ) -> Result<Vec<Figure>, SpeedFault> {
-    make_filled(rt, alloc, sizes, Format::One)?;
+    let disk = make_disk(rt, alloc, sizes.dir)?;
+    let mut pen = create(alloc, disk)?;
+    commit_records(alloc, &mut pen, sizes.block, sizes.n)?;
     Ok(Vec::new(alloc))
 }
 
@@ -145,7 +131,7 @@ fn total_since<E: Clock>(
 
 /// Opens the file in the folder until all its records stand in memory in order. What they come to, and how long that
 /// took.
-fn total_opened<E: Files<File = File> + Clock>(
+pub fn total_opened<E: Files<File = File> + Clock>(
     rt: &E,
     alloc: Global,
     dir: &str,

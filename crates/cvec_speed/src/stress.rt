@@ -3,7 +3,8 @@
 use crate::fault::SpeedFault;
 use crate::figure::Figure;
 use crate::mix::{below, mix};
-use crate::waits::{End, WaitsSizes, run_phase};
+use crate::waiter::End;
+use crate::waits::{WaitsSizes, run_phase};
 use std::alloc::Global;
 use std::sync::Wait;
 use std::thread::Threads;

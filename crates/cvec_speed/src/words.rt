@@ -3,12 +3,9 @@
 ghost use Rattle.std.specs.Prelude.{◌<◌, IfSome};
 
 use crate::beside::BesideSizes;
-use crate::crew::CrewSizes;
 use crate::durable::{DurableSizes, Mode};
-use crate::fold::FoldSizes;
 use crate::grow::GrowSizes;
 use crate::memory::MemorySizes;
-use crate::owned::OwnedSizes;
 use crate::read::ReadSizes;
 use crate::store::StoreSizes;
 use crate::waits::WaitsSizes;
@@ -27,10 +24,7 @@ pub enum Work<'a> {
     Build(StoreSizes<'a>),
     /// It is opened: with the name of the figure.
     Open(StoreSizes<'a>, &'static str),
-    Fold(FoldSizes<'a>),
     Durable(DurableSizes<'a>),
-    Owned(OwnedSizes<'a>),
-    Crew(CrewSizes<'a>),
     Waits(WaitsSizes),
     /// Phases with up to so many threads, that end in each way.
     Stress(WaitsSizes),
@@ -153,14 +147,6 @@ fn open_work(words: &[String]) -> Option<Work<'_>> {
     Some(Work::Open(store_sizes(words)?, figure_name(words)?))
 }
 
-fn fold_work(words: &[String]) -> Option<Work<'_>> {
-    Some(Work::Fold(FoldSizes {
-        dir: text_of(words, "dir")?,
-        run: length_of(words, "run")?,
-        n: size_of(words, "n")?,
-    }))
-}
-
 fn mode_of(words: &[String]) -> Option<Mode> {
     match text_of(words, "mode")? {
         "wait1" => Some(Mode::Wait1),
@@ -176,20 +162,6 @@ fn durable_work(words: &[String]) -> Option<Work<'_>> {
         mode: mode_of(words)?,
         grow: grow_sizes(words)?,
         most: time_of(words, "box_ms")?,
-    }))
-}
-
-fn owned_work(words: &[String]) -> Option<Work<'_>> {
-    Some(Work::Owned(OwnedSizes {
-        dir: text_of(words, "dir")?,
-        n: size_of(words, "n")?,
-    }))
-}
-
-fn crew_work(words: &[String]) -> Option<Work<'_>> {
-    Some(Work::Crew(CrewSizes {
-        dir: text_of(words, "dir")?,
-        grow: grow_sizes(words)?,
     }))
 }
 
@@ -222,9 +194,6 @@ pub fn read_words(words: &[String]) -> Result<Work<'_>, WordsFault> {
         "memory" => memory_work(sizes),
         "open-build" => build_work(sizes),
         "open-read" => open_work(sizes),
-        "fold" => fold_work(sizes),
-        "vault" => owned_work(sizes),
-        "crew" => crew_work(sizes),
         "durable" => durable_work(sizes),
         "waits" => waits_work(sizes),
         "stress" => stress_work(sizes),
