@@ -1,5 +1,5 @@
 use Rattle.concurrent_vector.specs.Lists.{IsSeatOf}
-use Rattle.example_collect.proofs.work.Given as goal
+use Rattle.examples.proofs.collect.work.Given as goal
 
 abbrev pub invariant-loop-k : goal.invariant-loop-k
 invariant-loop-k g l = IsSeatOf l.live l.results.seat

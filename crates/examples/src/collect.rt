@@ -1,6 +1,5 @@
 //! Results that a pool of threads collects in one vector: each thread counts, for each number of its share, the steps
 //! that the Collatz sequence takes from it to 1.
-#![tactic(auto)]
 
 ghost use Rattle.concurrent_vector.specs.Lists.{IsSeatOf};
 ghost use Rattle.concurrent_vector.specs.Beginning.{AreNewSeats};
@@ -100,8 +99,9 @@ fn collect<E: Threads + Wait + Sync>(rt: &E, alloc: Global) -> Result<(u64, Pair
     longest(&live, &mut reader)
 }
 
-fn main(rt: HostRuntime) -> io::Result<()> {
-    match collect(&rt, rt.alloc()) {
+/// Writes how many results there are, and the one with the most steps.
+pub fn tell<E: Threads + Wait + Print + Sync>(rt: &E, alloc: Global) -> io::Result<()> {
+    match collect(rt, alloc) {
         Ok((count, Pair { key, value })) => println!(rt;
             "{count} results, {key} takes {value} steps"
         ),

@@ -1,14 +1,13 @@
 //! Postings lists: the words of the input's lines are gathered as postings (word, line), a growth for each line, by a crew
-//! of threads. The words that are the program's arguments are then looked up.
-#![tactic(auto)]
+//! of threads. Further words are then looked up.
 
 ghost use Rattle.std.specs.Prelude.{◌==◌};
 
 use concurrent_vector::{Fault, Format, Gate, Lists, Pair, Pick, RamDisk, Receipt, Vault, crew};
 use std::alloc::Global;
+use std::io;
 use std::sync::Wait;
 use std::thread::Threads;
-use std::{env, io};
 
 /// How many threads gather.
 const GROWERS: u32 = 3;
@@ -102,17 +101,21 @@ fn lines_with(alloc: Global, index: &Index, word: &Word) -> Result<Vec<i64>, Fau
     Ok(lines)
 }
 
-fn main(rt: HostRuntime) -> io::Result<()> {
-    let text = io::read_to_string(rt.alloc(), rt.stdin())?;
-    let words: Vec<String> = env::args(&rt)?.skip(1).collect(rt.alloc())?;
-    let index = match index(&rt, rt.alloc(), text.as_str()) {
+/// Writes how often each word stands in the text, and in which lines.
+pub fn tell<E: Threads + Wait + Print + Sync>(
+    rt: &E,
+    alloc: Global,
+    text: &str,
+    words: &[String],
+) -> io::Result<()> {
+    let index = match index(rt, alloc, text) {
         Ok(index) => index,
         Err(fault) => return println!(rt; "{fault}"),
     };
-    for text in &words {
+    for text in words {
         let word = Word(number_of(text.as_str()));
-        let count = index.count_where(&rt, &word);
-        match lines_with(rt.alloc(), &index, &word) {
+        let count = index.count_where(rt, &word);
+        match lines_with(alloc, &index, &word) {
             Ok(lines) => println!(rt; "{text}: {count} times, in lines {lines:?}")?,
             Err(fault) => println!(rt; "{fault}")?,
         }

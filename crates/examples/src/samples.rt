@@ -1,6 +1,5 @@
 //! A store of samples in a file: threads append batches to it, each once the one before is durable, and read the newest
-//! samples meanwhile. Started again, also after it was killed, it goes on behind what stands. Its argument is the file.
-#![tactic(auto)]
+//! samples meanwhile. Started again, also after it was killed, it goes on behind what stands. A further word is the file.
 
 ghost use Rattle.concurrent_vector.specs.Lists.{IsSeatOf};
 ghost use Rattle.concurrent_vector.specs.Beginning.{AreNewSeats};
@@ -10,10 +9,12 @@ use concurrent_vector::{
     Disk, Fault, FileDisk, Flusher, Format, GROWTH_LIMIT, Live, OpenFault, Pair, ScanFault, Seat,
     Vault,
 };
-use std::alloc::Global;
+use std::alloc::{AllocGlobal, Global};
+use std::fs::File;
+use std::rt::Files;
 use std::sync::Wait;
 use std::thread::Threads;
-use std::{env, io, thread};
+use std::{io, thread};
 
 /// How many sensors there are, how many batches each appends, and how many samples are one batch.
 const SENSORS: u16 = 3;
@@ -125,12 +126,16 @@ fn open<D: Disk + Drop>(alloc: Global, disk: D) -> Result<Vault<Pair, D>, Fault>
     }
 }
 
-fn main(rt: HostRuntime) -> io::Result<()> {
-    let words: Vec<String> = env::args(&rt)?.skip(1).collect(rt.alloc())?;
+/// Writes how many samples were in the file, and how many batches are new.
+pub fn tell<E: Threads + Wait + Print + Files<File = File> + AllocGlobal + Sync>(
+    rt: &E,
+    alloc: Global,
+    words: &[String],
+) -> io::Result<()> {
     let Some(path) = words.first() else {
         return println!(rt; "which file?");
     };
-    match grow(&rt, rt.alloc(), FileDisk::make(&rt, path.as_str())?) {
+    match grow(rt, alloc, FileDisk::make(rt, path.as_str())?) {
         Ok((before, new)) => println!(rt; "{before} samples were there, {new} batches are new"),
         Err(fault) => println!(rt; "{fault}"),
     }
