@@ -151,16 +151,16 @@ fn list_of<R: TextRecord, E: Threads + Wait + Sync>(
 
 /// Adds a list in its place among others, if it isn't there.
 fn add_list(lists: &mut Vec<Vec<u8>>, list: Vec<u8>) -> io::Result<()> {
-    let mut place = 0;
+    let mut place = 0usize;
     for other in lists.iter() {
         if *other == list {
             return Ok(());
         }
         if *other < list {
-            place += 1;
+            place = place.saturating_add(1);
         }
     }
-    lists.insert(place, list)?;
+    lists.insert(place.min(lists.len()), list)?;
     Ok(())
 }
 
