@@ -94,10 +94,17 @@ fn goes_on<R: TextRecord, E: Threads + Wait + Sync>(
     let added = R::blank();
     let mut longer = Vec::from_slice(alloc, list)?;
     longer.push(added)?;
-    let steps: [Step<R>; 2] = [Step::Open, Step::Resize(longer.len() as u64, added)];
+    let mut steps = Vec::new(alloc);
+    steps.push(Step::Open)?;
+    steps.push(Step::Resize(longer.len() as u64, added))?;
     for calls in 0..=RESIZE_CALLS {
         let disk = RamDisk::from_bytes(alloc, copied(alloc, image)?);
-        let left = driven(alloc, rt, FuseDisk::new(disk, calls, Blow::Stop), &steps)?;
+        let left = driven(
+            alloc,
+            rt,
+            FuseDisk::new(disk, calls, Blow::Stop),
+            steps.as_slice(),
+        )?;
         let settled = matches!(left.answers.last(), Some(Answer::Fine));
         let disk = left.disk.into_inner();
         let kept = are_either(alloc, &disk, list, longer.as_slice(), settled)?;
