@@ -2,11 +2,11 @@
 use Rattle.std.proofs.Common.{◌≡◌, ℕ, List, sym, subst}
 use Rattle.std.specs.Prelude.{Option, Some, None, IfSome}
 use Rattle.std.specs.Io.KnownBytes.{Keeps}
-use Rattle.cvec.specs.declared.request.Request.{Request}
-use Rattle.cvec.specs.declared.request.FileWords.{FileWords}
-use Rattle.cvec.specs.declared.request.StatWords.{StatWords}
-use Rattle.cvec.specs.declared.request.Request.TheVariants.{File, Stat}
-use Rattle.cvec.specs.declared.complaint.Complaint.{Complaint}
+use Rattle.words_core.specs.declared.request.Request.{Request}
+use Rattle.words_core.specs.declared.request.FileWords.{FileWords}
+use Rattle.words_core.specs.declared.request.StatWords.{StatWords}
+use Rattle.words_core.specs.declared.request.Request.TheVariants.{File, Stat}
+use Rattle.sentences.specs.declared.complaint.Complaint.{Complaint}
 use Rattle.cvec.specs.Answers.{IsAnswerTo}
 use Rattle.cvec.specs.Runs.{IsAskedRun, IsFileRun, IsComplaintTold, IsAskedTold}
 use Rattle.text_core.specs.declared.status.Status.{Status}

@@ -7,8 +7,8 @@ use Rattle.files_core.specs.declared.ended.Ended.TheVariants.{Done, OutputFailed
 use Rattle.files_core.specs.Ended.{Writes, WritesText}
 use Rattle.files_core.specs.Faults.{fault_name}
 use Rattle.text_core.specs.Text.{ended_line}
-use Rattle.cvec.specs.declared.complaint.Complaint.{Complaint}
-use Rattle.cvec.specs.declared.complaint.Complaint.TheVariants as complaints
+use Rattle.sentences.specs.declared.complaint.Complaint.{Complaint}
+use Rattle.sentences.specs.declared.complaint.Complaint.TheVariants as complaints
 use Rattle.cvec.specs.Runs.{IsFileRun, IsStatusOf, IsFiled, IsComplaintRun, complaint_line}
 use Rattle.text_core.specs.declared.status.Status.{Status}
 use Rattle.text_core.specs.declared.status.Status.TheVariants as statuses

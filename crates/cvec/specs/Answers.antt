@@ -8,12 +8,12 @@ use Rattle.text_core.specs.Keyed.{pair_spelling, flagged_spelling}
 use Rattle.files_core.specs.Texts.{created_line, ok_line, number_line, found_line, folded_line, upgraded_line, loaded_line, appended_line, checked_line}
 use Rattle.stat_core.specs.declared.summary.Summary.{Summary}
 use Rattle.stat_core.specs.Text.{summary_text}
-use Rattle.cvec.specs.declared.request.RecordType.{RecordType}
-use Rattle.cvec.specs.declared.request.RecordType.TheVariants.{U32, U64, I64, Pair, Flagged}
-use Rattle.cvec.specs.declared.request.FileTask.{FileTask}
-use Rattle.cvec.specs.declared.request.FileTask.TheVariants.{Create, Load, Append, Check, List as Listed, Count, Find, Set, Resize, Clear, Fold, Upgrade, Serve}
-use Rattle.cvec.specs.declared.request.Request.{Request}
-use Rattle.cvec.specs.declared.request.Request.TheVariants as requests
+use Rattle.words_core.specs.declared.request.RecordType.{RecordType}
+use Rattle.words_core.specs.declared.request.RecordType.TheVariants.{U32, U64, I64, Pair, Flagged}
+use Rattle.words_core.specs.declared.request.FileTask.{FileTask}
+use Rattle.words_core.specs.declared.request.FileTask.TheVariants.{Create, Load, Append, Check, List as Listed, Count, Find, Set, Resize, Clear, Fold, Upgrade, Serve}
+use Rattle.words_core.specs.declared.request.Request.{Request}
+use Rattle.words_core.specs.declared.request.Request.TheVariants as requests
 
 -- of a server that has ended
 abbrev pub served_line : ℕ → List ℕ

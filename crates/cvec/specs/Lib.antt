@@ -1,4 +1,2 @@
 pub mod Answers
-pub mod Request
 pub mod Runs
-pub mod Usage

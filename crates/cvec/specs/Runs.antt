@@ -3,12 +3,12 @@ use Rattle.std.specs.Prelude.{◌≡◌, ◌≢◌, ℕ, List, Option, Some, Non
 use Rattle.std.specs.Io.KnownBytes.{Appends, Keeps}
 use Rattle.std.specs.Int.{w32, w64}
 use Rattle.record_core.specs.Bytes.{Encoding, unsigned, signed, pair, flagged}
-use Rattle.cvec.specs.declared.request.Task.{Task}
-use Rattle.cvec.specs.declared.request.Task.TheVariants.{Image, Show, Play}
-use Rattle.cvec.specs.declared.request.RecordType.{RecordType}
-use Rattle.cvec.specs.declared.request.RecordType.TheVariants.{U32, U64, I64, Pair, Flagged}
-use Rattle.cvec.specs.declared.request.Request.{Request}
-use Rattle.cvec.specs.declared.request.Request.TheVariants.{Input, File, Stat}
+use Rattle.words_core.specs.declared.request.Task.{Task}
+use Rattle.words_core.specs.declared.request.Task.TheVariants.{Image, Show, Play}
+use Rattle.words_core.specs.declared.request.RecordType.{RecordType}
+use Rattle.words_core.specs.declared.request.RecordType.TheVariants.{U32, U64, I64, Pair, Flagged}
+use Rattle.words_core.specs.declared.request.Request.{Request}
+use Rattle.words_core.specs.declared.request.Request.TheVariants.{Input, File, Stat}
 use Rattle.cvec.specs.Answers.{IsAnswerTo}
 use Rattle.text_core.specs.declared.refusal.Refusal.TheVariants as refusals
 use Rattle.text_core.specs.declared.status.Status.{Status}
@@ -16,8 +16,8 @@ use Rattle.text_core.specs.declared.status.Status.TheVariants as statuses
 use Rattle.files_core.specs.declared.ended.Ended.{Ended}
 use Rattle.files_core.specs.declared.ended.Ended.TheVariants.{Done, OutputFailed, Refused}
 use Rattle.files_core.specs.Faults.{fault_line}
-use Rattle.cvec.specs.declared.complaint.Complaint.{Complaint}
-use Rattle.cvec.specs.declared.complaint.Complaint.TheVariants as complaints
+use Rattle.sentences.specs.declared.complaint.Complaint.{Complaint}
+use Rattle.sentences.specs.declared.complaint.Complaint.TheVariants as complaints
 use Rattle.text_core.specs.Text.{Spelling, ended_line}
 use Rattle.text_core.specs.Numbers.{number_spelling}
 use Rattle.text_core.specs.SignedNumbers.{signed_spelling}

@@ -1,7 +1,7 @@
 //! Files that are opened, and who may use them at once.
 
-use crate::complaint::{Complaint, Role};
 use disk_core::FileDisk;
+use sentences::{Complaint, Role};
 use std::fs::{File, OpenOptions, TryLockError};
 use std::rt::Files;
 

@@ -1,14 +1,12 @@
 //! The commands over files: words first, then the input, then the file.
 
 ghost use Rattle.std.specs.Prelude.{ℕ, List, Option};
-ghost use Rattle.cvec.specs.declared.request.FileTask.TheVariants as tasks;
+ghost use Rattle.words_core.specs.declared.request.FileTask.TheVariants as tasks;
 ghost use Rattle.cvec.specs.Answers.{IsAnswer};
 ghost use Rattle.cvec.specs.Runs.{IsFiled, IsStatusOf};
 
 use crate::access::{Access, Opened, open};
-use crate::complaint::{Complaint, Role};
 use crate::meter::CountingGate;
-use crate::request::FileTask;
 use crate::serving::{fault_of, pipes_of, write_served};
 use disk_core::{Disk, FileDisk};
 use files_core::{
@@ -18,6 +16,7 @@ use files_core::{
 };
 use pen_core::OpenFault;
 use segment_core::{Format, ScanFault};
+use sentences::{Complaint, Role};
 use serve_core::{ServeFault, serve};
 use std::alloc::Global;
 use std::fs::File;
@@ -28,12 +27,7 @@ use std::sync::Wait;
 use std::thread::Threads;
 use text_core::{Status, TextRecord};
 use vault_core::UpgradeFault;
-
-impl From<FileFault> for Complaint {
-    fn from(fault: FileFault) -> Complaint {
-        Complaint::Fault(fault)
-    }
-}
+use words_core::FileTask;
 
 /// How a command ended whose engine ended so.
 fn status_of(ended: Ended) -> Result<Status, Complaint>

@@ -2,25 +2,17 @@
 #![tactic(auto)]
 
 mod access;
-mod complaint;
 mod filing;
-mod help;
 mod meter;
 mod noting;
 mod program;
-mod request;
 mod serving;
 mod telling;
-mod usage;
-mod words;
 
-use crate::complaint::Sentence;
-use crate::help::told_of;
 use crate::meter::{Behind, Meter};
 use crate::noting::Noting;
 use crate::program::{System, run};
-use crate::usage::write_usage;
-use crate::words::fault_of_words;
+use sentences::Sentence;
 use std::alloc::Global;
 use std::env;
 use std::io::{self, BufWriter, ErrorKind, IsTerminal, Write};
@@ -28,6 +20,7 @@ use std::process::ExitCode;
 use std::sync::Wait;
 use std::thread::Threads;
 use text_core::{Refusal, Status, refuse, write_text};
+use words_core::{fault_of_words, told_of, write_usage};
 
 const OUTPUT_BUFFER_LEN: usize = 65_536;
 

@@ -3,18 +3,16 @@
 ghost use Rattle.std.specs.Prelude.{◌≡◌, ◌≢◌, [], ℕ, List, Option, IfSome, Some, None, Ok, ◌++◌, ◌⊎◌, codes};
 ghost use Rattle.std.specs.Io.KnownBytes.{Keeps, Appends};
 ghost use Rattle.text_core.specs.Text.{ended_line};
-ghost use Rattle.cvec.specs.declared.request.Request.TheVariants as requests;
+ghost use Rattle.words_core.specs.declared.request.Request.TheVariants as requests;
 ghost use Rattle.cvec.specs.Answers.{IsAnswerTo};
 ghost use Rattle.cvec.specs.Runs.{IsTaskRun, IsRun, IsAskedRun, IsFileRun, IsFiled, IsIdleRun, IsComplaintRun, IsComplaintTold, IsAskedTold};
 
-use crate::complaint::Complaint;
 use crate::filing::Filing;
-use crate::request::{FileWords, RecordType, Request, StatWords, Task};
 use crate::telling::tell_stat;
-use crate::words::{WordsFault, read_words};
 use files_core::{Dealt, Progress, Silent, refuse_file};
 use play_core::play;
 use record_core::{Flagged, Pair};
+use sentences::Complaint;
 use std::alloc::Global;
 use std::convert::AsStr;
 use std::fs::File;
@@ -23,6 +21,7 @@ use std::rt::Files;
 use std::sync::Wait;
 use std::thread::Threads;
 use text_core::{Refusal, Status, TextRecord, image, refuse, show, write_line};
+use words_core::{FileWords, RecordType, Request, StatWords, Task, WordsFault, read_words};
 
 /// What the program has of the system beside its input and output.
 #[derive(Drop)]

@@ -4,9 +4,9 @@ ghost use Rattle.std.specs.Prelude.{OnOk};
 ghost use Rattle.std.specs.Io.KnownBytes.{Appends};
 ghost use Rattle.cvec.specs.Answers.{served_line};
 
-use crate::complaint::{Complaint, Role};
 use files_core::FileFault;
 use flush_core::FlushFault;
+use sentences::{Complaint, Role};
 use serve_core::{Pipes, ServeFault};
 use std::alloc::Global;
 use std::fs::{self, File, OpenOptions};

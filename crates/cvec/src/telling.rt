@@ -1,20 +1,20 @@
 //! What a file has, told without the type of its records.
 
-ghost use Rattle.cvec.specs.declared.request.Request.TheVariants as requests;
+ghost use Rattle.words_core.specs.declared.request.Request.TheVariants as requests;
 ghost use Rattle.cvec.specs.Answers.{IsAnswerTo};
 ghost use Rattle.cvec.specs.Runs.{IsFiled};
 
 use crate::access::{Access, Opened, open};
-use crate::complaint::{Complaint, Role};
-use crate::request::StatWords;
 use disk_core::FileDisk;
 use files_core::{FileFault, Progress, Watched};
 use pen_core::OpenFault;
+use sentences::{Complaint, Role};
 use stat_core::{Ended, StatFault, stat};
 use std::fs::File;
 use std::io::Write;
 use std::rt::Files;
 use text_core::Status;
+use words_core::StatWords;
 
 /// The complaint of a file that has no summary: of a damaged one with the records that its frames before that leave.
 fn complaint_of(fault: StatFault) -> Complaint {

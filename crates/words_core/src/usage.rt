@@ -2,7 +2,7 @@
 
 ghost use Rattle.std.specs.Prelude.{◌++◌, OnOk, option_map};
 ghost use Rattle.std.specs.Io.KnownBytes.{Appends};
-ghost use Rattle.cvec.specs.Usage.{fault_line, usage_text};
+ghost use Rattle.words_core.specs.Usage.{fault_line, usage_text};
 
 use std::io;
 use std::io::Write;

@@ -1,6 +1,5 @@
 //! What standard error tells of a refusal: what was wrong with what, what stands now, and what to do next.
 
-use crate::request::{FileTask, FileWords, RecordType, Request, StatWords};
 use directory_core::GROWTH_LIMIT;
 use disk_core::DiskFault;
 use files_core::{Appended, FileFault, Stopped, Word};
@@ -11,6 +10,7 @@ use std::fmt::{self, Display, Formatter};
 use std::io::{self, ErrorKind};
 use text_core::{INPUT_LIMIT, Refusal};
 use vault_core::{UpgradeFault, VaultFault};
+use words_core::{FileTask, FileWords, RecordType, Request, StatWords};
 
 /// Which of a command's files.
 #[derive(Clone, Copy, Debug, PartialEq, Eq)]
@@ -38,6 +38,12 @@ pub enum Complaint {
     Appended(Appended, FileFault),
     /// `serve` was refused when so many growths of its clients were settled.
     Served(u64, FileFault),
+}
+
+impl From<FileFault> for Complaint {
+    fn from(fault: FileFault) -> Complaint {
+        Complaint::Fault(fault)
+    }
 }
 
 /// The complaint of a command that was asked for, as a sentence.

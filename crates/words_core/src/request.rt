@@ -1,7 +1,7 @@
 //! What the program is asked for.
 
 ghost use Rattle.std.specs.Prelude.{◌≡◌};
-ghost use Rattle.cvec.specs.Request.{type_word};
+ghost use Rattle.words_core.specs.Words.{type_word};
 
 use record_core::{Flagged, Pair, width_of};
 use segment_core::Format;

@@ -3,8 +3,8 @@
 ghost use Rattle.std.specs.Prelude.{◌≡◌, ◌≢◌, ◌↔◌, ◌<◌, ◌≤◌, IfSome, IfNone, IfOk};
 ghost use Rattle.clap.specs.Values.{kind_of};
 ghost use Rattle.clap.specs.declared.error.kind.ErrorKind.TheVariants as kinds;
-ghost use Rattle.cvec.specs.declared.words.WordsFault.TheVariants as faults;
-ghost use Rattle.cvec.specs.Request.{task_word, type_word};
+ghost use Rattle.words_core.specs.declared.words.WordsFault.TheVariants as faults;
+ghost use Rattle.words_core.specs.Words.{task_word, type_word};
 
 use crate::request::{FileTask, FileWords, RecordType, Request, StatWords, Task};
 use clap::error::ErrorKind;

@@ -1,9 +1,9 @@
 -- The words for what the program is asked for.
 use Rattle.std.specs.Prelude.{ℕ, List, codes}
-use Rattle.cvec.specs.declared.request.Task.{Task}
-use Rattle.cvec.specs.declared.request.Task.TheVariants.{Image, Show, Play}
-use Rattle.cvec.specs.declared.request.RecordType.{RecordType}
-use Rattle.cvec.specs.declared.request.RecordType.TheVariants.{U32, U64, I64, Pair, Flagged}
+use Rattle.words_core.specs.declared.request.Task.{Task}
+use Rattle.words_core.specs.declared.request.Task.TheVariants.{Image, Show, Play}
+use Rattle.words_core.specs.declared.request.RecordType.{RecordType}
+use Rattle.words_core.specs.declared.request.RecordType.TheVariants.{U32, U64, I64, Pair, Flagged}
 
 abbrev pub task_word : Task → List ℕ
 task_word Image = codes "image"
