@@ -4,14 +4,13 @@ use crate::cut::Cut;
 use crate::look::{Looks, copied};
 use crate::tally::Tally;
 use disk_core::{Disk, FuseDisk, RamDisk};
+use fault_names::{write_disk_fault, write_vault_fault};
 use pen_core::OpenFault;
 use std::alloc::Global;
 use std::io;
 use std::sync::Wait;
 use std::thread::Threads;
-use text_core::{
-    TextRecord, write_disk_fault, write_numbered, write_scan_fault, write_vault_fault,
-};
+use text_core::{TextRecord, write_numbered, write_scan_fault};
 use vault_core::{UpgradeFault, upgrade};
 
 /// The disks behind an upgrade, and what it answered.

@@ -42,6 +42,9 @@ fn parts_and_halves_are_written_through(rt: HostRuntime) -> Result<(), Fail> {
         }
         at = at.wrapping_add(part.len() as u64);
     }
+    if fresh.len() != 10 {
+        return Err(Fail::from("records are lost"));
+    }
     let (front, back) = fresh.split_mut(2);
     front[0] = 7;
     back[0] = 8;

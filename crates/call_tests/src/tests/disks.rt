@@ -1,5 +1,6 @@
 //! Disks in memory: which images a crash may leave, which of them a choice names, and what fuses let through.
 
+use super::files::read;
 use disk_core::{
     Blow, Choice, Disk, DiskFault, Extent, FuseDisk, ImageLength, PendingBytes, RamDisk,
     is_crash_image,
@@ -80,54 +81,39 @@ fn each_choice_names_its_image(rt: HostRuntime) -> Result<(), Fail> {
     let before = disk.pending();
     disk.sync()?;
     let mut bytes = [0; 2];
-    disk.read_at(3, &mut bytes)?;
+    read(&mut disk, 3, &mut bytes)?;
     assert_eq!(rt; (before, disk.pending(), bytes), (4, 0, [4, 6]));
     Ok(())
-}
-
-/// What stands on a disk whose pending bytes are all 5.
-fn left_of(disk: FuseDisk<RamDisk>) -> Result<Vec<u8>, Fail> {
-    let choice = Choice {
-        length: GREATEST,
-        pending: PendingBytes::Fill(5),
-    };
-    Ok(disk.into_inner().image(&choice)?)
 }
 
 #[test]
 fn a_blown_fuse_lets_nothing_through(rt: HostRuntime) -> Result<(), Fail> {
     let mut disk = FuseDisk::new(written_disk(&rt)?, 1, Blow::Stop);
-    let answers = (
-        disk.len(),
-        disk.sync(),
-        disk.write_at(0, &[7]),
-        disk.len(),
-        disk.read_at(0, &mut [0]),
-    );
-    let image = left_of(disk)?;
-    let want = (
-        Ok(6),
-        Err(DiskFault::Sync),
-        Err(DiskFault::Write),
-        Err(DiskFault::Length),
-        Err(DiskFault::Read),
-    );
-    assert_eq!(rt;
-        (answers, image.as_slice()),
-        (want, [1, 5, 5, 4, 5, 5].as_slice())
-    );
+    assert_eq!(rt; disk.len()?, 6);
+    assert_eq!(rt; disk.sync(), Err(DiskFault::Sync));
+    assert_eq!(rt; disk.write_at(0, &[7]), Err(DiskFault::Write));
+    assert_eq!(rt; disk.len(), Err(DiskFault::Length));
+    assert_eq!(rt; disk.read_at(0, &mut [0]), Err(DiskFault::Read));
+    let choice = Choice {
+        length: ImageLength::Greatest,
+        pending: PendingBytes::Fill(5),
+    };
+    let image = disk.into_inner().image(&choice)?;
+    assert_eq!(rt; image.as_slice(), [1, 5, 5, 4, 5, 5].as_slice());
     Ok(())
 }
 
 #[test]
 fn a_write_fails_once_and_a_part_of_it_arrives(rt: HostRuntime) -> Result<(), Fail> {
     let mut disk = FuseDisk::new(written_disk(&rt)?, 1, Blow::FailOnce(1));
-    let answers = (disk.len(), disk.write_at(3, &[7, 7]), disk.sync());
-    let image = left_of(disk)?;
-    let want = (Ok(6), Err(DiskFault::Write), Ok(()));
-    assert_eq!(rt;
-        (answers, image.as_slice()),
-        (want, [1, 8, 9, 7, 6, 7].as_slice())
-    );
+    assert_eq!(rt; disk.len()?, 6);
+    assert_eq!(rt; disk.write_at(3, &[7, 7]), Err(DiskFault::Write));
+    let choice = Choice {
+        length: ImageLength::Greatest,
+        pending: PendingBytes::Fill(5),
+    };
+    assert_eq!(rt; disk.sync(), Ok(()));
+    let image = disk.into_inner().image(&choice)?;
+    assert_eq!(rt; image.as_slice(), [1, 8, 9, 7, 6, 7].as_slice());
     Ok(())
 }

@@ -10,7 +10,7 @@ mod halting;
 mod watched;
 
 /// Reads inside the length.
-fn read<D: Disk>(disk: &mut D, at: u64, out: &mut [u8]) -> Result<(), DiskFault> {
+pub(super) fn read<D: Disk>(disk: &mut D, at: u64, out: &mut [u8]) -> Result<(), DiskFault> {
     let len = disk.len()?;
     if at > len || len - at < out.len() as u64 {
         return Err(DiskFault::Read);

@@ -152,7 +152,18 @@ fn a_seat_reads_what_it_meets(rt: HostRuntime) -> Result<(), Fail> {
     Ok(())
 }
 
-/// Pushes 0, 1, .. 6 by an appender of three, and answers what a snapshot then has.
+/// Pushes 0, 1, .. 6.
+fn push_seven<E: Wait>(rt: &E, live: &Live<u64>, appender: &mut Appender<u64>) -> Option<()>
+    requires { IsSeatOf live.now appender.old.seat }
+    ensures { IsSeatOf live.now appender.new.seat }
+{
+    for v in 0..7 {
+        appender.push(rt, live, v).ok()?;
+    }
+    Some(())
+}
+
+/// Pushes them by an appender of three, and answers what a snapshot then has.
 fn append_seven<E: Wait>(
     rt: &E,
     alloc: Global,
@@ -162,9 +173,7 @@ fn append_seven<E: Wait>(
     requires { IsSeatOf live.now seat }
 {
     let mut appender = Appender::new(alloc, seat, 3).ok()?;
-    for v in 0..7 {
-        appender.push(rt, live, v).ok()?;
-    }
+    push_seven(rt, live, &mut appender)?;
     let (mut seat, _) = appender.finish(rt, live).ok()?;
     let snapshot = live.snapshot(&mut seat).ok()?;
     snapshot.iter().copied().collect(alloc).ok()

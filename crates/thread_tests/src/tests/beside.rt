@@ -53,15 +53,21 @@ fn two_lists(alloc: Global) -> Result<Vec<Vec<Vec<u64>>>, AllocError> {
     Ok(lists)
 }
 
-/// Whether both growers made their growth, where the gate was told: of the records 1 and 2, one each.
-fn have_both(crewed: &Crewed<u64, RamDisk>, gate: &Both) -> bool {
-    let mut found = true;
-    for (record, its) in [1, 2].iter().zip(crewed.receipts.iter()) {
-        let told = gate.starts[(record - 1) as usize].load(Ordering::SeqCst);
-        let starts = its.iter().map(|receipt| receipt.start);
-        found = found && starts.eq([told]) && crewed.vault.get(told) == Some(record);
+/// Whether a grower made one growth, of this record, which stands where the gate was told.
+fn has_made(crewed: &Crewed<u64, RamDisk>, gate: &Both, grower: usize, record: u64) -> bool {
+    let told = gate.starts[grower % 2].load(Ordering::SeqCst);
+    let Some(its) = crewed.receipts.get(grower) else {
+        return false;
+    };
+    match its.as_slice() {
+        [one] => one.start == told && crewed.vault.get(told) == Some(&record),
+        _ => false,
     }
-    found && crewed.vault.len() == 2
+}
+
+/// Whether both growers made theirs, and nobody more.
+fn have_both(crewed: &Crewed<u64, RamDisk>, gate: &Both) -> bool {
+    has_made(crewed, gate, 0, 1) && has_made(crewed, gate, 1, 2) && crewed.vault.len() == 2
 }
 
 #[test]
