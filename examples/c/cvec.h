@@ -2,7 +2,7 @@
  *
  * The first part are the functions of libcvec_c.a, which is proved: what they answer, and what they write into the memory
  * that they are passed. They call nothing of the system but malloc, realloc and free. The second part is cvec_file.c,
- * which makes the system's calls in the order that the first part asks for; it is not proved. docs/C.md tells both.
+ * which makes the system's calls in the order that the first part asks for; it is not proved. docs/use/c.md tells both.
  *
  * A record type is u32, u64, i64, pair or flagged. Functions that need one stand here once for each. A function that
  * answers another number than CVEC_DONE changes nothing but *fault (and *count, at CVEC_NO_ROOM).
@@ -50,7 +50,7 @@ enum cvec_status {
     CVEC_FORKED = 40       /* the process from which this one was forked has opened it: here it can only be closed */
 };
 
-/* Why an image is damaged, in the order in which docs/FORMAT.md looks for it. */
+/* Why an image is damaged, in the order in which docs/file/format.md looks for it. */
 enum cvec_cause {
     CVEC_CAUSE_NONE = 0,
     CVEC_CAUSE_NO_GATE = 1,      /* the image ends where a gate has to stand */
@@ -126,8 +126,8 @@ typedef struct cvec_flagged {
 /* ---- libcvec_c.a: proved */
 
 /* cvec_check_TYPE: whether these bytes are a file with a vector of this type. CVEC_DONE, and *stat says what it holds; or
- * CVEC_UNBORN to CVEC_DAMAGED, the first fault in the order of docs/FORMAT.md, with *fault; or CVEC_MEMORY. It takes memory
- * for all records, and gives it back. */
+ * CVEC_UNBORN to CVEC_DAMAGED, the first fault in the order of docs/file/format.md, with *fault; or CVEC_MEMORY. It takes
+ * memory for all records, and gives it back. */
 #define CVEC_CHECK(TYPE) \
     uint32_t cvec_check_##TYPE(const uint8_t *image, size_t len, cvec_stat *stat, cvec_fault *fault);
 CVEC_CHECK(u32)

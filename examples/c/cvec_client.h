@@ -1,5 +1,5 @@
 /* A client of `cvec serve`, for C99 and C++ on POSIX systems: it starts a server over a segment file and grows and reads its
- * vector by pipes. docs/SERVE.md tells the bytes. It isn't proved. It may stand beside cvec.h in one program.
+ * vector by pipes. docs/use/serve.md tells the bytes. It isn't proved. It may stand beside cvec.h in one program.
  *
  * A seat belongs to one thread at a time; the seats of a server may be in many. Functions that answer an int answer 0, the
  * number of a refusal (enum cvec_refusal), or -1 where the pipes have failed: the server has ended. Behind -1 and behind the

@@ -1,4 +1,4 @@
-"""Segment files of a durable vector, by ctypes over libcvec.so (docs/C.md says how that is built).
+"""Segment files of a durable vector, by ctypes over libcvec.so (docs/use/c.md says how that is built).
 
     with cvec.create("numbers.cvec", "u64") as file:
         file.append([5, 7, 11])                  # durable when it returns

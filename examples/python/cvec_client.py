@@ -1,5 +1,5 @@
-"""A client of `cvec serve`: it starts a server over a segment file, and grows and reads its vector by pipes. docs/SERVE.md
-tells the bytes. It isn't proved.
+"""A client of `cvec serve`: it starts a server over a segment file, and grows and reads its vector by pipes.
+docs/use/serve.md has the bytes. It isn't proved.
 
     with cvec_client.Server("./cvec", "u64", "numbers.cvec", seats=4) as server:
         server.seats[0].grow([5, 7, 11])

@@ -1,5 +1,5 @@
 #!/usr/bin/env python3
-"""Answers scripts from docs/FORMAT.md and counts of device calls, with plain lists and no program.
+"""Answers scripts from docs/file/format.md and counts of device calls, with plain lists and no program.
 
 follow.py FILE..: prints each script's lines with the answers that follow, and on standard error each line whose answer
 in the file is another. Of lines that it doesn't know it keeps the answer. Records of u64 alone."""

@@ -18,7 +18,7 @@
 //! | search | `Vault::count_where`, `find_first`, with a `Pick` |
 //!
 //! A refusal is the call's own enum; `Fault` is any of them, for a program that tells it and ends. The long guide is
-//! `docs/GUIDE.md`, with the clause that carries each of its sentences.
+//! `docs/use/guide.md`, with the clause that carries each of its sentences.
 #![tactic(auto)]
 
 mod fault;

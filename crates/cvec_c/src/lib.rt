@@ -2,7 +2,7 @@
 //! they stand, its frames, and the
 //! bytes of a file that is made and of a group that is appended. A function reads and writes only the memory that it is
 //! passed, and calls nothing of the system but the allocator: who calls it reads and writes the file, in the order that
-//! `docs/C.md` gives.
+//! `docs/use/c.md` gives.
 //!
 //! C has no type parameters: a function that needs a record type stands once for each.
 #![tactic(auto)]

@@ -1,5 +1,5 @@
 //! Runs a script of steps over a disk in memory that may stop or fail, and writes it again with each answer computed.
-//! `docs/SCRIPTS.md` tells the lines.
+//! `docs/proof/scripts.md` tells the lines.
 #![tactic(auto)]
 
 mod choice;

@@ -40,7 +40,7 @@ pub enum Cause {
     BadRecord,
 }
 
-/// Why an image has no vector: the first fault, in the order of `docs/FORMAT.md`.
+/// Why an image has no vector: the first fault, in the order of `docs/file/format.md`.
 #[derive(Clone, Copy, Debug, PartialEq, Eq, Error)]
 pub enum ScanFault {
     /// No file was begun: at most one byte, or the first gate isn't open.

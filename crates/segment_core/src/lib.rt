@@ -2,7 +2,7 @@
 //!
 //! `write_image` makes the whole file of some growths, `append_group`, `append_change` and `append_shrink` one frame,
 //! `scan` reads the vector of an image or names its first fault, `Scanner` does so of an image that comes in pieces, and
-//! `FrameReader` gives the fields of one frame. The format is in `docs/FORMAT.md`.
+//! `FrameReader` gives the fields of one frame. The format is in `docs/file/format.md`.
 #![tactic(auto)]
 
 mod change;

@@ -32,7 +32,7 @@ pub struct Scanned<R> {
 }
 
 /// Reads the vector of an image, in one pass over its bytes. Where the image has no vector, its first fault is
-/// answered, in the order of `docs/FORMAT.md`; `Memory` may come in place of any answer once the header is
+/// answered, in the order of `docs/file/format.md`; `Memory` may come in place of any answer once the header is
 /// read.
 pub fn scan<R: Record>(alloc: Global, bytes: &[u8]) -> Result<Scanned<R>, ScanFault>
     ensures answer { MatchResult result (IsScanOf R.form bytes.now) (IsRefused R.form bytes.now) }

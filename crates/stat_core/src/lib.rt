@@ -2,7 +2,7 @@
 //! records, and whose memory is the same for a file of any length.
 //!
 //! `summarize` walks the frames of a file, `write_summary` writes what it found, and `stat` does both. The format is in
-//! `docs/FORMAT.md`.
+//! `docs/file/format.md`.
 #![tactic(auto)]
 
 mod fault;

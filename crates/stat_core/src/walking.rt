@@ -127,7 +127,7 @@ fn read_frames<D: Disk>(disk: &mut D) -> Result<Summary, StatFault>
 /// its first number is passed over. So no type of records is needed, memory is the same for any file, and a file of
 /// large frames is read in small part.
 ///
-/// What is told of an unsound file is its first fault in the order of `docs/FORMAT.md`, as far as these bytes show
+/// What is told of an unsound file is its first fault in the order of `docs/file/format.md`, as far as these bytes show
 /// it. Not seen are: a length of a growth or of a run that is 0, or such lengths that don't add up to the records
 /// that fill the payload; runs in another order or outside the vector (`Runs`, and `Range` of a change); more records
 /// than a vector may have (`TooLong`); and a record that is none (`BadRecord`).
