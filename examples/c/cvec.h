@@ -41,7 +41,7 @@ enum cvec_status {
     /* of cvec_file.c alone */
     CVEC_EXISTS = 32,      /* there is a file already */
     CVEC_IN_USE = 33,      /* open already by cvec_create or cvec_open, in this process too, or locked (flock) otherwise */
-    CVEC_BROKEN = 34,      /* a call of the system has failed on this file before: open it again */
+    CVEC_BROKEN = 34,      /* a write or a sync has failed on this file before. Open it again; after a sync, restart first */
     CVEC_DISK_OPEN = 35,   /* a call of the system failed, errno says why: open, or flock */
     CVEC_DISK_LENGTH = 36, /* fstat */
     CVEC_DISK_READ = 37,   /* pread */
@@ -217,8 +217,8 @@ uint32_t cvec_create(cvec_file *file, const char *path, cvec_type type);
 uint32_t cvec_open(cvec_file *file, const char *path, cvec_type type, cvec_fault *fault);
 
 /* Appends the records as one growth: all of them or none. CVEC_DONE: they are durable. A refusal from CVEC_VERSION to
- * CVEC_MEMORY writes nothing. Behind CVEC_DISK_WRITE and CVEC_DISK_SYNC the file is broken: opened again it has all of them
- * or none. The records are of the file's type. */
+ * CVEC_MEMORY writes nothing. Behind CVEC_DISK_WRITE and CVEC_DISK_SYNC the file is broken: opened again, behind
+ * CVEC_DISK_SYNC after a restart of the system, it has all of them or none. The records are of the file's type. */
 uint32_t cvec_append(cvec_file *file, const void *records, size_t count);
 
 /* Copies records out, as cvec_read_TYPE does. It takes as much memory as cvec_open. */
