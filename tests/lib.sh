@@ -1,0 +1,186 @@
+# What the shell tests are written in. A script that reads this has set: `top`, the repository; `work`, the folder of a
+# test's files; `reasons`, a file for what can't run and why; `passed`, `failed` and `skipped`, which `try` counts.
+# shellcheck shell=sh disable=SC2154
+
+# ---- what a test is written in
+
+# This tool is there, or it is noted that what needs it is skipped.
+has() { command -v "$1" >/dev/null || lacks "there is no $1 for $2"; }
+
+# Notes why a test, or a part of one, can't run.
+lacks() {
+    printf '%s\n' "$1" >>"$reasons"
+    return 1
+}
+
+# With this status a test ends that can't run.
+is_skipped=77
+
+# Runs the program with these words on the file $in. What it writes goes to the file $out and, on standard error, to
+# $err, and its status to $status.
+run() {
+    status=0
+    "$top/cvec" "$@" <"$in" >"$out" 2>"$err" || status=$?
+}
+
+# The file $in has this text.
+given() { printf '%b' "$1" >"$in"; }
+
+# The program wrote this text, nothing on standard error, and ended with this status.
+answers() {
+    [ "$status" -eq "$1" ]
+    printf '%b' "$2" | cmp - "$out"
+    [ ! -s "$err" ]
+}
+
+# Standard error has a line with this text.
+tells() { grep -qF -- "$1" "$err"; }
+
+# The program ended with usage, of which this text tells what is wrong with the words.
+ends_with_usage() {
+    [ "$status" -eq 2 ]
+    [ ! -s "$out" ]
+    [ "$(head -n 1 "$err")" = 'usage: cvec COMMAND TYPE ..' ]
+    tells "$1"
+    tells 'image TYPE'
+    tells 'show TYPE'
+    tells 'play TYPE'
+    tells 'u32, u64, i64, pair'
+    tells 'cvec image u64'
+}
+
+tells_no_fault() {
+    if tells error; then return 1; fi
+}
+
+# Standard output can't be written, for this reason.
+ends_with_a_failed_write() {
+    [ "$status" -eq 1 ]
+    tells "cvec: standard output: $1"
+}
+
+empty=014356454353454701080000
+five=01435645435345470108000101100000000100000001000000050000000000000000
+
+# ---- the program on its input
+
+# The program, with these words on this input, ends with this status and this output; both as `printf %b` has them.
+becomes() {
+    given "$2"
+    run $1
+    [ "$status" -eq "$3" ]
+    printf '%b' "$4" | cmp - "$out"
+}
+
+# A file's hex with another byte at this place.
+edited() { printf '%s' "$1" | sed "s/^\(.\{$(($2 * 2))\}\)../\1$3/"; }
+
+three=014356454353454701080001012400000002000000020000000100000001000000000000000200000000000000030000000000000000
+
+# The program wrote just this refusal to standard output.
+answers_refusal() {
+    [ "$status" -eq 1 ]
+    [ "$(cat "$out")" = "refused: $1" ]
+}
+
+# ---- the texts and files of each type of record
+
+small_pair=014356454353454701100001011800000001000000010000000700000000000000fdffffffffffffff00
+
+# ---- commands over files
+
+# It wrote this text, and nothing else.
+did() {
+    [ "$status" -eq 0 ]
+    printf '%b' "$1" | cmp - "$out"
+    [ ! -s "$err" ]
+}
+
+# It was refused by this name, and one sentence has this text.
+was_refused() {
+    [ "$status" -eq 1 ]
+    [ "$(cat "$out")" = "refused: $1" ]
+    [ "$(wc -l <"$err")" -eq 1 ]
+    tells "$2"
+}
+
+# A file of one record that was changed once: 56 bytes.
+a_changed_file() {
+    run create u64 "$work/t.cv"
+    given '5\n'
+    run load u64 "$work/t.cv"
+    run set u64 "$work/t.cv" 0 --records=7
+    did 'ok\n'
+    [ "$(stat -c %s "$work/t.cv")" -eq 56 ]
+}
+
+# ---- pages that show programs
+
+# The lines of this page between the fences of this language.
+shown_in() { sed -n "/^\`\`\`$2\$/,/^\`\`\`\$/p" "$top/docs/$1" | sed '/^```/d'; }
+
+# ---- the library for C, and its callers, built as docs/C.md says
+
+c=$top/examples/c
+c_library=$top/crates/cvec_c/out/libcvec_c.a
+
+has_c() { has cc 'the library for C' && has rt 'the library for C'; }
+
+# The library is there, or is built, and the file's calls are compiled.
+make_c_library() {
+    [ -e "$c_library" ] || (cd "$top/crates/cvec_c" && rt lib >/dev/null)
+    kit_library=$(dirname "$(rt doc)")/c/liblibc_c.a
+    cc -std=c99 -O2 -fPIC -Wall -Wextra -Werror -pedantic -c "$c/cvec_file.c" -o "$work/cvec_file.o"
+}
+
+# What stands in this file, as the program takes it.
+hex_of() { od -An -v -tx1 "$1" | tr -d ' \n'; }
+
+# The program shows the same lines of the file as were written to $out.
+is_shown_as_written() {
+    hex_of "$2" >"$in"
+    cp "$out" "$work/lines"
+    run show "$1"
+    [ "$status" -eq 0 ]
+    cmp "$work/lines" "$out"
+}
+
+# ---- the program that measures
+
+speed=$top/crates/cvec_speed/out/cvec_speed
+
+# The program that measures is there, or is built. Without words its status is 3.
+is_measurer_there() {
+    [ -x "$speed" ] || (cd "$top/crates/cvec_speed" && rt run </dev/null >/dev/null 2>&1) || [ -x "$speed" ]
+}
+
+# ---- all of them
+
+# Runs a test alone, with files of its own. A test is a function in parentheses, which ends at what first fails.
+try() {
+    rm -rf "${work:?}"/*
+    in=$work/in out=$work/out err=$work/err
+    : >"$in"
+    (
+        set -e
+        "$1"
+    ) >"$work/told" 2>&1
+    case $? in
+    0) passed=$((passed + 1)) ;;
+    "$is_skipped") skipped=$((skipped + 1)) ;;
+    *)
+        failed=$((failed + 1))
+        echo "FAILED: $1"
+        cat "$work/told"
+        ;;
+    esac
+}
+
+# Adds the counts of a run, by its last line and its status. Whatever else it says, a run that ends badly has failed.
+add_counts() {
+    counts=$(tail -n 1 "$1" | sed -n 's/^\([0-9][0-9]*\) passed, \([0-9][0-9]*\) failed$/\1 \2/p')
+    [ -n "$counts" ] || counts='0 1'
+    [ "$2" -eq 0 ] || [ "${counts#* }" -gt 0 ] || counts="${counts% *} 1"
+    passed=$((passed + ${counts% *}))
+    failed=$((failed + ${counts#* }))
+}

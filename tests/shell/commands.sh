@@ -1,0 +1,209 @@
+# Commands over files: what they do and answer, and the words that they refuse.
+
+# ---- commands over files
+
+commands_over_a_file_do_their_work() (
+    t=$work/t.cv
+    run create u64 "$t"
+    did 'created\n'
+    given '5 6 7\n'
+    run load u64 "$t"
+    did 'loaded 1 growths, size 3\n'
+    run check u64 "$t"
+    did 'ok version 1 width 8 size 3 frames 1 live 0\n'
+    run count u64 "$t" --record=6
+    did '1\n'
+    run find u64 "$t" --record=4
+    did 'none\n'
+    run set u64 "$t" 1 --records=8,9
+    did 'ok\n'
+    run list u64 "$t"
+    did '5\n8\n9\n'
+    run check u64 "$t"
+    did 'ok version 1 width 8 size 3 frames 2 live 1\n'
+    run find u64 "$t" --record=9
+    did '2\n'
+    run resize u64 "$t" 2 --record=0
+    was_refused unfolded 'fold'
+    run fold u64 "$t"
+    did 'folded 1\n'
+    run fold u64 "$t"
+    did 'folded 0\n'
+    run resize u64 "$t" 2 --record=0
+    did 'ok\n'
+    run list u64 "$t"
+    did '5\n8\n'
+    run clear u64 "$t"
+    did 'ok\n'
+    run check u64 "$t"
+    did 'ok version 1 width 8 size 0 frames 5 live 0\n'
+    run create u64 "$t"
+    was_refused exists "$t"
+    [ "$(stat -c %s "$t")" -eq 122 ]
+)
+
+a_part_of_the_records_is_listed() (
+    t=$work/t.cv
+    run create u64 "$t"
+    given '1 2\n3\n4 5\n'
+    run load u64 "$t"
+    run list u64 "$t" --from=1 --count=3
+    did '2\n3\n4\n'
+    run list u64 "$t" --from=4
+    did '5\n'
+    run list u64 "$t" --count=1
+    did '1\n'
+    run list u64 "$t" --from=5
+    did ''
+    run list u64 "$t" --from=x
+    was_refused word '--from'
+    run list u64 "$t" --count=-1
+    was_refused word '--count'
+)
+
+a_file_is_upgraded() (
+    a_changed_file
+    run upgrade u64 "$work/t.cv" "$work/n.cv"
+    did 'upgraded size 1\n'
+    run check u64 "$work/n.cv"
+    did 'ok version 2 width 8 size 1 frames 1 live 0\n'
+    [ "$(od -An -v -tx1 "$work/n.cv" | tr -d ' \n')" = 01435645435345470208000101100000000100000001000000070000000000000000 ]
+    run upgrade u64 "$work/n.cv" "$work/m.cv"
+    was_refused 'not version 1' 'version 2 already'
+    run upgrade u64 "$work/t.cv" "$work/n.cv"
+    was_refused 'new exists' "$work/n.cv"
+    run upgrade u32 "$work/t.cv" "$work/o.cv"
+    was_refused 'old width 8' 'those of u32 have 4'
+    run upgrade u64 "$work/none.cv" "$work/p.cv"
+    was_refused file "$work/none.cv"
+    [ ! -e "$work/p.cv" ]
+    run create u64 "$work/two.cv" --format=2
+    did 'created\n'
+    run check u64 "$work/two.cv"
+    did 'ok version 2 width 8 size 0 frames 0 live 0\n'
+)
+
+every_type_has_files() (
+    for of in u32:7:8 u64:18446744073709551615:8 i64:-3:4 pair:7:-3,8:0 flagged:5:1,6:0; do
+        t=$work/t.cv
+        rm -f "$t"
+        type=${of%%:*}
+        records=${of#*:}
+        case $type in
+            pair | flagged) one=${records%,*} two=${records#*,} ;;
+            *) one=${records%:*} two=${records#*:} ;;
+        esac
+        run create "$type" "$t"
+        did 'created\n'
+        printf '%s %s\n' "$one" "$two" >"$in"
+        run load "$type" "$t"
+        did 'loaded 1 growths, size 2\n'
+        run list "$type" "$t"
+        did "$one\n$two\n"
+        run find "$type" "$t" "--record=$two"
+        did '1\n'
+        run set "$type" "$t" 0 "--records=$two"
+        did 'ok\n'
+        run count "$type" "$t" "--record=$two"
+        did '2\n'
+    done
+)
+
+words_that_are_not_of_their_form_are_refused() (
+    a_changed_file
+    before=$(cksum <"$work/t.cv")
+    for record in '' x 05 -1 18446744073709551616 '5 ' 5,6; do
+        run count u64 "$work/t.cv" "--record=$record"
+        was_refused word '--record'
+        run find u64 "$work/none.cv" "--record=$record"
+        was_refused word '--record'
+        run resize u64 "$work/t.cv" 1 "--record=$record"
+        was_refused word '--record'
+    done
+    for records in '' 5, ,5 5,,6 '5, 6' x; do
+        run set u64 "$work/t.cv" 0 "--records=$records"
+        was_refused word '--records'
+    done
+    for number in x 05 -1 18446744073709551616 1.5; do
+        run set u64 "$work/t.cv" "$number" --records=5
+        was_refused word START
+        run resize u64 "$work/t.cv" "$number" --record=5
+        was_refused word 'N is'
+    done
+    [ "$before" = "$(cksum <"$work/t.cv")" ]
+)
+
+words_that_are_missing_end_with_usage() (
+    t=$work/t.cv
+    for words in 'count u64 t' 'find u64 t' 'set u64 t 0' 'set u64 t' 'resize u64 t 1' 'upgrade u64 t' 'list u64' \
+        'create u64' 'create u64 t --format=3' 'create u64 t --format' 'count u64 t --record 5' 'check u16 t' \
+        'list u64 t u' 'fold u64 t --record=5' 'load u16 t' 'count u16 t --record=x'; do
+        # shellcheck disable=SC2086 # each word is one
+        run $words
+        [ "$status" -eq 2 ]
+        [ ! -s "$out" ]
+        tells 'usage: cvec COMMAND TYPE ..'
+    done
+    [ ! -e "$t" ]
+)
+
+changes_that_no_vector_takes_are_refused() (
+    a_changed_file
+    before=$(cksum <"$work/t.cv")
+    run set u64 "$work/t.cv" 1 --records=5
+    was_refused 'out of range' "$work/t.cv"
+    run set u64 "$work/t.cv" 18446744073709551615 --records=5,6
+    was_refused 'out of range' "$work/t.cv"
+    run clear u64 "$work/t.cv"
+    was_refused unfolded 'cvec fold'
+    run resize u64 "$work/t.cv" 4294967297 --record=5
+    was_refused 'out of range' "$work/t.cv"
+    [ "$before" = "$(cksum <"$work/t.cv")" ]
+)
+
+# A phase takes 1,048,568 growths; a frame 1 MiB of records, or, of a file of version 2, 16 MiB.
+what_is_too_large_is_refused() (
+    seq 1 1048569 >"$in"
+    run create u64 "$work/t.cv"
+    before=$(cksum <"$work/t.cv")
+    run load u64 "$work/t.cv" --seats=4
+    was_refused 'too large' '`cvec append` takes any number of lines'
+    run resize u64 "$work/t.cv" 131072 --record=5
+    was_refused 'too large' 'give fewer at once'
+    [ "$before" = "$(cksum <"$work/t.cv")" ]
+    run resize u64 "$work/t.cv" 131071 --record=5
+    did 'ok\n'
+    run create u64 "$work/v.cv" --format=2
+    run resize u64 "$work/v.cv" 2097152 --record=5
+    was_refused 'too large' "$work/v.cv"
+    run resize u64 "$work/v.cv" 2097151 --record=5
+    did 'ok\n'
+    run check u64 "$work/v.cv"
+    did 'ok version 2 width 8 size 2097151 frames 1 live 0\n'
+    sed '$d' "$in" >"$work/fits"
+    in=$work/fits
+    run load u64 "$work/v.cv"
+    did 'loaded 1048568 growths, size 3145719\n'
+)
+
+# 500 scripts of commands on one file each, compared with a plain list.
+commands_in_any_order_keep_a_plain_list() (
+    python3 "$top/tests/commands.py" "$top/crates/cvec/out/cvec" "$work" 500
+)
+
+# A terminal is told how far long work is, and nothing is left of it; nothing else is.
+a_terminal_is_told_how_far_work_is() (
+    has script 'what a terminal is told' || exit $is_skipped
+    seq 1 2000000 >"$in"
+    run create u64 "$work/t.cv"
+    script -qec "$top/crates/cvec/out/cvec append u64 $work/t.cv <$in" /dev/null >"$work/told" </dev/null
+    grep -qF 'a second' "$work/told"
+    grep -qF "$(printf '\r\033[Kappended 2000000 growths, size 2000000')" "$work/told"
+    script -qec "$top/crates/cvec/out/cvec list u64 $work/t.cv" /dev/null >"$work/told" </dev/null
+    if tail -n +2 "$work/told" | grep -qF 'a second'; then return 1; fi
+    [ "$(tail -n 1 "$work/told" | tr -d '\r')" = 2000000 ]
+    script -qec "$top/crates/cvec/out/cvec append u64 $work/t.cv --quiet <$in" /dev/null >"$work/told" </dev/null
+    if grep -qF 'a second' "$work/told"; then return 1; fi
+    run append u64 "$work/t.cv"
+    did 'appended 2000000 growths, size 6000000\n'
+)

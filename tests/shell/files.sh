@@ -1,0 +1,158 @@
+# Files that are cut, damaged, locked or not to be used, and devices that are full.
+
+# ---- commands over files
+
+# The file of a changed record, cut to each length.
+a_file_of_any_length_is_checked() (
+    a_changed_file
+    for n in $(seq 0 56); do
+        head -c "$n" "$work/t.cv" >"$work/c.cv"
+        run check u64 "$work/c.cv"
+        case $n in
+            0 | 1) was_refused unborn 'cvec create u64' ;;
+            [2-9] | 10) was_refused 'not a segment' "it isn't a segment file" ;;
+            11 | 33 | 55) was_refused "damaged at $n: no gate" "byte $n" ;;
+            1? | 2? | 3[0-2]) was_refused 'damaged at 11: short frame' 'byte 11' ;;
+            56) did 'ok version 1 width 8 size 1 frames 2 live 1\n' ;;
+            *) was_refused 'damaged at 33: short frame' 'byte 33' ;;
+        esac
+    done
+)
+
+# Two growths of three records and one; then what kind the second frame has is none.
+what_is_sound_before_a_damage_is_told() (
+    run create u64 "$work/t.cv"
+    given '1 2 3\n'
+    run load u64 "$work/t.cv"
+    given '4\n'
+    run load u64 "$work/t.cv"
+    printf '\011' | dd of="$work/t.cv" bs=1 seek=50 conv=notrunc 2>/dev/null
+    before=$(cksum <"$work/t.cv")
+    for command in check list clear fold; do
+        run $command u64 "$work/t.cv"
+        was_refused 'damaged at 50: kind 9' 'damaged at byte 50'
+        tells 'the 3 records before that are sound'
+    done
+    run upgrade u64 "$work/t.cv" "$work/n.cv"
+    was_refused 'old damaged at 50: kind 9' 'the 3 records before that are sound'
+    run append u64 "$work/t.cv"
+    was_refused 'damaged at 50: kind 9' 'the 3 records before that are sound'
+    printf '\011' | dd of="$work/t.cv" bs=1 seek=12 conv=notrunc 2>/dev/null
+    run check u64 "$work/t.cv"
+    was_refused 'damaged at 12: kind 9' 'the 0 records before that are sound'
+)
+
+files_that_cannot_be_used_are_told() (
+    for command in check list fold clear; do
+        run $command u64 "$work/none.cv"
+        was_refused file 'there is no such file'
+        run $command u64 "$work"
+        was_refused file 'it is a folder'
+        run $command u64 "$work/none/t.cv"
+        was_refused file 'there is no such file'
+    done
+    run create u64 "$work/none/t.cv"
+    was_refused file 'there is no such file, or no folder'
+    run create u64 "$work"
+    was_refused file 'it is a folder'
+    a_changed_file
+    run list u32 "$work/t.cv"
+    was_refused 'width 8' 'those of u32 have 4'
+    run list i64 "$work/t.cv"
+    did '7\n'
+    printf 'no vector' >"$work/n.cv"
+    run check u64 "$work/n.cv"
+    was_refused unborn 'no vector was made'
+    printf '\001no vector in this' >"$work/n.cv"
+    run create u64 "$work/n.cv"
+    was_refused exists 'remove it, or name another file'
+    run check u64 "$work/n.cv"
+    was_refused 'not a segment' "$work/n.cv"
+)
+
+who_may_not_use_a_file_is_told() (
+    [ "$(id -u)" -eq 0 ] || return 0
+    a_changed_file
+    chmod 755 "$work"
+    chmod 644 "$work/t.cv"
+    cp "$top/crates/cvec/out/cvec" "$work/cvec"
+    status=0
+    setpriv --reuid=65534 --regid=65534 --clear-groups "$work/cvec" list u64 "$work/t.cv" >"$out" 2>"$err" || status=$?
+    was_refused file 'you may not read and write it'
+)
+
+# Runs the program on a device that takes no more than the first 512 bytes of a file.
+run_on_a_full_device() {
+    status=0
+    (
+        trap '' XFSZ
+        ulimit -f 1
+        exec "$top/cvec" "$@" <"$in" >"$out" 2>"$err"
+    ) || status=$?
+}
+
+a_full_device_is_told_of_a_file() (
+    a_changed_file
+    run fold u64 "$work/t.cv"
+    run_on_a_full_device resize u64 "$work/t.cv" 200 --record=5
+    was_refused 'disk write' 'the device may be full'
+    run list u64 "$work/t.cv"
+    did '7\n'
+    seq -s ' ' 1 100 >"$in"
+    run_on_a_full_device load u64 "$work/t.cv"
+    was_refused broken 'the device, which may be full'
+    run list u64 "$work/t.cv"
+    did '7\n'
+    run load u64 "$work/t.cv"
+    did 'loaded 1 growths, size 101\n'
+)
+
+an_answer_that_cannot_be_written_leaves_the_work() (
+    out=/dev/full
+    run create u64 "$work/t.cv"
+    ends_with_a_failed_write 'No space left on device'
+    given '5\n'
+    run load u64 "$work/t.cv"
+    ends_with_a_failed_write 'No space left on device'
+    run list u64 "$work/t.cv"
+    ends_with_a_failed_write 'No space left on device'
+    out=$work/out
+    run list u64 "$work/t.cv"
+    did '5\n'
+)
+
+a_pipe_that_closes_ends_a_list() (
+    run create u64 "$work/t.cv"
+    seq 1 200000 >"$in"
+    run load u64 "$work/t.cv"
+    trap '' PIPE
+    { { "$top/cvec" list u64 "$work/t.cv" 2>"$err" && echo 0 >"$work/status" || echo $? >"$work/status"; } | :; }
+    status=$(cat "$work/status")
+    ends_with_a_failed_write 'Broken pipe'
+)
+
+one_writer_has_a_file_alone() (
+    a_changed_file
+    t=$work/t.cv g=$work/g.cv
+    before=$(cksum <"$t")
+    for how in --exclusive --shared; do
+        exec 9<"$t"
+        flock $how 9
+        for words in "clear u64 $t" "fold u64 $t" "set u64 $t 0 --records=5" "resize u64 $t 1 --record=0" "create u64 $t" \
+            "load u64 $t" "append u64 $t" "upgrade u64 $g $t" "check u64 $t" "list u64 $t" "count u64 $t --record=7" \
+            "find u64 $t --record=7" "stat $t" "serve u64 $t --seats=1" "upgrade u64 $t $g"; do
+            rm -f "$g"
+            case $words in *"$g $t") cp "$t" "$g" ;; esac
+            # shellcheck disable=SC2086 # each word is one
+            run $words 3</dev/null 4>/dev/null
+            case $how$words in
+                --sharedcheck* | --sharedlist* | --sharedcount* | --sharedfind* | --sharedstat* | "--sharedupgrade u64 $t"*)
+                    [ "$status" -eq 0 ]
+                    ;;
+                *) was_refused file 'another command uses it' ;;
+            esac
+        done
+        exec 9<&-
+    done
+    [ "$before" = "$(cksum <"$t")" ]
+)

@@ -1,0 +1,38 @@
+# `cvec_hex`, which `./cvec` runs for `image` and `show` until the whole program is built.
+
+# ---- the small program of two commands
+
+the_small_program_answers_as_the_whole_one() (
+    hex=$top/crates/cvec_hex/out/cvec_hex
+    [ -x "$hex" ] || (cd "$top/crates/cvec_hex" && rt run </dev/null)
+    while IFS='=' read -r words input; do
+        given "$input"
+        status=0
+        "$top/crates/cvec/out/cvec" $words <"$in" >"$out" 2>"$err" || status=$?
+        answered=0
+        "$hex" $words <"$in" >"$work/answer" 2>"$err" || answered=$?
+        [ "$answered" -eq "$status" ]
+        cmp "$out" "$work/answer"
+    done <<ROWS
+=5\n
+image u64=1 2 | 3\n
+image u32=0\n4294967296\n
+image pair=7:-3\n
+image flagged=5:1 5:2\n
+image i64=
+image u16=5\n
+image=5\n
+list u64=5\n
+show u64=$three
+show u64=014
+show u64=$(edited $five 12 05)
+show pair=$small_pair
+show u64=$small_pair
+show u64 u64=$three
+ROWS
+    given '5\n'
+    status=0
+    "$hex" image u64 <"$in" >/dev/full 2>"$err" || status=$?
+    [ "$status" -eq 1 ]
+    tells 'cvec: standard output: '
+)

@@ -1,0 +1,114 @@
+# `cvec load` and `cvec append`: growths of the lines of standard input.
+
+# ---- commands over files
+
+growths_are_loaded_by_many_seats() (
+    for seats in 1 3 64; do
+        rm -f "$work/t.cv"
+        run create u64 "$work/t.cv"
+        seq 1 10000 >"$in"
+        run load u64 "$work/t.cv" --seats=$seats
+        did 'loaded 10000 growths, size 10000\n'
+        run list u64 "$work/t.cv"
+        sort -n "$out" | cmp - "$in"
+    done
+    for seats in 0 65 x -1 01 ''; do
+        run load u64 "$work/t.cv" --seats=$seats
+        [ "$status" -eq 2 ]
+        [ ! -s "$out" ]
+    done
+    : >"$in"
+    run load u64 "$work/t.cv"
+    did 'loaded 0 growths, size 10000\n'
+)
+
+a_bad_line_grows_nothing() (
+    run create u64 "$work/t.cv"
+    given '1\n2\n3 x\n4\n'
+    run load u64 "$work/t.cv"
+    was_refused 'line 3' 'line 3'
+    given '1\n\n'
+    run load u64 "$work/t.cv"
+    was_refused 'line 2' 'nothing was grown'
+    { echo 5; seq -s ' ' 1 131072; echo 6; } >"$in"
+    run load u64 "$work/t.cv"
+    was_refused 'too large at line 2' '1048576 bytes'
+    { seq -s ' ' 1 131072; echo x; } >"$in"
+    run load u64 "$work/t.cv"
+    was_refused 'line 2' 'line 2'
+    # Words and input come before the file.
+    run load u64 "$work/none.cv"
+    was_refused 'line 2' 'line 2'
+    head -c 67108865 /dev/zero >"$in"
+    run load u64 "$work/none.cv"
+    was_refused 'input too long' 'cvec append'
+    in=$work
+    run load u64 "$work/t.cv"
+    was_refused input 'standard input'
+    in=$work/in
+    seq -s ' ' 1 131070 >"$in"
+    run load u64 "$work/t.cv"
+    did 'loaded 1 growths, size 131070\n'
+)
+
+input_of_any_length_is_appended() (
+    run create u64 "$work/t.cv"
+    seq 1 300000 >"$in"
+    run append u64 "$work/t.cv"
+    did 'appended 300000 growths, size 300000\n'
+    run list u64 "$work/t.cv"
+    cmp "$in" "$out"
+    { seq 1 200000; echo x; echo 5; } >"$in"
+    run append u64 "$work/t.cv"
+    [ "$status" -eq 1 ]
+    [ "$(cat "$out")" = 'refused: line 200001' ]
+    stood=$(sed 's/.*growths of the first \([0-9]*\) lines stand.*/\1/' "$err")
+    run check u64 "$work/t.cv"
+    grep -qF " size $((300000 + stood)) " "$out"
+    head -c 67108865 /dev/zero >"$in"
+    run append u64 "$work/t.cv"
+    was_refused 'input too long' 'give a smaller --block'
+)
+
+# Lines are joined into growths, so many at a time; the last growth may have fewer.
+lines_are_appended_in_blocks() (
+    run create u64 "$work/t.cv"
+    seq 1 1000010 >"$in"
+    run append u64 "$work/t.cv" --block=1000
+    did 'appended 1001 growths, size 1000010\n'
+    run list u64 "$work/t.cv"
+    cmp "$in" "$out"
+    run create u64 "$work/u.cv"
+    given '1 2\n3\n4\n5 6\n7\n'
+    run append u64 "$work/u.cv" --block=2
+    did 'appended 3 growths, size 7\n'
+    given ''
+    run append u64 "$work/u.cv" --block=2
+    did 'appended 0 growths, size 7\n'
+    run list u64 "$work/u.cv"
+    did '1\n2\n3\n4\n5\n6\n7\n'
+)
+
+blocks_of_lines_that_are_refused_leave_those_before() (
+    run create u64 "$work/t.cv"
+    { seq 1 300000; echo x; echo 5; } >"$in"
+    run append u64 "$work/t.cv" --block=1000
+    [ "$status" -eq 1 ]
+    [ "$(cat "$out")" = 'refused: line 300001' ]
+    stood=$(sed 's/.*growths of the first \([0-9]*\) lines stand.*/\1/' "$err")
+    [ $((stood % 1000)) -eq 0 ]
+    run list u64 "$work/t.cv"
+    head -n "$stood" "$in" | cmp - "$out"
+    run create u64 "$work/u.cv"
+    seq 1 131072 >"$in"
+    run append u64 "$work/u.cv" --block=131072
+    [ "$status" -eq 1 ]
+    grep -q '^refused: too large at line [0-9]*$' "$out"
+    run append u64 "$work/u.cv" --block=131071
+    did 'appended 2 growths, size 131072\n'
+    for block in 0 x -1 4294967296 ''; do
+        run append u64 "$work/u.cv" "--block=$block"
+        [ "$status" -eq 2 ]
+        tells 'usage: cvec COMMAND TYPE ..'
+    done
+)

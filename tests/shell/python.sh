@@ -1,0 +1,57 @@
+# The library for C from Python, by its examples in examples/python.
+
+# ---- the library for C, and its callers, built as docs/C.md says
+
+make_python_library() {
+    make_c_library
+    cc -shared -o "$work/libcvec.so" "$work/cvec_file.o" -Wl,--whole-archive "$c_library" -Wl,--no-whole-archive "$kit_library"
+}
+
+# Runs this example in Python with further words.
+python_runs() {
+    example=$1
+    shift
+    CVEC_LIBRARY=$work/libcvec.so PYTHONDONTWRITEBYTECODE=1 python3 "$top/examples/python/$example.py" "$@" >"$out" 2>"$err"
+}
+
+a_python_program_appends_and_reads() (
+    has_c && has python3 'the library for Python' || exit $is_skipped
+    make_python_library
+    python_runs use "$work/file"
+    [ "$(tr '\n' ' ' <"$out")" = '5 7 11 13 ' ]
+    is_shown_as_written u64 "$work/file"
+)
+
+# What is no record is refused, threads lose nothing, a forked process appends nothing, and what is closed is let go: with
+# numpy, where it is there, and without it.
+a_python_program_loses_nothing() (
+    has_c && has python3 'the library for Python' || exit $is_skipped
+    make_python_library
+    python_runs faults "$work"
+    python_runs faults "$work" plain
+    [ "$(cat "$out")" = 'without numpy' ]
+    python3 -c 'import numpy' 2>/dev/null || lacks 'there is no numpy for arrays for Python' || exit $is_skipped
+)
+
+# The file of this hex is listed this way, as the program shows it.
+is_listed() {
+    python3 -c 'import sys; open(sys.argv[1], "wb").write(bytes.fromhex(sys.argv[2]))' "$work/file" "$2"
+    python_runs list u64 "$work/file"
+    tells "by $1"
+    is_shown_as_written u64 "$work/file"
+}
+
+# A growth of 5 that is changed to 7; then a fold of a change to 5; 5 and 6, of which a fold and a shrink leave 5; and of
+# version 2 four times 5, changed by two runs.
+a_mapped_file_is_read_where_no_change_is_live() (
+    has_c && has python3 'the library for Python' || exit $is_skipped
+    make_python_library
+    changed=01435645435345470108000101100000000100000001000000050000000000000001021000000000000000000000000700000000000000
+    shrunk=014356454353454701080001011800000001000000020000000500000000000000060000000000000001021000000001000000000000000600000000000000
+    fold=0104080000000100000000000000
+    runs=0143564543534547020800010128000000010000000400000005000000000000000500000000000000050000000000000005000000000000000102340000000200000000000000000000000100000002000000000000000200000007000000000000000800000000000000090000000000000000
+    is_listed copy "${changed}00"
+    is_listed map "$changed${fold}00"
+    is_listed map "$shrunk${fold}010308000000010000000000000000"
+    is_listed copy "$runs"
+)

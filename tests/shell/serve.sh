@@ -1,0 +1,89 @@
+# `cvec serve`, and its clients in C and Python.
+
+# ---- a server for other programs
+
+# Clients append by `serve` while it is killed and started again: what they were told is settled stands.
+clients_of_a_server_find_what_they_were_told() (
+    has python3 'the clients of a server' || exit $is_skipped
+    if command -v cc >/dev/null; then
+        cc -std=c99 -Wall -Wextra -pedantic -Werror -I"$top/examples/c" "$top/examples/c/append_blocks.c" \
+            "$top/examples/c/cvec_client.c" -o "$work/append_blocks"
+        set -- "$work/append_blocks"
+    fi
+    "$top/tests/serve.py" "$top/cvec" "$work" 1000000 "$@" >"$out"
+    grep -q '4 clients' "$out"
+)
+
+a_server_without_pipes_is_refused() (
+    run create u64 "$work/t.cv"
+    before=$(cksum <"$work/t.cv")
+    run serve u64 "$work/t.cv" --seats=64
+    was_refused file 'a pipe of the clients'
+    [ "$before" = "$(cksum <"$work/t.cv")" ]
+    for seats in 0 65 x ''; do
+        run serve u64 "$work/t.cv" "--seats=$seats"
+        [ "$status" -eq 2 ]
+    done
+    run serve u64 "$work/t.cv"
+    [ "$status" -eq 2 ]
+)
+
+# A growth of the records 5 and 6, a wait, a look, a read from 1 on, and the end, as bytes.
+a_server_answers_what_is_asked() (
+    run create u64 "$work/t.cv"
+    mkfifo "$work/answers"
+    {
+        printf '\1\0\0\0\2\0\0\0\0\0\0\0\0\0\0\0\5\0\0\0\0\0\0\0\6\0\0\0\0\0\0\0'
+        printf '\2\0\0\0\0\0\0\0\0\0\0\0\0\0\0\0'
+        printf '\3\0\0\0\0\0\0\0\0\0\0\0\0\0\0\0'
+        printf '\4\0\0\0\3\0\0\0\1\0\0\0\0\0\0\0'
+        printf '\0\0\0\0\0\0\0\0\0\0\0\0\0\0\0\0'
+    } >"$work/requests"
+    cat "$work/answers" >"$work/answered" &
+    reader=$!
+    status=0
+    "$top/cvec" serve u64 "$work/t.cv" --seats=1 3<"$work/requests" 4>"$work/answers" >"$out" 2>"$err" || status=$?
+    wait $reader
+    did 'served 1 growths\n'
+    {
+        printf '\0\0\0\0\0\0\0\0\0\0\0\0\0\0\0\0\0\0\0\0\0\0\0\0'
+        printf '\0\0\0\0\0\0\0\0\1\0\0\0\0\0\0\0\0\0\0\0\0\0\0\0'
+        printf '\0\0\0\0\0\0\0\0\2\0\0\0\0\0\0\0\1\0\0\0\0\0\0\0'
+        printf '\0\0\0\0\1\0\0\0\1\0\0\0\0\0\0\0\0\0\0\0\0\0\0\0\6\0\0\0\0\0\0\0'
+        printf '\0\0\0\0\0\0\0\0\0\0\0\0\0\0\0\0\0\0\0\0\0\0\0\0'
+    } | cmp - "$work/answered"
+    run list u64 "$work/t.cv"
+    did '5\n6\n'
+)
+
+# Its header may stand beside that of the library.
+the_client_in_c_is_one_for_cpp() (
+    has c++ 'the client in C++' || exit $is_skipped
+    printf '#include "%s"\n' cvec.h cvec_client.h >"$work/use.cc"
+    printf 'int main() { cvec_server server; return cvec_server_wait(&server); }\n' >>"$work/use.cc"
+    cc -std=c99 -I"$top/examples/c" -c "$top/examples/c/cvec_client.c" -o "$work/cvec_client.o"
+    c++ -Wall -Wextra -pedantic -Werror -I"$top/examples/c" "$work/use.cc" "$work/cvec_client.o" -o "$work/use"
+)
+
+# The page's clients, as they stand there, each append a growth to a new file. Without a server that in C ends with 1.
+the_clients_that_are_shown_append() (
+    has cc 'the clients that are shown' && has python3 'the clients that are shown' || exit $is_skipped
+    shown_in SERVE.md c >"$work/shown.c"
+    shown_in SERVE.md python >"$work/shown.py"
+    cc -std=c99 -Wall -Wextra -pedantic -Werror -I"$top/examples/c" "$work/shown.c" "$top/examples/c/cvec_client.c" \
+        -o "$work/shown"
+    ln -s "$top/cvec" "$work/cvec"
+    cd "$work"
+    for client in ./shown 'python3 shown.py'; do
+        rm -f numbers.cvec
+        run create u64 numbers.cvec
+        PYTHONPATH=$top/examples/python PYTHONDONTWRITEBYTECODE=1 $client >/dev/null
+        run list u64 numbers.cvec
+        did '5\n7\n11\n'
+    done
+    rm cvec
+    status=0
+    ./shown >/dev/null 2>"$err" || status=$?
+    [ "$status" -eq 1 ]
+    [ -s "$err" ]
+)

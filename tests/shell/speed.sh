@@ -1,0 +1,182 @@
+# `cvec_speed`, the program that measures.
+
+# ---- the program that measures: threads that can't be started, and threads that wait
+
+# Runs it with these words for so many seconds at most. Where it hangs its status is 124.
+measure() {
+    seconds=$1
+    shift
+    status=0
+    timeout -k 1 "$seconds" "$@" <"$in" >"$out" 2>"$err" || status=$?
+}
+
+# Under this limit it does this work on a file by four threads, as the user that the words behind `--` name.
+work_under() {
+    limit=$1
+    words=$2
+    shift 3
+    cp "$speed" "$work/cvec_speed"
+    rm -rf "$work/dir"
+    mkdir "$work/dir"
+    chmod 755 "$work/cvec_speed"
+    chmod 777 "$work" "$work/dir"
+    # shellcheck disable=SC2086 # each word is one
+    measure 20 "$@" prlimit "$limit" "$work/cvec_speed" $words "dir=$work/dir" threads=4 block=16
+    echo "status $status under $limit: $words"
+    cat "$err"
+}
+
+# Under this limit it appends to a file in this mode, as the user that the further words name.
+append_under() {
+    limit=$1
+    mode=$2
+    shift 2
+    work_under "$limit" "durable mode=$mode n=100000 box_ms=100" -- "$@"
+}
+
+gets_no_thread() {
+    append_under "$@"
+    [ "$status" -eq 1 ]
+    [ ! -s "$out" ]
+    [ "$(cat "$err")" = "cvec_speed: a thread can't be started" ]
+}
+
+who_gets_no_memory_for_a_thread_is_told() (
+    for mode in wait1 wait64 flow; do
+        gets_no_thread --as=40960000 $mode
+    done
+)
+
+# Of the superuser no process is refused.
+who_may_start_no_thread_is_told() (
+    for mode in wait1 wait64 flow; do
+        if [ "$(id -u)" -eq 0 ]; then
+            gets_no_thread --nproc=1 $mode setpriv --reuid=65534 --regid=65534 --clear-groups
+        else
+            gets_no_thread --nproc=1 $mode
+        fi
+    done
+)
+
+# Some threads are started, or memory is refused to one of them.
+who_gets_little_memory_ends_too() (
+    for millions in 30 50 55 60 65 70 75 80 90 100; do
+        for mode in wait1 flow; do
+            append_under --as=${millions}000000 $mode
+            [ "$status" -eq 0 ] || [ "$status" -eq 1 ]
+            [ "$status" -eq 0 ] || [ "$(wc -l <"$err")" -eq 1 ]
+        done
+    done
+)
+
+# Under this limit it loads 10,000 growths into a new file, as the user that the further words name.
+load_under() {
+    limit=$1
+    shift
+    rm -f "$work/t.cv"
+    run create u64 "$work/t.cv"
+    seq 1 10000 >"$in"
+    cp "$top/crates/cvec/out/cvec" "$work/loader"
+    chmod 755 "$work/loader"
+    chmod 777 "$work"
+    chmod 666 "$work/t.cv"
+    measure 20 "$@" prlimit "$limit" "$work/loader" load u64 "$work/t.cv" --seats=4
+    echo "status $status under $limit: load"
+    cat "$out" "$err"
+}
+
+# Growers without a thread have made nothing, and say so; without a thread for the flusher the caller's serves.
+a_load_that_gets_no_thread_ends() (
+    if [ "$(id -u)" -eq 0 ]; then
+        load_under --nproc=1 setpriv --reuid=65534 --regid=65534 --clear-groups
+    else
+        load_under --nproc=1
+    fi
+    [ "$status" -eq 1 ]
+    [ "$(cat "$out")" = 'refused: memory' ]
+    grep -qF ': the growth of line 1 of the input ' "$err"
+    grep -qF 'the vector has 0 records' "$err"
+)
+
+a_load_that_gets_little_memory_ends() (
+    for millions in 50 60 70 80 100 120; do
+        load_under --as=${millions}000000
+        [ "$status" -eq 0 ] || [ "$status" -eq 1 ]
+        [ "$status" -eq 0 ] || [ "$(wc -l <"$err")" -eq 1 ]
+    done
+)
+
+# So many threads wait in so many phases, so many rounds in each, and all are woken.
+are_woken() {
+    measure 300 "$speed" waits "threads=$1" "phases=$2" "rounds=$3"
+    cat "$err"
+    [ "$status" -eq 0 ]
+    [ ! -s "$err" ]
+    grep -qF "{\"work\":\"waits\",\"threads\":$1,\"n\":$(($1 * $2 * $3))," "$out"
+}
+
+threads_that_wait_are_woken_in_each_round() (
+    for threads in 1 2 4 8; do
+        are_woken $threads 1 $((100000 / threads))
+    done
+)
+
+threads_that_wait_are_woken_in_each_phase() (
+    for threads in 1 2 4 8; do
+        are_woken $threads 10000 1
+    done
+)
+
+# ---- the program that measures: each work runs, and finds the content that it grew
+
+# The program that measures does this work on these sizes, in a folder of its own, and tells these numbers of records.
+counts() {
+    numbers=$1
+    shift
+    rm -rf "$work/dir"
+    mkdir "$work/dir"
+    measure 60 "$speed" "$@"
+    cat "$err" "$out"
+    [ "$status" -eq 0 ]
+    [ ! -s "$err" ]
+    [ "$(sed 's/.*"n":\([0-9]*\),.*/\1/' "$out" | tr '\n' ' ')" = "${numbers:+$numbers }" ]
+}
+
+works_in_memory_count_what_they_made() (
+    counts 992 grow threads=2 block=16 n=1000
+    counts '96 96 192 192 384 384 24 1000' read block=16 n=1000 draws=100
+    counts 992 memory block=16 n=1000
+    counts 400 waits threads=1 phases=20 rounds=20
+)
+
+readers_sum_what_another_thread_grows() (
+    measure 90 "$speed" beside threads=2 block=16 preload=1600 n=3200 cap_ms=60000
+    cat "$err" "$out"
+    [ "$status" -eq 0 ]
+    grep -qF '"n":3200,' "$out"
+)
+
+# This program has no work that no phase has room for.
+more_blocks_than_a_phase_has_room_for_are_no_work() (
+    measure 60 "$speed" memory block=1 n=1048569
+    [ "$status" -eq 3 ]
+    [ ! -s "$out" ]
+    [ ! -s "$err" ]
+)
+
+works_on_a_file_count_what_they_wrote() (
+    counts '' open-build "dir=$work/dir" block=16 n=300001
+    counts 1600 durable "dir=$work/dir" mode=flow threads=2 block=16 n=101 box_ms=1
+)
+
+a_file_that_was_built_is_opened() (
+    rm -rf "$work/dir"
+    mkdir "$work/dir"
+    measure 60 "$speed" open-build "dir=$work/dir" block=16 n=300001
+    [ "$status" -eq 0 ]
+    measure 60 "$speed" open-read "dir=$work/dir" block=16 n=300001 work=open.warm
+    cat "$err" "$out"
+    [ "$status" -eq 0 ]
+    grep -qF '"work":"open.warm",' "$out"
+    grep -qF '"n":300001,' "$out"
+)
