@@ -1,5 +1,7 @@
 # The tests' own steps.
 
+. "$top/tests/gate.sh"
+
 # ---- the tests themselves, and what tells of them
 
 what_cannot_run_is_skipped() (
