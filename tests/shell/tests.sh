@@ -66,3 +66,90 @@ RT
     "$top/tests/gate_times" sh -c 'exit 3' >"$out" || status=$?
     [ "$status" -eq 3 ]
 )
+
+# A repository of two sections of short tests, with a script, and with a program that only seems one.
+seeming_tests() {
+    there=$work/there
+    mkdir -p "$there/tests/shell" "$there/tests/scripts"
+    cp "$top/tests/run" "$top/tests/lib.sh" "$there/tests"
+    printf '#!/bin/sh\n' >"$there/cvec"
+    printf '#!/bin/sh\necho "$# passed, 0 failed"\n' >"$there/tests/scripts/run"
+    chmod +x "$there/cvec" "$there/tests/scripts/run"
+    : >"$there/tests/scripts/steps.script"
+    printf '%s() (\n    %s\n)\n' holds true >"$there/tests/shell/first.sh"
+    printf '%s() (\n    %s\n)\n' cannot_run 'lacks "there is no such thing" || exit $is_skipped' \
+        fails 'echo why; false; true' >"$there/tests/shell/second.sh"
+}
+
+# Runs its tests with these words, as 'run' runs the program.
+run_tests_there() {
+    status=0
+    "$there/tests/run" "$@" >"$out" 2>"$err" || status=$?
+}
+
+sections_and_tests_are_run_by_their_names() (
+    seeming_tests
+    run_tests_there first
+    answers 0 'first: 1 passed, 0 failed\n1 passed, 0 failed\n'
+    run_tests_there steps holds first
+    answers 0 'first: 1 passed, 0 failed\nscripts: 1 passed, 0 failed\n2 passed, 0 failed\n'
+    run_tests_there --list
+    answers 0 'first\n    holds\nsecond\n    cannot_run\n    fails\nscripts\n    steps\n'
+    for words in 'first nothing' '-j 0 first' '-j' '-k'; do
+        # shellcheck disable=SC2086 # each word is one
+        run_tests_there $words
+        [ "$status" -eq 2 ]
+        [ ! -s "$out" ]
+        tells 'sections: first second scripts'
+    done
+    run_tests_there first nothing
+    tells "there is no section or test 'nothing'"
+)
+
+# A test ends at what first fails, and a skip is no pass. Sections that run side by side end in any order.
+a_test_that_fails_is_printed_and_counted() (
+    seeming_tests
+    printf '%s\n' 'first: 1 passed, 0 failed' 'FAILED: fails' why 'second: 0 passed, 1 failed, 1 skipped' \
+        'scripts: 1 passed, 0 failed' '1 skipped: there is no such thing' '2 passed, 1 failed' >"$work/wanted"
+    sort "$work/wanted" >"$work/sorted"
+    for jobs in 1 2 9; do
+        run_tests_there -j $jobs
+        [ "$status" -eq 1 ]
+        sort "$out" | cmp - "$work/sorted"
+        [ "$(grep -A 2 FAILED "$out" | paste -sd ';')" = 'FAILED: fails;why;second: 0 passed, 1 failed, 1 skipped' ]
+        tail -n 2 "$work/wanted" >"$work/last"
+        tail -n 2 "$out" | cmp - "$work/last"
+    done
+)
+
+what_does_not_run_has_failed() (
+    seeming_tests
+    echo 'exit 0' >>"$there/tests/shell/second.sh"
+    run_tests_there first second
+    [ "$status" -eq 1 ]
+    grep -qx 'FAILED: section second ended before its tests were counted' "$out"
+    [ "$(tail -n 1 "$out")" = '1 passed, 1 failed' ]
+    echo 'exit 1' >>"$there/cvec"
+    run_tests_there
+    answers 1 'FAILED: there is no program to test\n0 passed, 1 failed\n'
+)
+
+# What a test began ends with the script that runs the tests.
+tests_that_are_ended_leave_nothing_running() (
+    seeming_tests
+    printf '%s() (\n    %s\n)\n' waits 'echo "$work" >"$top/begun"; sleep 2; : >"$top/ended"' >"$there/tests/shell/first.sh"
+    "$there/tests/run" first >"$out" &
+    runs=$!
+    until [ -s "$there/begun" ]; do sleep 0.1; done
+    kill $runs
+    status=0
+    wait $runs || status=$?
+    [ "$status" -eq 1 ]
+    sleep 3
+    [ ! -e "$there/ended" ]
+    [ ! -e "$(cat "$there/begun")" ]
+)
+
+each_test_has_a_name_of_its_own() (
+    [ -z "$("$top/tests/run" --list | sed 's/^ *//' | sort | uniq -d)" ]
+)
