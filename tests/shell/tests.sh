@@ -150,6 +150,32 @@ tests_that_are_ended_leave_nothing_running() (
     [ ! -e "$(cat "$there/begun")" ]
 )
 
+# The gate's tool only seems one: it passes three tests while a wrong body lies beside the crate.
+the_gate_and_the_tests_are_counted_together() (
+    seeming_tests
+    cp "$top/test" "$there"
+    cp "$top/tests/gate.sh" "$there/tests"
+    mkdir -p "$there/bin" "$there/crates/one" "$there/edits/one"
+    : >"$there/edits/one/a.edit"
+    printf '#!/bin/sh\n[ "$1" = ci ] && [ -e crates/one/must-fail/a.edit ] && echo "3 passed, 0 failed"\n' >"$there/bin/rt"
+    chmod +x "$there/bin/rt"
+    status=0
+    PATH=$there/bin:$PATH "$there/test" >"$out" || status=$?
+    [ "$status" -eq 1 ]
+    [ "$(tail -n 1 "$out")" = '5 passed, 1 failed' ]
+    [ ! -e "$there/crates/one/must-fail" ]
+    rm "$there/tests/shell/second.sh"
+    PATH=$there/bin:$PATH "$there/test" >"$out"
+    [ "$(tail -n 1 "$out")" = '5 passed, 0 failed' ]
+    echo 'exit 1' >>"$there/bin/rt"
+    status=0
+    PATH=$there/bin:$PATH "$there/test" >"$out" || status=$?
+    [ "$status" -eq 1 ]
+    [ "$(tail -n 1 "$out")" = '5 passed, 1 failed' ]
+    "$there/test" shell >"$out"
+    [ "$(tail -n 1 "$out")" = '2 passed, 0 failed' ]
+)
+
 each_test_has_a_name_of_its_own() (
     [ -z "$("$top/tests/run" --list | sed 's/^ *//' | sort | uniq -d)" ]
 )
