@@ -25,7 +25,7 @@ number_of_commit() {
 
 # The crate whose turn it is.
 crate_of_edits() {
-    set -- $(cd "$top/edits" && ls -d */ | tr -d /)
+    set -- $(cd "$top/tests/wrong" && ls -d */ | tr -d /)
     shift $(($(number_of_commit) % $#))
     echo "$1"
 }
@@ -38,8 +38,8 @@ lay_edits_out() {
     crate=$(crate_of_edits)
     if [ -e "$top/crates/$crate/must-fail" ]; then return; fi
     tried_edits=$top/crates/$crate/must-fail
-    mkdir "$tried_edits" && echo 'from edits/, while ./test runs' >"$tried_edits/laid-out.md"
-    cp "$top/edits/$crate"/*.edit "$tried_edits"
+    mkdir "$tried_edits" && echo 'from tests/wrong/, while ./test runs' >"$tried_edits/laid-out.md"
+    cp "$top/tests/wrong/$crate"/*.edit "$tried_edits"
     echo "wrong bodies are tried of $crate"
 }
 

@@ -31,8 +31,8 @@ counts_of_a_run_are_added() (
 
 wrong_bodies_come_by_one_crate_at_a_time() (
     top=$work/there
-    mkdir -p "$top/crates/one" "$top/crates/two" "$top/edits/one" "$top/edits/two"
-    : >"$top/edits/one/a.edit" >"$top/edits/two/b.edit"
+    mkdir -p "$top/crates/one" "$top/crates/two" "$top/tests/wrong/one" "$top/tests/wrong/two"
+    : >"$top/tests/wrong/one/a.edit" >"$top/tests/wrong/two/b.edit"
     number_of_commit() { echo "$number"; }
     number=1
     lay_edits_out
@@ -155,8 +155,8 @@ the_gate_and_the_tests_are_counted_together() (
     seeming_tests
     cp "$top/test" "$there"
     cp "$top/tests/gate.sh" "$there/tests"
-    mkdir -p "$there/bin" "$there/crates/one" "$there/edits/one"
-    : >"$there/edits/one/a.edit"
+    mkdir -p "$there/bin" "$there/crates/one" "$there/tests/wrong/one"
+    : >"$there/tests/wrong/one/a.edit"
     printf '#!/bin/sh\n[ "$1" = ci ] && [ -e crates/one/must-fail/a.edit ] && echo "3 passed, 0 failed"\n' >"$there/bin/rt"
     chmod +x "$there/bin/rt"
     status=0
