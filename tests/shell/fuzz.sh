@@ -1,6 +1,6 @@
 # Files, scripts and words that nobody wrote, and memory that is refused.
 
-# ---- files that nobody wrote, memory that is refused: by the reader of files and the follower of scripts in 'fuzz'
+# ---- files that nobody wrote, memory that is refused: by the reader of files and the follower of scripts in tests/fuzz
 
 # The file of one growth of 5, which a change makes 7.
 seven=${five%00}0102100000000000000000000000070000000000000000
@@ -60,30 +60,30 @@ ANSWERS
 )
 
 each_byte_may_have_each_value() (
-    "$top/fuzz" each bytes
+    "$top/tests/fuzz/run" each bytes
 )
 
 a_file_may_be_cut_at_each_length() (
-    "$top/fuzz" each cuts
+    "$top/tests/fuzz/run" each cuts
 )
 
 frames_may_be_any() (
-    "$top/fuzz" each frames
+    "$top/tests/fuzz/run" each frames
 )
 
 a_number_that_asks_for_much_takes_no_memory() (
-    "$top/fuzz" each sizes
+    "$top/tests/fuzz/run" each sizes
 )
 
 each_request_for_memory_may_be_refused() (
     [ -x "$top/crates/grow_again/out/grow_again" ] || (cd "$top/crates/grow_again" && rt run </dev/null)
-    "$top/fuzz" each memory
+    "$top/tests/fuzz/run" each memory
 )
 
 each_request_of_threads_for_memory_may_be_refused() (
-    "$top/fuzz" each works
+    "$top/tests/fuzz/run" each works
 )
 
 nothing_that_nobody_wrote_is_answered_wrongly() (
-    "$top/fuzz" 60 "$(date +%s)"
+    "$top/tests/fuzz/run" 60 "$(date +%s)"
 )

@@ -1,5 +1,5 @@
-//! Each growth call of a book, made again where memory is refused: `./fuzz` refuses a run its requests one by one, and
-//! compares what is told with a run that has ample memory.
+//! Each growth call of a book, made again where memory is refused: `tests/fuzz/run` refuses a run its requests one by
+//! one, and compares what is told with a run that has ample memory.
 #![tactic(auto)]
 
 ghost use Rattle.book_core.specs.Lists.{IsSeatOf};

@@ -1,0 +1,147 @@
+"""Commands over a file, foreseen by what the reader finds in it."""
+
+import os
+import tempfile
+
+from memory import is_memory_refused, run_refused
+from program import differs, has, run
+from reader import Fault, File, answers_of
+from writer import all_kinds
+
+
+def texts_in(file):
+    return [file.text(cell) for cell in file.cells]
+
+
+def foresee(kind, verb, words, lines, image):
+    """What a command answers, and the records that its file has then, or none where it stays as it is."""
+    try:
+        file = File(image, kind)
+    except Fault as fault:
+        if verb == 'create' and len(image) <= 12 and image[:1] != b'\1' or verb == 'create' and len(image) < 2:
+            return 'created', []
+        return 'refused: ' + ('exists' if verb == 'create' else 'old %s' % fault if verb == 'upgrade' else str(fault)), None
+    texts, live = texts_in(file), len(file.changes) - file.folded
+    value = words[-1].split('=')[-1] if words else ''
+    if verb == 'create':
+        return 'refused: exists', None
+    if verb == 'check':
+        return answers_of(image, kind)[1][1].decode()[:-1], None
+    if verb == 'list':
+        return '\n'.join(texts), None
+    if verb == 'count':
+        return str(texts.count(value)), None
+    if verb == 'find':
+        return str(texts.index(value)) if value in texts else 'none', None
+    if verb == 'set':
+        start, records = int(words[0]), value.split(',')
+        if start + len(records) > len(texts):
+            return 'refused: out of range', None
+        return 'ok', texts[:start] + records + texts[start + len(records):]
+    if verb in ('resize', 'clear'):
+        length = int(words[0]) if verb == 'resize' else 0
+        if length < len(texts) and live > 0:
+            return 'refused: unfolded', None
+        return 'ok', texts[:length] + [value] * (length - len(texts))
+    if verb == 'fold':
+        return 'folded %d' % live, texts
+    if verb == 'upgrade':
+        return ('refused: not version 1' if file.version == 2 else 'upgraded size %d' % len(texts)), None
+    grown = texts + [record for line in lines for record in line.split(' ')]
+    block = int(value) if words else 1
+    return '%sed %d growths, size %d' % (verb, -(-len(lines) // block), len(grown)), grown
+
+
+def read_file(name):
+    with open(name, 'rb') as file:
+        return file.read()
+
+
+def holds(image, kind, texts, folded):
+    try:
+        file = File(image, kind)
+    except Fault:
+        return False
+    return texts_in(file) == texts and (not folded or file.folded == len(file.changes))
+
+
+def command_words(verb, kind, name, words):
+    return [verb, kind, name, *([name + '.new'] if verb == 'upgrade' else words)]
+
+
+def judge_outcome(kind, name, command, before, found):
+    """What is wrong with an answer of a command and with what it left of its file, or nothing."""
+    verb, words, lines = command
+    answer, texts = foresee(kind, verb, words, lines, before)
+    written = answer + '\n' if answer or verb != 'list' else ''
+    told = differs([verb, *words], found, (int(answer.startswith('refused: ')), written.encode()))
+    after = read_file(name)
+    if texts is None and after != before:
+        told = told or '%s wrote the file' % verb
+    if texts is not None and not holds(after, kind, texts, verb == 'fold'):
+        told = told or '%s left other records' % verb
+    if answer.startswith('upgraded') and not holds(read_file(name + '.new'), kind, texts_in(File(before, kind)), True):
+        told = told or 'the new file has other records'
+    if os.path.exists(name + '.new'):
+        os.remove(name + '.new')
+    return told
+
+
+def judge_commands(job):
+    kind, image, commands = job
+    kept = '%s\n%s\n%r\n' % (kind, image.hex(), commands)
+    with tempfile.TemporaryDirectory() as folder:
+        name = os.path.join(folder, 'file')
+        with open(name, 'wb') as file:
+            file.write(image)
+        for command in commands:
+            verb, words, lines = command
+            before = read_file(name)
+            found = run(command_words(verb, kind, name, words), ''.join(line + '\n' for line in lines).encode())
+            told = judge_outcome(kind, name, command, before, found)
+            if told is not None:
+                return told, kept.encode()
+    return None, kept.encode()
+
+
+# ---- memory that is refused to them
+
+def judge_refused_command(job):
+    """A command answers what it does with ample memory, or Memory, and then its file holds what it did; but the lines that
+    were grown stay. With ample memory it then does its work."""
+    library, (image, command), number = job
+    verb, words, lines = command
+    given = ''.join(line + '\n' for line in lines).encode()
+    with tempfile.TemporaryDirectory() as folder:
+        name = os.path.join(folder, 'file')
+        with open(name, 'wb') as file:
+            file.write(image)
+        found, refused = run_refused(library, number, command_words(verb, 'u64', name, words), given)
+        kept = ('REFUSE=%d %s %s\n' % (number, command, image.hex())).encode()
+        may_stop = {'load': b'refused: unsettled ', 'append': b'refused: unsettled ',
+                    'upgrade': (b'refused: old memory\n', b'refused: new memory\n')}.get(verb, b'refused: memory\n')
+        if not is_memory_refused(found) and not found[1].startswith(may_stop):
+            return judge_outcome('u64', name, command, image, found), refused, kept
+        if os.path.exists(name + '.new'):
+            os.remove(name + '.new')
+        after, told = read_file(name), None
+        if verb in ('load', 'append'):
+            grown = foresee('u64', verb, words, lines, image)[1]
+            texts = texts_in(File(after, 'u64'))
+            told = None if texts == grown[:len(texts)] else 'request %d of %s: %r' % (number, verb, texts)
+        elif after != image and (verb != 'create' or len(after) > 1) and not holds(after, 'u64', texts_in(File(image, 'u64')), False):
+            told = 'request %d of %s: another file' % (number, verb)
+        else:
+            again = run(command_words(verb, 'u64', name, words), given)
+            told = judge_outcome('u64', name, command, after, again)
+        return told, refused, kept
+
+
+def command_tables(_folder):
+    commands = [('create', [], []), ('load', [], ['1 2', '3']), ('append', [], ['1 2', '3']), ('check', [], []),
+                ('list', [], []), ('count', ['--record=9'], []), ('find', ['--record=9'], []),
+                ('set', ['1', '--records=4,5'], []), ('resize', ['9', '--record=3'], []), ('fold', [], []),
+                ('upgrade', [], [])]
+    for command in commands:
+        if has(command[0]):
+            yield judge_refused_command, (b'' if command[0] == 'create' else all_kinds(1), command)

@@ -1,0 +1,131 @@
+"""Random runs of the program without end: files, scripts, lines, words and commands."""
+
+import random
+
+from commands import judge_commands
+from follower import judge_script
+from program import differs, has, reads_files, run
+from random_files import frames_image, mutated, random_cells, random_image
+from reader import TYPES
+from tables import judge_image
+from writer import group, header
+
+
+# ---- scripts
+
+def random_records(rng, most=4):
+    return ' '.join(str(rng.choice([rng.randrange(10), rng.randrange(1 << 64)])) for _ in range(rng.randint(1, most)))
+
+
+def random_step(rng, growing, size):
+    place = rng.randrange(size + 2)
+    if growing:
+        return rng.choice([
+            'put %d %s' % (rng.randrange(3), random_records(rng)), 'put 0 %s' % random_records(rng), 'look f', 'look f',
+            'look 0', 'view 0', 'settled 1', 'take', 'take', 'log', 'log', 'log', 'log', 'log', 'log;log;log;log', 'home',
+            'home', 'home;home;home', 'raise', 'fold', 'close', 'close;look f;log;log;log;log;take;log;log;log;log;gather',
+            'look f;take;log;log;log;log', 'gather', 'change 0 1'])
+    return rng.choice([
+        'share %d %d' % (rng.choice([0, 1, 9, 9, 9, 1048568, 1048569]), rng.choice([0, 1, 2, 2, 3, 64, 65, 65536])), 'share 20 2',
+        'change %d %s' % (place, random_records(rng)), 'change %d %s' % (place // 2, random_records(rng, 2)),
+        'changes %d %s | %d %s' % (place // 2, random_records(rng, 2), place, random_records(rng, 2)),
+        'resize %d %s' % (rng.randrange(12), random_records(rng, 1)), 'resize %d 7' % (size + rng.randrange(3)), 'clear',
+        'list', 'list', 'fold', 'fold', 'fold;home;home;home;log;log;log;log', 'home', 'home', 'home', 'log', 'log', 'take'])
+
+
+def random_script(rng):
+    """Steps that mostly fit the phase, and crashes; what stands is listed behind each."""
+    script = [rng.choice(['create', 'create 2'])]
+    growing, size = False, 4
+    for _ in range(rng.randrange(60)):
+        if rng.random() < .08:
+            script += ['crash ' + rng.choice(['old', 'new', '00', '01', 'ff']), 'open', 'list']
+            growing = False
+            continue
+        steps = random_step(rng, growing if rng.random() < .97 else not growing, size).split(';')
+        growing = steps[0].startswith('share ') or growing and steps[-1] != 'gather'
+        script += steps
+    return script + ['crash ' + rng.choice(['old', 'new', '01', 'ff']), 'open', 'list']
+
+
+# ---- lines and words
+
+def judge_lines(job):
+    """Group lines are written as the file that their frames are, and a line that is none is named."""
+    kind, lines = job
+    width, _, text = TYPES[kind]
+    image = header(1, width) + b''.join(group(growths) for growths in lines) + b'\0'
+    given = ''.join(' | '.join(' '.join(map(text, growth)) for growth in growths) + '\n' for growths in lines).encode()
+    return differs(['image', kind], run(['image', kind], given), (0, image.hex().encode() + b'\n')), given
+
+
+def judge_words(job):
+    """Whatever words and input there are, the program ends by itself; usage leaves standard output alone."""
+    words, given = job
+    status, written, told = run(words, given)
+    wrong = None
+    if status not in (0, 1, 2) or status < 2 and told.count(b'\n') > status:
+        wrong = 'status %r, told %r' % (status, told)
+    elif status == 2 and (written != b'' or not told.startswith(b'usage: cvec ')):
+        wrong = 'usage that is none: %r, %r' % (written, told)
+    elif status == 1 and not (written.startswith(b'refused: ') and written.count(b'\n') == 1):
+        wrong = 'a refusal that is none: %r' % written
+    return wrong and '%r: %s' % (words, wrong), repr(words).encode() + b'\n' + given
+
+
+def random_words(rng):
+    known = ['image', 'show', 'play', 'u32', 'u64', 'i64', 'pair', 'flagged', '--help', '-', '--', '', 'x', '--record=1']
+    words = rng.choices(known, k=rng.randrange(4))
+    if rng.random() < .6:
+        words = [rng.choice(known[:3]), rng.choice(known[3:8])] + words[:rng.randrange(2)]
+    inputs = [b'', b'\n', b'5\n', b'5:1\n', b'1 2 | 3', b'-1\r\n', b'zz', b'0', rng.randbytes(rng.randrange(9)),
+              random_image(rng)[0].hex().encode(), '\n'.join(random_script(rng)[:5]).encode()]
+    return words, rng.choice(inputs)
+
+
+# ---- commands
+
+def random_commands(rng, known):
+    kind = rng.choice(list(TYPES))
+    text = TYPES[kind][2]
+    image = rng.choice([b'', frames_image(rng, kind), frames_image(rng, kind), mutated(rng, frames_image(rng, kind))])
+    commands = []
+    for _ in range(rng.randint(1, 6)):
+        verb, records = rng.choice(known), ','.join(map(text, random_cells(rng, kind, 3)))
+        words = {'set': [str(rng.randrange(8)), '--records=' + records],
+                 'resize': [str(rng.randrange(12)), '--record=' + records.split(',')[0]]}.get(verb, [])
+        if verb in ('count', 'find'):
+            words = ['--record=' + rng.choice([records.split(',')[0], text(bytes(TYPES[kind][0]))])]
+        lines = []
+        if verb in ('load', 'append'):
+            lines = [' '.join(map(text, random_cells(rng, kind, 3))) for _ in range(rng.randint(1, 4))]
+        if verb == 'append' and rng.random() < .5:
+            words = ['--block=%d' % rng.randint(1, 5)]
+        commands.append((verb, words, lines))
+    return kind, image, commands
+
+
+# ---- all of them
+
+def judge_any(job):
+    judge, case = job
+    return judge(case)
+
+
+def random_jobs(seed):
+    on_files = reads_files()
+    known = [verb for verb in ('create', 'load', 'append', 'check', 'list', 'count', 'find', 'set', 'resize', 'clear', 'fold',
+                               'upgrade') if has(verb)]
+    rng = random.Random(seed)
+    while True:
+        if known:
+            for _ in range(3):
+                yield judge_commands, random_commands(rng, known)
+        for _ in range(20):
+            yield judge_image, (*random_image(rng), on_files and rng.random() < .3)
+        for _ in range(5):
+            yield judge_script, random_script(rng)
+        kind = rng.choice(list(TYPES))
+        lines = [[random_cells(rng, kind, 4) for _ in range(rng.randint(1, 3))] for _ in range(rng.randrange(4))]
+        yield judge_lines, (kind, lines)
+        yield judge_words, random_words(rng)

@@ -1,0 +1,86 @@
+"""Tables of files: each byte, each cut, random frames, and numbers that ask for much memory."""
+
+import os
+import random
+import tempfile
+
+from program import PROGRAM, differs, run
+from random_files import random_frames
+from reader import TYPES, answers_of
+from writer import all_kinds, change, group, header, numbers
+
+
+def judge_image(job):
+    """What is wrong with the answers on an image. Files are looked at where the program has commands on them."""
+    image, kind, on_files = job
+    shown, checked = answers_of(image, kind)
+    words = ['show', kind]
+    told = differs(words, run(words, image.hex().encode()), shown)
+    if told is None and on_files:
+        with tempfile.NamedTemporaryFile() as file:
+            file.write(image)
+            file.flush()
+            for words, wanted in [(['check', kind, file.name], checked), (['list', kind, file.name], shown)]:
+                told = told or differs(words, run(words), wanted)
+            with open(file.name, 'rb') as again:
+                if again.read() != image:
+                    told = told or 'the file was written'
+    return told, ('%s\n%s\n' % (kind, image.hex())).encode()
+
+
+def each_byte(on_files):
+    """Files of both versions with all kinds of frame, each byte set to each value; on a file for some of them."""
+    for version in (1, 2):
+        image = all_kinds(version)
+        for place in range(len(image)):
+            for value in range(256):
+                altered = image[:place] + bytes([value]) + image[place + 1:]
+                yield altered, 'u64', on_files and value in (0, 1, 255, image[place] ^ 1)
+
+
+def each_cut(on_files):
+    """Files of both versions cut at each length."""
+    for version in (1, 2):
+        image = all_kinds(version)
+        for length in range(len(image) + 1):
+            yield image[:length], 'u64', on_files
+
+
+def each_frames(on_files):
+    """10,000 files of random frames, the same in each run."""
+    rng = random.Random('frames')
+    for at in range(10000):
+        kind = rng.choice(list(TYPES))
+        yield random_frames(rng, kind), kind, on_files and at % 10 == 0
+
+
+WORST = 3
+
+
+def most_memory(image):
+    """The most memory that `show` has while it reads an image, in KiB, and its answer."""
+    with tempfile.TemporaryFile() as given, tempfile.TemporaryFile() as written:
+        given.write(image.hex().encode())
+        given.seek(0)
+        child = os.posix_spawn(PROGRAM, [PROGRAM, 'show', 'u64'], {}, file_actions=[
+            (os.POSIX_SPAWN_DUP2, given.fileno(), 0), (os.POSIX_SPAWN_DUP2, written.fileno(), 1)])
+        _, status, usage = os.wait4(child, 0)
+        written.seek(0)
+        return usage.ru_maxrss, os.waitstatus_to_exitcode(status), written.read()
+
+
+def each_size(tally):
+    """Long files of both versions with a number set to what asks for much: none takes more than three times the memory
+    that a sound file of that length takes."""
+    for version in (1, 2):
+        many = [group([numbers(*range(16))] * 16) for _ in range(1500)]
+        sound = header(version, 8) + b''.join(many) + change(version, [(3, numbers(1))]) + b'\0'
+        wanted = most_memory(sound)[0]
+        for start in (9, 11 + 2, 11 + 6, 11 + 10, len(sound) - len(change(version, [(3, numbers(1))])) + 1):
+            for value in (b'\xff' * 4, b'\xff\xff\x0f\0', b'\0' * 4, b'\xff' * 8):
+                image = sound[:start] + value + sound[start + len(value):]
+                taken, status, written = most_memory(image)
+                told = differs(['show', 'u64'], (status, written, b''), answers_of(image, 'u64')[0])
+                if taken > WORST * wanted:
+                    told = '%d KiB where a sound file of that length takes %d' % (taken, wanted)
+                tally.note(told, image.hex().encode())
