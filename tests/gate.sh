@@ -1,5 +1,5 @@
-# The gate: `rt ci`, with the wrong bodies of one crate laid out beside it. A script that reads this has read lib.sh too,
-# and takes the wrong bodies back when it ends.
+# The gate: `rt ci`, with the wrong bodies of one crate laid out beside it. A script that reads this has read lib.sh
+# too, and takes the wrong bodies back when it ends.
 # shellcheck shell=sh disable=SC2154
 
 tried_edits=
