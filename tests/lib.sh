@@ -119,7 +119,7 @@ a_changed_file() {
 # The lines of this page between the fences of this language.
 shown_in() { sed -n "/^\`\`\`$2\$/,/^\`\`\`\$/p" "$top/docs/$1" | sed '/^```/d'; }
 
-# ---- the library for C, and its callers, built as docs/C.md says
+# ---- the library for C, and its callers, built as docs/use/c.md says
 
 c=$top/examples/c
 c_library=$top/crates/cvec_c/out/libcvec_c.a

@@ -1,4 +1,4 @@
-"""The reader of files: docs/FORMAT.md, read in its order. It shares nothing with the program."""
+"""The reader of files: docs/file/format.md, read in its order. It shares nothing with the program."""
 
 import struct
 

@@ -1,6 +1,6 @@
 # The library for C and C++ (`cvec_c`), by its examples in examples/c.
 
-# ---- the library for C, and its callers, built as docs/C.md says
+# ---- the library for C, and its callers, built as docs/use/c.md says
 
 # Compiles this example in C. A further word is what it is linked with beside the libraries.
 compile() {
@@ -23,7 +23,7 @@ a_c_program_appends_and_reads() (
 the_c_program_that_is_shown_appends_and_reads() (
     has_c || exit $is_skipped
     make_c_library
-    shown_in C.md c >"$work/shown.c"
+    shown_in use/c.md c >"$work/shown.c"
     cc -std=c99 -O2 -Wall -Wextra -Werror -pedantic "-I$c" -o "$work/shown" "$work/shown.c" "$work/cvec_file.o" \
         "$c_library" "$kit_library"
     "$work/shown" "$work/file" >"$out"

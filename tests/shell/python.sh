@@ -1,6 +1,6 @@
 # The library for C from Python, by its examples in examples/python.
 
-# ---- the library for C, and its callers, built as docs/C.md says
+# ---- the library for C, and its callers, built as docs/use/c.md says
 
 make_python_library() {
     make_c_library

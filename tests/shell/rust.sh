@@ -1,6 +1,6 @@
 # The library for C from Rust as rustc compiles it, by its example in examples/rust.
 
-# ---- the library for C, and its callers, built as docs/C.md says
+# ---- the library for C, and its callers, built as docs/use/c.md says
 
 a_rust_program_appends_and_reads() (
     has_c && has rustc 'the library for plain Rust' || exit $is_skipped

@@ -68,8 +68,8 @@ the_client_in_c_is_one_for_cpp() (
 # The page's clients, as they stand there, each append a growth to a new file. Without a server that in C ends with 1.
 the_clients_that_are_shown_append() (
     has cc 'the clients that are shown' && has python3 'the clients that are shown' || exit $is_skipped
-    shown_in SERVE.md c >"$work/shown.c"
-    shown_in SERVE.md python >"$work/shown.py"
+    shown_in use/serve.md c >"$work/shown.c"
+    shown_in use/serve.md python >"$work/shown.py"
     cc -std=c99 -Wall -Wextra -pedantic -Werror -I"$top/examples/c" "$work/shown.c" "$top/examples/c/cvec_client.c" \
         -o "$work/shown"
     ln -s "$top/cvec" "$work/cvec"
