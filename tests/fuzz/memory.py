@@ -1,4 +1,4 @@
-"""Memory that is refused: to `play`, `image`, `show`, the growths of grow_again and the works of cvec_speed."""
+"""Memory that is refused: to `play`, `image`, `show`, and works of cvec_speed."""
 
 import multiprocessing
 import os
@@ -8,7 +8,7 @@ import sys
 import tempfile
 
 from follower import follow
-from program import GROWER, MEASURER, PROGRAM, run
+from program import MEASURER, PROGRAM, run
 from reader import answers_of
 from writer import all_kinds
 
@@ -168,17 +168,26 @@ def refusing(tally, tables):
             refuse_each(judge, case, library, pool, tally)
 
 
+# The growths that the work `again` makes: number, start and length.
+GROWN = [b'0: 0 3', b'1: 3 2', b'2: 5 1', b'3: 6 3', b'4: 9 2', b'5: 11 1', b'6: 12 3', b'7: 15 2', b'8: 17 1',
+         b'9: 18 3', b'10: 21 2', b'11: 23 1']
+
+
 def judge_refused_growths(job):
-    """Each growth is the one with ample memory, the first time or the second."""
-    library, wanted, number = job
-    found, refused = run_refused(library, number, [], program=GROWER)
-    grown = [line for line in found[1].split(b'\n') if line != b'refused memory']
-    right = found[0] == 0 and found[2] == b'' and (grown == wanted or found[1] == b'refused memory\n')
-    return None if right else 'request %d of growths: %r' % (number, found), refused, b'REFUSE=%d grow_again\n' % number
+    """Each growth is made, the first time or the second, unless the run had no memory for its words or for the vector."""
+    library, _, number = job
+    found, refused = run_refused(library, number, ['again'], program=MEASURER)
+    lines = found[1].split(b'\n')[:-1]
+    grown = [line for line in lines if line != b'refused memory']
+    if found[0] == 0:
+        right = found[2] == b'' and (grown == GROWN and len(lines) <= len(GROWN) + 1 or lines == [b'refused memory'])
+    else:
+        right = found[0] == 1 and lines == [] and found[2].count(b'\n') == 1
+    return None if right else 'request %d of growths: %r' % (number, found), refused, b'REFUSE=%d again\n' % number
 
 
 def memory_tables(_folder):
-    yield judge_refused_growths, run([], program=GROWER)[1].split(b'\n')
+    yield judge_refused_growths, None
     for script in MEMORY_SCRIPTS:
         yield judge_refused_script, script.split(';')
     lines = b'1 2 | 3\n4\n'

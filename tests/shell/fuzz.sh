@@ -76,7 +76,6 @@ a_number_that_asks_for_much_takes_no_memory() (
 )
 
 each_request_for_memory_may_be_refused() (
-    [ -x "$top/crates/grow_again/out/grow_again" ] || (cd "$top/crates/grow_again" && rt run </dev/null)
     "$top/tests/fuzz/run" each memory
 )
 

@@ -242,19 +242,30 @@ fn run_workers<E: Threads + Wait + Clock + Sync>(
     Done::of_all(works)
 }
 
-/// Makes the first growths by the seat, runs the workers, and compares all that was grown.
-fn work_all<E: Threads + Wait + Clock + Sync>(
+/// Makes the first growths by the seat, and runs the workers.
+fn work_behind<E: Threads + Wait + Clock + Sync>(
     rt: &E,
     alloc: Global,
-    first: Option<Seated>,
+    first: &mut Seated,
     workers: Vec<Seated>,
     sizes: BesideSizes,
     block: &[u64],
 ) -> Result<Done, SpeedFault> {
-    let mut first = first.ok_or(SpeedFault::Memory)?;
     first.put_blocks(rt, alloc, block, sizes.before / sizes.block as u64)?;
-    let done = run_workers(rt, alloc, workers, sizes, block)?;
-    sum_once(&mut first, block)?;
+    run_workers(rt, alloc, workers, sizes, block)
+}
+
+/// The same, and compares all that was grown.
+fn work_all<E: Threads + Wait + Clock + Sync>(
+    rt: &E,
+    alloc: Global,
+    first: &mut Seated,
+    workers: Vec<Seated>,
+    sizes: BesideSizes,
+    block: &[u64],
+) -> Result<Done, SpeedFault> {
+    let done = work_behind(rt, alloc, first, workers, sizes, block)?;
+    sum_once(first, block)?;
     Ok(done)
 }
 
@@ -270,8 +281,10 @@ fn work_by<E: Threads + Wait + Clock + Sync>(
     requires { AreNewSeats live.now.directory live.now.mark seats.items }
 {
     let mut workers = seat_all(alloc, live, seats)?;
-    let first = workers.pop();
-    work_all(rt, alloc, first, workers, sizes, block)
+    match workers.pop() {
+        Some(mut first) => work_all(rt, alloc, &mut first, workers, sizes, block),
+        None => Err(SpeedFault::Memory),
+    }
 }
 
 /// Runs all in a phase of their own.

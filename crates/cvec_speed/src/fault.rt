@@ -32,6 +32,8 @@ pub enum SpeedFault {
     Unsettled,
     /// The system starts no further thread.
     Thread,
+    /// Standard output can't be written.
+    Output,
     /// Threads that wait for each other stand still, in the phase of that number.
     Still(u64),
 }
@@ -51,6 +53,7 @@ impl SpeedFault {
             SpeedFault::Flush(_) => "no commit: ",
             SpeedFault::Unsettled => "not durable",
             SpeedFault::Thread => "a thread can't be started",
+            SpeedFault::Output => "standard output",
             SpeedFault::Still(_) => "threads stand still in phase ",
         }
     }

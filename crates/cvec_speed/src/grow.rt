@@ -8,7 +8,7 @@ use crate::barrier::{Barrier, Span};
 use crate::fault::SpeedFault;
 use crate::figure::Figure;
 use crate::mix::mixed;
-use crate::phase::{Seated, begin, seat_all, total_by};
+use crate::phase::{Seated, begin, seat_all};
 use crate::reading::Total;
 use book_core::{Live, Seat};
 use std::alloc::{AllocError, Global};
@@ -103,7 +103,20 @@ fn run_growers<E: Threads + Wait + Clock + Sync>(
     Span::time_of_all(spans)
 }
 
-/// Runs the growers, each with one of the seats, and reads what they grew by the last one.
+/// Runs the growers, and reads what they grew by one more seat.
+fn grow_and_read<E: Threads + Wait + Clock + Sync>(
+    rt: &E,
+    alloc: Global,
+    last: &mut Seated,
+    growers: Vec<Seated>,
+    growing: Growing,
+) -> Result<(Total, Duration), SpeedFault> {
+    let time = run_growers(rt, alloc, growers, growing)?;
+    last.look()?;
+    Ok((last.total(), time))
+}
+
+/// Runs a grower with each of the seats but the last one, which reads.
 fn grow_by<E: Threads + Wait + Clock + Sync>(
     rt: &E,
     alloc: Global,
@@ -114,9 +127,10 @@ fn grow_by<E: Threads + Wait + Clock + Sync>(
     requires { AreNewSeats live.now.directory live.now.mark seats.items }
 {
     let mut growers = seat_all(alloc, live, seats)?;
-    let last = growers.pop();
-    let time = run_growers(rt, alloc, growers, growing)?;
-    Ok((total_by(last)?, time))
+    match growers.pop() {
+        Some(mut last) => grow_and_read(rt, alloc, &mut last, growers, growing),
+        None => Err(SpeedFault::Memory),
+    }
 }
 
 /// So many threads grow in a phase of their own, each by so many growths at most. What they grew in all, and how long they

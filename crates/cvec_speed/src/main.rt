@@ -2,6 +2,7 @@
 //! `cvec_speed WORK name=value ..` and writes one line of JSON for each figure.
 #![tactic(auto)]
 
+mod again;
 mod append;
 mod barrier;
 mod beside;
@@ -27,6 +28,7 @@ mod waits;
 mod watch;
 mod words;
 
+use crate::again::again;
 use crate::beside::beside;
 use crate::durable::durable;
 use crate::fault::SpeedFault;
@@ -57,6 +59,7 @@ open-read dir= block= n= work=               it is opened; work is open.warm or 
 durable dir= mode= threads= block= n= box_ms=   threads append to a file; mode is wait1, wait64 or flow
 waits threads= phases= rounds=               threads wait for each growth, in phase after phase, over a file in memory
 stress threads= phases= rounds=              as waits, with up to so many threads; phases end, are closed, or their disk stops
+again                                        each growth call is made, once more where memory is refused
 ";
 
 fn main(rt: HostRuntime) -> io::Result<ExitCode> {
@@ -76,7 +79,7 @@ fn main(rt: HostRuntime) -> io::Result<ExitCode> {
 }
 
 /// Does the work.
-fn figures_of<E: Threads + Wait + Clock + Files<File = File> + AllocGlobal + Eprint + Sync>(
+fn figures_of<E: Threads + Wait + Clock + Files<File = File> + AllocGlobal + Print + Eprint + Sync>(
     rt: &E,
     work: Work,
 ) -> Result<Vec<Figure>, SpeedFault> {
@@ -91,6 +94,7 @@ fn figures_of<E: Threads + Wait + Clock + Files<File = File> + AllocGlobal + Epr
         Work::Durable(sizes) => durable(rt, rt.alloc(), sizes),
         Work::Waits(sizes) => waits(rt, rt.alloc(), sizes),
         Work::Stress(sizes) => stress(rt, rt.alloc(), sizes),
+        Work::Again => again(rt, rt.alloc()),
     }
 }
 

@@ -208,10 +208,3 @@ impl<'a> Seated<'a> {
         }
     }
 }
-
-/// All that there is, read by this seat piece by piece. Refused `Memory`, where there is no seat.
-pub fn total_by(seat: Option<Seated>) -> Result<Total, SpeedFault> {
-    let mut last = seat.ok_or(SpeedFault::Memory)?;
-    last.look()?;
-    Ok(last.total())
-}

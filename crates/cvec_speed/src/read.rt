@@ -233,6 +233,18 @@ fn read_by_threads<E: Threads + Wait + Clock + Sync>(
     Ok(figures)
 }
 
+/// Reads from a snapshot, at random and in a row.
+fn read_snapshot<E: Threads + Wait + Clock + Sync>(
+    rt: &E,
+    alloc: Global,
+    snapshot: &Snapshot<'_, u64>,
+    sizes: ReadSizes,
+) -> Result<Vec<Figure>, SpeedFault> {
+    let mut figures = read_by_threads(rt, alloc, snapshot, sizes)?;
+    figures.push(read_in_a_row(rt, snapshot, sizes)?)?;
+    Ok(figures)
+}
+
 /// Reads in order, then, from a snapshot, at random and in a row.
 fn read_all<E: Threads + Wait + Clock + Sync>(
     rt: &E,
@@ -242,8 +254,7 @@ fn read_all<E: Threads + Wait + Clock + Sync>(
 ) -> Result<Vec<Figure>, SpeedFault> {
     let in_order = read_in_order(rt, own, sizes.n)?;
     let snapshot = own.snapshot()?;
-    let mut figures = read_by_threads(rt, alloc, &snapshot, sizes)?;
-    figures.push(read_in_a_row(rt, &snapshot, sizes)?)?;
+    let mut figures = read_snapshot(rt, alloc, &snapshot, sizes)?;
     figures.push(in_order)?;
     Ok(figures)
 }

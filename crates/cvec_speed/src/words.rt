@@ -28,6 +28,8 @@ pub enum Work<'a> {
     Waits(WaitsSizes),
     /// Phases with up to so many threads, that end in each way.
     Stress(WaitsSizes),
+    /// Each growth call, once more where memory is refused: lines of its own, and no figure.
+    Again,
 }
 
 /// Why words name no work.
@@ -197,6 +199,7 @@ pub fn read_words(words: &[String]) -> Result<Work<'_>, WordsFault> {
         "durable" => durable_work(sizes),
         "waits" => waits_work(sizes),
         "stress" => stress_work(sizes),
+        "again" => Some(Work::Again),
         _ => return Err(WordsFault::NoWork),
     };
     work.ok_or(WordsFault::NoSize)
