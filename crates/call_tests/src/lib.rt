@@ -1,4 +1,4 @@
-//! What real files alone show, and one happy path for each call that no program makes.
+//! What running threads and real files alone show, and one happy path for each call that no program makes.
 #![tactic(auto)]
 
 mod nought;

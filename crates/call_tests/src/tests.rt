@@ -1,11 +1,19 @@
-//! What no clause says: that calls succeed, worked values, and real files.
+//! What no clause says: that calls succeed, worked values, real files, and threads that meet, wait, wake and lose nothing.
 
+mod beside;
 mod blocks;
+mod broken_crew;
+mod crews;
+mod directory;
 mod disks;
 mod files;
+mod filling;
 mod growths;
+mod lent;
 mod limits;
+mod meeting;
 mod noting;
 mod opening;
 mod segments;
+mod squares;
 mod vaults;

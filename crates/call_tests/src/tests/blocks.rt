@@ -1,21 +1,9 @@
 //! Blocks: their greatest length, and what was written through what they lend.
 
+use super::squares::Squares;
 use block_core::{Entry, Fresh, FreshFault, Label, Touch};
 use std::alloc::Global;
 use std::test::Fail;
-
-/// The square of the place, whatever stood there.
-struct Squares;
-
-impl Touch<u64> for Squares {
-    ghost use Rattle.std.specs.Prelude.{◌*◌};
-
-    ghost one = { λ _ at _. at * at };
-
-    fn one(&self, at: u64, _r: u64) -> u64 {
-        at * at
-    }
-}
 
 /// Why no block of so many records is made.
 fn refused(alloc: Global, n: u64) -> Option<FreshFault> {

@@ -1,0 +1,183 @@
+//! Crews of many growers and of one; sources and gates that stop.
+
+ghost use Rattle.std.specs.Prelude.{◌≡◌, ◌+◌, ◌*◌, ◌^◌, ◌∷◌, []};
+
+use block_core::{Fresh, FreshFault};
+use book_core::{GrowFault, Receipt};
+use disk_core::RamDisk;
+use segment_core::Format;
+use std::alloc::Global;
+use std::sync::Wait;
+use std::test::Fail;
+use std::thread::Threads;
+use vault_core::{Crewed, Gate, Source, Vault, crew};
+
+/// A gate that lets all pass.
+#[derive(Drop)]
+pub(super) struct Open;
+
+impl Gate for Open {
+    ghost may_stop = { λ _ _ _. ⊥ };
+
+    fn before(&self, _grower: u16, _k: u32) -> bool {
+        true
+    }
+
+    fn after(&self, _grower: u16, _receipt: &Receipt) {}
+}
+
+/// For each of some growers as many growths of one record, which tells grower and number.
+#[derive(Drop)]
+struct Named {
+    growers: u16,
+    count: u32,
+}
+
+impl Source<u64> for Named {
+    ghost growers_of = { λ s. s.growers };
+
+    ghost count_of = { λ s _. s.count };
+
+    ghost block_of = { λ s grower k. (grower * 2 ^ 32 + k) ∷ [] };
+
+    fn growers(&self) -> u16 {
+        self.growers
+    }
+
+    fn count(&self, _grower: u16) -> u32 {
+        self.count
+    }
+
+    fn block(&self, alloc: Global, grower: u16, k: u32) -> Result<Fresh<u64>, FreshFault> {
+        Fresh::from_slice(alloc, &[name_of(grower, k)])
+    }
+}
+
+/// The record of that growth.
+fn name_of(grower: u16, k: u32) -> u64
+    ensures { result ≡ grower * 2 ^ 32 + k }
+{
+    grower as u64 * (1 << 32) + k as u64
+}
+
+/// Whether each receipt's growth stands at its range, and those of a grower are in order.
+fn stand(vault: &Vault<u64, RamDisk>, receipts: &[Vec<Receipt>]) -> bool {
+    for (grower, its) in receipts.iter().enumerate() {
+        for (k, receipt) in its.iter().enumerate() {
+            let Ok(number) = u32::try_from(k) else {
+                return false;
+            };
+            let record = name_of(receipt.seat, number);
+            let named = receipt.seat as usize == grower && receipt.serial == k as u64;
+            if !named || receipt.len != 1 || vault.get(receipt.start) != Some(&record) {
+                return false;
+            }
+        }
+    }
+    true
+}
+
+/// A crew over a new file.
+fn grow<S: Source<u64>, G: Gate, E: Threads + Wait + Sync>(
+    rt: &E,
+    alloc: Global,
+    source: &S,
+    gate: &G,
+) -> Result<Crewed<u64, RamDisk>, Fail> {
+    let Ok(vault) = Vault::create_as(alloc, RamDisk::new(alloc), Format::One) else {
+        return Err(Fail::from("no vault"));
+    };
+    match crew(rt, alloc, vault, source, gate) {
+        Ok(crewed) => Ok(crewed),
+        Err(_) => Err(Fail::from("no crew")),
+    }
+}
+
+/// How many records a crew's vault has, how many receipts its growers have, and whether each growth stands at its range.
+fn sum_of(crewed: &Crewed<u64, RamDisk>) -> (u64, usize, bool) {
+    let mut receipts = 0usize;
+    for its in crewed.receipts.iter() {
+        receipts = receipts.wrapping_add(its.len());
+    }
+    let whole = stand(&crewed.vault, crewed.receipts.as_slice());
+    (crewed.vault.len(), receipts, whole)
+}
+
+#[test]
+fn crews_of_many_and_of_one_grow_all(rt: HostRuntime) -> Result<(), Fail> {
+    for (growers, count, all) in [(64, 1_000, 64_000), (1, 100, 100), (1, 0, 0), (3, 9, 27)] {
+        let source = Named { growers, count };
+        let crewed = grow(&rt, rt.alloc(), &source, &Open)?;
+        assert_eq!(rt; sum_of(&crewed), (all, all as usize, true));
+    }
+    Ok(())
+}
+
+/// A gate that stops each grower before one of its growths.
+#[derive(Drop)]
+struct StopsAt {
+    k: u32,
+}
+
+impl Gate for StopsAt {
+    ghost may_stop = { λ gate _ k. k ≡ gate.k };
+
+    fn before(&self, _grower: u16, k: u32) -> bool {
+        k != self.k
+    }
+
+    fn after(&self, _grower: u16, _receipt: &Receipt) {}
+}
+
+#[test]
+fn a_gate_stops_growers_without_a_fault(rt: HostRuntime) -> Result<(), Fail> {
+    let source = Named {
+        growers: 2,
+        count: 5,
+    };
+    for (k, all) in [(0, 0), (3, 6), (5, 10)] {
+        let crewed = grow(&rt, rt.alloc(), &source, &StopsAt { k })?;
+        let stopped = (
+            sum_of(&crewed),
+            crewed.faults.as_slice() == [None, None].as_slice(),
+        );
+        assert_eq!(rt; stopped, ((all, all as usize, true), true));
+    }
+    Ok(())
+}
+
+/// A source that has no memory left for the second block of its second grower.
+#[derive(Drop)]
+struct Exhausted;
+
+impl Source<u64> for Exhausted {
+    ghost growers_of = { λ _. 3 };
+
+    ghost count_of = { λ _ _. 4 };
+
+    ghost block_of = { λ _ grower k. (grower * 2 ^ 32 + k) ∷ [] };
+
+    fn growers(&self) -> u16 {
+        3
+    }
+
+    fn count(&self, _grower: u16) -> u32 {
+        4
+    }
+
+    fn block(&self, alloc: Global, grower: u16, k: u32) -> Result<Fresh<u64>, FreshFault> {
+        if grower == 1 && k == 1 {
+            return Err(FreshFault::Memory);
+        }
+        Fresh::from_slice(alloc, &[name_of(grower, k)])
+    }
+}
+
+#[test]
+fn a_refused_block_stops_its_grower_alone(rt: HostRuntime) -> Result<(), Fail> {
+    let crewed = grow(&rt, rt.alloc(), &Exhausted, &Open)?;
+    let faults = [None, Some(GrowFault::Memory), None];
+    let same = crewed.faults.as_slice() == faults.as_slice();
+    assert_eq!(rt; (sum_of(&crewed), same), ((9, 9, true), true));
+    Ok(())
+}
