@@ -288,7 +288,7 @@ fn about_pen(fault: PenFault) -> &'static str {
             "version 1 has no change of many runs; it is as it was; `cvec upgrade` first",
         PenFault::Runs => "the runs are empty, overlap or don't ascend; it is as it was",
         PenFault::Broken =>
-            "the system didn't write it, or put it on the device, which may be full; it opens to the vector of before, with what was told since",
+            "the system didn't write it, or put it on the device, which may be full; restart the system, and it opens to the vector of before, with what was told since",
         PenFault::Busy | PenFault::Disk(_) =>
             "it opens to the vector of before this command, or to the one behind it",
     }
@@ -300,7 +300,7 @@ fn write_vault<W: fmt::Write>(f: &mut Formatter<W>, name: &str, fault: VaultFaul
             let about = about_disk(fault);
             write!(
                 f,
-                "{name}: {about}; it opens to a vector that was settled, or to what this command was making; mend the device, then give the command again"
+                "{name}: {about}; it opens to a vector that was settled, or to what this command was making; mend the device, restart the system, then give the command again"
             )
         }
         VaultFault::Pen(fault) => {
@@ -332,7 +332,7 @@ fn write_growth_fault<W: fmt::Write>(
         ),
         VaultFault::Pen(PenFault::Broken) | VaultFault::Unsettled(_) => write!(
             f,
-            "{name}: the system didn't write it, or put it on the device, which may be full; it opens to the vector of before, and behind it some of the growths; `cvec check` tells how many records there are"
+            "{name}: the system didn't write it, or put it on the device, which may be full; restart the system, and it opens to the vector of before, and behind it some of the growths; `cvec check` tells how many records there are"
         ),
         fault => write_vault(f, name, fault),
     }
@@ -343,10 +343,11 @@ fn about_served(fault: VaultFault) -> &'static str {
     match fault {
         VaultFault::Pen(PenFault::Disk(fault)) => about_disk(fault),
         VaultFault::Pen(PenFault::Broken) =>
-            "the system didn't write it, or put it on the device, which may be full",
+            "the system didn't write it, or put it on the device, which may be full; restart the system before it is opened again",
         VaultFault::Pen(PenFault::FileFull) => "it is as long as such a file can become",
         VaultFault::Pen(PenFault::Memory) => "there is not enough memory",
-        _ => "not all growths of the clients are known to be on the device",
+        _ =>
+            "not all growths of the clients are known to be on the device; restart the system before it is opened again",
     }
 }
 
@@ -356,10 +357,7 @@ fn write_served_fault<W: fmt::Write>(
     fault: VaultFault,
 ) -> fmt::Result {
     let about = about_served(fault);
-    write!(
-        f,
-        "{name}: {about}; what stood before stands, and what a client was told is settled"
-    )
+    write!(f, "{name}: {about}; what stood before stands")
 }
 
 fn write_stopped<W: fmt::Write>(f: &mut Formatter<W>, name: &str, stopped: Stopped) -> fmt::Result {
