@@ -127,6 +127,15 @@ threads_that_wait_are_woken_in_each_phase() (
     done
 )
 
+# Phases of 1 to 4 threads: one of three makes all its rounds, one is closed in its midst, and the disk of one stops.
+threads_come_to_their_end_however_a_phase_ends() (
+    measure 300 "$speed" stress threads=4 phases=900 rounds=20
+    cat "$err"
+    [ "$status" -eq 0 ]
+    [ ! -s "$err" ]
+    grep -qF '{"work":"stress","threads":4,' "$out"
+)
+
 # ---- the program that measures: each work runs, and finds the content that it grew
 
 # The program that measures does this work on these sizes, in a folder of its own, and tells these numbers of records.
@@ -167,6 +176,23 @@ more_blocks_than_a_phase_has_room_for_are_no_work() (
 works_on_a_file_count_what_they_wrote() (
     counts '' open-build "dir=$work/dir" block=16 n=300001
     counts 1600 durable "dir=$work/dir" mode=flow threads=2 block=16 n=101 box_ms=1
+)
+
+# The thread waits for the last of 64 blocks of 32 KiB, and a frame holds half of them.
+a_thread_waits_for_more_than_one_frame_holds() (
+    rm -rf "$work/dir"
+    mkdir "$work/dir"
+    measure 60 "$speed" durable "dir=$work/dir" mode=wait64 threads=1 block=4096 n=262144 box_ms=1
+    cat "$err" "$out"
+    [ "$status" -eq 0 ]
+    [ ! -s "$err" ]
+    n=$(sed 's/.*"n":\([0-9]*\),.*/\1/' "$out")
+    [ $((n % 262144)) -eq 0 ]
+    run check u64 "$work/dir/vector.cvec"
+    [ "$status" -eq 0 ]
+    read -r _ _ _ _ _ _ size _ frames _ <"$out"
+    [ "$size" -eq "$n" ]
+    [ "$frames" -gt $((n / 262144)) ]
 )
 
 a_file_that_was_built_is_opened() (
