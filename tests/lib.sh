@@ -1,5 +1,6 @@
 # What the shell tests are written in. A script that reads this has set: `top`, the repository; `work`, the folder of a
-# test's files; `reasons`, a file for what can't run and why; `passed`, `failed` and `skipped`, which `try` counts.
+# test's files; `reasons`, a file for what can't run and why; `passed`, `failed` and `skipped`, which `try` counts, and
+# `tried`, the number of tests that it ran.
 # shellcheck shell=sh disable=SC2154
 
 # ---- what a test is written in
@@ -15,6 +16,18 @@ lacks() {
 
 # With this status a test ends that can't run.
 is_skipped=77
+
+# With this status a test ends that ran several, by `counted`.
+is_counted=78
+
+# Runs, as the last step of a test, a program that counts tests of its own, and leaves its status. Its counts stand in
+# place of the test's.
+counted() {
+    status=0
+    "$@" || status=$?
+    echo "$status" >"$work/status"
+    exit "$is_counted"
+}
 
 # Runs the program with these words on the file $in. What it writes goes to the file $out and, on standard error, to
 # $err, and its status to $status.
@@ -158,6 +171,7 @@ is_measurer_there() {
 
 # Runs a test alone, with files of its own. A test is a function in parentheses, which ends at what first fails.
 try() {
+    tried=$((tried + 1))
     rm -rf "${work:?}"/*
     in=$work/in out=$work/out err=$work/err
     : >"$in"
@@ -168,6 +182,11 @@ try() {
     case $? in
     0) passed=$((passed + 1)) ;;
     "$is_skipped") skipped=$((skipped + 1)) ;;
+    "$is_counted")
+        add_counts "$work/told" "$(cat "$work/status")"
+        add_skipped "$work/told"
+        grep -vx '[0-9]* passed, [0-9]* failed\|[0-9]* skipped: .*' "$work/told"
+        ;;
     *)
         failed=$((failed + 1))
         echo "FAILED: $1"
@@ -183,4 +202,12 @@ add_counts() {
     [ "$2" -eq 0 ] || [ "${counts#* }" -gt 0 ] || counts="${counts% *} 1"
     passed=$((passed + ${counts% *}))
     failed=$((failed + ${counts#* }))
+}
+
+# Adds how many a run skipped, by the line before its last one, and notes why.
+add_skipped() {
+    counts=$(tail -n 2 "$1" | sed -n '1s/^\([0-9][0-9]*\) skipped: ..*$/\1/p')
+    [ -n "$counts" ] || return 0
+    skipped=$((skipped + counts))
+    tail -n 2 "$1" | sed -n '1s/^[0-9]* skipped: //p' | sed 's/; /\n/g' >>"$reasons"
 }

@@ -134,6 +134,27 @@ what_does_not_run_has_failed() (
     answers 1 'FAILED: there is no program to test\n0 passed, 1 failed\n'
 )
 
+# The counts of a program stand in place of the test's that runs it. Where its status is bad, or it has none, it failed.
+a_test_that_runs_several_is_counted_by_them() (
+    seeming_tests
+    printf '%s() (\n    %s\n)\n' several 'counted sh "$top/several"' >"$there/tests/shell/first.sh"
+    echo 'echo why; echo "2 skipped: no x; no y"; echo "3 passed, 1 failed"; exit 1' >"$there/several"
+    run_tests_there first
+    answers 1 'why\nfirst: 3 passed, 1 failed, 2 skipped\n2 skipped: no x; no y\n3 passed, 1 failed\n'
+    echo 'echo "3 passed, 0 failed"; exit 1' >"$there/several"
+    run_tests_there first
+    answers 1 'first: 3 passed, 1 failed\n3 passed, 1 failed\n'
+    echo 'echo "3 passed, 0 failed"' >"$there/several"
+    run_tests_there first
+    answers 0 'first: 3 passed, 0 failed\n3 passed, 0 failed\n'
+    for what in 'echo why' 'echo "0 passed, 0 failed"'; do
+        echo "$what" >"$there/several"
+        run_tests_there first
+        [ "$status" -eq 1 ]
+        tail -n 1 "$out" | grep -qx '0 passed, 1 failed'
+    done
+)
+
 # What a test began ends with the script that runs the tests.
 tests_that_are_ended_leave_nothing_running() (
     seeming_tests
