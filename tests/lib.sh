@@ -149,6 +149,11 @@ make_c_library() {
 # What stands in this file, as the program takes it.
 hex_of() { od -An -v -tx1 "$1" | tr -d ' \n'; }
 
+make_python_library() {
+    make_c_library
+    cc -shared -o "$work/libcvec.so" "$work/cvec_file.o" -Wl,--whole-archive "$c_library" -Wl,--no-whole-archive "$kit_library"
+}
+
 # The program shows the same lines of the file as were written to $out.
 is_shown_as_written() {
     hex_of "$2" >"$in"

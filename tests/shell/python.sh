@@ -2,11 +2,6 @@
 
 # ---- the library for C, and its callers, built as docs/use/c.md says
 
-make_python_library() {
-    make_c_library
-    cc -shared -o "$work/libcvec.so" "$work/cvec_file.o" -Wl,--whole-archive "$c_library" -Wl,--no-whole-archive "$kit_library"
-}
-
 # Runs this example in Python with further words.
 python_runs() {
     example=$1
