@@ -24,7 +24,7 @@ a_killed_store_of_samples_goes_on() (
     [ "$(cat "$out")" = "$((found + 3000)) samples were there, 60 batches are new" ]
 )
 
-# The page of the examples shows what they write; the gate runs the third one, postings.
+# The page of the examples shows what they write, in blocks that tests/blocks leaves to this test.
 the_page_of_the_examples_shows_what_they_write() (
     built_examples
     cd "$work"
@@ -33,8 +33,9 @@ the_page_of_the_examples_shows_what_they_write() (
         "$examples" collect
         "$examples" samples samples.cv
         "$examples" samples samples.cv
+        "$examples" postings vector block settled lock absent <"$top/crates/examples/stdin"
     } >"$out"
-    [ "$(wc -l <"$out")" -eq 3 ]
+    [ "$(wc -l <"$out")" -eq 8 ]
     while read -r line; do
         grep -qxF "$line" "$top/examples/rattle/README.md"
     done <"$out"
