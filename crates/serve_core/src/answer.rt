@@ -9,7 +9,7 @@ use record_core::{Record, append_records};
 use std::alloc::AllocError;
 
 /// What a client is told.
-#[derive(Clone, Copy, Debug, PartialEq, Eq)]
+#[derive(Clone, Copy)]
 pub enum Answer {
     /// The seat's conversation has ended as asked.
     Ended,
@@ -26,7 +26,7 @@ pub enum Answer {
 }
 
 /// The numbers of an answer's head but for the count of its records.
-#[derive(Clone, Copy, Debug, PartialEq, Eq)]
+#[derive(Clone, Copy)]
 pub struct Numbers {
     /// 0 where it is done; else the number that stands for the refusal.
     pub status: u32,

@@ -4,50 +4,38 @@ ghost use Rattle.std.specs.Prelude.{◌≡◌};
 ghost use Rattle.serve_core.specs.Answers.{code_of, ends_talk, refusal_of_growth};
 
 use book_core::GrowFault;
-use thiserror::Error;
+use std::error::Error;
+use std::fmt;
 
 /// Why a client's request is refused. Behind the first six the seat's conversation ends, since what follows can't be told from
 /// a request; behind the others it goes on.
-#[derive(Clone, Copy, Debug, PartialEq, Eq, Error)]
+#[derive(Clone, Copy, Debug, PartialEq, Eq)]
 pub enum Refusal {
     /// There is no request of this kind.
-    #[error("unknown kind")]
     UnknownKind,
     /// A number that the request doesn't have isn't 0.
-    #[error("stray number")]
     StrayNumber,
     /// A growth or a read of no record.
-    #[error("no record")]
     NoRecord,
     /// A growth or a read of more records than one frame of the file holds.
-    #[error("too many records")]
     TooMany,
     /// The bytes of a record of the growth are no record of the file's type.
-    #[error("bad record")]
     BadRecord,
     /// There is no memory for the growth's bytes.
-    #[error("no memory")]
     NoMemory,
     /// There is no memory for the growth.
-    #[error("memory")]
     Memory,
     /// The server takes no more growths: it is closed.
-    #[error("closed")]
     Closed,
     /// It has taken as many growths as it may from its start on.
-    #[error("full")]
     Full,
     /// The vector would have more than 2^32 records.
-    #[error("too long")]
     TooLong,
     /// A growth doesn't follow those before it.
-    #[error("strayed")]
     Strayed,
     /// It isn't settled, and won't be: the server has ended.
-    #[error("ended")]
     Ended,
     /// It isn't known to be settled, and nothing more will be: the file refused.
-    #[error("broken")]
     Broken,
 }
 
@@ -70,6 +58,25 @@ impl Refusal {
             Refusal::Strayed => 11,
             Refusal::Ended => 12,
             Refusal::Broken => 13,
+        }
+    }
+
+    /// Its name, as it is printed.
+    fn name(self) -> &'static str {
+        match self {
+            Refusal::UnknownKind => "unknown kind",
+            Refusal::StrayNumber => "stray number",
+            Refusal::NoRecord => "no record",
+            Refusal::TooMany => "too many records",
+            Refusal::BadRecord => "bad record",
+            Refusal::NoMemory => "no memory",
+            Refusal::Memory => "memory",
+            Refusal::Closed => "closed",
+            Refusal::Full => "full",
+            Refusal::TooLong => "too long",
+            Refusal::Strayed => "strayed",
+            Refusal::Ended => "ended",
+            Refusal::Broken => "broken",
         }
     }
 
@@ -109,3 +116,11 @@ impl Refusal {
         }
     }
 }
+
+impl fmt::Display for Refusal {
+    fn fmt<W: fmt::Write>(&self, f: &mut fmt::Formatter<W>) -> fmt::Result {
+        f.write_str(self.name())
+    }
+}
+
+impl Error for Refusal {}

@@ -9,7 +9,7 @@ use crate::refusal::Refusal;
 pub const HEAD_LEN: usize = 16;
 
 /// What a client asks.
-#[derive(Clone, Copy, Debug, PartialEq, Eq)]
+#[derive(Clone, Copy)]
 pub enum Request {
     /// No more.
     End,
@@ -24,7 +24,7 @@ pub enum Request {
 }
 
 /// The numbers of a request's head.
-#[derive(Clone, Copy, Debug, PartialEq, Eq)]
+#[derive(Clone, Copy)]
 pub struct Head {
     /// What is asked for: 0 the end, 1 a growth, 2 to await, 3 to look, 4 to read.
     pub kind: u32,
