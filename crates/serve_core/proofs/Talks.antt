@@ -6,15 +6,20 @@ use Rattle.std.proofs.lemmas.List.{length-append, append-nil}
 use Rattle.std.proofs.lemmas.List.Elements.{All-nil, All-cons, All-push, All-weaker, Contains-append_left, Contains-push}
 use Rattle.std.proofs.lemmas.Bool.{cases_lt}
 use Rattle.record_core.specs.Bytes.{Encoding}
+use Rattle.record_core.specs.Cells.{AreRecords}
 use Rattle.block_core.specs.Growth.{Growth}
+use Rattle.book_core.specs.declared.fault.GrowFault.TheVariants as faults
 use Rattle.book_core.specs.declared.seat.Receipt.{Receipt}
 use Rattle.book_core.specs.Lists.{Phase, Seated, IsSeatOf}
-use Rattle.book_core.specs.Growing.{Grown, SeatIsTold, growth_of}
+use Rattle.book_core.specs.Growing.{Grown, SeatIsTold, IsBookRefusal, growth_of}
 use Rattle.book_core.specs.Marks.{MarkEnd}
 use Rattle.book_core.specs.declared.mark.MarkState.{MarkState}
+use Rattle.serve_core.specs.declared.refusal.Refusal.{Refusal}
+use Rattle.serve_core.specs.declared.refusal.Refusal.TheVariants as refusals
 use Rattle.serve_core.specs.declared.talking.TalkEnd.{TalkEnd}
 use Rattle.serve_core.specs.declared.talking.TalkEnd.TheVariants.{Ended, Gone, Refused, OutputFailed, Memory}
 use Rattle.serve_core.specs.Answers.{answer_bytes}
+use Rattle.serve_core.specs.Talks.{IsBlock, HasRecords, IsRecordsRefusal, IsOfRecords, IsGrowthRefusal, IsOfGrowth}
 use Rattle.serve_core.specs.Talks.{AllBelow, IsNextOf, HasUnsettled, AreExchanges, Exchange, IsExchange, IsOfRequest, IsDone, IsUntold, TalkGoesOn, AllGoOn, EndsTalk, EndsSo, HasTalked, asked, told, told_of}
 use Rattle.serve_core.specs.Requests.{IsHead, head_of}
 use Rattle.serve_core.specs.declared.request.Head.{Head}
@@ -218,3 +223,32 @@ pub some_exchange : {R X : Type 0} (form : Encoding R) (live : Phase R) (old new
     → IfSome result (λ r. IsExchange form live old (record { head = head; block = block; answer = r.0; records = records r.1 }) new)
 some_exchange form live old new head block numbers request records None is of told = tt
 some_exchange form live old new head block numbers request records (Some r) is of told = record { numbers = numbers; head = is; told = inr (record { request = request; is = of; told = told }) }
+
+-- the records are those of a block
+module _ {R : Type 0} (form : Encoding R) (live : Phase R) (count : ℕ) (block : List ℕ) (records : List R) (bytes : IsBlock form.width count block)
+    (len : length records ≡ count) (are : AreRecords form block records) where
+  abbrev has : HasRecords form count block
+  has = record { bytes = bytes; records = records; len = len; are = are }
+
+  refused_so : (refusal : Refusal) (seat : Seated R) → IsRecordsRefusal live (length records) seat refusal → IsGrowthRefusal form live count block seat refusal
+  refused_so refusals.UnknownKind seat why = absurd why
+  refused_so refusals.StrayNumber seat why = absurd why
+  refused_so refusals.NoRecord seat why = absurd why
+  refused_so refusals.TooMany seat why = absurd why
+  refused_so refusals.BadRecord seat why = absurd why
+  refused_so refusals.NoMemory seat why = absurd why
+  refused_so refusals.Memory seat why = bytes
+  refused_so refusals.Closed seat why = (has, subst (λ n. IsBookRefusal live seat n faults.Closed) len why)
+  refused_so refusals.Full seat why = (has, subst (λ n. IsBookRefusal live seat n faults.Full) len why)
+  refused_so refusals.TooLong seat why = (has, subst (λ n. IsBookRefusal live seat n faults.TooLong) len why)
+  refused_so refusals.Strayed seat why = (has, why.0, subst (λ n. IsBookRefusal live seat n (faults.Strayed why.0)) len why.1)
+  refused_so refusals.Ended seat why = absurd why
+  refused_so refusals.Broken seat why = absurd why
+
+  pub growth_of_records : (old new : Seated R) (answer : Answer) → IsOfRecords live records old new answer → IsOfGrowth form live count block old new answer
+  growth_of_records old new answers.Ended is = absurd is
+  growth_of_records old new (answers.Grown number start) is = (has, is.0, is.1, is.2, is.3)
+  growth_of_records old new (answers.Settled growths) is = absurd is
+  growth_of_records old new (answers.Looked size settled) is = absurd is
+  growth_of_records old new (answers.Piece start) is = absurd is
+  growth_of_records old new (answers.Refused refusal) is = (is.0, refused_so refusal new is.1)

@@ -78,6 +78,27 @@ IsOfGrowth {R} form live count block old new (answers.Grown number start) =
 IsOfGrowth form live count block old new (answers.Refused refusal) = SeatLearns old new × IsGrowthRefusal form live count block new refusal
 IsOfGrowth form live count block old new other = ⊥
 
+-- why the bytes of a block aren't read as so many records
+abbrev pub IsUnread : {R : Type 0} → Encoding R → ℕ → List ℕ → Refusal → Type 0
+IsUnread form count block refusals.BadRecord = (i : ℕ) × IsFirstBad form block count i
+IsUnread form count block refusals.Memory = Unit {0}
+IsUnread form count block other = ⊥
+
+-- why so many records aren't grown, told a seat that is then this
+abbrev pub IsRecordsRefusal : {R : Type 0} → Phase R → ℕ → Seated R → Refusal → Type 0
+IsRecordsRefusal live n seat refusals.Memory = Unit {0}
+IsRecordsRefusal live n seat refusals.Closed = IsBookRefusal live seat n faults.Closed
+IsRecordsRefusal live n seat refusals.Full = IsBookRefusal live seat n faults.Full
+IsRecordsRefusal live n seat refusals.TooLong = IsBookRefusal live seat n faults.TooLong
+IsRecordsRefusal live n seat refusals.Strayed = (k : ℕ) × IsBookRefusal live seat n (faults.Strayed k)
+IsRecordsRefusal live n seat other = ⊥
+
+-- what a seat is told of a growth by these records
+abbrev pub IsOfRecords : {R : Type 0} → Phase R → List R → Seated R → Seated R → Answer → Type 0
+IsOfRecords live records old new (answers.Grown number start) = (receipt : Receipt) × Grown live old new records receipt × (receipt.number ≡ number) × (receipt.start ≡ start)
+IsOfRecords live records old new (answers.Refused refusal) = SeatLearns old new × IsRecordsRefusal live (length records) new refusal
+IsOfRecords live records old new other = ⊥
+
 -- no more is settled: the server has ended, or the file refused
 abbrev pub IsOverRefusal : MarkState → Refusal → Type 0
 IsOverRefusal states.Ended refusal = refusal ≡ refusals.Ended
@@ -110,6 +131,10 @@ IsOfReading {R} form live start count old new (answers.Piece at) records =
     × (((length (list_of live old) ≤ start) × (records ≡ [])) ⊎ ((rest : List R) × IsRestOfPiece (pieces_of live old) start rest × (records ≡ take count rest)))
 IsOfReading form live start count old new (answers.Refused refusal) records = (new ≡ old) × (records ≡ []) × IsCountRefusal form.width count refusal
 IsOfReading form live start count old new other records = ⊥
+
+-- the request is all in its head
+abbrev pub IsNoGrowth : Request → Type 0
+IsNoGrowth request = (count : ℕ) → request ≡ requests.Grow count → ⊥
 
 -- What is told of a request with these bytes behind its head.
 abbrev pub IsOfRequest : {R : Type 0} → Encoding R → Phase R → Request → List ℕ → Seated R → Seated R → Answer → List R → Type 0

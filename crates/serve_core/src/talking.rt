@@ -2,11 +2,12 @@
 
 ghost use Rattle.std.specs.Prelude.{◌≡◌, ◌≤◌, ◌+◌, ◌*◌, [], length, IfOk, IfErr, IfSome, IfNone, MatchOption, MatchResult};
 ghost use Rattle.std.specs.Io.KnownBytes.{Consumes};
+ghost use Rattle.record_core.specs.Cells.{AreRecords};
 ghost use Rattle.record_core.specs.Limits.{payload_limit};
 ghost use Rattle.block_core.specs.Length.{IsBlockLength};
 ghost use Rattle.book_core.specs.Lists.{IsSeatOf};
 ghost use Rattle.serve_core.specs.Answers.{answer_bytes};
-ghost use Rattle.serve_core.specs.Talks.{IsCountRefusal, IsNextOf, IsBlock, IsOfGrowth, IsOfWaiting, IsOfLooking, IsOfReading, IsOfRequest, Exchange, IsExchange, IsDone, IsUntold, TalkGoesOn, EndsTalk, HasTalked};
+ghost use Rattle.serve_core.specs.Talks.{IsCountRefusal, IsNextOf, IsBlock, IsUnread, IsOfRecords, IsOfGrowth, IsNoGrowth, IsOfWaiting, IsOfLooking, IsOfReading, IsOfRequest, Exchange, IsExchange, IsDone, IsUntold, TalkGoesOn, EndsTalk, HasTalked};
 
 use crate::answer::Answer;
 use crate::refusal::Refusal;
@@ -19,7 +20,7 @@ use std::io::{Read, Write};
 use std::sync::Wait;
 
 /// How a client's conversation ended.
-#[derive(Clone, Copy, Debug, PartialEq, Eq)]
+#[derive(Clone, Copy)]
 pub enum TalkEnd {
     /// The client asked for the end.
     Ended,
@@ -44,6 +45,70 @@ fn check_count<R: Record>(count: u32) -> Result<(), Refusal>
     }
 }
 
+/// The records that the bytes are.
+fn records_of<R: Record>(alloc: Global, count: u32, block: &[u8]) -> Result<Vec<R>, Refusal>
+    requires { length block.now ≡ count * R.form.width }
+    ensures { MatchResult result
+        (λ records. (length records.items ≡ count) × AreRecords R.form block.now records.items)
+        (IsUnread R.form count block.now) }
+{
+    let Ok(mut records) = Vec::with_capacity(alloc, count as usize) else {
+        return Err(Refusal::Memory);
+    };
+    match read_records::<R>(block, count as usize, &mut records) {
+        Ok(()) => Ok(records),
+        Err(RecordsFault::Bad(_)) => Err(Refusal::BadRecord),
+        Err(RecordsFault::Memory) => Err(Refusal::Memory),
+    }
+}
+
+/// Publishes a block as one growth.
+fn grow_fresh<R: Record, E: Wait>(
+    rt: &E,
+    live: &Live<R>,
+    seat: &mut Seat<R>,
+    next: &mut u64,
+    fresh: Fresh<R>,
+) -> Answer
+    requires of { IsSeatOf live.now seat.old }
+    requires numbers { IsNextOf next.old seat.old.made }
+    ensures of { IsSeatOf live.now seat.new }
+    ensures numbers { IsNextOf next.new seat.new.made }
+    ensures told { IsOfRecords live.now fresh seat.old seat.new result }
+{
+    let receipt = match live.grow(rt, seat, fresh) {
+        Ok(receipt) => receipt,
+        Err((_, fault)) => return Answer::Refused(Refusal::of_growth(fault)),
+    };
+    *next = seat.known().max(*next);
+    Answer::Grown {
+        number: receipt.number,
+        start: receipt.start,
+    }
+}
+
+/// Publishes these records as one growth.
+fn grow_records<R: Record, E: Wait>(
+    rt: &E,
+    alloc: Global,
+    live: &Live<R>,
+    seat: &mut Seat<R>,
+    next: &mut u64,
+    records: Vec<R>,
+) -> Answer
+    requires of { IsSeatOf live.now seat.old }
+    requires numbers { IsNextOf next.old seat.old.made }
+    requires len { IsBlockLength R.form.width (length records.items) }
+    ensures of { IsSeatOf live.now seat.new }
+    ensures numbers { IsNextOf next.new seat.new.made }
+    ensures told { IsOfRecords live.now records.items seat.old seat.new result }
+{
+    match Fresh::from_vec(alloc, records) {
+        Ok(fresh) => grow_fresh(rt, live, seat, next, fresh),
+        Err((_, fault)) => Answer::Refused(Refusal::of_growth(fault.into())),
+    }
+}
+
 /// Publishes the records that the bytes are as one growth.
 fn grow_block<R: Record, E: Wait>(
     rt: &E,
@@ -61,26 +126,9 @@ fn grow_block<R: Record, E: Wait>(
     ensures numbers { IsNextOf next.new seat.new.made }
     ensures told { IsOfGrowth R.form live.now count block.now seat.old seat.new result }
 {
-    let Ok(mut records) = Vec::with_capacity(alloc, count as usize) else {
-        return Answer::Refused(Refusal::Memory);
-    };
-    match read_records::<R>(block, count as usize, &mut records) {
-        Ok(()) => {}
-        Err(RecordsFault::Bad(_)) => return Answer::Refused(Refusal::BadRecord),
-        Err(RecordsFault::Memory) => return Answer::Refused(Refusal::Memory),
-    }
-    let fresh = match Fresh::from_vec(alloc, records) {
-        Ok(fresh) => fresh,
-        Err((_, fault)) => return Answer::Refused(Refusal::of_growth(fault.into())),
-    };
-    let receipt = match live.grow(rt, seat, fresh) {
-        Ok(receipt) => receipt,
-        Err((_, fault)) => return Answer::Refused(Refusal::of_growth(fault)),
-    };
-    *next = seat.known().max(*next);
-    Answer::Grown {
-        number: receipt.number,
-        start: receipt.start,
+    match records_of(alloc, count, block) {
+        Ok(records) => grow_records(rt, alloc, live, seat, next, records),
+        Err(refusal) => Answer::Refused(refusal),
     }
 }
 
@@ -191,6 +239,31 @@ fn read<'a, R: Record>(
     (Answer::Piece { start }, &rest[..len])
 }
 
+/// Does what is asked by a head alone.
+fn tell<'a, R: Record, E: Wait>(
+    rt: &E,
+    live: &'a Live<R>,
+    seat: &mut Seat<R>,
+    next: u64,
+    request: Request,
+) -> (Answer, &'a [R])
+    requires of { IsSeatOf live.now seat.old }
+    requires numbers { IsNextOf next seat.old.made }
+    requires short { IsNoGrowth request }
+    ensures of { IsSeatOf live.now seat.new }
+    ensures made { seat.new.made ≡ seat.old.made }
+    ensures told { IsOfRequest R.form live.now request [] seat.old seat.new result.0 result.1.now }
+    ensures few { length result.1.now * R.form.width ≤ payload_limit }
+{
+    match request {
+        Request::End => (Answer::Ended, &[]),
+        Request::Grow { count: _ } => unreachable!(),
+        Request::Await => (await_own(rt, live, seat, next), &[]),
+        Request::Look => (look(live, seat), &[]),
+        Request::Read { start, count } => read(live, seat, start, count),
+    }
+}
+
 /// Does what is asked. `None`: the requests ended in it.
 fn act<'a, R: Record, I: Read, E: Wait>(
     rt: &E,
@@ -213,14 +286,11 @@ fn act<'a, R: Record, I: Read, E: Wait>(
     ensures few { IfSome result (λ r. length r.1.now * R.form.width ≤ payload_limit) }
 {
     match request {
-        Request::End => Some((Answer::Ended, &[])),
         Request::Grow { count } => {
             let told = grow(rt, alloc, live, seat, next, count, requests, block)?;
             Some((told, &[]))
         }
-        Request::Await => Some((await_own(rt, live, seat, *next), &[])),
-        Request::Look => Some((look(live, seat), &[])),
-        Request::Read { start, count } => Some(read(live, seat, start, count)),
+        short => Some(tell(rt, live, seat, *next, short)),
     }
 }
 
@@ -295,6 +365,38 @@ fn end_of(answer: Answer) -> Option<TalkEnd>
     }
 }
 
+/// Answers a client's requests, with room for the bytes of a growth and of an answer.
+fn talk_through<R: Record, I: Read, W: Write, E: Wait>(
+    rt: &E,
+    alloc: Global,
+    live: &Live<R>,
+    seat: &mut Seat<R>,
+    requests: &mut I,
+    answers: &mut W,
+    block: &mut Vec<u8>,
+    out: &mut Vec<u8>,
+) -> TalkEnd
+    requires of { IsSeatOf live.now seat.old }
+    requires none { seat.old.made ≡ [] }
+    ensures of { IsSeatOf live.now seat.new }
+    ensures talked { HasTalked R.form live.now seat.old seat.new (I.remaining requests.old) (I.remaining requests.new) (W.contents answers.old) (W.contents answers.new) result }
+{
+    let mut next = 0;
+    for _ in 0..u64::MAX {
+        let told = match exchange(rt, alloc, live, seat, &mut next, requests, block, out) {
+            Ok(told) => told,
+            Err(end) => return end,
+        };
+        let Ok(()) = answers.write_all(out.as_slice()) else {
+            return TalkEnd::OutputFailed;
+        };
+        if let Some(end) = end_of(told) {
+            return end;
+        }
+    }
+    TalkEnd::Gone
+}
+
 /// Answers a client's requests until it asks for the end, is refused by what ends a conversation, or its streams fail. What
 /// its growths are told as is so also where a later request is refused.
 pub fn talk<R: Record, I: Read, W: Write, E: Wait>(
@@ -310,22 +412,9 @@ pub fn talk<R: Record, I: Read, W: Write, E: Wait>(
     ensures of { IsSeatOf live.now seat.new }
     ensures talked { HasTalked R.form live.now seat.old seat.new (I.remaining requests.old) (I.remaining requests.new) (W.contents answers.old) (W.contents answers.new) result }
 {
-    let mut next = 0;
     let mut block = Vec::new(alloc);
     let mut out = Vec::new(alloc);
-    for _ in 0..u64::MAX {
-        let told = match exchange(
-            rt, alloc, live, seat, &mut next, requests, &mut block, &mut out,
-        ) {
-            Ok(told) => told,
-            Err(end) => return end,
-        };
-        let Ok(()) = answers.write_all(out.as_slice()) else {
-            return TalkEnd::OutputFailed;
-        };
-        if let Some(end) = end_of(told) {
-            return end;
-        }
-    }
-    TalkEnd::Gone
+    talk_through(
+        rt, alloc, live, seat, requests, answers, &mut block, &mut out,
+    )
 }

@@ -1,7 +1,7 @@
 use Rattle.std.proofs.Common.{subst}
 use Rattle.std.specs.Io.KnownBytes.{Appends}
 use Rattle.serve_core.proofs.Talks.{goes_on, ends, fails, untold}
-use Rattle.serve_core.proofs.talking.talk.Goals as goal
+use Rattle.serve_core.proofs.talking.talk_through.Goals as goal
 
 pub returns-in-Some-clause-talked : goal.returns-in-Some-clause-talked
 returns-in-Some-clause-talked g c =
