@@ -1,5 +1,5 @@
 -- What a server leaves.
-use Rattle.std.proofs.Common.{◌≡◌, ◌⊎◌, ℕ, ◌≤◌, List, [], ◌++◌, length, take, inl, inr, refl, sym, ap, subst, ◌∙◌, arith}
+use Rattle.std.proofs.Common.{◌≡◌, ◌⊎◌, ℕ, ◌≤◌, List, [], ◌++◌, length, take, Result, Ok, Err, inl, inr, refl, sym, ap, subst, ◌∙◌, arith}
 use lib.Seq.{take-nil}
 use Rattle.std.proofs.lemmas.List.{append-nil}
 use Rattle.record_core.specs.Bytes.{Encoding}
@@ -15,8 +15,11 @@ use Rattle.book_core.specs.Lists.{Phase, joined_pieces}
 use Rattle.flush_core.specs.Flusher.{FlusherOf, IsFlusherOf, OpensToFirst, OpensToJob}
 use Rattle.flush_core.specs.Serving.{Serves}
 use Rattle.vault_core.specs.Vault.{VaultOf, MayHold, list_of}
+use Rattle.vault_core.specs.Sharing.{Shares}
 use Rattle.vault_core.specs.Crewing.{OpensToGrown}
-use Rattle.serve_core.specs.Serving.{IsServed, IsAllServed, OpensBehind}
+use Rattle.serve_core.specs.declared.serving.ServeFault.{ServeFault}
+use Rattle.serve_core.specs.declared.serving.ServeFault.TheVariants.{Open, Share, Thread, Flush}
+use Rattle.serve_core.specs.Serving.{IsServed, IsAllServed, OpensBehind, IsLeft, ComesBack, IsPhaseLeft}
 
 module _ {R D : Type 0} (form : Encoding R) (keeps : D → Type 0) (states : D → List State) (disk : D) (vault : VaultOf R D)
     (opened : keeps vault.pen.disk → IsOpened form (bytes_of (states disk)) vault.pen (list_of vault)) (syncs : keeps vault.pen.disk → OnlySyncs (states disk) (states vault.pen.disk)) where
@@ -124,3 +127,22 @@ module _ {R D : Type 0} (form : Encoding R) (keeps : D → Type 0) (states : D �
       pub all_settled : served.settled ≡ length served.pass.entries → IsAllServed form states disk left settled
       unfolding was_served
       all_settled all = (was_served, count_is ∙ all)
+
+  -- what came of the phase is left
+  pub phase_left : {X : Type 0} (faults : D → ℕ) (room seats : ℕ) (live : Phase R) (begun : FlusherOf R D) → Shares (keeps vault.pen.disk) vault room seats live begun
+      → (left : D) (settled : ℕ) (result : Result X ServeFault) → IsPhaseLeft form keeps states faults live begun left settled result → keeps left → IsLeft form states disk left settled result
+  phase_left faults room seats live begun shares left settled result ended kept = by_result result ended.comes
+    where
+      unserved : ended.flusher ≡ begun → (served : IsServed form states disk left settled) × (served.growths ≡ [])
+      unserved is =
+          let none : settled ≡ 0 = ended.settled_is ∙ ap (λ (f : FlusherOf R D). f.settled) is ∙ shares.counts.1 in
+          subst (λ n. (served : IsServed form states disk left n) × (served.growths ≡ [])) (sym none)
+          (not_started live begun ended.flusher shares.blocks shares.pen shares.of shares.knows is left ended.disk_is ended.images kept)
+
+      by_result : {X : Type 0} (result : Result X ServeFault) → ComesBack form keeps states faults live begun ended.flusher result → IsLeft form states disk left settled result
+      by_result (Ok x) comes =
+          all_settled live begun ended.flusher shares.blocks shares.pen comes.of comes.served left settled ended.disk_is ended.settled_is ended.known ended.images kept comes.ended.all
+      by_result (Err (Open fault)) comes = absurd comes
+      by_result (Err (Share fault)) comes = unserved comes.1
+      by_result (Err Thread) comes = unserved comes
+      by_result (Err (Flush fault)) comes = was_served live begun ended.flusher shares.blocks shares.pen comes.of comes.served left settled ended.disk_is ended.settled_is ended.known ended.images kept

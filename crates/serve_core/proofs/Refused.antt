@@ -1,12 +1,15 @@
 -- Why clients aren't served.
-use Rattle.std.proofs.Common.{◌≡◌, ◌⊎◌, ℕ, ◌<◌, min, [], ◌∷◌, Bool, false, Option, None, is_some, inl, inr, sym, ap, subst, ◌∙◌, arith}
+use Rattle.std.proofs.Common.{◌≡◌, ◌⊎◌, ℕ, ◌+◌, ◌<◌, ◌≤◌, min, List, [], ◌∷◌, Bool, false, Option, None, Result, Ok, Err, IfErr, is_some, inl, inr, sym, ap, subst, ◌∙◌, arith}
+use Rattle.record_core.specs.Bytes.{Encoding}
+use Rattle.disk_core.specs.State.{State}
 use Rattle.pen_core.specs.declared.fault.PenFault.{PenFault}
 use Rattle.pen_core.specs.declared.fault.PenFault.TheVariants as pens
 use Rattle.pen_core.specs.PenOf.{PenOf, JobOf}
 use Rattle.pen_core.specs.Opening.{IsAtRest}
 use Rattle.pen_core.specs.Refusals.{first_refusal, ready_lines}
 use Rattle.directory_core.specs.Limits.{growth_limit}
-use Rattle.book_core.specs.Beginning.{seat_limit}
+use Rattle.book_core.specs.Beginning.{MayBegin, seat_limit}
+use Rattle.book_core.specs.Lists.{Phase}
 use Rattle.flush_core.specs.declared.fault.FlushFault.{FlushFault}
 use Rattle.flush_core.specs.declared.fault.FlushFault.TheVariants as flushes
 use Rattle.flush_core.specs.Flusher.{FlusherOf}
@@ -14,8 +17,10 @@ use Rattle.flush_core.specs.Serving.{IsServeFault}
 use Rattle.vault_core.specs.declared.fault.VaultFault.{VaultFault}
 use Rattle.vault_core.specs.declared.fault.VaultFault.TheVariants as vaults
 use Rattle.vault_core.specs.Vault.{VaultOf}
-use Rattle.vault_core.specs.Sharing.{IsShareFault, IsNotShared, IsTooLarge}
-use Rattle.serve_core.specs.Serving.{IsShareRefusal, IsStop}
+use Rattle.vault_core.specs.Sharing.{Shares, IsShareFault, IsNotShared, IsTooLarge}
+use Rattle.serve_core.specs.declared.serving.ServeFault.{ServeFault}
+use Rattle.serve_core.specs.declared.serving.ServeFault.TheVariants.{Open, Share, Thread, Flush}
+use Rattle.serve_core.specs.Serving.{IsShareRefusal, IsStop, IsServeRefusal, CountsFailed, ComesBack, IsPhaseLeft, failed_calls}
 
 -- a pen that rests may begin a job
 ready : {D : Type 0} (width size : ℕ) (pen : PenOf D) → IsAtRest width size pen → first_refusal (ready_lines pen) ≡ None
@@ -58,3 +63,67 @@ stopped width old new (flushes.Pen pens.Memory) whole is = is
 stopped width old new (flushes.Pen pens.Exists) whole is = absurd is
 stopped width old new (flushes.Pen (pens.Disk cause)) whole is = is
 stopped width old new (flushes.Strayed number) whole is = (is.1, is.0)
+
+-- the flusher of a phase that was begun over that vault, and what came of it
+module _ {R D X : Type 0} (form : Encoding R) (keeps : D → Type 0) (states : D → List State) (faults : D → ℕ) (vault : VaultOf R D) (room seats : ℕ) (live : Phase R) (begun : FlusherOf R D)
+    (shares : Shares (keeps vault.pen.disk) vault room seats live begun) (left : D) (settled : ℕ) (result : Result X ServeFault)
+    (ended : IsPhaseLeft form keeps states faults live begun left settled result) where
+  -- as many seats as clients, so their number is in bounds
+  in_bounds : (clients : ℕ) → seats ≡ min clients 65535 → MayBegin room seats → (0 < clients) × (clients ≤ seat_limit)
+  in_bounds clients is may = (omega (arith, is, may.seats_in.0), omega (arith, is, may.seats_in.1))
+
+  pub phase_refused : (clients size : ℕ) → seats ≡ min clients 65535 → MayBegin room seats → IsAtRest form.width size vault.pen → IfErr result (IsServeRefusal form keeps states clients left settled)
+  phase_refused clients size is may rest = by_result result ended.comes
+    where
+      whole : begun.pen.broken ≡ false
+      whole = ap (λ (p : PenOf D). p.broken) shares.pen ∙ rest.whole
+
+      by_result : {X : Type 0} (result : Result X ServeFault) → ComesBack form keeps states faults live begun ended.flusher result
+          → IfErr result (IsServeRefusal form keeps states clients left settled)
+      by_result (Ok x) comes = tt
+      by_result (Err (Open fault)) comes = tt
+      by_result (Err (Share fault)) comes = subst (IsShareRefusal clients) (sym comes.0) (in_bounds clients is may)
+      by_result (Err Thread) comes = in_bounds clients is may
+      by_result (Err (Flush fault)) comes = record {
+        flusher = ended.flusher;
+        disk_is = ended.disk_is;
+        settled_is = ended.settled_is;
+        file = ended.images;
+        why = stopped form.width begun ended.flusher fault whole comes.refused;
+      }
+
+  -- the disk is that of the flusher, which is as at the beginning
+  same_disk : ended.flusher ≡ begun → left ≡ vault.pen.disk
+  same_disk is = ended.disk_is ∙ ap (λ (f : FlusherOf R D). f.pen.disk) is ∙ ap (λ (p : PenOf D). p.disk) shares.pen
+
+  pub phase_counts : CountsFailed failed_calls (faults vault.pen.disk) (faults left) result
+  phase_counts = by_result result ended.comes
+    where
+      before : faults begun.pen.disk ≡ faults vault.pen.disk
+      before = ap (λ (p : PenOf D). faults p.disk) shares.pen
+
+      after : faults left ≡ faults ended.flusher.pen.disk
+      after = ap faults ended.disk_is
+
+      by_result : {X : Type 0} (result : Result X ServeFault) → ComesBack form keeps states faults live begun ended.flusher result
+          → CountsFailed failed_calls (faults vault.pen.disk) (faults left) result
+      by_result (Ok x) comes = after ∙ comes.counts ∙ before
+      by_result (Err (Open fault)) comes = absurd comes
+      by_result (Err (Share (vaults.Pen fault))) comes = let is = ap faults (same_disk comes.1) in omega (arith, is)
+      by_result (Err (Share (vaults.Unsettled number))) comes = let is = ap faults (same_disk comes.1) in omega (arith, is)
+      by_result (Err (Share vaults.WrongPhase)) comes = let is = ap faults (same_disk comes.1) in omega (arith, is)
+      by_result (Err Thread) comes = let is = ap faults (same_disk comes) in omega (arith, is)
+      by_result (Err (Flush fault)) comes = let counts = comes.counts in omega (arith, after, counts, before)
+
+  pub phase_keeps : keeps left → keeps vault.pen.disk
+  phase_keeps kept = by_result result ended.comes
+    where
+      goes : (keeps ended.flusher.pen.disk → keeps begun.pen.disk) → keeps vault.pen.disk
+      goes model = subst (λ (p : PenOf D). keeps p.disk) shares.pen (model (subst keeps ended.disk_is kept))
+
+      by_result : {X : Type 0} (result : Result X ServeFault) → ComesBack form keeps states faults live begun ended.flusher result → keeps vault.pen.disk
+      by_result (Ok x) comes = goes comes.served.model
+      by_result (Err (Open fault)) comes = absurd comes
+      by_result (Err (Share fault)) comes = subst keeps (same_disk comes.1) kept
+      by_result (Err Thread) comes = subst keeps (same_disk comes) kept
+      by_result (Err (Flush fault)) comes = goes comes.served.model

@@ -7,7 +7,7 @@ use Rattle.disk_core.specs.State.{State, now, IsImage}
 use Rattle.disk_core.specs.Calls.{bytes_of}
 use Rattle.disk_core.specs.Moments.{LeavesOnly}
 use Rattle.pen_core.specs.Typed.{OpensTo}
-use Rattle.pen_core.specs.Opening.{IsOpenRefusal, OnlySyncs, failed_openings}
+use Rattle.pen_core.specs.Opening.{IsOpened, IsOpenRefusal, OnlySyncs, failed_openings}
 use Rattle.pen_core.specs.declared.fault.PenFault.TheVariants as pens
 use Rattle.block_core.specs.Growth.{Growth}
 use Rattle.directory_core.specs.Chain.{joined}
@@ -20,6 +20,7 @@ use Rattle.flush_core.specs.Serving.{Serves, HasEnded, IsServeFault}
 use Rattle.flush_core.specs.Refusals.{IsNotBegun, failed}
 use Rattle.vault_core.specs.declared.fault.VaultFault.{VaultFault}
 use Rattle.vault_core.specs.declared.fault.VaultFault.TheVariants.{Pen}
+use Rattle.vault_core.specs.Vault.{VaultOf, list_of}
 use Rattle.vault_core.specs.Crewing.{OpensToGrown}
 use Rattle.serve_core.specs.declared.serving.ServeFault.{ServeFault}
 use Rattle.serve_core.specs.declared.serving.ServeFault.TheVariants.{Open, Share, Thread, Flush}
@@ -98,6 +99,30 @@ pub record HasFlushed {R D : Type 0} (form : Encoding R) (keeps : D → Type 0) 
   pub ended : OnOk flushed (HasEnded new)
   pub refused : IfErr flushed (IsServeFault form.width old new)
   pub counts : CountsFailed failed (faults old.pen.disk) (faults new.pen.disk) flushed
+
+-- What came of a flusher whose phase was to be served: it has served; or no client was, for want of memory or of a thread, and
+-- it is as it was.
+abbrev pub ComesBack : {R D X : Type 0} → Encoding R → (D → Type 0) → (D → List State) → (D → ℕ) → Phase R → FlusherOf R D → FlusherOf R D → Result X ServeFault → Type 0
+ComesBack {X = X} form keeps states faults live old new (Ok x) = HasFlushed form keeps states faults live old new {X = X} (Ok x)
+ComesBack form keeps states faults live old new (Err (Open fault)) = ⊥
+ComesBack form keeps states faults live old new (Err (Share fault)) = (fault ≡ Pen pens.Memory) × (new ≡ old)
+ComesBack form keeps states faults live old new (Err Thread) = new ≡ old
+ComesBack {X = X} form keeps states faults live old new (Err (Flush fault)) = HasFlushed form keeps states faults live old new {X = X} (Err fault)
+
+-- That came of a flusher, and it is let go: its disk is left, and it has settled so many growths.
+pub record IsPhaseLeft {R D X : Type 0} (form : Encoding R) (keeps : D → Type 0) (states : D → List State) (faults : D → ℕ) (live : Phase R) (old : FlusherOf R D) (left : D) (settled : ℕ) (result : Result X ServeFault) : Type 0 where
+  pub flusher : FlusherOf R D
+  pub comes : ComesBack form keeps states faults live old flusher result
+  pub disk_is : left ≡ flusher.pen.disk
+  pub settled_is : settled ≡ flusher.settled
+  pub known : settled ≤ length flusher.pass.entries
+  pub images : keeps left → (image : List ℕ) → IsImage (now (states left)) image → OpensToJob form flusher image
+
+-- The vault is as that disk was opened: it has the records of the file, to which nothing was written.
+pub record IsOpenedFrom {R D : Type 0} (form : Encoding R) (keeps : D → Type 0) (states : D → List State) (disk : D) (vault : VaultOf R D) : Type 0 where
+  pub opened : keeps vault.pen.disk → IsOpened form (bytes_of (states disk)) vault.pen (list_of vault)
+  pub only_syncs : keeps vault.pen.disk → OnlySyncs (states disk) (states vault.pen.disk)
+  pub sure : keeps vault.pen.disk → vault.sure ≡ list_of vault
 
 -- how many calls of the device have failed where this is answered
 abbrev pub failed_calls : ServeFault → ℕ
