@@ -1,5 +1,5 @@
 -- Growths that a crew has made.
-use Rattle.std.proofs.Common.{◌≡◌, ℕ, zero, suc, ◌<◌, ◌≤◌, List, [], ◌∷◌, ◌++◌, length, map, Option, Some, slice_get, inl, inr, refl, sym, ap, subst, ◌∙◌, arith}
+use Rattle.std.proofs.Common.{◌≡◌, ℕ, zero, suc, ◌<◌, ◌≤◌, List, [], ◌∷◌, ◌++◌, length, map, Option, Some, Result, Ok, Err, IfOk, IfErr, slice_get, inl, inr, refl, sym, ap, subst, ◌∙◌, arith}
 use Rattle.std.specs.Global.{Vec}
 use Rattle.std.proofs.lemmas.List.{length-map}
 use Rattle.record_core.specs.Bytes.{Encoding}
@@ -11,7 +11,11 @@ use Rattle.book_core.specs.declared.seat.Receipt.{Receipt}
 use Rattle.book_core.specs.declared.fault.GrowFault.{GrowFault}
 use Rattle.book_core.specs.Lists.{own_of}
 use Rattle.pen_core.specs.Typed.{OpensTo}
-use Rattle.vault_core.specs.Crewing.{HasCrewed, OpensToGrown, IsReason, crew_room, receipt_of}
+use Rattle.disk_core.specs.Moments.{LeavesOnly}
+use Rattle.vault_core.specs.Crewing.{HasCrewed, IsCrewFault, OpensToGrown, IsReason, crew_room, receipt_of}
+use Rattle.vault_core.specs.Gathering.{AreOf}
+use Rattle.vault_core.specs.declared.crewing.CrewFault.{CrewFault}
+use Rattle.vault_core.specs.declared.crewing.CrewFault.TheVariants as crew_faults
 use Rattle.vault_core.specs.declared.fault.VaultFault.{VaultFault}
 use Rattle.vault_core.specs.Sharing.{IsShareFault}
 use Rattle.vault_core.specs.Vault.{VaultOf, list_of}
@@ -19,7 +23,8 @@ use Rattle.files_core.specs.Dealt.{count_for, dealt}
 use Rattle.files_core.specs.declared.fault.FileFault.{FileFault}
 use Rattle.files_core.specs.declared.fault.Stopped.{Stopped}
 use Rattle.files_core.specs.declared.fault.FileFault.TheVariants as faults
-use Rattle.files_core.specs.Loading.{AreDealt, AllMade, StandBehind, Appends, IsFirstStop, IsGrowthStop, IsLoaded, IsLoadRefusal, IsStopOf, line_behind}
+use Rattle.files_core.specs.declared.fault.FileFault.TheVariants.{Grower as by_grower}
+use Rattle.files_core.specs.Loading.{AreDealt, AreDealtBy, AllMade, StandBehind, Appends, IsFirstStop, IsGivenUp, IsGrowthStop, IsLoaded, IsLoadRefusal, IsStopOf, line_behind}
 use Rattle.files_core.specs.Opened.{IsOpenedOn, LeavesBeforeOr}
 use Rattle.files_core.proofs.Opened.{opened_list, opened_alone, opened_then}
 
@@ -91,6 +96,73 @@ module _ {R D : Type 0} (form : Encoding R) (keeps : D → Type 0) (states : D �
         let there = some_of (λ its. its.items) receipts k (map (receipt_of (length (list_of old))) own) (crewed.1.receipts_are k lt) in
         let long : length there.0.items ≡ length own = ap length there.2 ∙ length-map own (receipt_of (length (list_of old))) in
         omega (arith, enough k lt there.0 there.1, long, crewed.1.few k lt)
+
+  -- what a crew gave is told of the growths that its source deals
+  module _ (count : ℕ → ℕ) (block : ℕ → ℕ → List R) (of : ℕ) (growths : List (List R)) (growers : ℕ) (so : AreDealtBy growths growers of count block) (old : VaultOf R D) where
+    pub dealt_crewed : (may_stop : ℕ → ℕ → Type 0) (new : VaultOf R D) (receipts : List (List Receipt)) (faults : List (Option GrowFault))
+        → HasCrewed form keeps states count block may_stop of old new receipts faults
+        → HasCrewed form keeps states (count_for (length growths) growers) (dealt growths growers) may_stop growers old new receipts faults
+    dealt_crewed may_stop new receipts faults crewed = crewed_as _ _ _ _ may_stop _ _ old new receipts faults so.counts_are so.blocks_are so.growers_are crewed
+
+    pub dealt_all : {X : Type 0} (may_stop : ℕ → ℕ → Type 0) (new : VaultOf R D) (receipts : List (Vec Receipt)) (faults : List (Option GrowFault))
+        → HasCrewed form keeps states count block may_stop of old new (map (λ its. its.items) receipts) faults
+        → (result : Result (VaultOf R D) X) → IfOk result (λ w. (w ≡ new) × ((k : ℕ) → k < of → (its : Vec Receipt) → slice_get receipts k ≡ Some its → count k ≤ length its.items))
+        → IfOk result (λ w. (made : List (Growth R)) × AreDealt growths growers made × AllMade growths growers made
+        × StandBehind form keeps states old w.pen.disk made × (list_of w ≡ list_of old ++ joined made))
+    dealt_all may_stop new receipts faults crewed (Err x) has = has
+    dealt_all may_stop new receipts faults crewed (Ok w) has =
+        let own = dealt_crewed may_stop new (map (λ its. its.items) receipts) faults crewed in (
+          own.0,
+          are_dealt may_stop growths growers old new receipts faults own,
+          all_made may_stop growths growers old new receipts faults own
+              (λ k lt its there. subst (λ (c : ℕ → ℕ). c k ≤ length its.items) so.counts_are (has.1 k (subst (λ n. k < n) (sym so.growers_are) lt) its there)),
+          stand_behind may_stop growths growers old new receipts faults own w.pen.disk (ap (λ v. v.pen.disk) has.0),
+          ap list_of has.0 ∙ own.1.list_is,
+        )
+
+    pub dealt_stopped : {X : Type 0} (left : X → D) (told : X → FileFault) (may_stop : ℕ → ℕ → Type 0) (new : VaultOf R D) (receipts : List (Vec Receipt)) (faults : List (Option GrowFault))
+        → HasCrewed form keeps states count block may_stop of old new (map (λ its. its.items) receipts) faults
+        → (result : Result (VaultOf R D) X) → IfErr result (λ r. (left r ≡ new.pen.disk) × ((stopped : Stopped) × (told r ≡ by_grower stopped)
+        × (stopped.size ≡ length (list_of new)) × IsFirstStop of count receipts faults stopped))
+        → IfErr result (λ r. IsGrowthStop form keeps states growths growers old (left r) (told r))
+    dealt_stopped left told may_stop new receipts faults crewed (Ok w) has = has
+    dealt_stopped left told may_stop new receipts faults crewed (Err r) has =
+        let own = dealt_crewed may_stop new (map (λ its. its.items) receipts) faults crewed in
+        let stopped = has.1.0 in
+        let first : IsFirstStop growers (count_for (length growths) growers) receipts faults stopped =
+        subst (λ n. IsFirstStop n (count_for (length growths) growers) receipts faults stopped) so.growers_are
+        (subst (λ (c : ℕ → ℕ). IsFirstStop of c receipts faults stopped) so.counts_are has.1.3) in
+        subst (IsGrowthStop form keeps states growths growers old (left r)) (sym has.1.1) (
+          own.0,
+          are_dealt may_stop growths growers old new receipts faults own,
+          stand_behind may_stop growths growers old new receipts faults own (left r) has.0,
+          size_is may_stop growths growers old new receipts faults own stopped.size has.1.2,
+          stopped_as may_stop growths growers old new receipts faults own stopped has.1.2 first,
+        )
+
+    pub dealt_given_up : (fault : CrewFault R D) (left : D) (told : FileFault) → IsCrewFault form keeps states old (crew_room count of) of fault → IsGivenUp fault left told
+        → IsGrowthStop form keeps states growths growers old left told
+    dealt_given_up (crew_faults.Share back fault) left told refused gives =
+        subst (IsGrowthStop form keeps states growths growers old left) (sym gives.1)
+        (inl (gives.0 ∙ ap (λ v. v.pen.disk) refused.0, inr (share_as old _ _ _ _ fault so.counts_are so.growers_are refused.1)))
+    dealt_given_up (crew_faults.Gather g) left told refused gives =
+        subst (IsGrowthStop form keeps states growths growers old left) (sym gives.1) (inr (
+          g.flusher.pass.entries,
+          record {
+            live = g.live;
+            seats = g.seats.items;
+            flusher = g.flusher;
+            room_is = refused.1 ∙ same_room _ _ _ _ so.counts_are so.growers_are;
+            as_many = refused.3 ∙ so.growers_are;
+            parts = subst (λ d. AreOf (keeps d) g.live g.seats.items g.flusher) (sym gives.0) refused.5;
+            disk_is = sym gives.0;
+            made_are = refl;
+            why = refused.6;
+          },
+          λ model.
+              let own = subst keeps gives.0 model in
+              (refused.4 own, subst (λ d. LeavesOnly (states old.pen.disk) (states d) (OpensToGrown form (list_of old) g.flusher.pass.entries)) (sym gives.0) (refused.7 own)),
+        ))
 
   -- the growths stand behind the list of the file that was opened
   pub appended_to : {failures : D → ℕ} (disk left : D) (v : VaultOf R D) (made : List (Growth R)) → IsOpenedOn form keeps states failures disk v → StandBehind form keeps states v left made → keeps left → Appends form states disk left (list_of v) made

@@ -53,6 +53,20 @@ pub told_ends : {X E : Type 0} (done : Type 0) (refused : FileFault → Type 0) 
 told_ends done refused (Ok x) ended told holds = subst (EndsAs done refused) (sym told) holds
 told_ends done refused (Err e) ended told holds = subst (EndsAs done refused) (sym told) holds
 
+-- its work is done
+pub told_done : {X E : Type 0} (written : Result X E) (ended : Ended) → MatchResult written (λ _. ended ≡ Done) (λ _. ended ≡ OutputFailed) → (ended ≡ Done) ⊎ (ended ≡ OutputFailed)
+told_done (Ok x) ended told = inl told
+told_done (Err e) ended told = inr told
+
+pub done_ends : (done : Type 0) (refused : FileFault → Type 0) (ended : Ended) → (ended ≡ Done) ⊎ (ended ≡ OutputFailed) → done → EndsAs done refused ended
+done_ends done refused ended (inl is) holds = subst (EndsAs done refused) (sym is) holds
+done_ends done refused ended (inr is) holds = subst (EndsAs done refused) (sym is) holds
+
+pub done_answer : (old new : Option (List ℕ)) (text : List ℕ) (IsAnswer : List ℕ → Type 0) (ended : Ended) → (ended ≡ Done) ⊎ (ended ≡ OutputFailed) → WritesText old new text ended
+    → IsAnswer text → Writes old new IsAnswer ended
+done_answer old new text IsAnswer ended (inl done) writes is = subst (Writes old new IsAnswer) (sym done) (text, is, subst (WritesText old new text) done writes)
+done_answer old new text IsAnswer ended (inr half) writes is = subst (Writes old new IsAnswer) (sym half) tt
+
 -- no call had failed where its work is done
 pub told_counts : {D X E : Type 0} (faults : D → ℕ) (failed : Ended → ℕ) (disk left : D) (written : Result X E) (ended : Ended) → failed Done ≡ 0 → failed OutputFailed ≡ 0 → MatchResult written (λ _. ended ≡ Done) (λ _. ended ≡ OutputFailed) → faults left ≡ faults disk → faults left ≡ faults disk + failed ended
 told_counts faults failed disk left (Ok x) ended done half told same = let none : failed ended ≡ 0 = ap failed told ∙ done in omega (arith, none, same)

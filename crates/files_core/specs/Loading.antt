@@ -14,6 +14,8 @@ use Rattle.book_core.specs.Lists.{Phase, Seated, own_of}
 use Rattle.flush_core.specs.Flusher.{FlusherOf}
 use Rattle.pen_core.specs.Typed.{OpensTo}
 use Rattle.pen_core.specs.declared.fault.PenFault.TheVariants.{TooLarge}
+use Rattle.vault_core.specs.declared.crewing.CrewFault.{CrewFault}
+use Rattle.vault_core.specs.declared.crewing.CrewFault.TheVariants.{Share, Gather}
 use Rattle.vault_core.specs.declared.fault.VaultFault.{VaultFault}
 use Rattle.vault_core.specs.declared.fault.VaultFault.TheVariants.{Pen}
 use Rattle.vault_core.specs.Crewing.{OpensToGrown, IsReason, crew_room}
@@ -32,6 +34,12 @@ pub record AreDealt {R : Type 0} (growths : List (List R)) (growers : ℕ) (made
   pub chained : IsChained made
   pub by_growers : All (λ growth. growth.seat < growers) made
   pub records_are : (grower j : ℕ) (growth : Growth R) → grower < growers → slice_get (own_of grower made) j ≡ Some growth → growth.records ≡ dealt growths growers grower j
+
+-- a source of so many growers deals them so
+pub record AreDealtBy {R : Type 0} (growths : List (List R)) (growers : ℕ) (of : ℕ) (count : ℕ → ℕ) (block : ℕ → ℕ → List R) : Type 0 where
+  pub growers_are : of ≡ growers
+  pub counts_are : count ≡ count_for (length growths) growers
+  pub blocks_are : block ≡ dealt growths growers
 
 -- all of them were made
 abbrev pub AllMade : {R : Type 0} → List (List R) → ℕ → List (Growth R) → Type 0
@@ -77,6 +85,11 @@ pub record IsNotEnded {R D : Type 0} (keeps : D → Type 0) (count growers : ℕ
   pub disk_is : flusher.pen.disk ≡ left
   pub made_are : flusher.pass.entries ≡ made
   pub why : IsGatherFault live seats flusher fault
+
+-- a crew that gave no vault left this disk, and that is told of it
+abbrev pub IsGivenUp : {R D : Type 0} → CrewFault R D → D → FileFault → Type 0
+IsGivenUp (Share v fault) left told = (left ≡ v.pen.disk) × (told ≡ Vault fault)
+IsGivenUp (Gather g) left told = (left ≡ g.flusher.pen.disk) × (told ≡ Vault g.fault)
 
 module _ {R D : Type 0} (form : Encoding R) (keeps : D → Type 0) (states : D → List State) where
   -- Growths stand behind a vault's list, all of them settled, and each image that a crash may have left meanwhile opens to

@@ -7,8 +7,9 @@ ghost use Rattle.block_core.specs.Growth.{Growth};
 ghost use Rattle.book_core.specs.declared.seat.Receipt.{Receipt};
 ghost use Rattle.directory_core.specs.Chain.{joined};
 ghost use Rattle.vault_core.specs.Vault.{list_of};
-ghost use Rattle.files_core.specs.Ended.{EndsAs, Writes};
-ghost use Rattle.files_core.specs.Loading.{IsFirstStop, AreDealt, AllMade, StandBehind, IsGrowthStop, IsLoaded, IsLoadRefusal};
+ghost use Rattle.files_core.specs.Ended.{EndsAs, Writes, WritesText};
+ghost use Rattle.files_core.specs.Loading.{IsFirstStop, IsGivenUp, AreDealt, AreDealtBy, AllMade, StandBehind, IsGrowthStop, IsLoaded, IsLoadRefusal};
+ghost use Rattle.files_core.specs.Opened.{IsOpenedOn};
 ghost use Rattle.files_core.specs.Texts.{loaded_line};
 
 use crate::crewing::Deck;
@@ -16,6 +17,7 @@ use crate::ended::Ended;
 use crate::fault::{FileFault, Stopped};
 use book_core::GrowFault;
 use disk_core::Disk;
+use flush_core::Flusher;
 use pen_core::PenFault;
 use record_core::Record;
 use segment_core::Growths;
@@ -25,7 +27,7 @@ use std::io::Write;
 use std::sync::Wait;
 use std::thread::Threads;
 use text_core::{write_line, write_numbered};
-use vault_core::{CrewFault, Crewed, Gate, Source, Vault, VaultFault, crew};
+use vault_core::{CrewFault, Crewed, Gate, Gathering, Source, Vault, VaultFault, crew};
 
 fn write_loaded<W: Write>(writer: &mut W, growths: u64, size: u64) -> io::Result<()>
     ensures { OnOk result (known.Appends (W.contents writer.old) (W.contents writer.new) (loaded_line growths size)) }
@@ -75,6 +77,66 @@ fn first_stopped<R: Record, D: Disk, S: Source<R>>(
     None
 }
 
+/// The flusher of a phase that wasn't ended.
+fn flusher_of<R: Record, D: Disk>(gathering: Gathering<R, D>) -> Flusher<R, D>
+    ensures { result ≡ gathering.flusher }
+{
+    gathering.flusher
+}
+
+/// The disk of a phase that wasn't ended, and why it wasn't.
+fn left_of<R: Record, D: Disk>(gathering: Gathering<R, D>) -> (D, FileFault)
+    ensures { (result.0 ≡ gathering.flusher.pen.disk) × (result.1 ≡ FileFault.Vault gathering.fault) }
+{
+    let fault = gathering.fault;
+    let (disk, _settled) = flusher_of(gathering).into_parts();
+    (disk, FileFault::Vault(fault))
+}
+
+/// The disk of a crew that gave no vault, and why it gave none.
+fn give_up<R: Record, D: Disk>(fault: CrewFault<R, D>) -> (D, FileFault)
+    ensures { IsGivenUp fault result.0 result.1 }
+{
+    match fault {
+        CrewFault::Share(vault, fault) => (vault.into_disk(), FileFault::Vault(fault)),
+        CrewFault::Gather(gathering) => left_of(gathering),
+    }
+}
+
+/// The vault of a crew that made all growths of its source; else the disk, and the first grower that stopped.
+fn all_made<R: Record, D: Disk, S: Source<R>>(
+    crewed: Crewed<R, D>,
+    source: &S,
+) -> Result<Vault<R, D>, (D, FileFault)>
+    requires { (vec_len crewed.receipts ≡ S.growers_of source.now) × (vec_len crewed.faults ≡ S.growers_of source.now) }
+    ensures made { IfOk result (λ new. (new ≡ crewed.vault) × ((k : ℕ) → k < S.growers_of source.now → (its : Vec Receipt) → slice_get crewed.receipts.items k ≡ Some its → S.count_of source.now k ≤ length its.items)) }
+    ensures stopped { IfErr result (λ r. (r.0 ≡ crewed.vault.pen.disk) × ((stopped : Stopped) × (r.1 ≡ FileFault.Grower stopped) × (stopped.size ≡ length (list_of crewed.vault)) × IsFirstStop (S.growers_of source.now) (S.count_of source.now) crewed.receipts.items crewed.faults.items stopped)) }
+{
+    match first_stopped(&crewed, source) {
+        None => Ok(crewed.vault),
+        Some(stopped) => Err((crewed.vault.into_disk(), FileFault::Grower(stopped))),
+    }
+}
+
+/// Appends the growths that a source deals to a vault, by a crew. Gives the vault back where all were made.
+fn grow_dealt<R: Record, S: Source<R>, D: Disk + Send + Drop, G: Gate, E: Threads + Wait + Sync>(
+    rt: &E,
+    alloc: Global,
+    vault: Vault<R, D>,
+    source: &S,
+    gate: &G,
+) -> Result<Vault<R, D>, (D, FileFault)>
+    ensures grown { (growths : List (List R)) → (growers : ℕ) → AreDealtBy growths growers (S.growers_of source.now) (S.count_of source.now) (S.block_of source.now)
+        → IfOk result (λ new. (made : List (Growth R)) × AreDealt growths growers made × AllMade growths growers made × StandBehind R.form D.keeps D.states vault new.pen.disk made × (list_of new ≡ list_of vault ++ joined made)) }
+    ensures stopped { (growths : List (List R)) → (growers : ℕ) → AreDealtBy growths growers (S.growers_of source.now) (S.count_of source.now) (S.block_of source.now)
+        → IfErr result (λ r. IsGrowthStop R.form D.keeps D.states growths growers vault r.0 r.1) }
+{
+    match crew(rt, alloc, vault, source, gate) {
+        Ok(crewed) => all_made(crewed, source),
+        Err(fault) => Err(give_up(fault)),
+    }
+}
+
 /// Appends growths to a vault by a crew of so many growers: growth `k`, counted from 0, is made by grower `k` modulo their
 /// number. Gives the vault back where all were made.
 pub(crate) fn grow_by<
@@ -94,24 +156,53 @@ pub(crate) fn grow_by<
     ensures grown { IfOk result (λ new. (made : List (Growth R)) × AreDealt growths.0 growers made × AllMade growths.0 growers made × StandBehind R.form D.keeps D.states vault new.pen.disk made × (list_of new ≡ list_of vault ++ joined made)) }
     ensures stopped { IfErr result (λ r. IsGrowthStop R.form D.keeps D.states growths.0 growers vault r.0 r.1) }
 {
-    let Some(source) = S::deal(growths, growers) else {
-        let fault = VaultFault::Pen(PenFault::TooLarge);
-        return Err((vault.into_disk(), FileFault::Vault(fault)));
-    };
-    let crewed = match crew(rt, alloc, vault, &source, gate) {
-        Ok(crewed) => crewed,
-        Err(CrewFault::Share(vault, fault)) => {
-            return Err((vault.into_disk(), FileFault::Vault(fault)));
+    match S::deal(growths, growers) {
+        Some(source) => grow_dealt(rt, alloc, vault, &source, gate),
+        None => {
+            let fault = VaultFault::Pen(PenFault::TooLarge);
+            Err((vault.into_disk(), FileFault::Vault(fault)))
         }
-        Err(CrewFault::Gather(gathering)) => {
-            let fault = gathering.fault;
-            let (disk, _settled) = gathering.flusher.into_parts();
-            return Err((disk, FileFault::Vault(fault)));
-        }
-    };
-    match first_stopped(&crewed, &source) {
-        None => Ok(crewed.vault),
-        Some(stopped) => Err((crewed.vault.into_disk(), FileFault::Grower(stopped))),
+    }
+}
+
+/// Gives the disk back of a vault to which so many growths were appended, and writes that.
+fn tell_loaded<R: Record, D: Disk, W: Write>(
+    vault: Vault<R, D>,
+    growths: u64,
+    writer: &mut W,
+) -> (D, Ended)
+    ensures disk { result.0 ≡ vault.pen.disk }
+    ensures done { (result.1 ≡ Ended.Done) ⊎ (result.1 ≡ Ended.OutputFailed) }
+    ensures writes { WritesText (W.contents writer.old) (W.contents writer.new) (loaded_line growths (length (list_of vault))) result.1 }
+{
+    let written = write_loaded(writer, growths, vault.len());
+    (vault.into_disk(), Ended::told(written))
+}
+
+/// Appends growths to the vault of a file that was opened, and writes that.
+fn load_opened<
+    R: Record,
+    S: Deck<R> + Drop,
+    D: Disk + Send + Drop,
+    W: Write,
+    G: Gate,
+    E: Threads + Wait + Sync,
+>(
+    rt: &E,
+    alloc: Global,
+    vault: Vault<R, D>,
+    growths: Growths<R>,
+    growers: u16,
+    gate: &G,
+    writer: &mut W,
+) -> (D, Ended)
+    ensures loaded { (disk : D) → IsOpenedOn R.form D.keeps D.states D.faults disk vault → EndsAs ((size : ℕ) × IsLoaded R.form D.keeps D.states growths.0 growers disk result.0 size) (IsLoadRefusal R.form D.keeps D.states D.faults growths.0 growers disk result.0) result.1 }
+    ensures writes { (disk : D) → IsOpenedOn R.form D.keeps D.states D.faults disk vault → Writes (W.contents writer.old) (W.contents writer.new) (λ text. (size : ℕ) × IsLoaded R.form D.keeps D.states growths.0 growers disk result.0 size × (text ≡ loaded_line (length growths.0) size)) result.1 }
+{
+    let count = growths.count() as u64;
+    match grow_by::<R, S, D, G, E>(rt, alloc, vault, growths, growers, gate) {
+        Ok(vault) => tell_loaded(vault, count, writer),
+        Err((disk, fault)) => (disk, Ended::Refused(fault)),
     }
 }
 
@@ -140,16 +231,10 @@ pub fn load<
     ensures loaded { EndsAs ((size : ℕ) × IsLoaded R.form D.keeps D.states growths.0 growers disk result.0 size) (IsLoadRefusal R.form D.keeps D.states D.faults growths.0 growers disk result.0) result.1 }
     ensures writes { Writes (W.contents writer.old) (W.contents writer.new) (λ text. (size : ℕ) × IsLoaded R.form D.keeps D.states growths.0 growers disk result.0 size × (text ≡ loaded_line (length growths.0) size)) result.1 }
 {
-    let vault = match Vault::<R, D>::open(alloc, disk) {
-        Ok(vault) => vault,
-        Err((disk, fault)) => return (disk, Ended::Refused(FileFault::Open(fault))),
-    };
-    let count = growths.count() as u64;
-    match grow_by::<R, S, D, G, E>(rt, alloc, vault, growths, growers, gate) {
-        Ok(vault) => {
-            let written = write_loaded(writer, count, vault.len());
-            (vault.into_disk(), Ended::told(written))
-        }
-        Err((disk, fault)) => (disk, Ended::Refused(fault)),
+    match Vault::<R, D>::open(alloc, disk) {
+        Ok(vault) => load_opened::<R, S, D, W, G, E>(
+            rt, alloc, vault, growths, growers, gate, writer,
+        ),
+        Err((disk, fault)) => (disk, Ended::Refused(FileFault::Open(fault))),
     }
 }
