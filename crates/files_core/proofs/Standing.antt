@@ -1,5 +1,5 @@
 -- Growths that are appended as they are read.
-use Rattle.std.proofs.Common.{◌≡◌, ◌⊎◌, ℕ, suc, ◌+◌, ◌-◌, ◌*◌, ◌^◌, ◌<◌, ◌≤◌, min, Bool, List, [], ◌∷◌, ◌++◌, length, take, All, Ok, Err, zero-add, inl, inr, refl, sym, ap, subst, ◌∙◌, arith}
+use Rattle.std.proofs.Common.{◌≡◌, ◌⊎◌, ℕ, suc, ◌+◌, ◌-◌, ◌*◌, ◌^◌, ◌<◌, ◌≤◌, min, Bool, List, [], ◌∷◌, ◌++◌, length, take, All, Result, Ok, Err, IfOk, MatchResult, zero-add, inl, inr, refl, sym, ap, subst, ◌∙◌, arith}
 use Rattle.std.specs.Prelude.{cond}
 use Rattle.std.proofs.Math.Nat.{add-mul}
 use Rattle.std.proofs.lemmas.Bool.{eq-eqb}
@@ -20,14 +20,17 @@ use Rattle.pen_core.specs.Typed.{OpensTo}
 use Rattle.vault_core.specs.Crewing.{OpensToGrown, IsReason, crew_room}
 use Rattle.vault_core.specs.Vault.{VaultOf, MayHold, list_of}
 use Rattle.files_core.specs.declared.appending.Appended.{Appended}
+use Rattle.files_core.specs.declared.ended.Ended.{Ended}
+use Rattle.files_core.specs.declared.ended.Ended.TheVariants.{Done, OutputFailed, Refused}
+use Rattle.files_core.specs.Ended.{EndsAs}
 use Rattle.files_core.specs.declared.fault.FileFault.{FileFault}
 use Rattle.files_core.specs.declared.fault.FileFault.TheVariants as faults
 use Rattle.files_core.specs.declared.fault.Stopped.{Stopped}
-use Rattle.files_core.specs.Appending.{AreLinesOf, AreOfBlocks, GrowsTo, HasAppended, HasAppendedAll, IsAppendRefusal, IsBatchStop, IsSettled, IsStopTold, StandBehindList, GrowthsStand, StopsAt}
+use Rattle.files_core.specs.Appending.{AreLinesOf, AreLinesWithin, AreOfBlocks, GrowsTo, HasAppended, HasAppendedAll, HasGone, IsAppendRefusal, IsBatchStop, IsLast, IsSettled, IsStopTold, StandBehindList, GrowthsStand, StopsAt}
 use Rattle.files_core.specs.Dealt.{count_for, dealt}
 use Rattle.files_core.specs.Loading.{AreDealt, AllMade, StandBehind, IsGrowthStop, IsStopOf}
 use Rattle.files_core.specs.Opened.{IsOpenedOn}
-use Rattle.files_core.proofs.Opened.{opened_list, opened_then, opens_same}
+use Rattle.files_core.proofs.Opened.{done_ends, opened_list, opened_then, opens_same}
 
 -- ---- growths behind others
 
@@ -78,8 +81,11 @@ lines_on most block told n more all is then =
     omega arith
 
 -- the lines behind others, of which the last growth may have fewer than a block
-pub lines_last : (most block before all told whole lines : ℕ) → all ≡ min most (before + whole) → told ≡ min (before + lines) most → (lines ≤ whole) × (whole < lines + block) → (told ≤ all) × (all < told + block)
-lines_last most block before all told whole lines is then within = (omega (arith, within.0), omega (arith, within.0, within.1))
+pub is_last : (block before all lines growths : ℕ) → all ≡ min (2 ^ 64 - 1) (before + growths * block) → AreLinesWithin block growths lines → IsLast block before lines all
+is_last block before all lines growths is within = (omega (arith, within.0), omega (arith, within.0, within.1))
+
+pub saturates : (block before lines whole told : ℕ) → told ≡ min (before + lines) (2 ^ 64 - 1) → IsLast block before lines whole → (told ≤ whole) × (whole < told + block)
+saturates block before lines whole told is last = (omega (arith, last.0), omega (arith, last.1))
 
 -- ---- one grower's growths are all
 
@@ -160,14 +166,6 @@ module _ {R D : Type 0} (form : Encoding R) (keeps : D → Type 0) (states : D �
 
   -- ---- one batch after the other
 
-  -- so far these growths were made, each of a whole block, and are told
-  pub record HasGone (block : ℕ) (v w : VaultOf R D) (appended : Appended) : Type 0 where
-    pub made : List (Growth R)
-    pub goes : GrowsTo form keeps states v w made
-    pub size_is : appended.size ≡ length (list_of w)
-    pub growths_are : appended.growths ≡ min (2 ^ 64 - 1) (length made)
-    pub lines_are : AreOfBlocks block appended made
-
   leaves_further : (v mid : VaultOf R D) (left : D) (one two : List (Growth R)) → GrowsTo form keeps states v mid one → keeps mid.pen.disk → LeavesOnly (states mid.pen.disk) (states left) (OpensToGrown form (list_of mid) two) → LeavesOnly (states v.pen.disk) (states left) (OpensToGrown form (list_of v) (one ++ two))
   leaves_further v mid left one two first model leaves =
       LeavesOnly-join (states v.pen.disk) (states mid.pen.disk) (states left) (OpensToGrown form (list_of v) (one ++ two))
@@ -182,14 +180,17 @@ module _ {R D : Type 0} (form : Encoding R) (keeps : D → Type 0) (states : D �
     model = λ model. first.model (then.model model);
   }
 
-  pub gone_nowhere : (block : ℕ) (v : VaultOf R D) (appended : Appended) → IsSettled form keeps states v → appended.growths ≡ 0 → appended.lines ≡ 0 → appended.size ≡ length (list_of v) → HasGone block v v appended
+  pub gone_nowhere : (block : ℕ) (v : VaultOf R D) (appended : Appended) → IsSettled form keeps states v → appended.growths ≡ 0 → appended.lines ≡ 0 → appended.size ≡ length (list_of v)
+      → HasGone form keeps states block v v appended
   gone_nowhere block v appended settled none no_line size = record { made = []; goes = grows_nowhere v settled; size_is = size; growths_are = none; lines_are = no_line ∙ no_block }
     where
       no_block : 0 ≡ min (2 ^ 64 - 1) (0 * block)
       no_block = omega arith
 
-  pub gone_further : (block : ℕ) (v mid w : VaultOf R D) (before after : Appended) (growths : List (List R)) → HasGone block v mid before → (made : List (Growth R)) × GrowsTo form keeps states mid w made × (length made ≡ length growths)
-      → after.size ≡ length (list_of w) → after.growths ≡ min (2 ^ 64 - 1) (before.growths + length growths) → after.lines ≡ min (2 ^ 64 - 1) (before.lines + length growths * block) → HasGone block v w after
+  pub gone_further : (block : ℕ) (v mid w : VaultOf R D) (before after : Appended) (growths : List (List R)) → HasGone form keeps states block v mid before
+      → (made : List (Growth R)) × GrowsTo form keeps states mid w made × (length made ≡ length growths)
+      → after.size ≡ length (list_of w) → after.growths ≡ min (2 ^ 64 - 1) (before.growths + length growths) → after.lines ≡ min (2 ^ 64 - 1) (before.lines + length growths * block)
+      → HasGone form keeps states block v w after
   gone_further block v mid w before after growths gone then size is lines = record {
     made = gone.made ++ then.0;
     goes = grows_further v mid w gone.made then.0 gone.goes then.1;
@@ -201,8 +202,25 @@ module _ {R D : Type 0} (form : Encoding R) (keeps : D → Type 0) (states : D �
       count : length gone.made + length growths ≡ length (gone.made ++ then.0)
       count = ap (λ n. length gone.made + n) (sym then.2) ∙ sym (length-append gone.made then.0)
 
+  -- the same, where so many growths and records are counted
+  pub gone_counted : (block : ℕ) (v mid w : VaultOf R D) (before after : Appended) (growths : List (List R)) (count size : ℕ) → HasGone form keeps states block v mid before
+      → (made : List (Growth R)) × GrowsTo form keeps states mid w made × (length made ≡ length growths)
+      → count ≡ length growths → size ≡ length (list_of w) → after.size ≡ size → after.growths ≡ min (2 ^ 64 - 1) (before.growths + count)
+      → after.lines ≡ min (2 ^ 64 - 1) (before.lines + count * block) → HasGone form keeps states block v w after
+  gone_counted block v mid w before after growths count size gone then counted sized size_is growths_are lines_are =
+      gone_further block v mid w before after growths gone then (size_is ∙ sized)
+      (growths_are ∙ ap (λ n. min (2 ^ 64 - 1) (before.growths + n)) counted)
+      (lines_are ∙ ap (λ n. min (2 ^ 64 - 1) (before.lines + n * block)) counted)
+
+  -- what was gone to is gone on with
+  pub gone_same : {X : Type 0} (block : ℕ) (v w : VaultOf R D) (before after : Appended) (result : Result (VaultOf R D) X) → HasGone form keeps states block v w before
+      → IfOk result (λ new. (new ≡ w) × (after ≡ before)) → IfOk result (λ new. HasGone form keeps states block v new after)
+  gone_same block v w before after (Err x) gone same = same
+  gone_same block v w before after (Ok new) gone same = subst (λ u. HasGone form keeps states block v u after) (sym same.0) (subst (HasGone form keeps states block v w) (sym same.1) gone)
+
   -- what was gone to is given back
-  pub stands_now : (block : ℕ) (v w : VaultOf R D) (left : D) (appended : Appended) → HasGone block v w appended → left ≡ w.pen.disk → (made : List (Growth R)) × StandBehindList form keeps states v left appended made [] × AreOfBlocks block appended made
+  pub stands_now : (block : ℕ) (v w : VaultOf R D) (left : D) (appended : Appended) → HasGone form keeps states block v w appended → left ≡ w.pen.disk
+      → (made : List (Growth R)) × StandBehindList form keeps states v left appended made [] × AreOfBlocks block appended made
   stands_now block v w left appended gone same = (
     gone.made,
     subst (λ d. StandBehindList form keeps states v d appended gone.made []) (sym same) (record {
@@ -215,7 +233,8 @@ module _ {R D : Type 0} (form : Encoding R) (keeps : D → Type 0) (states : D �
   )
 
   -- all of it, where the last growth may be of fewer lines
-  pub stands_last : (block : ℕ) (v w : VaultOf R D) (left : D) (appended told : Appended) → HasGone block v w appended → left ≡ w.pen.disk → told.size ≡ appended.size → told.growths ≡ appended.growths
+  pub stands_last : (block : ℕ) (v w : VaultOf R D) (left : D) (appended told : Appended) → HasGone form keeps states block v w appended → left ≡ w.pen.disk → told.size ≡ appended.size
+      → told.growths ≡ appended.growths
       → (told.lines ≤ appended.lines) × (appended.lines < told.lines + block) → (made : List (Growth R)) × StandBehindList form keeps states v left told made [] × AreLinesOf block told made
   stands_last block v w left appended told gone same size growths lines =
       let now = stands_now block v w left appended gone same in (
@@ -224,7 +243,7 @@ module _ {R D : Type 0} (form : Encoding R) (keeps : D → Type 0) (states : D �
         record { no_more = omega (arith, lines.0, now.2); no_less = omega (arith, lines.1, now.2) },
       )
 
-  stands_with : (block : ℕ) (batch : List (List R)) (v mid : VaultOf R D) (left : D) (appended : Appended) (fault : FileFault) (gone : HasGone block v mid appended) (stops : StopsAt form keeps states batch mid left fault) → StandBehindList form keeps states v left appended gone.made stops.more
+  stands_with : (block : ℕ) (batch : List (List R)) (v mid : VaultOf R D) (left : D) (appended : Appended) (fault : FileFault) (gone : HasGone form keeps states block v mid appended) (stops : StopsAt form keeps states batch mid left fault) → StandBehindList form keeps states v left appended gone.made stops.more
   stands_with block batch v mid left appended fault gone stops = record {
     images = λ model. leaves_further v mid left gone.made stops.more gone.goes (stops.model model) (stops.images model);
     settled = λ model image is. subst (λ (rs : List R). OpensToGrown form rs stops.more image) gone.goes.list ((stops.images model).newest image is);
@@ -233,7 +252,7 @@ module _ {R D : Type 0} (form : Encoding R) (keeps : D → Type 0) (states : D �
   }
 
   -- a grower stopped behind that: what it made stands too
-  module _ (block : ℕ) (batch : List (List R)) (v mid : VaultOf R D) (left : D) (before after : Appended) (stopped : Stopped) (told : FileFault) (few : length batch < 2 ^ 64) (gone : HasGone block v mid before) (stops : StopsAt form keeps states batch mid left (faults.Grower stopped)) (tells : IsStopTold block before (faults.Grower stopped) after told) where
+  module _ (block : ℕ) (batch : List (List R)) (v mid : VaultOf R D) (left : D) (before after : Appended) (stopped : Stopped) (told : FileFault) (few : length batch < 2 ^ 64) (gone : HasGone form keeps states block v mid before) (stops : StopsAt form keeps states batch mid left (faults.Grower stopped)) (tells : IsStopTold block before (faults.Grower stopped) after told) where
     count_own : stopped.line - 1 ≡ length stops.more
     count_own = made_by_one form.width batch stops.more stopped few stops.settled.2 stops.settled.3
 
@@ -274,7 +293,8 @@ module _ {R D : Type 0} (form : Encoding R) (keeps : D → Type 0) (states : D �
     stopped_grower = subst (λ fault. HasAppended form keeps states block v left after (Err fault)) (sym tells.3) (gone.made ++ stops.more, stands_all, lines_all, batch_stop)
 
   -- a crew stopped behind that
-  pub stopped_with : (block : ℕ) (batch : List (List R)) (v mid : VaultOf R D) (left : D) (before after : Appended) (fault told : FileFault) → length batch < 2 ^ 64 → HasGone block v mid before → StopsAt form keeps states batch mid left fault
+  pub stopped_with : (block : ℕ) (batch : List (List R)) (v mid : VaultOf R D) (left : D) (before after : Appended) (fault told : FileFault) → length batch < 2 ^ 64
+      → HasGone form keeps states block v mid before → StopsAt form keeps states batch mid left fault
       → IsStopTold block before fault after told → HasAppended form keeps states block v left after (Err told)
   stopped_with block batch v mid left before after (faults.Vault fault) told few gone stops tells =
       subst (λ f. HasAppended form keeps states block v left after (Err f)) (sym tells.1)
@@ -289,10 +309,11 @@ module _ {R D : Type 0} (form : Encoding R) (keeps : D → Type 0) (states : D �
   -- ---- of a file
 
   -- a vault that was opened is settled
-  pub opened_settled : {failures : D → ℕ} (disk own : D) (v : VaultOf R D) → IsOpenedOn form keeps states failures disk v → own ≡ v.pen.disk → (keeps own → (image : List ℕ) → IsImage (now (states own)) image → MayHold form v image) → IsSettled form keeps states v
-  opened_settled disk own v opened same may model image is =
+  pub sure_settled : (own : D) (v : VaultOf R D) → (keeps v.pen.disk → v.sure ≡ list_of v) → own ≡ v.pen.disk
+      → (keeps own → (image : List ℕ) → IsImage (now (states own)) image → MayHold form v image) → IsSettled form keeps states v
+  sure_settled own v sure same may model image is =
       let mine = subst keeps (sym same) model in
-      opens_same form v.sure (list_of v) (list_of v) image (opened.sure model) refl (may mine image (subst (λ d. IsImage (now (states d)) image) (sym same) is))
+      opens_same form v.sure (list_of v) (list_of v) image (sure model) refl (may mine image (subst (λ d. IsImage (now (states d)) image) (sym same) is))
 
   module _ (failures : D → ℕ) (block : ℕ) (disk left : D) (v : VaultOf R D) (appended : Appended) (opened : IsOpenedOn form keeps states failures disk v) (back : keeps left → keeps v.pen.disk) where
     growths_stand : (made more : List (Growth R)) → StandBehindList form keeps states v left appended made more → keeps left → GrowthsStand form states disk left appended made more
@@ -316,3 +337,11 @@ module _ {R D : Type 0} (form : Encoding R) (keeps : D → Type 0) (states : D �
     appended_some (faults.Open fault) has = absurd has
     appended_some (faults.Word word) has = absurd has
     appended_some (faults.Upgrade fault) has = absurd has
+
+    pub appended_ends : (done : Result (Unit {0}) FileFault) (ended : Ended) → MatchResult done (λ _. (ended ≡ Done) ⊎ (ended ≡ OutputFailed)) (λ fault. ended ≡ Refused fault)
+        → HasAppended form keeps states block v left appended done
+        → EndsAs (HasAppendedAll form keeps states block disk left appended) (IsAppendRefusal form keeps states failures block disk left appended) ended
+    appended_ends (Ok all) ended told has =
+        done_ends (HasAppendedAll form keeps states block disk left appended) (IsAppendRefusal form keeps states failures block disk left appended) ended told (appended_all has)
+    appended_ends (Err fault) ended told has =
+        subst (EndsAs (HasAppendedAll form keeps states block disk left appended) (IsAppendRefusal form keeps states failures block disk left appended)) (sym told) (appended_some fault has)

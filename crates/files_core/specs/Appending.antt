@@ -44,6 +44,14 @@ pub record AreLinesOf {R : Type 0} (block : ℕ) (appended : Appended) (made : L
   pub no_more : appended.lines ≤ min (2 ^ 64 - 1) (length made * block)
   pub no_less : min (2 ^ 64 - 1) (length made * block) < appended.lines + block
 
+-- so many lines are of so many growths, of which the last one may have fewer than a block
+abbrev pub AreLinesWithin : ℕ → ℕ → ℕ → Type 0
+AreLinesWithin block growths lines = (lines ≤ growths * block) × (growths * block < lines + block)
+
+-- so many lines behind others are all, where those of whole blocks would be as many as that
+abbrev pub IsLast : ℕ → ℕ → ℕ → ℕ → Type 0
+IsLast block before lines whole = (min (2 ^ 64 - 1) (before + lines) ≤ whole) × (whole < min (2 ^ 64 - 1) (before + lines) + block)
+
 -- The one grower of a batch stopped: it had made the first growths of the batch, all that stands is told, and its next growth,
 -- that of the line behind those that are told, wasn't made for this reason.
 pub record IsBatchStop {R : Type 0} (width : ℕ) (appended : Appended) (made : List (Growth R)) (stopped : Stopped) : Type 0 where
@@ -114,6 +122,14 @@ module _ {R D : Type 0} (form : Encoding R) (keeps : D → Type 0) (states : D �
     pub settled : keeps left → (image : List ℕ) → IsImage (now (states left)) image → OpensToGrown form (list_of v ++ joined made) more image
     pub size_is : appended.size ≡ length (list_of v ++ joined made)
     pub growths_are : appended.growths ≡ min (2 ^ 64 - 1) (length made)
+
+  -- so far these growths were made, each of a whole block, and are told
+  pub record HasGone (block : ℕ) (v w : VaultOf R D) (appended : Appended) : Type 0 where
+    pub made : List (Growth R)
+    pub goes : GrowsTo v w made
+    pub size_is : appended.size ≡ length (list_of w)
+    pub growths_are : appended.growths ≡ min (2 ^ 64 - 1) (length made)
+    pub lines_are : AreOfBlocks block appended made
 
   -- all growths that stand are told, unless a crew stopped without a vault; behind each refusal each of them is of a whole block
   abbrev pub HasAppended : ℕ → VaultOf R D → D → Appended → Result (Unit {0}) FileFault → Type 0

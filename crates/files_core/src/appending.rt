@@ -1,11 +1,13 @@
 //! `append`: growths of an input of any length, committed as they are read.
 
-ghost use Rattle.std.specs.Prelude.{◌≡◌, ◌+◌, ◌-◌, ◌*◌, ◌^◌, List, length, min, IfOk, IfErr, OnOk};
+ghost use Rattle.std.specs.Prelude.{◌≡◌, ◌⊎◌, ◌+◌, ◌-◌, ◌*◌, ◌^◌, ℕ, List, None, length, min, IfOk, IfErr, OnOk, MatchResult};
 ghost use Rattle.std.specs.Io.KnownBytes.{Appends};
 ghost use Rattle.std.specs.NonZero.{non_zero_u32_get};
 ghost use Rattle.block_core.specs.Growth.{Growth};
-ghost use Rattle.files_core.specs.Appending.{GrowsTo, HasAppended, HasAppendedAll, IsAppendRefusal, IsSettled, IsStopTold, StopsAt};
+ghost use Rattle.vault_core.specs.Vault.{VaultOf, list_of};
+ghost use Rattle.files_core.specs.Appending.{AreLinesWithin, GrowsTo, HasAppended, HasAppendedAll, HasGone, IsAppendRefusal, IsLast, IsSettled, IsStopTold, StopsAt};
 ghost use Rattle.files_core.specs.Ended.{EndsAs, WritesText};
+ghost use Rattle.files_core.specs.Opened.{IsOpenedOn};
 ghost use Rattle.files_core.specs.Texts.{appended_line};
 
 use crate::crewing::{Deck, OpenGate};
@@ -16,6 +18,7 @@ use crate::line_blocks::{Blocks, Front, read_front};
 use crate::loading::grow_by;
 use crate::progress::Progress;
 use disk_core::Disk;
+use record_core::Record;
 use segment_core::Growths;
 use std::alloc::Global;
 use std::io;
@@ -79,15 +82,47 @@ impl Appended {
             other => (self, other),
         }
     }
+
+    /// Tells that a crew stopped so in a batch behind these, and gives what is told of its fault.
+    fn stop(&mut self, block: NonZeroU32, fault: FileFault) -> FileFault
+        ensures { IsStopTold (non_zero_u32_get block) self.old fault self.new result }
+    {
+        let (told, fault) = self.behind_stop(block, fault);
+        *self = told;
+        fault
+    }
 }
 
 /// What is to come of an input behind what was read.
-#[derive(Clone, Copy, Debug, PartialEq, Eq)]
+#[derive(Clone, Copy)]
 enum Rest {
     More,
     Nothing,
+    /// A line that was read is refused, by its number among those that were read.
+    Refused(Refusal),
     /// It wasn't read.
     Unread(Refusal),
+}
+
+impl Rest {
+    /// The same, unless a line that was read is refused.
+    fn or_refused(self, refusal: Option<Refusal>) -> Rest
+        ensures { result ≡ Rest.Nothing → refusal ≡ None }
+    {
+        match refusal {
+            Some(refusal) => Rest::Refused(refusal),
+            None => self,
+        }
+    }
+}
+
+/// Growths of lines that were read, and what is to come behind them.
+#[derive(Drop)]
+struct Batch<R> {
+    growths: Growths<R>,
+    /// How many lines they are of.
+    lines: u64,
+    rest: Rest,
 }
 
 /// Reads into the buffer until it has a batch more and ends in or behind a line that it has whole.
@@ -157,7 +192,104 @@ fn append_growths<
     }
 }
 
-/// Appends the growths of the lines of an input of any length to a vault, some blocks of lines after the other.
+/// Reads some blocks of lines behind those that were read, and their growths.
+fn read_batch<R: TextRecord, I: Read>(
+    alloc: Global,
+    reader: &mut I,
+    buffer: &mut Vec<u8>,
+    block: NonZeroU32,
+) -> Batch<R>
+    ensures { result.rest ≡ Rest.Nothing → AreLinesWithin (non_zero_u32_get block) (length result.growths.0) result.lines }
+{
+    let rest = fill(reader, buffer);
+    let len = match rest {
+        Rest::Nothing => buffer.len(),
+        _ => whole_blocks(buffer, block),
+    };
+    let Front { blocks, refusal } = read_front::<R>(alloc, &buffer[..len], block);
+    buffer.drain(..len);
+    let Blocks { growths, lines } = blocks;
+    Batch {
+        growths,
+        lines,
+        rest: rest.or_refused(refusal),
+    }
+}
+
+/// What comes behind a batch that stands in a vault, with so many lines behind others: the vault, where more is to be read;
+/// else its disk, and how it is over.
+fn go_on<R: Record, D: Disk>(
+    vault: Vault<R, D>,
+    rest: Rest,
+    before: u64,
+    lines: u64,
+    appended: &mut Appended,
+) -> Result<Vault<R, D>, (D, Result<(), FileFault>)>
+    ensures on { IfOk result (λ new. (new ≡ vault) × (appended.new ≡ appended.old)) }
+    ensures over { (block : ℕ) → (v : VaultOf R D) → HasGone R.form D.keeps D.states block v vault appended.old
+        → (rest ≡ Rest.Nothing → IsLast block before lines appended.old.lines)
+        → IfErr result (λ r. HasAppended R.form D.keeps D.states block v r.0 appended.new r.1) }
+    ensures disk { IfErr result (λ r. r.0 ≡ vault.pen.disk) }
+{
+    match rest {
+        Rest::More => Ok(vault),
+        Rest::Nothing => {
+            // The last block may have fewer lines.
+            appended.lines = before.saturating_add(lines);
+            Err((vault.into_disk(), Ok(())))
+        }
+        Rest::Refused(refusal) => {
+            let fault = FileFault::Input(behind(before, refusal));
+            Err((vault.into_disk(), Err(fault)))
+        }
+        Rest::Unread(refusal) => Err((vault.into_disk(), Err(FileFault::Input(refusal)))),
+    }
+}
+
+/// Appends a batch behind what is told, and tells it. Gives the vault back where more is to be read; else the disk, and how
+/// it is over.
+fn append_batch<
+    R: TextRecord,
+    S: Deck<R> + Drop,
+    D: Disk + Send + Drop,
+    P: Progress,
+    E: Threads + Wait + Sync,
+>(
+    rt: &E,
+    alloc: Global,
+    vault: Vault<R, D>,
+    batch: Batch<R>,
+    block: NonZeroU32,
+    progress: &P,
+    appended: &mut Appended,
+) -> Result<Vault<R, D>, (D, Result<(), FileFault>)>
+    requires settled { IsSettled R.form D.keeps D.states vault }
+    requires last { batch.rest ≡ Rest.Nothing → AreLinesWithin (non_zero_u32_get block) (length batch.growths.0) batch.lines }
+    ensures on { (v : VaultOf R D) → HasGone R.form D.keeps D.states (non_zero_u32_get block) v vault appended.old
+        → IfOk result (λ new. HasGone R.form D.keeps D.states (non_zero_u32_get block) v new appended.new) }
+    ensures over { (v : VaultOf R D) → HasGone R.form D.keeps D.states (non_zero_u32_get block) v vault appended.old
+        → IfErr result (λ r. HasAppended R.form D.keeps D.states (non_zero_u32_get block) v r.0 appended.new r.1) }
+    ensures model { IfErr result (λ r. D.keeps r.0 → D.keeps vault.pen.disk) }
+{
+    let Batch {
+        growths,
+        lines,
+        rest,
+    } = batch;
+    let count = growths.count() as u64;
+    match append_growths::<R, S, D, E>(rt, alloc, vault, growths) {
+        Ok(grown) => {
+            let before = appended.lines;
+            *appended = appended.and(count, block, grown.len());
+            progress.at(appended.growths, 0);
+            go_on(grown, rest, before, lines, appended)
+        }
+        Err((disk, fault)) => Err((disk, Err(appended.stop(block, fault)))),
+    }
+}
+
+/// Appends the growths of the lines of an input of any length to a vault, some blocks of lines after the other. The buffer
+/// holds what was read, and is empty before.
 fn append_all<
     R: TextRecord,
     S: Deck<R> + Drop,
@@ -170,6 +302,7 @@ fn append_all<
     alloc: Global,
     vault: Vault<R, D>,
     reader: &mut I,
+    buffer: &mut Vec<u8>,
     block: NonZeroU32,
     progress: &P,
 ) -> (D, Appended, Result<(), FileFault>)
@@ -183,45 +316,72 @@ fn append_all<
         lines: 0,
         size: vault.len(),
     };
-    let mut buffer = Vec::new(alloc);
     for _ in 0..u64::MAX {
-        let rest = fill(reader, &mut buffer);
-        let len = match rest {
-            Rest::Nothing => buffer.len(),
-            Rest::More | Rest::Unread(_) => whole_blocks(&buffer, block),
-        };
-        let Front { blocks, refusal } = read_front::<R>(alloc, &buffer[..len], block);
-        let Blocks { growths, lines } = blocks;
-        let count = growths.count() as u64;
-        vault = match append_growths::<R, S, D, E>(rt, alloc, vault, growths) {
+        let batch = read_batch::<R, I>(alloc, reader, buffer, block);
+        vault = match append_batch::<R, S, D, P, E>(
+            rt,
+            alloc,
+            vault,
+            batch,
+            block,
+            progress,
+            &mut appended,
+        ) {
             Ok(grown) => grown,
-            Err((disk, fault)) => {
-                let (told, fault) = appended.behind_stop(block, fault);
-                return (disk, told, Err(fault));
-            }
+            Err((disk, done)) => return (disk, appended, done),
         };
-        let before = appended.lines;
-        appended = appended.and(count, block, vault.len());
-        progress.at(appended.growths, 0);
-        if let Some(refusal) = refusal {
-            let fault = FileFault::Input(behind(before, refusal));
-            return (vault.into_disk(), appended, Err(fault));
-        }
-        match rest {
-            Rest::More => {}
-            Rest::Nothing => {
-                // The last block may have fewer lines.
-                appended.lines = before.saturating_add(lines);
-                return (vault.into_disk(), appended, Ok(()));
-            }
-            Rest::Unread(refusal) => {
-                return (vault.into_disk(), appended, Err(FileFault::Input(refusal)));
-            }
-        }
-        buffer.drain(..len);
     }
     let fault = FileFault::Input(Refusal::InputTooLong);
     (vault.into_disk(), appended, Err(fault))
+}
+
+/// Writes what was appended, where all of it was.
+fn tell_appended<W: Write>(writer: &mut W, appended: Appended, done: Result<(), FileFault>) -> Ended
+    ensures ends { MatchResult done (λ _. (result ≡ Ended.Done) ⊎ (result ≡ Ended.OutputFailed)) (λ fault. result ≡ Ended.Refused fault) }
+    ensures writes { WritesText (W.contents writer.old) (W.contents writer.new) (appended_line appended.growths appended.size) result }
+{
+    match done {
+        Ok(()) => Ended::told(write_appended(writer, appended)),
+        Err(fault) => Ended::Refused(fault),
+    }
+}
+
+/// Appends the growths of an input to the vault of a file that was opened, and writes that.
+fn append_opened<
+    R: TextRecord,
+    S: Deck<R> + Drop,
+    D: Disk + Send + Drop,
+    I: Read,
+    W: Write,
+    P: Progress,
+    E: Threads + Wait + Sync,
+>(
+    rt: &E,
+    alloc: Global,
+    vault: Vault<R, D>,
+    reader: &mut I,
+    block: NonZeroU32,
+    progress: &P,
+    writer: &mut W,
+) -> (D, Appended, Ended)
+    requires { D.keeps vault.pen.disk → vault.sure ≡ list_of vault }
+    ensures stands { (disk : D) → IsOpenedOn R.form D.keeps D.states D.faults disk vault → EndsAs (HasAppendedAll R.form D.keeps D.states (non_zero_u32_get block) disk result.0 result.1) (IsAppendRefusal R.form D.keeps D.states D.faults (non_zero_u32_get block) disk result.0 result.1) result.2 }
+    ensures model { D.keeps result.0 → D.keeps vault.pen.disk }
+    ensures writes { WritesText (W.contents writer.old) (W.contents writer.new) (appended_line result.1.growths result.1.size) result.2 }
+{
+    // Whatever a crash leaves now opens to the list.
+    let _disk = vault.disk();
+    let mut buffer = Vec::new(alloc);
+    let (disk, appended, done) = append_all::<R, S, D, I, P, E>(
+        rt,
+        alloc,
+        vault,
+        reader,
+        &mut buffer,
+        block,
+        progress,
+    );
+    (disk, appended, tell_appended(writer, appended, done))
 }
 
 /// Appends the records of an input of any length: those of so many lines, a block, are one growth, and those of the lines
@@ -255,27 +415,17 @@ pub fn append<
     ensures model { D.keeps result.0 → D.keeps disk }
     ensures writes { WritesText (W.contents writer.old) (W.contents writer.new) (appended_line result.1.growths result.1.size) result.2 }
 {
-    let vault = match Vault::<R, D>::open(alloc, disk) {
-        Ok(vault) => vault,
+    match Vault::<R, D>::open(alloc, disk) {
+        Ok(vault) => append_opened::<R, S, D, I, W, P, E>(
+            rt, alloc, vault, reader, block, progress, writer,
+        ),
         Err((disk, fault)) => {
             let none = Appended {
                 growths: 0,
                 lines: 0,
                 size: 0,
             };
-            return (disk, none, Ended::Refused(FileFault::Open(fault)));
+            (disk, none, Ended::Refused(FileFault::Open(fault)))
         }
-    };
-    // Whatever a crash leaves now opens to the list.
-    let _disk = vault.disk();
-    let (disk, appended, done) = append_all::<R, S, D, I, P, E>(
-        rt, alloc, vault, reader, block, progress,
-    );
-    match done {
-        Ok(()) => {
-            let written = write_appended(writer, appended);
-            (disk, appended, Ended::told(written))
-        }
-        Err(fault) => (disk, appended, Ended::Refused(fault)),
     }
 }

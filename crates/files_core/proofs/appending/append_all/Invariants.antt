@@ -1,5 +1,5 @@
 use Rattle.std.specs.NonZero.{non_zero_u32_get}
-use Rattle.files_core.proofs.Standing.{HasGone}
+use Rattle.files_core.specs.Appending.{HasGone}
 use Rattle.files_core.proofs.appending.append_all.Given as goal
 
 abbrev pub invariant-loop : goal.invariant-loop

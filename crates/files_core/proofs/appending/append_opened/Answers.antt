@@ -1,0 +1,13 @@
+use Rattle.std.specs.NonZero.{non_zero_u32_get}
+use Rattle.files_core.proofs.Standing.{appended_ends, sure_settled}
+use Rattle.files_core.proofs.appending.append_opened.Goals as goal
+
+pub append_all-disk-requires-after_bounds : goal.append_all-disk-requires-after_bounds
+append_all-disk-requires-after_bounds g c κs within =
+    sure_settled g.R.Record.form g.D.Disk.keeps g.D.Disk.states c.disk-disk.result.now c.args.vault c.requires c.disk-disk.ensures.disk c.disk-disk.ensures.images
+
+pub returns-clause-stands : goal.returns-clause-stands
+returns-clause-stands g c disk opened =
+    appended_ends g.R.Record.form g.D.Disk.keeps g.D.Disk.states g.D.Disk.faults (non_zero_u32_get c.args.block)
+    disk c.append_all-disk.result.0 c.args.vault c.append_all-disk.result.1 opened c.append_all-disk.ensures.model
+    c.append_all-disk.result.2 c.tell_appended.result c.tell_appended.ensures.ends c.append_all-disk.ensures.stands
