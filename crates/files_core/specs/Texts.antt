@@ -29,6 +29,9 @@ abbrev pub appended_line : ℕ → ℕ → List ℕ
 appended_line growths size = ended_line ((codes "appended " ++ decimal growths) ++ (codes " growths, size " ++ decimal size))
 
 -- its version, its width, how many records, frames and live changes it has
+abbrev pub checked_front : {R : Type 0} → Scanned R → List ℕ
+checked_front scanned = (codes "ok version " ++ decimal scanned.version) ++ (codes " width " ++ decimal scanned.width) ++ (codes " size " ++ decimal (length scanned.records.items))
+
 abbrev pub checked_line : {R : Type 0} → Scanned R → List ℕ
 checked_line scanned =
     ended_line ((codes "ok version " ++ decimal scanned.version) ++ (codes " width " ++ decimal scanned.width) ++ (codes " size " ++ decimal (length scanned.records.items))

@@ -6,7 +6,7 @@ ghost use Rattle.disk_core.specs.Calls.{bytes_of};
 ghost use Rattle.files_core.specs.Checking.{IsChecked};
 ghost use Rattle.files_core.specs.Ended.{Writes};
 ghost use Rattle.files_core.specs.Opened.{OnlyReads};
-ghost use Rattle.files_core.specs.Texts.{checked_line};
+ghost use Rattle.files_core.specs.Texts.{checked_front, checked_line};
 
 use crate::ended::Ended;
 use crate::fault::FileFault;
@@ -26,12 +26,19 @@ pub(crate) fn live_changes<R>(scanned: &Scanned<R>) -> u64
     scanned.changes.saturating_sub(scanned.folded)
 }
 
-fn write_checked<R, W: Write>(writer: &mut W, scanned: &Scanned<R>) -> io::Result<()>
-    ensures { OnOk result (Appends (W.contents writer.old) (W.contents writer.new) (checked_line scanned.now)) }
+/// Writes the front of the line: the version, the width and the size.
+fn write_sized<R, W: Write>(writer: &mut W, scanned: &Scanned<R>) -> io::Result<()>
+    ensures { OnOk result (Appends (W.contents writer.old) (W.contents writer.new) (checked_front scanned.now)) }
 {
     write_numbered(writer, b"ok version ", scanned.version as u64)?;
     write_numbered(writer, b" width ", scanned.width as u64)?;
-    write_numbered(writer, b" size ", scanned.records.as_slice().len() as u64)?;
+    write_numbered(writer, b" size ", scanned.records.as_slice().len() as u64)
+}
+
+fn write_checked<R, W: Write>(writer: &mut W, scanned: &Scanned<R>) -> io::Result<()>
+    ensures { OnOk result (Appends (W.contents writer.old) (W.contents writer.new) (checked_line scanned.now)) }
+{
+    write_sized(writer, scanned)?;
     write_numbered(writer, b" frames ", scanned.frames)?;
     write_numbered(writer, b" live ", live_changes(scanned))?;
     write_line(b"", writer)

@@ -1,10 +1,13 @@
 //! `fold`: live changes put into their home bytes.
 
-ghost use Rattle.std.specs.Prelude.{◌≡◌, ◌⊎◌, ◌+◌, None, OnOk, IfErr, MatchResult};
+ghost use Rattle.std.specs.Prelude.{◌≡◌, ◌⊎◌, ◌+◌, ◌-◌, None, OnOk, IfOk, IfErr, MatchResult};
 ghost use Rattle.std.specs.Io.KnownBytes.{Appends};
 ghost use Rattle.disk_core.specs.Calls.{bytes_of};
 ghost use Rattle.files_core.specs.Ended.{EndsAs, Writes};
 ghost use Rattle.disk_core.specs.Moments.{LeavesOnly};
+ghost use Rattle.segment_core.specs.Scanned.{IsScanOf};
+ghost use Rattle.segment_core.specs.declared.vector.Scanned.{Scanned};
+ghost use Rattle.pen_core.specs.Opening.{IsOpenRefusal, OnlySyncs, failed_openings};
 ghost use Rattle.vault_core.specs.Commands.{failed};
 ghost use Rattle.vault_core.specs.Vault.{MayHold, list_of};
 ghost use Rattle.files_core.specs.Folding.{IsAllFolded, IsFolded, IsFoldRefusal, IsFoldingFault, NoneLive, Stays, failed_folding};
@@ -15,12 +18,29 @@ use crate::ended::Ended;
 use crate::fault::FileFault;
 use crate::scanning::scan_disk;
 use disk_core::Disk;
+use pen_core::OpenFault;
 use record_core::Record;
 use std::alloc::Global;
 use std::io;
 use std::io::Write;
 use text_core::{write_line, write_numbered};
 use vault_core::{Vault, VaultFault};
+
+/// How many changes are live in the file on the disk.
+fn count_live<R: Record, D: Disk>(alloc: Global, disk: &mut D) -> Result<u64, OpenFault>
+    ensures found { IfOk result (λ live. (scanned : Scanned R) × (D.keeps disk.new → IsScanOf R.form (bytes_of (D.states disk.old)) scanned) × (live ≡ scanned.changes - scanned.folded)) }
+    ensures refused { D.keeps disk.new → IfErr result (IsOpenRefusal R.form (bytes_of (D.states disk.old))) }
+    ensures only_syncs { D.keeps disk.new → OnlySyncs (D.states disk.old) (D.states disk.new) }
+    ensures faults { MatchResult result
+        (λ _. D.faults disk.new ≡ D.faults disk.old)
+        (λ fault. D.faults disk.new ≡ D.faults disk.old + failed_openings fault) }
+    ensures model { D.keeps disk.new → D.keeps disk.old }
+{
+    match scan_disk::<R, D>(alloc, disk) {
+        Ok(scanned) => Ok(live_changes(&scanned)),
+        Err(fault) => Err(fault),
+    }
+}
 
 /// Folds all live changes, and settles: where no job was in hand, nothing is live then.
 fn fold_vault<R: Record, D: Disk>(vault: &mut Vault<R, D>) -> Result<(), VaultFault>
@@ -58,8 +78,8 @@ pub fn fold<R: Record, D: Disk, W: Write>(alloc: Global, disk: D, writer: &mut W
     ensures writes { Writes (W.contents writer.old) (W.contents writer.new) (IsFolded R.form (D.keeps result.0) (bytes_of (D.states disk))) result.1 }
 {
     let mut disk = disk;
-    let live = match scan_disk::<R, D>(alloc, &mut disk) {
-        Ok(scanned) => live_changes(&scanned),
+    let live = match count_live::<R, D>(alloc, &mut disk) {
+        Ok(live) => live,
         Err(fault) => return (disk, Ended::Refused(FileFault::Open(fault))),
     };
     let mut vault = match Vault::<R, D>::open(alloc, disk) {

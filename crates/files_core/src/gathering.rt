@@ -1,6 +1,6 @@
 //! Lines that are gathered: so many of them are a block.
 
-ghost use Rattle.std.specs.Prelude.{◌≡◌, ◌<◌, ◌≤◌, ◌++◌, length, OnOk, IfOk};
+ghost use Rattle.std.specs.Prelude.{◌≡◌, ◌<◌, ◌≤◌, ◌++◌, [], length, OnOk, IfOk};
 ghost use Rattle.std.specs.NonZero.{non_zero_u32_get};
 ghost use Rattle.files_core.specs.LineBlocks.{AreLineBlocks};
 
@@ -18,6 +18,31 @@ fn extend<R: Copy>(growths: &mut Growths<R>, records: &[R]) -> Result<(), AllocE
     Ok(())
 }
 
+/// Gathers so many growths into one each, behind none; those behind them, which are fewer, into a last one.
+fn gather_into<R: Copy>(
+    lines: &Growths<R>,
+    block: u32,
+    growths: &mut Growths<R>,
+) -> Result<(), AllocError>
+    requires some { 0 < block }
+    requires none { growths.old ≡ ([], []) }
+    ensures { OnOk result (AreLineBlocks block lines.now.0 growths.new.0) }
+{
+    let mut held: u32 = 0;
+    for k in 0..lines.count() {
+        extend(growths, lines.growth(k))?;
+        held += 1;
+        if held == block {
+            growths.end()?;
+            held = 0;
+        }
+    }
+    if held > 0 {
+        growths.end()?;
+    }
+    Ok(())
+}
+
 /// Gathers so many growths into one each; those behind them, which are fewer, into a last one.
 fn gather_some<R: Copy>(
     alloc: Global,
@@ -28,18 +53,7 @@ fn gather_some<R: Copy>(
     ensures { IfOk result (λ growths. AreLineBlocks block lines.now.0 growths.0) }
 {
     let mut growths = Growths::new(alloc);
-    let mut held: u32 = 0;
-    for k in 0..lines.count() {
-        extend(&mut growths, lines.growth(k))?;
-        held += 1;
-        if held == block {
-            growths.end()?;
-            held = 0;
-        }
-    }
-    if held > 0 {
-        growths.end()?;
-    }
+    gather_into(lines, block, &mut growths)?;
     Ok(growths)
 }
 

@@ -85,6 +85,35 @@ fn take_piece<R: Record>(scanner: &mut Scanner<R>, piece: &[u8]) -> Result<(), O
     }
 }
 
+/// Feeds the first bytes that stand on the disk, so many, and a tail behind them to the scanner.
+fn feed_front<R: Record, D: Disk>(
+    disk: &mut D,
+    len: u64,
+    tail: &[u8],
+    scanner: &mut Scanner<R>,
+) -> Result<(), OpenFault>
+    requires length { D.keeps disk.old → len ≤ length (bytes_of (D.states disk.old)) }
+    requires fits { len + length tail.now < 2 ^ 64 }
+    requires begun { IsFed R.form [] scanner.old }
+    ensures fed { D.keeps disk.new → OnOk result (IsFed R.form (take len (bytes_of (D.states disk.old)) ++ tail.now) scanner.new) }
+    ensures some { OnOk result ((image : List ℕ) × IsFed R.form image scanner.new) }
+    ensures refused { D.keeps disk.new → IfErr result (IsOpenRefusal R.form (take len (bytes_of (D.states disk.old)) ++ tail.now)) }
+    ensures same { D.keeps disk.new → now (D.states disk.new) ≡ now (D.states disk.old) }
+    ensures images { D.keeps disk.new → LeavesOnly (D.states disk.old) (D.states disk.new) (IsImage (now (D.states disk.old))) }
+    ensures faults { MatchResult result
+        (λ _. D.faults disk.new ≡ D.faults disk.old)
+        (λ fault. D.faults disk.new ≡ D.faults disk.old + failed_openings fault) }
+    ensures model { D.keeps disk.new → D.keeps disk.old }
+{
+    if let Err(fault) = feed_all(disk, len, scanner) {
+        return Err(fault);
+    }
+    if let Err(fault) = take_piece(scanner, tail) {
+        return Err(fault);
+    }
+    Ok(())
+}
+
 /// Scans the first bytes that stand on the disk, so many, with a tail behind them.
 pub(crate) fn scan_front<R: Record, D: Disk>(
     alloc: Global,
@@ -104,10 +133,7 @@ pub(crate) fn scan_front<R: Record, D: Disk>(
     ensures model { D.keeps disk.new → D.keeps disk.old }
 {
     let mut scanner = Scanner::of_length(alloc, len);
-    if let Err(fault) = feed_all(disk, len, &mut scanner) {
-        return Err(fault);
-    }
-    if let Err(fault) = take_piece(&mut scanner, tail) {
+    if let Err(fault) = feed_front(disk, len, tail, &mut scanner) {
         return Err(fault);
     }
     match scanner.end() {

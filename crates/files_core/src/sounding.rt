@@ -1,11 +1,13 @@
 //! What is sound of a damaged file.
 
-ghost use Rattle.std.specs.Prelude.{◌≡◌, ◌⊎◌, ◌≤◌, ◌<◌, ◌+◌, ◌^◌, MatchOption, MatchResult, IfOk, IfErr};
+ghost use Rattle.std.specs.Prelude.{◌≡◌, ◌⊎◌, ◌≤◌, ◌<◌, ◌+◌, ◌^◌, ◌++◌, length, take, MatchOption, MatchResult, IfOk, IfErr};
 ghost use Rattle.disk_core.specs.Calls.{bytes_of};
 ghost use Rattle.disk_core.specs.Moments.{LeavesOnly};
 ghost use Rattle.disk_core.specs.State.{now, IsImage};
 ghost use Rattle.segment_core.specs.Fault.{damaged};
-ghost use Rattle.pen_core.specs.Opening.{failed_openings};
+ghost use Rattle.segment_core.specs.Scanned.{IsScanOf};
+ghost use Rattle.segment_core.specs.declared.vector.Scanned.{Scanned};
+ghost use Rattle.pen_core.specs.Opening.{IsOpenRefusal, failed_openings};
 ghost use Rattle.pen_core.specs.declared.fault.OpenFault.TheVariants as faults;
 ghost use Rattle.files_core.specs.SoundFront.{IsNoCutOf, IsSoundFront, IsFrontRefusal};
 
@@ -32,6 +34,30 @@ fn end_of_frames(fault: OpenFault, len: u64) -> Option<u64>
     }
 }
 
+/// How many records the first bytes of the disk have, so many, with a tail behind them.
+fn count_front<R: Record, D: Disk>(
+    alloc: Global,
+    disk: &mut D,
+    len: u64,
+    tail: &[u8],
+) -> Result<u64, OpenFault>
+    requires length { D.keeps disk.old → len ≤ length (bytes_of (D.states disk.old)) }
+    requires fits { len + length tail.now < 2 ^ 64 }
+    ensures found { D.keeps disk.new → IfOk result (λ n. (scanned : Scanned R) × IsScanOf R.form (take len (bytes_of (D.states disk.old)) ++ tail.now) scanned × (n ≡ length scanned.records.items)) }
+    ensures refused { D.keeps disk.new → IfErr result (IsOpenRefusal R.form (take len (bytes_of (D.states disk.old)) ++ tail.now)) }
+    ensures same { D.keeps disk.new → now (D.states disk.new) ≡ now (D.states disk.old) }
+    ensures images { D.keeps disk.new → LeavesOnly (D.states disk.old) (D.states disk.new) (IsImage (now (D.states disk.old))) }
+    ensures faults { MatchResult result
+        (λ _. D.faults disk.new ≡ D.faults disk.old)
+        (λ fault. D.faults disk.new ≡ D.faults disk.old + failed_openings fault) }
+    ensures model { D.keeps disk.new → D.keeps disk.old }
+{
+    match scan_front::<R, D>(alloc, disk, len, tail) {
+        Ok(scanned) => Ok(scanned.records.as_slice().len() as u64),
+        Err(fault) => Err(fault),
+    }
+}
+
 /// How many records are sound of a file that is damaged at `at`: those of the frames that stand whole before it. The disk is
 /// only read. Refused: where these are no file, as a scan of them, or by a call of the disk.
 pub fn sound_front<R: Record, D: Disk>(
@@ -52,15 +78,15 @@ pub fn sound_front<R: Record, D: Disk>(
         Ok(len) => len.min(at),
         Err(fault) => return Err(OpenFault::Disk(fault)),
     };
-    let fault = match scan_front::<R, D>(alloc, disk, len, &[]) {
-        Ok(scanned) => return Ok(scanned.records.as_slice().len() as u64),
+    let fault = match count_front::<R, D>(alloc, disk, len, &[]) {
+        Ok(count) => return Ok(count),
         Err(fault) => fault,
     };
     let Some(end) = end_of_frames(fault, len) else {
         return Err(fault);
     };
-    match scan_front::<R, D>(alloc, disk, end, &[CLOSED_GATE]) {
-        Ok(scanned) => Ok(scanned.records.as_slice().len() as u64),
+    match count_front::<R, D>(alloc, disk, end, &[CLOSED_GATE]) {
+        Ok(count) => Ok(count),
         Err(fault) => Err(fault),
     }
 }

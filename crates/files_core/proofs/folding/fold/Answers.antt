@@ -19,9 +19,9 @@ returns-in-Err-open-clause-stays g c = (
   (λ model.
       let e = c.in-Err-open.ensures in
       let mid = e.model model in
-      let first = c.scan_disk.ensures.only_syncs mid in (
-        subst (λ (bs : List ℕ). IsOpenRefusal g.R.Record.form bs c.in-Err-open.fault) (bytes_stay (g.D.Disk.states c.args.disk) (g.D.Disk.states c.scan_disk.new.disk) first) (e.refused model),
-        opened_again (g.D.Disk.states c.args.disk) (g.D.Disk.states c.scan_disk.new.disk) (g.D.Disk.states c.in-Err-open.disk) (g.met.D.Disk.reads_an_image c.args.disk (c.scan_disk.ensures.model mid)) first (e.only_syncs model),
+      let first = c.count_live.ensures.only_syncs mid in (
+        subst (λ (bs : List ℕ). IsOpenRefusal g.R.Record.form bs c.in-Err-open.fault) (bytes_stay (g.D.Disk.states c.args.disk) (g.D.Disk.states c.count_live.new.disk) first) (e.refused model),
+        opened_again (g.D.Disk.states c.args.disk) (g.D.Disk.states c.count_live.new.disk) (g.D.Disk.states c.in-Err-open.disk) (g.met.D.Disk.reads_an_image c.args.disk (c.count_live.ensures.model mid)) first (e.only_syncs model),
       )),
   c.in-Err-open.ensures.faults ∙ ap (λ n. n + failed_openings c.in-Err-open.fault) c.in-Ok.ensures.faults,
 )
@@ -29,29 +29,29 @@ returns-in-Err-open-clause-stays g c = (
 pub returns-in-Ok-fold_vault-clause-stays : goal.returns-in-Ok-fold_vault-clause-stays
 returns-in-Ok-fold_vault-clause-stays g c =
     let e = c.in-Ok-open.ensures in
-    let opened : IsOpenedOn g.R.Record.form g.D.Disk.keeps g.D.Disk.states g.D.Disk.faults c.scan_disk.new.disk c.in-Ok-open.vault = record { rests = e.rests; opened = e.opened; sure = e.sure; only_syncs = e.only_syncs; faults_same = e.faults; model = e.model } in
+    let opened : IsOpenedOn g.R.Record.form g.D.Disk.keeps g.D.Disk.states g.D.Disk.faults c.count_live.new.disk c.in-Ok-open.vault = record { rests = e.rests; opened = e.opened; sure = e.sure; only_syncs = e.only_syncs; faults_same = e.faults; model = e.model } in
     told_ends _ _ _ _ c.told.ensures (λ model.
     let own = subst g.D.Disk.keeps c.into_disk.ensures.disk model in
     let before = c.fold_vault.ensures.model own in
-    stays_by g.R.Record.form g.D.Disk.keeps g.D.Disk.states c.args.disk c.scan_disk.new.disk c.into_disk.result c.in-Ok-open.vault (g.met.D.Disk.reads_an_image c.args.disk (c.scan_disk.ensures.model (e.model before))) (c.scan_disk.ensures.only_syncs (e.model before)) opened before
+    stays_by g.R.Record.form g.D.Disk.keeps g.D.Disk.states c.args.disk c.count_live.new.disk c.into_disk.result c.in-Ok-open.vault (g.met.D.Disk.reads_an_image c.args.disk (c.count_live.ensures.model (e.model before))) (c.count_live.ensures.only_syncs (e.model before)) opened before
     (subst (λ d. LeavesOnly (g.D.Disk.states c.in-Ok-open.vault.pen.disk) (g.D.Disk.states d) (MayHold g.R.Record.form c.in-Ok-open.vault)) (sym c.into_disk.ensures.disk) (c.fold_vault.ensures.images own)))
 
 pub returns-in-Ok-fold_vault-clause-writes : goal.returns-in-Ok-fold_vault-clause-writes
 returns-in-Ok-fold_vault-clause-writes g c = told_answer _ _ _ _ _ _ c.told.ensures c.write_folded.ensures (record {
-  scanned = c.in-Ok.scanned;
-  scan = λ model. c.in-Ok.ensures.found (c.in-Ok-open.ensures.model (c.fold_vault.ensures.model (subst g.D.Disk.keeps c.into_disk.ensures.disk model)));
-  told = ap folded_line c.live_changes-live.ensures;
+  scanned = c.in-Ok.ensures.found.0;
+  scan = λ model. c.in-Ok.ensures.found.1 (c.in-Ok-open.ensures.model (c.fold_vault.ensures.model (subst g.D.Disk.keeps c.into_disk.ensures.disk model)));
+  told = ap folded_line c.in-Ok.ensures.found.2;
 })
 
 pub returns-in-Err-fold_vault-clause-stays : goal.returns-in-Err-fold_vault-clause-stays
 returns-in-Err-fold_vault-clause-stays g c =
     let e = c.in-Ok-open.ensures in
-    let opened : IsOpenedOn g.R.Record.form g.D.Disk.keeps g.D.Disk.states g.D.Disk.faults c.scan_disk.new.disk c.in-Ok-open.vault = record { rests = e.rests; opened = e.opened; sure = e.sure; only_syncs = e.only_syncs; faults_same = e.faults; model = e.model } in
+    let opened : IsOpenedOn g.R.Record.form g.D.Disk.keeps g.D.Disk.states g.D.Disk.faults c.count_live.new.disk c.in-Ok-open.vault = record { rests = e.rests; opened = e.opened; sure = e.sure; only_syncs = e.only_syncs; faults_same = e.faults; model = e.model } in
     record {
-      scanned = c.scan_disk.new.disk;
+      scanned = c.count_live.new.disk;
       vault = c.in-Ok-open.vault;
       pen = c.fold_vault.new.vault.pen;
-      only_syncs = c.scan_disk.ensures.only_syncs;
+      only_syncs = c.count_live.ensures.only_syncs;
       no_fault = c.in-Ok.ensures.faults;
       opened = opened;
       disk_is = sym c.into_disk-in-Err-fold_vault.ensures.disk;
@@ -60,7 +60,7 @@ returns-in-Err-fold_vault-clause-stays g c =
       stays = λ model.
           let own = subst g.D.Disk.keeps c.into_disk-in-Err-fold_vault.ensures.disk model in
           let before = c.fold_vault.ensures.model own in
-          stays_by g.R.Record.form g.D.Disk.keeps g.D.Disk.states c.args.disk c.scan_disk.new.disk c.into_disk-in-Err-fold_vault.result c.in-Ok-open.vault (g.met.D.Disk.reads_an_image c.args.disk (c.scan_disk.ensures.model (e.model before))) (c.scan_disk.ensures.only_syncs (e.model before)) opened before
+          stays_by g.R.Record.form g.D.Disk.keeps g.D.Disk.states c.args.disk c.count_live.new.disk c.into_disk-in-Err-fold_vault.result c.in-Ok-open.vault (g.met.D.Disk.reads_an_image c.args.disk (c.count_live.ensures.model (e.model before))) (c.count_live.ensures.only_syncs (e.model before)) opened before
           (subst (λ d. LeavesOnly (g.D.Disk.states c.in-Ok-open.vault.pen.disk) (g.D.Disk.states d) (MayHold g.R.Record.form c.in-Ok-open.vault)) (sym c.into_disk-in-Err-fold_vault.ensures.disk) (c.fold_vault.ensures.images own));
     }
 

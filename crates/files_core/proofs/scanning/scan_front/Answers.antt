@@ -1,27 +1,12 @@
-use Rattle.std.proofs.Common.{◌++◌, take, sym, subst}
+use Rattle.std.proofs.Common.{◌++◌, take}
 use Rattle.disk_core.specs.Calls.{bytes_of}
-use Rattle.pen_core.specs.Opening.{IsOpenRefusal}
-use Rattle.files_core.proofs.Scans.{fed_front, lost_here}
 use Rattle.files_core.proofs.scanning.scan_front.Goals as goal
 
-pub returns-in-Err-clause-refused : goal.returns-in-Err-clause-refused
-returns-in-Err-clause-refused g c = λ model. c.in-Err.ensures.refused model c.args.tail.now
-
-pub returns-in-Err-take_piece-clause-refused : goal.returns-in-Err-take_piece-clause-refused
-returns-in-Err-take_piece-clause-refused g c = λ model.
-    let front = take c.args.len (bytes_of (g.D.Disk.states c.args.disk.now)) in
-    let fed = fed_front g.R.Record.form (g.D.Disk.keeps c.feed_all.new.disk) (bytes_of (g.D.Disk.states c.args.disk.now)) c.args.len c.feed_all.new.scanner model (c.requires.length (c.feed_all.ensures.model model)) c.in_default.ensures.read in
-    subst (IsOpenRefusal g.R.Record.form (front ++ c.args.tail.now)) (sym c.in-Err-take_piece.ensures.memory.0)
-    (lost_here g.R.Record.form (front ++ c.args.tail.now) c.take_piece.new.scanner (c.take_piece.ensures.fed front fed) c.in-Err-take_piece.ensures.memory.1)
-
 pub returns-in-Ok-clause-found : goal.returns-in-Ok-clause-found
-returns-in-Ok-clause-found g c = λ model.
-    let front = take c.args.len (bytes_of (g.D.Disk.states c.args.disk.now)) in
-    let fed = fed_front g.R.Record.form (g.D.Disk.keeps c.feed_all.new.disk) (bytes_of (g.D.Disk.states c.args.disk.now)) c.args.len c.feed_all.new.scanner model (c.requires.length (c.feed_all.ensures.model model)) c.in_default.ensures.read in
-    c.in-Ok.ensures.answer (front ++ c.args.tail.now) (c.take_piece.ensures.fed front fed)
+returns-in-Ok-clause-found g c = λ model. c.in-Ok.ensures.answer (take c.args.len (bytes_of (g.D.Disk.states c.args.disk.now)) ++ c.args.tail.now) (c.in_default.ensures.fed model)
 
 pub returns-in-Err-end-clause-refused : goal.returns-in-Err-end-clause-refused
-returns-in-Err-end-clause-refused g c = λ model.
-    let front = take c.args.len (bytes_of (g.D.Disk.states c.args.disk.now)) in
-    let fed = fed_front g.R.Record.form (g.D.Disk.keeps c.feed_all.new.disk) (bytes_of (g.D.Disk.states c.args.disk.now)) c.args.len c.feed_all.new.scanner model (c.requires.length (c.feed_all.ensures.model model)) c.in_default.ensures.read in
-    c.in-Err-end.ensures.answer (front ++ c.args.tail.now) (c.take_piece.ensures.fed front fed)
+returns-in-Err-end-clause-refused g c = λ model. c.in-Err-end.ensures.answer (take c.args.len (bytes_of (g.D.Disk.states c.args.disk.now)) ++ c.args.tail.now) (c.in_default.ensures.fed model)
+
+pub end-requires-after_bounds : goal.end-requires-after_bounds
+end-requires-after_bounds g c κs within = c.in_default.ensures.some

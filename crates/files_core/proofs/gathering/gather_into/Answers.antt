@@ -1,7 +1,7 @@
 use Rattle.std.proofs.Common.{[], ◌∷◌, ◌++◌, ap, ◌∙◌, arith}
 use Rattle.files_core.proofs.Blocks.{gathered_line, gathered_block, gathered_as}
-use Rattle.files_core.proofs.gathering.gather_some.Goals.{then-held-block+in_ok-end, else-held-block}
-use Rattle.files_core.proofs.gathering.gather_some.Goals as goal
+use Rattle.files_core.proofs.gathering.gather_into.Goals.{then-held-block+in_ok-end, else-held-block}
+use Rattle.files_core.proofs.gathering.gather_into.Goals as goal
 
 pub loop-k-preserved : goal.loop-k-preserved
 loop-k-preserved g c =
