@@ -224,26 +224,42 @@ Refused: file, old and FILE's first fault, not version 1, new exists (remove NEW
 faults of a write.
 ";
 
+/// The commands, and what is told of each.
+const TOLD: [(&str, &[u8]); 17] = [
+    ("image", IMAGE),
+    ("show", SHOW),
+    ("play", PLAY),
+    ("create", CREATE),
+    ("load", LOAD),
+    ("append", APPEND),
+    ("check", CHECK),
+    ("list", LIST),
+    ("count", COUNT),
+    ("find", FIND),
+    ("set", SET),
+    ("resize", RESIZE),
+    ("clear", CLEAR),
+    ("fold", FOLD),
+    ("upgrade", UPGRADE),
+    ("stat", STAT),
+    ("serve", SERVE),
+];
+
 /// What is told of a command.
 pub fn help_of(command: &str) -> Option<&'static [u8]> {
-    match command {
-        "image" => Some(IMAGE),
-        "show" => Some(SHOW),
-        "play" => Some(PLAY),
-        "create" => Some(CREATE),
-        "load" => Some(LOAD),
-        "append" => Some(APPEND),
-        "check" => Some(CHECK),
-        "list" => Some(LIST),
-        "count" => Some(COUNT),
-        "find" => Some(FIND),
-        "set" => Some(SET),
-        "resize" => Some(RESIZE),
-        "clear" => Some(CLEAR),
-        "fold" => Some(FOLD),
-        "upgrade" => Some(UPGRADE),
-        "stat" => Some(STAT),
-        "serve" => Some(SERVE),
+    for (name, text) in TOLD {
+        if name == command {
+            return Some(text);
+        }
+    }
+    None
+}
+
+/// What two words that ask the program of itself are answered with.
+fn told_of_two(first: &str, second: &str) -> Option<&'static [u8]> {
+    match (first, second) {
+        (command, "--help" | "-h") => help_of(command),
+        ("help", command) => help_of(command),
         _ => None,
     }
 }
@@ -252,10 +268,7 @@ pub fn help_of(command: &str) -> Option<&'static [u8]> {
 pub fn told_of(words: &[String]) -> Option<&'static [u8]> {
     match words {
         [word] if word.as_str() == "--version" => Some(VERSION),
-        [command, word] if word.as_str() == "--help" || word.as_str() == "-h" => {
-            help_of(command.as_str())
-        }
-        [word, command] if word.as_str() == "help" => help_of(command.as_str()),
+        [first, second] => told_of_two(first.as_str(), second.as_str()),
         _ => None,
     }
 }

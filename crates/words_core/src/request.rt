@@ -9,7 +9,7 @@ use stat_core::Form;
 use std::num::NonZeroU32;
 
 /// What is done with the input.
-#[derive(Clone, Copy, Debug, PartialEq, Eq)]
+#[derive(Clone, Copy)]
 pub enum Task {
     /// A segment file is made of group lines.
     Image,
@@ -20,7 +20,7 @@ pub enum Task {
 }
 
 /// The types of record that the program knows.
-#[derive(Clone, Copy, Debug, PartialEq, Eq)]
+#[derive(Clone, Copy)]
 pub enum RecordType {
     U32,
     U64,
@@ -56,7 +56,7 @@ impl RecordType {
 }
 
 /// What is done with a file. Words of records and numbers are as they were given.
-#[derive(Clone, Copy, Debug)]
+#[derive(Clone, Copy)]
 pub enum FileTask<'a> {
     /// A file of this version is made.
     Create(Format),
@@ -96,7 +96,7 @@ pub enum FileTask<'a> {
 }
 
 /// A command over a file.
-#[derive(Clone, Copy, Debug)]
+#[derive(Clone, Copy)]
 pub struct FileWords<'a> {
     pub task: FileTask<'a>,
     pub record_type: RecordType,
@@ -107,7 +107,7 @@ pub struct FileWords<'a> {
 }
 
 /// A look at a file whose type of record needn't be known.
-#[derive(Clone, Copy, Debug)]
+#[derive(Clone, Copy)]
 pub struct StatWords<'a> {
     /// The file's name.
     pub file: &'a str,
@@ -118,7 +118,7 @@ pub struct StatWords<'a> {
 }
 
 /// What the words ask for.
-#[derive(Clone, Copy, Debug)]
+#[derive(Clone, Copy)]
 pub enum Request<'a> {
     /// Work on the input alone.
     Input(Task, RecordType),

@@ -101,41 +101,57 @@ const COMMANDS: [&str; 17] = [
     "count", "find", "stat", "set", "resize", "clear", "fold",
 ];
 
+/// A command over a file, with a word of its own.
+fn with_word<'a>(
+    alloc: Global,
+    name: &'a str,
+    word: Arg<'a>,
+) -> Result<Command<'a>, AllocError> {
+    over_file(alloc, name)?.arg(word)
+}
+
+/// A command over a file, with two words of its own.
+fn with_words<'a>(
+    alloc: Global,
+    name: &'a str,
+    first: Arg<'a>,
+    second: Arg<'a>,
+) -> Result<Command<'a>, AllocError> {
+    with_word(alloc, name, first)?.arg(second)
+}
+
+/// A value that is joined to its name and has to be there.
+fn needed<'a>(alloc: Global, name: &'a str) -> Arg<'a> {
+    joined(alloc, name).required(true)
+}
+
 /// A command that reads, with the words that are its own.
 fn reading<'a>(alloc: Global, name: &'a str) -> Result<Command<'a>, AllocError> {
-    let command = over_file(alloc, name)?;
     match name {
-        "list" => command
-            .arg(joined(alloc, "from"))?
-            .arg(joined(alloc, "count")),
-        "count" | "find" => command.arg(joined(alloc, "record").required(true)),
-        _ => Ok(command),
+        "list" => with_words(alloc, name, joined(alloc, "from"), joined(alloc, "count")),
+        "count" | "find" => with_word(alloc, name, needed(alloc, "record")),
+        _ => over_file(alloc, name),
     }
 }
 
 /// A command that appends, with the words that are its own.
 fn growing<'a>(alloc: Global, name: &'a str) -> Result<Command<'a>, AllocError> {
-    let command = over_file(alloc, name)?;
-    match name {
-        "create" => command.arg(joined(alloc, "format").value_parser(FORMATS.as_slice())),
-        "load" => command.arg(joined(alloc, "seats")),
-        "append" => command.arg(joined(alloc, "block")),
-        "serve" => command.arg(joined(alloc, "seats").required(true)),
-        _ => command.arg(word(alloc, "NEW")),
-    }
+    let own = match name {
+        "create" => joined(alloc, "format").value_parser(FORMATS.as_slice()),
+        "load" => joined(alloc, "seats"),
+        "append" => joined(alloc, "block"),
+        "serve" => needed(alloc, "seats"),
+        _ => word(alloc, "NEW"),
+    };
+    with_word(alloc, name, own)
 }
 
 /// A command that changes what is there, with the words that are its own.
 fn changing<'a>(alloc: Global, name: &'a str) -> Result<Command<'a>, AllocError> {
-    let command = over_file(alloc, name)?;
     match name {
-        "set" => command
-            .arg(word(alloc, "START"))?
-            .arg(joined(alloc, "records").required(true)),
-        "resize" => command
-            .arg(word(alloc, "N"))?
-            .arg(joined(alloc, "record").required(true)),
-        _ => Ok(command),
+        "set" => with_words(alloc, name, word(alloc, "START"), needed(alloc, "records")),
+        "resize" => with_words(alloc, name, word(alloc, "N"), needed(alloc, "record")),
+        _ => over_file(alloc, name),
     }
 }
 
@@ -186,13 +202,30 @@ fn record_type_of(word: &str) -> Option<RecordType>
     }
 }
 
+/// The program, which has none of its commands yet.
+fn program<'a>(alloc: Global) -> Command<'a> {
+    Command::new(alloc, "cvec")
+        .no_binary_name(true)
+        .subcommand_required(true)
+}
+
+/// The program with one more command.
+fn with_command<'a>(
+    alloc: Global,
+    all: Command<'a>,
+    name: &'a str,
+) -> Result<Command<'a>, AllocError> {
+    match command_of(alloc, name) {
+        Ok(command) => all.subcommand(command),
+        Err(error) => Err(error),
+    }
+}
+
 /// All commands.
 fn commands<'a>(alloc: Global) -> Result<Command<'a>, AllocError> {
-    let mut all = Command::new(alloc, "cvec")
-        .no_binary_name(true)
-        .subcommand_required(true);
+    let mut all = program(alloc);
     for name in COMMANDS {
-        all = all.subcommand(command_of(alloc, name)?)?;
+        all = with_command(alloc, all, name)?;
     }
     Ok(all)
 }
@@ -232,6 +265,27 @@ fn format_of(word: Option<&str>) -> Format {
     }
 }
 
+/// The task that takes a record, by the command's name.
+fn recorded_task<'a>(name: &str, words: &ArgMatches<'a>) -> Option<FileTask<'a>> {
+    let record = words.get_str("record")?;
+    match name {
+        "count" => Some(FileTask::Count(record)),
+        "find" => Some(FileTask::Find(record)),
+        _ => Some(FileTask::Resize {
+            len: words.get_str("N")?,
+            record,
+        }),
+    }
+}
+
+/// What the words of `set` ask for.
+fn set_task<'a>(words: &ArgMatches<'a>) -> Option<FileTask<'a>> {
+    Some(FileTask::Set {
+        start: words.get_str("START")?,
+        records: words.get_str("records")?,
+    })
+}
+
 /// The task over a file that a command's name and words ask for, where it has words of its own.
 fn worded_task<'a>(name: &str, words: &ArgMatches<'a>) -> Option<FileTask<'a>> {
     match name {
@@ -240,27 +294,26 @@ fn worded_task<'a>(name: &str, words: &ArgMatches<'a>) -> Option<FileTask<'a>> {
             from: words.get_str("from"),
             count: words.get_str("count"),
         }),
-        "count" => Some(FileTask::Count(words.get_str("record")?)),
-        "find" => Some(FileTask::Find(words.get_str("record")?)),
-        "set" => Some(FileTask::Set {
-            start: words.get_str("START")?,
-            records: words.get_str("records")?,
-        }),
-        "resize" => Some(FileTask::Resize {
-            len: words.get_str("N")?,
-            record: words.get_str("record")?,
-        }),
+        "count" | "find" | "resize" => recorded_task(name, words),
+        "set" => set_task(words),
         "upgrade" => Some(FileTask::Upgrade(words.get_str("NEW")?)),
         _ => None,
+    }
+}
+
+/// The task that appends, by the command's name.
+fn growing_task<'a>(name: &str, words: &ArgMatches<'a>) -> Result<FileTask<'a>, WordsFault> {
+    match name {
+        "append" => Ok(FileTask::Append(block_of(words.get_str("block"))?)),
+        "load" => Ok(FileTask::Load(seats_of(words.get_str("seats"))?)),
+        _ => Ok(FileTask::Serve(seats_of(words.get_str("seats"))?)),
     }
 }
 
 /// The task over a file that a command's name and words ask for.
 fn file_task<'a>(name: &str, words: &ArgMatches<'a>) -> Result<FileTask<'a>, WordsFault> {
     match name {
-        "load" => Ok(FileTask::Load(seats_of(words.get_str("seats"))?)),
-        "append" => Ok(FileTask::Append(block_of(words.get_str("block"))?)),
-        "serve" => Ok(FileTask::Serve(seats_of(words.get_str("seats"))?)),
+        "load" | "append" | "serve" => growing_task(name, words),
         "check" => Ok(FileTask::Check),
         "clear" => Ok(FileTask::Clear),
         "fold" => Ok(FileTask::Fold),
@@ -281,26 +334,49 @@ fn stat_words<'a>(words: &ArgMatches<'a>) -> Result<StatWords<'a>, WordsFault> {
     })
 }
 
+/// What the words of a command over a file ask for.
+fn file_words<'a>(
+    name: &str,
+    record_type: RecordType,
+    words: &ArgMatches<'a>,
+) -> Result<FileWords<'a>, WordsFault> {
+    Ok(FileWords {
+        task: file_task(name, words)?,
+        record_type,
+        file: words.get_str("FILE").ok_or(WordsFault::Usage)?,
+        quiet: words.get_flag("quiet"),
+    })
+}
+
+/// The type of record that the words name.
+fn type_of(words: &ArgMatches<'_>) -> Option<RecordType> {
+    record_type_of(words.get_str("TYPE")?)
+}
+
+/// What a command on records of a type asks for, by its name and words.
+fn typed_request<'a>(name: &str, words: &ArgMatches<'a>) -> Result<Request<'a>, WordsFault> {
+    let record_type = type_of(words).ok_or(WordsFault::Usage)?;
+    match task_of(name) {
+        Some(task) => Ok(Request::Input(task, record_type)),
+        None => Ok(Request::File(file_words(name, record_type, words)?)),
+    }
+}
+
+/// What the words that `clap` has matched ask for.
+fn request_of<'a>(matches: &ArgMatches<'a>) -> Result<Request<'a>, WordsFault> {
+    match matches.subcommand() {
+        Some(("stat", words)) => Ok(Request::Stat(stat_words(words)?)),
+        Some((name, words)) => typed_request(name, words),
+        None => Err(WordsFault::Usage),
+    }
+}
+
 /// What the words ask for.
 pub fn read_words<'a, S: AsStr>(alloc: Global, words: &'a [S]) -> Result<Request<'a>, WordsFault> {
-    let matches = matches_of(alloc, words)?;
-    let (name, of_command) = matches.subcommand().ok_or(WordsFault::Usage)?;
-    if name == "stat" {
-        return Ok(Request::Stat(stat_words(of_command)?));
+    match matches_of(alloc, words) {
+        Ok(matches) => request_of(&matches),
+        Err(error) => Err(WordsFault::from(error)),
     }
-    let word = of_command.get_str("TYPE").ok_or(WordsFault::Usage)?;
-    let record_type = record_type_of(word).ok_or(WordsFault::Usage)?;
-    if let Some(task) = task_of(name) {
-        return Ok(Request::Input(task, record_type));
-    }
-    let task = file_task(name, of_command)?;
-    let file = of_command.get_str("FILE").ok_or(WordsFault::Usage)?;
-    Ok(Request::File(FileWords {
-        task,
-        record_type,
-        file,
-        quiet: of_command.get_flag("quiet"),
-    }))
 }
 
 /// The error's own words, without the usage behind them. `None`: it is a request for help.
