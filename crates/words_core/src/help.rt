@@ -247,9 +247,9 @@ const TOLD: [(&str, &[u8]); 17] = [
 
 /// What is told of a command.
 pub fn help_of(command: &str) -> Option<&'static [u8]> {
-    for (name, text) in TOLD {
-        if name == command {
-            return Some(text);
+    for told in TOLD.iter() {
+        if told.0 == command {
+            return Some(told.1);
         }
     }
     None

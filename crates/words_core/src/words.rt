@@ -102,11 +102,7 @@ const COMMANDS: [&str; 17] = [
 ];
 
 /// A command over a file, with a word of its own.
-fn with_word<'a>(
-    alloc: Global,
-    name: &'a str,
-    word: Arg<'a>,
-) -> Result<Command<'a>, AllocError> {
+fn with_word<'a>(alloc: Global, name: &'a str, word: Arg<'a>) -> Result<Command<'a>, AllocError> {
     over_file(alloc, name)?.arg(word)
 }
 
@@ -224,8 +220,8 @@ fn with_command<'a>(
 /// All commands.
 fn commands<'a>(alloc: Global) -> Result<Command<'a>, AllocError> {
     let mut all = program(alloc);
-    for name in COMMANDS {
-        all = with_command(alloc, all, name)?;
+    for name in COMMANDS.iter() {
+        all = with_command(alloc, all, *name)?;
     }
     Ok(all)
 }
