@@ -6,7 +6,7 @@ use std::fs::{File, OpenOptions, TryLockError};
 use std::rt::Files;
 
 /// What a command does with a file.
-#[derive(Clone, Copy, Debug, PartialEq, Eq)]
+#[derive(Clone, Copy)]
 pub enum Access {
     /// It reads. Others may read at once.
     Reads,
@@ -34,7 +34,7 @@ fn lock<F: Files<File = File>>(
     let opened = OpenOptions::new()
         .read(true)
         .write(true)
-        .create(access == Access::Makes)
+        .create(matches!(access, Access::Makes))
         .open(files, path);
     let file = match opened {
         Ok(file) => file,

@@ -1,6 +1,7 @@
 //! The commands over files: words first, then the input, then the file.
 
-ghost use Rattle.std.specs.Prelude.{ℕ, List, Option};
+ghost use Rattle.std.specs.Prelude.{◌≡◌, ℕ, List, Option};
+ghost use Rattle.text_core.specs.Text.{record_lines};
 ghost use Rattle.words_core.specs.declared.request.FileTask.TheVariants as tasks;
 ghost use Rattle.cvec.specs.Answers.{IsAnswer};
 ghost use Rattle.cvec.specs.Runs.{IsFiled, IsStatusOf};
@@ -10,9 +11,9 @@ use crate::meter::CountingGate;
 use crate::serving::{fault_of, pipes_of, write_served};
 use disk_core::{Disk, FileDisk};
 use files_core::{
-    Deck, Ended, FileFault, Progress, Watched, append, check, clear, count, create, find, fold,
-    list, load, read_growth_lines, read_record, read_resizing, read_setting, read_window, resize,
-    set, sound_front, upgrade_file,
+    Deck, Ended, FileFault, Progress, Watched, Window, append, check, clear, count, create, find,
+    fold, list, load, read_growth_lines, read_record, read_resizing, read_setting, read_window,
+    resize, set, sound_front, upgrade_file,
 };
 use pen_core::OpenFault;
 use segment_core::{Format, ScanFault};
@@ -167,6 +168,26 @@ impl<'a, F: Files<File = File> + AllocGlobal, P: Progress + Sync> Filing<'a, F, 
         status_on::<R, Watched<'_, FileDisk, P>>(self.alloc, disk, ended)
     }
 
+    /// Lists the records of an opened file.
+    fn list_opened<R: TextRecord, W: Write>(
+        &self,
+        opened: Opened,
+        window: &Window,
+        writer: &mut W,
+    ) -> Result<Status, Complaint>
+        ensures { IsFiled (λ text. (records : List R) × (text ≡ record_lines R.spelling.text_of records)) (W.contents writer.old) (W.contents writer.new) result }
+    {
+        let Opened { disk, lock: _lock } = opened;
+        let (disk, ended) = list::<R, Watched<'_, FileDisk, P>, W, P>(
+            self.alloc,
+            self.watched(disk),
+            window,
+            self.progress,
+            writer,
+        );
+        status_on::<R, Watched<'_, FileDisk, P>>(self.alloc, disk, ended)
+    }
+
     fn list<R: TextRecord, W: Write>(
         &self,
         from: Option<&str>,
@@ -179,16 +200,8 @@ impl<'a, F: Files<File = File> + AllocGlobal, P: Progress + Sync> Filing<'a, F, 
             from.map(|word| word.as_bytes()),
             count.map(|word| word.as_bytes()),
         )?;
-        let Opened { disk, lock: _lock } = self.open(Access::Reads)?;
-        let disk = self.watched(disk);
-        let (disk, ended) = list::<R, Watched<'_, FileDisk, P>, W, P>(
-            self.alloc,
-            disk,
-            &window,
-            self.progress,
-            writer,
-        );
-        status_on::<R, Watched<'_, FileDisk, P>>(self.alloc, disk, ended)
+        let opened = self.open(Access::Reads)?;
+        self.list_opened::<R, W>(opened, &window, writer)
     }
 
     fn count<R: TextRecord, W: Write, E: Threads + Sync>(

@@ -182,7 +182,7 @@ fn run_stat<W: Write, F: Files<File = File> + AllocGlobal, P: Progress>(
 }
 
 /// How a run of the program ended, and what standard error has to tell of it.
-#[derive(Clone, Copy, Debug)]
+#[derive(Clone, Copy)]
 pub struct Outcome<'a> {
     pub status: Status,
     /// What the words asked for. `None`: nothing that the program does, or memory was refused before that was known.

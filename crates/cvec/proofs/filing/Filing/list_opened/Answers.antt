@@ -1,5 +1,5 @@
 use Rattle.cvec.proofs.Filings.{filed_of, written_as}
-use Rattle.cvec.proofs.filing.Filing.list.Goals as goal
+use Rattle.cvec.proofs.filing.Filing.list_opened.Goals as goal
 
 pub returns : goal.returns
 returns g c = filed_of _ (g.W.Write.contents c.args.writer.now) (g.W.Write.contents c.list-disk.new.writer) c.list-disk.result.1 _ c.status_on.ensures
