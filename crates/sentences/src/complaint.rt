@@ -13,7 +13,7 @@ use vault_core::{UpgradeFault, VaultFault};
 use words_core::{FileTask, FileWords, RecordType, Request, StatWords};
 
 /// Which of a command's files.
-#[derive(Clone, Copy, Debug, PartialEq, Eq)]
+#[derive(Clone, Copy)]
 pub enum Role {
     /// FILE.
     File,
@@ -24,7 +24,7 @@ pub enum Role {
 }
 
 /// Why a command over a file is refused.
-#[derive(Clone, Copy, Debug)]
+#[derive(Clone, Copy)]
 pub enum Complaint {
     /// The file can't be opened or made. Nothing was read or written.
     NotOpened(Role, io::Error),
@@ -76,7 +76,7 @@ fn name_of<'a>(words: &FileWords<'a>, role: Role) -> &'a str {
 /// What to do about a file or a pipe that isn't opened.
 fn about_error(role: Role, error: &io::Error) -> &'static str {
     match error.kind() {
-        ErrorKind::NotFound if role == Role::Pipe =>
+        ErrorKind::NotFound if matches!(role, Role::Pipe) =>
             "it isn't there: descriptors 3 and 4 are those of the first client, and two more those of each further one",
         ErrorKind::NotFound =>
             "there is no such file, or no folder for it; `cvec create` makes a file",
@@ -106,25 +106,34 @@ fn write_not_opened<W: fmt::Write>(
     write!(f, "{name}: {about} ({error}); nothing was read or written")
 }
 
+/// What the sentence of a word that is refused begins with.
+fn begin_of_word(word: Word) -> &'static str {
+    match word {
+        Word::Start => "START is ",
+        Word::Length => "N is ",
+        Word::From => "the value of --from is ",
+        Word::Count => "the value of --count is ",
+        Word::Record => "the value of --record isn't ",
+        Word::Records => "of the values of --records, with a comma between each two, one isn't ",
+    }
+}
+
+/// What a word that is refused is, or isn't where it stands for records.
+fn form_of_word(word: Word, record_type: RecordType) -> &'static str {
+    match word {
+        Word::Record | Word::Records => record_form(record_type),
+        _ => "no number of decimal digits without a zero in front",
+    }
+}
+
 fn write_word<W: fmt::Write>(
     f: &mut Formatter<W>,
     words: &FileWords<'_>,
     word: Word,
 ) -> fmt::Result {
-    let record = record_form(words.record_type);
-    let number = "no number of decimal digits without a zero in front";
-    match word {
-        Word::Start => write!(f, "START is {number}")?,
-        Word::Length => write!(f, "N is {number}")?,
-        Word::From => write!(f, "the value of --from is {number}")?,
-        Word::Count => write!(f, "the value of --count is {number}")?,
-        Word::Record => write!(f, "the value of --record isn't {record}")?,
-        Word::Records => write!(
-            f,
-            "of the values of --records, with a comma between each two, one isn't {record}"
-        )?,
-    }
-    write!(f, "; nothing was read or written")
+    let begin = begin_of_word(word);
+    let form = form_of_word(word, words.record_type);
+    write!(f, "{begin}{form}; nothing was read or written")
 }
 
 /// What the file has after a refusal of the input.
@@ -145,19 +154,61 @@ fn no_memory(task: FileTask<'_>) -> &'static str {
     }
 }
 
-/// What to do about a growth that is longer than a frame.
+/// What to do about a growth that is longer than a frame, behind what stands.
 fn about_long_growth(task: FileTask<'_>) -> &'static str {
     match task {
-        FileTask::Append(_) => "give a smaller --block, or cut the line into shorter ones",
-        _ => "cut the line into shorter ones",
+        FileTask::Append(_) => "; give a smaller --block, or cut the line into shorter ones",
+        _ => "; cut the line into shorter ones",
     }
 }
 
-/// What to do about too long an input, or one growth of it.
+/// What to do about too long an input, or one growth of it, behind what stands.
 fn about_long_input(task: FileTask<'_>) -> &'static str {
     match task {
-        FileTask::Append(_) => "that is of one growth: give a smaller --block, or cut its lines",
-        _ => "`cvec append` takes input of any length",
+        FileTask::Append(_) => "; that is of one growth: give a smaller --block, or cut its lines",
+        _ => "; `cvec append` takes input of any length",
+    }
+}
+
+/// What to do about an input that is refused, behind what stands, if there is something to do.
+fn about_input(task: FileTask<'_>, refusal: Refusal) -> &'static str {
+    match refusal {
+        Refusal::TooLargeAtLine(_) => about_long_growth(task),
+        Refusal::InputTooLong => about_long_input(task),
+        _ => "",
+    }
+}
+
+/// What is wrong with an input, where no number tells of it.
+fn wrong_input(task: FileTask<'_>, refusal: Refusal) -> &'static str {
+    match refusal {
+        Refusal::Input => "standard input couldn't be read",
+        Refusal::Memory => no_memory(task),
+        _ => "the input is refused",
+    }
+}
+
+/// What is wrong with the input.
+fn write_wrong_input<W: fmt::Write>(
+    f: &mut Formatter<W>,
+    words: &FileWords<'_>,
+    refusal: Refusal,
+) -> fmt::Result {
+    match refusal {
+        Refusal::Line(n) => {
+            let record = record_form(words.record_type);
+            write!(
+                f,
+                "line {n} of the input is no growth, which is records with one space between each two, each {record}"
+            )
+        }
+        Refusal::TooLargeAtLine(n) => write!(
+            f,
+            "the growth of line {n} of the input is longer than the {} bytes of a frame",
+            PAYLOAD_LIMIT
+        ),
+        Refusal::InputTooLong => write!(f, "the input is longer than {} bytes", INPUT_LIMIT),
+        _ => f.write_str(wrong_input(words.task, refusal)),
     }
 }
 
@@ -166,55 +217,74 @@ fn write_input<W: fmt::Write>(
     words: &FileWords<'_>,
     refusal: Refusal,
 ) -> fmt::Result {
-    let record = record_form(words.record_type);
     let stands = stands_after_input(words.task);
-    match refusal {
-        Refusal::Line(n) => write!(
-            f,
-            "line {n} of the input is no growth, which is records with one space between each two, each {record}; {stands}"
-        ),
-        Refusal::TooLargeAtLine(n) => {
-            let about = about_long_growth(words.task);
-            write!(
-                f,
-                "the growth of line {n} of the input is longer than the {} bytes of a frame; {stands}; {about}",
-                PAYLOAD_LIMIT
-            )
-        }
-        Refusal::Input => write!(f, "standard input couldn't be read; {stands}"),
-        Refusal::InputTooLong => {
-            let about = about_long_input(words.task);
-            write!(
-                f,
-                "the input is longer than {} bytes; {stands}; {about}",
-                INPUT_LIMIT
-            )
-        }
-        Refusal::Memory => write!(f, "{}; {stands}", no_memory(words.task)),
-        Refusal::Scan(_) | Refusal::NotHex => write!(f, "the input is refused; {stands}"),
-    }
+    let about = about_input(words.task, refusal);
+    write_wrong_input(f, words, refusal)?;
+    write!(f, "; {stands}{about}")
 }
 
 /// What is wrong with the width of a file's records, by the type that was given, if one was.
 fn write_width<W: fmt::Write>(
     f: &mut Formatter<W>,
-    name: &str,
     record_type: Option<RecordType>,
     found: u16,
 ) -> fmt::Result {
-    match record_type {
-        Some(record_type) => {
-            let of_type = record_type.word();
-            let width = record_type.width();
-            write!(
-                f,
-                "{name}: its records have {found} bytes, and those of {of_type} have {width}; give the type that it was made with"
-            )
-        }
-        None => write!(
+    let Some(record_type) = record_type else {
+        return f.write_str(
+            "its records have no bytes by its head, which no vector has; it is as it was",
+        );
+    };
+    let of_type = record_type.word();
+    let width = record_type.width();
+    write!(
+        f,
+        "its records have {found} bytes, and those of {of_type} have {width}; give the type that it was made with"
+    )
+}
+
+/// What to do about a file in which no vector was made, by the type that was given, if one was.
+fn write_unborn<W: fmt::Write>(
+    f: &mut Formatter<W>,
+    name: &str,
+    record_type: Option<RecordType>,
+) -> fmt::Result {
+    let Some(record_type) = record_type else {
+        return f.write_str("no vector was made in this file; `cvec create` makes one");
+    };
+    let of_type = record_type.word();
+    write!(
+        f,
+        "no vector was made in this file; `cvec create {of_type} {name}` makes one"
+    )
+}
+
+/// What is wrong with the bytes of a file, where no number tells of it.
+fn wrong_bytes(fault: ScanFault) -> &'static str {
+    match fault {
+        ScanFault::Memory => "there is not enough memory for its vector; it is as it was",
+        _ => "it isn't a segment file; it is as it was",
+    }
+}
+
+/// What is wrong with the bytes of a file behind its name, by the type of its records, if one was given.
+fn write_wrong_bytes<W: fmt::Write>(
+    f: &mut Formatter<W>,
+    name: &str,
+    record_type: Option<RecordType>,
+    fault: ScanFault,
+) -> fmt::Result {
+    match fault {
+        ScanFault::Unborn => write_unborn(f, name, record_type),
+        ScanFault::Version(version) => write!(
             f,
-            "{name}: its records have no bytes by its head, which no vector has; it is as it was"
+            "it has version {version}, and this program reads 1 and 2; it is as it was"
         ),
+        ScanFault::Width(found) => write_width(f, record_type, found),
+        ScanFault::Damaged { at, cause } => write!(
+            f,
+            "it is damaged at byte {at} ({cause}); nothing was written"
+        ),
+        ScanFault::NotSegment | ScanFault::Memory => f.write_str(wrong_bytes(fault)),
     }
 }
 
@@ -225,35 +295,8 @@ fn write_scan<W: fmt::Write>(
     record_type: Option<RecordType>,
     fault: ScanFault,
 ) -> fmt::Result {
-    match fault {
-        ScanFault::Unborn => match record_type {
-            Some(record_type) => {
-                let of_type = record_type.word();
-                write!(
-                    f,
-                    "{name}: no vector was made in this file; `cvec create {of_type} {name}` makes one"
-                )
-            }
-            None => write!(
-                f,
-                "{name}: no vector was made in this file; `cvec create` makes one"
-            ),
-        },
-        ScanFault::NotSegment => write!(f, "{name}: it isn't a segment file; it is as it was"),
-        ScanFault::Version(version) => write!(
-            f,
-            "{name}: it has version {version}, and this program reads 1 and 2; it is as it was"
-        ),
-        ScanFault::Width(found) => write_width(f, name, record_type, found),
-        ScanFault::Damaged { at, cause } => write!(
-            f,
-            "{name}: it is damaged at byte {at} ({cause}); nothing was written"
-        ),
-        ScanFault::Memory => write!(
-            f,
-            "{name}: there is not enough memory for its vector; it is as it was"
-        ),
-    }
+    write!(f, "{name}: ")?;
+    write_wrong_bytes(f, name, record_type, fault)
 }
 
 fn write_open<W: fmt::Write>(
@@ -294,28 +337,26 @@ fn about_pen(fault: PenFault) -> &'static str {
     }
 }
 
-fn write_vault<W: fmt::Write>(f: &mut Formatter<W>, name: &str, fault: VaultFault) -> fmt::Result {
+/// What is wrong, what stands, and what to do next, where a vault refuses a command and the disk has no fault.
+fn about_vault(fault: VaultFault) -> &'static str {
     match fault {
-        VaultFault::Pen(PenFault::Disk(fault)) => {
-            let about = about_disk(fault);
-            write!(
-                f,
-                "{name}: {about}; it opens to a vector that was settled, or to what this command was making; mend the device, restart the system, then give the command again"
-            )
-        }
-        VaultFault::Pen(fault) => {
-            let about = about_pen(fault);
-            write!(f, "{name}: {about}")
-        }
-        VaultFault::Unsettled(_) => write!(
-            f,
-            "{name}: not all growths are known to be on the device; it opens to the vector of before, and the first of them"
-        ),
-        VaultFault::WrongPhase => write!(
-            f,
-            "{name}: the growers didn't come back; what is settled stands"
-        ),
+        VaultFault::Pen(fault) => about_pen(fault),
+        VaultFault::Unsettled(_) =>
+            "not all growths are known to be on the device; it opens to the vector of before, and the first of them",
+        VaultFault::WrongPhase => "the growers didn't come back; what is settled stands",
     }
+}
+
+fn write_vault<W: fmt::Write>(f: &mut Formatter<W>, name: &str, fault: VaultFault) -> fmt::Result {
+    let VaultFault::Pen(PenFault::Disk(fault)) = fault else {
+        let about = about_vault(fault);
+        return write!(f, "{name}: {about}");
+    };
+    let about = about_disk(fault);
+    write!(
+        f,
+        "{name}: {about}; it opens to a vector that was settled, or to what this command was making; mend the device, restart the system, then give the command again"
+    )
 }
 
 /// What stands where a command that makes many growths was refused by the file.
@@ -428,7 +469,8 @@ fn write_in_use<W: fmt::Write>(f: &mut Formatter<W>, name: &str) -> fmt::Result 
     )
 }
 
-fn write_of_file<W: fmt::Write>(
+/// What is wrong, by a complaint.
+fn write_wrong<W: fmt::Write>(
     f: &mut Formatter<W>,
     words: &FileWords<'_>,
     complaint: &Complaint,
@@ -438,25 +480,42 @@ fn write_of_file<W: fmt::Write>(
             write_not_opened(f, name_of(words, *role), *role, error)
         }
         Complaint::InUse(role) => write_in_use(f, name_of(words, *role)),
-        Complaint::Fault(fault) => write_fault(f, words, *fault),
-        Complaint::Damaged(sound, fault) => {
-            write_fault(f, words, *fault)?;
-            write!(f, "; the {sound} records before that are sound")
-        }
-        Complaint::Appended(appended, fault) => {
-            let lines = appended.lines;
-            write_fault(f, words, *fault)?;
-            write!(f, "; the growths of the first {lines} lines stand")?;
-            match fault {
-                FileFault::Vault(_) => write!(f, ", and maybe some behind them"),
-                _ => Ok(()),
-            }
-        }
-        Complaint::Served(growths, fault) => {
-            write_fault(f, words, *fault)?;
-            write!(f, "; the first {growths} growths of its clients stand")
-        }
+        Complaint::Fault(fault)
+        | Complaint::Damaged(_, fault)
+        | Complaint::Appended(_, fault)
+        | Complaint::Served(_, fault) => write_fault(f, words, *fault),
     }
+}
+
+/// How many lines of the input stand as growths.
+fn write_lines<W: fmt::Write>(f: &mut Formatter<W>, lines: u64, fault: FileFault) -> fmt::Result {
+    let behind = match fault {
+        FileFault::Vault(_) => ", and maybe some behind them",
+        _ => "",
+    };
+    write!(f, "; the growths of the first {lines} lines stand{behind}")
+}
+
+/// What is sound or stands, behind what is wrong, where a complaint tells of that.
+fn write_standing<W: fmt::Write>(f: &mut Formatter<W>, complaint: &Complaint) -> fmt::Result {
+    match complaint {
+        Complaint::Damaged(sound, _) => write!(f, "; the {sound} records before that are sound"),
+        Complaint::Appended(appended, fault) => write_lines(f, appended.lines, *fault),
+        Complaint::Served(growths, _) => write!(
+            f,
+            "; the first {growths} growths of its clients stand"
+        ),
+        _ => Ok(()),
+    }
+}
+
+fn write_of_file<W: fmt::Write>(
+    f: &mut Formatter<W>,
+    words: &FileWords<'_>,
+    complaint: &Complaint,
+) -> fmt::Result {
+    write_wrong(f, words, complaint)?;
+    write_standing(f, complaint)
 }
 
 fn write_stat_fault<W: fmt::Write>(
