@@ -11,7 +11,7 @@ mod telling;
 
 use crate::meter::{Behind, Meter};
 use crate::noting::Noting;
-use crate::program::{System, run};
+use crate::program::{Outcome, System, run};
 use sentences::Sentence;
 use std::alloc::Global;
 use std::env;
@@ -44,26 +44,42 @@ fn words_of(rt: &HostRuntime) -> io::Result<Vec<String>> {
 
 /// Runs the words over standard input and output, and tells on standard error what neither of them has.
 fn run_words<E: Threads + Wait + Sync>(rt: &HostRuntime, threads: &E, words: &[String]) -> Status {
-    let alloc = rt.alloc();
     let meter = Meter::new(rt, rt.stderr().is_terminal());
     let shares_terminal = rt.stdout().is_terminal();
     let behind = Behind::new(io::writer(rt), shares_terminal.then_some(&meter));
-    let Ok(buffer) = BufWriter::with_capacity(alloc, OUTPUT_BUFFER_LEN, behind) else {
+    let Ok(buffer) = BufWriter::with_capacity(rt.alloc(), OUTPUT_BUFFER_LEN, behind) else {
         return refuse_memory(rt);
     };
     let mut output = Noting::new(buffer);
+    answer(rt, threads, words, &meter, &mut output)
+}
+
+/// Answers the words on this output.
+fn answer<W: Write, E: Threads + Wait + Sync>(
+    rt: &HostRuntime,
+    threads: &E,
+    words: &[String],
+    meter: &Meter<'_>,
+    output: &mut Noting<W>,
+) -> Status {
     if let Some(text) = told_of(words) {
-        return tell(rt, text, &mut output);
+        return tell(rt, text, output);
     }
     let system = System {
-        alloc,
+        alloc: rt.alloc(),
         files: rt,
-        progress: &meter,
+        progress: meter,
     };
-    let ended = run(&system, threads, words, &mut rt.stdin(), &mut output);
+    let ended = run(&system, threads, words, &mut rt.stdin(), output);
     meter.end();
+    tell_ended(rt, words, &ended, output.error());
+    ended.status
+}
+
+/// Tells what standard error has to tell of an end.
+fn tell_ended(rt: &HostRuntime, words: &[String], ended: &Outcome<'_>, error: Option<io::Error>) {
     match ended.status {
-        Status::OutputFailed => tell_failed_write(rt, output.error()),
+        Status::OutputFailed => tell_failed_write(rt, error),
         Status::Usage => tell_usage(rt, words),
         Status::Done | Status::Refused => {}
     }
@@ -71,7 +87,6 @@ fn run_words<E: Threads + Wait + Sync>(rt: &HostRuntime, threads: &E, words: &[S
         let sentence = Sentence { request, complaint };
         let _ = eprintln!(rt; "cvec: {sentence}");
     }
-    ended.status
 }
 
 /// Writes what the program tells of itself.
