@@ -141,6 +141,13 @@ static uint32_t commit(int fd, uint64_t gate, const uint8_t *bytes, size_t len) 
     return answer != CVEC_DONE ? answer : write_synced(fd, gate, &open_gate, 1);
 }
 
+/* errno goes on saying why a call before has failed. */
+static void close_quietly(int fd) {
+    int why = errno;
+    close(fd);
+    errno = why;
+}
+
 /* A new name is durable only when its folder is synced. */
 static uint32_t sync_folder(const char *path) {
     char *whole = realpath(path, NULL);
@@ -153,7 +160,7 @@ static uint32_t sync_folder(const char *path) {
     int done;
     do done = fsync(fd);
     while (was_interrupted(done));
-    close(fd);
+    close_quietly(fd);
     return done == 0 ? CVEC_DONE : CVEC_DISK_SYNC;
 }
 
@@ -294,9 +301,7 @@ uint32_t cvec_read(const cvec_file *file, uint64_t from, void *out, size_t room,
 }
 
 void cvec_close(cvec_file *file) {
-    int why = errno;
-    if (file->fd >= 0) close(file->fd);
-    errno = why;
+    if (file->fd >= 0) close_quietly(file->fd);
     free(file->bytes);
     memset(file, 0, sizeof *file);
     file->fd = -1;
