@@ -1,0 +1,263 @@
+/* Follows a table of cases by cvec.h: driver FILE. It writes each line that begins no answer again, and behind each line
+ * `> COMMAND` what the command answers, so a right answer gives the table back. The commands are told in cases.txt. */
+#define _DEFAULT_SOURCE 1
+#include "cvec.h"
+
+#include <errno.h>
+#include <inttypes.h>
+#include <stdio.h>
+#include <stdlib.h>
+#include <string.h>
+
+enum { LONGEST = 1 << 20, MOST = (1 << 17) + 64, HANDLES = 26, HOMES = 4096 };
+
+/* What stands behind the records that a call may write. */
+static const unsigned char guard = 0xA5;
+
+union records {
+    uint32_t u32[MOST];
+    uint64_t u64[MOST];
+    int64_t i64[MOST];
+    cvec_pair pair[MOST];
+    cvec_flagged flagged[MOST];
+    unsigned char bytes[16 * MOST];
+};
+
+static const char *const names[] = {"u32", "u64", "i64", "pair", "flagged"};
+static const size_t in_c[] = {4, 8, 8, 16, sizeof(cvec_flagged)}, in_file[] = {4, 8, 8, 16, 9};
+
+static cvec_file files[HANDLES];
+static union records records;
+static cvec_home homes[HOMES];
+
+/* ---- words */
+
+static char *next_word(void) { return strtok(NULL, " "); }
+
+static uint64_t number(void) {
+    char *word = next_word();
+    return word ? strtoull(word, NULL, 10) : 0;
+}
+
+static cvec_file *handle(void) { return &files[next_word()[0] - 'a']; }
+
+static cvec_type type_of(void) {
+    char *word = next_word();
+    for (int k = 0; k < 5; k++)
+        if (!strcmp(word, names[k])) return (cvec_type)k;
+    exit(2);
+}
+
+/* ---- records */
+
+static void take_record(cvec_type type, size_t k, char *word) {
+    char *colon = strchr(word, ':');
+    switch (type) {
+    case CVEC_U32: records.u32[k] = (uint32_t)strtoull(word, NULL, 10); break;
+    case CVEC_U64: records.u64[k] = strtoull(word, NULL, 10); break;
+    case CVEC_I64: records.i64[k] = strtoll(word, NULL, 10); break;
+    case CVEC_PAIR: records.pair[k] = (cvec_pair){strtoull(word, NULL, 10), strtoll(colon + 1, NULL, 10)}; break;
+    default: records.flagged[k] = (cvec_flagged){strtoull(word, NULL, 10), colon[1] == '1'}; break;
+    }
+}
+
+static void tell_record(cvec_type type, size_t k) {
+    switch (type) {
+    case CVEC_U32: printf(" %" PRIu32, records.u32[k]); break;
+    case CVEC_U64: printf(" %" PRIu64, records.u64[k]); break;
+    case CVEC_I64: printf(" %" PRId64, records.i64[k]); break;
+    case CVEC_PAIR: printf(" %" PRIu64 ":%" PRId64, records.pair[k].key, records.pair[k].value); break;
+    default: printf(" %" PRIu64 ":%d", records.flagged[k].key, records.flagged[k].flag); break;
+    }
+}
+
+/* The records of a file's bytes, as C has them. */
+static void unpack(cvec_type type, size_t k, const unsigned char *bytes) {
+    memcpy(records.bytes + k * in_c[type], bytes, in_file[type]);
+}
+
+/* ---- answers */
+
+static void tell(uint32_t status, const cvec_fault *fault) {
+    int why = status >= CVEC_DISK_OPEN && status <= CVEC_DISK_SYNC ? errno : 0;
+    if (status == CVEC_DONE) {
+        puts("done");
+        return;
+    }
+    printf("refused %" PRIu32 " %s", status, cvec_status_text(status));
+    if (status == CVEC_DAMAGED) printf(" at %" PRIu64 ": %s", fault->at, cvec_cause_text(fault->cause));
+    if (why != 0) printf(": %s", strerror(why));
+    printf("; at %" PRIu64 " cause %" PRIu32 " found %" PRIu32 " errno %d\n", fault->at, fault->cause, fault->found, why);
+}
+
+static void tell_stat(const cvec_stat *stat) {
+    printf("size %" PRIu64 " frames %" PRIu64 " changes %" PRIu64 " folded %" PRIu64 " gate %" PRIu64 " width %u version %u\n",
+           stat->size, stat->frames, stat->changes, stat->folded, stat->gate, stat->width, stat->version);
+}
+
+/* ---- files */
+
+static void append(void) {
+    cvec_file *file = handle();
+    size_t count = 0;
+    for (char *word; (word = next_word()) != NULL; count++) take_record(file->type, count, word);
+    cvec_fault none = {0, 0, 0};
+    tell(cvec_append(file, count > 0 ? &records : NULL, count), &none);
+}
+
+static void read_copy(void) {
+    cvec_file *file = handle();
+    uint64_t from = number(), count = 0;
+    char *most = next_word();
+    size_t room = most ? strtoul(most, NULL, 10) : file->stat.size > from ? file->stat.size - from : 0;
+    cvec_fault fault;
+    memset(&fault, guard, sizeof fault);
+    memset(records.bytes, guard, sizeof records.bytes);
+    uint32_t status = cvec_read(file, from, room > 0 ? &records : NULL, room, &count, &fault);
+    for (size_t k = count * in_c[file->type]; k < sizeof records.bytes; k++)
+        if (records.bytes[k] != guard) {
+            puts("it has written behind the records");
+            return;
+        }
+    if (status != CVEC_DONE) {
+        tell(status, &fault);
+        return;
+    }
+    printf("%" PRIu64 ":", count);
+    for (size_t k = 0; k < count; k++) tell_record(file->type, k);
+    putchar('\n');
+}
+
+/* All bytes of a file, in memory of their length alone, so that a tool sees a read past them. */
+static unsigned char *bytes_of(const char *path, size_t *len) {
+    FILE *file = fopen(path, "rb");
+    if (file == NULL || fseek(file, 0, SEEK_END) != 0) exit(2);
+    *len = (size_t)ftell(file);
+    unsigned char *bytes = malloc(*len + 1);
+    rewind(file);
+    if (bytes == NULL || fread(bytes, 1, *len, file) != *len) exit(2);
+    fclose(file);
+    return bytes;
+}
+
+static uint32_t homes_of(cvec_type type, const unsigned char *image, size_t len, uint64_t *count, cvec_stat *stat,
+                         cvec_fault *fault) {
+    switch (type) {
+    case CVEC_U32: return cvec_homes_u32(image, len, homes, HOMES, count, stat, fault);
+    case CVEC_U64: return cvec_homes_u64(image, len, homes, HOMES, count, stat, fault);
+    case CVEC_I64: return cvec_homes_i64(image, len, homes, HOMES, count, stat, fault);
+    case CVEC_PAIR: return cvec_homes_pair(image, len, homes, HOMES, count, stat, fault);
+    default: return cvec_homes_flagged(image, len, homes, HOMES, count, stat, fault);
+    }
+}
+
+/* Frames and records by what stands in the file, with no copy made by the library. */
+static void tell_image(int by_homes) {
+    cvec_type type = type_of();
+    size_t len = 0, told = 0;
+    unsigned char *image = bytes_of(next_word(), &len);
+    cvec_stat stat;
+    cvec_fault fault = {0, 0, 0};
+    cvec_frame frame;
+    uint64_t count = 0;
+    uint32_t status = homes_of(type, image, len, &count, &stat, &fault);
+    if (status != CVEC_DONE) {
+        tell(status, &fault);
+    } else if (!by_homes) {
+        tell_stat(&stat);
+        for (uint64_t at = CVEC_FIRST_GATE; at < stat.gate; at = frame.next) {
+            if (cvec_frame_at(image, len, at, stat.version, stat.width, &frame) != CVEC_DONE) exit(2);
+            printf("at %" PRIu64 " kind %u payload %" PRIu32 " growths %" PRIu32 " records %" PRIu32 " first %" PRIu64 "\n", at,
+                   frame.kind, frame.payload_len, frame.growths, frame.records, frame.first_record);
+        }
+    } else if (stat.changes > stat.folded) {
+        puts("a change is live");
+    } else {
+        for (uint64_t k = 0; k < count; k++)
+            for (uint64_t j = 0; j < homes[k].count; j++) unpack(type, told++, image + homes[k].place + j * in_file[type]);
+        printf("%zu:", told);
+        for (size_t k = 0; k < told; k++) tell_record(type, k);
+        putchar('\n');
+    }
+    free(image);
+}
+
+/* Writes a file of these bytes. */
+static void put(void) {
+    FILE *file = fopen(next_word(), "wb");
+    if (file == NULL) exit(2);
+    for (char *hex = next_word(); hex != NULL; hex = next_word())
+        for (; *hex != '\0'; hex += 2) {
+            char two[] = {hex[0], hex[1], '\0'};
+            fputc((int)strtoul(two, NULL, 16), file);
+        }
+    fclose(file);
+}
+
+static void tell_bytes(void) {
+    size_t len = 0;
+    unsigned char *bytes = bytes_of(next_word(), &len);
+    for (size_t k = 0; k < len; k++) printf("%02x", bytes[k]);
+    putchar('\n');
+    free(bytes);
+}
+
+static void open_file(int is_new) {
+    cvec_file *file = handle();
+    cvec_type type = type_of();
+    cvec_fault fault = {0, 0, 0};
+    memset(file, guard, sizeof *file);
+    if (!is_new) memset(&fault, guard, sizeof fault);
+    char *path = next_word();
+    tell(is_new ? cvec_create(file, path, type) : cvec_open(file, path, type, &fault), &fault);
+}
+
+/* What is closed may be closed again. */
+static void close_file(void) {
+    cvec_file *file = handle();
+    cvec_close(file);
+    cvec_close(file);
+    puts("done");
+}
+
+/* What a file has is set, for one that is too long to be read. */
+static void suppose(void) {
+    cvec_file *file = handle();
+    file->stat.size = number();
+    file->stat.frames = number();
+    file->stat.gate = number();
+    file->stat.version = (uint8_t)number();
+    puts("done");
+}
+
+static void follow(char *line) {
+    char *word = strtok(line, " ");
+    if (!strcmp(word, "create")) open_file(1);
+    else if (!strcmp(word, "open")) open_file(0);
+    else if (!strcmp(word, "append")) append();
+    else if (!strcmp(word, "read")) read_copy();
+    else if (!strcmp(word, "stat")) tell_stat(&handle()->stat);
+    else if (!strcmp(word, "close")) close_file();
+    else if (!strcmp(word, "frames")) tell_image(0);
+    else if (!strcmp(word, "map")) tell_image(1);
+    else if (!strcmp(word, "put")) put();
+    else if (!strcmp(word, "bytes")) tell_bytes();
+    else if (!strcmp(word, "suppose")) suppose();
+    else if (!strcmp(word, "sh")) {
+        fflush(stdout);
+        if (system(strtok(NULL, "")) == -1) exit(2);
+    } else exit(2);
+}
+
+int main(int argc, char **argv) {
+    static char line[LONGEST];
+    FILE *table = argc == 2 ? fopen(argv[1], "re") : NULL;
+    if (table == NULL) return 2;
+    while (fgets(line, sizeof line, table) != NULL) {
+        if (line[0] == '#' || line[0] == '\n' || line[0] == '>') fputs(line, stdout);
+        if (line[0] != '>') continue;
+        line[strcspn(line, "\n")] = '\0';
+        follow(line + 2);
+    }
+    return 0;
+}

@@ -1,0 +1,112 @@
+"""Follows a table of cases by cvec.py, as driver.c does by cvec.h: driver.py FILE"""
+import os
+import sys
+
+import cvec
+
+handles = {}
+
+
+def record_of(kind, word):
+    if kind == "pair":
+        return tuple(map(int, word.split(":")))
+    if kind == "flagged":
+        key, flag = word.split(":")
+        return int(key), flag == "1"
+    return int(word)
+
+
+def text_of(kind, record):
+    if kind in ("pair", "flagged"):
+        return f"{int(record[0])}:{int(record[1])}"
+    return str(int(record))
+
+
+def listed(kind, records):
+    return " ".join([f"{len(records)}:", *(text_of(kind, it) for it in records)])
+
+
+def open_file(call, name, kind, path):
+    handles[name] = call(path, kind), kind
+
+
+def append(name, *words):
+    file, kind = handles[name]
+    file.append([record_of(kind, it) for it in words])
+
+
+def read(name, *numbers):
+    file, kind = handles[name]
+    return listed(kind, file.read(*map(int, numbers)))
+
+
+def stat_text(stat):
+    return " ".join(f"{name} {getattr(stat, name)}" for name, _ in cvec.Stat._fields_)
+
+
+def close(name):
+    """What is closed may be closed again."""
+    handles[name][0].close()
+    handles[name][0].close()
+
+
+def frames(kind, path):
+    with cvec.Map(path, kind) as seen:
+        lines = [f"at {at} kind {it.kind} payload {it.payload_len} growths {it.growths} records {it.records} "
+                 f"first {it.first_record}" for at, it in seen.frames()]
+        return "\n".join([stat_text(seen.stat), *lines])
+
+
+def read_map(kind, path):
+    with cvec.Map(path, kind) as seen:
+        if not seen.is_plain():
+            return "a change is live"
+        records = list(seen.records())
+        assert len(records) == len(seen) == seen.stat.size
+        return listed(kind, records)
+
+
+def put(path, hex=""):
+    with open(path, "wb") as file:
+        file.write(bytes.fromhex(hex))
+
+
+def bytes_of(path):
+    with open(path, "rb") as file:
+        return file.read().hex()
+
+
+def shell(*words):
+    sys.stdout.flush()
+    os.system(" ".join(words))
+    return ""
+
+
+COMMANDS = {
+    "create": lambda *words: open_file(cvec.create, *words), "open": lambda *words: open_file(cvec.open, *words),
+    "append": append, "read": read, "stat": lambda name: stat_text(handles[name][0].stat), "close": close,
+    "frames": frames, "map": read_map, "put": put, "bytes": bytes_of, "sh": shell,
+}
+SILENT = ("put",)
+
+
+def answer(word, *words):
+    try:
+        told = COMMANDS[word](*words)
+    except cvec.Error as it:
+        return f"refused {it.status} {it}; at {it.at} cause {it.cause} found {it.found} errno {it.errno}\n"
+    if told is None:
+        return "" if word in SILENT else "done\n"
+    return told + "\n" if told or word != "sh" else ""
+
+
+def main(path):
+    with open(path) as table:
+        for line in table:
+            if line[0] in "#\n>":
+                sys.stdout.write(line)
+            if line[0] == ">":
+                sys.stdout.write(answer(*line[2:].split()))
+
+
+main(*sys.argv[1:])

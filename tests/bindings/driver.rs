@@ -1,0 +1,174 @@
+//! Follows a table of cases by cvec.rs, as driver.c does by cvec.h: driver FILE
+use cvec::{Error, File, Flagged, Pair, Record, Stat};
+use std::collections::HashMap;
+use std::fs;
+use std::io::Write;
+use std::path::Path;
+use std::process::Command;
+
+/// A record as the table has it.
+trait Word: Record {
+    fn of(word: &str) -> Self;
+    fn text(&self) -> String;
+}
+
+macro_rules! numbers {
+    ($($of:ty)*) => {
+        $(impl Word for $of {
+            fn of(word: &str) -> Self { word.parse().unwrap() }
+            fn text(&self) -> String { self.to_string() }
+        })*
+    };
+}
+numbers! { u32 u64 i64 }
+
+impl Word for Pair {
+    fn of(word: &str) -> Self {
+        let (key, value) = word.split_once(':').unwrap();
+        Pair { key: key.parse().unwrap(), value: value.parse().unwrap() }
+    }
+    fn text(&self) -> String {
+        format!("{}:{}", self.key, self.value)
+    }
+}
+
+impl Word for Flagged {
+    fn of(word: &str) -> Self {
+        let (key, flag) = word.split_once(':').unwrap();
+        Flagged { key: key.parse().unwrap(), flag: flag == "1" }
+    }
+    fn text(&self) -> String {
+        format!("{}:{}", self.key, u8::from(self.flag))
+    }
+}
+
+/// A file of any type.
+trait Handle {
+    fn stat(&self) -> Stat;
+    fn append(&mut self, words: &[&str]) -> Result<(), Error>;
+    fn read(&self, from: u64) -> Result<Vec<String>, Error>;
+}
+
+impl<R: Word> Handle for File<R> {
+    fn stat(&self) -> Stat {
+        File::stat(self)
+    }
+    fn append(&mut self, words: &[&str]) -> Result<(), Error> {
+        File::append(self, &words.iter().map(|it| R::of(it)).collect::<Vec<R>>())
+    }
+    fn read(&self, from: u64) -> Result<Vec<String>, Error> {
+        Ok(File::read(self, from)?.iter().map(R::text).collect())
+    }
+}
+
+fn opened<R: Word + 'static>(is_new: bool, path: &str) -> Result<Box<dyn Handle>, Error> {
+    let path = Path::new(path);
+    Ok(Box::new(if is_new { File::<R>::create(path)? } else { File::<R>::open(path)? }))
+}
+
+fn open(is_new: bool, kind: &str, path: &str) -> Result<Box<dyn Handle>, Error> {
+    match kind {
+        "u32" => opened::<u32>(is_new, path),
+        "u64" => opened::<u64>(is_new, path),
+        "i64" => opened::<i64>(is_new, path),
+        "pair" => opened::<Pair>(is_new, path),
+        "flagged" => opened::<Flagged>(is_new, path),
+        _ => panic!("{kind}"),
+    }
+}
+
+fn check(kind: &str, image: &[u8]) -> Result<Stat, Error> {
+    match kind {
+        "u32" => cvec::check::<u32>(image),
+        "u64" => cvec::check::<u64>(image),
+        "i64" => cvec::check::<i64>(image),
+        "pair" => cvec::check::<Pair>(image),
+        "flagged" => cvec::check::<Flagged>(image),
+        _ => panic!("{kind}"),
+    }
+}
+
+fn stat_text(it: &Stat) -> String {
+    let Stat { size, frames, changes, folded, gate, width, version } = it;
+    format!("size {size} frames {frames} changes {changes} folded {folded} gate {gate} width {width} version {version}\n")
+}
+
+fn frames(kind: &str, path: &str) -> Result<String, Error> {
+    let image = fs::read(path).unwrap();
+    let stat = check(kind, &image)?;
+    let (mut at, mut text) = (11, stat_text(&stat));
+    while at < stat.gate {
+        let it = cvec::frame_at(&image, at, stat.version, stat.width).unwrap();
+        text += &format!("at {at} kind {} payload {} growths {} records {} first {}\n", it.kind, it.payload_len, it.growths,
+                         it.records, it.first_record);
+        at = it.next;
+    }
+    assert_eq!(cvec::frame_at(&image, at, stat.version, stat.width), None);
+    Ok(text)
+}
+
+/// Without a count: File::read has none, so here it cuts what that answers.
+fn read(file: &dyn Handle, from: &str, count: Option<&&str>) -> Result<String, Error> {
+    let mut records = file.read(from.parse().unwrap())?;
+    records.truncate(count.map_or(usize::MAX, |it| it.parse().unwrap()));
+    records.insert(0, format!("{}:", records.len()));
+    Ok(records.join(" ") + "\n")
+}
+
+fn put(path: &str, hex: &str) {
+    let bytes: Vec<u8> = (0..hex.len()).step_by(2).map(|k| u8::from_str_radix(&hex[k..k + 2], 16).unwrap()).collect();
+    fs::write(path, bytes).unwrap();
+}
+
+fn shell(command: &str) {
+    std::io::stdout().flush().unwrap();
+    Command::new("sh").arg("-c").arg(command).status().unwrap();
+}
+
+fn follow(handles: &mut HashMap<String, Box<dyn Handle>>, line: &str) -> Result<String, Error> {
+    let words: Vec<&str> = line.split(' ').collect();
+    match words[0] {
+        "create" | "open" => {
+            let file = open(words[0] == "create", words[2], words[3])?;
+            handles.insert(words[1].to_string(), file);
+        }
+        "append" => handles.get_mut(words[1]).unwrap().append(&words[2..])?,
+        "read" => return read(&*handles[words[1]], words[2], words.get(3)),
+        "stat" => return Ok(stat_text(&handles[words[1]].stat())),
+        "close" => drop(handles.remove(words[1]).unwrap()),
+        "frames" => return frames(words[1], words[2]),
+        "put" => {
+            put(words[1], words.get(2).unwrap_or(&""));
+            return Ok(String::new());
+        }
+        "bytes" => {
+            let text: String = fs::read(words[1]).unwrap().iter().map(|it| format!("{it:02x}")).collect();
+            return Ok(text + "\n");
+        }
+        "sh" => {
+            shell(&line[3..]);
+            return Ok(String::new());
+        }
+        word => panic!("{word}"),
+    }
+    Ok("done\n".to_string())
+}
+
+/// The system's number, which Rust tells in its text too, stands behind it alone.
+fn refused(error: Error) -> String {
+    let errno = error.errno.unwrap_or(0);
+    let text = error.to_string().replace(&format!(" (os error {errno})"), "");
+    let fault = error.fault;
+    format!("refused {} {text}; at {} cause {} found {} errno {errno}\n", error.status, fault.at, fault.cause, fault.found)
+}
+
+fn main() {
+    let table = fs::read_to_string(std::env::args().nth(1).unwrap()).unwrap();
+    let mut handles = HashMap::new();
+    for line in table.lines().filter(|it| it.is_empty() || it.starts_with(['#', '>'])) {
+        println!("{line}");
+        if let Some(command) = line.strip_prefix("> ") {
+            print!("{}", follow(&mut handles, command).unwrap_or_else(refused));
+        }
+    }
+}

@@ -1,0 +1,159 @@
+# The callers of the library for C, in C, Python and Rust: each follows one table of cases, and has the same answers. What they
+# are made of stands in tests/bindings.
+
+bindings=$top/tests/bindings
+
+# ---- the callers, each built once, beside the folder of a test's files
+
+built=$work-built
+
+has_caller() {
+    has_c && has python3 'the callers of the library' && has flock 'the callers of the library' || return 1
+    [ "$1" != rust ] || has rustc 'the library for plain Rust'
+}
+
+make_caller() {
+    kit_library=$(dirname "$(rt doc)")/c/liblibc_c.a
+    mkdir -p "$built"
+    if [ ! -e "$built/cvec_file.o" ]; then
+        make_c_library
+        cp "$work/cvec_file.o" "$built"
+    fi
+    "make_$1"
+}
+
+make_c() {
+    [ -e "$built/c" ] || cc -std=c99 -O2 -Wall -Wextra -Werror "-I$c" -o "$built/c" "$bindings/driver.c" \
+        "$built/cvec_file.o" "$c_library" "$kit_library"
+}
+
+make_python() {
+    [ -e "$built/libcvec.so" ] || cc -shared -o "$built/libcvec.so" "$built/cvec_file.o" -Wl,--whole-archive "$c_library" \
+        -Wl,--no-whole-archive "$kit_library"
+}
+
+make_rust() {
+    [ -e "$built/rust" ] && return
+    rustc --edition 2024 -D warnings --crate-type rlib --crate-name cvec -o "$built/libcvec.rlib" "$top/examples/rust/cvec.rs"
+    rustc --edition 2024 -D warnings -o "$built/rust" "$bindings/driver.rs" --extern "cvec=$built/libcvec.rlib" \
+        -C "link-arg=$built/cvec_file.o" -C "link-arg=$c_library" -C "link-arg=$kit_library"
+}
+
+# Stands between a caller and the system.
+make_calls() {
+    [ -e "$built/calls.so" ] ||
+        cc -std=gnu11 -O1 -Wall -Wextra -Werror -shared -fPIC -o "$built/calls.so" "$bindings/calls.c" -ldl
+}
+
+# The interpreter itself: a program that starts it would have the preloaded library in its place.
+interpreter() { python3 -c 'import sys; print(sys.executable)'; }
+
+# ---- tables
+
+# Ranges and repeated words of a table are written out.
+write_out() {
+    awk '/^#/ { print; next }
+        {
+            for (k = 1; k <= NF; k++) {
+                if (k > 1) printf " "
+                if ($k ~ /^[0-9]+\.\.[0-9]+$/) {
+                    split($k, ends, /\.\./)
+                    for (n = ends[1] + 0; n <= ends[2] + 0; n++) printf "%s%d", (n > ends[1] + 0 ? " " : ""), n
+                } else if ($k ~ /^[0-9:-]+\*[0-9]+$/) {
+                    split($k, parts, "*")
+                    for (n = 1; n <= parts[2] + 0; n++) printf "%s%s", (n > 1 ? " " : ""), parts[1]
+                } else printf "%s", $k
+            }
+            print ""
+        }' "$1"
+}
+
+# The caller in this language gives a table back, in an empty folder. A third word says how its calls are meddled with.
+follows() {
+    rm -rf "$work/here"
+    mkdir "$work/here"
+    write_out "$bindings/$2" >"$work/table"
+    python=$(interpreter)
+    ended=0
+    (
+        cd "$work/here"
+        export "CVEC_LIBRARY=$built/libcvec.so" "PYTHONPATH=$top/examples/python" "other=$python -B $bindings/other.py"
+        if [ -n "${3-}" ]; then export "CALLS=$3" "LD_PRELOAD=$built/calls.so"; fi
+        case $1 in
+        python) exec "$python" -B "$bindings/driver.py" "$work/table" ;;
+        *) exec "$built/$1" "$work/table" ;;
+        esac
+    ) >"$work/answered" || ended=$?
+    diff "$work/table" "$work/answered" | cut -c 1-200
+    cmp "$work/table" "$work/answered"
+    [ "$ended" -eq 0 ]
+    [ -z "${3-}" ] || [ -e "$work/here/meddled" ]
+}
+
+# ---- tests
+
+answers_are_right() {
+    has_caller "$1" || exit $is_skipped
+    make_caller "$1"
+    follows "$1" cases.txt
+}
+
+answers_are_right_in_c() (
+    answers_are_right c
+)
+
+answers_are_right_in_python() (
+    answers_are_right python
+)
+
+answers_are_right_in_rust() (
+    answers_are_right rust
+)
+
+records_are_found_where_they_stand() (
+    has_caller c || exit $is_skipped
+    for caller in c python; do
+        make_caller $caller
+        follows $caller maps.txt
+    done
+)
+
+# Each call is interrupted once, and then does a part of what it is asked.
+parts_make_a_whole() {
+    has_caller "$1" || exit $is_skipped
+    make_caller "$1"
+    make_calls
+    follows "$1" cases.txt part
+}
+
+parts_make_a_whole_in_c() (
+    parts_make_a_whole c
+)
+
+parts_make_a_whole_in_python() (
+    parts_make_a_whole python
+)
+
+parts_make_a_whole_in_rust() (
+    parts_make_a_whole rust
+)
+
+# What a caller asks of the system, in which order, and what it does where it is refused.
+calls_come_in_order() {
+    has_caller "$1" || exit $is_skipped
+    make_caller "$1"
+    make_calls
+    follows "$1" faults.txt plan
+}
+
+calls_come_in_order_in_c() (
+    calls_come_in_order c
+)
+
+calls_come_in_order_in_python() (
+    calls_come_in_order python
+)
+
+calls_come_in_order_in_rust() (
+    calls_come_in_order rust
+)
