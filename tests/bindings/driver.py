@@ -3,27 +3,9 @@ import os
 import sys
 
 import cvec
+from words import listed, record_of
 
 handles = {}
-
-
-def record_of(kind, word):
-    if kind == "pair":
-        return tuple(map(int, word.split(":")))
-    if kind == "flagged":
-        key, flag = word.split(":")
-        return int(key), flag == "1"
-    return int(word)
-
-
-def text_of(kind, record):
-    if kind in ("pair", "flagged"):
-        return f"{int(record[0])}:{int(record[1])}"
-    return str(int(record))
-
-
-def listed(kind, records):
-    return " ".join([f"{len(records)}:", *(text_of(kind, it) for it in records)])
 
 
 def open_file(call, name, kind, path):

@@ -32,6 +32,19 @@ make_python() {
         -Wl,--no-whole-archive "$kit_library"
 }
 
+make_client() {
+    [ -e "$built/client_c" ] || cc -std=c99 -O2 -Wall -Wextra -Werror "-I$c" -o "$built/client_c" "$bindings/client.c" \
+        "$c/cvec_client.c"
+}
+
+# What clients start: the program, and a false server.
+make_servers() {
+    mkdir -p "$built"
+    [ -e "$built/cvec" ] || ln -s "$top/cvec" "$built/cvec"
+    { echo "#!$(interpreter)" && tail -n +2 "$bindings/false_server.py"; } >"$built/false_server"
+    chmod +x "$built/false_server"
+}
+
 make_rust() {
     [ -e "$built/rust" ] && return
     rustc --edition 2024 -D warnings --crate-type rlib --crate-name cvec -o "$built/libcvec.rlib" "$top/examples/rust/cvec.rs"
@@ -78,9 +91,11 @@ follows() {
     (
         cd "$work/here"
         export "CVEC_LIBRARY=$built/libcvec.so" "PYTHONPATH=$top/examples/python" "other=$python -B $bindings/other.py"
+        export "PATH=$built:$PATH"
         if [ -n "${3-}" ]; then export "CALLS=$3" "LD_PRELOAD=$built/calls.so"; fi
         case $1 in
         python) exec "$python" -B "$bindings/driver.py" "$work/table" ;;
+        client_python) exec "$python" -B "$bindings/client.py" "$work/table" ;;
         *) exec "$built/$1" "$work/table" ;;
         esac
     ) >"$work/answered" || ended=$?
@@ -156,4 +171,62 @@ calls_come_in_order_in_python() (
 
 calls_come_in_order_in_rust() (
     calls_come_in_order rust
+)
+
+# A caller holds the whole of a file in memory.
+has_memory() {
+    [ "$(awk '/^MemAvailable/ { print $2 }' /proc/meminfo 2>/dev/null || echo 0)" -gt 3000000 ] ||
+        lacks 'there are no 3 GB of memory for a file past 2 GiB'
+}
+
+a_file_may_pass_2_gib() (
+    has_caller c && has_memory || exit $is_skipped
+    make_caller c
+    follows c long.txt
+    rm -r "$work/here"
+)
+
+# ---- clients of a server
+
+has_clients() { has cc 'the clients of a server' && has python3 'the clients of a server'; }
+
+a_table_holds_for_clients() (
+    has_clients || exit $is_skipped
+    make_servers
+    make_client
+    for caller in client_c client_python; do
+        follows $caller clients.txt
+        follows $caller limits.txt
+    done
+    follows client_c client_c.txt
+)
+
+parts_make_a_whole_for_clients() (
+    has_clients || exit $is_skipped
+    make_servers
+    make_client
+    make_calls
+    for caller in client_c client_python; do
+        follows $caller clients.txt part
+    done
+)
+
+# A server whose pipes are there in part is refused before it opens the file, and answers nobody.
+a_server_whose_pipes_are_half_there_is_refused() (
+    run create u64 "$work/t.cv"
+    before=$(cksum <"$work/t.cv")
+    printf '\3\0\0\0\0\0\0\0\0\0\0\0\0\0\0\0' >"$work/asked"
+    refuses_pipes() {
+        status=0
+        "$@" >"$out" 2>"$err" || status=$?
+        was_refused file 'a pipe of the clients'
+        [ ! -s "$work/answers" ]
+        [ "$before" = "$(cksum <"$work/t.cv")" ]
+    }
+    serve() { "$top/cvec" serve u64 "$work/t.cv" "--seats=$1"; }
+    : >"$work/answers"
+    refuses_pipes serve 1 3<"$work/asked" 4>&-
+    refuses_pipes serve 1 3<&- 4>"$work/answers"
+    refuses_pipes serve 2 3<"$work/asked" 4>"$work/answers" 5<"$work/asked" 6>&-
+    refuses_pipes serve 2 3<"$work/asked" 4>"$work/answers" 5<&- 6>"$work/answers"
 )
