@@ -3,7 +3,7 @@
 
 other.py shown TYPE FILE           the records of a file, as `read` of a table tells them, or why there are none
 other.py groups COUNT FILE         makes a file of so many groups of u64, of one record and of two by turns: 0, 1 2, 3, ..
-other.py far FILE                  makes a file into one of 129 long groups of u64, all 0, with holes for the records
+other.py far FILE                  makes a file into one of 257 long groups of u64, all 0, with holes for the records
 """
 import os
 import struct
@@ -34,7 +34,7 @@ def far(path):
     count = (2 ** 24 - 8) // 8
     with open(path, "r+b") as file:
         file.write(writer.header(2, 8))
-        for _ in range(129):
+        for _ in range(257):
             file.write(struct.pack("<BBIII", 1, 1, 8 + 8 * count, 1, count))
             file.seek(8 * count, os.SEEK_CUR)
         file.truncate(file.tell() + 1)
