@@ -5,7 +5,8 @@
  * number of a refusal (enum cvec_refusal), or -1 where the pipes have failed: the server has ended. Behind -1 and behind the
  * first six refusals the seat is over, and answers -1 to all but its end; not so behind CVEC_REFUSED_NO_RECORD and
  * CVEC_REFUSED_TOO_MANY, which are found before anything is sent. What is to be written by a call is written only where it
- * answers 0. A program that goes on behind a server's end ignores SIGPIPE.
+ * answers 0; but a read that the server's end cuts may have written some of its records. A program that goes on behind a
+ * server's end ignores SIGPIPE.
  *
  * Records stand one behind the other with no gaps, each as in the file: little-endian, a pair in 16 bytes, its key first,
  * and a flagged in 9, its key and 0 or 1. So a cvec_flagged of cvec.h is no record here. */
