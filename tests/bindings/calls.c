@@ -5,7 +5,8 @@
  *          that closes leaves another errno.
  *   plan   each call that writes, syncs or locks is noted in the file `calls`, reads that follow one another as one. The file
  *          `plan` is `KIND N ERRNO [BYTES]`: the call of that kind with number N from now on fails by this number, having
- *          written so many bytes. Where ERRNO is 0 it answers that it did nothing.
+ *          written so many bytes. Where ERRNO is 0 it answers that it did nothing. The KIND `memory` is a request of just BYTES
+ *          bytes, which isn't noted; of less than 4,096 none is looked at.
  *
  * At its first call it makes the file `meddled`. Programs that the caller runs aren't meddled with. */
 #define _GNU_SOURCE 1
@@ -22,6 +23,7 @@
 #include <unistd.h>
 
 enum { LIMIT = 1024, OTHER = 0, SEGMENT = 1, FOLDER = 2, PIPE = 3 };
+enum { LEAST_MEMORY = 4096 };
 enum { PART_READ = 7, PART_WRITE = 5 };
 
 static int is_part, is_plan;
@@ -96,6 +98,20 @@ static int fails(const char *kind, const char *words) {
     if (failing) errno = why;
     return failing;
 }
+
+extern void *__libc_malloc(size_t);
+extern void *__libc_realloc(void *, size_t);
+
+static int is_memory_refused(size_t len) {
+    if (!is_plan || len < LEAST_MEMORY) return 0;
+    read_plan();
+    if (left <= 0 || strcmp(planned, "memory") || len != before || --left > 0) return 0;
+    errno = ENOMEM;
+    return 1;
+}
+
+void *malloc(size_t len) { return is_memory_refused(len) ? NULL : __libc_malloc(len); }
+void *realloc(void *bytes, size_t len) { return is_memory_refused(len) ? NULL : __libc_realloc(bytes, len); }
 
 #define REAL(name) __typeof__(&name) real = (__typeof__(&name))dlsym(RTLD_NEXT, #name)
 
