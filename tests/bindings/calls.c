@@ -24,7 +24,7 @@
 
 enum { LIMIT = 1024, OTHER = 0, SEGMENT = 1, FOLDER = 2, PIPE = 3 };
 enum { LEAST_MEMORY = 4096 };
-enum { PART_READ = 7, PART_WRITE = 5 };
+enum { PART_READ = 7, PART_WRITE = 5, MOST_READ = 1 << 20 };
 
 static int is_part, is_plan;
 static unsigned char kinds[LIMIT];  /* of descriptors */
@@ -161,8 +161,9 @@ ssize_t pread(int fd, void *bytes, size_t len, off_t at) {
     if (kind_of(fd) != SEGMENT) return real(fd, bytes, len, at);
     if (is_interrupted(fd)) return -1;
     if (fails("read", "")) return why == 0 ? 0 : -1;
-    /* A long file is read by calls that do more and more, so that it takes no minutes. */
-    return real(fd, bytes, part(len, PART_READ + (size_t)at / 4), at);
+    /* A long file is read by calls that do more and more, so that it takes no minutes, but by some past 2 GiB too. */
+    size_t most = PART_READ + (size_t)at / 4;
+    return real(fd, bytes, part(len, most < MOST_READ ? most : MOST_READ), at);
 }
 
 ssize_t pwrite(int fd, const void *bytes, size_t len, off_t at) {
