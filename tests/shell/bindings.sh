@@ -1,5 +1,5 @@
-# The callers of the library for C, in C, Python and Rust: each follows one table of cases, and has the same answers. What they
-# are made of stands in tests/bindings.
+# The callers of the library for C, in C, Python and Rust: each follows one table of cases, and has the same answers. So do the
+# clients of a server. The tables, and what follows them, stand in tests/bindings.
 
 bindings=$top/tests/bindings
 
@@ -7,8 +7,14 @@ bindings=$top/tests/bindings
 
 built=$work-built
 
+has_tables() {
+    for tool in cc python3 flock timeout; do
+        has $tool 'tables of cases' || return 1
+    done
+}
+
 has_caller() {
-    has_c && has python3 'the callers of the library' && has flock 'the callers of the library' || return 1
+    has_tables && has_c || return 1
     [ "$1" != rust ] || has rustc 'the library for plain Rust'
 }
 
@@ -33,16 +39,19 @@ make_python() {
 }
 
 make_client() {
+    mkdir -p "$built"
     [ -e "$built/client_c" ] || cc -std=c99 -O2 -Wall -Wextra -Werror "-I$c" -o "$built/client_c" "$bindings/client.c" \
         "$c/cvec_client.c"
 }
 
-# What clients start: the program, and a false server.
-make_servers() {
-    mkdir -p "$built"
-    [ -e "$built/cvec" ] || ln -s "$top/cvec" "$built/cvec"
-    { echo "#!$(interpreter)" && tail -n +2 "$bindings/false_server.py"; } >"$built/false_server"
-    chmod +x "$built/false_server"
+# What tables and clients start: the program, and two programs in Python.
+make_programs() {
+    python=$(python3 -c 'import sys; print(sys.executable)')
+    ln -sf "$top/cvec" "$built/cvec"
+    for name in other false_server; do
+        { echo "#!$python" && tail -n +2 "$bindings/$name.py"; } >"$built/$name"
+        chmod +x "$built/$name"
+    done
 }
 
 make_rust() {
@@ -57,9 +66,6 @@ make_calls() {
     [ -e "$built/calls.so" ] ||
         cc -std=gnu11 -O1 -Wall -Wextra -Werror -shared -fPIC -o "$built/calls.so" "$bindings/calls.c" -ldl
 }
-
-# The interpreter itself: a program that starts it would have the preloaded library in its place.
-interpreter() { python3 -c 'import sys; print(sys.executable)'; }
 
 # ---- tables
 
@@ -81,26 +87,27 @@ write_out() {
         }' "$1"
 }
 
-# The caller in this language gives a table back, in an empty folder. A third word says how its calls are meddled with.
+# The caller gives a table back, in an empty folder. A third word says how its calls are meddled with: they are those of the
+# interpreter itself, since a program that starts it would have the preloaded library in its place.
 follows() {
     rm -rf "$work/here"
     mkdir "$work/here"
     write_out "$bindings/$2" >"$work/table"
-    python=$(interpreter)
+    make_programs
     caller=$1 table=$2
     set -- "CALLS=${3-}"
     [ "$*" = CALLS= ] || set -- "$@" "LD_PRELOAD=$built/calls.so"
     case $caller in
-    python) set -- "$@" "$python" -B "$bindings/driver.py" ;;
-    client_python) set -- "$@" "$python" -B "$bindings/client.py" ;;
+    python) set -- "$@" "$python" "$bindings/driver.py" ;;
+    client_python) set -- "$@" "$python" "$bindings/client.py" ;;
     *) set -- "$@" "$built/$caller" ;;
     esac
     ended=0
     (
         cd "$work/here"
-        export "PATH=$built:$PATH" "CVEC_LIBRARY=$built/libcvec.so" "PYTHONPATH=$top/examples/python"
-        export "other=$python -B $bindings/other.py"
-        exec timeout 120 env "$@" "$work/table"
+        export "PATH=$built:$PATH" "CVEC_LIBRARY=$built/libcvec.so"
+        export "PYTHONPATH=$top/examples/python:$top/tests/fuzz" PYTHONDONTWRITEBYTECODE=1
+        exec timeout 600 env "$@" "$work/table"
     ) >"$work/answered" || ended=$?
     echo "$table by $caller, with $1:"
     diff "$work/table" "$work/answered" | cut -c 1-200
@@ -193,11 +200,8 @@ a_file_may_pass_2_gib() (
 
 # ---- clients of a server
 
-has_clients() { has cc 'the clients of a server' && has python3 'the clients of a server'; }
-
 a_table_holds_for_clients() (
-    has_clients || exit $is_skipped
-    make_servers
+    has_tables || exit $is_skipped
     make_client
     for caller in client_c client_python; do
         follows $caller clients.txt
@@ -207,8 +211,7 @@ a_table_holds_for_clients() (
 )
 
 parts_make_a_whole_for_clients() (
-    has_clients || exit $is_skipped
-    make_servers
+    has_tables || exit $is_skipped
     make_client
     make_calls
     for caller in client_c client_python; do
