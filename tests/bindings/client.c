@@ -11,7 +11,7 @@
 #include <sys/wait.h>
 #include <unistd.h>
 
-enum { LONGEST = 1 << 20, ROOM = (1 << 20) + 4096 };
+enum { LONGEST = 1 << 20, ROOM = (1 << 20) + 4096, LONGEST_WAIT = 120 };
 
 static const uint64_t untouched = 0xA5A5A5A5A5A5A5A5;
 
@@ -183,6 +183,7 @@ int main(int argc, char **argv) {
         if (line[0] != '>') continue;
         line[strcspn(line, "\n")] = '\0';
         fflush(stdout);
+        alarm(LONGEST_WAIT); /* a wait for what never comes is a wrong answer too */
         follow(line + 2);
     }
     return 0;

@@ -7,6 +7,7 @@ import sys
 import cvec_client
 from words import listed, record_of
 
+LONGEST_WAIT = 120
 server, kind = None, None
 
 
@@ -81,6 +82,7 @@ def main(path):
                 sys.stdout.write(line)
             if line[0] == ">":
                 sys.stdout.flush()
+                signal.alarm(LONGEST_WAIT)  # a wait for what never comes is a wrong answer too
                 told = answer(*line[2:].split())
                 if told is not None:
                     print(told)

@@ -23,7 +23,8 @@ def read(name, *numbers):
 
 
 def stat_text(stat):
-    return " ".join(f"{name} {getattr(stat, name)}" for name, _ in cvec.Stat._fields_)
+    names = ("size", "frames", "changes", "folded", "gate", "width", "version")
+    return " ".join(f"{name} {getattr(stat, name)}" for name in names)
 
 
 def close(name):
