@@ -184,17 +184,20 @@ calls_come_in_order_in_rust() (
     calls_come_in_order rust
 )
 
-# A caller holds the whole of a file in memory. In parts, since one call of the system reads 2 GiB at most.
+# A caller holds the whole of a file in memory, and a map may be counted as that.
 has_memory() {
-    [ "$(awk '/^MemAvailable/ { print $2 }' /proc/meminfo 2>/dev/null || echo 0)" -gt 3000000 ] ||
-        lacks 'there are no 3 GB of memory for a file past 2 GiB'
+    [ "$(awk '/^MemAvailable/ { print $2 }' /proc/meminfo 2>/dev/null || echo 0)" -gt 5000000 ] ||
+        lacks 'there are no 5 GB of memory for files past 2 and 4 GiB'
 }
 
+# In parts, since one call of the system reads 2 GiB at most.
 a_file_may_pass_2_gib() (
     has_caller c && has_memory || exit $is_skipped
     make_caller c
     make_calls
     follows c long.txt part
+    make_caller python
+    follows python long_map.txt
     rm -r "$work/here"
 )
 
