@@ -3,6 +3,7 @@
 #define _GNU_SOURCE 1
 #include "cvec_client.h"
 
+#include <fcntl.h>
 #include <inttypes.h>
 #include <signal.h>
 #include <stdio.h>
@@ -11,7 +12,7 @@
 #include <sys/wait.h>
 #include <unistd.h>
 
-enum { LONGEST = 1 << 20, ROOM = (1 << 20) + 4096, LONGEST_WAIT = 120 };
+enum { LONGEST = 1 << 20, ROOM = (1 << 20) + 4096, LONGEST_WAIT = 120, FREE_DESCRIPTOR = 500 };
 
 static const uint64_t untouched = 0xA5A5A5A5A5A5A5A5;
 
@@ -175,8 +176,10 @@ static void follow(char *line) {
 
 int main(int argc, char **argv) {
     static char line[LONGEST];
-    FILE *table = argc == 2 ? fopen(argv[1], "re") : NULL;
-    if (table == NULL) return 2;
+    int low = argc == 2 ? open(argv[1], O_RDONLY | O_CLOEXEC) : -1;
+    FILE *table = fdopen(fcntl(low, F_DUPFD_CLOEXEC, FREE_DESCRIPTOR), "r");
+    if (low < 0 || table == NULL) return 2;
+    close(low); /* so that the first pipe may be where the server's is to be */
     signal(SIGPIPE, SIG_IGN);
     while (fgets(line, sizeof line, table) != NULL) {
         if (line[0] == '#' || line[0] == '\n' || line[0] == '>') fputs(line, stdout);

@@ -76,16 +76,18 @@ def answer(word, *words):
 
 
 def main(path):
+    # It is closed, so that the first pipe may be where the server's is to be.
     with open(path) as table:
-        for line in table:
-            if line[0] in "#\n>":
-                sys.stdout.write(line)
-            if line[0] == ">":
-                sys.stdout.flush()
-                signal.alarm(LONGEST_WAIT)  # a wait for what never comes is a wrong answer too
-                told = answer(*line[2:].split())
-                if told is not None:
-                    print(told)
+        lines = table.readlines()
+    for line in lines:
+        if line[0] in "#\n>":
+            sys.stdout.write(line)
+        if line[0] == ">":
+            sys.stdout.flush()
+            signal.alarm(LONGEST_WAIT)  # a wait for what never comes is a wrong answer too
+            told = answer(*line[2:].split())
+            if told is not None:
+                print(told)
 
 
 main(*sys.argv[1:])
