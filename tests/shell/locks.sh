@@ -1,0 +1,252 @@
+# A second command while a first one has the file.
+
+# ---- commands that are held while they have their file
+
+program=$top/crates/cvec/out/cvec
+
+# What the first command asks waits in a pipe: its answer in one that is full, or its input in one that gives nothing.
+pipe() {
+    rm -f "$work/pipe"
+    mkfifo "$work/pipe"
+    exec 8<>"$work/pipe"
+}
+
+# Starts a command that is held at its answer, which is written while the file is still locked.
+is_held_at_its_answer() {
+    pipe
+    dd if=/dev/zero of="$work/pipe" bs=4096 oflag=nonblock 2>/dev/null || :
+    "$program" "$@" <"$in" >"$work/pipe" 2>"$work/first_err" 8>&- &
+    first=$!
+}
+
+# The held command goes on, and has answered this.
+goes_on_and_answers() {
+    exec 7<"$work/pipe"
+    tr -d '\0' <&7 >"$work/first_out" 8>&- &
+    reader=$!
+    exec 8>&- 7<&-
+    wait "$first"
+    wait "$reader"
+    printf '%b' "$1" | cmp - "$work/first_out"
+    [ ! -s "$work/first_err" ]
+}
+
+# Waits until this file is locked for reading (READ) or alone (WRITE), as the system has it. Nothing is locked for that.
+until_locked() {
+    for _ in $(seq 1000); do
+        if grep -q "FLOCK .* $1 .*:$(stat -c %i "$2" 2>/dev/null || echo none) " /proc/locks; then return 0; fi
+        sleep 0.01
+    done
+    echo "no command has $2 ($1)"
+    return 1
+}
+
+# Waits until the gate at this place is open, which is the last byte that the held command writes.
+until_written() {
+    for _ in $(seq 1000); do
+        if [ "$(od -An -tx1 -j "$2" -N 1 "$1" 2>/dev/null | tr -d ' ')" = 01 ]; then return 0; fi
+        sleep 0.01
+    done
+    echo "the gate of $1 at $2 isn't open"
+    return 1
+}
+
+# ---- the second command
+
+# Runs a second command, which has 20 seconds, with pipes for a client.
+second() {
+    status=0
+    timeout 20 "$program" "$@" <"$in" >"$out" 2>"$err" 3</dev/null 4>/dev/null || status=$?
+}
+
+# It is refused since another has this file.
+is_kept_from() {
+    name=$1
+    shift
+    second "$@"
+    echo "$*: $status"
+    answers_refusal file
+    echo "cvec: $name: another command uses it; nothing was read or written; wait for its end" | cmp - "$err"
+}
+
+writers_are_kept_from() {
+    for words in 'clear u64 FILE' 'fold u64 FILE' 'set u64 FILE 0 --records=9' 'resize u64 FILE 9 --record=9' \
+        'create u64 FILE' 'load u64 FILE' 'append u64 FILE' 'serve u64 FILE --seats=1' "upgrade u64 $work/other.cv FILE"; do
+        # shellcheck disable=SC2046 # each word is one
+        is_kept_from "$1" $(echo "$words" | sed "s|FILE|$1|")
+    done
+}
+
+readers_are_kept_from() {
+    for words in 'check u64 FILE' 'list u64 FILE' 'count u64 FILE --record=9' 'find u64 FILE --record=9' 'stat FILE' \
+        "upgrade u64 FILE $work/no.cv"; do
+        # shellcheck disable=SC2046 # each word is one
+        is_kept_from "$1" $(echo "$words" | sed "s|FILE|$1|")
+    done
+    [ ! -e "$work/no.cv" ]
+}
+
+# While this file is locked alone all others are kept from it, and it stays as it was.
+all_are_kept_from() {
+    until_locked WRITE "$1"
+    sum=$(cksum <"$1")
+    writers_are_kept_from "$1"
+    readers_are_kept_from "$1"
+    [ "$(cksum <"$1")" = "$sum" ]
+}
+
+# Once the first has ended a second one has the file, which then has these records.
+the_next_one_has() {
+    second resize u64 "$1" 9 --record=4
+    did 'ok\n'
+    second list u64 "$1"
+    did "$2"
+}
+
+has_locks_listed() { [ -r /proc/locks ] || lacks 'there is no /proc/locks to see which files are locked'; }
+
+# Two files of the records 5 and 6, one that was changed since, and the input that a second command would take.
+two_files() {
+    for name in t other; do # of 64 bytes
+        run create u64 "$work/$name.cv"
+        given '5 6\n'
+        run load u64 "$work/$name.cv"
+        run set u64 "$work/$name.cv" 1 --records=7
+        did 'ok\n'
+    done
+    given '8\n'
+}
+
+# Each command that writes is held, and what it did is there when it has ended.
+a_command_that_writes_has_its_file_alone() (
+    has_locks_listed || exit $is_skipped
+    two_files
+    t=$work/t.cv
+    cp "$t" "$work/before.cv"
+    while IFS='=' read -r words answer records; do
+        cp "$work/before.cv" "$t"
+        # shellcheck disable=SC2046 # each word is one
+        is_held_at_its_answer $(echo "$words" | sed "s|FILE|$t|; s|:|=|")
+        until_written "$t" 63
+        all_are_kept_from "$t"
+        goes_on_and_answers "$answer"
+        the_next_one_has "$t" "$records"
+    done <<'ROWS'
+load u64 FILE=loaded 1 growths, size 3\n=5\n7\n8\n4\n4\n4\n4\n4\n4\n
+append u64 FILE=appended 1 growths, size 3\n=5\n7\n8\n4\n4\n4\n4\n4\n4\n
+set u64 FILE 0 --records:9=ok\n=9\n7\n4\n4\n4\n4\n4\n4\n4\n
+resize u64 FILE 8 --record:9=ok\n=5\n7\n9\n9\n9\n9\n9\n9\n4\n
+fold u64 FILE=folded 1\n=5\n7\n4\n4\n4\n4\n4\n4\n4\n
+ROWS
+    cp "$work/before.cv" "$t"
+    run fold u64 "$t"
+    is_held_at_its_answer clear u64 "$t"
+    until_written "$t" 77
+    all_are_kept_from "$t"
+    goes_on_and_answers 'ok\n'
+    the_next_one_has "$t" '4\n4\n4\n4\n4\n4\n4\n4\n4\n'
+)
+
+a_file_that_is_made_is_its_makers_alone() (
+    has_locks_listed || exit $is_skipped
+    two_files
+    is_held_at_its_answer create u64 "$work/new.cv"
+    until_written "$work/new.cv" 0
+    all_are_kept_from "$work/new.cv"
+    goes_on_and_answers 'created\n'
+    the_next_one_has "$work/new.cv" '4\n4\n4\n4\n4\n4\n4\n4\n4\n'
+    is_held_at_its_answer upgrade u64 "$work/t.cv" "$work/two.cv"
+    until_written "$work/two.cv" 11
+    all_are_kept_from "$work/two.cv"
+    # Of the old file others may read, and the new one isn't theirs.
+    writers_are_kept_from "$work/t.cv"
+    second list u64 "$work/t.cv"
+    did '5\n7\n'
+    is_kept_from "$work/two.cv" upgrade u64 "$work/t.cv" "$work/two.cv"
+    goes_on_and_answers 'upgraded size 2\n'
+    the_next_one_has "$work/two.cv" '5\n7\n4\n4\n4\n4\n4\n4\n4\n'
+    the_next_one_has "$work/t.cv" '5\n7\n4\n4\n4\n4\n4\n4\n4\n'
+)
+
+# An `append` that waits for more input has its file; what another is given to append stays unread.
+an_append_that_waits_has_its_file_alone() (
+    has_locks_listed || exit $is_skipped
+    two_files
+    pipe
+    "$program" append u64 "$work/t.cv" <"$work/pipe" >"$work/first_out" 2>"$work/first_err" 8>&- &
+    first=$!
+    all_are_kept_from "$work/t.cv"
+    exec 9<"$in"
+    status=0
+    timeout 20 "$program" append u64 "$work/t.cv" <&9 >"$out" 2>"$err" || status=$?
+    answers_refusal file
+    cat <&9 | cmp - "$in"
+    echo 3 >&8
+    exec 8>&-
+    wait "$first"
+    echo 'appended 1 growths, size 3' | cmp - "$work/first_out"
+    the_next_one_has "$work/t.cv" '5\n7\n3\n4\n4\n4\n4\n4\n4\n'
+)
+
+a_server_has_its_file_alone_until_its_clients_have_ended() (
+    has_locks_listed || exit $is_skipped
+    two_files
+    pipe
+    "$program" serve u64 "$work/t.cv" --seats=1 3<"$work/pipe" 4>"$work/answered" </dev/null >"$work/first_out" \
+        2>"$work/first_err" 8>&- &
+    first=$!
+    all_are_kept_from "$work/t.cv"
+    # A growth of the record 3.
+    printf '\1\0\0\0\1\0\0\0\0\0\0\0\0\0\0\0\3\0\0\0\0\0\0\0' >&8
+    exec 8>&-
+    wait "$first"
+    echo 'served 1 growths' | cmp - "$work/first_out"
+    the_next_one_has "$work/t.cv" '5\n7\n3\n4\n4\n4\n4\n4\n4\n'
+)
+
+# Commands that read share the file, and whoever writes is kept from it.
+commands_that_read_share_a_file() (
+    has_locks_listed || exit $is_skipped
+    two_files
+    t=$work/t.cv
+    sum=$(cksum <"$t")
+    while IFS='=' read -r words answer; do
+        rm -f "$work/no.cv"
+        # shellcheck disable=SC2046 # each word is one
+        is_held_at_its_answer $(echo "$words" | sed "s|FILE|$t|; s|NEW|$work/no.cv|; s|:|=|")
+        until_locked READ "$t"
+        writers_are_kept_from "$t"
+        for other in 'list u64' 'stat'; do
+            # shellcheck disable=SC2086 # each word is one
+            second $other "$t"
+            [ "$status" -eq 0 ]
+        done
+        [ "$(cksum <"$t")" = "$sum" ]
+        goes_on_and_answers "$answer"
+    done <<'ROWS'
+check u64 FILE=ok version 1 width 8 size 2 frames 2 live 1\n
+list u64 FILE=5\n7\n
+count u64 FILE --record:7=1\n
+find u64 FILE --record:7=1\n
+stat FILE --json={"version":1,"width":8,"bytes":64,"groups":1,"changes":1,"shrinks":0,"folds":0,"growths":1,"records":2,"size":2,"live":1,"gate":63,"behind":0}\n
+upgrade u64 FILE NEW=upgraded size 2\n
+ROWS
+    the_next_one_has "$t" '5\n7\n4\n4\n4\n4\n4\n4\n4\n'
+)
+
+# `load` reads its input before it opens the file, so it keeps nobody from it meanwhile. More than a pipe holds is written,
+# so some of that has been read.
+a_load_that_waits_for_its_input_keeps_nobody_out() (
+    two_files
+    pipe
+    "$program" load u64 "$work/t.cv" <"$work/pipe" >"$work/first_out" 2>"$work/first_err" 8>&- &
+    first=$!
+    seq 1 20000 >&8
+    second set u64 "$work/t.cv" 0 --records=2
+    did 'ok\n'
+    exec 8>&-
+    wait "$first"
+    echo 'loaded 20000 growths, size 20002' | cmp - "$work/first_out"
+    second list u64 "$work/t.cv"
+    { printf '2\n7\n'; seq 1 20000; } | cmp - "$out"
+)
