@@ -127,6 +127,24 @@ a_changed_file() {
     [ "$(stat -c %s "$work/t.cv")" -eq 56 ]
 }
 
+# ---- the program over calls of the system that are noted, cut or refused
+
+program=$top/crates/cvec/out/cvec
+
+# The library of tests/calls.c is built.
+has_calls() {
+    has cc 'calls of the system that are noted, cut or refused' || return 1
+    cc -std=gnu99 -Wall -Wextra -Werror -O1 -shared -fPIC "$top/tests/calls.c" -o "$work/calls.so" -ldl
+}
+
+# Runs the program with these words, behind what the library does (CALLS_LOG=FILE, CALLS_PART=N, CALLS_FAIL=CALL:N).
+run_with() {
+    does=$1
+    shift
+    status=0
+    env "$does" LD_PRELOAD="$work/calls.so" "$program" "$@" <"$in" >"$out" 2>"$err" || status=$?
+}
+
 # ---- pages that show programs
 
 # The lines of this page between the fences of this language.

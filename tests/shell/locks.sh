@@ -2,8 +2,6 @@
 
 # ---- commands that are held while they have their file
 
-program=$top/crates/cvec/out/cvec
-
 # What the first command asks waits in a pipe: its answer in one that is full, or its input in one that gives nothing.
 pipe() {
     rm -f "$work/pipe"

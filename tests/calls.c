@@ -1,0 +1,125 @@
+/* Stands between a program and the system's calls, as a library that LD_PRELOAD names. The environment says what it does:
+
+   CALLS_LOG=FILE     a line is added for each write and each sync that has succeeded, and for each answer that begins:
+                          write NAME PLACE LENGTH FIRST LAST    the file's name, and the first and last byte in hex
+                          sync NAME                             a file, or a folder
+                          answer LENGTH                         on standard output
+                          tell NAME LENGTH                      on any other descriptor above standard error
+   CALLS_PART=N       each call but `read` is interrupted once before it is made, and a read or a write does at most N
+                      bytes. A read of standard input that is interrupted is refused as one that failed
+   CALLS_FAIL=CALL:N  the call of this name fails, which is number N of those with it, from 1: EIO, or ENOSPC of a write */
+#define _GNU_SOURCE
+#include <dlfcn.h>
+#include <errno.h>
+#include <fcntl.h>
+#include <stdio.h>
+#include <stdlib.h>
+#include <string.h>
+#include <sys/file.h>
+#include <sys/stat.h>
+#include <unistd.h>
+
+enum call { READ, WRITE, PREAD, PWRITE, FDATASYNC, FSYNC, STATX, FLOCK, CALLS };
+static const char *const names[CALLS] = {"read", "write", "pread", "pwrite", "fdatasync", "fsync", "statx", "flock"};
+static int seen[CALLS], made[CALLS], failing = -1, failing_at, log_to = -1;
+static size_t part = (size_t)-1;
+
+/* The program's own descriptors keep their numbers. */
+__attribute__((constructor)) static void begin(void) {
+    const char *log = getenv("CALLS_LOG"), *most = getenv("CALLS_PART"), *fail = getenv("CALLS_FAIL");
+    if (log != NULL) {
+        int opened = open(log, O_WRONLY | O_CREAT | O_APPEND | O_CLOEXEC, 0666);
+        log_to = fcntl(opened, F_DUPFD_CLOEXEC, 200);
+        close(opened);
+    }
+    if (most != NULL) part = strtoul(most, NULL, 10);
+    for (int call = 0; fail != NULL && call < CALLS; call++) {
+        size_t length = strlen(names[call]);
+        if (strncmp(fail, names[call], length) == 0 && fail[length] == ':') {
+            failing = call;
+            failing_at = atoi(fail + length + 1);
+        }
+    }
+}
+
+static const char *name_of(int fd, char *buffer, size_t length) {
+    char link[32];
+    snprintf(link, sizeof link, "/proc/self/fd/%d", fd);
+    ssize_t found = readlink(link, buffer, length - 1);
+    buffer[found < 0 ? 0 : found] = 0;
+    const char *slash = strrchr(buffer, '/');
+    return slash == NULL ? buffer : slash + 1;
+}
+
+static void note(int fd, const char *kind, const char *more) {
+    char name[4096], line[4300];
+    if (log_to < 0) return;
+    int length = snprintf(line, sizeof line, "%s %s%s%s\n", kind, name_of(fd, name, sizeof name), *more ? " " : "", more);
+    if (write(log_to, line, (size_t)length) != length) abort();
+}
+
+/* Whether the call isn't to be made, but fails or is interrupted. */
+static int is_kept_off(enum call call) {
+    if (part != (size_t)-1 && call != READ && __atomic_fetch_add(&seen[call], 1, __ATOMIC_SEQ_CST) % 2 == 0) {
+        errno = EINTR;
+        return 1;
+    }
+    if (__atomic_add_fetch(&made[call], 1, __ATOMIC_SEQ_CST) == failing_at && (int)call == failing) {
+        errno = call == WRITE || call == PWRITE ? ENOSPC : EIO;
+        return 1;
+    }
+    return 0;
+}
+
+static size_t at_most(size_t n) { return n < part ? n : part; }
+
+#define NEXT(name) ((__typeof__(&name))dlsym(RTLD_NEXT, #name))
+
+ssize_t read(int fd, void *bytes, size_t n) { return is_kept_off(READ) ? -1 : NEXT(read)(fd, bytes, at_most(n)); }
+
+ssize_t pread(int fd, void *bytes, size_t n, off_t place) {
+    return is_kept_off(PREAD) ? -1 : NEXT(pread)(fd, bytes, at_most(n), place);
+}
+
+ssize_t write(int fd, const void *bytes, size_t n) {
+    char more[32];
+    if (fd == log_to) return NEXT(write)(fd, bytes, n);
+    if (is_kept_off(WRITE)) return -1;
+    snprintf(more, sizeof more, "%zu", at_most(n));
+    if (fd == STDOUT_FILENO && log_to >= 0) dprintf(log_to, "answer %s\n", more);
+    if (fd > STDERR_FILENO) note(fd, "tell", more);
+    return NEXT(write)(fd, bytes, at_most(n));
+}
+
+ssize_t __write(int fd, const void *bytes, size_t n) { return write(fd, bytes, n); }
+
+ssize_t pwrite(int fd, const void *bytes, size_t n, off_t place) {
+    if (is_kept_off(PWRITE)) return -1;
+    ssize_t done = NEXT(pwrite)(fd, bytes, at_most(n), place);
+    if (done > 0) {
+        const unsigned char *all = bytes;
+        char more[80];
+        snprintf(more, sizeof more, "%lld %zd %02x %02x", (long long)place, done, all[0], all[done - 1]);
+        note(fd, "write", more);
+    }
+    return done;
+}
+
+static int synced(int fd, int failed) {
+    if (!failed) note(fd, "sync", "");
+    return failed;
+}
+
+int fdatasync(int fd) { return is_kept_off(FDATASYNC) ? -1 : synced(fd, NEXT(fdatasync)(fd)); }
+
+int fsync(int fd) { return is_kept_off(FSYNC) ? -1 : synced(fd, NEXT(fsync)(fd)); }
+
+int statx(int fd, const char *path, int flags, unsigned mask, struct statx *found) {
+    return is_kept_off(STATX) ? -1 : NEXT(statx)(fd, path, flags, mask, found);
+}
+
+/* A lock that isn't waited for isn't interrupted. */
+int flock(int fd, int how) {
+    if (failing == FLOCK && is_kept_off(FLOCK)) return -1;
+    return NEXT(flock)(fd, how);
+}
