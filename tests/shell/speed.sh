@@ -58,14 +58,31 @@ who_may_start_no_thread_is_told() (
     done
 )
 
-# Some threads are started, or memory is refused to one of them.
+# The file has as many records as were told.
+is_told_in_full() {
+    [ ! -s "$err" ]
+    n=$(sed 's/.*"n":\([0-9]*\),.*/\1/' "$out")
+    [ "$n" -gt 0 ]
+    run check u64 "$work/dir/vector.cvec"
+    [ "$(cut -d ' ' -f 1,6,7 "$out")" = "ok size $n" ]
+}
+
+# Some threads are started, or memory is refused to one of them. Under 30 MB there is no room for their stacks, and under
+# 4 GB there is for all.
 who_gets_little_memory_ends_too() (
-    for millions in 30 50 55 60 65 70 75 80 90 100; do
-        for mode in wait1 flow; do
+    for mode in wait1 flow; do
+        ends=
+        for millions in 30 50 55 60 65 70 75 80 90 100 4000; do
             append_under --as=${millions}000000 $mode
-            [ "$status" -eq 0 ] || [ "$status" -eq 1 ]
-            [ "$status" -eq 0 ] || [ "$(wc -l <"$err")" -eq 1 ]
+            ends=$ends$status
+            [ "$(wc -l <"$err")" -eq "$status" ]
+            case $status in
+                0) is_told_in_full ;;
+                1) [ ! -s "$out" ] ;;
+                *) return 1 ;;
+            esac
         done
+        case $ends in 1*0) ;; *) return 1 ;; esac
     done
 )
 
@@ -98,12 +115,34 @@ a_load_that_gets_no_thread_ends() (
     grep -qF 'the vector has 0 records' "$err"
 )
 
+# The file has the first lines of each of the four growers: $stand records.
+has_the_first_lines_of_each_grower() {
+    run list u64 "$work/t.cv"
+    [ "$status" -eq 0 ]
+    awk '{ seat = ($1 - 1) % 4; if ($1 != made[seat] * 4 + seat + 1) exit 1; made[seat]++ }' "$out"
+    stand=$(wc -l <"$out")
+}
+
+# What was refused is said with how many records there are, and those that were made stand. Under 30 MB there is no room for
+# the threads' stacks, and under 4 GB there is for all.
 a_load_that_gets_little_memory_ends() (
-    for millions in 50 60 70 80 100 120; do
+    ends=
+    for millions in 30 50 60 70 80 100 120 4000; do
         load_under --as=${millions}000000
-        [ "$status" -eq 0 ] || [ "$status" -eq 1 ]
-        [ "$status" -eq 0 ] || [ "$(wc -l <"$err")" -eq 1 ]
+        ends=$ends$status
+        told=$(cat "$out")
+        cp "$err" "$work/told_err"
+        [ "$(wc -l <"$work/told_err")" -eq "$status" ]
+        answered=$status-$told
+        has_the_first_lines_of_each_grower
+        case $answered in
+            '0-loaded 10000 growths, size 10000') [ "$stand" -eq 10000 ] ;;
+            '1-refused: memory') grep -q "the vector has $stand records\$" "$work/told_err" ;;
+            '1-refused: unsettled '*) [ "$stand" -ge "${told##* }" ] ;;
+            *) return 1 ;;
+        esac
     done
+    case $ends in 1*0) ;; *) return 1 ;; esac
 )
 
 # So many threads wait in so many phases, so many rounds in each, and all are woken.
