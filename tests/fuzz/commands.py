@@ -4,7 +4,8 @@ import os
 import tempfile
 
 from memory import is_memory_refused, run_refused
-from program import differs, has, run
+from outlines import stat_differs
+from program import differs, run
 from reader import Fault, File, answers_of
 from writer import all_kinds
 
@@ -66,12 +67,17 @@ def holds(image, kind, texts, folded):
 
 
 def command_words(verb, kind, name, words):
+    if verb == 'stat':
+        return [verb, name, *words]
     return [verb, kind, name, *([name + '.new'] if verb == 'upgrade' else words)]
 
 
 def judge_outcome(kind, name, command, before, found):
     """What is wrong with an answer of a command and with what it left of its file, or nothing."""
     verb, words, lines = command
+    if verb == 'stat':
+        told = stat_differs([verb, *words], found, before)
+        return told if read_file(name) == before else told or 'stat wrote the file'
     answer, texts = foresee(kind, verb, words, lines, before)
     written = answer + '\n' if answer or verb != 'list' else ''
     told = differs([verb, *words], found, (int(answer.startswith('refused: ')), written.encode()))
@@ -141,7 +147,6 @@ def command_tables(_folder):
     commands = [('create', [], []), ('load', [], ['1 2', '3']), ('append', [], ['1 2', '3']), ('check', [], []),
                 ('list', [], []), ('count', ['--record=9'], []), ('find', ['--record=9'], []),
                 ('set', ['1', '--records=4,5'], []), ('resize', ['9', '--record=3'], []), ('fold', [], []),
-                ('upgrade', [], [])]
+                ('upgrade', [], []), ('stat', [], [])]
     for command in commands:
-        if has(command[0]):
-            yield judge_refused_command, (b'' if command[0] == 'create' else all_kinds(1), command)
+        yield judge_refused_command, (b'' if command[0] == 'create' else all_kinds(1), command)

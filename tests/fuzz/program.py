@@ -22,14 +22,15 @@ def run(words, given=b'', program=PROGRAM, limit=60, **options):
     return done.returncode, done.stdout, done.stderr
 
 
-def reads_files():
-    """Whether the program has the commands that read files."""
-    told = run(['help'])[2]
-    return b'check TYPE' in told and b'list TYPE' in told
+# What usage has to name. All are run here but `serve`.
+COMMANDS = ('image', 'show', 'play', 'create', 'load', 'append', 'serve', 'check', 'stat', 'list', 'count', 'find', 'set',
+            'resize', 'clear', 'fold', 'upgrade')
 
 
-def has(command):
-    return (command + ' TYPE FILE').encode() in run(['help'])[2]
+def lacking():
+    """The commands that the program's usage doesn't name."""
+    named = [line.split(' ')[0] for line in run(['help'])[2].decode().splitlines()]
+    return [command for command in COMMANDS if command not in named]
 
 
 class Tally:

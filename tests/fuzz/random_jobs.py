@@ -4,7 +4,7 @@ import random
 
 from commands import judge_commands
 from follower import judge_script
-from program import differs, has, reads_files, run
+from program import differs, run
 from random_files import frames_image, mutated, random_cells, random_image
 from reader import TYPES
 from tables import judge_image
@@ -85,15 +85,20 @@ def random_words(rng):
 
 # ---- commands
 
-def random_commands(rng, known):
+FILED = ('create', 'load', 'append', 'check', 'stat', 'list', 'count', 'find', 'set', 'resize', 'clear', 'fold', 'upgrade')
+
+
+def random_commands(rng):
     kind = rng.choice(list(TYPES))
     text = TYPES[kind][2]
     image = rng.choice([b'', frames_image(rng, kind), frames_image(rng, kind), mutated(rng, frames_image(rng, kind))])
     commands = []
     for _ in range(rng.randint(1, 6)):
-        verb, records = rng.choice(known), ','.join(map(text, random_cells(rng, kind, 3)))
+        verb, records = rng.choice(FILED), ','.join(map(text, random_cells(rng, kind, 3)))
         words = {'set': [str(rng.randrange(8)), '--records=' + records],
                  'resize': [str(rng.randrange(12)), '--record=' + records.split(',')[0]]}.get(verb, [])
+        if verb == 'stat' and rng.random() < .5:
+            words = ['--json']
         if verb in ('count', 'find'):
             words = ['--record=' + rng.choice([records.split(',')[0], text(bytes(TYPES[kind][0]))])]
         lines = []
@@ -113,16 +118,12 @@ def judge_any(job):
 
 
 def random_jobs(seed):
-    on_files = reads_files()
-    known = [verb for verb in ('create', 'load', 'append', 'check', 'list', 'count', 'find', 'set', 'resize', 'clear', 'fold',
-                               'upgrade') if has(verb)]
     rng = random.Random(seed)
     while True:
-        if known:
-            for _ in range(3):
-                yield judge_commands, random_commands(rng, known)
+        for _ in range(3):
+            yield judge_commands, random_commands(rng)
         for _ in range(20):
-            yield judge_image, (*random_image(rng), on_files and rng.random() < .3)
+            yield judge_image, (*random_image(rng), rng.random() < .3)
         for _ in range(5):
             yield judge_script, random_script(rng)
         kind = rng.choice(list(TYPES))

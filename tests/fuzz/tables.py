@@ -4,6 +4,7 @@ import os
 import random
 import tempfile
 
+from outlines import stat_differs
 from program import PROGRAM, differs, run
 from random_files import random_frames
 from reader import TYPES, answers_of
@@ -11,7 +12,7 @@ from writer import all_kinds, change, group, header, numbers
 
 
 def judge_image(job):
-    """What is wrong with the answers on an image. Files are looked at where the program has commands on them."""
+    """What is wrong with the answers on an image, and on a file of it too where that is asked for."""
     image, kind, on_files = job
     shown, checked = answers_of(image, kind)
     words = ['show', kind]
@@ -22,36 +23,38 @@ def judge_image(job):
             file.flush()
             for words, wanted in [(['check', kind, file.name], checked), (['list', kind, file.name], shown)]:
                 told = told or differs(words, run(words), wanted)
+            for words in (['stat', file.name], ['stat', file.name, '--json']):
+                told = told or stat_differs(words, run(words), image)
             with open(file.name, 'rb') as again:
                 if again.read() != image:
                     told = told or 'the file was written'
     return told, ('%s\n%s\n' % (kind, image.hex())).encode()
 
 
-def each_byte(on_files):
+def each_byte():
     """Files of both versions with all kinds of frame, each byte set to each value; on a file for some of them."""
     for version in (1, 2):
         image = all_kinds(version)
         for place in range(len(image)):
             for value in range(256):
                 altered = image[:place] + bytes([value]) + image[place + 1:]
-                yield altered, 'u64', on_files and value in (0, 1, 255, image[place] ^ 1)
+                yield altered, 'u64', value in (0, 1, 255, image[place] ^ 1)
 
 
-def each_cut(on_files):
+def each_cut():
     """Files of both versions cut at each length."""
     for version in (1, 2):
         image = all_kinds(version)
         for length in range(len(image) + 1):
-            yield image[:length], 'u64', on_files
+            yield image[:length], 'u64', True
 
 
-def each_frames(on_files):
+def each_frames():
     """10,000 files of random frames, the same in each run."""
     rng = random.Random('frames')
     for at in range(10000):
         kind = rng.choice(list(TYPES))
-        yield random_frames(rng, kind), kind, on_files and at % 10 == 0
+        yield random_frames(rng, kind), kind, at % 10 == 0
 
 
 WORST = 3
