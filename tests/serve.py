@@ -1,6 +1,7 @@
 #!/usr/bin/env python3
 """Four client processes append records in blocks, while the server is killed and started again ten times: each block that
-a client was told is settled stands in the file, whole and once, at the position that its growth was told. Before that, a
+a client was told is settled stands in the file, whole and once, at the position that its growth was told. A kill comes a
+moment after some blocks of that server were told; at least half of the kills come before all are settled. Before that, a
 seat whose request an exception has left is told nothing more.
 
 serve.py PROGRAM FOLDER [RECORDS [CLIENT]]
@@ -9,6 +10,7 @@ CLIENT is the built examples/c/append_blocks.c: every second client is it, and t
 """
 import os
 import random
+import select
 import signal
 import sys
 import time
@@ -73,28 +75,49 @@ def start_client(server, client, number):
     return pid, taken
 
 
-def told_by(taken):
-    """What a client told, once it has ended."""
-    with os.fdopen(taken) as lines:
-        return [tuple(map(int, line.split())) for line in lines]
+class Told:
+    """What the clients of a server tell is settled, by the pipes where they do."""
+
+    def __init__(self, settled, pipes):
+        self.settled, self.blocks = settled, 0
+        self.clients, self.begun = {taken: client for client, taken in enumerate(pipes)}, dict.fromkeys(pipes, b"")
+
+    def take(self, enough=float("inf")):
+        """Notes it until that are so many blocks, or all clients have ended."""
+        while self.clients and self.blocks < enough:
+            for taken in select.select(self.clients, [], [])[0]:
+                read = os.read(taken, 65536)
+                *lines, self.begun[taken] = (self.begun[taken] + read).split(b"\n")
+                for line in lines:
+                    self.note(self.clients[taken], *map(int, line.split()))
+                if not read:
+                    assert not self.begun[taken], "a block was told by half"
+                    del self.clients[taken]
+                    os.close(taken)
+
+    def note(self, client, number, start):
+        assert number == len(self.settled[client]), "a block was told out of turn"
+        self.settled[client].append(start)
+        self.blocks += 1
 
 
 def one_server(settled, kill_after):
-    """Serves all clients until they have ended, or for so many seconds. Answers whether the server was killed."""
+    """Serves all clients until they have ended, or until a moment after so many blocks were told. Answers whether the
+    server was killed while blocks were left."""
     server = cvec_client.Server(PROGRAM, "u64", PATH, seats=CLIENTS)
     clients = [start_client(server, client, len(settled[client])) for client in range(CLIENTS)]
+    told = Told(settled, [taken for _, taken in clients])
     if kill_after is not None:
-        time.sleep(kill_after)
+        told.take(kill_after)
+        time.sleep(random.uniform(0, 0.02))
         server.process.send_signal(signal.SIGKILL)
     # Before the server is waited for: a client whose pipe is full goes on only when that is read.
-    for client, (pid, taken) in enumerate(clients):
-        for number, start in told_by(taken):
-            assert number == len(settled[client]), "a block was told out of turn"
-            settled[client].append(start)
+    told.take()
+    for pid, _ in clients:
         assert os.waitstatus_to_exitcode(os.waitpid(pid, 0)[1]) == 0, "a client failed"
     status = server.wait()
     assert status in ((0,) if kill_after is None else (0, -signal.SIGKILL)), f"the server ended with {status}"
-    return status != 0
+    return status != 0 and any(len(starts) < EACH for starts in settled)
 
 
 def check(settled):
@@ -173,8 +196,9 @@ def main():
     settled = [[] for _ in range(CLIENTS)]
     kills = 0
     for _ in range(KILLS):
-        kills += one_server(settled, random.uniform(0.05, 0.4))
+        kills += one_server(settled, random.randint(0, CLIENTS * EACH // (2 * KILLS)))
         check(settled)
+    assert kills >= KILLS / 2, f"only {kills} kills came before all was settled"
     one_server(settled, None)
     size = check(settled)
     assert all(len(starts) == EACH for starts in settled), "a client has blocks left"
