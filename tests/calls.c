@@ -5,8 +5,8 @@
                           sync NAME                             a file, or a folder
                           answer LENGTH                         on standard output
                           tell NAME LENGTH                      on any other descriptor above standard error
-   CALLS_PART=N       each call but `read` is interrupted once before it is made, and a read or a write does at most N
-                      bytes. A read of standard input that is interrupted is refused as one that failed
+   CALLS_PART=N       each read and write does at most N bytes. Each call on a file whose interruption docs/file/disk.md
+                      names is interrupted once before it is made: pread, pwrite, fdatasync, and statx of a descriptor
    CALLS_FAIL=CALL:N  the call of this name fails, which is number N of those with it, from 1: EIO, or ENOSPC of a write */
 #define _GNU_SOURCE
 #include <dlfcn.h>
@@ -58,12 +58,15 @@ static void note(int fd, const char *kind, const char *more) {
     if (write(log_to, line, (size_t)length) != length) abort();
 }
 
-/* Whether the call isn't to be made, but fails or is interrupted. */
-static int is_kept_off(enum call call) {
-    if (part != (size_t)-1 && call != READ && __atomic_fetch_add(&seen[call], 1, __ATOMIC_SEQ_CST) % 2 == 0) {
-        errno = EINTR;
-        return 1;
-    }
+/* Whether the call on a file is interrupted instead of made. */
+static int is_interrupted(enum call call) {
+    if (part == (size_t)-1 || __atomic_fetch_add(&seen[call], 1, __ATOMIC_SEQ_CST) % 2 != 0) return 0;
+    errno = EINTR;
+    return 1;
+}
+
+/* Whether the call fails instead of being made. */
+static int is_refused(enum call call) {
     if (__atomic_add_fetch(&made[call], 1, __ATOMIC_SEQ_CST) == failing_at && (int)call == failing) {
         errno = call == WRITE || call == PWRITE ? ENOSPC : EIO;
         return 1;
@@ -75,16 +78,16 @@ static size_t at_most(size_t n) { return n < part ? n : part; }
 
 #define NEXT(name) ((__typeof__(&name))dlsym(RTLD_NEXT, #name))
 
-ssize_t read(int fd, void *bytes, size_t n) { return is_kept_off(READ) ? -1 : NEXT(read)(fd, bytes, at_most(n)); }
+ssize_t read(int fd, void *bytes, size_t n) { return is_refused(READ) ? -1 : NEXT(read)(fd, bytes, at_most(n)); }
 
 ssize_t pread(int fd, void *bytes, size_t n, off_t place) {
-    return is_kept_off(PREAD) ? -1 : NEXT(pread)(fd, bytes, at_most(n), place);
+    return is_interrupted(PREAD) || is_refused(PREAD) ? -1 : NEXT(pread)(fd, bytes, at_most(n), place);
 }
 
 ssize_t write(int fd, const void *bytes, size_t n) {
     char more[32];
     if (fd == log_to) return NEXT(write)(fd, bytes, n);
-    if (is_kept_off(WRITE)) return -1;
+    if (is_refused(WRITE)) return -1;
     snprintf(more, sizeof more, "%zu", at_most(n));
     if (fd == STDOUT_FILENO && log_to >= 0) dprintf(log_to, "answer %s\n", more);
     if (fd > STDERR_FILENO) note(fd, "tell", more);
@@ -94,7 +97,7 @@ ssize_t write(int fd, const void *bytes, size_t n) {
 ssize_t __write(int fd, const void *bytes, size_t n) { return write(fd, bytes, n); }
 
 ssize_t pwrite(int fd, const void *bytes, size_t n, off_t place) {
-    if (is_kept_off(PWRITE)) return -1;
+    if (is_interrupted(PWRITE) || is_refused(PWRITE)) return -1;
     ssize_t done = NEXT(pwrite)(fd, bytes, at_most(n), place);
     if (done > 0) {
         const unsigned char *all = bytes;
@@ -110,16 +113,13 @@ static int synced(int fd, int failed) {
     return failed;
 }
 
-int fdatasync(int fd) { return is_kept_off(FDATASYNC) ? -1 : synced(fd, NEXT(fdatasync)(fd)); }
+int fdatasync(int fd) { return is_interrupted(FDATASYNC) || is_refused(FDATASYNC) ? -1 : synced(fd, NEXT(fdatasync)(fd)); }
 
-int fsync(int fd) { return is_kept_off(FSYNC) ? -1 : synced(fd, NEXT(fsync)(fd)); }
+int fsync(int fd) { return is_refused(FSYNC) ? -1 : synced(fd, NEXT(fsync)(fd)); }
 
 int statx(int fd, const char *path, int flags, unsigned mask, struct statx *found) {
-    return is_kept_off(STATX) ? -1 : NEXT(statx)(fd, path, flags, mask, found);
+    if ((*path == 0 && is_interrupted(STATX)) || is_refused(STATX)) return -1;
+    return NEXT(statx)(fd, path, flags, mask, found);
 }
 
-/* A lock that isn't waited for isn't interrupted. */
-int flock(int fd, int how) {
-    if (failing == FLOCK && is_kept_off(FLOCK)) return -1;
-    return NEXT(flock)(fd, how);
-}
+int flock(int fd, int how) { return is_refused(FLOCK) ? -1 : NEXT(flock)(fd, how); }

@@ -1,0 +1,136 @@
+# Calls of the system that do a part of what they are asked, or are interrupted: the answers are those of whole calls. The
+# library of tests/calls.c cuts them.
+
+# ---- commands by parts
+
+# Runs a command whose reads and writes do at most so many bytes at once. Those of files are also interrupted.
+by_parts() {
+    most=$1
+    shift
+    run_with "CALLS_PART=$most" "$@"
+}
+
+# It ended well, with the lines of this file.
+did_as_in() {
+    [ "$status" -eq 0 ]
+    [ ! -s "$err" ]
+    cmp "$1" "$out"
+}
+
+input_is_taken_in_parts() (
+    has_calls || exit $is_skipped
+    seq 1 1000 >"$work/lines"
+    for most in 1 7 4096; do
+        for words in 'append --block=1' 'append --block=7' 'load --seats=1'; do
+            rm -f "$work/t.cv"
+            run create u64 "$work/t.cv"
+            in=$work/lines
+            by_parts $most "${words% *}" u64 "$work/t.cv" "${words#* }"
+            growths=1000
+            [ "$words" != 'append --block=7' ] || growths=143
+            did "${words%% *}ed $growths growths, size 1000\n"
+            run list u64 "$work/t.cv"
+            did_as_in "$work/lines"
+        done
+    done
+    given '1 2 | 3'
+    by_parts 1 image u64
+    did "$three\n"
+    given "$three\n"
+    by_parts 1 show u64
+    did '1\n2\n3\n'
+    given 'create\nresize 1 5\ncrash old\nopen\nlist\n'
+    by_parts 1 play u64
+    did 'ok\nok\ncrashed 34\nsize 1\n5\n'
+)
+
+files_are_read_in_parts() (
+    has_calls || exit $is_skipped
+    seq 1 1000 >"$in"
+    run create u64 "$work/t.cv"
+    run append u64 "$work/t.cv" --block=100
+    run set u64 "$work/t.cv" 500 --records=7,8
+    cp "$in" "$work/lines"
+    sed -i '501s/.*/7/; 502s/.*/8/' "$work/lines"
+    for most in 1 7 4096; do
+        by_parts $most list u64 "$work/t.cv"
+        did_as_in "$work/lines"
+        by_parts $most count u64 "$work/t.cv" --record=8
+        did '2\n'
+        by_parts $most find u64 "$work/t.cv" --record=8
+        did '7\n'
+        by_parts $most check u64 "$work/t.cv"
+        [ "$status" -eq 0 ]
+        grep -qx 'ok version 1 width 8 size 1000 frames [0-9]* live 1' "$out"
+        by_parts $most stat "$work/t.cv"
+        [ "$status" -eq 0 ]
+        grep -qx 'growths 10' "$out"
+        grep -qx 'records 1000' "$out"
+    done
+)
+
+# A file that is made, changed, folded and copied by parts has the bytes of format.md.
+files_are_written_in_parts() (
+    has_calls || exit $is_skipped
+    for most in 1 5; do
+        rm -f "$work/t.cv" "$work/n.cv"
+        by_parts $most create u64 "$work/t.cv"
+        did 'created\n'
+        given '5 6\n'
+        by_parts $most load u64 "$work/t.cv"
+        did 'loaded 1 growths, size 2\n'
+        by_parts $most set u64 "$work/t.cv" 1 --records=6
+        did 'ok\n'
+        by_parts $most fold u64 "$work/t.cv"
+        did 'folded 1\n'
+        by_parts $most resize u64 "$work/t.cv" 1 --record=0
+        did 'ok\n'
+        [ "$(hex_of "$work/t.cv")" = 0143564543534547010800010118000000010000000200000005000000000000000600000000000000010210000000010000000000000006000000000000000104080000000100000000000000010308000000010000000000000000 ]
+        by_parts $most upgrade u64 "$work/t.cv" "$work/n.cv"
+        did 'upgraded size 1\n'
+        [ "$(hex_of "$work/n.cv")" = 01435645435345470208000101100000000100000001000000050000000000000000 ]
+        by_parts $most clear u64 "$work/t.cv"
+        did 'ok\n'
+    done
+    given '5\n'
+    by_parts 1 append u64 "$work/n.cv"
+    did 'appended 1 growths, size 2\n'
+    run list u64 "$work/n.cv"
+    did '5\n5\n'
+)
+
+# A sync that was interrupted is made again: two of a commit and one before it, beside the gate and what it opens.
+syncs_that_are_interrupted_are_made_again() (
+    has_calls || exit $is_skipped
+    run create u64 "$work/t.cv"
+    given '5\n'
+    export CALLS_LOG="$work/calls"
+    by_parts 100 load u64 "$work/t.cv"
+    did 'loaded 1 growths, size 1\n'
+    printf '%s\n' 'sync t.cv' 'write t.cv 12 22 01 00' 'sync t.cv' 'write t.cv 11 1 01 01' 'sync t.cv' 'answer 25' |
+        diff - "$work/calls"
+)
+
+# A client's growth of the record 5, its wait, and its end, byte by byte.
+clients_are_served_in_parts() (
+    has_calls || exit $is_skipped
+    run create u64 "$work/t.cv"
+    {
+        printf '\1\0\0\0\1\0\0\0\0\0\0\0\0\0\0\0\5\0\0\0\0\0\0\0'
+        printf '\2\0\0\0\0\0\0\0\0\0\0\0\0\0\0\0'
+        printf '\0\0\0\0\0\0\0\0\0\0\0\0\0\0\0\0'
+    } >"$work/requests"
+    mkfifo "$work/answers"
+    cat "$work/answers" >"$work/answered" &
+    reader=$!
+    by_parts 1 serve u64 "$work/t.cv" --seats=1 3<"$work/requests" 4>"$work/answers"
+    wait $reader
+    did 'served 1 growths\n'
+    {
+        printf '\0\0\0\0\0\0\0\0\0\0\0\0\0\0\0\0\0\0\0\0\0\0\0\0'
+        printf '\0\0\0\0\0\0\0\0\1\0\0\0\0\0\0\0\0\0\0\0\0\0\0\0'
+        printf '\0\0\0\0\0\0\0\0\0\0\0\0\0\0\0\0\0\0\0\0\0\0\0\0'
+    } | cmp - "$work/answered"
+    run list u64 "$work/t.cv"
+    did '5\n'
+)
