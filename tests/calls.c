@@ -7,7 +7,8 @@
                           tell NAME LENGTH                      on any other descriptor above standard error
    CALLS_PART=N       each read and write does at most N bytes. Each call on a file whose interruption docs/file/disk.md
                       names is interrupted once before it is made: pread, pwrite, fdatasync, and statx of a descriptor
-   CALLS_FAIL=CALL:N  the call of this name fails, which is number N of those with it, from 1: EIO, or ENOSPC of a write */
+   CALLS_FAIL=CALL:N  the call of this name fails, which is number N of those with it, from 1: EIO, or ENOSPC of a write
+   CALLS_LARGEST=N    a request for more than N bytes of memory is refused */
 #define _GNU_SOURCE
 #include <dlfcn.h>
 #include <errno.h>
@@ -22,17 +23,19 @@
 enum call { READ, WRITE, PREAD, PWRITE, FDATASYNC, FSYNC, STATX, FLOCK, CALLS };
 static const char *const names[CALLS] = {"read", "write", "pread", "pwrite", "fdatasync", "fsync", "statx", "flock"};
 static int seen[CALLS], made[CALLS], failing = -1, failing_at, log_to = -1;
-static size_t part = (size_t)-1;
+static size_t part = (size_t)-1, largest = (size_t)-1;
 
 /* The program's own descriptors keep their numbers. */
 __attribute__((constructor)) static void begin(void) {
     const char *log = getenv("CALLS_LOG"), *most = getenv("CALLS_PART"), *fail = getenv("CALLS_FAIL");
+    const char *bytes = getenv("CALLS_LARGEST");
     if (log != NULL) {
         int opened = open(log, O_WRONLY | O_CREAT | O_APPEND | O_CLOEXEC, 0666);
         log_to = fcntl(opened, F_DUPFD_CLOEXEC, 200);
         close(opened);
     }
     if (most != NULL) part = strtoul(most, NULL, 10);
+    if (bytes != NULL) largest = strtoul(bytes, NULL, 10);
     for (int call = 0; fail != NULL && call < CALLS; call++) {
         size_t length = strlen(names[call]);
         if (strncmp(fail, names[call], length) == 0 && fail[length] == ':') {
@@ -123,3 +126,14 @@ int statx(int fd, const char *path, int flags, unsigned mask, struct statx *foun
 }
 
 int flock(int fd, int how) { return is_refused(FLOCK) ? -1 : NEXT(flock)(fd, how); }
+
+extern void *__libc_malloc(size_t), *__libc_realloc(void *, size_t);
+
+static int is_too_much(size_t n) {
+    if (n > largest) errno = ENOMEM;
+    return n > largest;
+}
+
+void *malloc(size_t n) { return is_too_much(n) ? NULL : __libc_malloc(n); }
+
+void *realloc(void *bytes, size_t n) { return is_too_much(n) ? NULL : __libc_realloc(bytes, n); }
