@@ -32,6 +32,14 @@ lists_a_front_of() {
     head -n "$(wc -l <"$out")" "$1" | cmp - "$out"
 }
 
+# What the command answers of so many lines that were left; `append` makes a growth of 100 of them.
+went_on() {
+    case $1 in
+        load) echo "loaded $2 growths, size 400000" ;;
+        append) echo "appended $((($2 + 99) / 100)) growths, size 400000" ;;
+    esac
+}
+
 # Growths of 400,000 lines by the command, and those that are left by it again.
 is_killed_and_goes_on() {
     seq 1 400000 >"$in"
@@ -48,7 +56,7 @@ is_killed_and_goes_on() {
         tail -n +$((stands + 1)) "$in" >"$work/rest"
         in=$work/rest
         run "$1" u64 "$work/t.cv" $2
-        [ "$status" -eq 0 ]
+        did "$(went_on "$1" $((400000 - stands)))\n"
         in=$work/in
         run list u64 "$work/t.cv"
         cmp "$in" "$out"
@@ -69,7 +77,7 @@ a_long_file() {
     seq 1 300000 >"$in"
     run create u64 "$work/long.cv"
     run load u64 "$work/long.cv"
-    [ "$status" -eq 0 ]
+    did 'loaded 300000 growths, size 300000\n'
     seq 1 300000 >"$work/old"
     { seq 1 9; seq 1000001 1030000; seq 30010 300000; } >"$work/new"
 }
@@ -112,6 +120,7 @@ a_fold_that_is_killed_goes_on() (
         lists_one_of "$work/new" "$work/new"
         run fold u64 "$work/t.cv"
         [ "$status" -eq 0 ]
+        grep -qx 'folded [0-3]' "$out"
         lists_one_of "$work/new" "$work/new"
         run check u64 "$work/t.cv"
         grep -qF ' live 0' "$out"

@@ -16,6 +16,7 @@ growths_are_loaded_by_many_seats() (
         run load u64 "$work/t.cv" --seats=$seats
         [ "$status" -eq 2 ]
         [ ! -s "$out" ]
+        tells 'usage: cvec COMMAND TYPE ..'
     done
     : >"$in"
     run load u64 "$work/t.cv"
@@ -109,6 +110,9 @@ blocks_of_lines_that_are_refused_leave_those_before() (
     for block in 0 x -1 4294967296 ''; do
         run append u64 "$work/u.cv" "--block=$block"
         [ "$status" -eq 2 ]
+        [ ! -s "$out" ]
         tells 'usage: cvec COMMAND TYPE ..'
     done
+    run check u64 "$work/u.cv"
+    did 'ok version 1 width 8 size 131072 frames 2 live 0\n'
 )

@@ -22,10 +22,10 @@ a_server_without_pipes_is_refused() (
     [ "$before" = "$(cksum <"$work/t.cv")" ]
     for seats in 0 65 x ''; do
         run serve u64 "$work/t.cv" "--seats=$seats"
-        [ "$status" -eq 2 ]
+        ends_with_usage 'error: '
     done
     run serve u64 "$work/t.cv"
-    [ "$status" -eq 2 ]
+    ends_with_usage 'error: '
 )
 
 # A growth of the records 5 and 6, a wait, a look, a read from 1 on, and the end, as bytes.

@@ -45,7 +45,7 @@ a_file_that_cannot_be_told_of_is_refused() (
     was_refused 'damaged at 11: no gate' 'the frames before that leave 0 records'
     for words in '' '--jsn' 'u64'; do
         run stat $words "$work/u.cv" --quiet --json more
-        [ "$status" -eq 2 ]
+        ends_with_usage 'error: '
     done
 )
 
@@ -57,5 +57,8 @@ a_long_file_is_told_of_in_little_memory() (
     status=0
     (ulimit -v 200000 && "$top/crates/cvec/out/cvec" stat "$work/t.cv") >"$out" 2>"$err" || status=$?
     [ "$status" -eq 0 ]
-    grep -qx 'size 10000000' "$out"
+    for field in 'version 1' 'width 8' 'changes 0' 'growths 100' 'records 10000000' 'size 10000000' 'live 0' 'behind 0'; do
+        grep -qx "$field" "$out"
+    done
+    [ ! -s "$err" ]
 )

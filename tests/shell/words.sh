@@ -8,7 +8,7 @@ other_words_for_a_type_are_usage() (
         becomes "show $word" '5\n' 2 ''
     done
     run image ''
-    [ "$status" -eq 2 ]
+    ends_with_usage "error: "
 )
 
 words_choose_the_engine() (
