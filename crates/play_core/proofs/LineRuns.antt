@@ -1,5 +1,5 @@
 -- Reading runs of records word by word.
-use Rattle.std.proofs.Common.{◌≡◌, ◌≢◌, ℕ, ◌<◌, List, [], ◌∷◌, ◌++◌, length, map, codes, refl, sym, ap, ◌∙◌, arith, lit≤}
+use Rattle.std.proofs.Common.{◌≡◌, ◌≢◌, ℕ, ◌<◌, List, [], ◌∷◌, ◌++◌, length, map, codes, refl, sym, ap, ◌∙◌, subst, arith, lit≤}
 use Rattle.std.specs.Prelude.{decimal}
 use Rattle.std.specs.List.{AllByRecursion, flat_map}
 use Rattle.std.specs.Global.{Vec}
@@ -9,7 +9,7 @@ use Rattle.text_core.specs.Text.{Spelling, AreWords, HasOneValue}
 use Rattle.text_core.specs.Numbers.{number_spelling, one_decimal}
 use Rattle.play_core.specs.LineWords.{StartsWithNone}
 use Rattle.drive_core.specs.Given.{pieces_of}
-use Rattle.play_core.specs.LineRuns.{IsRun, AreRuns, run_words, barred_words, runs_words}
+use Rattle.play_core.specs.LineRuns.{IsRun, IsPushed, AreRuns, run_words, barred_words, runs_words}
 use Rattle.text_core.proofs.Small.{push_all}
 use Rattle.text_core.proofs.Joins.{not_bar}
 
@@ -143,6 +143,17 @@ HasRuns_more spelling words done word left behind after run law one cut bar so n
   so_far = before.so_far ∙ ap (λ (ws : List (List ℕ)). runs_words spelling.text_of done ++ ws) (cut ∙ ap (λ (w : List ℕ). w ∷ behind) bar ∙ ap (λ (ws : List (List ℕ)). codes "|" ∷ ws) read) ∙ words_more spelling done run after before.runs.some;
   only = λ all are is. more_ahead spelling done all word left behind after run law one cut so none read (before.only all are is);
 }
+
+pub HasRuns_first : {R : Type 0} (spelling : Spelling R) (words : List (List ℕ)) (old new : List (ℕ × List R)) (left : List (List ℕ)) → AreWords spelling → HasOneValue spelling
+    → old ≡ [] → IsPushed spelling words old new left → HasRuns spelling words new left
+HasRuns_first spelling words old new left law one none so =
+    let done : new ≡ so.run ∷ [] = so.more ∙ ap (λ rs. rs ++ so.run ∷ []) none in
+    subst (λ rs. HasRuns spelling words rs left) (sym done) (HasRuns_start spelling words left so.run law one so.is_run so.all so.parts)
+
+pub HasRuns_next : {R : Type 0} (spelling : Spelling R) (words : List (List ℕ)) (old new : List (ℕ × List R)) (word : List ℕ) (left behind after : List (List ℕ))
+    → AreWords spelling → HasOneValue spelling → left ≡ word ∷ behind → word ≡ codes "|" → IsPushed spelling behind old new after → HasRuns spelling words old left → HasRuns spelling words new after
+HasRuns_next spelling words old new word left behind after law one cut bar so before =
+    subst (λ rs. HasRuns spelling words rs after) (sym so.more) (HasRuns_more spelling words old word left behind after so.run law one cut bar so.is_run so.all so.parts before)
 
 -- ---- no runs
 

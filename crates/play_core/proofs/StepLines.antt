@@ -10,6 +10,7 @@ use Rattle.play_core.specs.declared.verb.Verb.TheVariants as verbs
 use Rattle.text_core.specs.Text.{Spelling}
 use Rattle.play_core.specs.LineWords.{words_of}
 use Rattle.play_core.specs.Verbs.{verb_word}
+use Rattle.play_core.proofs.Verbs.{all_verbs}
 use Rattle.play_core.specs.StepLine.{Asks, AsksNothing, IsCrash, IsStepLine}
 
 head_is : (v w : List ℕ) (vs ws : List (List ℕ)) → v ∷ vs ≡ w ∷ ws → v ≡ w
@@ -30,10 +31,6 @@ same_text (b ∷ text) (c ∷ more) = if b == c then same_text text more else fa
 abbrev verb_in : List Verb → List ℕ → Verb
 verb_in [] word = verbs.Create
 verb_in (verb ∷ others) word = if same_text word (verb_word verb) then verb else verb_in others word
-
-abbrev all_verbs : List Verb
-all_verbs =
-    verbs.Create ∷ verbs.Open ∷ verbs.Share ∷ verbs.Put ∷ verbs.Look ∷ verbs.View ∷ verbs.Settled ∷ verbs.Take ∷ verbs.Raise ∷ verbs.Close ∷ verbs.Gather ∷ verbs.Change ∷ verbs.Changes ∷ verbs.Resize ∷ verbs.Clear ∷ verbs.List ∷ verbs.Fold ∷ verbs.Log ∷ verbs.Home ∷ verbs.Crash ∷ []
 
 found : (verb : Verb) → verb_in all_verbs (verb_word verb) ≡ verb
 found verbs.Create = refl

@@ -1,7 +1,8 @@
 -- Runs of records as words: a number and the records behind it, with a bar between each two runs.
-use Rattle.std.specs.Prelude.{ℕ, ◌<◌, ◌^◌, List, [], ◌∷◌, ◌++◌, length, map, codes, decimal}
+use Rattle.std.specs.Prelude.{◌≡◌, ℕ, ◌<◌, ◌^◌, List, [], ◌∷◌, ◌++◌, length, map, codes, decimal}
 use Rattle.std.specs.List.{AllByRecursion, flat_map}
 use Rattle.text_core.specs.Text.{Spelling}
+use Rattle.play_core.specs.LineWords.{StartsWithNone}
 
 -- a number of 64 bits, and a record or more, all of them values of their type
 pub record IsRun {R : Type 0} (spelling : Spelling R) (run : ℕ × List R) : Type 0 where
@@ -24,3 +25,11 @@ barred_words text_of run = codes "|" ∷ run_words text_of run
 abbrev pub runs_words : {R : Type 0} → (R → List ℕ) → List (ℕ × List R) → List (List ℕ)
 runs_words text_of [] = []
 runs_words text_of (run ∷ more) = run_words text_of run ++ flat_map (barred_words text_of) more
+
+-- one more run is read from these words, up to the first that is no record, and these are left
+pub record IsPushed {R : Type 0} (spelling : Spelling R) (words : List (List ℕ)) (old new : List (ℕ × List R)) (left : List (List ℕ)) : Type 0 where
+  pub run : ℕ × List R
+  pub more : new ≡ old ++ run ∷ []
+  pub is_run : IsRun spelling run
+  pub parts : words ≡ run_words spelling.text_of run ++ left
+  pub all : StartsWithNone spelling left

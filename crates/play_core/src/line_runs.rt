@@ -1,10 +1,10 @@
 //! Runs of records as words: a number and the records behind it, with a bar between each two runs.
 
-ghost use Rattle.std.specs.Prelude.{◌≡◌, ◌≢◌, ℕ, List, ◌++◌, map, IfOk};
+ghost use Rattle.std.specs.Prelude.{◌≡◌, ◌≢◌, ℕ, List, [], ◌++◌, map, IfOk, OnOk};
 ghost use Rattle.std.specs.List.{AllByRecursion};
 ghost use Rattle.drive_core.specs.Given.{pieces_of};
 ghost use Rattle.play_core.specs.LineWords.{words_left, StartsWithNone};
-ghost use Rattle.play_core.specs.LineRuns.{IsRun, AreRuns, run_words, runs_words};
+ghost use Rattle.play_core.specs.LineRuns.{IsRun, IsPushed, AreRuns, run_words, runs_words};
 
 use crate::line_words::{is_ended, next_value, next_word};
 use std::alloc::{AllocError, Global};
@@ -61,6 +61,40 @@ pub fn read_run<R: TextRecord>(
     Ok((number, records))
 }
 
+/// Reads one more run, up to the first word that is none. Gives what is left.
+fn push_run<'a, R: TextRecord>(
+    runs: &mut Vec<(u64, Vec<R>)>,
+    alloc: Global,
+    text: Option<&'a [u8]>,
+) -> Result<Option<&'a [u8]>, LineFault>
+    ensures read { IfOk result (λ rest. IsPushed R.spelling (words_left text.entry) (pieces_of runs.old.items) (pieces_of runs.new.items) (words_left rest)) }
+    ensures bad { result ≡ Err LineFault.Bad → (run : ℕ × List R) (tail : List (List ℕ)) → IsRun R.spelling run → words_left text.entry ≢ run_words R.spelling.text_of run ++ tail }
+{
+    let (start, records, rest) = read_some(alloc, text)?;
+    runs.push((start, records))?;
+    Ok(rest)
+}
+
+/// Reads runs with a bar between each two, one at least, up to the line's end, where none is read yet.
+fn read_into<R: TextRecord>(
+    runs: &mut Vec<(u64, Vec<R>)>,
+    alloc: Global,
+    text: Option<&[u8]>,
+) -> Result<(), LineFault>
+    requires { runs.old.items ≡ [] }
+    ensures read { OnOk result (AreRuns R.spelling (pieces_of runs.new.items) × (words_left text.entry ≡ runs_words R.spelling.text_of (pieces_of runs.new.items))) }
+    ensures bad { result ≡ Err LineFault.Bad → (runs : List (ℕ × List R)) → AreRuns R.spelling runs → words_left text.entry ≢ runs_words R.spelling.text_of runs }
+{
+    let mut rest = push_run(runs, alloc, text)?;
+    while let Some((word, behind)) = next_word(rest) {
+        if word != BAR {
+            return Err(LineFault::Bad);
+        }
+        rest = push_run(runs, alloc, behind)?;
+    }
+    Ok(())
+}
+
 /// Reads runs with a bar between each two, one at least, up to the line's end.
 pub fn read_runs<R: TextRecord>(
     alloc: Global,
@@ -69,16 +103,7 @@ pub fn read_runs<R: TextRecord>(
     ensures read { IfOk result (λ runs. AreRuns R.spelling (pieces_of runs.items) × (words_left text.entry ≡ runs_words R.spelling.text_of (pieces_of runs.items))) }
     ensures bad { result ≡ Err LineFault.Bad → (runs : List (ℕ × List R)) → AreRuns R.spelling runs → words_left text.entry ≢ runs_words R.spelling.text_of runs }
 {
-    let (start, records, mut rest) = read_some(alloc, text)?;
     let mut runs = Vec::new(alloc);
-    runs.push((start, records))?;
-    while let Some((word, behind)) = next_word(rest) {
-        if word != BAR {
-            return Err(LineFault::Bad);
-        }
-        let (start, records, after) = read_some(alloc, behind)?;
-        runs.push((start, records))?;
-        rest = after;
-    }
+    read_into(&mut runs, alloc, text)?;
     Ok(runs)
 }

@@ -1,15 +1,19 @@
 //! The engine that runs scripts of steps over a disk in memory.
 
-ghost use Rattle.std.specs.Prelude.{◌≡◌, ◌≢◌, ◌++◌, map, List, ℕ, IfSome, IfOk, IfErr};
+ghost use Rattle.std.specs.Prelude.{◌≡◌, ◌≢◌, ◌++◌, length, map, List, ℕ, IfSome, IfOk, IfErr};
+ghost use Rattle.disk_core.specs.Choice.{IsChosen};
+ghost use Rattle.disk_core.specs.RamDisk.{states_of};
+ghost use Rattle.disk_core.specs.State.{now};
 ghost use Rattle.drive_core.specs.Asked.{step_of};
+ghost use Rattle.play_core.specs.Answers.{crashed_line};
 ghost use Rattle.play_core.specs.Playing.{IsPlayRefusal, ArePlayed, WritesPlay, WritesPlayRefusal};
 ghost use Rattle.play_core.specs.Played.{AreStepsPlayed, IsPartPlayed, IsScriptPlayed, fresh_disk, ram_disk};
 ghost use Rattle.play_core.specs.Script.{part_of, script_of};
 
 use crate::answer_line::{write_answers, write_crashed};
 use crate::script::{Part, Script, read_script};
-use disk_core::RamDisk;
-use drive_core::{Driven, Step, drive};
+use disk_core::{Choice, RamDisk};
+use drive_core::{Step, drive};
 use std::alloc::Global;
 use std::io::{Read, Write};
 use std::sync::Wait;
@@ -30,13 +34,27 @@ fn play_steps<R: TextRecord, E: Threads + Wait + Sync>(
     let Ok(driven) = drive(alloc, rt, disk, steps) else {
         return Err(Refusal::Memory);
     };
-    let Driven {
-        disk,
-        answers,
-        calls: _,
-    } = driven;
-    match write_answers(text, answers.as_slice()) {
-        Ok(()) => Ok(disk),
+    match write_answers(text, driven.answers.as_slice()) {
+        Ok(()) => Ok(driven.disk),
+        Err(_) => Err(Refusal::Memory),
+    }
+}
+
+/// Crashes, and appends the crash's line. Gives the disk as the crash left it.
+fn play_crash(
+    alloc: Global,
+    disk: &RamDisk,
+    crash: &Choice,
+    text: &mut Vec<u8>,
+) -> Result<RamDisk, Refusal>
+    ensures crashed { IfOk result (λ left. (image : List ℕ) × IsChosen crash.now (now (states_of disk.now)) image × (text.new.items ≡ text.old.items ++ crashed_line (length image)) × (ram_disk left ≡ fresh_disk image)) }
+    ensures refused { IfErr result (λ refusal. refusal ≡ Refusal.Memory) }
+{
+    let Ok(image) = disk.image(crash) else {
+        return Err(Refusal::Memory);
+    };
+    match write_crashed(text, image.len() as u64) {
+        Ok(()) => Ok(RamDisk::from_bytes(alloc, image)),
         Err(_) => Err(Refusal::Memory),
     }
 }
@@ -53,13 +71,7 @@ fn play_part<R: TextRecord, E: Threads + Wait + Sync>(
     ensures refused { IfErr result (λ refusal. refusal ≡ Refusal.Memory) }
 {
     let disk = play_steps(alloc, rt, disk, part.steps.as_slice(), text)?;
-    let Ok(image) = disk.image(&part.crash) else {
-        return Err(Refusal::Memory);
-    };
-    match write_crashed(text, image.len() as u64) {
-        Ok(()) => Ok(RamDisk::from_bytes(alloc, image)),
-        Err(_) => Err(Refusal::Memory),
-    }
+    play_crash(alloc, &disk, &part.crash, text)
 }
 
 /// Runs a script on an empty disk. Gives what is written for it.

@@ -52,12 +52,16 @@ impl<R: TextRecord> Script<R> {
     }
 }
 
-/// What the lines ask for, one each.
-pub fn read_script<R: TextRecord>(alloc: Global, input: &[u8]) -> Result<Script<R>, Refusal>
-    ensures read { IfOk result (λ script. IsScript R.spelling input.now (script_of script)) }
+/// Appends what the lines ask for, one each, where nothing is asked yet.
+fn read_into<R: TextRecord>(
+    script: &mut Script<R>,
+    alloc: Global,
+    input: &[u8],
+) -> Result<(), Refusal>
+    requires { script_asks (script_of script.old) ≡ [] }
+    ensures read { OnOk result (IsScript R.spelling input.now (script_of script.new)) }
     ensures refused { IfErr result (IsPlayRefusal R.spelling input.now) }
 {
-    let mut script = Script::new(alloc);
     let mut lines = 0u64;
     let mut rest = input;
     while !rest.is_empty() {
@@ -71,5 +75,15 @@ pub fn read_script<R: TextRecord>(alloc: Global, input: &[u8]) -> Result<Script<
         script.push(alloc, asked).map_err(|_| Refusal::Memory)?;
         rest = after.unwrap_or(&[]);
     }
+    Ok(())
+}
+
+/// What the lines ask for, one each.
+pub fn read_script<R: TextRecord>(alloc: Global, input: &[u8]) -> Result<Script<R>, Refusal>
+    ensures read { IfOk result (λ script. IsScript R.spelling input.now (script_of script)) }
+    ensures refused { IfErr result (IsPlayRefusal R.spelling input.now) }
+{
+    let mut script = Script::new(alloc);
+    read_into(&mut script, alloc, input)?;
     Ok(script)
 }

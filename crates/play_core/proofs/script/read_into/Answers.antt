@@ -5,8 +5,11 @@ use Rattle.std.proofs.lemmas.Bool.{eqb-true, eqb-false}
 use Rattle.play_core.specs.StepLine.{asked_of}
 use Rattle.text_core.proofs.Small.{OnOk_at, nil_from_length}
 use Rattle.text_core.proofs.LineLemmas.{lent_whole, lent_rest, shorter_rest}
-use Rattle.play_core.proofs.Scripts.{HasAsked_more, HasAsked_all, first_bad_step}
-use Rattle.play_core.proofs.script.read_script.Goals as goal
+use Rattle.play_core.proofs.Scripts.{HasAsked_start, HasAsked_more, HasAsked_all, first_bad_step}
+use Rattle.play_core.proofs.script.read_into.Goals as goal
+
+pub loop-rest-init : goal.loop-rest-init
+loop-rest-init g c = rw c.requires (HasAsked_start g.R.TextRecord.spelling c.args.input.now)
 
 pub returns-in-Err-Bad-clause-refused : goal.returns-in-Err-Bad-clause-refused
 returns-in-Err-Bad-clause-refused g c =
