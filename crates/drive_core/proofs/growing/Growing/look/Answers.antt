@@ -3,11 +3,14 @@ use Rattle.drive_core.specs.Asked.{answer_of}
 use Rattle.drive_core.specs.Line.{look_fault_of}
 use Rattle.drive_core.specs.Step as step
 use Rattle.drive_core.specs.declared.fault.Fault.TheVariants as told
-use Rattle.drive_core.proofs.Seats.{lent_at, length_set, there_is, get_set_same}
+use Rattle.drive_core.proofs.Seats.{of_replaced, lent_at, length_set, there_is, get_set_same}
 use Rattle.drive_core.proofs.Put.{lent_new}
 use Rattle.drive_core.proofs.LookedSeat.{seat_answers, seat_strays, look_inside}
 use Rattle.drive_core.proofs.growing.Growing.look.Goals as goal
 use Rattle.drive_core.proofs.growing.Growing.look.Goals.{in-Ok, in-Err}
+
+pub meet_in-requires-clause-of : goal.meet_in-requires-clause-of
+meet_in-requires-clause-of g c κs within = of_replaced c.self.inside.seats.items c.args.seat c.look-looked.new.seat c.self.inside.live c.self.invariant.1 c.look-looked.ensures.of
 
 pub invariant_of-self : goal.invariant_of-self
 invariant_of-self g c =
