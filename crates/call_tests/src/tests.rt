@@ -3,6 +3,7 @@
 mod beside;
 mod blocks;
 mod broken_crew;
+mod committing;
 mod crews;
 mod directory;
 mod disks;
@@ -16,4 +17,6 @@ mod noting;
 mod opening;
 mod segments;
 mod squares;
+mod two;
 mod vaults;
+mod waking;

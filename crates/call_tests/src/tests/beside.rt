@@ -1,14 +1,14 @@
 //! A crew grows in threads beside one another.
 
+use super::crews::grow;
 use book_core::Receipt;
 use disk_core::RamDisk;
-use segment_core::Format;
 use std::alloc::{AllocError, Global};
 use std::sync::Wait;
 use std::sync::atomic::{AtomicU64, Ordering};
 use std::test::Fail;
 use std::thread::Threads;
-use vault_core::{Crewed, Gate, Lists, Vault, crew};
+use vault_core::{Crewed, Gate, Lists};
 
 /// A gate at which each of two growers waits for the other, and that notes their receipts.
 #[derive(Drop)]
@@ -34,11 +34,6 @@ impl Gate for Both {
     fn after(&self, grower: u16, receipt: &Receipt) {
         self.starts[(grower % 2) as usize].store(receipt.start, Ordering::SeqCst);
     }
-}
-
-/// A vault over a new file in memory.
-fn new_vault(alloc: Global) -> Option<Vault<u64, RamDisk>> {
-    Vault::create_as(alloc, RamDisk::new(alloc), Format::One).ok()
 }
 
 /// For each of two growers one block of one record.
@@ -72,25 +67,30 @@ fn have_both(crewed: &Crewed<u64, RamDisk>, gate: &Both) -> bool {
     unfaulted && made && crewed.vault.len() == 2
 }
 
-/// What a crew leaves whose growers wait for each other at the gate.
+/// What a crew makes whose growers wait for each other at the gate.
 fn grow_two<E: Threads + Wait + Sync>(
     rt: &E,
     alloc: Global,
     gate: &Both,
-) -> Option<Crewed<u64, RamDisk>> {
-    let vault = new_vault(alloc)?;
-    let lists = two_lists(alloc).ok()?;
-    let source = Lists::try_new(lists.as_slice())?;
-    crew(rt, alloc, vault, &source, gate).ok()
+) -> Result<Crewed<u64, RamDisk>, Fail> {
+    let lists = two_lists(alloc)?;
+    let source = Lists::try_new(lists.as_slice()).ok_or("too many")?;
+    grow(rt, alloc, &source, gate)
 }
 
-#[test]
-fn two_growers_grow_beside_each_other(rt: HostRuntime) -> Result<(), Fail> {
+/// Whether both made theirs.
+fn meet<E: Threads + Wait + Sync>(rt: &E, alloc: Global) -> Result<bool, Fail> {
     let gate = Both {
         here: [AtomicU64::new(0), AtomicU64::new(0)],
         starts: [AtomicU64::new(9), AtomicU64::new(9)],
     };
-    let both = grow_two(&rt, rt.alloc(), &gate).map(|crewed| have_both(&crewed, &gate));
-    assert_eq!(rt; both, Some(true));
+    let crewed = grow_two(rt, alloc, &gate)?;
+    Ok(have_both(&crewed, &gate))
+}
+
+#[test]
+fn two_growers_grow_beside_each_other(rt: HostRuntime) -> Result<(), Fail> {
+    let met = meet(&rt, rt.alloc())?;
+    assert_eq!(rt; met, true);
     Ok(())
 }

@@ -20,9 +20,8 @@ fn a_block_is_as_long_as_one_frame_holds(rt: HostRuntime) {
     assert_eq!(rt; faults, want);
 }
 
-#[test]
-fn parts_and_halves_are_written_through(rt: HostRuntime) -> Result<(), Fail> {
-    let mut fresh = Fresh::filled(rt.alloc(), 10, 0u64)?;
+/// Touches a block of ten in parts of three. How many records the parts have.
+fn touch_in_parts(fresh: &mut Fresh<u64>) -> u64 {
     let mut at = 0u64;
     for part in fresh.parts_mut(3) {
         if at < 10 && part.len() <= 3 {
@@ -30,14 +29,28 @@ fn parts_and_halves_are_written_through(rt: HostRuntime) -> Result<(), Fail> {
         }
         at = at.wrapping_add(part.len() as u64);
     }
+    at
+}
+
+/// Writes 7 and 8 to the begins of a block's halves, of which the first has two records.
+fn write_in_halves(fresh: &mut Fresh<u64>) -> bool {
     if fresh.len() != 10 {
-        return Err(Fail::from("records are lost"));
+        return false;
     }
     let (front, back) = fresh.split_mut(2);
     front[0] = 7;
     back[0] = 8;
+    true
+}
+
+#[test]
+fn parts_and_halves_are_written_through(rt: HostRuntime) -> Result<(), Fail> {
+    let mut fresh = Fresh::filled(rt.alloc(), 10, 0u64)?;
+    let touched = touch_in_parts(&mut fresh);
+    let written = write_in_halves(&mut fresh);
     let want = [7, 1, 8, 9, 16, 25, 36, 49, 64, 81];
-    assert_eq!(rt; (fresh.records(), at), (want.as_slice(), 10));
+    let found = (fresh.records() == want.as_slice(), touched, written);
+    assert_eq!(rt; found, (true, 10, true));
     Ok(())
 }
 

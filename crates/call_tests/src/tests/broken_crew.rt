@@ -1,8 +1,8 @@
 //! A crew whose disk fails hands back the parts of its phase. The flusher takes in every seat, and each image then opens
 //! to the first growths, each whole, all that is settled among them.
 
-ghost use Rattle.std.specs.Prelude.{All, IfSome};
-ghost use Rattle.book_core.specs.Lists as lists;
+ghost use Rattle.std.specs.Prelude.{All, IfOk, IfSome};
+ghost use Rattle.book_core.specs.Lists.{IsSeatOf};
 ghost use Rattle.flush_core.specs.Flusher.{IsFlusherOf};
 ghost use Rattle.vault_core.specs.Gathering.{AreOf};
 
@@ -20,8 +20,8 @@ use vault_core::{CrewFault, Gathering, Lists, Vault, crew};
 /// How many growths each of the two growers makes, of two equal records that no other growth has.
 const GROWTHS: u64 = 12;
 
-/// What the growers make.
-fn lists(alloc: Global) -> Result<Vec<Vec<Vec<u64>>>, AllocError> {
+/// What the two growers make.
+fn growths_of_two(alloc: Global) -> Result<Vec<Vec<Vec<u64>>>, AllocError> {
     let mut lists = Vec::new(alloc);
     for grower in 0..2u64 {
         let mut blocks = Vec::new(alloc);
@@ -36,16 +36,16 @@ fn lists(alloc: Global) -> Result<Vec<Vec<Vec<u64>>>, AllocError> {
 
 /// The last of a phase's seats.
 fn take_seat(live: &Live<u64>, seats: &mut Vec<Seat<u64>>) -> Option<Seat<u64>>
-    requires { All (lists.IsSeatOf live.now) seats.old.items }
-    ensures rest { All (lists.IsSeatOf live.now) seats.new.items }
-    ensures seat { IfSome result (λ seat. lists.IsSeatOf live.now seat) }
+    requires { All (IsSeatOf live.now) seats.old.items }
+    ensures rest { All (IsSeatOf live.now) seats.new.items }
+    ensures seat { IfSome result (λ seat. IsSeatOf live.now seat) }
 {
     seats.pop()
 }
 
 /// Takes a seat in, as `take_in` does.
 fn take_seat_in<D: Disk>(live: &Live<u64>, flusher: &mut Flusher<u64, D>, seat: Seat<u64>)
-    requires { IsFlusherOf (D.keeps flusher.old.pen.disk) live.now flusher.old × lists.IsSeatOf live.now seat }
+    requires { IsFlusherOf (D.keeps flusher.old.pen.disk) live.now flusher.old × IsSeatOf live.now seat }
     ensures { IsFlusherOf (D.keeps flusher.new.pen.disk) live.now flusher.new }
 {
     flusher.take_in(live, seat);
@@ -58,9 +58,9 @@ fn take_last_in<D: Disk>(
     seats: &mut Vec<Seat<u64>>,
 )
     requires flusher { IsFlusherOf (D.keeps flusher.old.pen.disk) live.now flusher.old }
-    requires seats { All (lists.IsSeatOf live.now) seats.old.items }
+    requires seats { All (IsSeatOf live.now) seats.old.items }
     ensures flusher { IsFlusherOf (D.keeps flusher.new.pen.disk) live.now flusher.new }
-    ensures seats { All (lists.IsSeatOf live.now) seats.new.items }
+    ensures seats { All (IsSeatOf live.now) seats.new.items }
 {
     if let Some(seat) = take_seat(live, seats) {
         take_seat_in(live, flusher, seat);
@@ -76,8 +76,8 @@ struct Told {
 
 /// Asks a seat, before the flusher takes it in.
 fn ask_seat(alloc: Global, live: &Live<u64>, seat: &mut Seat<u64>) -> Option<Told>
-    requires { lists.IsSeatOf live.now seat.old }
-    ensures { lists.IsSeatOf live.now seat.new }
+    requires { IsSeatOf live.now seat.old }
+    ensures { IsSeatOf live.now seat.new }
 {
     let (settled, _) = live.settled(seat);
     let size = live.look(seat).ok()?;
@@ -106,9 +106,7 @@ fn end_broken<D: Disk + Drop>(
 ) -> Option<Left<D>>
     requires { AreOf (D.keeps flusher.pen.disk) live.now seats.items flusher }
 {
-    let mut seat = take_seat(live, &mut seats)?;
-    let told = ask_seat(alloc, live, &mut seat)?;
-    take_seat_in(live, &mut flusher, seat);
+    let told = tell_last(alloc, live, &mut flusher, &mut seats)?;
     take_last_in(live, &mut flusher, &mut seats);
     let (disk, settled) = flusher.into_parts();
     Some(Left {
@@ -118,38 +116,85 @@ fn end_broken<D: Disk + Drop>(
     })
 }
 
-/// A disk that stops or fails once, behind the creation.
+/// Asks the last of the seats, and takes it in.
+fn tell_last<D: Disk>(
+    alloc: Global,
+    live: &Live<u64>,
+    flusher: &mut Flusher<u64, D>,
+    seats: &mut Vec<Seat<u64>>,
+) -> Option<Told>
+    requires flusher { IsFlusherOf (D.keeps flusher.old.pen.disk) live.now flusher.old }
+    requires seats { All (IsSeatOf live.now) seats.old.items }
+    ensures flusher { IsFlusherOf (D.keeps flusher.new.pen.disk) live.now flusher.new }
+    ensures seats { All (IsSeatOf live.now) seats.new.items }
+{
+    let mut seat = take_seat(live, seats)?;
+    let told = ask_seat(alloc, live, &mut seat);
+    take_seat_in(live, flusher, seat);
+    told
+}
+
+/// The same of the parts that a crew hands back.
+fn end_parts<D: Disk + Drop>(alloc: Global, parts: Gathering<u64, D>) -> Option<Left<D>>
+    requires { AreOf (D.keeps parts.flusher.pen.disk) parts.live parts.seats.items parts.flusher }
+{
+    let Gathering {
+        live,
+        seats,
+        flusher,
+        ..
+    } = parts;
+    end_broken(alloc, &live, flusher, seats)
+}
+
+/// The parts of its phase that a crew hands back which a disk breaks. `None`, where all growths are settled.
+fn parts_of<D: Disk + Send + Drop, E: Threads + Wait + Sync>(
+    rt: &E,
+    alloc: Global,
+    vault: Vault<u64, D>,
+    growths: &[Vec<Vec<u64>>],
+) -> Result<Option<Gathering<u64, D>>, Fail>
+    ensures { IfOk result (λ parts. IfSome parts (λ parts. AreOf (D.keeps parts.flusher.pen.disk) parts.live parts.seats.items parts.flusher)) }
+{
+    let Some(source) = Lists::try_new(growths) else {
+        return Err(Fail::from("too many"));
+    };
+    match crew(rt, alloc, vault, &source, &Open) {
+        Ok(_) => Ok(None),
+        Err(CrewFault::Gather(parts)) => Ok(Some(parts)),
+        Err(CrewFault::Share(_, _)) => Err(Fail::from("not begun")),
+    }
+}
+
+/// A disk that stops or fails once.
 type Breaking = FuseDisk<RamDisk>;
 
-/// What a crew leaves whose disk lets so many calls pass behind the creation. Nothing where all growths are settled.
+/// What a crew leaves over this disk. `None`, where all growths are settled.
+fn left_on<E: Threads + Wait + Sync>(
+    rt: &E,
+    alloc: Global,
+    disk: Breaking,
+    growths: &[Vec<Vec<u64>>],
+) -> Result<Option<Left<Breaking>>, Fail> {
+    let Ok(vault) = Vault::<u64, _>::create_as(alloc, disk, Format::One) else {
+        return Err(Fail::from("no vault"));
+    };
+    match parts_of(rt, alloc, vault, growths)? {
+        Some(parts) => Ok(end_parts(alloc, parts)),
+        None => Ok(None),
+    }
+}
+
+/// What a crew leaves whose disk lets so many calls pass behind the creation, which makes 8.
 fn left_after<E: Threads + Wait + Sync>(
     rt: &E,
     alloc: Global,
     calls: u64,
     blow: Blow,
 ) -> Result<Option<Left<Breaking>>, Fail> {
+    let growths = growths_of_two(alloc)?;
     let disk = FuseDisk::new(RamDisk::new(alloc), calls.saturating_add(8), blow);
-    let Ok(vault) = Vault::<u64, _>::create_as(alloc, disk, Format::One) else {
-        return Err(Fail::from("no vault"));
-    };
-    let lists = lists(alloc)?;
-    let source = Lists::try_new(lists.as_slice()).ok_or("too many")?;
-    match crew(rt, alloc, vault, &source, &Open) {
-        Ok(_) => Ok(None),
-        Err(CrewFault::Gather(parts)) => {
-            let Gathering {
-                live,
-                seats,
-                flusher,
-                ..
-            } = parts;
-            match end_broken(alloc, &live, flusher, seats) {
-                Some(left) => Ok(Some(left)),
-                None => Err(Fail::from("no seats")),
-            }
-        }
-        Err(_) => Err(Fail::from("not begun")),
-    }
+    left_on(rt, alloc, disk, growths.as_slice())
 }
 
 /// The images that are looked at: what stands at the pending places, each with both lengths.

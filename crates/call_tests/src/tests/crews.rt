@@ -77,20 +77,23 @@ fn stand(vault: &Vault<u64, RamDisk>, receipts: &[Vec<Receipt>]) -> bool {
     true
 }
 
+/// A vault over a new file in memory.
+pub(super) fn new_vault(alloc: Global) -> Result<Vault<u64, RamDisk>, Fail> {
+    match Vault::create_as(alloc, RamDisk::new(alloc), Format::One) {
+        Ok(vault) => Ok(vault),
+        Err(_) => Err(Fail::from("no vault")),
+    }
+}
+
 /// A crew over a new file.
-fn grow<S: Source<u64>, G: Gate, E: Threads + Wait + Sync>(
+pub(super) fn grow<S: Source<u64>, G: Gate, E: Threads + Wait + Sync>(
     rt: &E,
     alloc: Global,
     source: &S,
     gate: &G,
 ) -> Result<Crewed<u64, RamDisk>, Fail> {
-    let Ok(vault) = Vault::create_as(alloc, RamDisk::new(alloc), Format::One) else {
-        return Err(Fail::from("no vault"));
-    };
-    match crew(rt, alloc, vault, source, gate) {
-        Ok(crewed) => Ok(crewed),
-        Err(_) => Err(Fail::from("no crew")),
-    }
+    let vault = new_vault(alloc)?;
+    crew(rt, alloc, vault, source, gate).map_err(|_| Fail::from("no crew"))
 }
 
 /// How many records a crew's vault has, how many receipts its growers have, and whether each growth stands at its range.
@@ -103,13 +106,33 @@ fn sum_of(crewed: &Crewed<u64, RamDisk>) -> (u64, usize, bool) {
     (crewed.vault.len(), receipts, whole)
 }
 
+/// What a crew of so many growers makes, of so many growths each.
+fn sum_of_crew<E: Threads + Wait + Sync>(
+    rt: &E,
+    alloc: Global,
+    growers: u16,
+    count: u32,
+) -> Result<(u64, usize, bool), Fail> {
+    let crewed = grow(rt, alloc, &Named { growers, count }, &Open)?;
+    Ok(sum_of(&crewed))
+}
+
 #[test]
 fn crews_of_many_and_of_one_grow_all(rt: HostRuntime) -> Result<(), Fail> {
-    for (growers, count, all) in [(64, 1_000, 64_000), (1, 100, 100), (1, 0, 0), (3, 9, 27)] {
-        let source = Named { growers, count };
-        let crewed = grow(&rt, rt.alloc(), &source, &Open)?;
-        assert_eq!(rt; sum_of(&crewed), (all, all as usize, true));
-    }
+    let alloc = rt.alloc();
+    let sums = [
+        sum_of_crew(&rt, alloc, 64, 1_000)?,
+        sum_of_crew(&rt, alloc, 1, 100)?,
+        sum_of_crew(&rt, alloc, 1, 0)?,
+        sum_of_crew(&rt, alloc, 3, 9)?,
+    ];
+    let want = [
+        (64_000, 64_000, true),
+        (100, 100, true),
+        (0, 0, true),
+        (27, 27, true),
+    ];
+    assert_eq!(rt; sums, want);
     Ok(())
 }
 
@@ -129,20 +152,35 @@ impl Gate for StopsAt {
     fn after(&self, _grower: u16, _receipt: &Receipt) {}
 }
 
-#[test]
-fn a_gate_stops_growers_without_a_fault(rt: HostRuntime) -> Result<(), Fail> {
+/// What two growers of five growths make that are stopped before that one, and whether neither has a fault.
+fn sum_before<E: Threads + Wait + Sync>(
+    rt: &E,
+    alloc: Global,
+    k: u32,
+) -> Result<((u64, usize, bool), bool), Fail> {
     let source = Named {
         growers: 2,
         count: 5,
     };
-    for (k, all) in [(0, 0), (3, 6), (5, 10)] {
-        let crewed = grow(&rt, rt.alloc(), &source, &StopsAt { k })?;
-        let stopped = (
-            sum_of(&crewed),
-            crewed.faults.as_slice() == [None, None].as_slice(),
-        );
-        assert_eq!(rt; stopped, ((all, all as usize, true), true));
-    }
+    let crewed = grow(rt, alloc, &source, &StopsAt { k })?;
+    let unfaulted = crewed.faults.as_slice() == [None, None].as_slice();
+    Ok((sum_of(&crewed), unfaulted))
+}
+
+#[test]
+fn a_gate_stops_growers_without_a_fault(rt: HostRuntime) -> Result<(), Fail> {
+    let alloc = rt.alloc();
+    let sums = [
+        sum_before(&rt, alloc, 0)?,
+        sum_before(&rt, alloc, 3)?,
+        sum_before(&rt, alloc, 5)?,
+    ];
+    let want = [
+        ((0, 0, true), true),
+        ((6, 6, true), true),
+        ((10, 10, true), true),
+    ];
+    assert_eq!(rt; sums, want);
     Ok(())
 }
 
@@ -173,11 +211,20 @@ impl Source<u64> for Exhausted {
     }
 }
 
-#[test]
-fn a_refused_block_stops_its_grower_alone(rt: HostRuntime) -> Result<(), Fail> {
-    let crewed = grow(&rt, rt.alloc(), &Exhausted, &Open)?;
+/// What growers make of which the second runs out of memory, and whether it alone has the fault.
+fn sum_of_exhausted<E: Threads + Wait + Sync>(
+    rt: &E,
+    alloc: Global,
+) -> Result<((u64, usize, bool), bool), Fail> {
+    let crewed = grow(rt, alloc, &Exhausted, &Open)?;
     let faults = [None, Some(GrowFault::Memory), None];
     let same = crewed.faults.as_slice() == faults.as_slice();
-    assert_eq!(rt; (sum_of(&crewed), same), ((9, 9, true), true));
+    Ok((sum_of(&crewed), same))
+}
+
+#[test]
+fn a_refused_block_stops_its_grower_alone(rt: HostRuntime) -> Result<(), Fail> {
+    let sum = sum_of_exhausted(&rt, rt.alloc())?;
+    assert_eq!(rt; sum, ((9, 9, true), true));
     Ok(())
 }

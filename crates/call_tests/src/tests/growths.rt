@@ -1,41 +1,13 @@
 //! Growths by each call, appenders, and what seats read of them.
 
-ghost use Rattle.std.specs.Prelude.{◌≡◌};
+ghost use Rattle.std.specs.Prelude.{◌≡◌, IfSome};
 ghost use Rattle.book_core.specs.Lists.{IsSeatOf};
 
+use super::two::{Two, begin_two};
 use block_core::Fresh;
-use book_core::{Appender, Begun, GrowFault, Live, Receipt, Seat};
+use book_core::{Appender, GrowFault, Live, Receipt, Seat};
 use std::alloc::Global;
 use std::sync::Wait;
-use std::test::Fail;
-
-/// A book and its two seats.
-#[derive(Drop)]
-struct Two {
-    live: Live<u64>,
-    first: Seat<u64>,
-    second: Seat<u64>,
-    ghost of: { IsSeatOf live first × IsSeatOf live second },
-}
-
-/// A book over no records, with that room and two seats.
-fn begin_two(alloc: Global, room: u64) -> Option<Two> {
-    let Ok(begun) = Live::begin(alloc, Vec::new(alloc), room, 2) else {
-        return None;
-    };
-    let Begun {
-        live,
-        mut seats,
-        ..
-    } = begun;
-    let second = live.take_seat(&mut seats)?;
-    let first = live.take_seat(&mut seats)?;
-    Some(Two {
-        live,
-        first,
-        second,
-    })
-}
 
 /// The start and the length of a growth.
 fn range_of(receipt: Receipt) -> [u64; 2] {
@@ -59,16 +31,20 @@ fn fill_up_and_grow<E: Wait>(
     Some(([filled, one, copies].map(range_of), again.is_none()))
 }
 
-#[test]
-fn growths_stand_behind_one_another(rt: HostRuntime) -> Result<(), Fail> {
+/// The same by the first seat of a book.
+fn grow_first<E: Wait>(rt: &E, two: Two) -> Option<([[u64; 2]; 3], bool)> {
     let Two {
         live,
         mut first,
         ..
-    } = begin_two(rt.alloc(), 8).ok_or("no book")?;
-    let grown = fill_up_and_grow(&rt, &live, &mut first);
+    } = two;
+    fill_up_and_grow(rt, &live, &mut first)
+}
+
+#[test]
+fn growths_stand_behind_one_another(rt: HostRuntime) {
+    let grown = begin_two(rt.alloc(), 8).and_then(|two| grow_first(&rt, two));
     assert_eq!(rt; grown, Some(([[3, 2], [5, 1], [6, 2]], true)));
-    Ok(())
 }
 
 /// What the four growth calls are refused for once the book is closed.
@@ -94,16 +70,21 @@ fn grow_closed<E: Wait>(
     ])
 }
 
-#[test]
-fn a_closed_book_refuses_each_growth(rt: HostRuntime) -> Result<(), Fail> {
+/// The same by the first seat of a book.
+fn close_first<E: Wait>(rt: &E, alloc: Global, two: Two) -> Option<[Option<GrowFault>; 4]> {
     let Two {
         live,
         mut first,
         ..
-    } = begin_two(rt.alloc(), 8).ok_or("no book")?;
-    let closed = grow_closed(&rt, rt.alloc(), &live, &mut first);
+    } = two;
+    grow_closed(rt, alloc, &live, &mut first)
+}
+
+#[test]
+fn a_closed_book_refuses_each_growth(rt: HostRuntime) {
+    let alloc = rt.alloc();
+    let closed = begin_two(alloc, 8).and_then(|two| close_first(&rt, alloc, two));
     assert_eq!(rt; closed, Some([Some(GrowFault::Closed); 4]));
-    Ok(())
 }
 
 /// The sizes that two seats know behind [1, 2] of the first and [3] of the second, before the first meets the second
@@ -137,19 +118,22 @@ fn read_each(live: &Live<u64>, seat: &mut Seat<u64>) -> ([Option<u64>; 4], [u64;
     ([zeroth, first, second, third], [pieces, behind])
 }
 
-#[test]
-fn a_seat_reads_what_it_meets(rt: HostRuntime) -> Result<(), Fail> {
+/// The same by the seats of a book.
+fn meet_of_two<E: Wait>(rt: &E, two: Two) -> Option<([u64; 4], ([Option<u64>; 4], [u64; 2]))> {
     let Two {
         live,
         mut first,
         mut second,
-        ..
-    } = begin_two(rt.alloc(), 8).ok_or("no book")?;
-    let sizes = meet_after_two(&rt, &live, &mut first, &mut second);
-    let read = read_each(&live, &mut first);
-    let want = ([Some(1), Some(2), Some(3), None], [2, 1]);
-    assert_eq!(rt; (sizes, read), (Some([2, 3, 3, 3]), want));
-    Ok(())
+    } = two;
+    let sizes = meet_after_two(rt, &live, &mut first, &mut second)?;
+    Some((sizes, read_each(&live, &mut first)))
+}
+
+#[test]
+fn a_seat_reads_what_it_meets(rt: HostRuntime) {
+    let met = begin_two(rt.alloc(), 8).and_then(|two| meet_of_two(&rt, two));
+    let read = ([Some(1), Some(2), Some(3), None], [2, 1]);
+    assert_eq!(rt; met, Some(([2, 3, 3, 3], read)));
 }
 
 /// Pushes 0, 1, .. 6.
@@ -163,26 +147,41 @@ fn push_seven<E: Wait>(rt: &E, live: &Live<u64>, appender: &mut Appender<u64>) -
     Some(())
 }
 
-/// Pushes them by an appender of three, and answers what a snapshot then has.
+/// Pushes them by an appender of three. The seat.
 fn append_seven<E: Wait>(
     rt: &E,
     alloc: Global,
     live: &Live<u64>,
     seat: Seat<u64>,
-) -> Option<Vec<u64>>
+) -> Option<Seat<u64>>
     requires { IsSeatOf live.now seat }
+    ensures { IfSome result (λ seat. IsSeatOf live.now seat) }
 {
     let mut appender = Appender::new(alloc, seat, 3).ok()?;
     push_seven(rt, live, &mut appender)?;
-    let (mut seat, _) = appender.finish(rt, live).ok()?;
-    let snapshot = live.snapshot(&mut seat).ok()?;
+    let (seat, _) = appender.finish(rt, live).ok()?;
+    Some(seat)
+}
+
+/// The records that a snapshot of a seat has.
+fn records_of(alloc: Global, live: &Live<u64>, seat: &mut Seat<u64>) -> Option<Vec<u64>>
+    requires { IsSeatOf live.now seat.old }
+{
+    let snapshot = live.snapshot(seat).ok()?;
     snapshot.iter().copied().collect(alloc).ok()
 }
 
+/// Whether a snapshot then has just these.
+fn has_seven<E: Wait>(rt: &E, alloc: Global, two: Two) -> Option<bool> {
+    let Two { live, first, .. } = two;
+    let mut seat = append_seven(rt, alloc, &live, first)?;
+    let records = records_of(alloc, &live, &mut seat)?;
+    Some(records.as_slice() == [0, 1, 2, 3, 4, 5, 6].as_slice())
+}
+
 #[test]
-fn records_are_grown_by_in_blocks(rt: HostRuntime) -> Result<(), Fail> {
-    let Two { live, first, .. } = begin_two(rt.alloc(), 8).ok_or("no book")?;
-    let records = append_seven(&rt, rt.alloc(), &live, first).ok_or("refused")?;
-    assert_eq!(rt; records.as_slice(), [0, 1, 2, 3, 4, 5, 6].as_slice());
-    Ok(())
+fn records_are_grown_by_in_blocks(rt: HostRuntime) {
+    let alloc = rt.alloc();
+    let has = begin_two(alloc, 8).and_then(|two| has_seven(&rt, alloc, two));
+    assert_eq!(rt; has, Some(true));
 }

@@ -3,41 +3,12 @@
 ghost use Rattle.std.specs.Prelude.{IfSome};
 ghost use Rattle.book_core.specs.Lists.{IsSeatOf};
 
-use book_core::{Begun, Live, Seat, Snapshot};
-use std::alloc::Global;
+use super::two::{Two, begin_two};
+use book_core::{Live, Seat, Snapshot};
 use std::sync::Wait;
 use std::test::Fail;
 use std::thread;
 use std::thread::Threads;
-
-/// A book and its two seats.
-#[derive(Drop)]
-struct Two {
-    live: Live<u64>,
-    first: Seat<u64>,
-    second: Seat<u64>,
-    ghost of: { IsSeatOf live first × IsSeatOf live second },
-}
-
-/// A book over no records, with that room and two seats.
-fn begin_two(alloc: Global, room: u64) -> Option<Two> {
-    let Ok(begun) = Live::begin(alloc, Vec::new(alloc), room, 2) else {
-        return None;
-    };
-    let Begun {
-        live,
-        mut seats,
-        ..
-    } = begun;
-    match (live.take_seat(&mut seats), live.take_seat(&mut seats)) {
-        (Some(first), Some(second)) => Some(Two {
-            live,
-            first,
-            second,
-        }),
-        _ => None,
-    }
-}
 
 /// Makes so many growths of one record.
 fn put_many<E: Wait>(rt: &E, live: &Live<u64>, mut seat: Seat<u64>, count: u64) -> Option<Seat<u64>>

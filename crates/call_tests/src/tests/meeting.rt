@@ -1,12 +1,15 @@
 //! That changes and searches of many records run in several threads at once.
 
-ghost use Rattle.std.specs.Prelude.{true};
+ghost use Rattle.std.specs.Prelude.{true, false};
 
+use super::crews::new_vault;
 use block_core::Touch;
 use disk_core::RamDisk;
-use segment_core::Format;
+use std::alloc::Global;
+use std::sync::Wait;
 use std::sync::atomic::{AtomicU64, Ordering};
 use std::test::Fail;
+use std::thread::Threads;
 use vault_core::{Pick, Vault};
 
 /// Notes whether two threads were inside at one time.
@@ -76,18 +79,77 @@ impl<'a> Pick<u64> for All<'a> {
     }
 }
 
+/// No record. Each that isn't 0 brings its thread to the meeting.
+#[derive(Drop)]
+struct Nothing<'a> {
+    meeting: &'a Meeting,
+}
+
+impl<'a> Pick<u64> for Nothing<'a> {
+    ghost picks_of = { λ _ _. false };
+
+    fn picks(&self, r: &u64) -> bool {
+        if *r != 0 {
+            self.meeting.attend();
+        }
+        false
+    }
+}
+
+/// Whether two threads change the vault's first records at once.
+fn changes_meet<E: Threads + Wait + Sync>(
+    rt: &E,
+    vault: &mut Vault<u64, RamDisk>,
+    count: u64,
+) -> Result<bool, Fail> {
+    let changing = Meeting::new();
+    vault.change(rt, 0, count, &Unchanged { meeting: &changing })?;
+    Ok(changing.has_met())
+}
+
+/// How many records two threads count, and whether at once.
+fn count_meeting<E: Threads + Wait + Sync>(rt: &E, vault: &Vault<u64, RamDisk>) -> (u64, bool) {
+    let counting = Meeting::new();
+    let count = vault.count_where(rt, &All { meeting: &counting });
+    (count, counting.has_met())
+}
+
+/// Both, of a vault of so many records.
+fn meet<E: Threads + Wait + Sync>(
+    rt: &E,
+    alloc: Global,
+    count: u64,
+) -> Result<(bool, (u64, bool)), Fail> {
+    let mut vault = new_vault(alloc)?;
+    vault.resize(count, 5)?;
+    let changed = changes_meet(rt, &mut vault, count)?;
+    Ok((changed, count_meeting(rt, &vault)))
+}
+
 #[test]
 fn two_threads_work_at_once(rt: HostRuntime) -> Result<(), Fail> {
-    let alloc = rt.alloc();
-    let Ok(mut vault) = Vault::<u64, _>::create_as(alloc, RamDisk::new(alloc), Format::One) else {
-        return Err(Fail::from("no vault"));
-    };
+    let met = meet(&rt, rt.alloc(), 131_000)?;
+    assert_eq!(rt; met, (true, (131_000, true)));
+    Ok(())
+}
+
+/// What two threads look for that isn't there, and whether at once. The first three slices are searched by one thread, so
+/// these records are 0.
+fn find_meeting<E: Threads + Wait + Sync>(
+    rt: &E,
+    vault: &mut Vault<u64, RamDisk>,
+) -> Result<(Option<u64>, bool), Fail> {
+    vault.resize(49_152, 0)?;
     vault.resize(131_000, 5)?;
-    let changing = Meeting::new();
-    vault.change(&rt, 0, 131_000, &Unchanged { meeting: &changing })?;
-    let counting = Meeting::new();
-    let count = vault.count_where(&rt, &All { meeting: &counting });
-    let found = (count, changing.has_met(), counting.has_met());
-    assert_eq!(rt; found, (131_000, true, true));
+    let finding = Meeting::new();
+    let found = vault.find_first(rt, &Nothing { meeting: &finding });
+    Ok((found, finding.has_met()))
+}
+
+#[test]
+fn two_threads_look_for_the_first_at_once(rt: HostRuntime) -> Result<(), Fail> {
+    let mut vault = new_vault(rt.alloc())?;
+    let found = find_meeting(&rt, &mut vault)?;
+    assert_eq!(rt; found, (None, true));
     Ok(())
 }

@@ -2,15 +2,15 @@
 
 ghost use Rattle.std.specs.Prelude.{◌+◌, ◌*◌, ◌%◌, ◌^◌};
 
+use super::crews::{Open, new_vault};
 use block_core::Touch;
-use book_core::Receipt;
 use disk_core::RamDisk;
 use record_core::{Flagged, Pair, Record};
 use std::alloc::{AllocError, Global};
 use std::sync::Wait;
 use std::test::Fail;
 use std::thread::Threads;
-use vault_core::{Gate, Lists, Source, Vault, VaultFault, crew};
+use vault_core::{Lists, Source, Vault, VaultFault, crew};
 
 /// The record and ten times its place, which wrap.
 struct Raised;
@@ -50,32 +50,31 @@ fn pieces_of(alloc: Global, vault: &Vault<u64, RamDisk>) -> Result<(Vec<u64>, u6
     Ok((records, pieces))
 }
 
-#[test]
-fn joined_blocks_are_changed_alike(rt: HostRuntime) -> Result<(), Fail> {
-    for (joins, count) in [(false, 3), (true, 1)] {
-        let Ok(mut vault) = Vault::create(rt.alloc(), RamDisk::new(rt.alloc())) else {
-            return Err(Fail::from("no vault"));
-        };
-        fill(&rt, &mut vault, joins)?;
-        let (records, pieces) = pieces_of(rt.alloc(), &vault)?;
-        let want = [1, 11, 21, 31, 41];
-        assert_eq!(rt; (records.as_slice(), pieces), (want.as_slice(), count));
-    }
-    Ok(())
+/// Whether the vault then has these records, and how many pieces they stand in.
+fn fill_and_read<E: Threads + Sync>(
+    rt: &E,
+    alloc: Global,
+    vault: &mut Vault<u64, RamDisk>,
+    joins: bool,
+) -> Result<(bool, u64), Fail> {
+    fill(rt, vault, joins)?;
+    let (records, pieces) = pieces_of(alloc, vault)?;
+    let has = records.as_slice() == [1, 11, 21, 31, 41].as_slice();
+    Ok((has, pieces))
 }
 
-/// A gate that lets all pass.
-#[derive(Drop)]
-struct Open;
+/// The same of a new vault.
+fn filled<E: Threads + Sync>(rt: &E, alloc: Global, joins: bool) -> Result<(bool, u64), Fail> {
+    let mut vault = new_vault(alloc)?;
+    fill_and_read(rt, alloc, &mut vault, joins)
+}
 
-impl Gate for Open {
-    ghost may_stop = { λ _ _ _. ⊥ };
-
-    fn before(&self, _grower: u16, _k: u32) -> bool {
-        true
-    }
-
-    fn after(&self, _grower: u16, _receipt: &Receipt) {}
+#[test]
+fn joined_blocks_are_changed_alike(rt: HostRuntime) -> Result<(), Fail> {
+    let alloc = rt.alloc();
+    let found = [filled(&rt, alloc, false)?, filled(&rt, alloc, true)?];
+    assert_eq!(rt; found, [(true, 3), (true, 1)]);
+    Ok(())
 }
 
 /// For one grower one block of this record.

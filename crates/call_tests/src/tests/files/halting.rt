@@ -86,24 +86,46 @@ fn over_halting(end: u64) -> FileDisk<Halting>
     })
 }
 
+/// What a read of four bytes from this place on answers, of a file of four, and the bytes.
+fn read_four(at: u64) -> (Result<(), DiskFault>, [u8; 4])
+    requires { at ≤ 1 }
+{
+    let mut bytes = [9; 4];
+    let read = over_halting(4).read_at(at, &mut bytes);
+    (read, bytes)
+}
+
+/// What a write of four bytes from this place on answers.
+fn write_four(at: u64) -> Result<(), DiskFault>
+    requires { at ≤ 1 }
+{
+    over_halting(4).write_at(at, &[0, 1, 2, 3])
+}
+
+/// The length of a file of so many bytes.
+fn len_of(end: u64) -> Result<u64, DiskFault> {
+    over_halting(end).len()
+}
+
 #[test]
 fn what_is_done_in_part_is_finished_or_a_fault(rt: HostRuntime) {
-    let mut bytes = [9; 4];
-    assert_eq!(rt; over_halting(4).read_at(0, &mut bytes), Ok(()));
-    assert_eq!(rt; bytes, [0, 1, 2, 3]);
+    assert_eq!(rt; read_four(0), (Ok(()), [0, 1, 2, 3]));
+    assert_eq!(rt; read_four(1).0, Err(DiskFault::Read));
     assert_eq!(rt;
-        over_halting(4).read_at(1, &mut bytes),
-        Err(DiskFault::Read)
+        [write_four(0), write_four(1)],
+        [Ok(()), Err(DiskFault::Write)]
     );
-    assert_eq!(rt; over_halting(4).write_at(0, &bytes), Ok(()));
-    assert_eq!(rt; over_halting(4).write_at(1, &bytes), Err(DiskFault::Write));
-    assert_eq!(rt; over_halting(4).len(), Ok(4));
-    assert_eq!(rt; over_halting(0).len(), Err(DiskFault::Length));
+    assert_eq!(rt; [len_of(4), len_of(0)], [Ok(4), Err(DiskFault::Length)]);
+}
+
+/// What two syncs answer.
+fn sync_twice() -> [Result<(), DiskFault>; 2] {
+    let mut disk = over_halting(0);
+    let first = disk.sync();
+    [first, disk.sync()]
 }
 
 #[test]
 fn a_sync_that_failed_is_not_asked_for_again(rt: HostRuntime) {
-    let mut disk = over_halting(0);
-    assert_eq!(rt; disk.sync(), Err(DiskFault::Sync));
-    assert_eq!(rt; disk.sync(), Err(DiskFault::Sync));
+    assert_eq!(rt; sync_twice(), [Err(DiskFault::Sync); 2]);
 }

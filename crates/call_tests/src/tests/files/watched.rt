@@ -164,18 +164,23 @@ fn make_watched(
     (syncs.load(Ordering::SeqCst), refused)
 }
 
+/// Files, and the folder of each that is to be synced.
+const MADE: [(&str, &str); 5] = [
+    ("new", "."),
+    ("folder/new", "folder"),
+    ("/new", "/"),
+    ("a/b/new", "a/b"),
+    ("links/link", "/deep"),
+];
+
+/// What is answered of each where the sync fails, or where it doesn't.
+fn all_watched(alloc: Global, fails: bool) -> [(u64, Option<io::ErrorKind>); 5] {
+    MADE.map(|(path, folder)| make_watched(alloc, path, folder, fails))
+}
+
 #[test]
 fn the_folder_of_a_made_file_is_synced_or_why_not_is_told(rt: HostRuntime) {
-    let cases = [
-        ("new", "."),
-        ("folder/new", "folder"),
-        ("/new", "/"),
-        ("a/b/new", "a/b"),
-        ("links/link", "/deep"),
-    ];
-    for (path, folder) in cases {
-        assert_eq!(rt; make_watched(rt.alloc(), path, folder, false), (1, None));
-        let full = Some(io::ErrorKind::StorageFull);
-        assert_eq!(rt; make_watched(rt.alloc(), path, folder, true), (1, full));
-    }
+    let full = Some(io::ErrorKind::StorageFull);
+    assert_eq!(rt; all_watched(rt.alloc(), false), [(1, None); 5]);
+    assert_eq!(rt; all_watched(rt.alloc(), true), [(1, full); 5]);
 }
