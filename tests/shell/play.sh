@@ -11,44 +11,38 @@ is_played() {
     sed 's/.* = //' "$work/rows" | cmp - "$out"
 }
 
+# The scripts of a file of tests/play, parted by empty lines: a type, and such rows, one a line. A line with # says what they show.
+are_played() {
+    rm -f "$work"/script.*
+    grep -v '^#' "$top/tests/play/$1.play" | awk -v to="$work/script." 'BEGIN { RS = "" } { print >(to NR) }'
+    [ -e "$work/script.1" ]
+    for script in "$work"/script.*; do
+        is_played "$(head -n 1 "$script")" "$(tail -n +2 "$script")"
+    done
+}
+
 growths_are_settled_by_the_flusher() (
-    is_played u64 'create = ok; share 8 2 = ok; put 0 1 2 = growth 0 start 0 len 2; put 1 3 = growth 1 start 2 len 1; settled 0 = settled 0 running; look f = size 3; take = took 2; log = step; log = step; log = step; log = done; settled 1 = settled 0 running; raise = raised 2; settled 1 = settled 2 running; crash old = crashed 54; open = size 3; list = 1 2 3'
+    are_played growths_are_settled_by_the_flusher
 )
 
 a_gate_that_is_not_synced_may_be_lost() (
-    steps='create = ok; share 8 1 = ok; put 0 5 = growth 0 start 0 len 1; look f = size 1; take = took 1; log = step; log = step; log = step'
-    is_played u64 "$steps; crash old = crashed 34; open = size 0"
-    is_played u64 "$steps; crash new = crashed 34; open = size 1"
-    is_played u64 "$steps; crash 07 = crashed 34; open = size 0"
+    are_played a_gate_that_is_not_synced_may_be_lost
 )
 
 folds_go_on_beside_commands() (
-    fold='create = ok; resize 1 5 = ok; change 0 7 = ok; fold = begun; home = step; change 0 9 = ok; home = step; home = filed'
-    filed='log = step; log = step; log = step; log = done'
-    is_played u64 "$fold; $filed; crash old = crashed 92; open = size 1; list = 9"
-    is_played u64 "$fold; home = waiting; $filed; crash old = crashed 92; open = size 1; list = 9"
-    is_played u64 "create = ok; resize 2 5 = ok; change 1 6 = ok; resize 1 0 = refused unfolded; list = 5 6; fold = begun; home = step; home = step; home = filed; $filed; resize 1 0 = ok; crash old = crashed 92; open = size 1; list = 5"
-    is_played u64 'create = ok; resize 1 5 = ok; change 0 7 = ok; fold = begun; home = step; crash ff = crashed 56; open = size 1; list = 7'
-    is_played u64 "create = ok; resize 1 5 = ok; change 0 7 = ok; share 1 1 = ok; view 0 = 7; fold = begun; put 0 6 = growth 0 start 1 len 1; put 0 8 = refused full; gather = refused unsettled 0; close = ok; put 0 8 = refused closed; look f = size 2; take = took 1; home = step; log = step; home = step; home = waiting; log = step; log = step; log = done; home = filed; $filed; gather = size 2; crash ff = crashed 92; open = size 2; list = 7 6"
+    are_played folds_go_on_beside_commands
 )
 
 runs_of_several_positions_are_one_command() (
-    is_played u64 'create 2 = ok; resize 4 5 = ok; changes 0 7 | 2 8 9 = ok; list = 7 5 8 9; crash old = crashed 116; open = size 4; list = 7 5 8 9'
-    is_played u64 'create = ok; resize 4 5 = ok; changes 0 7 | 2 8 9 = refused old format; changes 0 7 = ok; list = 7 5 5 5'
-    is_played u64 'create 2 = ok; resize 4 5 = ok; changes 2 8 9 | 0 7 = refused runs; list = 5 5 5 5'
+    are_played runs_of_several_positions_are_one_command
 )
 
 refused_steps_change_nothing() (
-    is_played u64 'open = refused unborn; list = refused wrong phase; create = ok; create = refused wrong phase; list = empty; resize 1 5 = ok; change 1 6 = refused out of range; share 0 1 = refused too large; share 1 65 = refused too large; change 0 6 = ok; fold = begun; fold = refused busy; put 0 1 = refused wrong phase; list = 6; crash old = crashed 56; list = refused wrong phase; create = refused exists; open = size 1; list = 6'
-    is_played u64 'create = ok; share 1 1 = ok; put 1 5 = refused wrong phase; share 1 1 = refused wrong phase; view 0 = empty; put 0 5 = growth 0 start 0 len 1; put 0 5 = refused full; gather = refused unsettled 0; close = ok; put 0 6 = refused closed; look f = size 1; fold = nothing; home = idle; log = idle; take = took 1; take = refused busy'
+    are_played refused_steps_change_nothing
 )
 
 each_type_of_record_has_its_scripts() (
-    is_played u32 'create = ok; resize 1 4294967295 = ok; list = 4294967295'
-    is_played u64 'create = ok; resize 1 18446744073709551615 = ok; list = 18446744073709551615'
-    is_played i64 'create = ok; resize 2 -1 = ok; change 1 -9223372036854775808 = ok; list = -1 -9223372036854775808'
-    is_played pair 'create 2 = ok; resize 3 1:-2 = ok; changes 0 7:-3 | 2 8:9 = ok; list = 7:-3 1:-2 8:9'
-    is_played flagged 'create = ok; share 1 1 = ok; put 0 5:1 6:0 = growth 0 start 0 len 2; look 0 = size 2; view 0 = 5:1 6:0'
+    are_played each_type_of_record_has_its_scripts
 )
 
 every_line_of_a_script_is_read_before_a_step_is_done() (
