@@ -8,10 +8,9 @@ use Rattle.std.proofs.lemmas.Bool.{cases_lt}
 use Rattle.record_core.specs.Bytes.{Encoding}
 use Rattle.record_core.specs.Cells.{AreRecords}
 use Rattle.block_core.specs.Growth.{Growth}
-use Rattle.book_core.specs.declared.fault.GrowFault.TheVariants as faults
 use Rattle.book_core.specs.declared.seat.Receipt.{Receipt}
 use Rattle.book_core.specs.Lists.{Phase, Seated, IsSeatOf}
-use Rattle.book_core.specs.Growing.{Grown, SeatIsTold, IsBookRefusal, growth_of}
+use Rattle.book_core.specs.Growing.{Grown, SeatIsTold, growth_of}
 use Rattle.book_core.specs.Marks.{MarkEnd}
 use Rattle.book_core.specs.declared.mark.MarkState.{MarkState}
 use Rattle.serve_core.specs.declared.refusal.Refusal.{Refusal}
@@ -238,10 +237,10 @@ module _ {R : Type 0} (form : Encoding R) (live : Phase R) (count : ℕ) (block 
   refused_so refusals.BadRecord seat why = absurd why
   refused_so refusals.NoMemory seat why = absurd why
   refused_so refusals.Memory seat why = bytes
-  refused_so refusals.Closed seat why = (has, subst (λ n. IsBookRefusal live seat n faults.Closed) len why)
-  refused_so refusals.Full seat why = (has, subst (λ n. IsBookRefusal live seat n faults.Full) len why)
-  refused_so refusals.TooLong seat why = (has, subst (λ n. IsBookRefusal live seat n faults.TooLong) len why)
-  refused_so refusals.Strayed seat why = (has, why.0, subst (λ n. IsBookRefusal live seat n (faults.Strayed why.0)) len why.1)
+  refused_so refusals.Closed seat why = (has, subst (λ n. IsRecordsRefusal live n seat refusals.Closed) len why)
+  refused_so refusals.Full seat why = (has, subst (λ n. IsRecordsRefusal live n seat refusals.Full) len why)
+  refused_so refusals.TooLong seat why = (has, subst (λ n. IsRecordsRefusal live n seat refusals.TooLong) len why)
+  refused_so refusals.Strayed seat why = (has, subst (λ n. IsRecordsRefusal live n seat refusals.Strayed) len why)
   refused_so refusals.Ended seat why = absurd why
   refused_so refusals.Broken seat why = absurd why
 

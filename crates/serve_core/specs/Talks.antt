@@ -55,29 +55,6 @@ pub record HasRecords {R : Type 0} (form : Encoding R) (count : ℕ) (block : Li
   pub len : length records ≡ count
   pub are : AreRecords form block records
 
--- Why a growth of so many records by these bytes isn't made, told a seat that is then this. Of the first three no bytes were
--- read; of the last four the book refused records that are some.
-abbrev pub IsGrowthRefusal : {R : Type 0} → Encoding R → Phase R → ℕ → List ℕ → Seated R → Refusal → Type 0
-IsGrowthRefusal form live count block seat refusals.NoRecord = (count ≡ 0) × (block ≡ [])
-IsGrowthRefusal form live count block seat refusals.TooMany = (payload_limit < payload_len form.width count) × (block ≡ [])
-IsGrowthRefusal form live count block seat refusals.NoMemory = IsBlockLength form.width count × (block ≡ [])
-IsGrowthRefusal form live count block seat refusals.BadRecord = IsBlock form.width count block × (i : ℕ) × IsFirstBad form block count i
-IsGrowthRefusal form live count block seat refusals.Memory = IsBlock form.width count block
-IsGrowthRefusal form live count block seat refusals.Closed = HasRecords form count block × IsBookRefusal live seat count faults.Closed
-IsGrowthRefusal form live count block seat refusals.Full = HasRecords form count block × IsBookRefusal live seat count faults.Full
-IsGrowthRefusal form live count block seat refusals.TooLong = HasRecords form count block × IsBookRefusal live seat count faults.TooLong
-IsGrowthRefusal form live count block seat refusals.Strayed = HasRecords form count block × (n : ℕ) × IsBookRefusal live seat count (faults.Strayed n)
-IsGrowthRefusal form live count block seat other = ⊥
-
--- What a seat is told of a growth of so many records by these bytes: it made one growth, of just the records that the bytes
--- are, and is told its number and its start; or it made none, and is told why.
-abbrev pub IsOfGrowth : {R : Type 0} → Encoding R → Phase R → ℕ → List ℕ → Seated R → Seated R → Answer → Type 0
-IsOfGrowth {R} form live count block old new (answers.Grown number start) =
-    (has : HasRecords form count block)
-    × (receipt : Receipt) × Grown live old new has.records receipt × (receipt.number ≡ number) × (receipt.start ≡ start)
-IsOfGrowth form live count block old new (answers.Refused refusal) = SeatLearns old new × IsGrowthRefusal form live count block new refusal
-IsOfGrowth form live count block old new other = ⊥
-
 -- why the bytes of a block aren't read as so many records
 abbrev pub IsUnread : {R : Type 0} → Encoding R → ℕ → List ℕ → Refusal → Type 0
 IsUnread form count block refusals.BadRecord = (i : ℕ) × IsFirstBad form block count i
@@ -92,6 +69,29 @@ IsRecordsRefusal live n seat refusals.Full = IsBookRefusal live seat n faults.Fu
 IsRecordsRefusal live n seat refusals.TooLong = IsBookRefusal live seat n faults.TooLong
 IsRecordsRefusal live n seat refusals.Strayed = (k : ℕ) × IsBookRefusal live seat n (faults.Strayed k)
 IsRecordsRefusal live n seat other = ⊥
+
+-- Why a growth of so many records by these bytes isn't made, told a seat that is then this. Of the first three no bytes were
+-- read; of the last four the book refused records that are some.
+abbrev pub IsGrowthRefusal : {R : Type 0} → Encoding R → Phase R → ℕ → List ℕ → Seated R → Refusal → Type 0
+IsGrowthRefusal form live count block seat refusals.NoRecord = (count ≡ 0) × (block ≡ [])
+IsGrowthRefusal form live count block seat refusals.TooMany = (payload_limit < payload_len form.width count) × (block ≡ [])
+IsGrowthRefusal form live count block seat refusals.NoMemory = IsBlockLength form.width count × (block ≡ [])
+IsGrowthRefusal form live count block seat refusals.BadRecord = IsBlock form.width count block × IsUnread form count block refusals.BadRecord
+IsGrowthRefusal form live count block seat refusals.Memory = IsBlock form.width count block
+IsGrowthRefusal form live count block seat refusals.Closed = HasRecords form count block × IsRecordsRefusal live count seat refusals.Closed
+IsGrowthRefusal form live count block seat refusals.Full = HasRecords form count block × IsRecordsRefusal live count seat refusals.Full
+IsGrowthRefusal form live count block seat refusals.TooLong = HasRecords form count block × IsRecordsRefusal live count seat refusals.TooLong
+IsGrowthRefusal form live count block seat refusals.Strayed = HasRecords form count block × IsRecordsRefusal live count seat refusals.Strayed
+IsGrowthRefusal form live count block seat other = ⊥
+
+-- What a seat is told of a growth of so many records by these bytes: it made one growth, of just the records that the bytes
+-- are, and is told its number and its start; or it made none, and is told why.
+abbrev pub IsOfGrowth : {R : Type 0} → Encoding R → Phase R → ℕ → List ℕ → Seated R → Seated R → Answer → Type 0
+IsOfGrowth {R} form live count block old new (answers.Grown number start) =
+    (has : HasRecords form count block)
+    × (receipt : Receipt) × Grown live old new has.records receipt × (receipt.number ≡ number) × (receipt.start ≡ start)
+IsOfGrowth form live count block old new (answers.Refused refusal) = SeatLearns old new × IsGrowthRefusal form live count block new refusal
+IsOfGrowth form live count block old new other = ⊥
 
 -- what a seat is told of a growth by these records
 abbrev pub IsOfRecords : {R : Type 0} → Phase R → List R → Seated R → Seated R → Answer → Type 0
