@@ -28,11 +28,10 @@ loaded_line growths size = ended_line ((codes "loaded " ++ decimal growths) ++ (
 abbrev pub appended_line : ℕ → ℕ → List ℕ
 appended_line growths size = ended_line ((codes "appended " ++ decimal growths) ++ (codes " growths, size " ++ decimal size))
 
--- its version, its width, how many records, frames and live changes it has
+-- its version, its width, and how many records it has
 abbrev pub checked_front : {R : Type 0} → Scanned R → List ℕ
 checked_front scanned = (codes "ok version " ++ decimal scanned.version) ++ (codes " width " ++ decimal scanned.width) ++ (codes " size " ++ decimal (length scanned.records.items))
 
+-- these, and how many frames and live changes it has
 abbrev pub checked_line : {R : Type 0} → Scanned R → List ℕ
-checked_line scanned =
-    ended_line ((codes "ok version " ++ decimal scanned.version) ++ (codes " width " ++ decimal scanned.width) ++ (codes " size " ++ decimal (length scanned.records.items))
-    ++ (codes " frames " ++ decimal scanned.frames) ++ (codes " live " ++ decimal (scanned.changes - scanned.folded)))
+checked_line scanned = ended_line (checked_front scanned ++ (codes " frames " ++ decimal scanned.frames) ++ (codes " live " ++ decimal (scanned.changes - scanned.folded)))
