@@ -384,11 +384,18 @@ fn about_served(fault: VaultFault) -> &'static str {
     match fault {
         VaultFault::Pen(PenFault::Disk(fault)) => about_disk(fault),
         VaultFault::Pen(PenFault::Broken) =>
-            "the system didn't write it, or put it on the device, which may be full; restart the system before it is opened again",
+            "the system didn't write it, or put it on the device, which may be full",
         VaultFault::Pen(PenFault::FileFull) => "it is as long as such a file can become",
         VaultFault::Pen(PenFault::Memory) => "there is not enough memory",
-        _ =>
-            "not all growths of the clients are known to be on the device; restart the system before it is opened again",
+        _ => "not all growths of the clients are known to be on the device",
+    }
+}
+
+/// What to do before the file is opened again, where the device may not have what it took.
+fn before_it_is_opened(fault: VaultFault) -> &'static str {
+    match fault {
+        VaultFault::Pen(PenFault::FileFull | PenFault::Memory) => "",
+        _ => "; restart the system before it is opened again",
     }
 }
 
@@ -398,7 +405,8 @@ fn write_served_fault<W: fmt::Write>(
     fault: VaultFault,
 ) -> fmt::Result {
     let about = about_served(fault);
-    write!(f, "{name}: {about}; what stood before stands")
+    let next = before_it_is_opened(fault);
+    write!(f, "{name}: {about}{next}; what stood before stands")
 }
 
 fn write_stopped<W: fmt::Write>(f: &mut Formatter<W>, name: &str, stopped: Stopped) -> fmt::Result {
