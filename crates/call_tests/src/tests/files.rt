@@ -271,11 +271,7 @@ fn answers_of_full(
 
 #[test]
 fn a_device_that_takes_no_writes_fails_each_call_in_its_kind(rt: HostRuntime) -> Result<(), Fail> {
-    let path = "/dev/full";
-    if !fs::exists(&rt, path)? {
-        return Ok(());
-    }
-    let answers = answers_of_full(&rt, path)?;
+    let answers = answers_of_full(&rt, "/dev/full")?;
     let refused = [Err(DiskFault::Write), Err(DiskFault::Sync)];
     assert_eq!(rt; answers, (Ok(0), refused));
     Ok(())
