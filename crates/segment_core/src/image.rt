@@ -10,7 +10,9 @@ ghost use Rattle.segment_core.specs.Vector.{HasVector};
 ghost use Rattle.segment_core.specs.Written.{AreFilled, AllFit, groups_of, group_frame, file_of, all_records, IsImageRefused};
 
 use crate::fault::ImageFault;
-use crate::format::{CLOSED_GATE, FRAME_HEAD_LEN, Format, HEADER_LEN, MAGIC, OPEN_GATE};
+use crate::format::{
+    CLOSED_GATE, EMPTY_FILE_LEN, FRAME_HEAD_LEN, Format, HEADER_LEN, MAGIC, OPEN_GATE,
+};
 use crate::group::{append_group, payload_size};
 use record_core::{PAYLOAD_LIMIT, Record, width_of};
 use std::alloc::{AllocError, Global};
@@ -52,6 +54,28 @@ fn image_len<R: Record>(groups: &[Vec<Vec<R>>]) -> Result<usize, ImageFault>
         size = size.saturating_add(FRAME_HEAD_LEN + len);
     }
     Ok(size)
+}
+
+/// An empty file of this format, whose records have this width in bytes: its header, and a closed gate.
+pub fn empty_file(format: Format, width: u16) -> [u8; EMPTY_FILE_LEN]
+    ensures { result ≡ header (record { format = format; width = width }) ++ closed_gate ∷ [] }
+{
+    let [c, v, e, c2, s, e2, g] = *MAGIC;
+    let [low, high] = width.to_le_bytes();
+    [
+        OPEN_GATE,
+        c,
+        v,
+        e,
+        c2,
+        s,
+        e2,
+        g,
+        format.version(),
+        low,
+        high,
+        CLOSED_GATE,
+    ]
 }
 
 /// Appends the header of a file of this format, of records of this type.

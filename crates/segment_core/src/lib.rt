@@ -21,16 +21,18 @@ mod tally;
 mod vector;
 mod walk;
 
-pub use change::{append_change, append_shrink};
+pub use change::{append_change, append_fold, append_shrink};
 pub use fault::{Cause, GroupFault, ImageFault, ScanFault};
-pub use format::{CLOSED_GATE, Format, FrameKind, OPEN_GATE, SHRINK_PAYLOAD_LEN, Shape};
+pub use format::{
+    CLOSED_GATE, COUNT_LEN, EMPTY_FILE_LEN, FOLD_PAYLOAD_LEN, FRAME_HEAD_LEN, Format, FrameKind,
+    GATE_LIMIT, HEADER_LEN, OPEN_GATE, SHRINK_PAYLOAD_LEN, START_LEN, Shape,
+};
 pub use found::{Home, Homes};
 pub use frame::FrameReader;
 pub use group::append_group;
 pub use growth_list::GrowthList;
 pub use growth_row::Growths;
-pub use image::{append_header, append_last_gate, write_image};
-pub use record_core::RECORD_LIMIT;
+pub use image::{append_header, append_last_gate, empty_file, write_image};
 pub use scanner::Scanner;
 pub use tally::Tally;
 pub use vector::{Scanned, scan};
