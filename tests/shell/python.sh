@@ -2,11 +2,20 @@
 
 # ---- the library for C, and its callers, built as docs/use/c.md says
 
+# The Python that has numpy: the one that the path finds, or Debian's own. Where none has it, the former.
+python=python3
+for it in python3 /usr/bin/python3; do
+    if "$it" -c 'import numpy' 2>/dev/null; then
+        python=$it
+        break
+    fi
+done
+
 # Runs this example in Python with further words.
 python_runs() {
     example=$1
     shift
-    CVEC_LIBRARY=$work/libcvec.so PYTHONDONTWRITEBYTECODE=1 python3 "$top/examples/python/$example.py" "$@" >"$out" 2>"$err"
+    CVEC_LIBRARY=$work/libcvec.so PYTHONDONTWRITEBYTECODE=1 "$python" "$top/examples/python/$example.py" "$@" >"$out" 2>"$err"
 }
 
 a_python_program_appends_and_reads() (
@@ -22,10 +31,11 @@ a_python_program_appends_and_reads() (
 a_python_program_loses_nothing() (
     has_c && has python3 'the library for Python' || exit $is_skipped
     make_python_library
-    python_runs faults "$work"
     python_runs faults "$work" plain
     [ "$(cat "$out")" = 'without numpy' ]
-    python3 -c 'import numpy' 2>/dev/null || lacks 'there is no numpy for arrays for Python' || exit $is_skipped
+    "$python" -c 'import numpy' 2>/dev/null || lacks 'there is no numpy for arrays for Python' || exit $is_skipped
+    python_runs faults "$work"
+    [ "$(cat "$out")" = 'with numpy' ]
 )
 
 # The file of this hex is listed this way, as the program shows it.
