@@ -7,6 +7,10 @@
 //!
 //! After the directory of "Lock-Free Dynamically Resizable Arrays" (Dechev, Pirkelbauer, Stroustrup, 2006), whose
 //! buckets double. Here the buckets hold growths and not single records.
+//!
+//! There are 17 buckets, the first of 8 cells, each twice as long as the one before. `publish` sets the cell of the next
+//! number; `look` reads cells up to the first empty one. Each growth that a pass knows is the value of the cell at its
+//! number's place.
 #![tactic(auto)]
 
 mod address;

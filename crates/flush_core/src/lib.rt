@@ -1,5 +1,8 @@
 //! A flusher commits what growers have put into a book: group by group, as many growths in one as its payload holds, and
 //! tells them by the mark what is settled.
+//!
+//! The invariant: the pen's vector is the records from before and the settled growths; with the job in hand it is those and
+//! the taken ones. `serve` is a loop of raise, wake, sleep, look, take and four ticks.
 #![tactic(auto)]
 
 mod fault;

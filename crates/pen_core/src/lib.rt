@@ -1,4 +1,8 @@
 //! A pen writes one segment file, frame by frame, so that a crash at any moment leaves the vector of before or after.
+//!
+//! The heart of a pen's invariant: with its gate open, the file would be the next one. A pen knows no type of records; which
+//! records its bytes are is said beside it (`AreCellsOf`). It keeps 24 bytes for each group of the file, and the runs of the
+//! live changes. How a commit and a fold go is in `docs/design/map.md`.
 #![tactic(auto)]
 
 mod begin;

@@ -3,6 +3,11 @@
 //! `write_image` makes the whole file of some growths, `append_group`, `append_change` and `append_shrink` one frame,
 //! `scan` reads the vector of an image or names its first fault, `Scanner` does so of an image that comes in pieces, and
 //! `FrameReader` gives the fields of one frame. The format is in `docs/file/format.md`.
+//!
+//! One set of definitions serves both versions: `Shape` (header), `Frame`, `Layout` (payloads), `Tally` (which frame may
+//! follow which), `Image`, `Vector`, `Fault` and `Command`; `OneMore` ties frames to commands. `scan` is a `Scanner` that
+//! is fed once. Each record is decoded once, and the payload of a change is kept until a fold covers it. At the end the
+//! live changes are laid over in order.
 #![tactic(auto)]
 
 mod change;

@@ -1,5 +1,9 @@
 //! A vault: one owner changes, resizes and folds a vector that stands in blocks and in a segment file. `share` lends it out
 //! to many growers and one flusher, `gather` takes it back, and `crew` does both round a thread for each grower.
+//!
+//! The invariant: the list is what the file has once the job in hand is done, and while no call has failed it is also what is
+//! sure. What every command promises is one definition, `IsCommand`. That `gather` has each growth once follows by counting
+//! (`Accounts`). The batches of `find_first` begin with one slice and double.
 #![tactic(auto)]
 
 mod batch;
