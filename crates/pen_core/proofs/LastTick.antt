@@ -85,6 +85,6 @@ module _ (keeps keeps' : Type 0) (states new : List State) (shape : Shape) (gate
     | inr unfiled ↦ ap fold_of (same unfiled) ∙ sym (behind frame (no_fold unfiled) (fold_of fold))
   ]
 
-  -- a job that is no Fold leaves the fold
+  -- a job whose frame is no fold's leaves the fold
   pub other_unfiled : ((count : ℕ) → frame ≡ kinds.Fold count → ⊥) → fold.stage ≡ Filed → ⊥
   other_unfiled other filed = other fold.count (folds filed)
