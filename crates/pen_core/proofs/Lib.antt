@@ -14,6 +14,7 @@ pub mod Listed
 pub mod InHand
 pub mod AtRest
 pub mod KeptPen
+pub mod LogCall
 pub mod LastTick
 pub mod FoldSeen
 pub mod HomeTick
