@@ -20,6 +20,7 @@ use Rattle.pen_core.specs.InHand.{fold_of, frame_in_hand, stage_ended, live_afte
 use Rattle.pen_core.specs.Inside.{IsJob, IsMaybeJob, IsPen}
 use Rattle.pen_core.specs.Listed.{IsListed}
 use Rattle.pen_core.specs.PenOf.{FoldOf}
+use Rattle.pen_core.specs.Fields.{IsSound}
 use Rattle.pen_core.specs.Pen.{open_count, fold_behind}
 use Rattle.pen_core.specs.Vectors.{frame_at}
 use Rattle.pen_core.proofs.AtRest.{pen_same}
@@ -29,19 +30,19 @@ use Rattle.pen_core.proofs.LogCall.{LogCall, tally_now, gate_moved, settles_now,
 
 -- What the last tick of a job knows: the call has succeeded, the homes were cut, and a fold whose frame was the job has
 -- ended.
-pub record LastCall {D : Type 0} {keeps : D → Type 0} {states : D → List State} {pen : Inside D} {new : D} {step : Step} (tick : LogCall keeps states pen new step) (gate' : ℕ) (homes' : Homes) (live' : ℕ) (fold' : Fold) : Type 0 where
+pub record LastCall {D : Type 0} {keeps : D → Type 0} {states : D → List State} {pen : Inside D} {new : D} {step : Step} (tick : LogCall keeps states pen new step) (then : Inside D) : Type 0 where
   pub call : keeps pen.disk → Calls step pen.gate tick.given (states pen.disk) (states new)
-  pub moved : gate' ≡ pen.gate + (length tick.given - 1)
+  pub moved : then.gate ≡ pen.gate + (length tick.given - 1)
   pub last : step_after step ≡ None
-  pub turn : AreInTurn 0 homes'.homes.items pen.next.size
-  pub each : (width i : ℕ) → i < pen.next.size → home_among width homes'.homes.items i ≡ home_among width pen.homes.homes.items i
-  pub all : live' ≡ length homes'.live.items
-  pub ended : fold'.stage ≡ stage_ended pen.fold.stage
-  pub left : homes'.live.items ≡ live_after pen.fold.stage pen.fold.runs pen.homes.live.items
-  pub same : (pen.fold.stage ≡ Filed → ⊥) → fold' ≡ pen.fold
+  pub turn : AreInTurn 0 then.homes.homes.items pen.next.size
+  pub each : (width i : ℕ) → i < pen.next.size → home_among width then.homes.homes.items i ≡ home_among width pen.homes.homes.items i
+  pub all : then.live ≡ length then.homes.live.items
+  pub ended : then.fold.stage ≡ stage_ended pen.fold.stage
+  pub left : then.homes.live.items ≡ live_after pen.fold.stage pen.fold.runs pen.homes.live.items
+  pub same : (pen.fold.stage ≡ Filed → ⊥) → then.fold ≡ pen.fold
 
 module _ {D : Type 0} {keeps : D → Type 0} {states : D → List State} {pen : Inside D} {new : D} {step : Step} {tick : LogCall keeps states pen new step}
-    {gate' : ℕ} {homes' : Homes} {live' : ℕ} {fold' : Fold} (end : LastCall tick gate' homes' live' fold') where
+    {then : Inside D} (end : LastCall tick then) where
   abbrev frame : Frame
   frame = frame_at pen.shape pen.bytes.items
 
@@ -60,42 +61,54 @@ module _ {D : Type 0} {keeps : D → Type 0} {states : D → List State} {pen : 
   no_fold : (pen.fold.stage ≡ Filed → ⊥) → (count : ℕ) → frame ≡ kinds.Fold count → ⊥
   no_fold unfiled count at = unfiled (tick.sound.lists.filed count (in_hand ∙ ap (λ g. Some g) at)).0
 
-  module _ (bytes' : List ℕ) where
-    pub last_job : IsPen (open_count fold'.stage fold'.count) (keeps new) (states new) pen.shape gate' pen.next pen.next bytes' None pen.broken
-    last_job =
-        subst (λ n. IsPen n (keeps new) (states new) pen.shape gate' pen.next pen.next bytes' None pen.broken) (open_ended pen.fold fold' end.ended end.same)
-        (pen_same (done_job tick end.call gate' end.moved end.last) refl bytes')
+  last_job : IsPen (open_count then.fold.stage then.fold.count) (keeps new) (states new) pen.shape then.gate pen.next pen.next then.bytes.items None pen.broken
+  last_job =
+      subst (λ n. IsPen n (keeps new) (states new) pen.shape then.gate pen.next pen.next then.bytes.items None pen.broken) (open_ended pen.fold then.fold end.ended end.same)
+      (pen_same (done_job tick end.call then.gate end.moved end.last) refl then.bytes.items)
 
-    pub last_lists : IsListed (keeps new) (states new) pen.shape gate' pen.next bytes' None homes' live' fold'
-    last_lists =
-        let further = gate_moved tick end.call gate' end.moved end.last in
-        let more = more_frames tick end.call gate' end.moved end.last in
-        let made : IsListed (keeps new) (states new) pen.shape gate' pen.next pen.bytes.items None homes' live' fold' = elim (is_filed pen.fold.stage) [
-          | inl filed ↦ listed_folded tick.sound.lists step tick.is pen.next tick.sound.job.job (keeps new) (states new) gate' homes' live'
-              tick.sound.job.folded_counted further tick.back more end.turn end.each end.all fold' filed (folds filed) (end.ended ∙ ap stage_ended filed)
-              (end.left ∙ ap (λ stage. live_after stage pen.fold.runs pen.homes.live.items) filed)
-          | inr unfiled ↦ subst (λ f. IsListed (keeps new) (states new) pen.shape gate' pen.next pen.bytes.items None homes' live' f) (sym (end.same unfiled))
-              (listed_done tick.sound.lists step tick.is pen.next tick.sound.job.job (keeps new) (states new) gate' homes' live'
-              tick.sound.job.folded_counted further tick.back more end.turn end.each end.all unfiled
-              (λ held. (room_of pen.shape pen.gate pen.tally pen.bytes.items pen.step pen.fold pen.fold.stage tick.sound.fold.counts held unfiled).upto)
-              (end.left ∙ live_kept pen.fold.stage pen.fold.runs pen.homes.live.items unfiled))
-        ] in
-        listed_same made refl bytes' homes' refl refl
+  last_lists : IsListed (keeps new) (states new) pen.shape then.gate pen.next then.bytes.items None then.homes then.live then.fold
+  last_lists =
+      let further = gate_moved tick end.call then.gate end.moved end.last in
+      let more = more_frames tick end.call then.gate end.moved end.last in
+      let made : IsListed (keeps new) (states new) pen.shape then.gate pen.next pen.bytes.items None then.homes then.live then.fold = elim (is_filed pen.fold.stage) [
+        | inl filed ↦ listed_folded tick.sound.lists step tick.is pen.next tick.sound.job.job (keeps new) (states new) then.gate then.homes then.live
+            tick.sound.job.folded_counted further tick.back more end.turn end.each end.all then.fold filed (folds filed) (end.ended ∙ ap stage_ended filed)
+            (end.left ∙ ap (λ stage. live_after stage pen.fold.runs pen.homes.live.items) filed)
+        | inr unfiled ↦ subst (λ f. IsListed (keeps new) (states new) pen.shape then.gate pen.next pen.bytes.items None then.homes then.live f) (sym (end.same unfiled))
+            (listed_done tick.sound.lists step tick.is pen.next tick.sound.job.job (keeps new) (states new) then.gate then.homes then.live
+            tick.sound.job.folded_counted further tick.back more end.turn end.each end.all unfiled
+            (λ held. (room_of pen.shape pen.gate pen.tally pen.bytes.items pen.step pen.fold pen.fold.stage tick.sound.fold.counts held unfiled).upto)
+            (end.left ∙ live_kept pen.fold.stage pen.fold.runs pen.homes.live.items unfiled))
+      ] in
+      listed_same made refl then.bytes.items then.homes refl refl
 
-    pub last_fold : IsFold (keeps new) (states new) pen.shape gate' pen.next bytes' None pen.broken fold'
-    last_fold = elim (is_filed pen.fold.stage) [
-      | inl filed ↦ no_fold_at (keeps new) (states new) pen.shape gate' pen.next bytes' None pen.broken fold' (end.ended ∙ ap stage_ended filed)
-      | inr unfiled ↦ (
-          let done : IsFold (keeps new) (states new) pen.shape gate' pen.next pen.bytes.items None pen.broken pen.fold =
-          fold_done tick.sound.fold tick.back (states new) gate' step tick.is pen.next job.may_follow job.next_is
-          (end.moved ∙ ap (λ b. pen.gate + (length b - 1)) tick.value) unfiled (no_fold unfiled)
-          (after_frame pen.shape.width (vector_before pen.shape pen.gate (bytes_of (states pen.disk))) frame)
-          (tally_now tick) (holds_now tick end.call gate' end.moved end.last) (holds_next tick end.call gate' end.moved end.last)
-          (settles_now tick end.call gate' end.moved end.last) (more_frames tick end.call gate' end.moved end.last)
-          (vector_then tick end.call gate' end.moved end.last) in
-          subst (λ f. IsFold (keeps new) (states new) pen.shape gate' pen.next bytes' None pen.broken f) (sym (end.same unfiled))
-          (fold_same done refl bytes'))
-    ]
+  last_fold : IsFold (keeps new) (states new) pen.shape then.gate pen.next then.bytes.items None pen.broken then.fold
+  last_fold = elim (is_filed pen.fold.stage) [
+    | inl filed ↦ no_fold_at (keeps new) (states new) pen.shape then.gate pen.next then.bytes.items None pen.broken then.fold (end.ended ∙ ap stage_ended filed)
+    | inr unfiled ↦ (
+        let done : IsFold (keeps new) (states new) pen.shape then.gate pen.next pen.bytes.items None pen.broken pen.fold =
+        fold_done tick.sound.fold tick.back (states new) then.gate step tick.is pen.next job.may_follow job.next_is
+        (end.moved ∙ ap (λ b. pen.gate + (length b - 1)) tick.value) unfiled (no_fold unfiled)
+        (after_frame pen.shape.width (vector_before pen.shape pen.gate (bytes_of (states pen.disk))) frame)
+        (tally_now tick) (holds_now tick end.call then.gate end.moved end.last) (holds_next tick end.call then.gate end.moved end.last)
+        (settles_now tick end.call then.gate end.moved end.last) (more_frames tick end.call then.gate end.moved end.last)
+        (vector_then tick end.call then.gate end.moved end.last) in
+        subst (λ f. IsFold (keeps new) (states new) pen.shape then.gate pen.next then.bytes.items None pen.broken f) (sym (end.same unfiled))
+        (fold_same done refl then.bytes.items))
+  ]
+
+  -- the job is done
+  pub log_last : IsSound keeps states (record pen {
+    disk = new;
+    gate = then.gate;
+    tally = pen.next;
+    bytes = then.bytes;
+    step = None;
+    homes = then.homes;
+    live = then.live;
+    fold = then.fold;
+  })
+  log_last = record { job = last_job; lists = last_lists; fold = last_fold }
 
   behind : (f : Frame) → ((count : ℕ) → f ≡ kinds.Fold count → ⊥) → (seen : Option FoldOf) → fold_behind f seen ≡ seen
   behind (Group lengths bytes) other seen = refl
@@ -103,12 +116,12 @@ module _ {D : Type 0} {keeps : D → Type 0} {states : D → List State} {pen : 
   behind (Shrink n) other seen = refl
   behind (kinds.Fold count) other seen = absurd (other count refl)
 
-  pub fold_seen : fold_of fold' ≡ fold_behind frame (fold_of pen.fold)
+  pub fold_seen : fold_of then.fold ≡ fold_behind frame (fold_of pen.fold)
   fold_seen = elim (is_filed pen.fold.stage) [
-    | inl filed ↦ no_fold_seen fold' (end.ended ∙ ap stage_ended filed) ∙ sym (ap (λ f. fold_behind f (fold_of pen.fold)) (folds filed))
+    | inl filed ↦ no_fold_seen then.fold (end.ended ∙ ap stage_ended filed) ∙ sym (ap (λ f. fold_behind f (fold_of pen.fold)) (folds filed))
     | inr unfiled ↦ ap fold_of (end.same unfiled) ∙ sym (behind frame (no_fold unfiled) (fold_of pen.fold))
   ]
 
-  -- a job whose frame is no fold's leaves the fold
+  -- a job whose frame is no then.folds leaves the fold
   pub other_unfiled : ((count : ℕ) → frame ≡ kinds.Fold count → ⊥) → pen.fold.stage ≡ Filed → ⊥
   other_unfiled other filed = other pen.fold.count (folds filed)

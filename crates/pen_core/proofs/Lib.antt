@@ -18,6 +18,7 @@ pub mod LogCall
 pub mod LastTick
 pub mod FoldSeen
 pub mod HomeTick
+pub mod HomeCall
 pub mod Filed
 pub mod BeingFolded
 pub mod Begun

@@ -1,15 +1,14 @@
 -- Each exit that makes a call builds what its tick knows, and cites one lemma for each clause.
-use Rattle.std.proofs.Common.{◌+◌, ◌-◌, true, Some, None, inr, refl, sym, ap, ◌∙◌}
+use Rattle.std.proofs.Common.{◌≡◌, ◌+◌, ◌-◌, length, inr, refl, sym, ap, ◌∙◌}
 use Rattle.std.specs.Prelude.{vec_len, vec_capacity}
 use Rattle.pen_core.specs.declared.fault.PenFault.TheVariants.{Disk}
-use Rattle.segment_core.specs.declared.found.Homes.{Homes}
 use Rattle.pen_core.specs.Vectors.{frame_at}
 use Rattle.pen_core.specs.Inside.{job_of}
 use Rattle.pen_core.specs.InHand.{live_after}
-use Rattle.pen_core.proofs.Whole.{pen_kept, sound_kept, sound_idle, last_step}
+use Rattle.pen_core.proofs.Whole.{sound_kept, sound_idle, last_step}
 use Rattle.pen_core.proofs.Listed.{homes_in_turn}
 use Rattle.pen_core.proofs.LogCall.{log_call, log_leaves, log_broken, broken_file, log_next, next_file, counts_after, gate_moved, more_frames, vector_then}
-use Rattle.pen_core.proofs.LastTick.{LastCall, last_job, last_lists, last_fold, fold_seen, other_unfiled}
+use Rattle.pen_core.proofs.LastTick.{LastCall, log_last, fold_seen, other_unfiled}
 use Rattle.pen_core.proofs.pen.Pen.tick_log.Goals as goal
 
 -- ---- no call
@@ -125,8 +124,14 @@ invariant_of-self-in-None g c =
     let s = c.self.inside in
     let tick =
     log_call c.self.invariant c.if-self.false c.in-Some.is c.deref.ensures.value c.call.ensures.model g.met.D.Disk.reads_an_image in
-    let homes : Homes = record { homes = c.cut.new.self.homes; live = c.end.new.live } in
-    let end : LastCall tick (s.gate + (c.len.result - 1)) homes c.len-self-inside.result c.end.new.self = record {
+    let end : LastCall tick (record s {
+      disk = c.call.new.disk;
+      gate = s.gate + (c.len.result - 1);
+      bytes = c.end.new.bytes;
+      homes = record { homes = c.cut.new.self.homes; live = c.end.new.live };
+      live = c.len-self-inside.result;
+      fold = c.end.new.self;
+    }) = record {
       call = c.in_default-call.ensures.done;
       moved = ap (λ n. s.gate + (n - 1)) (c.len.ensures ∙ sym c.deref.ensures.len);
       last = sym c.next.ensures ∙ c.in-None.is;
@@ -137,8 +142,7 @@ invariant_of-self-in-None g c =
       left = c.end.ensures.live ∙ ap (λ live. live_after s.fold.stage s.fold.runs live.items) c.cut.ensures.live;
       same = λ unfiled. (c.end.ensures.same unfiled).0;
     } in
-    let bytes = c.end.new.bytes.items in
-    record { job = last_job end bytes; lists = last_lists end bytes; fold = last_fold end bytes }
+    log_last end
 
 pub returns-in-None-clause-images : goal.returns-in-None-clause-images
 returns-in-None-clause-images g c =
@@ -147,33 +151,21 @@ returns-in-None-clause-images g c =
     rw (← c.self.view_is) (log_leaves tick c.call.result c.call.ensures.done c.call.ensures.failed)
 
 pub returns-in-None-clause-kept : goal.returns-in-None-clause-kept
-returns-in-None-clause-kept g c =
-    let s = c.self.inside in
-    let tick =
-    log_call c.self.invariant c.if-self.false c.in-Some.is c.deref.ensures.value c.call.ensures.model g.met.D.Disk.reads_an_image in
-    let homes : Homes = record { homes = c.cut.new.self.homes; live = c.end.new.live } in
-    let end : LastCall tick (s.gate + (c.len.result - 1)) homes c.len-self-inside.result c.end.new.self = record {
-      call = c.in_default-call.ensures.done;
-      moved = ap (λ n. s.gate + (n - 1)) (c.len.ensures ∙ sym c.deref.ensures.len);
-      last = sym c.next.ensures ∙ c.in-None.is;
-      turn = c.cut.ensures.in_turn;
-      each = c.cut.ensures.each;
-      all = c.len-self-inside.ensures ∙ c.end.new.live.ok.0;
-      ended = c.end.ensures.stage;
-      left = c.end.ensures.live ∙ ap (λ live. live_after s.fold.stage s.fold.runs live.items) c.cut.ensures.live;
-      same = λ unfiled. (c.end.ensures.same unfiled).0;
-    } in
-    λ model. pen_kept c.end.new.self (g.D.Disk.keeps c.call.new.disk) (g.D.Disk.states c.call.new.disk) s.shape
-    (s.gate + (c.len.result - 1)) s.next s.next c.end.new.bytes.items None s.broken (last_job end c.end.new.bytes.items)
-    model c.call.new.disk (vec_capacity c.end.new.bytes)
+returns-in-None-clause-kept g c = sound_kept (invariant_of-self-in-None g c)
 
 pub returns-in-None-clause-ticked : goal.returns-in-None-clause-ticked
 returns-in-None-clause-ticked g c = rw (← c.self.view_is) (
     let s = c.self.inside in
     let tick =
     log_call c.self.invariant c.if-self.false c.in-Some.is c.deref.ensures.value c.call.ensures.model g.met.D.Disk.reads_an_image in
-    let homes : Homes = record { homes = c.cut.new.self.homes; live = c.end.new.live } in
-    let end : LastCall tick (s.gate + (c.len.result - 1)) homes c.len-self-inside.result c.end.new.self = record {
+    let end : LastCall tick (record s {
+      disk = c.call.new.disk;
+      gate = s.gate + (c.len.result - 1);
+      bytes = c.end.new.bytes;
+      homes = record { homes = c.cut.new.self.homes; live = c.end.new.live };
+      live = c.len-self-inside.result;
+      fold = c.end.new.self;
+    }) = record {
       call = c.in_default-call.ensures.done;
       moved = ap (λ n. s.gate + (n - 1)) (c.len.ensures ∙ sym c.deref.ensures.len);
       last = sym c.next.ensures ∙ c.in-None.is;
@@ -193,7 +185,9 @@ returns-in-None-clause-ticked g c = rw (← c.self.view_is) (
         tally_is = counts_after tick;
         gate_is = gate_moved tick end.call (s.gate + (c.len.result - 1)) end.moved end.last;
         room_same = λ other. ap (λ bytes. vec_capacity bytes) (c.end.ensures.same (other_unfiled end other)).2;
-        places_same = λ other. ap (λ live. vec_capacity live - vec_len live) ((c.end.ensures.same (other_unfiled end other)).1 ∙ c.cut.ensures.live);
+        places_same = λ other.
+            ap (λ live. vec_capacity live - vec_len live)
+            ((c.end.ensures.same (other_unfiled end other)).1 ∙ c.cut.ensures.live);
         job_done = refl;
       },
     ))
@@ -203,19 +197,10 @@ returns-in-None-clause-file g c =
     let s = c.self.inside in
     let tick =
     log_call c.self.invariant c.if-self.false c.in-Some.is c.deref.ensures.value c.call.ensures.model g.met.D.Disk.reads_an_image in
-    let homes : Homes = record { homes = c.cut.new.self.homes; live = c.end.new.live } in
-    let end : LastCall tick (s.gate + (c.len.result - 1)) homes c.len-self-inside.result c.end.new.self = record {
-      call = c.in_default-call.ensures.done;
-      moved = ap (λ n. s.gate + (n - 1)) (c.len.ensures ∙ sym c.deref.ensures.len);
-      last = sym c.next.ensures ∙ c.in-None.is;
-      turn = c.cut.ensures.in_turn;
-      each = c.cut.ensures.each;
-      all = c.len-self-inside.ensures ∙ c.end.new.live.ok.0;
-      ended = c.end.ensures.stage;
-      left = c.end.ensures.live ∙ ap (λ live. live_after s.fold.stage s.fold.runs live.items) c.cut.ensures.live;
-      same = λ unfiled. (c.end.ensures.same unfiled).0;
-    } in
+    let gate = s.gate + (c.len.result - 1) in
+    let moved : gate ≡ s.gate + (length c.deref.result.now - 1) = ap (λ n. s.gate + (n - 1)) (c.len.ensures ∙ sym c.deref.ensures.len) in
+    let last = sym c.next.ensures ∙ c.in-None.is in
     rw (← c.self.view_is) (rw c.in-Some.is (λ model. record {
-      frames_more = more_frames tick end.call (s.gate + (c.len.result - 1)) end.moved end.last model;
-      vector_is = vector_then tick end.call (s.gate + (c.len.result - 1)) end.moved end.last model;
+      frames_more = more_frames tick c.in_default-call.ensures.done gate moved last model;
+      vector_is = vector_then tick c.in_default-call.ensures.done gate moved last model;
     }))
