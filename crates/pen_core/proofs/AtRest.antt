@@ -46,7 +46,8 @@ pen_same {count} {keeps} {states} {shape} {gate} {tally} {next} {bytes} {o} {bro
 
 -- the invariant
 pub at_rest : {D : Type 0} {keeps : D → Type 0} {states : D → List State} {pen : Inside D} → IsSound keeps states pen
-    → (bytes' : List ℕ) (homes' : Homes) → pen.step ≡ None → homes'.homes.items ≡ pen.homes.homes.items → homes'.live.items ≡ pen.homes.live.items
+    → (bytes' : List ℕ) (homes' : Homes) → pen.step ≡ None → homes'.homes.items ≡ pen.homes.homes.items
+    → homes'.live.items ≡ pen.homes.live.items
     → IsPen (count_open pen) (keeps pen.disk) (states pen.disk) pen.shape pen.gate pen.tally pen.next bytes' pen.step pen.broken
     × IsListed (keeps pen.disk) (states pen.disk) pen.shape pen.gate pen.tally bytes' pen.step homes' pen.live pen.fold
     × IsFold (keeps pen.disk) (states pen.disk) pen.shape pen.gate pen.tally bytes' pen.step pen.broken pen.fold
@@ -84,11 +85,17 @@ module _ (fold fold' : Fold) (none : fold_of fold ≡ None) (same : fold'.stage 
   unfolded_seen = no_fold_seen fold' none' ∙ sym none
 
   -- the invariant
-  pub unfolded_rest : (keeps : Type 0) (states : List State) (shape : Shape) (gate : ℕ) (tally next : Tally) (bytes : List ℕ) (o : Option Step) (broken : Bool) (homes : Homes) (live : ℕ)
-      → IsPen (open_count fold.stage fold.count) keeps states shape gate tally next bytes o broken → IsListed keeps states shape gate tally bytes o homes live fold
-      → IsPen (open_count fold'.stage fold'.count) keeps states shape gate tally next bytes o broken × IsListed keeps states shape gate tally bytes o homes live fold' × IsFold keeps states shape gate tally bytes o broken fold'
+  pub unfolded_rest : (keeps : Type 0) (states : List State) (shape : Shape) (gate : ℕ) (tally next : Tally) (bytes : List ℕ)
+      (o : Option Step) (broken : Bool) (homes : Homes) (live : ℕ)
+      → IsPen (open_count fold.stage fold.count) keeps states shape gate tally next bytes o broken
+      → IsListed keeps states shape gate tally bytes o homes live fold
+      → IsPen (open_count fold'.stage fold'.count) keeps states shape gate tally next bytes o broken
+      × IsListed keeps states shape gate tally bytes o homes live fold'
+      × IsFold keeps states shape gate tally bytes o broken fold'
   unfolded_rest keeps states shape gate tally next bytes o broken homes live pen listed = (
-    pen_unfolded keeps states shape gate tally next bytes o broken fold' none' (subst (λ stage. IsPen (open_count stage fold.count) keeps states shape gate tally next bytes o broken) (unfolded fold none) pen),
+    pen_unfolded keeps states shape gate tally next bytes o broken fold' none'
+        (subst (λ stage. IsPen (open_count stage fold.count) keeps states shape gate tally next bytes o broken)
+            (unfolded fold none) pen),
     record {
       frames = listed.frames;
       legal = listed.legal;

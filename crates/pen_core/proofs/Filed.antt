@@ -100,33 +100,51 @@ module _ {D : Type 0} {keeps : D → Type 0} {states : D → List State} {pen th
       let high = le-ltb pen.tally.changes pen.fold.count (omega arith) in
       record { ordered = refl; inside = refl; folded = refl; counted = both low high; short = refl }
     where
-      both : nat_lt pen.fold.count pen.tally.folded ≡ false → nat_lt pen.tally.changes pen.fold.count ≡ false → is_miscounted pen.tally (kinds.Fold pen.fold.count) ≡ false
+      both : nat_lt pen.fold.count pen.tally.folded ≡ false → nat_lt pen.tally.changes pen.fold.count ≡ false
+          → is_miscounted pen.tally (kinds.Fold pen.fold.count) ≡ false
       both low high = cc
 
   pub filed_frame : frame_at pen.shape then.bytes.items ≡ f
   filed_frame = ap (frame_at pen.shape) spelled ∙ frame_at-text pen.shape f (0 ∷ []) framed
 
   knows : keeps pen.disk → Knows 0 pen.shape pen.gate pen.tally frames vector pen.bytes.items None pen.broken (now old)
-  knows model = subst (λ step. Knows 0 pen.shape pen.gate pen.tally frames vector pen.bytes.items step pen.broken (now old)) files.idle (subst (λ st. Knows (open_count st pen.fold.count) pen.shape pen.gate pen.tally frames vector pen.bytes.items pen.step pen.broken (now old)) files.ready (files.sound.job.knows model))
+  knows model =
+      subst (λ step. Knows 0 pen.shape pen.gate pen.tally frames vector pen.bytes.items step pen.broken (now old)) files.idle
+        (subst
+            (λ st.
+                Knows (open_count st pen.fold.count) pen.shape pen.gate pen.tally frames vector pen.bytes.items pen.step
+                    pen.broken (now old))
+            files.ready (files.sound.job.knows model))
 
   -- the homes are on the disk
   held : (model : keeps pen.disk) → HomesHold pen.shape.format (raw pen.shape.width) (bytes_of old) frames pen.fold.count vector
   held model =
-      let homes_are : IsFolding pen.shape pen.fold.count frames vector (left_of pen.fold) (now old) = subst (HomesAt pen.shape frames vector pen.fold (now old)) files.ready (files.sound.fold.homes model files.going) in
+      let homes_are : IsFolding pen.shape pen.fold.count frames vector (left_of pen.fold) (now old) =
+          subst (HomesAt pen.shape frames vector pen.fold (now old)) files.ready
+            (files.sound.fold.homes model files.going) in
       let none : left_of pen.fold ≡ [] = ap (map (write_of pen.fold.bytes.items)) (drop_whole pen.fold.writes.items pen.fold.done at_ready.1) in
       subst (λ left. HomesHold pen.shape.format (raw pen.shape.width) (laid left (bytes_of old)) frames pen.fold.count vector) none homes_are.homes_hold
 
-  at_body : (model : keeps pen.disk) → IsAtStep pen.shape 0 pen.gate frames (frames_with frames (frame_at pen.shape then.bytes.items)) (after_frame pen.shape.width vector (frame_at pen.shape then.bytes.items)) then.bytes.items Body (now old)
+  at_body : (model : keeps pen.disk)
+      → IsAtStep pen.shape 0 pen.gate frames (frames_with frames (frame_at pen.shape then.bytes.items))
+        (after_frame pen.shape.width vector (frame_at pen.shape then.bytes.items)) then.bytes.items Body (now old)
   at_body model =
       let k = knows model in
       let s = now old in
       let there = files.reads pen.disk model in
-      let made = body_is 0 pen.shape frames vector s f k.file.holds (omega (arith, k.file.gate_synced, there.no_shorter)) framed (subst (λ t. MayFollow t f) k.tally_is follows)
+      let made =
+      body_is 0 pen.shape frames vector s f k.file.holds (omega (arith, k.file.gate_synced, there.no_shorter)) framed
+      (subst (λ t. MayFollow t f) k.tally_is follows)
       (λ count is. subst (λ n. HomesHold pen.shape.format (raw pen.shape.width) s.seen frames n vector) (same_count count is) (held model))
       (λ j lt pending. absurd (nothing_folded pen.shape frames j (k.file.pending_is_folded j lt pending))) in
       subst (λ g. IsAtStep pen.shape 0 pen.gate frames (frames_with frames g) (after_frame pen.shape.width vector g) then.bytes.items Body s) (sym filed_frame)
       (subst (λ bs. IsAtStep pen.shape 0 pen.gate frames (frames_with frames f) (after_frame pen.shape.width vector f) bs Body s) (sym spelled)
-      (k.stands files.going, subst (λ g. IsBodyOf pen.shape 0 g frames (frames_with frames f) (after_frame pen.shape.width vector f) (body_of (frame_text pen.shape.format f ++ 0 ∷ [])) s) (sym k.gate_is) made))
+      (k.stands files.going,
+          subst
+                (λ g.
+                    IsBodyOf pen.shape 0 g frames (frames_with frames f) (after_frame pen.shape.width vector f)
+                        (body_of (frame_text pen.shape.format f ++ 0 ∷ [])) s)
+                (sym k.gate_is) made))
     where
       same_count : (count : ℕ) → kinds.Fold pen.fold.count ≡ kinds.Fold count → pen.fold.count ≡ count
       same_count count is = cc
@@ -135,7 +153,12 @@ module _ {D : Type 0} {keeps : D → Type 0} {states : D → List State} {pen th
   room = subst (λ g. g + 14 < 2 ^ 48) (ap (gate_then pen.gate pen.bytes.items) files.idle) waiting.room
 
   filed_job : IsPen (open_count then.fold.stage then.fold.count) (keeps pen.disk) old pen.shape pen.gate pen.tally next' then.bytes.items (Some Body) pen.broken
-  filed_job = subst (λ st. IsPen (open_count st then.fold.count) (keeps pen.disk) old pen.shape pen.gate pen.tally next' then.bytes.items (Some Body) pen.broken) (sym files.filed) (record {
+  filed_job =
+      subst
+        (λ st.
+            IsPen (open_count st then.fold.count) (keeps pen.disk) old pen.shape pen.gate pen.tally next' then.bytes.items
+                (Some Body) pen.broken)
+        (sym files.filed) (record {
     wide = files.sound.job.wide;
     gate_fits = files.sound.job.gate_fits;
     size_fits = files.sound.job.size_fits;
@@ -148,27 +171,50 @@ module _ {D : Type 0} {keeps : D → Type 0} {states : D → List State} {pen th
       next_is = subst (λ g. next' ≡ after pen.tally g) (sym filed_frame) refl;
       fits = let all = ap length spelled ∙ length-append (frame_text pen.shape.format f) (0 ∷ []) in let below = room in omega arith;
     };
-    knows = λ model. let k = knows model in knows_at pen.shape pen.gate pen.tally frames vector then.bytes.items (now old) k.gate_is k.tally_is Body pen.broken k.file (at_body model) (files.reads pen.disk model);
+    knows =
+        λ model. let k = knows model in
+        knows_at pen.shape pen.gate pen.tally frames vector then.bytes.items (now old) k.gate_is k.tally_is Body pen.broken
+          k.file (at_body model) (files.reads pen.disk model);
   })
 
   filed_fold : IsFold (keeps pen.disk) old pen.shape pen.gate pen.tally then.bytes.items (Some Body) pen.broken then.fold
   filed_fold = record {
-    counts = subst (IsAtStage pen.shape pen.gate pen.tally then.bytes.items (Some Body) then.fold) (sym files.filed) (ap (λ g. Some g) filed_frame ∙ ap (λ n. Some (kinds.Fold n)) (sym files.count_same), files.done_same ∙ at_ready.1 ∙ sym (ap (λ ws. length ws.items) files.writes_same));
+    counts =
+        subst (IsAtStage pen.shape pen.gate pen.tally then.bytes.items (Some Body) then.fold) (sym files.filed)
+          (ap (λ g. Some g) filed_frame ∙ ap (λ n. Some (kinds.Fold n)) (sym files.count_same),
+              files.done_same ∙ at_ready.1 ∙ sym (ap (λ ws. length ws.items) files.writes_same));
     homes = λ model whole'. subst (HomesAt pen.shape frames vector then.fold (now old)) (sym files.filed) tt;
   }
 
   filed_lists : IsListed (keeps pen.disk) old pen.shape pen.gate pen.tally then.bytes.items (Some Body) pen.homes pen.live then.fold
   filed_lists =
       let ahead : Some f ≡ frame_in_hand pen.shape then.bytes.items (Some Body) = sym (ap (λ g. Some g) filed_frame) in
-      let rests : Lists pen.shape files.sound.lists.frames None pen.homes pen.live = subst (λ step. Lists pen.shape files.sound.lists.frames (frame_in_hand pen.shape pen.bytes.items step) pen.homes pen.live) files.idle files.sound.lists.lists in
+      let rests : Lists pen.shape files.sound.lists.frames None pen.homes pen.live =
+          subst
+            (λ step.
+                Lists pen.shape files.sound.lists.frames (frame_in_hand pen.shape pen.bytes.items step) pen.homes pen.live)
+            files.idle files.sound.lists.lists in
       record {
         frames = files.sound.lists.frames;
         legal = files.sound.lists.legal;
         gate_is = files.sound.lists.gate_is;
         tally_is = files.sound.lists.tally_is;
-        lists = subst (λ g. Lists pen.shape files.sound.lists.frames g pen.homes pen.live) ahead (record { told = rests.told; are_homes = rests.are_homes; homes_are = rests.homes_are; live_is = rests.live_is; counted = rests.counted });
+        lists =
+            subst (λ g. Lists pen.shape files.sound.lists.frames g pen.homes pen.live) ahead
+              (record
+                  {
+                    told = rests.told;
+                    are_homes = rests.are_homes;
+                    homes_are = rests.homes_are;
+                    live_is = rests.live_is;
+                    counted = rests.counted;
+                  });
         filed = λ count is. (files.filed, same_count count (ahead ∙ is) ∙ sym files.count_same);
-        runs_are = λ held. files.runs_same ∙ files.sound.lists.runs_are (subst IsInHand (sym files.ready) tt) ∙ ap (λ n. length (flat_map pairs_of (take (n - pen.tally.folded) (live_of pen.shape files.sound.lists.frames)))) (sym files.count_same);
+        runs_are =
+            λ held. files.runs_same ∙ files.sound.lists.runs_are (subst IsInHand (sym files.ready) tt)
+              ∙ ap
+                (λ n. length (flat_map pairs_of (take (n - pen.tally.folded) (live_of pen.shape files.sound.lists.frames))))
+                (sym files.count_same);
         same = files.sound.lists.same;
       }
     where

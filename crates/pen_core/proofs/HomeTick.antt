@@ -41,7 +41,8 @@ use Rattle.pen_core.proofs.FoldSeen.{rest_of, left_next}
 
 -- ---- what is known of the disk
 
-module _ (count : ℕ) (shape : Shape) (gate : ℕ) (tally : Tally) (frames : List Frame) (vector : List (List ℕ)) (bytes : List ℕ) (s : State) (readable : IsImage s s.seen) where
+module _ (count : ℕ) (shape : Shape) (gate : ℕ) (tally : Tally) (frames : List Frame) (vector : List (List ℕ))
+    (bytes : List ℕ) (s : State) (readable : IsImage s s.seen) where
   abbrev following : List Frame
   following = frames_with frames (frame_at shape bytes)
 
@@ -54,32 +55,51 @@ module _ (count : ℕ) (shape : Shape) (gate : ℕ) (tally : Tally) (frames : Li
   shut : {n : ℕ} (broken : Bool) → KnowsAs n None broken s → broken ≡ false → IsShut (gate_of shape frames) s
   shut broken k whole = subst (λ g. IsShut g s) k.gate_is (k.stands whole)
 
-  at_step : {n : ℕ} (step : Step) (broken : Bool) → KnowsAs n (Some step) broken s → broken ≡ false → IsAtStep shape n (gate_of shape frames) frames following then bytes step s
+  at_step : {n : ℕ} (step : Step) (broken : Bool) → KnowsAs n (Some step) broken s → broken ≡ false
+      → IsAtStep shape n (gate_of shape frames) frames following then bytes step s
   at_step {n} step broken k whole = subst (λ g. IsAtStep shape n g frames following then bytes step s) k.gate_is (k.stands whole)
 
   -- ---- a home write
 
-  module _ (at : ℕ) (ws : List ℕ) (below : at + length ws ≤ gate_of shape frames) (folded : (j : ℕ) → at ≤ j → j < at + length ws → IsBeingFolded shape count frames j) where
+  module _ (at : ℕ) (ws : List ℕ) (below : at + length ws ≤ gate_of shape frames)
+      (folded : (j : ℕ) → at ≤ j → j < at + length ws → IsBeingFolded shape count frames j) where
     -- also once a job in hand is done
     abbrev pub Later : Option Step → Type 0
     Later None = Unit {0}
     Later (Some step) = (j : ℕ) → at ≤ j → j < at + length ws → IsBeingFolded shape count following j
 
-    pub write_images : (o : Option Step) (broken : Bool) → Later o → KnowsAs count o broken s → broken ≡ false → (image : List ℕ) → IsImage (touched s at (length ws) s.seen) image → OpensWith shape frames vector (job_of shape bytes o) image
-    write_images None broken later k whole image is = images_of_home_shut shape count frames vector s at ws k.file readable below folded (shut broken k whole) image is
-    write_images (Some step) broken later k whole image is = home_images shape count frames following vector then bytes s at ws k.file readable below folded later step (at_step step broken k whole) image is
+    pub write_images : (o : Option Step) (broken : Bool) → Later o → KnowsAs count o broken s → broken ≡ false
+        → (image : List ℕ) → IsImage (touched s at (length ws) s.seen) image
+        → OpensWith shape frames vector (job_of shape bytes o) image
+    write_images None broken later k whole image is =
+        images_of_home_shut shape count frames vector s at ws k.file readable below folded (shut broken k whole) image is
+    write_images (Some step) broken later k whole image is =
+        home_images shape count frames following vector then bytes s at ws k.file readable below folded later step
+          (at_step step broken k whole) image is
 
-    pub written_knows : (o : Option Step) (broken : Bool) → Later o → KnowsAs count o broken s → broken ≡ false → IsImage (written s at ws) (written s at ws).seen → KnowsAs count o broken (written s at ws)
+    pub written_knows : (o : Option Step) (broken : Bool) → Later o → KnowsAs count o broken s → broken ≡ false
+        → IsImage (written s at ws) (written s at ws).seen → KnowsAs count o broken (written s at ws)
     written_knows None broken later k whole readable' =
-        knows_rest shape gate tally frames vector bytes (written s at ws) k.gate_is k.tally_is broken (file_after_home shape count frames vector s at ws k.file readable below folded)
-        (subst (λ g. IsShut g (written s at ws)) (sym k.gate_is) (shut_after_home shape count frames vector s at ws k.file readable below folded (shut broken k whole))) readable'
+        knows_rest shape gate tally frames vector bytes (written s at ws) k.gate_is k.tally_is broken
+        (file_after_home shape count frames vector s at ws k.file readable below folded)
+        (subst (λ g. IsShut g (written s at ws)) (sym k.gate_is)
+          (shut_after_home shape count frames vector s at ws k.file readable below folded (shut broken k whole)))
+        readable'
     written_knows (Some step) broken later k whole readable' =
-        knows_at shape gate tally frames vector bytes (written s at ws) k.gate_is k.tally_is step broken (file_after_home shape count frames vector s at ws k.file readable below folded)
-        (subst (λ g. IsAtStep shape count g frames following then bytes step (written s at ws)) (sym k.gate_is) (step_after_home shape count frames following vector then bytes s at ws k.file readable below folded later step (at_step step broken k whole))) readable'
+        knows_at shape gate tally frames vector bytes (written s at ws) k.gate_is k.tally_is step broken
+        (file_after_home shape count frames vector s at ws k.file readable below folded)
+        (subst (λ g. IsAtStep shape count g frames following then bytes step (written s at ws)) (sym k.gate_is)
+          (step_after_home shape count frames following vector then bytes s at ws k.file readable below folded later step
+                (at_step step broken k whole)))
+        readable'
 
-    torn_file : IsFileOf shape count frames vector s → (left : State) → IsTornWrite at (length ws) s left → IsImage left left.seen → IsFileOf shape count frames vector left
+    torn_file : IsFileOf shape count frames vector s → (left : State) → IsTornWrite at (length ws) s left
+        → IsImage left left.seen → IsFileOf shape count frames vector left
     torn_file file left torn readable' = record {
-      holds = image_holds shape count frames vector (touched s at (length ws) s.seen) (IsFileOf-touched shape count frames vector s at (length ws) s.seen file file.holds (λ j lt from upto. folded j from upto))
+      holds =
+          image_holds shape count frames vector (touched s at (length ws) s.seen)
+            (IsFileOf-touched shape count frames vector s at (length ws) s.seen file file.holds
+                (λ j lt from upto. folded j from upto))
           (touched_more s at (length ws) s.seen s.seen readable) left.seen (torn_images at (length ws) s left s.seen left.seen torn readable');
       gate_synced = subst (λ bs. gate_of shape frames < length bs) (sym torn.synced) file.gate_synced;
       pending_is_folded = λ j lt is. elim (cases_Bool (is_within s.pending j)) [
@@ -92,7 +112,8 @@ module _ (count : ℕ) (shape : Shape) (gate : ℕ) (tally : Tally) (frames : Li
     }
 
     -- it failed
-    pub torn_knows : (o : Option Step) (broken : Bool) → Later o → KnowsAs count o broken s → broken ≡ false → (left : State) → IsTornWrite at (length ws) s left → IsImage left left.seen → KnowsAs count o true left
+    pub torn_knows : (o : Option Step) (broken : Bool) → Later o → KnowsAs count o broken s → broken ≡ false → (left : State)
+        → IsTornWrite at (length ws) s left → IsImage left left.seen → KnowsAs count o true left
     torn_knows o broken later k whole left torn readable' =
         let at_gate = k.gate_is in
         record {
@@ -114,24 +135,45 @@ module _ (count : ℕ) (shape : Shape) (gate : ℕ) (tally : Tally) (frames : Li
 
   pub synced_knows : (n : ℕ) (o : Option Step) (broken : Bool) → KnowsAs n o broken s → broken ≡ false → KnowsAs 0 o broken (settled s.seen)
   synced_knows n None broken k whole =
-      knows_rest shape gate tally frames vector bytes (settled s.seen) k.gate_is k.tally_is broken (settled_file shape n frames frames vector vector bytes s.seen (file_after_sync shape n frames frames vector vector s readable k.file))
+      knows_rest shape gate tally frames vector bytes (settled s.seen) k.gate_is k.tally_is broken
+      (settled_file shape n frames frames vector vector bytes s.seen
+        (file_after_sync shape n frames frames vector vector s readable k.file))
       (shut_after_sync shape n frames frames vector vector s readable gate (k.stands whole)) (settled_image s.seen)
   synced_knows n (Some step) broken k whole =
-      knows_at shape gate tally frames vector bytes (settled s.seen) k.gate_is k.tally_is step broken (settled_file shape n frames following vector then bytes s.seen (file_after_sync shape n frames following vector then s readable k.file))
-      (subst (λ g. IsAtStep shape 0 g frames following then bytes step (settled s.seen)) (sym k.gate_is) (step_after_sync shape n frames following vector then bytes step s readable (at_step step broken k whole))) (settled_image s.seen)
+      knows_at shape gate tally frames vector bytes (settled s.seen) k.gate_is k.tally_is step broken
+      (settled_file shape n frames following vector then bytes s.seen
+        (file_after_sync shape n frames following vector then s readable k.file))
+      (subst (λ g. IsAtStep shape 0 g frames following then bytes step (settled s.seen)) (sym k.gate_is)
+        (step_after_sync shape n frames following vector then bytes step s readable (at_step step broken k whole)))
+      (settled_image s.seen)
 
   -- it failed
   pub same_knows : (n : ℕ) (o : Option Step) (broken : Bool) → KnowsAs n o broken s → KnowsAs n o true s
-  same_knows n o broken k = record { gate_is = k.gate_is; tally_is = k.tally_is; file = k.file; images_open = k.images_open; gate_pending = k.gate_pending; stands = λ none. absurd cc }
+  same_knows n o broken k =
+      record {
+        gate_is = k.gate_is;
+        tally_is = k.tally_is;
+        file = k.file;
+        images_open = k.images_open;
+        gate_pending = k.gate_pending;
+        stands = λ none. absurd cc;
+      }
 
 -- ---- on a pen's fields
 
 pub home_count : (n count : ℕ) → open_count (stage_after (Home n)) count ≡ count
-home_count n count = elim (cases_Bool (nat_lt 1 n)) [ inl more ↦ ap (λ b. open_count (cond b (Home (n - 1)) Sync) count) more | inr last ↦ ap (λ b. open_count (cond b (Home (n - 1)) Sync) count) last ]
+home_count n count =
+    elim (cases_Bool (nat_lt 1 n))
+      [
+        | inl more ↦ ap (λ b. open_count (cond b (Home (n - 1)) Sync) count) more
+        | inr last ↦ ap (λ b. open_count (cond b (Home (n - 1)) Sync) count) last
+      ]
 
 -- ---- what is asked of the call
 
-pub can_call : (shape : Shape) (gate : ℕ) (tally : Tally) (bytes : List ℕ) (o : Option Step) (fold : Fold) (stage : FoldStage) → has_call stage ≡ true → IsAtStage shape gate tally bytes o fold stage → CanCall gate fold stage
+pub can_call : (shape : Shape) (gate : ℕ) (tally : Tally) (bytes : List ℕ) (o : Option Step) (fold : Fold)
+    (stage : FoldStage)
+    → has_call stage ≡ true → IsAtStage shape gate tally bytes o fold stage → CanCall gate fold stage
 can_call shape gate tally bytes o fold stages.None calls at = absurd cc
 can_call shape gate tally bytes o fold Ready calls at = absurd cc
 can_call shape gate tally bytes o fold Filed calls at = absurd cc

@@ -30,7 +30,8 @@ use Rattle.pen_core.proofs.LogCall.{LogCall, tally_now, gate_moved, settles_now,
 
 -- What the last tick of a job knows: the call has succeeded, the homes were cut, and a fold whose frame was the job has
 -- ended.
-pub record LastCall {D : Type 0} {keeps : D → Type 0} {states : D → List State} {pen : Inside D} {new : D} {step : Step} (tick : LogCall keeps states pen new step) (then : Inside D) : Type 0 where
+pub record LastCall {D : Type 0} {keeps : D → Type 0} {states : D → List State} {pen : Inside D} {new : D} {step : Step}
+    (tick : LogCall keeps states pen new step) (then : Inside D) : Type 0 where
   pub call : keeps pen.disk → Calls step pen.gate tick.given (states pen.disk) (states new)
   pub moved : then.gate ≡ pen.gate + (length tick.given - 1)
   pub last : step_after step ≡ None
@@ -63,18 +64,23 @@ module _ {D : Type 0} {keeps : D → Type 0} {states : D → List State} {pen : 
 
   last_job : IsPen (open_count then.fold.stage then.fold.count) (keeps new) (states new) pen.shape then.gate pen.next pen.next then.bytes.items None pen.broken
   last_job =
-      subst (λ n. IsPen n (keeps new) (states new) pen.shape then.gate pen.next pen.next then.bytes.items None pen.broken) (open_ended pen.fold then.fold end.ended end.same)
+      subst (λ n. IsPen n (keeps new) (states new) pen.shape then.gate pen.next pen.next then.bytes.items None pen.broken)
+      (open_ended pen.fold then.fold end.ended end.same)
       (pen_same (done_job tick end.call then.gate end.moved end.last) refl then.bytes.items)
 
   last_lists : IsListed (keeps new) (states new) pen.shape then.gate pen.next then.bytes.items None then.homes then.live then.fold
   last_lists =
       let further = gate_moved tick end.call then.gate end.moved end.last in
       let more = more_frames tick end.call then.gate end.moved end.last in
-      let made : IsListed (keeps new) (states new) pen.shape then.gate pen.next pen.bytes.items None then.homes then.live then.fold = elim (is_filed pen.fold.stage) [
+      let made : IsListed (keeps new) (states new) pen.shape then.gate pen.next pen.bytes.items None then.homes then.live
+          then.fold =
+          elim (is_filed pen.fold.stage) [
         | inl filed ↦ listed_folded tick.sound.lists step tick.is pen.next tick.sound.job.job (keeps new) (states new) then.gate then.homes then.live
             tick.sound.job.folded_counted further tick.back more end.turn end.each end.all then.fold filed (folds filed) (end.ended ∙ ap stage_ended filed)
             (end.left ∙ ap (λ stage. live_after stage pen.fold.runs pen.homes.live.items) filed)
-        | inr unfiled ↦ subst (λ f. IsListed (keeps new) (states new) pen.shape then.gate pen.next pen.bytes.items None then.homes then.live f) (sym (end.same unfiled))
+        | inr unfiled ↦ subst
+            (λ f. IsListed (keeps new) (states new) pen.shape then.gate pen.next pen.bytes.items None then.homes then.live f)
+            (sym (end.same unfiled))
             (listed_done tick.sound.lists step tick.is pen.next tick.sound.job.job (keeps new) (states new) then.gate then.homes then.live
             tick.sound.job.folded_counted further tick.back more end.turn end.each end.all unfiled
             (λ held. (room_of pen.shape pen.gate pen.tally pen.bytes.items pen.step pen.fold pen.fold.stage tick.sound.fold.counts held unfiled).upto)
@@ -84,7 +90,8 @@ module _ {D : Type 0} {keeps : D → Type 0} {states : D → List State} {pen : 
 
   last_fold : IsFold (keeps new) (states new) pen.shape then.gate pen.next then.bytes.items None pen.broken then.fold
   last_fold = elim (is_filed pen.fold.stage) [
-    | inl filed ↦ no_fold_at (keeps new) (states new) pen.shape then.gate pen.next then.bytes.items None pen.broken then.fold (end.ended ∙ ap stage_ended filed)
+    | inl filed ↦ no_fold_at (keeps new) (states new) pen.shape then.gate pen.next then.bytes.items None pen.broken then.fold
+        (end.ended ∙ ap stage_ended filed)
     | inr unfiled ↦ (
         let done : IsFold (keeps new) (states new) pen.shape then.gate pen.next pen.bytes.items None pen.broken pen.fold =
         fold_done tick.sound.fold tick.back (states new) then.gate step tick.is pen.next job.may_follow job.next_is

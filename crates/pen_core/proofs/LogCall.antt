@@ -46,7 +46,8 @@ abbrev pub log_call : {D : Type 0} {keeps : D → Type 0} {states : D → List S
 log_call {D} {keeps} {states} {pen} {new} {step} {given} sound going is value back reads =
     record { sound = sound; going = going; is = is; given = given; value = value; back = back; reads = reads }
 
-module _ {D : Type 0} {keeps : D → Type 0} {states : D → List State} {pen : Inside D} {new : D} {step : Step} (tick : LogCall keeps states pen new step) where
+module _ {D : Type 0} {keeps : D → Type 0} {states : D → List State} {pen : Inside D} {new : D} {step : Step}
+    (tick : LogCall keeps states pen new step) where
   abbrev old : List State
   old = states pen.disk
 
@@ -99,7 +100,9 @@ module _ {D : Type 0} {keeps : D → Type 0} {states : D → List State} {pen : 
   at_gate model call = subst (λ g. Calls step g pen.bytes.items old left) (knows model).gate_is (subst (λ b. Calls step pen.gate b old left) tick.value call)
 
   fails_at_gate : (model : keeps pen.disk) → FailsSo → FailsCall step p pen.bytes.items old left
-  fails_at_gate model call = subst (λ g. FailsCall step g pen.bytes.items old left) (knows model).gate_is (subst (λ b. FailsCall step pen.gate b old left) tick.value call)
+  fails_at_gate model call =
+      subst (λ g. FailsCall step g pen.bytes.items old left) (knows model).gate_is
+        (subst (λ b. FailsCall step pen.gate b old left) tick.value call)
 
   on_ok : {T : Type 0} {A B : Type 0} (r : Result T DiskFault) → (A → B) → OnOk r A → OnOk r B
   on_ok (Ok value) f a = f a
@@ -109,11 +112,13 @@ module _ {D : Type 0} {keeps : D → Type 0} {states : D → List State} {pen : 
   on_err (Ok value) f a = tt
   on_err (Err error) f a = f a
 
-  pub log_leaves : {T : Type 0} (r : Result T DiskFault) → (keeps pen.disk → OnOk r Called) → (keeps new → OnErr r FailsSo) → keeps new → LeavesOnly old left (OpensWith pen.shape frames vector (job_of pen.shape pen.bytes.items pen.step))
+  pub log_leaves : {T : Type 0} (r : Result T DiskFault) → (keeps pen.disk → OnOk r Called) → (keeps new → OnErr r FailsSo)
+      → keeps new → LeavesOnly old left (OpensWith pen.shape frames vector (job_of pen.shape pen.bytes.items pen.step))
   log_leaves r done failed model =
       let m = tick.back model in
       subst (λ s. LeavesOnly old left (OpensWith pen.shape frames vector (job_of pen.shape pen.bytes.items s))) (sym tick.is)
-      (tick_leaves pen.shape (count_open pen) frames following vector then pen.bytes.items step old left r (knows m).file (at m) (tick.reads pen.disk m) (on_ok r (at_gate m) (done m)) (on_err r (fails_at_gate m) (failed model)))
+      (tick_leaves pen.shape (count_open pen) frames following vector then pen.bytes.items step old left r (knows m).file
+        (at m) (tick.reads pen.disk m) (on_ok r (at_gate m) (done m)) (on_err r (fails_at_gate m) (failed model)))
 
   pub tally_now : keeps pen.disk → pen.tally ≡ tally_of frames
   tally_now m = (knows m).tally_is
@@ -125,7 +130,10 @@ module _ {D : Type 0} {keeps : D → Type 0} {states : D → List State} {pen : 
   -- ---- that failed
 
   failed : (model : keeps new) → FailsSo → Failed pen.shape (count_open pen) frames following vector then pen.bytes.items step (now left)
-  failed model call = let m = tick.back model in tick_failed pen.shape (count_open pen) frames following vector then pen.bytes.items step old left (knows m).file (at m) (tick.reads pen.disk m) (tick.reads new model) (fails_at_gate m call)
+  failed model call =
+      let m = tick.back model in
+      tick_failed pen.shape (count_open pen) frames following vector then pen.bytes.items step old left (knows m).file (at m)
+        (tick.reads pen.disk m) (tick.reads new model) (fails_at_gate m call)
 
   failed_seen : (model : keeps new) → FailsSo → SeenAs pen.shape pen.gate frames vector (bytes_of left)
   failed_seen model call = seen_as pen.shape pen.gate frames vector (bytes_of left) (knows (tick.back model)).gate_is (failed model call).file.holds
@@ -141,8 +149,12 @@ module _ {D : Type 0} {keeps : D → Type 0} {states : D → List State} {pen : 
     knows = λ model. (
         let seen = failed_seen model (call model) in
         let k = knows (tick.back model) in
-        let made : KnowsAs frames vector pen.step true (now left) = subst (λ s. KnowsAs frames vector s true (now left)) (sym tick.is) (knows_broken pen.shape pen.gate pen.tally frames vector pen.bytes.items (now left) k.gate_is k.tally_is step (failed model (call model))) in
-        subst (λ fs. KnowsAs fs (vector_before pen.shape pen.gate (bytes_of left)) pen.step true (now left)) (sym seen.frames_are) (subst (λ v. KnowsAs frames v pen.step true (now left)) (sym seen.vector_is) made));
+        let made : KnowsAs frames vector pen.step true (now left) =
+            subst (λ s. KnowsAs frames vector s true (now left)) (sym tick.is)
+              (knows_broken pen.shape pen.gate pen.tally frames vector pen.bytes.items (now left) k.gate_is k.tally_is step
+                  (failed model (call model))) in
+        subst (λ fs. KnowsAs fs (vector_before pen.shape pen.gate (bytes_of left)) pen.step true (now left))
+              (sym seen.frames_are) (subst (λ v. KnowsAs frames v pen.step true (now left)) (sym seen.vector_is) made));
   }
 
   pub broken_file : (keeps new → FailsSo) → keeps new → FileStays pen.shape pen.gate old left
@@ -159,7 +171,8 @@ module _ {D : Type 0} {keeps : D → Type 0} {states : D → List State} {pen : 
   -- ---- that succeeded
 
   module _ (call : keeps pen.disk → Called) where
-    went_on : (behind : Step) → step_after step ≡ Some behind → keeps new → StandsAt pen.shape (count_open pen) frames following vector then pen.bytes.items behind (now left)
+    went_on : (behind : Step) → step_after step ≡ Some behind → keeps new
+        → StandsAt pen.shape (count_open pen) frames following vector then pen.bytes.items behind (now left)
     went_on behind after_it model =
         let m = tick.back model in
         tick_next pen.shape (count_open pen) frames following vector then pen.bytes.items step old left
@@ -171,9 +184,14 @@ module _ {D : Type 0} {keeps : D → Type 0} {states : D → List State} {pen : 
 
     -- below the gate no byte changes
     pub bytes_alike : keeps new → LaidAlike p (bytes_of old) (bytes_of left)
-    bytes_alike model = let m = tick.back model in calls_alike step p pen.bytes.items old left (omega (arith, (knows m).file.gate_synced, (tick.reads pen.disk m).no_shorter)) (at_gate m (call m))
+    bytes_alike model =
+        let m = tick.back model in
+        calls_alike step p pen.bytes.items old left
+          (omega (arith, (knows m).file.gate_synced, (tick.reads pen.disk m).no_shorter)) (at_gate m (call m))
 
-    next_job : (behind : Step) → step_after step ≡ Some behind → IsPen (count_open pen) (keeps new) left pen.shape pen.gate pen.tally pen.next pen.bytes.items (Some behind) pen.broken
+    next_job : (behind : Step) → step_after step ≡ Some behind
+        → IsPen (count_open pen) (keeps new) left pen.shape pen.gate pen.tally pen.next pen.bytes.items (Some behind)
+          pen.broken
     next_job behind after_it = record {
       wide = tick.sound.job.wide;
       gate_fits = tick.sound.job.gate_fits;
@@ -187,8 +205,12 @@ module _ {D : Type 0} {keeps : D → Type 0} {states : D → List State} {pen : 
           let seen = next_seen behind after_it model in
           let stands = went_on behind after_it model in
           let at' : At pen.gate behind (now left) = subst (λ g. At g behind (now left)) (sym k.gate_is) stands.at in
-          let made : KnowsAs frames vector (Some behind) pen.broken (now left) = knows_at pen.shape pen.gate pen.tally frames vector pen.bytes.items (now left) k.gate_is k.tally_is behind pen.broken stands.file at' (tick.reads new model) in
-          subst (λ fs. KnowsAs fs (vector_before pen.shape pen.gate (bytes_of left)) (Some behind) pen.broken (now left)) (sym seen.frames_are) (subst (λ v. KnowsAs frames v (Some behind) pen.broken (now left)) (sym seen.vector_is) made));
+          let made : KnowsAs frames vector (Some behind) pen.broken (now left) =
+              knows_at pen.shape pen.gate pen.tally frames vector pen.bytes.items (now left) k.gate_is k.tally_is behind
+                pen.broken stands.file at' (tick.reads new model) in
+          subst (λ fs. KnowsAs fs (vector_before pen.shape pen.gate (bytes_of left)) (Some behind) pen.broken (now left))
+                (sym seen.frames_are)
+                (subst (λ v. KnowsAs frames v (Some behind) pen.broken (now left)) (sym seen.vector_is) made));
     }
 
     pub next_file : (behind : Step) → step_after step ≡ Some behind → keeps new → FileStays pen.shape pen.gate old left
@@ -265,6 +287,19 @@ module _ {D : Type 0} {keeps : D → Type 0} {states : D → List State} {pen : 
                 let seen = done_seen model in
                 let done = ended model in
                 let tally_is : pen.next ≡ tally_of following = counted ∙ ap (λ t. after t frame) k.tally_is ∙ sym (tally_with frames frame) in
-                let made : Knows (count_open pen) pen.shape gate' pen.next following then pen.bytes.items None pen.broken (now left) = knows_rest pen.shape gate' pen.next following then pen.bytes.items (now left) (next_gate m) tally_is pen.broken done.0 (subst (λ g. IsShut g (now left)) (sym (next_gate m)) done.1) (tick.reads new model) in
-                subst (λ fs. Knows (count_open pen) pen.shape gate' pen.next fs (vector_before pen.shape gate' (bytes_of left)) pen.bytes.items None pen.broken (now left)) (sym seen.frames_are) (subst (λ v. Knows (count_open pen) pen.shape gate' pen.next following v pen.bytes.items None pen.broken (now left)) (sym seen.vector_is) made));
+                let made : Knows (count_open pen) pen.shape gate' pen.next following then pen.bytes.items None pen.broken
+                    (now left) =
+                    knows_rest pen.shape gate' pen.next following then pen.bytes.items (now left) (next_gate m) tally_is
+                      pen.broken done.0 (subst (λ g. IsShut g (now left)) (sym (next_gate m)) done.1)
+                      (tick.reads new model) in
+                subst
+                      (λ fs.
+                          Knows (count_open pen) pen.shape gate' pen.next fs (vector_before pen.shape gate' (bytes_of left))
+                              pen.bytes.items None pen.broken (now left))
+                      (sym seen.frames_are)
+                      (subst
+                            (λ v.
+                                Knows (count_open pen) pen.shape gate' pen.next following v pen.bytes.items None pen.broken
+                                    (now left))
+                            (sym seen.vector_is) made));
           }

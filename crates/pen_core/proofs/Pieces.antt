@@ -38,12 +38,16 @@ IsBytes-append front behind first then i = elim (cases_lt i (length front)) [
   | inr ge ↦ (let at = get_or-append_right front behind (length front) i 0 refl ge in let small = then (i - length front) in omega arith)
 ]
 
-module _ {R : Type 0} (form : Encoding R) (keeps keeps' : Type 0) (bytes : List ℕ) (at n : ℕ) (piece : List ℕ) (old new : Scanner R) (taken : HasTaken form keeps bytes at old) (back : keeps' → keeps) (value : keeps' → piece ≡ slice_range bytes at (at + n)) (fed : IsFed form (taken.image ++ piece) new) where
+module _ {R : Type 0} (form : Encoding R) (keeps keeps' : Type 0) (bytes : List ℕ) (at n : ℕ) (piece : List ℕ)
+    (old new : Scanner R) (taken : HasTaken form keeps bytes at old) (back : keeps' → keeps)
+    (value : keeps' → piece ≡ slice_range bytes at (at + n)) (fed : IsFed form (taken.image ++ piece) new) where
   abbrev image : List ℕ
   image = taken.image ++ piece
 
   joined : keeps' → image ≡ take (at + n) bytes
-  joined model = ap (λ (bs : List ℕ). bs ++ piece) (taken.is (back model)) ∙ ap (λ (bs : List ℕ). take at bytes ++ bs) (value model) ∙ next_part [] bytes at n
+  joined model =
+      ap (λ (bs : List ℕ). bs ++ piece) (taken.is (back model)) ∙ ap (λ (bs : List ℕ). take at bytes ++ bs) (value model)
+        ∙ next_part [] bytes at n
 
   -- what is taken in behind one piece more
   pub taken_more : length piece ≡ n → at + n < 2 ^ 64 → IsBytes piece → HasTaken form keeps' bytes (at + n) new
@@ -63,17 +67,20 @@ module _ {R : Type 0} (form : Encoding R) (keeps keeps' : Type 0) (bytes : List 
       (fed_at form image new (stages.Refused Memory) lost fed more)
 
 -- the same of all that was taken in
-pub lost_here : {R : Type 0} (form : Encoding R) (image : List ℕ) (scanner : Scanner R) → IsFed form image scanner → IsLost scanner → IsRefused form image Memory
+pub lost_here : {R : Type 0} (form : Encoding R) (image : List ℕ) (scanner : Scanner R) → IsFed form image scanner
+    → IsLost scanner → IsRefused form image Memory
 lost_here form image scanner fed lost =
     subst (λ (bs : List ℕ). IsRefused form bs Memory) (append-nil image)
     (fed_at form image scanner (stages.Refused Memory) lost fed [])
 
 -- before the first piece
-pub taken_nothing : {R : Type 0} (form : Encoding R) (keeps : Type 0) (bytes : List ℕ) (scanner : Scanner R) → IsFed form [] scanner → HasTaken form keeps bytes 0 scanner
+pub taken_nothing : {R : Type 0} (form : Encoding R) (keeps : Type 0) (bytes : List ℕ) (scanner : Scanner R)
+    → IsFed form [] scanner → HasTaken form keeps bytes 0 scanner
 taken_nothing form keeps bytes scanner fed = record { image = []; size = refl; short = omega arith; fits = λ i. omega arith; fed = fed; is = λ model. refl }
 
 -- the same bytes, and as many
-pub taken_same : {R : Type 0} (form : Encoding R) (keeps : Type 0) (bytes others : List ℕ) (m n : ℕ) (scanner : Scanner R) → m ≡ n → (keeps → bytes ≡ others) → HasTaken form keeps bytes m scanner → HasTaken form keeps others n scanner
+pub taken_same : {R : Type 0} (form : Encoding R) (keeps : Type 0) (bytes others : List ℕ) (m n : ℕ) (scanner : Scanner R)
+    → m ≡ n → (keeps → bytes ≡ others) → HasTaken form keeps bytes m scanner → HasTaken form keeps others n scanner
 taken_same form keeps bytes others m n scanner is same taken = record {
   image = taken.image;
   size = taken.size ∙ is;
@@ -84,8 +91,10 @@ taken_same form keeps bytes others m n scanner is same taken = record {
 }
 
 -- one call more that changes nothing
-pub one_more_stays : (old mid new : List State) → now mid ≡ now old → LeavesOnly old mid (IsImage (now old)) → Stays mid new → LeavesOnly old new (IsImage (now old))
-one_more_stays old mid new same so_far stays = LeavesOnly-more old mid new (now mid) (IsImage (now old)) so_far stays (λ image is. subst (λ s. IsImage s image) same is)
+pub one_more_stays : (old mid new : List State) → now mid ≡ now old → LeavesOnly old mid (IsImage (now old)) → Stays mid new
+    → LeavesOnly old new (IsImage (now old))
+one_more_stays old mid new same so_far stays =
+    LeavesOnly-more old mid new (now mid) (IsImage (now old)) so_far stays (λ image is. subst (λ s. IsImage s image) same is)
 
 -- ---- how many pieces there are
 
@@ -115,7 +124,8 @@ pub record NextPiece (piece at n len : ℕ) : Type 0 where
   pub whole : at + n < len → at + n ≡ piece * reads_of piece (at + n)
   pub few : reads_of piece at < reads_of piece len
 
-pub next_piece : (piece at n len : ℕ) → 0 < piece → n ≡ min piece (len - at) → at < len → at ≡ piece * reads_of piece at → NextPiece piece at n len
+pub next_piece : (piece at n len : ℕ) → 0 < piece → n ≡ min piece (len - at) → at < len → at ≡ piece * reads_of piece at
+    → NextPiece piece at n len
 next_piece piece at n len some is lt whole =
     let q : ℕ = reads_of piece at in
     let next : (q + 1) * piece ≡ piece * q + piece = one_piece_more piece q in
@@ -134,7 +144,8 @@ next_piece piece at n len some is lt whole =
     }
 
 -- not more than of all
-pub reads_upto : (piece at len : ℕ) → 0 < piece → at ≤ len → (at < len → at ≡ piece * reads_of piece at) → reads_of piece at ≤ reads_of piece len
+pub reads_upto : (piece at len : ℕ) → 0 < piece → at ≤ len → (at < len → at ≡ piece * reads_of piece at)
+    → reads_of piece at ≤ reads_of piece len
 reads_upto piece at len some le whole = elim (cases_lt at len) [
   | inl lt ↦ (let few = read_behind piece len (reads_of piece at) some (let is = whole lt in omega arith) in omega (arith, few))
   | inr ge ↦ (let is : at ≡ len = omega arith in subst (λ n. reads_of piece at ≤ reads_of piece n) is (omega arith))
@@ -142,12 +153,14 @@ reads_upto piece at len some le whole = elim (cases_lt at len) [
 
 -- ---- which pieces are needed
 
-module _ {R : Type 0} (form : Encoding R) (keeps : Type 0) (bytes : List ℕ) (piece at : ℕ) (scanner : Scanner R) (taken : HasTaken form keeps bytes at scanner) (model : keeps) (whole : at ≡ piece * reads_of piece at) where
+module _ {R : Type 0} (form : Encoding R) (keeps : Type 0) (bytes : List ℕ) (piece at : ℕ) (scanner : Scanner R)
+    (taken : HasTaken form keeps bytes at scanner) (model : keeps) (whole : at ≡ piece * reads_of piece at) where
   front_is : taken.image ≡ pieces_front piece (reads_of piece at) bytes
   front_is = taken.is model ∙ ap (λ n. take n bytes) whole
 
   -- one more is
-  pub needed_more : ((image : List ℕ) → IsFed form image scanner → IsLost scanner ⊎ IsCutShort form image) → (IsLost scanner → ⊥) → ((k : ℕ) → k < reads_of piece at → IsCutShort form (pieces_front piece k bytes))
+  pub needed_more : ((image : List ℕ) → IsFed form image scanner → IsLost scanner ⊎ IsCutShort form image)
+      → (IsLost scanner → ⊥) → ((k : ℕ) → k < reads_of piece at → IsCutShort form (pieces_front piece k bytes))
       → (k : ℕ) → k < reads_of piece at + 1 → IsCutShort form (pieces_front piece k bytes)
   needed_more cut going before k lt = elim (cases_lt k (reads_of piece at)) [
     | inl less ↦ before k less
@@ -160,11 +173,13 @@ module _ {R : Type 0} (form : Encoding R) (keeps : Type 0) (bytes : List ℕ) (p
   ]
 
   -- no more is, where these tell the answer
-  pub needed_enough : ((image : List ℕ) → IsFed form image scanner → IsDecided form image) → IsDecided form (pieces_front piece (reads_of piece at) bytes)
+  pub needed_enough : ((image : List ℕ) → IsFed form image scanner → IsDecided form image)
+      → IsDecided form (pieces_front piece (reads_of piece at) bytes)
   needed_enough decided = subst (IsDecided form) front_is (decided taken.image taken.fed)
 
 -- behind the sync and the length
-module _ {R : Type 0} (form : Encoding R) (piece : ℕ) (old last new : List State) (same : bytes_of last ≡ bytes_of old) (time : clock last ≡ clock old + 2) where
+module _ {R : Type 0} (form : Encoding R) (piece : ℕ) (old last new : List State) (same : bytes_of last ≡ bytes_of old)
+    (time : clock last ≡ clock old + 2) where
   reads : clock new - clock last ≡ clock new - clock old - 2
   reads = omega arith
 
@@ -173,7 +188,8 @@ module _ {R : Type 0} (form : Encoding R) (piece : ℕ) (old last new : List Sta
       subst (λ (bs : List ℕ). AreNeeded piece form bs (clock new - clock old - 2)) same
       (subst (AreNeeded piece form (bytes_of last)) reads needed)
 
-  pub reads_made_behind : (fault : OpenFault) → AreReadsMade piece form (bytes_of last) fault (clock new - clock last) → AreReadsMade piece form (bytes_of old) fault (clock new - clock old - 2)
+  pub reads_made_behind : (fault : OpenFault) → AreReadsMade piece form (bytes_of last) fault (clock new - clock last)
+      → AreReadsMade piece form (bytes_of old) fault (clock new - clock old - 2)
   reads_made_behind fault made =
       subst (λ (bs : List ℕ). AreReadsMade piece form bs fault (clock new - clock old - 2)) same
       (subst (AreReadsMade piece form (bytes_of last) fault) reads made)
@@ -189,16 +205,19 @@ only_syncs_failed old new stays = record {
 }
 
 -- it has succeeded, and what came behind it changed nothing
-pub only_syncs_settled : (old mid new : List State) → Settles old mid → IsImage (now old) (bytes_of old) → now new ≡ now mid → LeavesOnly mid new (IsImage (now mid)) → OnlySyncs old new
+pub only_syncs_settled : (old mid new : List State) → Settles old mid → IsImage (now old) (bytes_of old) → now new ≡ now mid
+    → LeavesOnly mid new (IsImage (now mid)) → OnlySyncs old new
 only_syncs_settled old mid new settles readable same leaves =
     let P : List ℕ → Type 0 = IsImage (now old) in
     let is : now mid ≡ settled (bytes_of old) = ap now settles in
-    let as_read : (image : List ℕ) → IsImage (now mid) image → image ≡ bytes_of old = λ image left. IsImage-settled (bytes_of old) image (subst (λ s. IsImage s image) is left) in
+    let as_read : (image : List ℕ) → IsImage (now mid) image → image ≡ bytes_of old =
+        λ image left. IsImage-settled (bytes_of old) image (subst (λ s. IsImage s image) is left) in
     let time : clock mid ≡ clock old + 1 = omega (arith, ap length settles) in
     record {
       stands = inr (same ∙ is);
       left_before = LeavesOnly-join old mid new P
-          (LeavesOnly-more old old mid (settled (bytes_of old)) P (LeavesOnly-start old P (λ image left. left)) settles (λ image left. subst P (sym (IsImage-settled (bytes_of old) image left)) readable))
+          (LeavesOnly-more old old mid (settled (bytes_of old)) P (LeavesOnly-start old P (λ image left. left)) settles
+            (λ image left. subst P (sym (IsImage-settled (bytes_of old) image left)) readable))
           (LeavesOnly-weaker mid new (IsImage (now mid)) P (λ image left. subst P (sym (as_read image left)) readable) leaves);
       stays_as_read = λ later image left. as_read image (leaves.each image (subst (λ t. LeftSince new t image) (sym time) left));
     }
@@ -210,9 +229,12 @@ bytes_stay old new only = elim only.stands [
 ]
 
 -- the length and the reads behind it
-pub reads_behind : (mid last new : List State) → Stays mid last → now new ≡ now last → LeavesOnly last new (IsImage (now last)) → LeavesOnly mid new (IsImage (now mid))
+pub reads_behind : (mid last new : List State) → Stays mid last → now new ≡ now last
+    → LeavesOnly last new (IsImage (now last)) → LeavesOnly mid new (IsImage (now mid))
 reads_behind mid last new stays same leaves =
-    LeavesOnly-join mid last new (IsImage (now mid)) (stays_only mid last stays) (LeavesOnly-weaker last new (IsImage (now last)) (IsImage (now mid)) (λ image left. subst (λ s. IsImage s image) (ap now stays) left) leaves)
+    LeavesOnly-join mid last new (IsImage (now mid)) (stays_only mid last stays)
+        (LeavesOnly-weaker last new (IsImage (now last)) (IsImage (now mid))
+            (λ image left. subst (λ s. IsImage s image) (ap now stays) left) leaves)
 
 -- A sync has succeeded, the length was told, and reads came behind it.
 pub record IsWalked (len : ℕ) (old mid last new : List State) : Type 0 where
@@ -263,7 +285,8 @@ module _ (piece len n : ℕ) where
 
 -- ---- what was read of the disk's bytes
 
-module _ {R : Type 0} (form : Encoding R) (keeps : Type 0) (bytes : List ℕ) (len at : ℕ) (scanner : Scanner R) (taken : HasTaken form keeps bytes at scanner) (inside : at ≤ len) (short : len < 2 ^ 64) where
+module _ {R : Type 0} (form : Encoding R) (keeps : Type 0) (bytes : List ℕ) (len at : ℕ) (scanner : Scanner R)
+    (taken : HasTaken form keeps bytes at scanner) (inside : at ≤ len) (short : len < 2 ^ 64) where
   -- all of it
   pub read_all : len ≤ at → HasRead form keeps bytes len scanner
   read_all past = record {
@@ -294,7 +317,8 @@ module _ {R : Type 0} (form : Encoding R) (keeps : Type 0) (bytes : List ℕ) (l
     is = λ model. taken.is model ∙ ap (λ n. take n bytes) (sym taken.size);
   }
 
-module _ {R : Type 0} {form : Encoding R} {keeps : Type 0} {bytes : List ℕ} {states : List State} {scanner : Scanner R} (disk : HasReadDisk form keeps bytes states scanner) where
+module _ {R : Type 0} {form : Encoding R} {keeps : Type 0} {bytes : List ℕ} {states : List State} {scanner : Scanner R}
+    (disk : HasReadDisk form keeps bytes states scanner) where
   abbrev rest : List ℕ
   rest = drop (length disk.read.image) bytes
 

@@ -46,16 +46,31 @@ fold_count_is Sync fold at = ap (λ st. open_count st fold.count) at
 fold_count_is Ready fold at = ap (λ st. open_count st fold.count) at
 fold_count_is Filed fold at = ap (λ st. open_count st fold.count) at
 
-module _ (fold : Fold) (keeps : Type 0) (states : List State) (shape : Shape) (gate : ℕ) (tally next : Tally) (bytes : List ℕ) (o : Option Step) (broken : Bool) (pen : IsPen (open_count fold.stage fold.count) keeps states shape gate tally next bytes o broken) (model : keeps) where
-  pub pen_kept : {D : Type 0} (disk : D) (room : ℕ) → {places : ℕ} → IsKept states (pen_of states disk shape gate tally bytes room o broken places (fold_of fold))
+module _ (fold : Fold) (keeps : Type 0) (states : List State) (shape : Shape) (gate : ℕ) (tally next : Tally)
+    (bytes : List ℕ) (o : Option Step) (broken : Bool)
+    (pen : IsPen (open_count fold.stage fold.count) keeps states shape gate tally next bytes o broken) (model : keeps) where
+  pub pen_kept : {D : Type 0} (disk : D) (room : ℕ) → {places : ℕ}
+      → IsKept states (pen_of states disk shape gate tally bytes room o broken places (fold_of fold))
   pen_kept disk room =
       let knows = pen.knows model in
       record {
         images_open = knows.images_open;
-        pending_is_told = λ j is. subst (λ n. (gate < j) ⊎ (((j ≡ gate) × MayBeOpening (job_of shape bytes o)) ⊎ IsBeingFolded shape n (blanked_before shape gate (bytes_of states)) j)) (sym (fold_count_is fold.stage (record { count = fold.count; left = left_of fold; stage = fold.stage }) refl)) (told_pending shape gate tally (blanked_before shape gate (bytes_of states)) (vector_before shape gate (bytes_of states)) bytes o broken (now states) knows j is);
+        pending_is_told =
+            λ j is.
+              subst
+                (λ n. (gate < j)
+                    ⊎ (((j ≡ gate) × MayBeOpening (job_of shape bytes o))
+                          ⊎ IsBeingFolded shape n (blanked_before shape gate (bytes_of states)) j))
+                (sym
+                    (fold_count_is fold.stage (record { count = fold.count; left = left_of fold; stage = fold.stage }) refl))
+                (told_pending shape gate tally (blanked_before shape gate (bytes_of states))
+                    (vector_before shape gate (bytes_of states)) bytes o broken (now states) knows j is);
         gate_is = knows.gate_is;
         tally_is = knows.tally_is;
-        size_is = ap (λ t. t.size) knows.tally_is ∙ held_size shape (blanked_before shape gate (bytes_of states)) (vector_before shape gate (bytes_of states)) (bytes_of states) knows.file.holds;
+        size_is =
+            ap (λ t. t.size) knows.tally_is
+              ∙ held_size shape (blanked_before shape gate (bytes_of states)) (vector_before shape gate (bytes_of states))
+                (bytes_of states) knows.file.holds;
       }
 
 module _ {D : Type 0} {keeps : D → Type 0} {states : D → List State} {pen : Inside D} (sound : IsSound keeps states pen) (model : keeps pen.disk) where
@@ -82,7 +97,8 @@ after_changes tally (Change runs bytes) = omega arith
 after_changes tally (Shrink n) = omega arith
 after_changes tally (kinds.Fold count) = omega arith
 
-pub after_folded : (tally : Tally) (frame : Frame) → tally.folded ≤ tally.changes → MayFollow tally frame → (after tally frame).folded ≤ (after tally frame).changes
+pub after_folded : (tally : Tally) (frame : Frame) → tally.folded ≤ tally.changes → MayFollow tally frame
+    → (after tally frame).folded ≤ (after tally frame).changes
 after_folded tally (Group lengths bytes) le may = le
 after_folded tally (Change runs bytes) le may = omega arith
 after_folded tally (Shrink n) le may = le
@@ -98,11 +114,20 @@ laid_past p at old bytes le inside = record {
   each = λ j lt. sym (get_or-overlay old at bytes j inside (omega arith) (inl (omega arith)));
 }
 
-pub calls_alike : (step : Step) (p : ℕ) (bytes : List ℕ) (old new : List State) → p < length (bytes_of old) → Calls step p bytes old new → LaidAlike p (bytes_of old) (bytes_of new)
-calls_alike Body p bytes old new lt call = subst (LaidAlike p (bytes_of old)) (sym (ap bytes_of call)) (laid_past p (p + 1) (bytes_of old) (body_of bytes) (omega arith) (omega arith))
-calls_alike BodySync p bytes old new lt call = subst (LaidAlike p (bytes_of old)) (sym (ap bytes_of call)) (record { long = omega arith; long_too = omega arith; each = λ j below. refl })
-calls_alike Gate p bytes old new lt call = subst (LaidAlike p (bytes_of old)) (sym (ap bytes_of call)) (laid_past p p (bytes_of old) (1 ∷ []) (omega arith) (omega arith))
-calls_alike GateSync p bytes old new lt call = subst (LaidAlike p (bytes_of old)) (sym (ap bytes_of call)) (record { long = omega arith; long_too = omega arith; each = λ j below. refl })
+pub calls_alike : (step : Step) (p : ℕ) (bytes : List ℕ) (old new : List State) → p < length (bytes_of old)
+    → Calls step p bytes old new → LaidAlike p (bytes_of old) (bytes_of new)
+calls_alike Body p bytes old new lt call =
+    subst (LaidAlike p (bytes_of old)) (sym (ap bytes_of call))
+      (laid_past p (p + 1) (bytes_of old) (body_of bytes) (omega arith) (omega arith))
+calls_alike BodySync p bytes old new lt call =
+    subst (LaidAlike p (bytes_of old)) (sym (ap bytes_of call))
+      (record { long = omega arith; long_too = omega arith; each = λ j below. refl })
+calls_alike Gate p bytes old new lt call =
+    subst (LaidAlike p (bytes_of old)) (sym (ap bytes_of call))
+      (laid_past p p (bytes_of old) (1 ∷ []) (omega arith) (omega arith))
+calls_alike GateSync p bytes old new lt call =
+    subst (LaidAlike p (bytes_of old)) (sym (ap bytes_of call))
+      (record { long = omega arith; long_too = omega arith; each = λ j below. refl })
 
 pub last_step : (step : Step) → step_after step ≡ None → step ≡ GateSync
 last_step Body is = absurd cc

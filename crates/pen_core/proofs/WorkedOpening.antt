@@ -96,7 +96,20 @@ not_unsettled only =
 
 -- ---- what a pen is that was made or opened
 
-made_pen : {D : Type 0} (shape : Shape) (pen : PenOf D) → IsNew shape pen → IsEmpty pen → pen ≡ record { disk = pen.disk; shape = shape; frames = []; vector = []; job = None; fold = None; broken = false; tally = nothing; gate = 11; room = pen.room; places = pen.places }
+made_pen : {D : Type 0} (shape : Shape) (pen : PenOf D) → IsNew shape pen → IsEmpty pen
+    → pen ≡ record {
+      disk = pen.disk;
+      shape = shape;
+      frames = [];
+      vector = [];
+      job = None;
+      fold = None;
+      broken = false;
+      tally = nothing;
+      gate = 11;
+      room = pen.room;
+      places = pen.places;
+    }
 made_pen shape pen is empty =
     ap (λ x. record pen { shape = x }) is.shape_is
     ∙ ap (λ x. record pen { shape = shape; frames = x }) empty.frames_are
@@ -109,12 +122,17 @@ made_pen shape pen is empty =
 
 -- a commit may be begun at once
 ready_pen : {D : Type 0} (width size : ℕ) (pen : PenOf D) → IsAtRest width size pen → first_refusal (ready_lines pen) ≡ None
-ready_pen width size pen is = ap (λ b. if b then Some Broken else first_refusal ((is_some pen.job, Busy) ∷ [])) is.whole ∙ ap (λ job. if is_some job then Some Busy else None) is.no_job
+ready_pen width size pen is =
+    ap (λ b. if b then Some Broken else first_refusal ((is_some pen.job, Busy) ∷ [])) is.whole
+      ∙ ap (λ job. if is_some job then Some Busy else None) is.no_job
 
 -- and a fold, where a change is live and there is room
-folds_pen : {D : Type 0} (width size : ℕ) (pen : PenOf D) → IsAtRest width size pen → pen.tally.folded < pen.tally.changes → pen.gate < 2 ^ 48 - 14 → IsReadyToFold pen true
-folds_pen width size pen is live room = (is.whole, is.no_fold, live, let none : job_len pen.shape pen.job ≡ 0 = ap (job_len pen.shape) is.no_job in omega arith)
+folds_pen : {D : Type 0} (width size : ℕ) (pen : PenOf D) → IsAtRest width size pen → pen.tally.folded < pen.tally.changes
+    → pen.gate < 2 ^ 48 - 14 → IsReadyToFold pen true
+folds_pen width size pen is live room =
+    (is.whole, is.no_fold, live, let none : job_len pen.shape pen.job ≡ 0 = ap (job_len pen.shape) is.no_job in omega arith)
 
 -- its vector is the records, each as its bytes
-vector_of_records : {R D : Type 0} (form : Encoding R) (bytes : List ℕ) (pen : PenOf D) (records : List R) → IsOpened form bytes pen records → pen.vector ≡ map form.bytes_of records
+vector_of_records : {R D : Type 0} (form : Encoding R) (bytes : List ℕ) (pen : PenOf D) (records : List R)
+    → IsOpened form bytes pen records → pen.vector ≡ map form.bytes_of records
 vector_of_records form bytes pen records is = is.cells_are.written

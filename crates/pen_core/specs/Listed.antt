@@ -56,7 +56,8 @@ pub record Lists (shape : Shape) (frames : List Frame) (ahead : Option Frame) (h
 
 -- What the lists of a pen are, whatever its disk: there are frames which it has committed, and of which they tell.
 -- Where the disk keeps the model, the file has these frames.
-pub record IsListed (keeps : Type 0) (states : List State) (shape : Shape) (gate : ℕ) (tally : Tally) (bytes : List ℕ) (step : Option Step) (homes : Homes) (live : ℕ) (fold : Fold) : Type 0 where
+pub record IsListed (keeps : Type 0) (states : List State) (shape : Shape) (gate : ℕ) (tally : Tally) (bytes : List ℕ)
+    (step : Option Step) (homes : Homes) (live : ℕ) (fold : Fold) : Type 0 where
   pub frames : List Frame
   pub legal : AreLegal shape frames
   pub gate_is : gate ≡ gate_of shape frames

@@ -35,7 +35,9 @@ returns-in-Err-len-clause-time g c =
     let old = g.D.Disk.states c.args.disk.now in
     let len = length (bytes_of old) in
     let n = clock (g.D.Disk.states c.len.new.self) - clock old in
-    (len, λ model. refl, made_a_length (length c.args.piece.now) len n c.in-Err-len.fault c.in-Err-len.ensures.cause.0 (omega (arith, c.sync.ensures.time, c.len.ensures.time)))
+    (len, λ model. refl,
+      made_a_length (length c.args.piece.now) len n c.in-Err-len.fault c.in-Err-len.ensures.cause.0
+          (omega (arith, c.sync.ensures.time, c.len.ensures.time)))
 
 pub returns-in_err-feed_all : goal.returns-in_err-feed_all
 returns-in_err-feed_all g c =
