@@ -115,11 +115,13 @@ filed_at shape gate tally bytes o fold at is = (subst (IsAtStage shape gate tall
 
 -- ---- a job is begun
 
-pub fold_begun : (keeps : Type 0) (states : List State) (shape : Shape) (gate : ℕ) (tally : Tally) (bytes bytes' : List ℕ)
-    (o : Option Step) (broken : Bool) (fold : Fold) (f : Frame) (step : Step)
-    → IsFold keeps states shape gate tally bytes o broken fold → o ≡ None → bytes' ≡ frame_text shape.format f ++ 0 ∷ []
-    → gate + length (frame_text shape.format f) + fold_len (fold_of fold) < 2 ^ 48 → IsFold keeps states shape gate tally bytes' (Some step) broken fold
-fold_begun keeps states shape gate tally bytes bytes' o broken fold f step is idle spelled room =
+pub fold_begun : {keeps : Type 0} {states : List State} {shape : Shape} {gate : ℕ} {tally : Tally} {bytes bytes' : List ℕ}
+    {o : Option Step} {broken : Bool} {fold : Fold} {step : Step}
+    → IsFold keeps states shape gate tally bytes o broken fold → (f : Frame) → o ≡ None
+    → bytes' ≡ frame_text shape.format f ++ 0 ∷ []
+    → gate + length (frame_text shape.format f) + fold_len (fold_of fold) < 2 ^ 48
+    → IsFold keeps states shape gate tally bytes' (Some step) broken fold
+fold_begun {keeps} {states} {shape} {gate} {tally} {bytes} {bytes'} {o} {broken} {fold} {step} is f idle spelled room =
     let unfiled : fold.stage ≡ Filed → ⊥ =
         λ filed.
           (let clash : None ≡ Some (kinds.Fold fold.count) = sym (ap (frame_in_hand shape bytes) idle)
@@ -133,18 +135,6 @@ fold_begun keeps states shape gate tally bytes bytes' o broken fold f step is id
             (λ held out. let len = fold_len_at fold.stage fold held refl in omega arith);
       homes = is.homes;
     }
-
--- growths are begun
-pub group_held : {R : Type 0} (keeps : Type 0) (states : List State) (shape : Shape) (gate : ℕ) (tally : Tally)
-    (bytes bytes' : List ℕ) (o : Option Step) (broken : Bool) (fold : Fold) (form : Encoding R) (growths : List (List R))
-    → IsFold keeps states shape gate tally bytes o broken fold → o ≡ None
-    → bytes' ≡ frame_text shape.format (group_frame form growths) ++ 0 ∷ []
-    → ((r : R) → length (form.bytes_of r) ≡ form.width)
-    → gate + (6 + payload_len form.width growths) + fold_len (fold_of fold) < 2 ^ 48
-    → IsFold keeps states shape gate tally bytes' (Some Body) broken fold
-group_held keeps states shape gate tally bytes bytes' o broken fold form growths is idle spelled size_of room =
-    let long = length-frame_text shape.format (group_frame form growths) ∙ ap (λ n. 6 + n) (length-group_frame shape.format form growths size_of) in
-    fold_begun keeps states shape gate tally bytes bytes' o broken fold (group_frame form growths) Body is idle spelled (omega arith)
 
 -- no job is in hand: its bytes may be others
 pub fold_same : {keeps : Type 0} {states : List State} {shape : Shape} {gate : ℕ} {tally : Tally} {bytes : List ℕ} {o : Option Step}

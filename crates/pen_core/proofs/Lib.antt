@@ -23,6 +23,7 @@ pub mod Filed
 pub mod BeingFolded
 pub mod Begun
 pub mod Begins
+pub mod FrameBegun
 pub mod Growths
 pub mod RunsBegun
 pub mod Worked

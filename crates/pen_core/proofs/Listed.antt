@@ -364,31 +364,15 @@ module _ {keeps : Type 0} {states : List State} {shape : Shape} {gate : ℕ} {ta
             same = then_blank;
           }
 
--- growths are entered
-pub group_listed : {R : Type 0} (keeps : Type 0) (states : List State) (shape : Shape) (gate : ℕ) (tally : Tally)
-    (bytes bytes' : List ℕ) (o : Option Step) (homes homes' : Homes) (live : ℕ) {fold : folds.Fold} (form : Encoding R)
-    (growths : List (List R))
-    → IsListed keeps states shape gate tally bytes o homes live fold
-    → o ≡ None → frame_at shape bytes' ≡ group_frame form growths → (count records : ℕ) → count ≡ length growths
-    → records ≡ length (joined growths)
-    → {old : List Home}
-    → homes'.homes.items ≡ old ++ record { position = tally.size; place = gate + (10 + count * 4); count = records } ∷ []
-    → old ≡ homes.homes.items → homes'.live ≡ homes.live
-    → IsListed keeps states shape gate tally bytes' (Some Body) homes' live fold
-group_listed keeps states shape gate tally bytes bytes' o homes homes' live {fold} form growths listed idle at count records
-    counted told homes_more old_is live_same =
+-- what growths enter
+pub group_entered : {R : Type 0} (form : Encoding R) (gate size : ℕ) (growths : List (List R)) (count records : ℕ)
+    → count ≡ length growths → records ≡ length (joined growths) → (old new homes : List Home)
+    → new ≡ old ++ record { position = size; place = gate + (10 + count * 4); count = records } ∷ [] → old ≡ homes
+    → new ≡ homes ++ homes_entered gate size (group_frame form growths)
+group_entered form gate size growths count records counted told old new homes more same =
     let place : gate + (10 + count * 4) ≡ gate + 10 + length (map length growths) * 4 = omega (arith, counted, length-map growths length) in
     let all : records ≡ sum (map length growths) = told ∙ sum-lengths growths in
-    listed_begun listed idle bytes' homes' (group_frame form growths) Body at (λ c is. absurd cc)
-    (homes_more
-      ∙ ap (λ hs. hs ++ record { position = tally.size; place = gate + (10 + count * 4); count = records } ∷ []) old_is
-      ∙ ap (λ n. homes.homes.items ++ record { position = tally.size; place = n; count = records } ∷ []) place
-      ∙ ap
-          (λ n.
-              homes.homes.items ++ record {
-                position = tally.size;
-                place = gate + 10 + length (map length growths) * 4;
-                count = n;
-              } ∷ [])
-          all)
-    (ap (λ v. v.items) live_same ∙ sym (append-nil homes.live.items))
+    more
+    ∙ ap (λ hs. hs ++ record { position = size; place = gate + (10 + count * 4); count = records } ∷ []) same
+    ∙ ap (λ n. homes ++ record { position = size; place = n; count = records } ∷ []) place
+    ∙ ap (λ n. homes ++ record { position = size; place = gate + 10 + length (map length growths) * 4; count = n } ∷ []) all

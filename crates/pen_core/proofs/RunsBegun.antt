@@ -39,7 +39,9 @@ use Rattle.pen_core.specs.Vectors.{frame_at}
 use Rattle.pen_core.specs.Inside.{IsPen, job_of}
 use Rattle.pen_core.specs.Listed.{IsListed}
 use Rattle.pen_core.proofs.Begins.{no_step}
-use Rattle.pen_core.proofs.Begun.{begun, begun_frame}
+use Rattle.pen_core.specs.declared.pen.Pen.TheInside.{Inside}
+use Rattle.pen_core.specs.Fields.{IsSound}
+use Rattle.pen_core.proofs.FrameBegun.{Begins, begun_frame}
 use Rattle.pen_core.specs.declared.fold.Fold.{Fold}
 use Rattle.pen_core.specs.InHand.{fold_of, IsFold}
 use Rattle.pen_core.proofs.InHand.{fold_begun}
@@ -181,58 +183,54 @@ module _ {R : Type 0} (form : Encoding R) (shape : Shape) (gate : ℕ) (tally : 
 
 -- ---- begun
 
--- What stands once a change is begun: the pen's fields are sound, the job's frame is the change, and the records behind
--- it are those with the runs replaced.
-pub record ChangeBegun {R : Type 0} (count : ℕ) (keeps : Type 0) (states : List State) (shape : Shape) (gate : ℕ)
-    (tally : Tally) (bytes : List ℕ) (broken : Bool) (homes : Homes) (live : ℕ) (fold : Fold) (form : Encoding R)
-    (runs : List Run) (pieces : List (List R)) : Type 0 where
-  pub pen : IsPen count keeps states shape gate tally (after tally (change_frame form runs pieces)) bytes (Some Body) broken
-  pub listed : IsListed keeps states shape gate tally bytes (Some Body) homes live fold
-  pub held : IsFold keeps states shape gate tally bytes (Some Body) broken fold
-  pub frame_is : frame_at shape bytes ≡ change_frame form runs pieces
-  pub tells : (vector : List (List ℕ)) (records : List R) → AreCellsOf form vector records
-      → AreCellsOf form (after_frame shape.width vector (frame_at shape bytes)) (replaced records runs (joined pieces))
+-- What a change is begun from.
+pub record Changes {R D : Type 0} (form : Encoding R) (keeps : D → Type 0) (states : D → List State) (pen then : Inside D) (runs : List (ℕ × ℕ)) (pieces : List (List R)) : Type 0 where
+  pub sound : IsSound keeps states pen
+  pub reads : (disk : D) → keeps disk → IsImage (now (states disk)) (bytes_of (states disk))
+  pub space : pen.gate + (6 + change_len pen.shape (runs_given runs)) + fold_len (fold_of pen.fold) < 2 ^ 48
+  pub allowed : Allows pen.broken (is_some (job_of pen.shape pen.bytes.items pen.step)) pen.shape pen.gate pen.tally (runs_given runs)
+  pub spelled : then.bytes.items ≡ frame_text pen.shape.format (change_frame form (runs_given runs) pieces) ++ 0 ∷ []
+  pub width : form.width ≡ pen.shape.width
+  pub size_of : (r : R) → length (form.bytes_of r) ≡ form.width
+  pub some : 0 < length runs
+  pub filled : length (joined pieces) ≡ records_of_runs (runs_given runs)
+  pub again : AreReadAgain form (joined pieces)
+  pub next_is : then.next ≡ after pen.tally (change_frame form (runs_given runs) pieces)
+  pub homes_same : then.homes.homes ≡ pen.homes.homes
+  pub runs_more : then.homes.live.items ≡ pen.homes.live.items ++ runs
 
-pub change_begun : {R : Type 0} {count : ℕ} (keeps : Type 0) (states : List State) (shape : Shape) (gate : ℕ)
-    (tally next : Tally) (bytes bytes' : List ℕ) (o : Option Step) (broken : Bool) (homes homes' : Homes) (live : ℕ)
-    {fold : Fold} (form : Encoding R) (runs : List (ℕ × ℕ)) (pieces : List (List R))
-    → IsPen count keeps states shape gate tally next bytes o broken
-    → IsListed keeps states shape gate tally bytes o homes live fold
-    → IsFold keeps states shape gate tally bytes o broken fold
-    → gate + (6 + change_len shape (runs_given runs)) + fold_len (fold_of fold) < 2 ^ 48
-    → Allows broken (is_some (job_of shape bytes o)) shape gate tally (runs_given runs)
-    → (keeps → IsImage (now states) (bytes_of states))
-    → bytes' ≡ frame_text shape.format (change_frame form (runs_given runs) pieces) ++ 0 ∷ [] → form.width ≡ shape.width
-    → ((r : R) → length (form.bytes_of r) ≡ form.width) → 0 < length runs
-    → length (joined pieces) ≡ records_of_runs (runs_given runs) → AreReadAgain form (joined pieces)
-    → homes'.homes ≡ homes.homes → homes'.live.items ≡ homes.live.items ++ runs
-    → ChangeBegun count keeps states shape gate tally bytes' broken homes' live fold form (runs_given runs) pieces
-change_begun {R} {count} keeps states shape gate tally next bytes bytes' o broken homes homes' live {fold} form runs pieces
-    pen listed is_fold space allowed reads spelled width size_of some filled again homes_same live_more =
-    let given : List Run = runs_given runs in
-    let frame : Frame = change_frame form given pieces in
-    let counted : 0 < length given = omega (arith, length-runs_given runs) in
-    let idle : o ≡ None = no_step shape bytes o allowed.idle in
-    let no_fold : (count : ℕ) → frame ≡ kinds.Fold count → ⊥ = λ count is. absurd cc in
-    let framed = change_framed form shape gate tally given pieces pen.wide.0 pen.size_fits width size_of counted filled allowed in
-    let follows = change_follows form shape gate tally given pieces pen.wide.0 pen.size_fits width size_of counted filled allowed in
-    let room = change_room form shape gate tally given pieces pen.wide.0 pen.size_fits width size_of counted filled allowed in
-    let all = change_text_len form shape gate tally given pieces pen.wide.0 pen.size_fits width size_of counted filled allowed in
-    let at : frame_at shape bytes' ≡ frame =
-        begun_frame keeps states shape gate tally next (after tally frame) bytes bytes' o broken frame pen allowed.whole idle
-          reads spelled framed follows refl no_fold room in
-    record {
-      pen =
-          begun keeps states shape gate tally next (after tally frame) bytes bytes' o broken frame pen allowed.whole idle
-            reads spelled framed follows refl no_fold room;
-      listed =
-          listed_begun listed idle bytes' homes' frame Body at no_fold
-            (ap (λ v. v.items) homes_same ∙ sym (append-nil homes.homes.items))
-            (live_more ∙ ap (λ rs. homes.live.items ++ rs) (sym (runs_again runs)));
-      held = fold_begun keeps states shape gate tally bytes bytes' o broken fold frame Body is_fold idle spelled (omega arith);
-      frame_is = at;
-      tells =
-          λ vector records are.
-            subst (λ f. AreCellsOf form (after_frame shape.width vector f) (replaced records given (joined pieces))) (sym at)
-              (AreCellsOf_change form shape.width vector records given pieces width size_of filled again are);
-    }
+module _ {R D : Type 0} {form : Encoding R} {keeps : D → Type 0} {states : D → List State} {pen then : Inside D}
+    {runs : List (ℕ × ℕ)} {pieces : List (List R)} (changes : Changes form keeps states pen then runs pieces) where
+  abbrev given : List Run
+  given = runs_given runs
+
+  counted : 0 < length given
+  counted = let some = changes.some in omega (arith, length-runs_given runs)
+
+  pub change_begins : Begins keeps states pen then (change_frame form given pieces)
+  change_begins =
+      let wide = changes.sound.job.wide.0 in
+      let short = changes.sound.job.size_fits in
+      record {
+        sound = changes.sound;
+        going = changes.allowed.whole;
+        idle = no_step pen.shape pen.bytes.items pen.step changes.allowed.idle;
+        reads = changes.reads;
+        spelled = changes.spelled;
+        framed = change_framed form pen.shape pen.gate pen.tally given pieces wide short changes.width changes.size_of counted changes.filled changes.allowed;
+        follows = change_follows form pen.shape pen.gate pen.tally given pieces wide short changes.width changes.size_of counted changes.filled changes.allowed;
+        counted = changes.next_is;
+        no_fold = λ count is. absurd cc;
+        room =
+            let space = changes.space in
+            omega (arith, change_text_len form pen.shape pen.gate pen.tally given pieces wide short changes.width changes.size_of counted changes.filled changes.allowed);
+        homes_more = ap (λ v. v.items) changes.homes_same ∙ sym (append-nil pen.homes.homes.items);
+        runs_more = changes.runs_more ∙ ap (λ rs. pen.homes.live.items ++ rs) (sym (runs_again runs));
+      }
+
+  -- the records behind it are those with the runs replaced
+  pub change_tells : (vector : List (List ℕ)) (records : List R) → AreCellsOf form vector records
+      → AreCellsOf form (after_frame pen.shape.width vector (frame_at pen.shape then.bytes.items)) (replaced records given (joined pieces))
+  change_tells vector records are =
+      subst (λ f. AreCellsOf form (after_frame pen.shape.width vector f) (replaced records given (joined pieces))) (sym (begun_frame change_begins))
+      (AreCellsOf_change form pen.shape.width vector records given pieces changes.width changes.size_of changes.filled changes.again are)
