@@ -8,8 +8,10 @@ use Rattle.pen_core.specs.InHand.{fold_of}
 use Rattle.pen_core.specs.Inside.{job_of}
 use Rattle.pen_core.proofs.Filed.{Files, filed_frame, pen_filed}
 use Rattle.pen_core.proofs.FoldSeen.{seen, fold_is_seen, calls_held, ready_or_filed, ready_at, none_at, job_some, called_seen}
-use Rattle.pen_core.proofs.HomeCall.{home_call, may_call, home_leaves, home_broken, broken_stays, home_called, called_stays}
+use Rattle.pen_core.proofs.HomeCall.{HomeCall, home_call, may_call, home_leaves, home_broken, broken_stays, home_called, called_stays}
 use Rattle.pen_core.proofs.Whole.{sound_kept, sound_idle}
+use Rattle.pen_core.proofs.pen.Pen.tick_home.Given.{Over}
+use Rattle.pen_core.proofs.pen.Pen.tick_home.Goals.{After-call}
 use Rattle.pen_core.proofs.pen.Pen.tick_home.Goals as goal
 
 pub returns-then-self-clause-images : goal.returns-then-self-clause-images
@@ -35,18 +37,21 @@ call-requires g c =
 pub advance-requires : goal.advance-requires
 advance-requires g c = (c.self.inside.gate, may_call c.self.invariant (sym c.has_call.ensures ∙ c.if-has_call.true))
 
+-- what the tick knows of a call
+abbrev made : (g : Over) (c : After-call g) → HomeCall g.D.Disk.keeps g.D.Disk.states c.self.inside c.call.new.disk
+made g c =
+    home_call c.self.invariant c.if-self.false (sym c.has_call.ensures ∙ c.if-has_call.true) c.call.ensures.model g.met.D.Disk.reads_an_image
+
 -- that failed
 
 pub invariant_of-self : goal.invariant_of-self
 invariant_of-self g c =
-    let tick =
-    home_call c.self.invariant c.if-self.false (sym c.has_call.ensures ∙ c.if-has_call.true) c.call.ensures.model g.met.D.Disk.reads_an_image in
+    let tick = made g (goal.at.invariant_of-self g c).After-call in
     home_broken tick c.in-Err.ensures.failed
 
 pub returns-in-Err-clause-images : goal.returns-in-Err-clause-images
 returns-in-Err-clause-images g c =
-    let tick =
-    home_call c.self.invariant c.if-self.false (sym c.has_call.ensures ∙ c.if-has_call.true) c.call.ensures.model g.met.D.Disk.reads_an_image in
+    let tick = made g (goal.at.returns-in-Err-clause-images g c).After-call in
     rw (← c.self.view_is) (home_leaves tick c.call.result c.call.ensures.done c.call.ensures.failed)
 
 pub returns-in-Err-clause-kept : goal.returns-in-Err-clause-kept
@@ -78,8 +83,7 @@ returns-in-Err-clause-refused g c = rw (← c.self.view_is) (
 
 pub returns-in-Err-clause-file : goal.returns-in-Err-clause-file
 returns-in-Err-clause-file g c =
-    let tick =
-    home_call c.self.invariant c.if-self.false (sym c.has_call.ensures ∙ c.if-has_call.true) c.call.ensures.model g.met.D.Disk.reads_an_image in
+    let tick = made g (goal.at.returns-in-Err-clause-file g c).After-call in
     rw (← c.self.view_is) (λ model.
     let same = broken_stays tick c.in-Err.ensures.failed model in
     record { frames_same = same.frames_same; vector_same = same.vector_same })
@@ -88,15 +92,13 @@ returns-in-Err-clause-file g c =
 
 pub invariant_of-self-then-has_call : goal.invariant_of-self-then-has_call
 invariant_of-self-then-has_call g c =
-    let tick =
-    home_call c.self.invariant c.if-self.false (sym c.has_call.ensures ∙ c.if-has_call.true) c.call.ensures.model g.met.D.Disk.reads_an_image in
+    let tick = made g (goal.at.invariant_of-self-then-has_call g c).After-call in
     subst (λ f. IsSound g.D.Disk.keeps g.D.Disk.states (record c.self.inside { disk = c.call.new.disk; fold = f })) (sym c.advance.ensures)
     (home_called tick c.in_default.ensures.done)
 
 pub returns-then-has_call-clause-images : goal.returns-then-has_call-clause-images
 returns-then-has_call-clause-images g c =
-    let tick =
-    home_call c.self.invariant c.if-self.false (sym c.has_call.ensures ∙ c.if-has_call.true) c.call.ensures.model g.met.D.Disk.reads_an_image in
+    let tick = made g (goal.at.returns-then-has_call-clause-images g c).After-call in
     rw (← c.self.view_is) (home_leaves tick c.call.result c.call.ensures.done c.call.ensures.failed)
 
 pub returns-then-has_call-clause-kept : goal.returns-then-has_call-clause-kept
@@ -123,8 +125,7 @@ returns-then-has_call-clause-ticked g c = rw (← c.self.view_is) (
 
 pub returns-then-has_call-clause-file : goal.returns-then-has_call-clause-file
 returns-then-has_call-clause-file g c =
-    let tick =
-    home_call c.self.invariant c.if-self.false (sym c.has_call.ensures ∙ c.if-has_call.true) c.call.ensures.model g.met.D.Disk.reads_an_image in
+    let tick = made g (goal.at.returns-then-has_call-clause-file g c).After-call in
     rw (← c.self.view_is) (λ model.
     let same = called_stays tick c.in_default.ensures.done model in
     record { frames_same = same.frames_same; vector_same = same.vector_same })

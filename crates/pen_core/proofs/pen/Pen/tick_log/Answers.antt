@@ -7,8 +7,10 @@ use Rattle.pen_core.specs.Inside.{job_of}
 use Rattle.pen_core.specs.InHand.{live_after}
 use Rattle.pen_core.proofs.Whole.{sound_kept, sound_idle, last_step}
 use Rattle.pen_core.proofs.Listed.{homes_in_turn}
-use Rattle.pen_core.proofs.LogCall.{log_call, log_leaves, log_broken, broken_file, log_next, next_file, counts_after, gate_moved, more_frames, vector_then}
+use Rattle.pen_core.proofs.LogCall.{LogCall, log_call, log_leaves, log_broken, broken_file, log_next, next_file, counts_after, gate_moved, more_frames, vector_then}
 use Rattle.pen_core.proofs.LastTick.{LastCall, log_last, fold_seen, other_unfiled}
+use Rattle.pen_core.proofs.pen.Pen.tick_log.Given.{Over}
+use Rattle.pen_core.proofs.pen.Pen.tick_log.Goals.{After-call}
 use Rattle.pen_core.proofs.pen.Pen.tick_log.Goals as goal
 
 -- ---- no call
@@ -25,24 +27,28 @@ returns-in_default-clause-images g c = rw (← c.self.view_is) (sound_idle c.sel
 pub returns-in_default-clause-kept : goal.returns-in_default-clause-kept
 returns-in_default-clause-kept g c = rw (← c.self.view_is) (sound_kept c.self.invariant)
 
+-- ---- a call
+
+-- what the tick knows of it
+abbrev made : (g : Over) (c : After-call g) → LogCall g.D.Disk.keeps g.D.Disk.states c.self.inside c.call.new.disk c.in-Some.step
+made g c =
+    log_call c.self.invariant c.if-self.false c.in-Some.is c.deref.ensures.value c.call.ensures.model g.met.D.Disk.reads_an_image
+
 -- ---- a call that failed
 
 pub invariant_of-self : goal.invariant_of-self
 invariant_of-self g c =
-    let tick =
-    log_call c.self.invariant c.if-self.false c.in-Some.is c.deref.ensures.value c.call.ensures.model g.met.D.Disk.reads_an_image in
+    let tick = made g (goal.at.invariant_of-self g c).After-call in
     log_broken tick c.in-Err.ensures.failed
 
 pub returns-in-Err-clause-images : goal.returns-in-Err-clause-images
 returns-in-Err-clause-images g c =
-    let tick =
-    log_call c.self.invariant c.if-self.false c.in-Some.is c.deref.ensures.value c.call.ensures.model g.met.D.Disk.reads_an_image in
+    let tick = made g (goal.at.returns-in-Err-clause-images g c).After-call in
     rw (← c.self.view_is) (log_leaves tick c.call.result c.call.ensures.done c.call.ensures.failed)
 
 pub returns-in-Err-clause-kept : goal.returns-in-Err-clause-kept
 returns-in-Err-clause-kept g c =
-    let tick =
-    log_call c.self.invariant c.if-self.false c.in-Some.is c.deref.ensures.value c.call.ensures.model g.met.D.Disk.reads_an_image in
+    let tick = made g (goal.at.returns-in-Err-clause-kept g c).After-call in
     sound_kept (log_broken tick c.in-Err.ensures.failed)
 
 pub returns-in-Err-clause-refused : goal.returns-in-Err-clause-refused
@@ -69,8 +75,7 @@ returns-in-Err-clause-refused g c = rw (← c.self.view_is) (
 
 pub returns-in-Err-clause-file_stays : goal.returns-in-Err-clause-file_stays
 returns-in-Err-clause-file_stays g c =
-    let tick =
-    log_call c.self.invariant c.if-self.false c.in-Some.is c.deref.ensures.value c.call.ensures.model g.met.D.Disk.reads_an_image in
+    let tick = made g (goal.at.returns-in-Err-clause-file_stays g c).After-call in
     rw (← c.self.view_is) (λ model.
     let same = broken_file tick c.in-Err.ensures.failed model in
     record { frames_same = same.frames_same; vector_same = same.vector_same })
@@ -79,20 +84,17 @@ returns-in-Err-clause-file_stays g c =
 
 pub invariant_of-self-in-Some-next : goal.invariant_of-self-in-Some-next
 invariant_of-self-in-Some-next g c =
-    let tick =
-    log_call c.self.invariant c.if-self.false c.in-Some.is c.deref.ensures.value c.call.ensures.model g.met.D.Disk.reads_an_image in
+    let tick = made g (goal.at.invariant_of-self-in-Some-next g c).After-call in
     log_next tick c.in_default-call.ensures.done c.in-Some-next.behind (sym c.next.ensures ∙ c.in-Some-next.is)
 
 pub returns-in-Some-next-clause-images : goal.returns-in-Some-next-clause-images
 returns-in-Some-next-clause-images g c =
-    let tick =
-    log_call c.self.invariant c.if-self.false c.in-Some.is c.deref.ensures.value c.call.ensures.model g.met.D.Disk.reads_an_image in
+    let tick = made g (goal.at.returns-in-Some-next-clause-images g c).After-call in
     rw (← c.self.view_is) (log_leaves tick c.call.result c.call.ensures.done c.call.ensures.failed)
 
 pub returns-in-Some-next-clause-kept : goal.returns-in-Some-next-clause-kept
 returns-in-Some-next-clause-kept g c =
-    let tick =
-    log_call c.self.invariant c.if-self.false c.in-Some.is c.deref.ensures.value c.call.ensures.model g.met.D.Disk.reads_an_image in
+    let tick = made g (goal.at.returns-in-Some-next-clause-kept g c).After-call in
     sound_kept (log_next tick c.in_default-call.ensures.done c.in-Some-next.behind (sym c.next.ensures ∙ c.in-Some-next.is))
 
 pub returns-in-Some-next-clause-ticked : goal.returns-in-Some-next-clause-ticked
@@ -106,8 +108,7 @@ returns-in-Some-next-clause-ticked g c = rw (← c.self.view_is) (
 
 pub returns-in-Some-next-clause-file : goal.returns-in-Some-next-clause-file
 returns-in-Some-next-clause-file g c =
-    let tick =
-    log_call c.self.invariant c.if-self.false c.in-Some.is c.deref.ensures.value c.call.ensures.model g.met.D.Disk.reads_an_image in
+    let tick = made g (goal.at.returns-in-Some-next-clause-file g c).After-call in
     rw (← c.self.view_is) (λ model.
     let same = next_file tick c.in_default-call.ensures.done c.in-Some-next.behind (sym c.next.ensures ∙ c.in-Some-next.is) model in
     record { frames_same = same.frames_same; vector_same = same.vector_same })
@@ -122,8 +123,7 @@ cut-requires g c =
 pub invariant_of-self-in-None : goal.invariant_of-self-in-None
 invariant_of-self-in-None g c =
     let s = c.self.inside in
-    let tick =
-    log_call c.self.invariant c.if-self.false c.in-Some.is c.deref.ensures.value c.call.ensures.model g.met.D.Disk.reads_an_image in
+    let tick = made g (goal.at.invariant_of-self-in-None g c).After-call in
     let end : LastCall tick (record s {
       disk = c.call.new.disk;
       gate = s.gate + (c.len.result - 1);
@@ -146,8 +146,7 @@ invariant_of-self-in-None g c =
 
 pub returns-in-None-clause-images : goal.returns-in-None-clause-images
 returns-in-None-clause-images g c =
-    let tick =
-    log_call c.self.invariant c.if-self.false c.in-Some.is c.deref.ensures.value c.call.ensures.model g.met.D.Disk.reads_an_image in
+    let tick = made g (goal.at.returns-in-None-clause-images g c).After-call in
     rw (← c.self.view_is) (log_leaves tick c.call.result c.call.ensures.done c.call.ensures.failed)
 
 pub returns-in-None-clause-kept : goal.returns-in-None-clause-kept
@@ -156,8 +155,7 @@ returns-in-None-clause-kept g c = sound_kept (invariant_of-self-in-None g c)
 pub returns-in-None-clause-ticked : goal.returns-in-None-clause-ticked
 returns-in-None-clause-ticked g c = rw (← c.self.view_is) (
     let s = c.self.inside in
-    let tick =
-    log_call c.self.invariant c.if-self.false c.in-Some.is c.deref.ensures.value c.call.ensures.model g.met.D.Disk.reads_an_image in
+    let tick = made g (goal.at.returns-in-None-clause-ticked g c).After-call in
     let end : LastCall tick (record s {
       disk = c.call.new.disk;
       gate = s.gate + (c.len.result - 1);
@@ -195,8 +193,7 @@ returns-in-None-clause-ticked g c = rw (← c.self.view_is) (
 pub returns-in-None-clause-file : goal.returns-in-None-clause-file
 returns-in-None-clause-file g c =
     let s = c.self.inside in
-    let tick =
-    log_call c.self.invariant c.if-self.false c.in-Some.is c.deref.ensures.value c.call.ensures.model g.met.D.Disk.reads_an_image in
+    let tick = made g (goal.at.returns-in-None-clause-file g c).After-call in
     let gate = s.gate + (c.len.result - 1) in
     let moved : gate ≡ s.gate + (length c.deref.result.now - 1) = ap (λ n. s.gate + (n - 1)) (c.len.ensures ∙ sym c.deref.ensures.len) in
     let last = sym c.next.ensures ∙ c.in-None.is in
