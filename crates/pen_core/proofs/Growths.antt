@@ -2,7 +2,7 @@
 use Rattle.std.proofs.Common.{Bool, false, ◌≡◌, ℕ, ◌+◌, ◌*◌, ◌^◌, ◌≤◌, ◌<◌, List, [], ◌∷◌, ◌++◌, length, map, sum, Option, Some, None, refl, sym, ap, subst, ◌∙◌, arith}
 use Rattle.std.specs.List.{AllByRecursion}
 use Rattle.std.proofs.lemmas.Bool.{le-ltb}
-use Rattle.std.proofs.lemmas.List.{length-append, length-map}
+use Rattle.std.proofs.lemmas.List.{append-nil, length-append, length-map}
 use Rattle.disk_core.specs.State.{State, now, IsImage}
 use Rattle.disk_core.specs.Calls.{bytes_of}
 use Rattle.record_core.specs.Bytes.{Encoding}
@@ -22,25 +22,33 @@ use Rattle.segment_core.proofs.Written.{long_growth, sum-lengths, length-group_f
 use Rattle.pen_core.specs.declared.step.Step.{Step}
 use Rattle.pen_core.specs.declared.step.Step.TheVariants.{Body}
 use Rattle.pen_core.specs.Vectors.{frame_at}
-use Rattle.pen_core.specs.Inside.{IsPen}
-use Rattle.pen_core.proofs.Begun.{begun, begun_frame}
+use Rattle.pen_core.specs.declared.pen.Pen.TheInside.{Inside}
+use Rattle.pen_core.specs.Fields.{IsSound}
+use Rattle.pen_core.specs.InHand.{fold_of}
+use Rattle.pen_core.specs.Listed.{homes_entered}
+use Rattle.pen_core.specs.Refusals.{fold_len}
+use Rattle.pen_core.proofs.FrameBegun.{Begins, begun_frame}
 
 -- ---- how many records
 
 -- each growth has a record, so there are no more growths than records
-pub few_growths : {R : Type 0} (growths : List (List R)) → AllByRecursion (λ growth. 0 < length growth) growths → length growths ≤ length (joined growths)
+pub few_growths : {R : Type 0} (growths : List (List R)) → AllByRecursion (λ growth. 0 < length growth) growths
+    → length growths ≤ length (joined growths)
 few_growths [] each = omega arith
 few_growths (growth ∷ growths) each = let rest = few_growths growths each.1 in let first = each.0 in omega (arith, length-append growth (joined growths))
 
 -- ---- the frame
 
-lengths_fit : {R : Type 0} (growths : List (List R)) → AllByRecursion (λ growth. 0 < length growth) growths → length (joined growths) < 2 ^ 32 → AllByRecursion IsLength (map length growths)
+lengths_fit : {R : Type 0} (growths : List (List R)) → AllByRecursion (λ growth. 0 < length growth) growths
+    → length (joined growths) < 2 ^ 32 → AllByRecursion IsLength (map length growths)
 lengths_fit [] each few = tt
 lengths_fit (growth ∷ growths) each few =
     let both = length-append growth (joined growths) in
     ((each.0, omega arith), lengths_fit growths each.1 (omega arith))
 
-module _ {R : Type 0} (form : Encoding R) (shape : Shape) (tally : Tally) (growths : List (List R)) (wide : 1 ≤ form.width) (width : form.width ≡ shape.width) (size_of : (r : R) → length (form.bytes_of r) ≡ form.width) (some : 0 < length growths)
+module _ {R : Type 0} (form : Encoding R) (shape : Shape) (tally : Tally) (growths : List (List R)) (wide : 1 ≤ form.width)
+    (width : form.width ≡ shape.width) (size_of : (r : R) → length (form.bytes_of r) ≡ form.width)
+    (some : 0 < length growths)
     (each : AllByRecursion (λ growth. 0 < length growth) growths) where
   pub group_framed : payload_len form.width growths ≤ limit_of shape.format → IsFrame shape (group_frame form growths)
   group_framed fits =
@@ -59,34 +67,67 @@ module _ {R : Type 0} (form : Encoding R) (shape : Shape) (tally : Tally) (growt
       }
 
   pub group_follows : tally.size + length (joined growths) ≤ 2 ^ 32 → MayFollow tally (group_frame form growths)
-  group_follows short = record { ordered = refl; inside = refl; folded = refl; counted = refl; short = le-ltb (2 ^ 32) (tally.size + sum (map length growths)) (omega (arith, sum-lengths growths)) }
+  group_follows short =
+      record {
+        ordered = refl;
+        inside = refl;
+        folded = refl;
+        counted = refl;
+        short = le-ltb (2 ^ 32) (tally.size + sum (map length growths)) (omega (arith, sum-lengths growths));
+      }
 
 -- ---- begun
 
-module _ {R : Type 0} {count : ℕ} (keeps : Type 0) (states : List State) (shape : Shape) (gate : ℕ) (tally next : Tally) (bytes bytes' : List ℕ) (o : Option Step) (broken : Bool) (form : Encoding R) (growths : List (List R)) (pen : IsPen count keeps states shape gate tally next bytes o broken)
-    (whole : broken ≡ false) (idle : o ≡ None) (reads : keeps → IsImage (now states) (bytes_of states)) (spelled : bytes' ≡ frame_text shape.format (group_frame form growths) ++ 0 ∷ []) (wide : 1 ≤ form.width) (width : form.width ≡ shape.width)
-    (size_of : (r : R) → length (form.bytes_of r) ≡ form.width) (some : 0 < length growths) (each : AllByRecursion (λ growth. 0 < length growth) growths) (short : tally.size + length (joined growths) ≤ 2 ^ 32)
-    (fits : payload_len form.width growths ≤ limit_of shape.format) (not_full : gate + (6 + payload_len form.width growths) < 2 ^ 48) where
+-- What growths are begun from.
+pub record Grows {R D : Type 0} (form : Encoding R) (keeps : D → Type 0) (states : D → List State) (pen then : Inside D) (growths : List (List R)) : Type 0 where
+  pub sound : IsSound keeps states pen
+  pub going : pen.broken ≡ false
+  pub idle : pen.step ≡ None
+  pub reads : (disk : D) → keeps disk → IsImage (now (states disk)) (bytes_of (states disk))
+  pub spelled : then.bytes.items ≡ frame_text pen.shape.format (group_frame form growths) ++ 0 ∷ []
+  pub wide : 1 ≤ form.width
+  pub width : form.width ≡ pen.shape.width
+  pub size_of : (r : R) → length (form.bytes_of r) ≡ form.width
+  pub some : 0 < length growths
+  pub each : AllByRecursion (λ growth. 0 < length growth) growths
+  pub short : pen.tally.size + length (joined growths) ≤ 2 ^ 32
+  pub fits : payload_len form.width growths ≤ limit_of pen.shape.format
+  pub room : pen.gate + (6 + payload_len form.width growths) + fold_len (fold_of pen.fold) < 2 ^ 48
+  pub next_is : then.next ≡ record { size = pen.tally.size + length (joined growths); changes = pen.tally.changes; folded = pen.tally.folded }
+  pub homes_more : then.homes.homes.items ≡ pen.homes.homes.items ++ homes_entered pen.gate pen.tally.size (group_frame form growths)
+  pub runs_same : then.homes.live.items ≡ pen.homes.live.items
+
+module _ {R D : Type 0} {form : Encoding R} {keeps : D → Type 0} {states : D → List State} {pen then : Inside D}
+    {growths : List (List R)} (grows : Grows form keeps states pen then growths) where
   abbrev frame : Frame
   frame = group_frame form growths
 
-  framed : IsFrame shape frame
-  framed = group_framed form shape tally growths wide width size_of some each fits
+  abbrev counted : ℕ → Tally
+  counted n = record { size = pen.tally.size + n; changes = pen.tally.changes; folded = pen.tally.folded }
 
-  follows : MayFollow tally frame
-  follows = group_follows form shape tally growths wide width size_of some each short
+  long : length (frame_text pen.shape.format frame) ≡ 6 + payload_len form.width growths
+  long =
+      length-frame_text pen.shape.format frame
+      ∙ ap (λ n. 6 + n) (length-group_frame pen.shape.format form growths grows.size_of)
 
-  no_fold : (fold : ℕ) → frame ≡ Fold fold → ⊥
-  no_fold fold is = absurd cc
+  pub group_begins : Begins keeps states pen then frame
+  group_begins = record {
+    sound = grows.sound;
+    going = grows.going;
+    idle = grows.idle;
+    reads = grows.reads;
+    spelled = grows.spelled;
+    framed = group_framed form pen.shape pen.tally growths grows.wide grows.width grows.size_of grows.some grows.each grows.fits;
+    follows = group_follows form pen.shape pen.tally growths grows.wide grows.width grows.size_of grows.some grows.each grows.short;
+    counted = grows.next_is ∙ ap counted (sum-lengths growths);
+    no_fold = λ count is. absurd cc;
+    room = let all = grows.room in omega (arith, long);
+    homes_more = grows.homes_more;
+    runs_more = grows.runs_same ∙ sym (append-nil pen.homes.live.items);
+  }
 
-  room : gate + length (frame_text shape.format frame) < 2 ^ 48
-  room = let long = length-frame_text shape.format frame ∙ ap (λ n. 6 + n) (length-group_frame shape.format form growths size_of) in omega arith
-
-  pub group_begun : (next' : Tally) → next' ≡ after tally frame → IsPen count keeps states shape gate tally next' bytes' (Some Body) broken
-  group_begun next' counted = begun keeps states shape gate tally next next' bytes bytes' o broken frame pen whole idle reads spelled framed follows counted no_fold room
-
-  pub group_at : frame_at shape bytes' ≡ frame
-  group_at = begun_frame keeps states shape gate tally next (after tally frame) bytes bytes' o broken frame pen whole idle reads spelled framed follows refl no_fold room
-
-  pub group_tells : (vector : List (List ℕ)) (records : List R) → AreReadAgain form (joined growths) → AreCellsOf form vector records → AreCellsOf form (after_frame shape.width vector (frame_at shape bytes')) (records ++ joined growths)
-  group_tells vector records again read = subst (λ f. AreCellsOf form (after_frame shape.width vector f) (records ++ joined growths)) (sym group_at) (AreCellsOf_group form shape.width vector records growths width size_of again read)
+  pub group_tells : (vector : List (List ℕ)) (records : List R) → AreReadAgain form (joined growths) → AreCellsOf form vector records
+      → AreCellsOf form (after_frame pen.shape.width vector (frame_at pen.shape then.bytes.items)) (records ++ joined growths)
+  group_tells vector records again read =
+      subst (λ f. AreCellsOf form (after_frame pen.shape.width vector f) (records ++ joined growths)) (sym (begun_frame group_begins))
+      (AreCellsOf_group form pen.shape.width vector records growths grows.width grows.size_of again read)

@@ -18,6 +18,7 @@ mod home;
 mod home_runs;
 mod open;
 mod pen;
+mod scanning;
 mod settle;
 mod stage;
 mod step;
@@ -25,4 +26,5 @@ mod values;
 
 pub use fault::{OpenFault, PenFault};
 pub use pen::Pen;
+pub use scanning::{scan_disk, scan_front};
 pub use stage::{FoldStage, HomeTicked, Stage, Ticked};

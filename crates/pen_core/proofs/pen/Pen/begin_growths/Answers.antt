@@ -13,13 +13,16 @@ use Rattle.segment_core.proofs.Written.{sum-lengths}
 use Rattle.pen_core.specs.declared.step.Step.TheVariants.{Body}
 use Rattle.pen_core.specs.Refusals.{is_full, fold_len}
 use Rattle.pen_core.proofs.Begins.{no_step, no_job_same, all_fits, not_full}
-use Rattle.pen_core.proofs.Growths.{few_growths, group_begun, group_at, group_tells}
+use Rattle.pen_core.proofs.Growths.{few_growths, Grows, group_begins, group_tells}
 use Rattle.pen_core.specs.InHand.{fold_of}
-use Rattle.pen_core.proofs.InHand.{group_held}
 use Rattle.pen_core.proofs.AtRest.{at_rest}
 use Rattle.pen_core.proofs.KeptPen.{none_job, kept_begun}
-use Rattle.pen_core.proofs.Whole.{pen_kept}
-use Rattle.pen_core.proofs.Listed.{group_listed}
+use Rattle.pen_core.proofs.Whole.{sound_kept}
+use Rattle.pen_core.proofs.AtRest.{sound}
+use Rattle.pen_core.proofs.Listed.{group_entered}
+use Rattle.pen_core.proofs.FrameBegun.{pen_begun, begun_seen, unchanged_seen}
+use Rattle.pen_core.proofs.pen.Pen.begin_growths.Given.{Over}
+use Rattle.pen_core.proofs.pen.Pen.begin_growths.Goals.{After-self-2-1}
 use Rattle.pen_core.proofs.pen.Pen.begin_growths.Goals as goal
 
 on_ok : {A E P : Type 0} (r : Result A E) → is_err r ≡ false → OnOk r P → P
@@ -68,116 +71,125 @@ push_reserved-requires g c = below_more (on_ok c.reserve.result (sym c.is_err.en
 pub invariant_of-self : goal.invariant_of-self
 invariant_of-self g c =
     let s = c.self.inside in
-    at_rest (g.D.Disk.keeps s.disk) (g.D.Disk.states s.disk) s.shape s.gate s.tally s.next s.bytes.items s.bytes.items s.step s.broken s.homes (record { homes = c.reserve.new.self; live = s.homes.live }) s.live s.fold c.self.invariant.0 c.self.invariant.1 c.self.invariant.2
-    (no_step s.shape s.bytes.items s.step (subst (λ v. is_some v.job ≡ false) (sym c.self.view_is) c.in_ok-ready.ensures.idle)) c.reserve.ensures.items refl
+    sound
+        (at_rest c.self.invariant s.bytes.items (record { homes = c.reserve.new.self; live = s.homes.live })
+            (no_step s.shape s.bytes.items s.step
+                (subst (λ v. is_some v.job ≡ false) (sym c.self.view_is) c.in_ok-ready.ensures.idle))
+            c.reserve.ensures.items refl)
 
 pub invariant_of-self-then-is_err-2 : goal.invariant_of-self-then-is_err-2
 invariant_of-self-then-is_err-2 g c =
     let s = c.self.inside in
-    at_rest (g.D.Disk.keeps s.disk) (g.D.Disk.states s.disk) s.shape s.gate s.tally s.next s.bytes.items c.append_group.new.file.items s.step s.broken s.homes (record { homes = c.reserve.new.self; live = s.homes.live }) s.live s.fold c.self.invariant.0 c.self.invariant.1 c.self.invariant.2
-    (no_step s.shape s.bytes.items s.step (subst (λ v. is_some v.job ≡ false) (sym c.self.view_is) c.in_ok-ready.ensures.idle)) c.reserve.ensures.items refl
+    sound
+        (at_rest c.self.invariant c.append_group.new.file.items (record { homes = c.reserve.new.self; live = s.homes.live })
+            (no_step s.shape s.bytes.items s.step
+                (subst (λ v. is_some v.job ≡ false) (sym c.self.view_is) c.in_ok-ready.ensures.idle))
+            c.reserve.ensures.items refl)
 
 pub invariant_of-self-then-is_err-3 : goal.invariant_of-self-then-is_err-3
 invariant_of-self-then-is_err-3 g c =
     let s = c.self.inside in
-    at_rest (g.D.Disk.keeps s.disk) (g.D.Disk.states s.disk) s.shape s.gate s.tally s.next s.bytes.items c.push.new.self.items s.step s.broken s.homes (record { homes = c.reserve.new.self; live = s.homes.live }) s.live s.fold c.self.invariant.0 c.self.invariant.1 c.self.invariant.2
-    (no_step s.shape s.bytes.items s.step (subst (λ v. is_some v.job ≡ false) (sym c.self.view_is) c.in_ok-ready.ensures.idle)) c.reserve.ensures.items refl
+    sound
+        (at_rest c.self.invariant c.push.new.self.items (record { homes = c.reserve.new.self; live = s.homes.live })
+            (no_step s.shape s.bytes.items s.step
+                (subst (λ v. is_some v.job ≡ false) (sym c.self.view_is) c.in_ok-ready.ensures.idle))
+            c.reserve.ensures.items refl)
+
+-- what the begin rests on once memory was taken
+begins : (g : Over) (c : After-self-2-1 g)
+    → Grows g.R.Record.form g.D.Disk.keeps g.D.Disk.states c.self.inside
+    (record c.self.inside {
+      next = record c.self.inside.tally { size = c.self.inside.tally.size + c.in-Some.records };
+      bytes = c.push.new.self;
+      homes = record { homes = c.push_reserved.new.self; live = c.self.inside.homes.live };
+    })
+    (g.G.GrowthList.growths c.args.growths.now)
+begins g c =
+    let s = c.self.inside in
+    let form = g.R.Record.form in
+    let growths = g.G.GrowthList.growths c.args.growths.now in
+    let laws = g.met.R.Record g.world.𝓛 g.world.𝓜 g.world.𝓡 ((λ s x. x), (λ x. x), (λ x. x), λ x. x) in
+    let counted : c.in-Some.records ≡ length (joined growths) = c.in-Some.ensures.0 in
+    let len : ℕ = 4 + c.count.result * 4 + c.in-Some.records * c.width_of.result in
+    let payload : len ≡ payload_len form.width growths =
+        ap (λ n. 4 + n * 4 + c.in-Some.records * c.width_of.result) c.count.ensures
+        ∙ ap (λ n. 4 + length growths * 4 + n * c.width_of.result) counted
+        ∙ ap (λ w. 4 + length growths * 4 + length (joined growths) * w) c.width_of.ensures.is in
+    let text =
+        on_ok c.append_group.result (sym c.is_err-2.ensures.value ∙ c.if-is_err-2.false) c.append_group.ensures.text s.shape.format
+        ∙ ap (λ bs. bs ++ frame_text s.shape.format (group_frame form growths)) c.clear.ensures.items in
+    record {
+      sound = c.self.invariant;
+      going = subst (λ v. v.broken ≡ false) (sym c.self.view_is) c.in_ok-ready.ensures.whole;
+      idle = no_step s.shape s.bytes.items s.step (subst (λ v. is_some v.job ≡ false) (sym c.self.view_is) c.in_ok-ready.ensures.idle);
+      reads = g.met.D.Disk.reads_an_image;
+      spelled =
+          c.push.ensures.items
+          ∙ pushed c.push.result (sym c.is_err-3.ensures.value ∙ c.if-is_err-3.false) c.append_group.new.file.items
+            (c.append_group.new.file.items ++ 0 ∷ [])
+          ∙ ap (λ bs. bs ++ 0 ∷ []) text;
+      wide = laws.width_in_range.0;
+      width = c.requires.width ∙ sym (ap (λ v. v.shape.width) c.self.view_is);
+      size_of = laws.width_of_bytes;
+      some = c.requires.some;
+      each = c.requires.each;
+      short = subst (λ n. s.tally.size + n ≤ 2 ^ 32) counted c.if-self-records-gt-RECORD_LIMIT.false;
+      fits =
+          subst (λ n. n ≤ limit_of s.shape.format) payload
+          (subst (λ n. len ≤ n) c.payload_limit-limit.ensures.is c.if-payload-limit.false);
+      room =
+          subst (λ n. s.gate + (6 + n) + fold_len (fold_of s.fold) < 2 ^ 48) payload
+          (all_fits c.is_full.result s.gate len (fold_len (fold_of s.fold))
+          (c.is_full.ensures ∙ ap (λ v. is_full v len) (sym c.self.view_is)) c.if-is_full.false);
+      next_is = ap (λ n. record { size = s.tally.size + n; changes = s.tally.changes; folded = s.tally.folded }) counted;
+      homes_more =
+          group_entered form s.gate s.tally.size growths c.count-2.result c.in-Some.records c.count-2.ensures counted
+          c.reserve.new.self.items c.push_reserved.new.self.items s.homes.homes.items c.push_reserved.ensures.items c.reserve.ensures.items;
+      runs_same = refl;
+    }
 
 pub invariant_of-self-2 : goal.invariant_of-self-2
-invariant_of-self-2 g c =
-    let s = c.self.inside in
-    let growths = g.G.GrowthList.growths c.args.growths.now in
-    let laws = g.met.R.Record g.world.𝓛 g.world.𝓜 g.world.𝓡 ((λ s x. x), (λ x. x), (λ x. x), λ x. x) in
-    let width : g.R.Record.form.width ≡ s.shape.width = c.requires.width ∙ sym (ap (λ v. v.shape.width) c.self.view_is) in
-    let here : Home = record { position = s.tally.size; place = s.gate + (10 + c.count-2.result * 4); count = c.in-Some.records } in
-    let more : c.push_reserved.new.self.items ≡ c.reserve.new.self.items ++ here ∷ [] = c.push_reserved.ensures.items in
-    let counted : c.in-Some.records ≡ length (joined growths) = c.in-Some.ensures.0 in
-    let payload : 4 + c.count.result * 4 + c.in-Some.records * c.width_of.result ≡ payload_len g.R.Record.form.width growths = ap (λ n. 4 + n * 4 + c.in-Some.records * c.width_of.result) c.count.ensures ∙ ap (λ n. 4 + length growths * 4 + n * c.width_of.result) counted ∙ ap (λ w. 4 + length growths * 4 + length (joined growths) * w) c.width_of.ensures.is in
-    let short : s.tally.size + length (joined growths) ≤ 2 ^ 32 = subst (λ n. s.tally.size + n ≤ 2 ^ 32) counted c.if-self-records-gt-RECORD_LIMIT.false in
-    let fits : payload_len g.R.Record.form.width growths ≤ limit_of s.shape.format = subst (λ n. n ≤ limit_of s.shape.format) payload (subst (λ n. 4 + c.count.result * 4 + c.in-Some.records * c.width_of.result ≤ n) c.payload_limit-limit.ensures.is c.if-payload-limit.false) in
-    let room = subst (λ n. s.gate + (6 + n) < 2 ^ 48) payload (not_full c.is_full.result s.gate (4 + c.count.result * 4 + c.in-Some.records * c.width_of.result) (fold_len (fold_of s.fold)) (c.is_full.ensures ∙ ap (λ v. is_full v (4 + c.count.result * 4 + c.in-Some.records * c.width_of.result)) (sym c.self.view_is)) c.if-is_full.false) in
-    let text = on_ok c.append_group.result (sym c.is_err-2.ensures.value ∙ c.if-is_err-2.false) c.append_group.ensures.text s.shape.format ∙ ap (λ bs. bs ++ frame_text s.shape.format (group_frame g.R.Record.form growths)) c.clear.ensures.items in
-    let spelled : c.push.new.self.items ≡ frame_text s.shape.format (group_frame g.R.Record.form growths) ++ 0 ∷ [] = c.push.ensures.items ∙ pushed c.push.result (sym c.is_err-3.ensures.value ∙ c.if-is_err-3.false) c.append_group.new.file.items (c.append_group.new.file.items ++ 0 ∷ []) ∙ ap (λ bs. bs ++ 0 ∷ []) text in
-    let after_it = ap (λ n. record { size = s.tally.size + n; changes = s.tally.changes; folded = s.tally.folded }) (counted ∙ sum-lengths growths) in (
-      group_begun (g.D.Disk.keeps s.disk) (g.D.Disk.states s.disk) s.shape s.gate s.tally s.next s.bytes.items c.push.new.self.items s.step s.broken g.R.Record.form growths c.self.invariant.0
-          (subst (λ v. v.broken ≡ false) (sym c.self.view_is) c.in_ok-ready.ensures.whole) (no_step s.shape s.bytes.items s.step (subst (λ v. is_some v.job ≡ false) (sym c.self.view_is) c.in_ok-ready.ensures.idle)) (g.met.D.Disk.reads_an_image s.disk)
-          spelled laws.width_in_range.0 width laws.width_of_bytes c.requires.some c.requires.each short fits room (record { size = s.tally.size + c.in-Some.records; changes = s.tally.changes; folded = s.tally.folded }) after_it,
-      group_listed (g.D.Disk.keeps s.disk) (g.D.Disk.states s.disk) s.shape s.gate s.tally s.bytes.items c.push.new.self.items s.step s.homes (record { homes = c.push_reserved.new.self; live = s.homes.live }) s.live g.R.Record.form growths c.self.invariant.1
-          (no_step s.shape s.bytes.items s.step (subst (λ v. is_some v.job ≡ false) (sym c.self.view_is) c.in_ok-ready.ensures.idle))
-          (group_at (g.D.Disk.keeps s.disk) (g.D.Disk.states s.disk) s.shape s.gate s.tally s.next s.bytes.items c.push.new.self.items s.step s.broken g.R.Record.form growths c.self.invariant.0
-          (subst (λ v. v.broken ≡ false) (sym c.self.view_is) c.in_ok-ready.ensures.whole) (no_step s.shape s.bytes.items s.step (subst (λ v. is_some v.job ≡ false) (sym c.self.view_is) c.in_ok-ready.ensures.idle)) (g.met.D.Disk.reads_an_image s.disk)
-          spelled laws.width_in_range.0 width laws.width_of_bytes c.requires.some c.requires.each short fits room)
-          c.count-2.result c.in-Some.records c.count-2.ensures counted {old = c.reserve.new.self.items} more c.reserve.ensures.items refl,
-      group_held (g.D.Disk.keeps s.disk) (g.D.Disk.states s.disk) s.shape s.gate s.tally s.bytes.items c.push.new.self.items s.step s.broken s.fold g.R.Record.form growths c.self.invariant.2
-          (no_step s.shape s.bytes.items s.step (subst (λ v. is_some v.job ≡ false) (sym c.self.view_is) c.in_ok-ready.ensures.idle)) spelled laws.width_of_bytes
-          (subst (λ n. s.gate + (6 + n) + fold_len (fold_of s.fold) < 2 ^ 48) payload (all_fits c.is_full.result s.gate (4 + c.count.result * 4 + c.in-Some.records * c.width_of.result) (fold_len (fold_of s.fold)) (c.is_full.ensures ∙ ap (λ v. is_full v (4 + c.count.result * 4 + c.in-Some.records * c.width_of.result)) (sym c.self.view_is)) c.if-is_full.false)),
-    )
+invariant_of-self-2 g c = pen_begun (group_begins (begins g (goal.at.invariant_of-self-2 g c).After-self-2-1))
 
 pub returns-clause-begun : goal.returns-clause-begun
-returns-clause-begun g c = rw (← c.self.view_is) (
-    let s = c.self.inside in
-    let growths = g.G.GrowthList.growths c.args.growths.now in
-    let laws = g.met.R.Record g.world.𝓛 g.world.𝓜 g.world.𝓡 ((λ s x. x), (λ x. x), (λ x. x), λ x. x) in
-    let width : g.R.Record.form.width ≡ s.shape.width = c.requires.width ∙ sym (ap (λ v. v.shape.width) c.self.view_is) in
-    let counted : c.in-Some.records ≡ length (joined growths) = c.in-Some.ensures.0 in
-    let payload : 4 + c.count.result * 4 + c.in-Some.records * c.width_of.result ≡ payload_len g.R.Record.form.width growths = ap (λ n. 4 + n * 4 + c.in-Some.records * c.width_of.result) c.count.ensures ∙ ap (λ n. 4 + length growths * 4 + n * c.width_of.result) counted ∙ ap (λ w. 4 + length growths * 4 + length (joined growths) * w) c.width_of.ensures.is in
-    let short : s.tally.size + length (joined growths) ≤ 2 ^ 32 = subst (λ n. s.tally.size + n ≤ 2 ^ 32) counted c.if-self-records-gt-RECORD_LIMIT.false in
-    let fits : payload_len g.R.Record.form.width growths ≤ limit_of s.shape.format = subst (λ n. n ≤ limit_of s.shape.format) payload (subst (λ n. 4 + c.count.result * 4 + c.in-Some.records * c.width_of.result ≤ n) c.payload_limit-limit.ensures.is c.if-payload-limit.false) in
-    let room = subst (λ n. s.gate + (6 + n) < 2 ^ 48) payload (not_full c.is_full.result s.gate (4 + c.count.result * 4 + c.in-Some.records * c.width_of.result) (fold_len (fold_of s.fold)) (c.is_full.ensures ∙ ap (λ v. is_full v (4 + c.count.result * 4 + c.in-Some.records * c.width_of.result)) (sym c.self.view_is)) c.if-is_full.false) in
-    let text = on_ok c.append_group.result (sym c.is_err-2.ensures.value ∙ c.if-is_err-2.false) c.append_group.ensures.text s.shape.format ∙ ap (λ bs. bs ++ frame_text s.shape.format (group_frame g.R.Record.form growths)) c.clear.ensures.items in
-    let spelled : c.push.new.self.items ≡ frame_text s.shape.format (group_frame g.R.Record.form growths) ++ 0 ∷ [] = c.push.ensures.items ∙ pushed c.push.result (sym c.is_err-3.ensures.value ∙ c.if-is_err-3.false) c.append_group.new.file.items (c.append_group.new.file.items ++ 0 ∷ []) ∙ ap (λ bs. bs ++ 0 ∷ []) text in
-    let frame = group_at (g.D.Disk.keeps s.disk) (g.D.Disk.states s.disk) s.shape s.gate s.tally s.next s.bytes.items c.push.new.self.items s.step s.broken g.R.Record.form growths c.self.invariant.0
-    (subst (λ v. v.broken ≡ false) (sym c.self.view_is) c.in_ok-ready.ensures.whole) (no_step s.shape s.bytes.items s.step (subst (λ v. is_some v.job ≡ false) (sym c.self.view_is) c.in_ok-ready.ensures.idle)) (g.met.D.Disk.reads_an_image s.disk)
-    spelled laws.width_in_range.0 width laws.width_of_bytes c.requires.some c.requires.each short fits room in
-    record { job_is = ap (λ f. Some (record { frame = f; step = Body })) frame; disk_same = refl; file_same = record { frames_same = refl; vector_same = refl }; broken_same = refl; shape_same = refl; fold_same = refl; tally_same = refl; gate_same = refl })
+returns-clause-begun g c = rw (← c.self.view_is) (begun_seen (group_begins (begins g (goal.at.returns-clause-begun g c).After-self-2-1)))
 
 pub returns-clause-next : goal.returns-clause-next
-returns-clause-next g c = rw (← c.self.view_is) (
+returns-clause-next g c = rw (← c.self.view_is) (λ records read.
     let s = c.self.inside in
-    let growths = g.G.GrowthList.growths c.args.growths.now in
-    let laws = g.met.R.Record g.world.𝓛 g.world.𝓜 g.world.𝓡 ((λ s x. x), (λ x. x), (λ x. x), λ x. x) in
-    let width : g.R.Record.form.width ≡ s.shape.width = c.requires.width ∙ sym (ap (λ v. v.shape.width) c.self.view_is) in
-    let counted : c.in-Some.records ≡ length (joined growths) = c.in-Some.ensures.0 in
-    let payload : 4 + c.count.result * 4 + c.in-Some.records * c.width_of.result ≡ payload_len g.R.Record.form.width growths = ap (λ n. 4 + n * 4 + c.in-Some.records * c.width_of.result) c.count.ensures ∙ ap (λ n. 4 + length growths * 4 + n * c.width_of.result) counted ∙ ap (λ w. 4 + length growths * 4 + length (joined growths) * w) c.width_of.ensures.is in
-    let short : s.tally.size + length (joined growths) ≤ 2 ^ 32 = subst (λ n. s.tally.size + n ≤ 2 ^ 32) counted c.if-self-records-gt-RECORD_LIMIT.false in
-    let fits : payload_len g.R.Record.form.width growths ≤ limit_of s.shape.format = subst (λ n. n ≤ limit_of s.shape.format) payload (subst (λ n. 4 + c.count.result * 4 + c.in-Some.records * c.width_of.result ≤ n) c.payload_limit-limit.ensures.is c.if-payload-limit.false) in
-    let room = subst (λ n. s.gate + (6 + n) < 2 ^ 48) payload (not_full c.is_full.result s.gate (4 + c.count.result * 4 + c.in-Some.records * c.width_of.result) (fold_len (fold_of s.fold)) (c.is_full.ensures ∙ ap (λ v. is_full v (4 + c.count.result * 4 + c.in-Some.records * c.width_of.result)) (sym c.self.view_is)) c.if-is_full.false) in
-    let text = on_ok c.append_group.result (sym c.is_err-2.ensures.value ∙ c.if-is_err-2.false) c.append_group.ensures.text s.shape.format ∙ ap (λ bs. bs ++ frame_text s.shape.format (group_frame g.R.Record.form growths)) c.clear.ensures.items in
-    let spelled : c.push.new.self.items ≡ frame_text s.shape.format (group_frame g.R.Record.form growths) ++ 0 ∷ [] = c.push.ensures.items ∙ pushed c.push.result (sym c.is_err-3.ensures.value ∙ c.if-is_err-3.false) c.append_group.new.file.items (c.append_group.new.file.items ++ 0 ∷ []) ∙ ap (λ bs. bs ++ 0 ∷ []) text in
-    λ records read. group_tells (g.D.Disk.keeps s.disk) (g.D.Disk.states s.disk) s.shape s.gate s.tally s.next s.bytes.items c.push.new.self.items s.step s.broken g.R.Record.form growths c.self.invariant.0
-    (subst (λ v. v.broken ≡ false) (sym c.self.view_is) c.in_ok-ready.ensures.whole) (no_step s.shape s.bytes.items s.step (subst (λ v. is_some v.job ≡ false) (sym c.self.view_is) c.in_ok-ready.ensures.idle)) (g.met.D.Disk.reads_an_image s.disk)
-    spelled laws.width_in_range.0 width laws.width_of_bytes c.requires.some c.requires.each short fits room (vector_before s.shape s.gate (bytes_of (g.D.Disk.states s.disk))) records (on_ok c.append_group.result (sym c.is_err-2.ensures.value ∙ c.if-is_err-2.false) c.append_group.ensures.read_again) read)
+    group_tells (begins g (goal.at.returns-clause-next g c).After-self-2-1)
+    (vector_before s.shape s.gate (bytes_of (g.D.Disk.states s.disk))) records
+    (on_ok c.append_group.result (sym c.is_err-2.ensures.value ∙ c.if-is_err-2.false) c.append_group.ensures.read_again) read)
 
 -- ---- where memory is refused
 
 pub returns-then-is_err-2-clause-unchanged : goal.returns-then-is_err-2-clause-unchanged
 returns-then-is_err-2-clause-unchanged g c = rw (← c.self.view_is) (
     let s = c.self.inside in
-    let idle = no_step s.shape s.bytes.items s.step (subst (λ v. is_some v.job ≡ false) (sym c.self.view_is) c.in_ok-ready.ensures.idle) in
-    record { disk_same = refl; file_same = record { frames_same = refl; vector_same = refl }; job_same = no_job_same s.shape s.bytes.items c.append_group.new.file.items s.step idle; broken_same = refl; shape_same = refl; fold_same = refl; tally_same = refl; gate_same = refl })
+    unchanged_seen g.D.Disk.states s (record s { bytes = c.append_group.new.file; homes = record { homes = c.reserve.new.self; live = s.homes.live } })
+    (no_step s.shape s.bytes.items s.step (subst (λ v. is_some v.job ≡ false) (sym c.self.view_is) c.in_ok-ready.ensures.idle)))
 
 pub returns-then-is_err-3-clause-unchanged : goal.returns-then-is_err-3-clause-unchanged
 returns-then-is_err-3-clause-unchanged g c = rw (← c.self.view_is) (
     let s = c.self.inside in
-    let idle = no_step s.shape s.bytes.items s.step (subst (λ v. is_some v.job ≡ false) (sym c.self.view_is) c.in_ok-ready.ensures.idle) in
-    record { disk_same = refl; file_same = record { frames_same = refl; vector_same = refl }; job_same = no_job_same s.shape s.bytes.items c.push.new.self.items s.step idle; broken_same = refl; shape_same = refl; fold_same = refl; tally_same = refl; gate_same = refl })
+    unchanged_seen g.D.Disk.states s (record s { bytes = c.push.new.self; homes = record { homes = c.reserve.new.self; live = s.homes.live } })
+    (no_step s.shape s.bytes.items s.step (subst (λ v. is_some v.job ≡ false) (sym c.self.view_is) c.in_ok-ready.ensures.idle)))
 
 -- ---- what may be pending
 
 pub returns-then-is_err-clause-kept : goal.returns-then-is_err-clause-kept
 returns-then-is_err-clause-kept g c =
     let s = c.self.inside in
-    λ model. pen_kept s.fold (g.D.Disk.keeps s.disk) (g.D.Disk.states s.disk) s.shape s.gate s.tally s.next s.bytes.items s.step s.broken c.self.invariant.0 model s.disk (vec_capacity s.bytes)
+    sound_kept c.self.invariant
 
 pub returns-then-is_err-2-clause-kept : goal.returns-then-is_err-2-clause-kept
-returns-then-is_err-2-clause-kept g c =
-    let s = c.self.inside in
-    λ model. pen_kept s.fold (g.D.Disk.keeps s.disk) (g.D.Disk.states s.disk) s.shape s.gate s.tally s.next c.append_group.new.file.items s.step s.broken (invariant_of-self-then-is_err-2 g c).0 model s.disk (vec_capacity c.append_group.new.file)
+returns-then-is_err-2-clause-kept g c = sound_kept (invariant_of-self-then-is_err-2 g c)
 
 pub returns-then-is_err-3-clause-kept : goal.returns-then-is_err-3-clause-kept
-returns-then-is_err-3-clause-kept g c =
-    let s = c.self.inside in
-    λ model. pen_kept s.fold (g.D.Disk.keeps s.disk) (g.D.Disk.states s.disk) s.shape s.gate s.tally s.next c.push.new.self.items s.step s.broken (invariant_of-self-then-is_err-3 g c).0 model s.disk (vec_capacity c.push.new.self)
+returns-then-is_err-3-clause-kept g c = sound_kept (invariant_of-self-then-is_err-3 g c)
 
 pub returns-clause-kept : goal.returns-clause-kept
-returns-clause-kept g c = kept_begun g.D.Disk.keeps g.D.Disk.states c.args.self.now _ c.ready.ensures.kept (group_frame g.R.Record.form (g.G.GrowthList.growths c.args.growths.now)) (none_job c.args.self.now c.in_ok-ready.ensures.idle) (returns-clause-begun g c)
+returns-clause-kept g c =
+    kept_begun g.D.Disk.keeps g.D.Disk.states c.args.self.now _ c.ready.ensures.kept
+      (group_frame g.R.Record.form (g.G.GrowthList.growths c.args.growths.now))
+      (none_job c.args.self.now c.in_ok-ready.ensures.idle) (returns-clause-begun g c)
