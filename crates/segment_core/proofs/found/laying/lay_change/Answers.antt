@@ -5,7 +5,7 @@ use Rattle.segment_core.specs.Reading.{runs_of, record_bytes_of}
 use Rattle.segment_core.specs.Vector.{place_among, place_in_runs}
 use Rattle.segment_core.specs.Found.{StandsAt, first_record_of, IsLaid}
 use Rattle.segment_core.proofs.FoundLaid.{stands_part, laid_nothing, laid_run, run_fits}
-use Rattle.segment_core.proofs.found.lay_change.Goals as goal
+use Rattle.segment_core.proofs.found.laying.lay_change.Goals as goal
 
 pub overflow_add-end : goal.overflow_add-end
 overflow_add-end g c =

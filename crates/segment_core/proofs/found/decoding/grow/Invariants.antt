@@ -1,7 +1,7 @@
 use Rattle.std.proofs.Common.{◌≡◌, ◌≤◌, ◌+◌, List, length, ℕ, vec_len, vec_capacity}
 use Rattle.segment_core.specs.Vector.{place_among}
 use Rattle.segment_core.specs.Found.{StandsAt, IsLaid}
-use Rattle.segment_core.proofs.found.grow.Given as goal
+use Rattle.segment_core.proofs.found.decoding.grow.Given as goal
 
 abbrev pub invariant-loop-k : goal.invariant-loop-k
 invariant-loop-k g l = record {

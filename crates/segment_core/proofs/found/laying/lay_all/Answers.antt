@@ -5,7 +5,7 @@ use Rattle.segment_core.specs.Found.{StandsAt, first_record_of, IsLaid, live_amo
 use Rattle.segment_core.specs.Reading.{runs_of}
 use Rattle.segment_core.specs.Vector.{place_in_runs}
 use Rattle.segment_core.proofs.FoundChanges.{all_at, laid_change}
-use Rattle.segment_core.proofs.found.lay_all.Goals as goal
+use Rattle.segment_core.proofs.found.laying.lay_all.Goals as goal
 
 pub loop-k-preserved : goal.loop-k-preserved
 loop-k-preserved g c = λ image all. (

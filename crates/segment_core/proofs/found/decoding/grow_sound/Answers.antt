@@ -2,7 +2,7 @@ use Rattle.std.proofs.Common.{◌≡◌, ◌+◌, ◌-◌, ◌*◌, List, length
 use Rattle.std.proofs.lemmas.List.{length_push, length-take-le, length-drop}
 use Rattle.segment_core.specs.Notes.{noted}
 use Rattle.segment_core.proofs.FoundLaid.{decoded_whole, laid_push, stands_part, cell_within}
-use Rattle.segment_core.proofs.found.grow_sound.Goals as goal
+use Rattle.segment_core.proofs.found.decoding.grow_sound.Goals as goal
 
 pub loop-sound-preserved : goal.loop-sound-preserved
 loop-sound-preserved g c =

@@ -1,7 +1,7 @@
 use Rattle.std.proofs.Common.{◌≡◌, ◌≤◌, ◌+◌, ◌-◌, List, length, ℕ, vec_len, vec_capacity}
 use Rattle.segment_core.specs.Vector.{place_among}
 use Rattle.segment_core.specs.Found.{StandsAt, IsLaid}
-use Rattle.segment_core.proofs.found.grow_sound.Given as goal
+use Rattle.segment_core.proofs.found.decoding.grow_sound.Given as goal
 
 abbrev pub invariant-loop-sound : goal.invariant-loop-sound
 invariant-loop-sound g l = record {

@@ -3,7 +3,7 @@ use Rattle.std.proofs.lemmas.List.{length_push}
 use Rattle.segment_core.specs.Vector.{place_among}
 use Rattle.segment_core.specs.Found.{IsLaid}
 use Rattle.segment_core.proofs.FoundLaid.{laid_push, stands_part, cell_within}
-use Rattle.segment_core.proofs.found.grow.Goals as goal
+use Rattle.segment_core.proofs.found.decoding.grow.Goals as goal
 
 pub loop-k-preserved : goal.loop-k-preserved
 loop-k-preserved g c =
