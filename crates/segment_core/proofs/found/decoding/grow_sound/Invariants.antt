@@ -8,7 +8,9 @@ invariant-loop-sound g l = record {
   inside : l.sound ≤ l.count;
   longer : length l.grown.items ≡ length l.fn.records.items + l.sound;
   room : vec_len l.grown + l.count ≤ vec_capacity l.grown + l.sound;
-  laid : (image : List ℕ) (place : ℕ) → StandsAt image place l.area → IsLaid g.R.Record.form image (place_among g.R.Record.form.width place (length l.fn.records.items) l.sound) l.fn.records.items l.notes l.grown.items l.notes;
+  laid : (image : List ℕ) (place : ℕ)
+      → StandsAt image place l.area
+      → IsLaid g.R.Record.form image (place_among g.R.Record.form.width place (length l.fn.records.items) l.sound) l.fn.records.items l.notes l.grown.items l.notes;
 }
 
 abbrev pub decreases-loop-sound : goal.decreases-loop-sound
