@@ -22,9 +22,15 @@ Apart width a b = (a + width ≤ b) ⊎ (b + width ≤ a)
 
 -- what one says and what the other says in one frame stand apart
 abbrev pub SayApart : Shape → (ℕ → Tally → Frame → Option ℕ) → (ℕ → Tally → Frame → Option ℕ) → Type 0
-SayApart shape says others = (p : ℕ) (tally : Tally) (frame : Frame) (a b : ℕ) → IsFrame shape frame → says p tally frame ≡ Some a → others p tally frame ≡ Some b → Apart shape.width a b
+SayApart shape says others =
+    (p : ℕ) (tally : Tally) (frame : Frame) (a b : ℕ)
+    → IsFrame shape frame → says p tally frame ≡ Some a → others p tally frame ≡ Some b
+    → Apart shape.width a b
 
-last_from_apart : (shape : Shape) (says others : ℕ → Tally → Frame → Option ℕ) (p : ℕ) (tally : Tally) (frames : List Frame) (a b : ℕ) → SaysInside shape says → SaysInside shape others → SayApart shape says others → AreLegalFrom shape tally frames
+last_from_apart : (shape : Shape) (says others : ℕ → Tally → Frame → Option ℕ) (p : ℕ) (tally : Tally)
+    (frames : List Frame) (a b : ℕ)
+    → SaysInside shape says → SaysInside shape others → SayApart shape says others
+    → AreLegalFrom shape tally frames
     → last_from says shape.format p tally frames ≡ Some a → last_from others shape.format p tally frames ≡ Some b → Apart shape.width a b
 last_from_apart shape says others p tally [] a b inside inside' apart legal x y = absurd cc
 last_from_apart shape says others p tally (frame ∷ frames) a b inside inside' apart legal x y =
@@ -35,7 +41,9 @@ last_from_apart shape says others p tally (frame ∷ frames) a b inside inside' 
         | inr here ↦ (let u = last_from_between shape says n (after tally frame) frames a inside legal.2 later in let v = inside' p tally frame b legal.0 here.1 in inr (omega (arith, u.from, v.to)))
       ]
       | inr here ↦ elim (option_or_cases (last_from others shape.format n (after tally frame) frames) (others p tally frame) b y) [
-        | inl later ↦ (let u = last_from_between shape others n (after tally frame) frames b inside' legal.2 later in let v = inside p tally frame a legal.0 here.1 in inl (omega (arith, u.from, v.to)))
+        | inl later ↦
+            (let u = last_from_between shape others n (after tally frame) frames b inside' legal.2 later in
+            let v = inside p tally frame a legal.0 here.1 in inl (omega (arith, u.from, v.to)))
         | inr too ↦ apart p tally frame a b legal.0 here.1 too.1
       ]
     ]
@@ -62,16 +70,25 @@ change_in_apart shape folded i k p tally (Fold count) a b whole x y = absurd cc
 
 -- ---- of a file
 
-pub home_of_apart : (shape : Shape) (frames : List Frame) (i k a b : ℕ) → AreLegal shape frames → (i ≡ k → ⊥) → home_of shape frames i ≡ Some a → home_of shape frames k ≡ Some b → Apart shape.width a b
+pub home_of_apart : (shape : Shape) (frames : List Frame) (i k a b : ℕ)
+    → AreLegal shape frames → (i ≡ k → ⊥) → home_of shape frames i ≡ Some a → home_of shape frames k ≡ Some b
+    → Apart shape.width a b
 home_of_apart shape frames i k a b legal other x y =
-    last_from_apart shape (home_in shape.width i) (home_in shape.width k) (length (header shape)) nothing frames a b (home_in_between shape i) (home_in_between shape k) (home_in_apart shape i k other) legal x y
+    last_from_apart shape (home_in shape.width i) (home_in shape.width k) (length (header shape)) nothing frames a b
+    (home_in_between shape i) (home_in_between shape k) (home_in_apart shape i k other) legal x y
 
-pub change_of_apart : (shape : Shape) (folded : ℕ) (frames : List Frame) (i k a b : ℕ) → AreLegal shape frames → change_of shape folded frames i ≡ Some a → home_of shape frames k ≡ Some b → Apart shape.width a b
+pub change_of_apart : (shape : Shape) (folded : ℕ) (frames : List Frame) (i k a b : ℕ)
+    → AreLegal shape frames → change_of shape folded frames i ≡ Some a → home_of shape frames k ≡ Some b
+    → Apart shape.width a b
 change_of_apart shape folded frames i k a b legal x y =
-    last_from_apart shape (change_in shape folded i) (home_in shape.width k) (length (header shape)) nothing frames a b (change_in_between shape folded i) (home_in_between shape k) (change_in_apart shape folded i k) legal x y
+    last_from_apart shape (change_in shape folded i) (home_in shape.width k) (length (header shape)) nothing frames a
+    b (change_in_between shape folded i) (home_in_between shape k) (change_in_apart shape folded i k) legal x y
 
 -- a byte that says what is at a position isn't loose
-pub place_of_told : (shape : Shape) (frames : List Frame) (i place j : ℕ) → AreLegal shape frames → place_of shape frames i ≡ Some place → place ≤ j → j < place + shape.width → IsLoose shape frames j → ⊥
+pub place_of_told : (shape : Shape) (frames : List Frame) (i place j : ℕ)
+    → AreLegal shape frames → place_of shape frames i ≡ Some place → place ≤ j → j < place + shape.width
+    → IsLoose shape frames j
+    → ⊥
 place_of_told shape frames i place j legal is from before loose =
     let folded : ℕ = (tally_of frames).folded in
     elim (place_of_cases shape frames i place is) [

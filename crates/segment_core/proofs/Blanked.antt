@@ -27,7 +27,9 @@ blanked-blanked (Fold count) = refl
 
 length-payload_of-blanked : (format : Format) (frame : Frame) → length (payload_of format (blanked frame)) ≡ length (payload_of format frame)
 length-payload_of-blanked format (Group lengths bytes) =
-    length-payload_of format (Group lengths (replicate (length bytes) 0)) ∙ ap (λ n. 4 + length lengths * 4 + n) (length-replicate (length bytes) 0) ∙ sym (length-payload_of format (Group lengths bytes))
+    length-payload_of format (Group lengths (replicate (length bytes) 0))
+    ∙ ap (λ n. 4 + length lengths * 4 + n) (length-replicate (length bytes) 0)
+    ∙ sym (length-payload_of format (Group lengths bytes))
 length-payload_of-blanked format (Change runs bytes) = refl
 length-payload_of-blanked format (Shrink n) = refl
 length-payload_of-blanked format (Fold count) = refl
@@ -89,7 +91,9 @@ blanked-MayFollow tally (Fold count) may = may
 
 pub all_blanked-all_blanked : (frames : List Frame) → all_blanked (all_blanked frames) ≡ all_blanked frames
 all_blanked-all_blanked [] = refl
-all_blanked-all_blanked (frame ∷ frames) = ap (λ f. f ∷ all_blanked (all_blanked frames)) (blanked-blanked frame) ∙ ap (λ (fs : List Frame). blanked frame ∷ fs) (all_blanked-all_blanked frames)
+all_blanked-all_blanked (frame ∷ frames) =
+    ap (λ f. f ∷ all_blanked (all_blanked frames)) (blanked-blanked frame)
+    ∙ ap (λ (fs : List Frame). blanked frame ∷ fs) (all_blanked-all_blanked frames)
 
 length-frames-blanked : (format : Format) (frames : List Frame) → length (flat_map (frame_text format) (all_blanked frames)) ≡ length (flat_map (frame_text format) frames)
 length-frames-blanked format [] = refl
@@ -108,7 +112,9 @@ pub tally_from-blanked : (tally : Tally) (frames : List Frame) → tally_from ta
 tally_from-blanked tally [] = refl
 tally_from-blanked tally (frame ∷ frames) = ap (λ t. tally_from t (all_blanked frames)) (after-blanked tally frame) ∙ tally_from-blanked (after tally frame) frames
 
-pub last_from-blanked : (says : ℕ → Tally → Frame → Option ℕ) (format : Format) (p : ℕ) (tally : Tally) (frames : List Frame) → ((q : ℕ) (t : Tally) (frame : Frame) → says q t (blanked frame) ≡ says q t frame)
+pub last_from-blanked : (says : ℕ → Tally → Frame → Option ℕ) (format : Format) (p : ℕ) (tally : Tally)
+    (frames : List Frame)
+    → ((q : ℕ) (t : Tally) (frame : Frame) → says q t (blanked frame) ≡ says q t frame)
     → last_from says format p tally (all_blanked frames) ≡ last_from says format p tally frames
 last_from-blanked says format p tally [] same = refl
 last_from-blanked says format p tally (frame ∷ frames) same =
@@ -134,13 +140,21 @@ place_of-blanked shape frames i =
 
 pub AreLegalFrom-blanked : (shape : Shape) (tally : Tally) (frames : List Frame) → AreLegalFrom shape tally frames → AreLegalFrom shape tally (all_blanked frames)
 AreLegalFrom-blanked shape tally [] legal = tt
-AreLegalFrom-blanked shape tally (frame ∷ frames) legal =
-    (IsFrame-blanked shape frame legal.0, MayFollow-blanked tally frame legal.1, subst (λ t. AreLegalFrom shape t (all_blanked frames)) (sym (after-blanked tally frame)) (AreLegalFrom-blanked shape (after tally frame) frames legal.2))
+AreLegalFrom-blanked shape tally (frame ∷ frames) legal = (
+  IsFrame-blanked shape frame legal.0,
+  MayFollow-blanked tally frame legal.1,
+  subst (λ t. AreLegalFrom shape t (all_blanked frames)) (sym (after-blanked tally frame))
+      (AreLegalFrom-blanked shape (after tally frame) frames legal.2),
+)
 
 pub blanked-AreLegalFrom : (shape : Shape) (tally : Tally) (frames : List Frame) → AreLegalFrom shape tally (all_blanked frames) → AreLegalFrom shape tally frames
 blanked-AreLegalFrom shape tally [] legal = tt
-blanked-AreLegalFrom shape tally (frame ∷ frames) legal =
-    (blanked-IsFrame shape frame legal.0, blanked-MayFollow tally frame legal.1, blanked-AreLegalFrom shape (after tally frame) frames (subst (λ t. AreLegalFrom shape t (all_blanked frames)) (after-blanked tally frame) legal.2))
+blanked-AreLegalFrom shape tally (frame ∷ frames) legal = (
+  blanked-IsFrame shape frame legal.0,
+  blanked-MayFollow tally frame legal.1,
+  blanked-AreLegalFrom shape (after tally frame) frames
+      (subst (λ t. AreLegalFrom shape t (all_blanked frames)) (after-blanked tally frame) legal.2),
+)
 
 -- ---- frames that differ in home bytes alone
 

@@ -27,7 +27,8 @@ count_within (run ∷ runs) (suc k) d lt = let rest = count_within runs k d (ome
 
 -- one run more
 pub run_texts_more : (format : Format) (front : List ℕ) (runs : List (ℕ × ℕ)) (k : ℕ) (d : ℕ × ℕ) → k < length runs
-    → (front ++ flat_map (run_text format) (runs_given (take k runs))) ++ run_text format (record { start = (get_or runs k d).0; count = (get_or runs k d).1 }) ≡ front ++ flat_map (run_text format) (runs_given (take (k + 1) runs))
+    → (front ++ flat_map (run_text format) (runs_given (take k runs))) ++ run_text format (record { start = (get_or runs k d).0; count = (get_or runs k d).1 })
+    ≡ front ++ flat_map (run_text format) (runs_given (take (k + 1) runs))
 run_texts_more format front runs k d lt =
     flat_map_more (run_text format) front (runs_given (take k runs)) (record { start = (get_or runs k d).0; count = (get_or runs k d).1 })
     ∙ ap (λ (rs : List Run). front ++ flat_map (run_text format) rs) (sym (map_more (λ run. record { start = run.0; count = run.1 }) runs k d lt))
@@ -44,7 +45,10 @@ length-run_texts_so_far format file n runs k le =
 
 -- ---- the frame
 
-pub length-change_frame : {R : Type 0} (format : Format) (form : Encoding R) (runs : List Run) (pieces : List (List R)) → ((r : R) → length (form.bytes_of r) ≡ form.width) → length (joined pieces) ≡ records_of_runs runs
+pub length-change_frame : {R : Type 0} (format : Format) (form : Encoding R) (runs : List Run)
+    (pieces : List (List R))
+    → ((r : R) → length (form.bytes_of r) ≡ form.width)
+    → length (joined pieces) ≡ records_of_runs runs
     → length (payload_of format (change_frame form runs pieces)) ≡ change_len (shape_of format form) runs
 length-change_frame format form runs pieces size_of filled =
     length-change_payload format runs (flat_map form.bytes_of (joined pieces))
@@ -54,8 +58,14 @@ regroup : (file head text bytes : List ℕ) → ((file ++ head) ++ text) ++ byte
 regroup file head text bytes = simp append_assoc
 
 -- a frame that was appended piece by piece
-pub change_appended : {R : Type 0} (format : Format) (form : Encoding R) (runs : List Run) (pieces : List (List R)) (len : ℕ) (file headed written done : List ℕ) → ((r : R) → length (form.bytes_of r) ≡ form.width) → length (joined pieces) ≡ records_of_runs runs
-    → len ≡ change_len (shape_of format form) runs → headed ≡ file ++ 1 ∷ 2 ∷ to_le_bytes w32 len → written ≡ headed ++ runs_text format runs → done ≡ written ++ flat_map form.bytes_of (joined pieces) → done ≡ file ++ frame_text format (change_frame form runs pieces)
+pub change_appended : {R : Type 0} (format : Format) (form : Encoding R) (runs : List Run) (pieces : List (List R))
+    (len : ℕ) (file headed written done : List ℕ)
+    → ((r : R) → length (form.bytes_of r) ≡ form.width)
+    → length (joined pieces) ≡ records_of_runs runs
+    → len ≡ change_len (shape_of format form) runs
+    → headed ≡ file ++ 1 ∷ 2 ∷ to_le_bytes w32 len → written ≡ headed ++ runs_text format runs
+    → done ≡ written ++ flat_map form.bytes_of (joined pieces)
+    → done ≡ file ++ frame_text format (change_frame form runs pieces)
 change_appended format form runs pieces len file headed written done size_of filled is a b c =
     let bytes : List ℕ = flat_map form.bytes_of (joined pieces) in
     let text : List ℕ = runs_text format runs in

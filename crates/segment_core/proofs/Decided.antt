@@ -33,7 +33,10 @@ use Rattle.segment_core.proofs.Fed.{sound_more, frames_more, is_whole, no_gate, 
 -- ---- one first fault
 
 -- lists that begin the same bytes and have texts of one length are one list
-same_list : (shape : Shape) (tally : Tally) (frames others : List Frame) (rest more : List ℕ) → flat_map (frame_text shape.format) frames ++ rest ≡ flat_map (frame_text shape.format) others ++ more → AreLegalFrom shape tally frames → AreLegalFrom shape tally others
+same_list : (shape : Shape) (tally : Tally) (frames others : List Frame) (rest more : List ℕ)
+    → flat_map (frame_text shape.format) frames ++ rest ≡ flat_map (frame_text shape.format) others ++ more
+    → AreLegalFrom shape tally frames
+    → AreLegalFrom shape tally others
     → length (flat_map (frame_text shape.format) frames) ≡ length (flat_map (frame_text shape.format) others) → frames ≡ others
 same_list shape tally [] [] rest more same legal legal' long = refl
 same_list shape tally [] (other ∷ others) rest more same legal legal' long =
@@ -45,7 +48,11 @@ same_list shape tally (frame ∷ frames) [] rest more same legal legal' long =
     let b = length-frame_text shape.format frame in
     absurd (omega arith)
 same_list shape tally (frame ∷ frames) (other ∷ others) rest more same legal legal' long =
-    let joined : frame_text shape.format frame ++ (flat_map (frame_text shape.format) frames ++ rest) ≡ frame_text shape.format other ++ (flat_map (frame_text shape.format) others ++ more) = sym (append_assoc (frame_text shape.format frame) (flat_map (frame_text shape.format) frames) rest) ∙ same ∙ append_assoc (frame_text shape.format other) (flat_map (frame_text shape.format) others) more in
+    let joined : frame_text shape.format frame ++ (flat_map (frame_text shape.format) frames ++ rest)
+    ≡ frame_text shape.format other ++ (flat_map (frame_text shape.format) others ++ more)
+    = sym (append_assoc (frame_text shape.format frame) (flat_map (frame_text shape.format) frames) rest)
+    ∙ same
+    ∙ append_assoc (frame_text shape.format other) (flat_map (frame_text shape.format) others) more in
     let one = same_frame shape frame other (flat_map (frame_text shape.format) frames ++ rest) (flat_map (frame_text shape.format) others ++ more) legal.0 legal'.0 joined in
     let others_legal : AreLegalFrom shape (after tally frame) others = subst (λ f. AreLegalFrom shape (after tally f) others) (sym one.0) legal'.2 in
     let a = length-append (frame_text shape.format frame) (flat_map (frame_text shape.format) frames) in
@@ -62,14 +69,21 @@ one_longest shape image frames others p q =
     let b = length-append (header shape) (flat_map (frame_text shape.format) others) in
     let le = p.longest others q.begins in
     let ge = q.longest frames p.begins in
-    let same : flat_map (frame_text shape.format) frames ++ rest ≡ flat_map (frame_text shape.format) others ++ more = append_cancel_left (header shape) _ _ (sym (append_assoc (header shape) (flat_map (frame_text shape.format) frames) rest) ∙ sym p.begins.begins.1 ∙ q.begins.begins.1 ∙ append_assoc (header shape) (flat_map (frame_text shape.format) others) more) in
+    let same : flat_map (frame_text shape.format) frames ++ rest ≡ flat_map (frame_text shape.format) others ++ more
+    = append_cancel_left (header shape) _ _
+    (sym (append_assoc (header shape) (flat_map (frame_text shape.format) frames) rest)
+    ∙ sym p.begins.begins.1
+    ∙ q.begins.begins.1
+    ∙ append_assoc (header shape) (flat_map (frame_text shape.format) others) more) in
     same_list shape nothing frames others rest more same p.begins.legal q.begins.legal (omega arith)
 
 none_is_some : {X : Type 0} (o : Option X) → o ≡ None → IsSome o → ⊥
 none_is_some None none some = absurd cc
 none_is_some (Some x) none some = absurd cc
 
-one_bad : {R : Type 0} (format : Format) (form : Encoding R) (image : List ℕ) (frames : List Frame) (f g : ScanFault) → IsBadRecord format form image frames f → IsBadRecord format form image frames g → f ≡ g
+one_bad : {R : Type 0} (format : Format) (form : Encoding R) (image : List ℕ) (frames : List Frame) (f g : ScanFault)
+    → IsBadRecord format form image frames f → IsBadRecord format form image frames g
+    → f ≡ g
 one_bad format form image frames f g (i, p, bad, at, is) (j, q, bad', at', is') =
     let not_below : i < j → ⊥ = λ lt. none_is_some (record_at format form image frames i) bad.bad (bad'.before i lt) in
     let not_above : j < i → ⊥ = λ lt. none_is_some (record_at format form image frames j) bad'.bad (bad.before j lt) in
@@ -82,7 +96,9 @@ from_some : {X : Type 0} (o : Option X) (x : X) (P : Type 0) (Q : X → Type 0) 
 from_some {X} o x P Q is m = let P' : Option X → Type 0 = λ p. MatchOption p P Q in subst P' is m
 
 -- the fault at the end of some frames is one
-one_end : {R : Type 0} (format : Format) (form : Encoding R) (image : List ℕ) (frames : List Frame) (f g : ScanFault) → EndsWith format form image frames f → EndsWith format form image frames g → f ≡ g
+one_end : {R : Type 0} (format : Format) (form : Encoding R) (image : List ℕ) (frames : List Frame) (f g : ScanFault)
+    → EndsWith format form image frames f → EndsWith format form image frames g
+    → f ≡ g
 one_end format form image frames f g p q = by_fault (frame_fault shape at (tally_of frames) (drop at image)) p q
   where
     shape : Shape
@@ -91,7 +107,10 @@ one_end format form image frames f g p q = by_fault (frame_fault shape at (tally
     at : ℕ
     at = length (text shape frames)
 
-    by_fault : (o : Option ScanFault) → MatchOption o (IsBadRecord format form image frames f) (λ first. f ≡ first) → MatchOption o (IsBadRecord format form image frames g) (λ first. g ≡ first) → f ≡ g
+    by_fault : (o : Option ScanFault)
+        → MatchOption o (IsBadRecord format form image frames f) (λ first. f ≡ first)
+        → MatchOption o (IsBadRecord format form image frames g) (λ first. g ≡ first)
+        → f ≡ g
     by_fault None a b = one_bad format form image frames f g a b
     by_fault (Some first) a b = a ∙ sym b
 
@@ -102,7 +121,10 @@ one_fault form image f g p q = by_header (header_fault form.width image) p q
     format : Format
     format = format_in image
 
-    by_header : (o : Option ScanFault) → MatchOption o (IsFrameFault format form image f) (λ first. f ≡ first) → MatchOption o (IsFrameFault format form image g) (λ first. g ≡ first) → f ≡ g
+    by_header : (o : Option ScanFault)
+        → MatchOption o (IsFrameFault format form image f) (λ first. f ≡ first)
+        → MatchOption o (IsFrameFault format form image g) (λ first. g ≡ first)
+        → f ≡ g
     by_header None (frames, longest, ends) (others, longest', ends') =
         let same = one_longest (shape_of format form) image others frames longest' longest in
         one_end format form image frames f g ends (subst (λ fs. EndsWith format form image fs g) same ends')
@@ -110,7 +132,9 @@ one_fault form image f g p q = by_header (header_fault form.width image) p q
 
 -- ---- a fault that stays
 
-no_vector : {R : Type 0} (form : Encoding R) (image : List ℕ) (fault : ScanFault) (scanned : Scanned R) → form.width < 2 ^ 16 → fault ≢ Memory → IsFirstFault form image fault → IsScanOf form image scanned → ⊥
+no_vector : {R : Type 0} (form : Encoding R) (image : List ℕ) (fault : ScanFault) (scanned : Scanned R)
+    → form.width < 2 ^ 16 → fault ≢ Memory → IsFirstFault form image fault → IsScanOf form image scanned
+    → ⊥
 no_vector form image fault scanned small other first scan = other (memory_alone scan.format form image scan.frames scanned.records.items fault small scan.vector (inl first))
 
 stays_first : {R : Type 0} (form : Encoding R) (image : List ℕ) (fault : ScanFault) → fault ≢ Memory → IsRefused form image fault → IsFirstFault form image fault
@@ -147,32 +171,55 @@ record SaysSame {R : Type 0} (format : Format) (form : Encoding R) (frames : Lis
 turned : {R : Type 0} (format : Format) (form : Encoding R) (frames : List Frame) (image other : List ℕ) → SaysSame format form frames image other → SaysSame format form frames other image
 turned format form frames image other says = record { sound = says.sound_again; framed = says.framed_again; sound_again = says.sound; framed_again = says.framed; same = λ i. sym (says.same i) }
 
-bad_again : {R : Type 0} (format : Format) (form : Encoding R) (frames : List Frame) (image other : List ℕ) (fault : ScanFault) → SaysSame format form frames image other → IsBadRecord format form image frames fault → IsBadRecord format form other frames fault
+bad_again : {R : Type 0} (format : Format) (form : Encoding R) (frames : List Frame) (image other : List ℕ)
+    (fault : ScanFault)
+    → SaysSame format form frames image other → IsBadRecord format form image frames fault
+    → IsBadRecord format form other frames fault
 bad_again format form frames image other fault says (i, place, bad, at, is) =
     (i, place, record { inside = bad.inside; bad = says.same i ∙ bad.bad; before = λ k lt. subst IsSome (sym (says.same k)) (bad.before k lt) }, at, is)
 
 -- where a closed gate ends the frames, a first fault is a bad record
-pub fault_of_record : {R : Type 0} (format : Format) (form : Encoding R) (frames : List Frame) (image : List ℕ) (fault : ScanFault) → IsSound form.width format image → HasFrames (shape_of format form) image frames → IsFirstFault form image fault → IsBadRecord format form image frames fault
+pub fault_of_record : {R : Type 0} (format : Format) (form : Encoding R) (frames : List Frame) (image : List ℕ)
+    (fault : ScanFault)
+    → IsSound form.width format image → HasFrames (shape_of format form) image frames → IsFirstFault form image fault
+    → IsBadRecord format form image frames fault
 fault_of_record format form frames image fault sound framed first =
     let shape : Shape = shape_of format form in
-    let found = subst (λ f. IsFrameFault f form image fault) sound.names (from_none (header_fault form.width image) (IsFrameFault (format_in image) form image fault) (λ f. fault ≡ f) sound.no_fault first) in
+    let found =
+    subst (λ f. IsFrameFault f form image fault) sound.names
+    (from_none (header_fault form.width image) (IsFrameFault (format_in image) form image fault) (λ f. fault ≡ f) sound.no_fault first) in
     let same : frames ≡ found.0 = one_list shape image frames found.0 framed found.1 in
     let ends : EndsWith format form image frames fault = subst (λ fs. EndsWith format form image fs fault) (sym same) found.2 in
     from_none (frame_fault shape (length (text shape frames)) (tally_of frames) (drop (length (text shape frames)) image)) (IsBadRecord format form image frames fault) (λ f. fault ≡ f)
     (frame_fault_closed shape (length (text shape frames)) (tally_of frames) (drop (length (text shape frames)) image) (ends_closed shape image frames framed)) ends
 
-pub fault_by_record : {R : Type 0} (format : Format) (form : Encoding R) (frames : List Frame) (image : List ℕ) (fault : ScanFault) → IsSound form.width format image → HasFrames (shape_of format form) image frames → IsBadRecord format form image frames fault → IsFirstFault form image fault
+pub fault_by_record : {R : Type 0} (format : Format) (form : Encoding R) (frames : List Frame) (image : List ℕ)
+    (fault : ScanFault)
+    → IsSound form.width format image → HasFrames (shape_of format form) image frames
+    → IsBadRecord format form image frames fault
+    → IsFirstFault form image fault
 fault_by_record format form frames image fault sound framed bad =
     let shape : Shape = shape_of format form in
-    let ends : EndsWith format form image frames fault = at_none _ (IsBadRecord format form image frames fault) (λ first. fault ≡ first) (frame_fault_closed shape (length (text shape frames)) (tally_of frames) (drop (length (text shape frames)) image) (ends_closed shape image frames framed)) bad in
+    let ends : EndsWith format form image frames fault
+    = at_none _ (IsBadRecord format form image frames fault) (λ first. fault ≡ first)
+    (frame_fault_closed shape (length (text shape frames)) (tally_of frames) (drop (length (text shape frames)) image) (ends_closed shape image frames framed))
+    bad in
     let found : IsFrameFault format form image fault = (frames, longest_closed shape image frames framed, ends) in
-    at_none (header_fault form.width image) (IsFrameFault (format_in image) form image fault) (λ first. fault ≡ first) sound.no_fault (subst (λ f. IsFrameFault f form image fault) (sym sound.names) found)
+    at_none (header_fault form.width image) (IsFrameFault (format_in image) form image fault) (λ first. fault ≡ first)
+    sound.no_fault (subst (λ f. IsFrameFault f form image fault) (sym sound.names) found)
 
-fault_again : {R : Type 0} (format : Format) (form : Encoding R) (frames : List Frame) (image other : List ℕ) (fault : ScanFault) → SaysSame format form frames image other → IsFirstFault form image fault → IsFirstFault form other fault
+fault_again : {R : Type 0} (format : Format) (form : Encoding R) (frames : List Frame) (image other : List ℕ)
+    (fault : ScanFault)
+    → SaysSame format form frames image other → IsFirstFault form image fault
+    → IsFirstFault form other fault
 fault_again format form frames image other fault says first =
-    fault_by_record format form frames other fault says.sound_again says.framed_again (bad_again format form frames image other fault says (fault_of_record format form frames image fault says.sound says.framed first))
+    fault_by_record format form frames other fault says.sound_again says.framed_again
+    (bad_again format form frames image other fault says (fault_of_record format form frames image fault says.sound says.framed first))
 
-scan_again : {R : Type 0} (format : Format) (form : Encoding R) (frames : List Frame) (image other : List ℕ) (scanned : Scanned R) → form.width < 2 ^ 16 → SaysSame format form frames image other → IsScanOf form image scanned → IsScanOf form other scanned
+scan_again : {R : Type 0} (format : Format) (form : Encoding R) (frames : List Frame) (image other : List ℕ)
+    (scanned : Scanned R)
+    → form.width < 2 ^ 16 → SaysSame format form frames image other → IsScanOf form image scanned
+    → IsScanOf form other scanned
 scan_again {R} format form frames image other scanned small says scan = record {
   format = format;
   frames = frames;
@@ -198,7 +245,9 @@ scan_again {R} format form frames image other scanned small says scan = record {
     read = subst (λ fs. IsVectorOf format form image fs scanned.records.items) same here.read
 
 -- bytes behind the frames say nothing of a position
-record_more : {R : Type 0} (format : Format) (form : Encoding R) (frames : List Frame) (image more : List ℕ) → BeginsImage (shape_of format form) image frames → (i : ℕ) → record_at format form (image ++ more) frames i ≡ record_at format form image frames i
+record_more : {R : Type 0} (format : Format) (form : Encoding R) (frames : List Frame) (image more : List ℕ)
+    → BeginsImage (shape_of format form) image frames → (i : ℕ)
+    → record_at format form (image ++ more) frames i ≡ record_at format form image frames i
 record_more format form frames image more begins i = by_place (place_of shape frames i) refl
   where
     shape : Shape
@@ -212,10 +261,22 @@ record_more format form frames image more begins i = by_place (place_of shape fr
         let enough : form.width ≤ length (drop place image) = omega (arith, b.to, length-drop place image) in
         ap form.value_of (ap (take form.width) (drop-append-le place image more (omega (arith, b.to))) ∙ take-append-le form.width (drop place image) more enough)
 
-pub decided_by_gate : {R : Type 0} (format : Format) (form : Encoding R) (frames : List Frame) (image : List ℕ) → form.width < 2 ^ 16 → IsSound form.width format image → HasFrames (shape_of format form) image frames → IsDecided form image
+pub decided_by_gate : {R : Type 0} (format : Format) (form : Encoding R) (frames : List Frame) (image : List ℕ)
+    → form.width < 2 ^ 16 → IsSound form.width format image → HasFrames (shape_of format form) image frames
+    → IsDecided form image
 decided_by_gate {R} format form frames image small sound framed = record {
-  scans = λ more scanned. (scan_again format form frames (image ++ more) image scanned small (turned format form frames image (image ++ more) (says more)), scan_again format form frames image (image ++ more) scanned small (says more));
-  faults = λ more fault. (fault_again format form frames (image ++ more) image fault (turned format form frames image (image ++ more) (says more)), fault_again format form frames image (image ++ more) fault (says more));
+  scans =
+      λ more scanned. (
+        scan_again format form frames (image ++ more) image scanned small
+            (turned format form frames image (image ++ more) (says more)),
+        scan_again format form frames image (image ++ more) scanned small (says more),
+      );
+  faults =
+      λ more fault. (
+        fault_again format form frames (image ++ more) image fault
+            (turned format form frames image (image ++ more) (says more)),
+        fault_again format form frames image (image ++ more) fault (says more),
+      );
 }
   where
     says : (more : List ℕ) → SaysSame format form frames image (image ++ more)

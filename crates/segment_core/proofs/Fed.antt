@@ -59,7 +59,10 @@ pub shape_is : {R : Type 0} (form : Encoding R) (walk : Walk R) → walk.shape.w
 shape_is {R} form walk width = ap (λ (w : ℕ). record { format = walk.shape.format; width = w }) width
 
 -- what a walk refuses is refused of the image, whatever follows
-pub refused_by_walk : {R : Type 0} (form : Encoding R) (image : List ℕ) (walk : Walk R) (fault : ScanFault) → IsSound form.width walk.shape.format image → walk.shape.width ≡ form.width → IsWalkRefused walk.shape image fault → IsRefusedFor form image fault
+pub refused_by_walk : {R : Type 0} (form : Encoding R) (image : List ℕ) (walk : Walk R) (fault : ScanFault)
+    → IsSound form.width walk.shape.format image → walk.shape.width ≡ form.width
+    → IsWalkRefused walk.shape image fault
+    → IsRefusedFor form image fault
 refused_by_walk form image walk fault sound width refused more =
     let format : Format = walk.shape.format in
     let after = sound_more form.width format image more sound in
@@ -75,26 +78,40 @@ memory_for form format image fault sound memory more = refused_for_memory form f
 
 -- ---- where the frames end
 
-pub ended : {R : Type 0} (form : Encoding R) (image left : List ℕ) (scanner : Scanner R) → IsSound form.width scanner.walk.shape.format image → StandsBefore form image left scanner.walk → is_closed left ≡ true → HasEnded form image scanner
+pub ended : {R : Type 0} (form : Encoding R) (image left : List ℕ) (scanner : Scanner R)
+    → IsSound form.width scanner.walk.shape.format image → StandsBefore form image left scanner.walk
+    → is_closed left ≡ true
+    → HasEnded form image scanner
 ended form image left scanner sound stands closed = record { sound = sound; frames = stands.frames; behind = stands.behind; framed = has_frames form image left scanner.walk stands closed }
 
 -- an image that ends inside a frame, or where a gate has to stand
-cut_fault : {R : Type 0} (form : Encoding R) (image left : List ℕ) (walk : Walk R) (fault : ScanFault) → IsSound form.width walk.shape.format image → StandsBefore form image left walk → is_closed left ≡ false → first_line (frame_lines walk.shape walk.at left) ≡ Some fault → IsRefused form image fault
+cut_fault : {R : Type 0} (form : Encoding R) (image left : List ℕ) (walk : Walk R) (fault : ScanFault)
+    → IsSound form.width walk.shape.format image → StandsBefore form image left walk → is_closed left ≡ false
+    → first_line (frame_lines walk.shape walk.at left) ≡ Some fault
+    → IsRefused form image fault
 cut_fault form image left walk fault sound stands opened some =
     let shape : Shape = walk.shape in
     let frames : List Frame = stands.frames in
     let behind = stands.behind in
     let same = shape_is form walk behind.width_is in
-    let here : frame_fault shape (length (text shape frames)) (tally_of frames) left ≡ Some fault = ap (λ n. frame_fault shape n (tally_of frames) left) (sym behind.at_end) ∙ frame_fault_from_lines shape walk.at (tally_of frames) left fault opened some in
+    let here : frame_fault shape (length (text shape frames)) (tally_of frames) left ≡ Some fault
+    = ap (λ n. frame_fault shape n (tally_of frames) left) (sym behind.at_end)
+    ∙ frame_fault_from_lines shape walk.at (tally_of frames) left fault opened some in
     let rest : drop (length (text shape frames)) image ≡ left = ap (drop (length (text shape frames))) stands.left ∙ drop_at (text shape frames) left (length (text shape frames)) refl in
     let longest = is_longest shape frames image left behind.legal stands.left (NoFrame_fault shape (length (text shape frames)) (tally_of frames) left fault here) in
     refused_by_frame form shape.format image frames fault sound (subst (λ s. IsLongest s image frames) same longest)
-    (subst (λ s. frame_fault s (length (text s frames)) (tally_of frames) (drop (length (text s frames)) image) ≡ Some fault) same (ap (frame_fault shape (length (text shape frames)) (tally_of frames)) rest ∙ here))
+    (subst
+    (λ s. frame_fault s (length (text s frames)) (tally_of frames) (drop (length (text s frames)) image) ≡ Some fault)
+    same (ap (frame_fault shape (length (text shape frames)) (tally_of frames)) rest ∙ here))
 
-pub no_gate : {R : Type 0} (form : Encoding R) (image : List ℕ) (scanner : Scanner R) → GoesOn form image scanner → length scanner.pending.items ≡ 0 → IsRefused form image (damaged scanner.walk.at NoGate)
+pub no_gate : {R : Type 0} (form : Encoding R) (image : List ℕ) (scanner : Scanner R)
+    → GoesOn form image scanner → length scanner.pending.items ≡ 0
+    → IsRefused form image (damaged scanner.walk.at NoGate)
 no_gate form image scanner on none = cut_fault form image scanner.pending.items scanner.walk (damaged scanner.walk.at NoGate) on.sound on.stands on.short.opened (on.short.empty none)
 
-pub short_frame : {R : Type 0} (form : Encoding R) (image : List ℕ) (scanner : Scanner R) → GoesOn form image scanner → 0 < length scanner.pending.items → IsRefused form image (damaged scanner.walk.at ShortFrame)
+pub short_frame : {R : Type 0} (form : Encoding R) (image : List ℕ) (scanner : Scanner R)
+    → GoesOn form image scanner → 0 < length scanner.pending.items
+    → IsRefused form image (damaged scanner.walk.at ShortFrame)
 short_frame form image scanner on some = cut_fault form image scanner.pending.items scanner.walk (damaged scanner.walk.at ShortFrame) on.sound on.stands on.short.opened (on.short.cut some)
 
 -- ---- the header
@@ -102,7 +119,9 @@ short_frame form image scanner on some = cut_fault form image scanner.pending.it
 pub too_short : (width : ℕ) (image : List ℕ) → length image < 11 → header_fault width image ≡ None → ⊥
 too_short width image short none = let long = (header_of_none width image none).long in absurd (omega arith)
 
-pub refused_by_front : {R : Type 0} (form : Encoding R) (image : List ℕ) (fault : ScanFault) → 11 ≤ length image → header_fault form.width image ≡ Some fault → IsRefusedFor form image fault
+pub refused_by_front : {R : Type 0} (form : Encoding R) (image : List ℕ) (fault : ScanFault)
+    → 11 ≤ length image → header_fault form.width image ≡ Some fault
+    → IsRefusedFor form image fault
 refused_by_front form image fault long some more = refused_by_header form (image ++ more) fault (header_fault-append form.width image more long ∙ some)
 
 -- ---- stages
@@ -137,9 +156,17 @@ pub is_whole : {R : Type 0} (form : Encoding R) (image : List ℕ) (scanner : Sc
 is_whole form image scanner ended =
     let same = shape_is form scanner.walk ended.behind.width_is in
     let framed = subst (λ s. HasFrames s image ended.frames) same ended.framed in
-    record { sound = ended.sound; framed = framed; begins = begins_with_text (shape_of scanner.walk.shape.format form) image ended.frames framed; gate_is = ended.behind.at_end ∙ ap (λ s. length (text s ended.frames)) same }
+    record {
+      sound = ended.sound;
+      framed = framed;
+      begins = begins_with_text (shape_of scanner.walk.shape.format form) image ended.frames framed;
+      gate_is = ended.behind.at_end ∙ ap (λ s. length (text s ended.frames)) same;
+    }
 
-pub refused_at_end : {R : Type 0} (form : Encoding R) (image : List ℕ) (walk : Walk R) (frames : List Frame) (fault : ScanFault) → IsWhole form image walk frames → IsNoVector walk.shape.format form image frames fault → IsRefused form image fault
+pub refused_at_end : {R : Type 0} (form : Encoding R) (image : List ℕ) (walk : Walk R) (frames : List Frame)
+    (fault : ScanFault)
+    → IsWhole form image walk frames → IsNoVector walk.shape.format form image frames fault
+    → IsRefused form image fault
 refused_at_end form image walk frames fault whole refused = elim refused [
   | inl bad ↦ refused_by_record form walk.shape.format image frames fault whole.sound whole.framed bad
   | inr memory ↦ refused_for_memory form walk.shape.format image fault whole.sound memory
@@ -147,10 +174,17 @@ refused_at_end form image walk frames fault whole refused = elim refused [
 
 -- ---- behind a read
 
-pub after_closed : {R : Type 0} (form : Encoding R) (image left : List ℕ) (scanner : Scanner R) (old : Walk R) → scanner.walk.shape ≡ old.shape → IsSound form.width old.shape.format image → StandsBefore form image left scanner.walk → is_closed left ≡ true → HasEnded form image scanner
+pub after_closed : {R : Type 0} (form : Encoding R) (image left : List ℕ) (scanner : Scanner R) (old : Walk R)
+    → scanner.walk.shape ≡ old.shape → IsSound form.width old.shape.format image
+    → StandsBefore form image left scanner.walk → is_closed left ≡ true
+    → HasEnded form image scanner
 after_closed form image left scanner old same sound stands closed = ended form image left scanner (subst (λ (s : Shape). IsSound form.width s.format image) (sym same) sound) stands closed
 
-pub after_short : {R : Type 0} (form : Encoding R) (image left : List ℕ) (scanner : Scanner R) (old : Walk R) → scanner.walk.shape ≡ old.shape → IsSound form.width old.shape.format image → StandsBefore form image left scanner.walk → IsShort scanner.walk.shape scanner.walk.at left → scanner.pending.items ≡ left → GoesOn form image scanner
+pub after_short : {R : Type 0} (form : Encoding R) (image left : List ℕ) (scanner : Scanner R) (old : Walk R)
+    → scanner.walk.shape ≡ old.shape → IsSound form.width old.shape.format image
+    → StandsBefore form image left scanner.walk → IsShort scanner.walk.shape scanner.walk.at left
+    → scanner.pending.items ≡ left
+    → GoesOn form image scanner
 after_short form image left scanner old same sound stands short pending = record {
   sound = subst (λ (s : Shape). IsSound form.width s.format image) (sym same) sound;
   stands = subst (λ (bs : List ℕ). StandsBefore form image bs scanner.walk) (sym pending) stands;
@@ -158,12 +192,18 @@ after_short form image left scanner old same sound stands short pending = record
 }
 
 -- the bytes that are fed stand behind those that are pending
-pub stands_behind_pending : {R : Type 0} (form : Encoding R) (image pending bytes all : List ℕ) (walk : Walk R) → StandsBefore form image pending walk → all ≡ pending ++ bytes → StandsBefore form (image ++ bytes) all walk
+pub stands_behind_pending : {R : Type 0} (form : Encoding R) (image pending bytes all : List ℕ) (walk : Walk R)
+    → StandsBefore form image pending walk → all ≡ pending ++ bytes
+    → StandsBefore form (image ++ bytes) all walk
 stands_behind_pending form image pending bytes all walk stands is = subst (λ (bs : List ℕ). StandsBefore form (image ++ bytes) bs walk) (sym is) (stands_more form image pending bytes walk stands)
 
 -- ---- what is left at the end of an image that is the front of a header
 
-pub front_fault : {R : Type 0} (form : Encoding R) (image : List ℕ) (scanner : Scanner R) (width : ℕ) (answer : Option ScanFault) → IsFront form image scanner → width ≡ form.width → header_fault width (take scanner.filled scanner.header) ≡ answer → header_fault form.width image ≡ answer
+pub front_fault : {R : Type 0} (form : Encoding R) (image : List ℕ) (scanner : Scanner R) (width : ℕ)
+    (answer : Option ScanFault)
+    → IsFront form image scanner → width ≡ form.width
+    → header_fault width (take scanner.filled scanner.header) ≡ answer
+    → header_fault form.width image ≡ answer
 front_fault form image scanner width answer front is told = ap (λ w. header_fault w image) (sym is) ∙ ap (header_fault width) (sym front.kept) ∙ told
 
 -- ---- piece by piece
@@ -185,34 +225,53 @@ next_part image piece used n =
     ∙ ap (λ (bs : List ℕ). image ++ bs) (ap (λ k. take used piece ++ take k (drop used piece)) size ∙ sym (take-add used n piece))
 
 -- a scanner whose frames have ended, or whose piece is used up
-pub on_ended : {R : Type 0} (form : Encoding R) (image piece : List ℕ) (n : ℕ) (scanner : Scanner R) → IsOn form (image ++ take n piece) scanner → (scanner.stage ≡ stages.Open → ⊥) → IsFed form (image ++ piece) scanner
+pub on_ended : {R : Type 0} (form : Encoding R) (image piece : List ℕ) (n : ℕ) (scanner : Scanner R)
+    → IsOn form (image ++ take n piece) scanner → (scanner.stage ≡ stages.Open → ⊥)
+    → IsFed form (image ++ piece) scanner
 on_ended form image piece n scanner on other = elim on [
   | inl goes ↦ absurd (other goes.0)
-  | inr closed ↦ fed_by form (image ++ piece) scanner stages.Closed closed.0 (subst (λ (bs : List ℕ). HasEnded form bs scanner) (whole_piece image piece n) (ended_more form (image ++ take n piece) (drop n piece) scanner closed.1))
+  | inr closed ↦
+      fed_by form (image ++ piece) scanner stages.Closed closed.0
+      (subst (λ (bs : List ℕ). HasEnded form bs scanner) (whole_piece image piece n) (ended_more form (image ++ take n piece) (drop n piece) scanner closed.1))
 ]
 
-pub on_used : {R : Type 0} (form : Encoding R) (image piece : List ℕ) (n : ℕ) (scanner : Scanner R) → IsOn form (image ++ take n piece) scanner → length piece ≤ n → IsFed form (image ++ piece) scanner
+pub on_used : {R : Type 0} (form : Encoding R) (image piece : List ℕ) (n : ℕ) (scanner : Scanner R)
+    → IsOn form (image ++ take n piece) scanner → length piece ≤ n
+    → IsFed form (image ++ piece) scanner
 on_used form image piece n scanner on all = subst (λ (bs : List ℕ). IsFed form (image ++ bs) scanner) (take_all n piece all) (fed_on form (image ++ take n piece) scanner on)
 
-pub on_nothing : {R : Type 0} (form : Encoding R) (image piece : List ℕ) (scanner : Scanner R) → scanner.stage ≡ stages.Open → GoesOn form image scanner → IsOn form (image ++ take 0 piece) scanner
+pub on_nothing : {R : Type 0} (form : Encoding R) (image piece : List ℕ) (scanner : Scanner R)
+    → scanner.stage ≡ stages.Open → GoesOn form image scanner
+    → IsOn form (image ++ take 0 piece) scanner
 on_nothing form image piece scanner stage goes = inl (stage, subst (λ (bs : List ℕ). GoesOn form bs scanner) (sym (append-nil image)) goes)
 
-pub refused_part : {R : Type 0} (form : Encoding R) (image piece : List ℕ) (used n : ℕ) (fault : ScanFault) → IsRefusedFor form ((image ++ take used piece) ++ take (used + n - used) (drop used piece)) fault → IsRefusedFor form (image ++ piece) fault
+pub refused_part : {R : Type 0} (form : Encoding R) (image piece : List ℕ) (used n : ℕ) (fault : ScanFault)
+    → IsRefusedFor form ((image ++ take used piece) ++ take (used + n - used) (drop used piece)) fault
+    → IsRefusedFor form (image ++ piece) fault
 refused_part form image piece used n fault refused =
     subst (λ (bs : List ℕ). IsRefusedFor form bs fault) (whole_piece image piece (used + n))
     (refused_more form (image ++ take (used + n) piece) (drop (used + n) piece) fault (subst (λ (bs : List ℕ). IsRefusedFor form bs fault) (next_part image piece used n) refused))
 
 -- bytes that mean nothing
-pub fed_more : {R : Type 0} (form : Encoding R) (image piece : List ℕ) (scanner : Scanner R) (stage : Stage) → scanner.stage ≡ stage → (stage ≡ stages.Open → ⊥) → (stage ≡ stages.Header → length piece ≡ 0) → IsFed form image scanner → IsFed form (image ++ piece) scanner
+pub fed_more : {R : Type 0} (form : Encoding R) (image piece : List ℕ) (scanner : Scanner R) (stage : Stage)
+    → scanner.stage ≡ stage → (stage ≡ stages.Open → ⊥) → (stage ≡ stages.Header → length piece ≡ 0)
+    → IsFed form image scanner
+    → IsFed form (image ++ piece) scanner
 fed_more form image piece scanner stages.Header is other none fed = subst (λ (bs : List ℕ). IsFed form bs scanner) (append-empty image piece (none refl)) fed
 fed_more form image piece scanner stages.Open is other none fed = absurd (other refl)
-fed_more form image piece scanner stages.Closed is other none fed = fed_by form (image ++ piece) scanner stages.Closed is (ended_more form image piece scanner (fed_at form image scanner stages.Closed is fed))
-fed_more form image piece scanner (stages.Refused fault) is other none fed = fed_by form (image ++ piece) scanner (stages.Refused fault) is (refused_more form image piece fault (fed_at form image scanner (stages.Refused fault) is fed))
+fed_more form image piece scanner stages.Closed is other none fed =
+    fed_by form (image ++ piece) scanner stages.Closed is
+    (ended_more form image piece scanner (fed_at form image scanner stages.Closed is fed))
+fed_more form image piece scanner (stages.Refused fault) is other none fed =
+    fed_by form (image ++ piece) scanner (stages.Refused fault) is
+    (refused_more form image piece fault (fed_at form image scanner (stages.Refused fault) is fed))
 
 -- ---- the header byte by byte
 
 -- the bytes that were copied stand behind those of before
-pub front_more : {R : Type 0} (form : Encoding R) (image piece part : List ℕ) (used : ℕ) (scanner : Scanner R) → IsFront form image scanner → used ≤ length piece → part ≡ take used piece → take (scanner.filled + used) (put_mid scanner.filled (scanner.filled + used - scanner.filled) scanner.header part) ≡ image ++ take used piece
+pub front_more : {R : Type 0} (form : Encoding R) (image piece part : List ℕ) (used : ℕ) (scanner : Scanner R)
+    → IsFront form image scanner → used ≤ length piece → part ≡ take used piece
+    → take (scanner.filled + used) (put_mid scanner.filled (scanner.filled + used - scanner.filled) scanner.header part) ≡ image ++ take used piece
 front_more form image piece part used scanner front inside is =
     let filled = front.filled in
     let kept = sym (length-take scanner.filled scanner.header) ∙ ap length front.kept in
@@ -220,7 +279,9 @@ front_more form image piece part used scanner front inside is =
     take-put_mid scanner.filled (scanner.filled + used - scanner.filled) scanner.header part (scanner.filled + used) (omega arith) (omega arith)
     ∙ ap (λ (bs : List ℕ). bs ++ part) front.kept ∙ ap (λ (bs : List ℕ). image ++ bs) is
 
-pub length-front : {R : Type 0} (form : Encoding R) (image piece : List ℕ) (used : ℕ) (scanner : Scanner R) → IsFront form image scanner → used ≤ length piece → length (image ++ take used piece) ≡ scanner.filled + used
+pub length-front : {R : Type 0} (form : Encoding R) (image piece : List ℕ) (used : ℕ) (scanner : Scanner R)
+    → IsFront form image scanner → used ≤ length piece
+    → length (image ++ take used piece) ≡ scanner.filled + used
 length-front form image piece used scanner front inside =
     let a = length-append image (take used piece) in
     let b = length-take-le used piece inside in
@@ -233,7 +294,12 @@ pub record IsHeader (width : ℕ) (format : Format) (bytes : List ℕ) : Type 0 
   pub names : format_in bytes ≡ format
   pub written : bytes ≡ header (record { format = format; width = width }) ++ drop 11 bytes
 
-pub goes_on_behind_header : {R : Type 0} (form : Encoding R) (image bytes : List ℕ) (format : Format) (width : ℕ) (scanner : Scanner R) → bytes ≡ image → length image ≡ 11 → width ≡ form.width → IsHeader width format bytes → scanner.walk.shape ≡ record { format = format; width = width } → IsBehind form [] scanner.walk → scanner.pending.items ≡ [] → GoesOn form image scanner
+pub goes_on_behind_header : {R : Type 0} (form : Encoding R) (image bytes : List ℕ) (format : Format) (width : ℕ)
+    (scanner : Scanner R)
+    → bytes ≡ image → length image ≡ 11 → width ≡ form.width → IsHeader width format bytes
+    → scanner.walk.shape ≡ record { format = format; width = width } → IsBehind form [] scanner.walk
+    → scanner.pending.items ≡ []
+    → GoesOn form image scanner
 goes_on_behind_header {R} form image bytes format width scanner is long wide found shape behind pending =
     let format_is : scanner.walk.shape.format ≡ format = ap (λ (s : Shape). s.format) shape in
     let none : drop 11 bytes ≡ [] = ap (drop 11) is ∙ drop_all 11 image (omega arith) in

@@ -52,14 +52,17 @@ pairs_more runs k run more = ap (map pair_of) more ∙ map_push pair_of (take k 
 
 -- ---- one change more
 
-pub live_among_push : (width i : ℕ) (changes : List Seen) (change : Seen) → live_among width (changes ++ change ∷ []) i ≡ option_or (place_in_runs width i (first_record_of change) (runs_of change.frame)) (live_among width changes i)
+pub live_among_push : (width i : ℕ) (changes : List Seen) (change : Seen)
+    → live_among width (changes ++ change ∷ []) i ≡ option_or (place_in_runs width i (first_record_of change) (runs_of change.frame)) (live_among width changes i)
 live_among_push width i [] change = sym (option_or_none (place_in_runs width i (first_record_of change) (runs_of change.frame)))
 live_among_push width i (first ∷ changes) change =
     let here : Option ℕ = place_in_runs width i (first_record_of first) (runs_of first.frame) in
     ap (λ o. option_or o here) (live_among_push width i changes change)
     ∙ option_or_assoc (place_in_runs width i (first_record_of change) (runs_of change.frame)) (live_among width changes i) here
 
-pub laid_change : {R : Type 0} (form : Encoding R) (image : List ℕ) (k : ℕ) (changes : List Seen) (change : Seen) (old : List R) (old_notes : Notes) (mid : List R) (mid_notes : Notes) (new : List R) (new_notes : Notes)
+pub laid_change :
+    {R : Type 0} (form : Encoding R) (image : List ℕ) (k : ℕ) (changes : List Seen) (change : Seen) (old : List R)
+    (old_notes : Notes) (mid : List R) (mid_notes : Notes) (new : List R) (new_notes : Notes)
     → k < length changes → change ≡ get_or changes k change → length new ≡ length mid
     → IsLaid form image (live_among form.width (take k changes)) old old_notes mid mid_notes
     → IsLaid form image (λ i. place_in_runs form.width i (first_record_of change) (runs_of change.frame)) mid mid_notes new new_notes
@@ -73,7 +76,8 @@ laid_change form image k changes change old old_notes mid mid_notes new new_note
 
 -- ---- one frame more
 
-changes_from_push : (shape : Shape) (p : ℕ) (frames : List Frame) (f : Frame) → changes_from shape p (frames ++ f ∷ []) ≡ changes_from shape p frames ++ changes_in shape (p + length (flat_map (frame_text shape.format) frames)) f
+changes_from_push : (shape : Shape) (p : ℕ) (frames : List Frame) (f : Frame)
+    → changes_from shape p (frames ++ f ∷ []) ≡ changes_from shape p frames ++ changes_in shape (p + length (flat_map (frame_text shape.format) frames)) f
 changes_from_push shape p [] f = let here : p + 0 ≡ p = omega arith in append-nil (changes_in shape p f) ∙ ap (λ n. changes_in shape n f) (sym here)
 changes_from_push shape p (g ∷ frames) f =
     let n : ℕ = p + length (frame_text shape.format g) in
@@ -89,7 +93,10 @@ changes_push shape frames f = changes_from_push shape (length (header shape)) fr
 changes_counted_from : (shape : Shape) (p : ℕ) (t : Tally) (frames : List Frame) → (tally_from t frames).changes ≡ t.changes + length (changes_from shape p frames)
 changes_counted_from shape p t [] = omega arith
 changes_counted_from shape p t (Group lengths bytes ∷ frames) = changes_counted_from shape (p + length (frame_text shape.format (Group lengths bytes))) (after t (Group lengths bytes)) frames
-changes_counted_from shape p t (Change runs bytes ∷ frames) = let rest = changes_counted_from shape (p + length (frame_text shape.format (Change runs bytes))) (after t (Change runs bytes)) frames in rest ∙ omega arith
+changes_counted_from shape p t (Change runs bytes ∷ frames) =
+    let rest =
+    changes_counted_from shape (p + length (frame_text shape.format (Change runs bytes))) (after t (Change runs bytes)) frames in
+    rest ∙ omega arith
 changes_counted_from shape p t (Shrink n ∷ frames) = changes_counted_from shape (p + length (frame_text shape.format (Shrink n))) (after t (Shrink n)) frames
 changes_counted_from shape p t (Fold count ∷ frames) = changes_counted_from shape (p + length (frame_text shape.format (Fold count))) (after t (Fold count)) frames
 
@@ -98,9 +105,12 @@ changes_counted shape frames = changes_counted_from shape (length (header shape)
 
 -- ---- what the changes from a number on say
 
-live_from : (shape : Shape) (folded i p : ℕ) (t : Tally) (frames : List Frame) → last_from (change_in shape folded i) shape.format p t frames ≡ live_among shape.width (drop (folded - t.changes) (changes_from shape p frames)) i
+live_from : (shape : Shape) (folded i p : ℕ) (t : Tally) (frames : List Frame)
+    → last_from (change_in shape folded i) shape.format p t frames ≡ live_among shape.width (drop (folded - t.changes) (changes_from shape p frames)) i
 live_from shape folded i p t [] = sym (ap (λ cs. live_among shape.width cs i) (drop_nothing (folded - t.changes)))
-live_from shape folded i p t (Group lengths bytes ∷ frames) = option_or_none _ ∙ live_from shape folded i (p + length (frame_text shape.format (Group lengths bytes))) (after t (Group lengths bytes)) frames
+live_from shape folded i p t (Group lengths bytes ∷ frames) =
+    option_or_none _
+    ∙ live_from shape folded i (p + length (frame_text shape.format (Group lengths bytes))) (after t (Group lengths bytes)) frames
 live_from shape folded i p t (Shrink n ∷ frames) = option_or_none _ ∙ live_from shape folded i (p + length (frame_text shape.format (Shrink n))) (after t (Shrink n)) frames
 live_from shape folded i p t (Fold count ∷ frames) = option_or_none _ ∙ live_from shape folded i (p + length (frame_text shape.format (Fold count))) (after t (Fold count)) frames
 live_from shape folded i p t (Change runs bytes ∷ frames) =
@@ -125,20 +135,31 @@ live_from shape folded i p t (Change runs bytes ∷ frames) =
     ]
 
 pub change_of_live : (shape : Shape) (folded : ℕ) (frames : List Frame) (i : ℕ) → change_of shape folded frames i ≡ live_among shape.width (drop folded (changes_of shape frames)) i
-change_of_live shape folded frames i = let all : folded - 0 ≡ folded = omega arith in live_from shape folded i (length (header shape)) nothing frames ∙ ap (λ m. live_among shape.width (drop m (changes_of shape frames)) i) all
+change_of_live shape folded frames i =
+    let all : folded - 0 ≡ folded = omega arith in
+    live_from shape folded i (length (header shape)) nothing frames
+    ∙ ap (λ m. live_among shape.width (drop m (changes_of shape frames)) i) all
 
 -- ---- where records stand
 
-pub records_stand : (format : Format) (frame : Frame) (image before rest : List ℕ) (p : ℕ) → image ≡ before ++ (frame_text format frame ++ rest) → p ≡ length before → StandsAt image (p + 6 + head_len format frame) (record_bytes_of frame)
+pub records_stand : (format : Format) (frame : Frame) (image before rest : List ℕ) (p : ℕ)
+    → image ≡ before ++ (frame_text format frame ++ rest) → p ≡ length before
+    → StandsAt image (p + 6 + head_len format frame) (record_bytes_of frame)
 records_stand format frame image before rest p is here =
     let front : List ℕ = front_text format frame in
     let bytes : List ℕ = record_bytes_of frame in
     let parts : image ≡ (before ++ front) ++ (bytes ++ rest) =
-    is ∙ ap (λ (bs : List ℕ). before ++ (bs ++ rest)) (frame_parts format frame) ∙ ap (λ (bs : List ℕ). before ++ bs) (append_assoc front bytes rest) ∙ sym (append_assoc before front (bytes ++ rest)) in
+    is
+    ∙ ap (λ (bs : List ℕ). before ++ (bs ++ rest)) (frame_parts format frame)
+    ∙ ap (λ (bs : List ℕ). before ++ bs) (append_assoc front bytes rest)
+    ∙ sym (append_assoc before front (bytes ++ rest)) in
     let len = length-append before front in
     let first = length-front_text format frame in
     let at : p + 6 + head_len format frame ≡ length (before ++ front) = omega arith in
-    let behind : drop (p + 6 + head_len format frame) image ≡ bytes ++ rest = ap (λ n. drop n image) at ∙ ap (drop (length (before ++ front))) parts ∙ drop_at (before ++ front) (bytes ++ rest) (length (before ++ front)) refl in
+    let behind : drop (p + 6 + head_len format frame) image ≡ bytes ++ rest
+    = ap (λ n. drop n image) at
+    ∙ ap (drop (length (before ++ front))) parts
+    ∙ drop_at (before ++ front) (bytes ++ rest) (length (before ++ front)) refl in
     ap (take (length bytes)) behind ∙ take_at bytes rest (length bytes) refl
 
 abbrev pub AreStanding : List ℕ → List Seen → Type 0
@@ -149,16 +170,23 @@ record Behind (shape : Shape) (image before rest : List ℕ) (p : ℕ) (f : Fram
   is : image ≡ (before ++ frame_text shape.format f) ++ (flat_map (frame_text shape.format) frames ++ rest)
   here : p + length (frame_text shape.format f) ≡ length (before ++ frame_text shape.format f)
 
-behind_first : (shape : Shape) (image before rest : List ℕ) (p : ℕ) (f : Frame) (frames : List Frame) → image ≡ before ++ (flat_map (frame_text shape.format) (f ∷ frames) ++ rest) → p ≡ length before → Behind shape image before rest p f frames
+behind_first : (shape : Shape) (image before rest : List ℕ) (p : ℕ) (f : Frame) (frames : List Frame)
+    → image ≡ before ++ (flat_map (frame_text shape.format) (f ∷ frames) ++ rest) → p ≡ length before
+    → Behind shape image before rest p f frames
 behind_first shape image before rest p f frames is here =
     let one : List ℕ = frame_text shape.format f in
     let len = length-append before one in
     record {
-      is = is ∙ ap (λ (bs : List ℕ). before ++ bs) (append_assoc one (flat_map (frame_text shape.format) frames) rest) ∙ sym (append_assoc before one (flat_map (frame_text shape.format) frames ++ rest));
+      is =
+          is
+          ∙ ap (λ (bs : List ℕ). before ++ bs) (append_assoc one (flat_map (frame_text shape.format) frames) rest)
+          ∙ sym (append_assoc before one (flat_map (frame_text shape.format) frames ++ rest));
       here = omega arith;
     }
 
-changes_stand_from : (shape : Shape) (image before rest : List ℕ) (p : ℕ) (frames : List Frame) → image ≡ before ++ (flat_map (frame_text shape.format) frames ++ rest) → p ≡ length before → AreStanding image (changes_from shape p frames)
+changes_stand_from : (shape : Shape) (image before rest : List ℕ) (p : ℕ) (frames : List Frame)
+    → image ≡ before ++ (flat_map (frame_text shape.format) frames ++ rest) → p ≡ length before
+    → AreStanding image (changes_from shape p frames)
 changes_stand_from shape image before rest p [] is here = tt
 changes_stand_from shape image before rest p (Group lengths bytes ∷ frames) is here =
     let f : Frame = Group lengths bytes in
@@ -167,7 +195,9 @@ changes_stand_from shape image before rest p (Group lengths bytes ∷ frames) is
 changes_stand_from shape image before rest p (Change runs bytes ∷ frames) is here =
     let f : Frame = Change runs bytes in
     let next = behind_first shape image before rest p f frames is here in (
-      records_stand shape.format f image before (flat_map (frame_text shape.format) frames ++ rest) p (is ∙ ap (λ (bs : List ℕ). before ++ bs) (append_assoc (frame_text shape.format f) (flat_map (frame_text shape.format) frames) rest)) here,
+      records_stand shape.format f image before (flat_map (frame_text shape.format) frames ++ rest) p
+          (is ∙ ap (λ (bs : List ℕ). before ++ bs) (append_assoc (frame_text shape.format f) (flat_map (frame_text shape.format) frames) rest))
+          here,
       changes_stand_from shape image (before ++ frame_text shape.format f) rest (p + length (frame_text shape.format f)) frames next.is next.here,
     )
 changes_stand_from shape image before rest p (Shrink n ∷ frames) is here =
@@ -180,7 +210,9 @@ changes_stand_from shape image before rest p (Fold count ∷ frames) is here =
     changes_stand_from shape image (before ++ frame_text shape.format f) rest (p + length (frame_text shape.format f)) frames next.is next.here
 
 pub changes_stand : (shape : Shape) (image rest : List ℕ) (frames : List Frame) → image ≡ text shape frames ++ rest → AreStanding image (changes_of shape frames)
-changes_stand shape image rest frames is = changes_stand_from shape image (header shape) rest (length (header shape)) frames (is ∙ append_assoc (header shape) (flat_map (frame_text shape.format) frames) rest) refl
+changes_stand shape image rest frames is =
+    changes_stand_from shape image (header shape) rest (length (header shape)) frames
+    (is ∙ append_assoc (header shape) (flat_map (frame_text shape.format) frames) rest) refl
 
 changes_shaped_from : (shape : Shape) (p : ℕ) (frames : List Frame) → AllByRecursion (λ change. change.shape.width ≡ shape.width) (changes_from shape p frames)
 changes_shaped_from shape p [] = tt

@@ -33,7 +33,10 @@ record IsHeld {R : Type 0} (form : Encoding R) (image : List ℕ) (place : Optio
   is : place ≡ Some at
   decoded : IsDecoded form image at held told
 
-held_after : {R : Type 0} (form : Encoding R) (image : List ℕ) (live home : Option ℕ) (held before : Option R) (told told_before : Option ℕ) → HasHome form image home before told_before → IsLaidAt form image live held before told told_before → IsHeld form image (option_or live home) held told
+held_after : {R : Type 0} (form : Encoding R) (image : List ℕ) (live home : Option ℕ) (held before : Option R)
+    (told told_before : Option ℕ)
+    → HasHome form image home before told_before → IsLaidAt form image live held before told told_before
+    → IsHeld form image (option_or live home) held told
 held_after {R} form image None home held before told told_before has laid = record {
   at = has.0;
   is = has.1;
@@ -41,28 +44,48 @@ held_after {R} form image None home held before told told_before has laid = reco
 }
 held_after form image (Some q) home held before told told_before has laid = record { at = q; is = refl; decoded = laid }
 
-good : {R : Type 0} (read held : Option R) (told : Option ℕ) (q : ℕ) → MatchOption read (told ≡ Some q) (λ r. (held ≡ Some r) × (told ≡ None)) → told ≡ None → (read ≡ held) × IsSome read
+good : {R : Type 0} (read held : Option R) (told : Option ℕ) (q : ℕ)
+    → MatchOption read (told ≡ Some q) (λ r. (held ≡ Some r) × (told ≡ None)) → told ≡ None
+    → (read ≡ held) × IsSome read
 good None held told q decoded none = let clash : Some q ≡ None = sym decoded ∙ none in absurd cc
 good (Some r) held told q decoded none = (sym decoded.0, refl)
 
-bad : {R : Type 0} (read held : Option R) (told : Option ℕ) (q place : ℕ) → MatchOption read (told ≡ Some q) (λ r. (held ≡ Some r) × (told ≡ None)) → told ≡ Some place → (read ≡ None) × (q ≡ place)
+bad : {R : Type 0} (read held : Option R) (told : Option ℕ) (q place : ℕ)
+    → MatchOption read (told ≡ Some q) (λ r. (held ≡ Some r) × (told ≡ None)) → told ≡ Some place
+    → (read ≡ None) × (q ≡ place)
 bad None held told q place decoded some = let same : Some q ≡ Some place = sym decoded ∙ some in (refl, cc)
 bad (Some r) held told q place decoded some = let clash : Some place ≡ None = sym some ∙ decoded.1 in absurd cc
 
 -- ---- all positions
 
-held_all : {R : Type 0} (form : Encoding R) (format : Format) (frames : List Frame) (image rest : List ℕ) (found : Found R) (new : List R) (told : Notes) → IsFound form format frames found → image ≡ text (shape_of format form) frames ++ rest → length new ≡ length found.records.items
-    → AreLaid form found.live.items found.records.items found.notes new told → (i : ℕ) → i < length new → IsHeld form image (place_of (shape_of format form) frames i) (slice_get new i) (noted told i)
+held_all : {R : Type 0} (form : Encoding R) (format : Format) (frames : List Frame) (image rest : List ℕ)
+    (found : Found R) (new : List R) (told : Notes)
+    → IsFound form format frames found → image ≡ text (shape_of format form) frames ++ rest
+    → length new ≡ length found.records.items
+    → AreLaid form found.live.items found.records.items found.notes new told
+    → (i : ℕ) → i < length new
+    → IsHeld form image (place_of (shape_of format form) frames i) (slice_get new i) (noted told i)
 held_all form format frames image rest found new told is begins same laid i lt =
     let shape : Shape = shape_of format form in
     let size = is.size_is in
-    let standing : AreStanding image found.live.items = subst (AreStanding image) (sym is.live_is) (all_drop _ (tally_of frames).folded (changes_of shape frames) (changes_stand shape image rest frames begins)) in
-    let here = subst (λ (cs : List Seen). IsLaidAt form image (live_among form.width cs i) (slice_get new i) (slice_get found.records.items i) (noted told i) (noted found.notes i)) is.live_is (laid image standing i lt) in
-    let has = subst (λ (bs : List ℕ). HasHome form bs (home_of shape frames i) (slice_get found.records.items i) (noted found.notes i)) (sym begins) (has_home_more form (text shape frames) rest (home_of shape frames i) (slice_get found.records.items i) (noted found.notes i) (is.each i (omega arith))) in
+    let standing : AreStanding image found.live.items
+    = subst (AreStanding image) (sym is.live_is) (all_drop _ (tally_of frames).folded (changes_of shape frames) (changes_stand shape image rest frames begins)) in
+    let here =
+    subst
+    (λ (cs : List Seen). IsLaidAt form image (live_among form.width cs i) (slice_get new i) (slice_get found.records.items i) (noted told i) (noted found.notes i))
+    is.live_is (laid image standing i lt) in
+    let has =
+    subst
+    (λ (bs : List ℕ). HasHome form bs (home_of shape frames i) (slice_get found.records.items i) (noted found.notes i))
+    (sym begins)
+    (has_home_more form (text shape frames) rest (home_of shape frames i) (slice_get found.records.items i) (noted found.notes i) (is.each i (omega arith))) in
     subst (λ (o : Option ℕ). IsHeld form image o (slice_get new i) (noted told i)) (sym (place_live shape frames i))
     (held_after form image (live_among form.width (live_of shape frames) i) (home_of shape frames i) (slice_get new i) (slice_get found.records.items i) (noted told i) (noted found.notes i) has here)
 
-pub vector_found : {R : Type 0} (form : Encoding R) (format : Format) (frames : List Frame) (image rest : List ℕ) (found : Found R) (new : List R) (told : Notes) → IsFound form format frames found → image ≡ text (shape_of format form) frames ++ rest → length new ≡ length found.records.items
+pub vector_found : {R : Type 0} (form : Encoding R) (format : Format) (frames : List Frame) (image rest : List ℕ)
+    (found : Found R) (new : List R) (told : Notes)
+    → IsFound form format frames found → image ≡ text (shape_of format form) frames ++ rest
+    → length new ≡ length found.records.items
     → AreLaid form found.live.items found.records.items found.notes new told → ((i : ℕ) → i < length new → noted told i ≡ None) → IsVectorOf format form image frames new
 vector_found form format frames image rest found new told is begins same laid none = record {
   size = same ∙ is.size_is;
@@ -71,7 +94,10 @@ vector_found form format frames image rest found new told is begins same laid no
       ap (option_and_then (record_in form image)) held.is ∙ (good (record_in form image held.at) (slice_get new i) (noted told i) held.at held.decoded (none i lt)).0);
 }
 
-pub first_bad_found : {R : Type 0} (form : Encoding R) (format : Format) (frames : List Frame) (image rest : List ℕ) (found : Found R) (new : List R) (told : Notes) (fault : ScanFault) → IsFound form format frames found → image ≡ text (shape_of format form) frames ++ rest → length new ≡ length found.records.items
+pub first_bad_found : {R : Type 0} (form : Encoding R) (format : Format) (frames : List Frame) (image rest : List ℕ)
+    (found : Found R) (new : List R) (told : Notes) (fault : ScanFault)
+    → IsFound form format frames found → image ≡ text (shape_of format form) frames ++ rest
+    → length new ≡ length found.records.items
     → AreLaid form found.live.items found.records.items found.notes new told → IsLeastNoted (length new) told fault → IsBadRecord format form image frames fault
 first_bad_found form format frames image rest found new told fault is begins same laid least =
     let i : ℕ = least.0 in
@@ -87,7 +113,8 @@ first_bad_found form format frames image rest found new told fault is begins sam
         bad = ap (option_and_then (record_in form image)) held.is ∙ no.0;
         before = λ k below. (
             let other = held_all form format frames image rest found new told is begins same laid k (omega arith) in
-            subst IsSome (sym (ap (option_and_then (record_in form image)) other.is)) (good (record_in form image other.at) (slice_get new k) (noted told k) other.at other.decoded (least.4 k below)).1);
+            subst IsSome (sym (ap (option_and_then (record_in form image)) other.is))
+            (good (record_in form image other.at) (slice_get new k) (noted told k) other.at other.decoded (least.4 k below)).1);
       },
       held.is ∙ ap Some no.1,
       least.5,
@@ -95,12 +122,17 @@ first_bad_found form format frames image rest found new told fault is begins sam
 
 -- ---- what laying asks for
 
-pub live_wide : {R : Type 0} (form : Encoding R) (format : Format) (frames : List Frame) (found : Found R) → IsFound form format frames found → AllByRecursion (λ change. change.shape.width ≡ form.width) found.live.items
+pub live_wide : {R : Type 0} (form : Encoding R) (format : Format) (frames : List Frame) (found : Found R)
+    → IsFound form format frames found
+    → AllByRecursion (λ change. change.shape.width ≡ form.width) found.live.items
 live_wide form format frames found is =
     let shape : Shape = shape_of format form in
-    subst (AllByRecursion (λ change. change.shape.width ≡ form.width)) (sym is.live_is) (all_drop (λ change. change.shape.width ≡ form.width) (tally_of frames).folded (changes_of shape frames) (changes_shaped shape frames))
+    subst (AllByRecursion (λ change. change.shape.width ≡ form.width)) (sym is.live_is)
+    (all_drop (λ change. change.shape.width ≡ form.width) (tally_of frames).folded (changes_of shape frames) (changes_shaped shape frames))
 
-pub live_inside : {R : Type 0} (form : Encoding R) (format : Format) (frames : List Frame) (found : Found R) → IsFound form format frames found → AllByRecursion (IsInside (length found.records.items)) found.live.items
+pub live_inside : {R : Type 0} (form : Encoding R) (format : Format) (frames : List Frame) (found : Found R)
+    → IsFound form format frames found
+    → AllByRecursion (IsInside (length found.records.items)) found.live.items
 live_inside form format frames found is = subst (λ n. AllByRecursion (IsInside n) found.live.items) (sym is.size_is) is.inside
 
 -- ---- records that were lent and came back

@@ -8,14 +8,17 @@ use Rattle.segment_core.specs.Found.{home_among, AreInTurn}
 use Rattle.segment_core.proofs.LastFrom.{option_or_assoc, option_or_none}
 use Rattle.segment_core.proofs.PlaceAmong.{place_among_inside, place_among_below}
 
-pub home_among_push : (width i : ℕ) (homes : List Home) (home : Home) → home_among width (homes ++ home ∷ []) i ≡ option_or (place_among width home.place home.position home.count i) (home_among width homes i)
+pub home_among_push : (width i : ℕ) (homes : List Home) (home : Home)
+    → home_among width (homes ++ home ∷ []) i ≡ option_or (place_among width home.place home.position home.count i) (home_among width homes i)
 home_among_push width i [] home = sym (option_or_none (place_among width home.place home.position home.count i))
 home_among_push width i (first ∷ homes) home =
     let here : Option ℕ = place_among width first.place first.position first.count i in
     ap (λ o. option_or o here) (home_among_push width i homes home)
     ∙ option_or_assoc (place_among width home.place home.position home.count i) (home_among width homes i) here
 
-pub in_turn_push : (start middle end : ℕ) (homes : List Home) (home : Home) → AreInTurn start homes middle → home.position ≡ middle → middle + home.count ≡ end → AreInTurn start (homes ++ home ∷ []) end
+pub in_turn_push : (start middle end : ℕ) (homes : List Home) (home : Home)
+    → AreInTurn start homes middle → home.position ≡ middle → middle + home.count ≡ end
+    → AreInTurn start (homes ++ home ∷ []) end
 in_turn_push start middle end [] home turn here to = (here ∙ sym turn, omega (arith, turn))
 in_turn_push start middle end (first ∷ homes) home turn here to = (turn.0, in_turn_push (start + first.count) middle end homes home turn.1 here to)
 
@@ -39,6 +42,8 @@ home_among_cut width i size homes home lt from to =
     let short : Home = record { position = home.position; place = home.place; count = size - home.position } in
     let same : place_among width home.place home.position (size - home.position) i ≡ place_among width home.place home.position home.count i = elim (cases_lt i home.position) [
       | inl below ↦ place_among_below width home.place home.position (size - home.position) i below ∙ sym (place_among_below width home.place home.position home.count i below)
-      | inr inside ↦ place_among_inside width home.place home.position (size - home.position) i inside (omega arith) ∙ sym (place_among_inside width home.place home.position home.count i inside (omega arith))
+      | inr inside ↦
+          place_among_inside width home.place home.position (size - home.position) i inside (omega arith)
+          ∙ sym (place_among_inside width home.place home.position home.count i inside (omega arith))
     ] in
     home_among_push width i homes short ∙ ap (λ o. option_or o (home_among width homes i)) same ∙ sym (home_among_push width i homes home)

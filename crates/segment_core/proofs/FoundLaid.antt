@@ -64,17 +64,25 @@ stands_part image place area a n stands within =
 
 -- ---- one position more
 
-laid_at_same : {R : Type 0} (form : Encoding R) (image : List ℕ) (place : Option ℕ) (held later before : Option R) (seen seen_later seen_before : Option ℕ) → later ≡ held → seen_later ≡ seen
+laid_at_same : {R : Type 0} (form : Encoding R) (image : List ℕ) (place : Option ℕ) (held later before : Option R)
+    (seen seen_later seen_before : Option ℕ)
+    → later ≡ held
+    → seen_later ≡ seen
     → IsLaidAt form image place held before seen seen_before → IsLaidAt form image place later before seen_later seen_before
 laid_at_same {R} form image place held later before seen seen_later seen_before is is_note laid =
     subst (λ (h : Option R). IsLaidAt form image place h before seen_later seen_before) (sym is)
     (subst (λ (n : Option ℕ). IsLaidAt form image place held before n seen_before) (sym is_note) laid)
 
-pub laid_nothing : {R : Type 0} (form : Encoding R) (image : List ℕ) (says : ℕ → Option ℕ) (records : List R) (notes : Notes) → ((i : ℕ) → says i ≡ None) → IsLaid form image says records notes records notes
+pub laid_nothing : {R : Type 0} (form : Encoding R) (image : List ℕ) (says : ℕ → Option ℕ) (records : List R)
+    (notes : Notes)
+    → ((i : ℕ) → says i ≡ None)
+    → IsLaid form image says records notes records notes
 laid_nothing form image says records notes none i lt =
     subst (λ (o : Option ℕ). IsLaidAt form image o (slice_get records i) (slice_get records i) (noted notes i) (noted notes i)) (sym (none i)) (refl, refl)
 
-pub laid_more : {R : Type 0} (form : Encoding R) (image : List ℕ) (place start k : ℕ) (old : List R) (old_notes : Notes) (mid : List R) (mid_notes : Notes) (new : List R) (new_notes : Notes) (r : R)
+pub laid_more :
+    {R : Type 0} (form : Encoding R) (image : List ℕ) (place start k : ℕ) (old : List R) (old_notes : Notes)
+    (mid : List R) (mid_notes : Notes) (new : List R) (new_notes : Notes) (r : R)
     → IsLaid form image (place_among form.width place start k) old old_notes mid mid_notes
     → IsDecoded form image (place + k * form.width) (Some r) (noted new_notes (start + k))
     → ((q : ℕ) → q ≢ start + k → noted new_notes q ≡ noted mid_notes q)
@@ -85,7 +93,9 @@ laid_more {R} form image place start k old old_notes mid mid_notes new new_notes
     let other : i ≢ start + k → IsLaidAt form image (place_among form.width place start (k + 1) i) (slice_get new i) (slice_get old i) (noted new_notes i) (noted old_notes i) = λ apart. (
     let same = kept i lt apart in
     subst (λ (o : Option ℕ). IsLaidAt form image o (slice_get new i) (slice_get old i) (noted new_notes i) (noted old_notes i)) (sym (place_among_other form.width place start k i apart))
-    (laid_at_same form image (place_among form.width place start k i) (slice_get mid i) (slice_get new i) (slice_get old i) (noted mid_notes i) (noted new_notes i) (noted old_notes i) same.1 (others i apart) (laid i same.0))) in
+    (laid_at_same form image (place_among form.width place start k i) (slice_get mid i) (slice_get new i)
+    (slice_get old i) (noted mid_notes i) (noted new_notes i) (noted old_notes i) same.1 (others i apart)
+    (laid i same.0))) in
     elim (cases_lt i (start + k)) [
       | inl below ↦ other (omega arith)
       | inr from ↦ elim (cases_lt (start + k) i) [
@@ -107,7 +117,10 @@ cell_within k count w width size is lt filled =
     let same : k * w ≡ k * width = ap (λ n. k * n) is in
     omega arith
 
-decoded_as : {R : Type 0} (form : Encoding R) (image : List ℕ) (place k w position at : ℕ) (held : Option R) (notes : Notes) → w ≡ form.width → position ≡ at → IsDecoded form image (place + k * w) held (noted notes position) → IsDecoded form image (place + k * form.width) held (noted notes at)
+decoded_as : {R : Type 0} (form : Encoding R) (image : List ℕ) (place k w position at : ℕ) (held : Option R)
+    (notes : Notes)
+    → w ≡ form.width → position ≡ at → IsDecoded form image (place + k * w) held (noted notes position)
+    → IsDecoded form image (place + k * form.width) held (noted notes at)
 decoded_as {R} form image place k w position at held notes is here decoded =
     subst (λ n. IsDecoded form image (place + k * n) held (noted notes at)) is (subst (λ n. IsDecoded form image (place + k * w) held (noted notes n)) here decoded)
 
@@ -115,13 +128,17 @@ others_as : (old new : Notes) (position at : ℕ) → position ≡ at → ((q : 
 others_as old new position at here others q apart = others q (λ is. apart (is ∙ here))
 
 -- bytes that are a record, at a position of which nothing is noted
-pub decoded_whole : {R : Type 0} (form : Encoding R) (image : List ℕ) (place : ℕ) (bytes : List ℕ) (r : R) (note : Option ℕ) → length bytes ≡ form.width → form.value_of bytes ≡ Some r → StandsAt image place bytes → note ≡ None → IsDecoded form image place (Some r) note
+pub decoded_whole : {R : Type 0} (form : Encoding R) (image : List ℕ) (place : ℕ) (bytes : List ℕ) (r : R)
+    (note : Option ℕ)
+    → length bytes ≡ form.width → form.value_of bytes ≡ Some r → StandsAt image place bytes → note ≡ None
+    → IsDecoded form image place (Some r) note
 decoded_whole {R} form image place bytes r note wide value stands none =
     let is : record_in form image place ≡ Some r = ap (λ n. form.value_of (take n (drop place image))) (sym wide) ∙ ap form.value_of stands ∙ value in
     subst (λ (o : Option R). MatchOption o (note ≡ Some place) (λ held. (Some r ≡ Some held) × (note ≡ None))) (sym is) (refl, none)
 
 -- a record that was pushed
-pub laid_push : {R : Type 0} (form : Encoding R) (image : List ℕ) (place start k w position : ℕ) (old : List R) (old_notes : Notes) (mid : List R) (mid_notes : Notes) (new : List R) (new_notes : Notes) (r : R)
+pub laid_push : {R : Type 0} (form : Encoding R) (image : List ℕ) (place start k w position : ℕ) (old : List R)
+    (old_notes : Notes) (mid : List R) (mid_notes : Notes) (new : List R) (new_notes : Notes) (r : R)
     → w ≡ form.width → position ≡ start + k → length mid ≡ start + k → new ≡ mid ++ r ∷ []
     → IsLaid form image (place_among form.width place start k) old old_notes mid mid_notes
     → IsDecoded form image (place + k * w) (Some r) (noted new_notes position)
@@ -138,7 +155,8 @@ laid_push form image place start k w position old old_notes mid mid_notes new ne
     (below, ap (λ rs. slice_get rs i) pushed ∙ slice_get-append_left mid (r ∷ []) i below)))
 
 -- a record that was written over another
-pub laid_set : {R : Type 0} (form : Encoding R) (image : List ℕ) (place start k w position : ℕ) (old : List R) (old_notes : Notes) (mid : List R) (mid_notes : Notes) (new : List R) (new_notes : Notes) (r : R)
+pub laid_set : {R : Type 0} (form : Encoding R) (image : List ℕ) (place start k w position : ℕ) (old : List R)
+    (old_notes : Notes) (mid : List R) (mid_notes : Notes) (new : List R) (new_notes : Notes) (r : R)
     → w ≡ form.width → position ≡ start + k → start + k < length mid → new ≡ set mid (start + k) r
     → IsLaid form image (place_among form.width place start k) old old_notes mid mid_notes
     → IsDecoded form image (place + k * w) (Some r) (noted new_notes position)
@@ -161,7 +179,9 @@ laid_at_then : {R : Type 0} (form : Encoding R) (image : List ℕ) (later first 
 laid_at_then form image None first a b c note_a note_b note_c one two = laid_at_same form image first b c a note_b note_c note_a two.0 two.1 one
 laid_at_then form image (Some q) first a b c note_a note_b note_c one two = two
 
-pub laid_then : {R : Type 0} (form : Encoding R) (image : List ℕ) (later first : ℕ → Option ℕ) (a : List R) (note_a : Notes) (b : List R) (note_b : Notes) (c : List R) (note_c : Notes) → length c ≡ length b
+pub laid_then : {R : Type 0} (form : Encoding R) (image : List ℕ) (later first : ℕ → Option ℕ) (a : List R)
+    (note_a : Notes) (b : List R) (note_b : Notes) (c : List R) (note_c : Notes)
+    → length c ≡ length b
     → IsLaid form image first a note_a b note_b → IsLaid form image later b note_b c note_c → IsLaid form image (λ i. option_or (later i) (first i)) a note_a c note_c
 laid_then form image later first a note_a b note_b c note_c same one two i lt =
     laid_at_then form image (later i) (first i) (slice_get a i) (slice_get b i) (slice_get c i) (noted note_a i) (noted note_b i) (noted note_c i) (one i (omega arith)) (two i lt)
@@ -201,7 +221,9 @@ pub record RunFits (width size k at w : ℕ) (area : List ℕ) (runs : List Run)
   pub filled : length (take (at + run.count * w - at) (drop at area)) ≡ run.count * width
   pub next : at + run.count * w ≡ records_of_runs (take (k + 1) runs) * width
 
-pub run_fits : (width size k at w : ℕ) (area : List ℕ) (change : Seen) (run : Run) → w ≡ width → change.shape.width ≡ width → length area ≡ record_count change.frame * change.shape.width → are_inside size (runs_of change.frame) ≡ true
+pub run_fits : (width size k at w : ℕ) (area : List ℕ) (change : Seen) (run : Run)
+    → w ≡ width → change.shape.width ≡ width → length area ≡ record_count change.frame * change.shape.width
+    → are_inside size (runs_of change.frame) ≡ true
     → slice_get (runs_of change.frame) k ≡ Some run → at ≡ records_of_runs (take k (runs_of change.frame)) * width → RunFits width size k at w area (runs_of change.frame) run
 run_fits width size k at w area change run is wide area_len inside told here =
     let runs : List Run = runs_of change.frame in
@@ -213,7 +235,11 @@ run_fits width size k at w area change run is wide area_len inside told here =
     let more : take (k + 1) runs ≡ take k runs ++ run ∷ [] = take_more runs k run lt ∙ ap (λ r. take k runs ++ r ∷ []) (get_or_from_slice_get runs k run run told) in
     let sum : records_of_runs (take (k + 1) runs) ≡ records_of_runs (take k runs) + run.count = ap records_of_runs more ∙ records_of_runs_push (take k runs) run in
     let split : (records_of_runs (take k runs) + run.count) * width ≡ records_of_runs (take k runs) * width + run.count * width = omega arith in
-    let next : at + run.count * w ≡ records_of_runs (take (k + 1) runs) * width = ap (λ n. at + n) product ∙ ap (λ n. n + run.count * width) here ∙ sym split ∙ ap (λ n. n * width) (sym sum) in
+    let next : at + run.count * w ≡ records_of_runs (take (k + 1) runs) * width
+    = ap (λ n. at + n) product
+    ∙ ap (λ n. n + run.count * width) here
+    ∙ sym split
+    ∙ ap (λ n. n * width) (sym sum) in
     let some = records_of_runs-take (k + 1) runs in
     let below : records_of_runs (take (k + 1) runs) * width ≤ all * width = mul-le (records_of_runs (take (k + 1) runs)) width all width (omega arith) (omega arith) in
     let left = length-drop at area in
@@ -226,8 +252,12 @@ run_fits width size k at w area change run is wide area_len inside told here =
       next = next;
     }
 
-pub place_in_runs_push : (width i p : ℕ) (runs : List Run) (run : Run) → place_in_runs width i p (runs ++ run ∷ []) ≡ option_or (place_among width (p + records_of_runs runs * width) run.start run.count i) (place_in_runs width i p runs)
-place_in_runs_push width i p [] run = let here : p + 0 * width ≡ p = omega arith in sym (option_or_none (place_among width (p + 0 * width) run.start run.count i) ∙ ap (λ n. place_among width n run.start run.count i) here)
+pub place_in_runs_push : (width i p : ℕ) (runs : List Run) (run : Run)
+    → place_in_runs width i p (runs ++ run ∷ []) ≡ option_or (place_among width (p + records_of_runs runs * width) run.start run.count i) (place_in_runs width i p runs)
+place_in_runs_push width i p [] run =
+    let here : p + 0 * width ≡ p = omega arith in
+    sym
+    (option_or_none (place_among width (p + 0 * width) run.start run.count i) ∙ ap (λ n. place_among width n run.start run.count i) here)
 place_in_runs_push width i p (first ∷ runs) run =
     let n : ℕ = p + first.count * width in
     let all = records_of_runs-cons first runs in
@@ -240,13 +270,20 @@ place_in_runs_push width i p (first ∷ runs) run =
     ∙ ap (λ m. option_or (place_among width m run.start run.count i) (option_or rest here)) at
 
 -- the records of run k were laid
-pub laid_run : {R : Type 0} (form : Encoding R) (image : List ℕ) (place at k start count : ℕ) (runs : List Run) (old : List R) (old_notes : Notes) (mid : List R) (mid_notes : Notes) (new : List R) (new_notes : Notes)
+pub laid_run :
+    {R : Type 0} (form : Encoding R) (image : List ℕ) (place at k start count : ℕ) (runs : List Run) (old : List R)
+    (old_notes : Notes) (mid : List R) (mid_notes : Notes) (new : List R) (new_notes : Notes)
     → at ≡ records_of_runs (take k runs) * form.width → take (k + 1) runs ≡ take k runs ++ record { start = start; count = count } ∷ [] → length new ≡ length mid
     → IsLaid form image (λ i. place_in_runs form.width i place (take k runs)) old old_notes mid mid_notes
     → IsLaid form image (place_among form.width (place + at) start count) mid mid_notes new new_notes
     → IsLaid form image (λ i. place_in_runs form.width i place (take (k + 1) runs)) old old_notes new new_notes
 laid_run form image place at k start count runs old old_notes mid mid_notes new new_notes here more same laid one =
     let run : Run = record { start = start; count = count } in
-    laid_as form image (λ i. option_or (place_among form.width (place + at) start count i) (place_in_runs form.width i place (take k runs))) (λ i. place_in_runs form.width i place (take (k + 1) runs)) old old_notes new new_notes
-    (λ i. ap (place_in_runs form.width i place) more ∙ place_in_runs_push form.width i place (take k runs) run ∙ ap (λ n. option_or (place_among form.width (place + n) start count i) (place_in_runs form.width i place (take k runs))) (sym here))
+    laid_as form image
+    (λ i. option_or (place_among form.width (place + at) start count i) (place_in_runs form.width i place (take k runs)))
+    (λ i. place_in_runs form.width i place (take (k + 1) runs)) old old_notes new new_notes
+    (λ i.
+    ap (place_in_runs form.width i place) more
+    ∙ place_in_runs_push form.width i place (take k runs) run
+    ∙ ap (λ n. option_or (place_among form.width (place + n) start count i) (place_in_runs form.width i place (take k runs))) (sym here))
     (laid_then form image (place_among form.width (place + at) start count) (λ i. place_in_runs form.width i place (take k runs)) old old_notes mid mid_notes new new_notes same laid one)

@@ -39,7 +39,10 @@ take_inside n zero xs ys le = take_front n xs ys (omega arith)
 take_inside n (suc q) [] ys le = let none : n ≡ 0 = omega arith in ap (λ m. take m (drop (suc q) ys)) none ∙ sym (ap (λ m. take m (drop {A = ℕ} (suc q) [])) none)
 take_inside n (suc q) (x ∷ xs) ys le = take_inside n q xs ys (omega arith)
 
-pub has_home_more : {R : Type 0} (form : Encoding R) (bytes more : List ℕ) (home : Option ℕ) (held : Option R) (told : Option ℕ) → HasHome form bytes home held told → HasHome form (bytes ++ more) home held told
+pub has_home_more : {R : Type 0} (form : Encoding R) (bytes more : List ℕ) (home : Option ℕ) (held : Option R)
+    (told : Option ℕ)
+    → HasHome form bytes home held told
+    → HasHome form (bytes ++ more) home held told
 has_home_more {R} form bytes more home held told has =
     let within = has.2 in
     let len = length-append bytes more in (
@@ -49,7 +52,10 @@ has_home_more {R} form bytes more home held told has =
       subst (λ (o : Option R). MatchOption o (told ≡ Some has.0) (λ r. (held ≡ Some r) × (told ≡ None))) (sym (ap form.value_of (take_inside form.width has.0 bytes more within))) has.3,
     )
 
-has_home_as : {R : Type 0} (form : Encoding R) (bytes later : List ℕ) (home other : Option ℕ) (held still : Option R) (told same : Option ℕ) → later ≡ bytes → other ≡ home → still ≡ held → same ≡ told → HasHome form bytes home held told → HasHome form later other still same
+has_home_as : {R : Type 0} (form : Encoding R) (bytes later : List ℕ) (home other : Option ℕ) (held still : Option R)
+    (told same : Option ℕ)
+    → later ≡ bytes → other ≡ home → still ≡ held → same ≡ told → HasHome form bytes home held told
+    → HasHome form later other still same
 has_home_as {R} form bytes later home other held still told same a b c d has =
     subst (λ (bs : List ℕ). HasHome form bs other still same) (sym a)
     (subst (λ (o : Option ℕ). HasHome form bytes o still same) (sym b)
@@ -65,7 +71,9 @@ after_group t (Shrink n) kind = absurd (omega (arith, kind))
 after_group t (Fold count) kind = absurd (omega (arith, kind))
 
 home_in_group : (format : Format) (width i p : ℕ) (t : Tally) (f : Frame) → kind_of f ≡ 1 → home_in width i p t f ≡ place_among width (p + 6 + head_len format f) t.size (record_count f) i
-home_in_group format width i p t (Group lengths bytes) kind = let at : p + 10 + length lengths * 4 ≡ p + 6 + (4 + length lengths * 4) = omega arith in ap (λ n. place_among width n t.size (record_count (Group lengths bytes)) i) at
+home_in_group format width i p t (Group lengths bytes) kind =
+    let at : p + 10 + length lengths * 4 ≡ p + 6 + (4 + length lengths * 4) = omega arith in
+    ap (λ n. place_among width n t.size (record_count (Group lengths bytes)) i) at
 home_in_group format width i p t (Change runs bytes) kind = absurd (omega (arith, kind))
 home_in_group format width i p t (Shrink n) kind = absurd (omega (arith, kind))
 home_in_group format width i p t (Fold count) kind = absurd (omega (arith, kind))
@@ -116,18 +124,26 @@ inside_longer size more (run ∷ runs) le inside =
 
 -- ---- positions that stay
 
-kept : {R : Type 0} (form : Encoding R) (format : Format) (frames : List Frame) (f : Frame) (old new : Found R) (i : ℕ) → home_in form.width i (length (text (shape_of format form) frames)) (tally_of frames) f ≡ None
+kept : {R : Type 0} (form : Encoding R) (format : Format) (frames : List Frame) (f : Frame) (old new : Found R)
+    (i : ℕ)
+    → home_in form.width i (length (text (shape_of format form) frames)) (tally_of frames) f ≡ None
     → slice_get new.records.items i ≡ slice_get old.records.items i → noted new.notes i ≡ noted old.notes i
     → HasHome form (text (shape_of format form) frames) (home_of (shape_of format form) frames i) (slice_get old.records.items i) (noted old.notes i)
     → HasHome form (text (shape_of format form) (frames ++ f ∷ [])) (home_of (shape_of format form) (frames ++ f ∷ []) i) (slice_get new.records.items i) (noted new.notes i)
 kept form format frames f old new i none same told has =
     let shape : Shape = shape_of format form in
-    has_home_as form (text shape frames ++ frame_text format f) (text shape (frames ++ f ∷ [])) (home_of shape frames i) (home_of shape (frames ++ f ∷ []) i) (slice_get old.records.items i) (slice_get new.records.items i) (noted old.notes i) (noted new.notes i)
+    has_home_as form (text shape frames ++ frame_text format f) (text shape (frames ++ f ∷ []))
+    (home_of shape frames i) (home_of shape (frames ++ f ∷ []) i) (slice_get old.records.items i)
+    (slice_get new.records.items i) (noted old.notes i) (noted new.notes i)
     (text_push shape frames f) (home_push shape frames f i ∙ ap (λ o. option_or o (home_of shape frames i)) none) same told
     (has_home_more form (text shape frames) (frame_text format f) (home_of shape frames i) (slice_get old.records.items i) (noted old.notes i) has)
 
-homes_kept : (shape : Shape) (frames : List Frame) (f : Frame) (homes later : List Home) → 1 < kind_of f → (tally_of (frames ++ f ∷ [])).size ≤ (tally_of frames).size → AreHomes shape frames homes
-    → AreInTurn 0 later (tally_of (frames ++ f ∷ [])).size → ((i : ℕ) → i < (tally_of (frames ++ f ∷ [])).size → home_among shape.width later i ≡ home_among shape.width homes i) → AreHomes shape (frames ++ f ∷ []) later
+homes_kept : (shape : Shape) (frames : List Frame) (f : Frame) (homes later : List Home)
+    → 1 < kind_of f → (tally_of (frames ++ f ∷ [])).size ≤ (tally_of frames).size
+    → AreHomes shape frames homes
+    → AreInTurn 0 later (tally_of (frames ++ f ∷ [])).size
+    → ((i : ℕ) → i < (tally_of (frames ++ f ∷ [])).size → home_among shape.width later i ≡ home_among shape.width homes i)
+    → AreHomes shape (frames ++ f ∷ []) later
 homes_kept shape frames f homes later kind shorter has turn same = record {
   in_turn = turn;
   each = λ i lt. (
@@ -140,13 +156,20 @@ same_shape form shape wide = ap (λ w. record { format = shape.format; width = w
 
 -- ---- the same frames
 
-pub found_same : {R : Type 0} (form : Encoding R) (format : Format) (frames : List Frame) (old new : Found R) → IsSame old new → new.folded ≡ old.folded → new.live.items ≡ old.live.items → IsFound form format frames old → IsFound form format frames new
+pub found_same : {R : Type 0} (form : Encoding R) (format : Format) (frames : List Frame) (old new : Found R)
+    → IsSame old new → new.folded ≡ old.folded → new.live.items ≡ old.live.items → IsFound form format frames old
+    → IsFound form format frames new
 found_same form format frames old new same folded live is =
     let shape : Shape = shape_of format form in
     record {
       size_is = ap length same.records_are ∙ is.size_is;
       small = is.small;
-      each = λ i lt. has_home_as form (text shape frames) (text shape frames) (home_of shape frames i) (home_of shape frames i) (slice_get old.records.items i) (slice_get new.records.items i) (noted old.notes i) (noted new.notes i) refl refl (ap (λ rs. slice_get rs i) same.records_are) (same.notes_are i) (is.each i lt);
+      each =
+          λ i lt.
+          has_home_as form (text shape frames) (text shape frames) (home_of shape frames i)
+          (home_of shape frames i) (slice_get old.records.items i) (slice_get new.records.items i)
+          (noted old.notes i) (noted new.notes i) refl refl (ap (λ rs. slice_get rs i) same.records_are)
+          (same.notes_are i) (is.each i lt);
       homes = subst (AreHomes shape frames) (sym same.homes_are) is.homes;
       folded_is = folded ∙ is.folded_is;
       counted = is.counted;
@@ -156,7 +179,9 @@ found_same form format frames old new same folded live is =
 
 -- ---- a group
 
-pub found_group : {R : Type 0} (form : Encoding R) (frames : List Frame) (seen : Seen) (old new : Found R) → kind_of seen.frame ≡ 1 → StandsNext form frames old seen → IsGrown form seen old new → IsFound form seen.shape.format (frames ++ seen.frame ∷ []) new
+pub found_group : {R : Type 0} (form : Encoding R) (frames : List Frame) (seen : Seen) (old new : Found R)
+    → kind_of seen.frame ≡ 1 → StandsNext form frames old seen → IsGrown form seen old new
+    → IsFound form seen.shape.format (frames ++ seen.frame ∷ []) new
 found_group {R} form frames seen old new kind follows grown =
     let f : Frame = seen.frame in
     let format : Format = seen.shape.format in
@@ -174,7 +199,8 @@ found_group {R} form frames seen old new kind follows grown =
     let changes : (tally_of (frames ++ f ∷ [])).changes ≡ t.changes = ap (λ x. x.changes) tally in
     let at : seen.at ≡ length (text shape frames) = follows.here ∙ ap (λ s. length (text s frames)) (same_shape form seen.shape follows.wide) in
     let pushed : image ≡ text shape frames ++ frame_text format f = text_push shape frames f in
-    let stands : StandsAt image p bytes = records_stand format f image (text shape frames) [] seen.at (pushed ∙ ap (λ (bs : List ℕ). text shape frames ++ bs) (sym (append-nil (frame_text format f)))) at in
+    let stands : StandsAt image p bytes
+    = records_stand format f image (text shape frames) [] seen.at (pushed ∙ ap (λ (bs : List ℕ). text shape frames ++ bs) (sym (append-nil (frame_text format f)))) at in
     let filled : length bytes ≡ n * width = records_filled seen.shape f follows.whole.layout ∙ ap (λ w. n * w) follows.wide in
     let reach : p + length bytes ≡ length image =
     let a = ap length pushed ∙ length-append (text shape frames) (frame_text format f) in
@@ -182,10 +208,15 @@ found_group {R} form frames seen old new kind follows grown =
     omega arith in
     let start : length old.records.items ≡ t.size = behind.size_is in
     let says : ℕ → Option ℕ = place_among width p t.size n in
-    let home : (i : ℕ) → home_of shape (frames ++ f ∷ []) i ≡ option_or (says i) (home_of shape frames i) = λ i. home_push shape frames f i ∙ ap (λ o. option_or o (home_of shape frames i)) (ap (λ m. home_in width i m t f) (sym at) ∙ home_in_group format width i seen.at t f kind) in
+    let home : (i : ℕ) → home_of shape (frames ++ f ∷ []) i ≡ option_or (says i) (home_of shape frames i)
+    = λ i.
+    home_push shape frames f i
+    ∙ ap (λ o. option_or o (home_of shape frames i)) (ap (λ m. home_in width i m t f) (sym at) ∙ home_in_group format width i seen.at t f kind) in
     let long : length new.records.items ≡ t.size + n = grown.longer ∙ ap (λ m. m + n) start in
     let laid : (i : ℕ) → i < t.size + n → IsLaidAt form image (says i) (slice_get new.records.items i) (slice_get old.records.items i) (noted new.notes i) (noted old.notes i) = λ i lt. (
-    subst (λ m. IsLaidAt form image (place_among width p m n i) (slice_get new.records.items i) (slice_get old.records.items i) (noted new.notes i) (noted old.notes i)) start (grown.laid image stands i (omega arith))) in
+    subst
+    (λ m. IsLaidAt form image (place_among width p m n i) (slice_get new.records.items i) (slice_get old.records.items i) (noted new.notes i) (noted old.notes i))
+    start (grown.laid image stands i (omega arith))) in
     let here : Home = record { position = length old.records.items; place = p; count = n } in
     record {
       size_is = long ∙ sym size;
@@ -193,7 +224,10 @@ found_group {R} form frames seen old new kind follows grown =
       each = λ i lt. elim (cases_lt i t.size) [
         | inl below ↦ (
             let none : says i ≡ None = place_among_below width p t.size n i below in
-            let same = subst (λ (o : Option ℕ). IsLaidAt form image o (slice_get new.records.items i) (slice_get old.records.items i) (noted new.notes i) (noted old.notes i)) none (laid i (omega arith)) in
+            let same =
+            subst
+            (λ (o : Option ℕ). IsLaidAt form image o (slice_get new.records.items i) (slice_get old.records.items i) (noted new.notes i) (noted old.notes i))
+            none (laid i (omega arith)) in
             kept form format frames f old new i (ap (λ m. home_in width i m t f) (sym at) ∙ home_in_group format width i seen.at t f kind ∙ none) same.0 same.1 (behind.each i below))
         | inr from ↦ (
             let q : ℕ = p + (i - t.size) * width in
@@ -206,10 +240,14 @@ found_group {R} form frames seen old new kind follows grown =
             ))
       ];
       homes = record {
-        in_turn = subst (λ (hs : List Home). AreInTurn 0 hs (tally_of (frames ++ f ∷ [])).size) (sym grown.home) (in_turn_push 0 t.size (tally_of (frames ++ f ∷ [])).size old.homes.items here behind.homes.in_turn start (sym size));
+        in_turn =
+            subst (λ (hs : List Home). AreInTurn 0 hs (tally_of (frames ++ f ∷ [])).size) (sym grown.home)
+            (in_turn_push 0 t.size (tally_of (frames ++ f ∷ [])).size old.homes.items here behind.homes.in_turn start (sym size));
         each = λ i lt. (
             let is : home_among width new.homes.items i ≡ option_or (says i) (home_among width old.homes.items i) =
-            ap (λ (hs : List Home). home_among width hs i) grown.home ∙ home_among_push width i old.homes.items here ∙ ap (λ m. option_or (place_among width p m n i) (home_among width old.homes.items i)) start in
+            ap (λ (hs : List Home). home_among width hs i) grown.home
+            ∙ home_among_push width i old.homes.items here
+            ∙ ap (λ m. option_or (place_among width p m n i) (home_among width old.homes.items i)) start in
             elim (cases_lt i t.size) [
               | inl below ↦ is ∙ ap (option_or (says i)) (behind.homes.each i below) ∙ sym (home i)
               | inr from ↦ (
@@ -221,14 +259,21 @@ found_group {R} form frames seen old new kind follows grown =
       counted = let few = behind.counted in omega arith;
       live_is = grown.live_is ∙ behind.live_is ∙ sym (
           ap (λ m. drop m (changes_of shape (frames ++ f ∷ []))) folded
-          ∙ ap (drop t.folded) (changes_push shape frames f ∙ ap (λ (cs : List Seen). changes_of shape frames ++ cs) (changes_in_group shape (length (text shape frames)) f kind) ∙ append-nil (changes_of shape frames)));
+          ∙ ap (drop t.folded)
+          (changes_push shape frames f
+          ∙ ap (λ (cs : List Seen). changes_of shape frames ++ cs) (changes_in_group shape (length (text shape frames)) f kind)
+          ∙ append-nil (changes_of shape frames)));
       inside = subst (λ (cs : List Seen). AllByRecursion (IsInside (tally_of (frames ++ f ∷ [])).size) cs) (sym grown.live_is)
-          (all_map (IsInside t.size) (IsInside (tally_of (frames ++ f ∷ [])).size) old.live.items (λ x inside. inside_longer t.size (tally_of (frames ++ f ∷ [])).size (runs_of x.frame) (omega arith) inside) behind.inside);
+          (all_map (IsInside t.size) (IsInside (tally_of (frames ++ f ∷ [])).size) old.live.items
+          (λ x inside. inside_longer t.size (tally_of (frames ++ f ∷ [])).size (runs_of x.frame) (omega arith) inside)
+          behind.inside);
     }
 
 -- ---- a change
 
-pub found_change : {R : Type 0} (form : Encoding R) (frames : List Frame) (seen : Seen) (old new : Found R) → kind_of seen.frame ≡ 2 → StandsNext form frames old seen → IsSame old new → new.folded ≡ old.folded → new.live.items ≡ old.live.items ++ seen ∷ []
+pub found_change : {R : Type 0} (form : Encoding R) (frames : List Frame) (seen : Seen) (old new : Found R)
+    → kind_of seen.frame ≡ 2 → StandsNext form frames old seen → IsSame old new → new.folded ≡ old.folded
+    → new.live.items ≡ old.live.items ++ seen ∷ []
     → IsFound form seen.shape.format (frames ++ seen.frame ∷ []) new
 found_change form frames seen old new kind follows same folded_same pushed =
     let f : Frame = seen.frame in
@@ -242,13 +287,19 @@ found_change form frames seen old new kind follows same folded_same pushed =
     let changes : (tally_of (frames ++ f ∷ [])).changes ≡ t.changes + 1 = ap (λ x. x.changes) tally in
     let is_shape = same_shape form seen.shape follows.wide in
     let at : seen.at ≡ length (text shape frames) = follows.here ∙ ap (λ s. length (text s frames)) is_shape in
-    let one : record { at = length (text shape frames); shape = shape; frame = f } ≡ seen = ap (λ n. record { at = n; shape = shape; frame = f }) (sym at) ∙ ap (λ s. record { at = seen.at; shape = s; frame = f }) (sym is_shape) in
+    let one : record { at = length (text shape frames); shape = shape; frame = f } ≡ seen
+    = ap (λ n. record { at = n; shape = shape; frame = f }) (sym at)
+    ∙ ap (λ s. record { at = seen.at; shape = s; frame = f }) (sym is_shape) in
     let few = behind.counted in
     let counted = changes_counted shape frames in
     record {
       size_is = ap length same.records_are ∙ behind.size_is ∙ sym size;
       small = let small = behind.small in omega arith;
-      each = λ i lt. kept form format frames f old new i (no_home form.width i (length (text shape frames)) t f (omega (arith, kind))) (ap (λ rs. slice_get rs i) same.records_are) (same.notes_are i) (behind.each i (omega arith));
+      each =
+          λ i lt.
+          kept form format frames f old new i
+          (no_home form.width i (length (text shape frames)) t f (omega (arith, kind)))
+          (ap (λ rs. slice_get rs i) same.records_are) (same.notes_are i) (behind.each i (omega arith));
       homes = homes_kept shape frames f old.homes.items new.homes.items (omega (arith, kind)) (omega arith) behind.homes
           (subst (λ (hs : List Home). AreInTurn 0 hs (tally_of (frames ++ f ∷ [])).size) (sym same.homes_are) (subst (AreInTurn 0 old.homes.items) (sym size) behind.homes.in_turn))
           (λ i lt. ap (λ (hs : List Home). home_among shape.width hs i) same.homes_are);
@@ -256,15 +307,20 @@ found_change form frames seen old new kind follows same folded_same pushed =
       counted = omega arith;
       live_is = pushed ∙ ap (λ (cs : List Seen). cs ++ seen ∷ []) behind.live_is ∙ sym (
           ap (λ m. drop m (changes_of shape (frames ++ f ∷ []))) folded
-          ∙ ap (drop t.folded) (changes_push shape frames f ∙ ap (λ (cs : List Seen). changes_of shape frames ++ cs) (changes_in_change shape (length (text shape frames)) f kind ∙ ap (λ (x : Seen). x ∷ []) one))
+          ∙ ap (drop t.folded)
+          (changes_push shape frames f
+          ∙ ap (λ (cs : List Seen). changes_of shape frames ++ cs) (changes_in_change shape (length (text shape frames)) f kind ∙ ap (λ (x : Seen). x ∷ []) one))
           ∙ drop-append-le t.folded (changes_of shape frames) (seen ∷ []) (omega arith));
       inside = subst (λ (cs : List Seen). AllByRecursion (IsInside (tally_of (frames ++ f ∷ [])).size) cs) (sym pushed)
-          (subst (λ m. AllByRecursion (IsInside m) (old.live.items ++ seen ∷ [])) (sym size) (all_push (IsInside t.size) old.live.items seen behind.inside (change_inside t f kind follows.may.inside)));
+          (subst (λ m. AllByRecursion (IsInside m) (old.live.items ++ seen ∷ [])) (sym size)
+          (all_push (IsInside t.size) old.live.items seen behind.inside (change_inside t f kind follows.may.inside)));
     }
 
 -- ---- a shrink
 
-pub found_shrink : {R : Type 0} (form : Encoding R) (frames : List Frame) (seen : Seen) (old new : Found R) (n : ℕ) → seen.frame ≡ Shrink n → StandsNext form frames old seen → IsCut n old new → IsFound form seen.shape.format (frames ++ seen.frame ∷ []) new
+pub found_shrink : {R : Type 0} (form : Encoding R) (frames : List Frame) (seen : Seen) (old new : Found R) (n : ℕ)
+    → seen.frame ≡ Shrink n → StandsNext form frames old seen → IsCut n old new
+    → IsFound form seen.shape.format (frames ++ seen.frame ∷ []) new
 found_shrink form frames seen old new n frame follows cut =
     let f : Frame = seen.frame in
     let format : Format = seen.shape.format in
@@ -295,7 +351,8 @@ found_shrink form frames seen old new n frame follows cut =
       counted = omega arith;
       live_is = cut.live_is ∙ behind.live_is ∙ sym (
           ap (λ m. drop m (changes_of shape (frames ++ f ∷ []))) folded
-          ∙ ap (drop t.folded) (changes_push shape frames f ∙ ap (λ (g : Frame). changes_of shape frames ++ changes_in shape (length (text shape frames)) g) frame ∙ append-nil (changes_of shape frames)));
+          ∙ ap (drop t.folded)
+          (changes_push shape frames f ∙ ap (λ (g : Frame). changes_of shape frames ++ changes_in shape (length (text shape frames)) g) frame ∙ append-nil (changes_of shape frames)));
       inside = subst (λ (cs : List Seen). AllByRecursion (IsInside (tally_of (frames ++ f ∷ [])).size) cs) (sym (cut.live_is ∙ behind.live_is ∙ none)) tt;
     }
 
@@ -306,7 +363,9 @@ fold_bounds t f count frame fits =
     let parts = or_parts (nat_lt count t.folded) (nat_lt t.changes count) (sym (ap (is_miscounted t) frame) ∙ fits) in
     (ltb-false count t.folded parts.0, ltb-false t.changes count parts.1)
 
-pub found_fold : {R : Type 0} (form : Encoding R) (frames : List Frame) (seen : Seen) (old new : Found R) (count : ℕ) → seen.frame ≡ Fold count → StandsNext form frames old seen → IsSame old new → new.folded ≡ count → new.live.items ≡ drop (count - old.folded) old.live.items
+pub found_fold : {R : Type 0} (form : Encoding R) (frames : List Frame) (seen : Seen) (old new : Found R) (count : ℕ)
+    → seen.frame ≡ Fold count → StandsNext form frames old seen → IsSame old new → new.folded ≡ count
+    → new.live.items ≡ drop (count - old.folded) old.live.items
     → IsFound form seen.shape.format (frames ++ seen.frame ∷ []) new
 found_fold form frames seen old new count frame follows same folded_now dropped =
     let f : Frame = seen.frame in
@@ -327,15 +386,25 @@ found_fold form frames seen old new count frame follows same folded_now dropped 
     record {
       size_is = ap length same.records_are ∙ behind.size_is ∙ sym size;
       small = let small = behind.small in omega arith;
-      each = λ i lt. kept form format frames f old new i (no_home form.width i (length (text shape frames)) t f (omega (arith, kind))) (ap (λ rs. slice_get rs i) same.records_are) (same.notes_are i) (behind.each i (omega arith));
+      each =
+          λ i lt.
+          kept form format frames f old new i
+          (no_home form.width i (length (text shape frames)) t f (omega (arith, kind)))
+          (ap (λ rs. slice_get rs i) same.records_are) (same.notes_are i) (behind.each i (omega arith));
       homes = homes_kept shape frames f old.homes.items new.homes.items (omega (arith, kind)) (omega arith) behind.homes
           (subst (λ (hs : List Home). AreInTurn 0 hs (tally_of (frames ++ f ∷ [])).size) (sym same.homes_are) (subst (AreInTurn 0 old.homes.items) (sym size) behind.homes.in_turn))
           (λ i lt. ap (λ (hs : List Home). home_among shape.width hs i) same.homes_are);
       folded_is = folded_now ∙ sym folded;
       counted = omega arith;
-      live_is = dropped ∙ ap (drop (count - old.folded)) behind.live_is ∙ drop-drop (count - old.folded) t.folded (changes_of shape frames) ∙ ap (λ m. drop m (changes_of shape frames)) both ∙ sym (
+      live_is =
+          dropped
+          ∙ ap (drop (count - old.folded)) behind.live_is
+          ∙ drop-drop (count - old.folded) t.folded (changes_of shape frames)
+          ∙ ap (λ m. drop m (changes_of shape frames)) both
+          ∙ sym (
           ap (λ m. drop m (changes_of shape (frames ++ f ∷ []))) folded
-          ∙ ap (drop count) (changes_push shape frames f ∙ ap (λ (g : Frame). changes_of shape frames ++ changes_in shape (length (text shape frames)) g) frame ∙ append-nil (changes_of shape frames)));
+          ∙ ap (drop count)
+          (changes_push shape frames f ∙ ap (λ (g : Frame). changes_of shape frames ++ changes_in shape (length (text shape frames)) g) frame ∙ append-nil (changes_of shape frames)));
       inside = subst (λ (cs : List Seen). AllByRecursion (IsInside (tally_of (frames ++ f ∷ [])).size) cs) (sym dropped)
           (subst (λ m. AllByRecursion (IsInside m) (drop (count - old.folded) old.live.items)) (sym size) (all_drop (IsInside t.size) (count - old.folded) old.live.items behind.inside));
     }

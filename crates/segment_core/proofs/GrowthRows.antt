@@ -24,7 +24,9 @@ range_of_longer row more start end begins ends =
     let len = length-drop start row in
     ap (take (end - start)) (drop-append-le start row more (omega arith)) ∙ take-append-le (end - start) (drop start row) more (omega arith)
 
-pub growths_of_longer : {R : Type 0} (start : ℕ) (ends : List ℕ) (row more : List R) → AreEndsFrom start ends (length row) → growths_from start ends (row ++ more) ≡ growths_from start ends row
+pub growths_of_longer : {R : Type 0} (start : ℕ) (ends : List ℕ) (row more : List R)
+    → AreEndsFrom start ends (length row)
+    → growths_from start ends (row ++ more) ≡ growths_from start ends row
 growths_of_longer start [] row more are = refl
 growths_of_longer {R} start (end ∷ ends) row more are =
     ap (λ (growth : List R). growth ∷ growths_from end ends (row ++ more)) (range_of_longer row more start end are.0 (start_within end ends (length row) are.1))
@@ -40,7 +42,8 @@ pub ends_push : (start : ℕ) (ends : List ℕ) (len : ℕ) → AreEndsFrom star
 ends_push start [] len are = (are, omega arith)
 ends_push start (end ∷ ends) len are = (are.0, ends_push end ends len are.1)
 
-pub growths_push : {R : Type 0} (start : ℕ) (ends : List ℕ) (end : ℕ) (row : List R) → growths_from start (ends ++ end ∷ []) row ≡ growths_from start ends row ++ slice_range row (end_from start ends) end ∷ []
+pub growths_push : {R : Type 0} (start : ℕ) (ends : List ℕ) (end : ℕ) (row : List R)
+    → growths_from start (ends ++ end ∷ []) row ≡ growths_from start ends row ++ slice_range row (end_from start ends) end ∷ []
 growths_push start [] end row = refl
 growths_push {R} start (first ∷ ends) end row = ap (λ (growths : List (List R)). slice_range row start first ∷ growths) (growths_push first ends end row)
 
@@ -68,7 +71,9 @@ pub length-growths_from : {R : Type 0} (start : ℕ) (ends : List ℕ) (row : Li
 length-growths_from start [] row = refl
 length-growths_from start (end ∷ ends) row = ap suc (length-growths_from end ends row)
 
-pub growth_at : {R : Type 0} (start : ℕ) (ends : List ℕ) (row : List R) (k : ℕ) → k < length ends → slice_get (growths_from start ends row) k ≡ Some (slice_range row (start_at start ends k) (get_or ends k 0))
+pub growth_at : {R : Type 0} (start : ℕ) (ends : List ℕ) (row : List R) (k : ℕ)
+    → k < length ends
+    → slice_get (growths_from start ends row) k ≡ Some (slice_range row (start_at start ends k) (get_or ends k 0))
 growth_at start [] row k lt = absurd (omega arith)
 growth_at start (end ∷ ends) row zero lt = refl
 growth_at start (end ∷ ends) row (suc zero) lt = growth_at end ends row zero (omega arith)

@@ -85,7 +85,10 @@ finds_short_head shape p bytes gate short = record {
   cut = λ _. first_line_at 1 (frame_lines shape p bytes) _ (not_empty bytes gate, (lt-ltb _ _ short, refl));
 }
 
-pub finds_short_payload : (shape : Shape) (p : ℕ) (bytes : List ℕ) → IsOpen bytes → 6 ≤ length bytes → is_kind (kind_in bytes) ≡ true → payload_len_in bytes ≤ limit_of shape.format → length bytes < 6 + payload_len_in bytes → IsShort shape p bytes
+pub finds_short_payload : (shape : Shape) (p : ℕ) (bytes : List ℕ)
+    → IsOpen bytes → 6 ≤ length bytes → is_kind (kind_in bytes) ≡ true → payload_len_in bytes ≤ limit_of shape.format
+    → length bytes < 6 + payload_len_in bytes
+    → IsShort shape p bytes
 unfolding frame_lines
 finds_short_payload shape p bytes gate long kind small short = record {
   opened = not_closed bytes gate;
@@ -99,30 +102,42 @@ kind_found : (shape : Shape) (p : ℕ) (bytes : List ℕ) → IsOpen bytes → 6
 unfolding frame_lines
 kind_found shape p bytes gate long unknown = (not_closed bytes gate, first_line_at 2 (frame_lines shape p bytes) _ (not_empty bytes gate, (le-ltb _ _ long, (ap not unknown, refl))))
 
-pub finds_kind : (shape : Shape) (p : ℕ) (bytes : List ℕ) → IsOpen bytes → 6 ≤ length bytes → is_kind (kind_in bytes) ≡ false → IsFaulty shape p bytes (damaged (p + 1) (Kind (kind_in bytes)))
+pub finds_kind : (shape : Shape) (p : ℕ) (bytes : List ℕ)
+    → IsOpen bytes → 6 ≤ length bytes → is_kind (kind_in bytes) ≡ false
+    → IsFaulty shape p bytes (damaged (p + 1) (Kind (kind_in bytes)))
 finds_kind shape p bytes gate long unknown more =
     let same = kind_more bytes more long in
     let l = longer bytes more in
     let found = kind_found shape p (bytes ++ more) (open_more bytes more gate) (omega arith) (ap is_kind same ∙ unknown) in
     (found.0, found.1 ∙ ap (λ k. Some (damaged (p + 1) (Kind k))) same)
 
-too_large_found : (shape : Shape) (p : ℕ) (bytes : List ℕ) → IsOpen bytes → 6 ≤ length bytes → is_kind (kind_in bytes) ≡ true → limit_of shape.format < payload_len_in bytes → Finds shape p bytes (damaged (p + 2) TooLarge)
+too_large_found : (shape : Shape) (p : ℕ) (bytes : List ℕ)
+    → IsOpen bytes → 6 ≤ length bytes → is_kind (kind_in bytes) ≡ true → limit_of shape.format < payload_len_in bytes
+    → Finds shape p bytes (damaged (p + 2) TooLarge)
 unfolding frame_lines
 too_large_found shape p bytes gate long kind large =
     (not_closed bytes gate, first_line_at 3 (frame_lines shape p bytes) _ (not_empty bytes gate, (le-ltb _ _ long, (ap not kind, (lt-ltb _ _ large, refl)))))
 
-pub finds_too_large : (shape : Shape) (p : ℕ) (bytes : List ℕ) → IsOpen bytes → 6 ≤ length bytes → is_kind (kind_in bytes) ≡ true → limit_of shape.format < payload_len_in bytes → IsFaulty shape p bytes (damaged (p + 2) TooLarge)
+pub finds_too_large : (shape : Shape) (p : ℕ) (bytes : List ℕ)
+    → IsOpen bytes → 6 ≤ length bytes → is_kind (kind_in bytes) ≡ true → limit_of shape.format < payload_len_in bytes
+    → IsFaulty shape p bytes (damaged (p + 2) TooLarge)
 finds_too_large shape p bytes gate long kind large more =
     let l = longer bytes more in
     let len = payload_len_more bytes more long in
     too_large_found shape p (bytes ++ more) (open_more bytes more gate) (omega arith) (ap is_kind (kind_more bytes more long) ∙ kind) (omega arith)
 
-layout_found : (shape : Shape) (p : ℕ) (bytes : List ℕ) → IsOpen bytes → 6 ≤ length bytes → is_kind (kind_in bytes) ≡ true → payload_len_in bytes ≤ limit_of shape.format → 6 + payload_len_in bytes ≤ length bytes → is_layout shape (kind_in bytes) (payload_in bytes) ≡ false → Finds shape p bytes (damaged (p + 6) Layout)
+layout_found : (shape : Shape) (p : ℕ) (bytes : List ℕ)
+    → IsOpen bytes → 6 ≤ length bytes → is_kind (kind_in bytes) ≡ true → payload_len_in bytes ≤ limit_of shape.format
+    → 6 + payload_len_in bytes ≤ length bytes → is_layout shape (kind_in bytes) (payload_in bytes) ≡ false
+    → Finds shape p bytes (damaged (p + 6) Layout)
 unfolding frame_lines
 layout_found shape p bytes gate long kind small whole formless =
     (not_closed bytes gate, first_line_at 5 (frame_lines shape p bytes) _ (not_empty bytes gate, (le-ltb _ _ long, (ap not kind, (le-ltb _ _ small, (le-ltb _ _ whole, (ap not formless, refl)))))))
 
-pub finds_layout : (shape : Shape) (p : ℕ) (bytes : List ℕ) → IsOpen bytes → 6 ≤ length bytes → is_kind (kind_in bytes) ≡ true → payload_len_in bytes ≤ limit_of shape.format → 6 + payload_len_in bytes ≤ length bytes → is_layout shape (kind_in bytes) (payload_in bytes) ≡ false → IsFaulty shape p bytes (damaged (p + 6) Layout)
+pub finds_layout : (shape : Shape) (p : ℕ) (bytes : List ℕ)
+    → IsOpen bytes → 6 ≤ length bytes → is_kind (kind_in bytes) ≡ true → payload_len_in bytes ≤ limit_of shape.format
+    → 6 + payload_len_in bytes ≤ length bytes → is_layout shape (kind_in bytes) (payload_in bytes) ≡ false
+    → IsFaulty shape p bytes (damaged (p + 6) Layout)
 finds_layout shape p bytes gate long kind small whole formless more =
     let l = longer bytes more in
     let len = payload_len_more bytes more long in
@@ -149,7 +164,9 @@ head_written : (bytes : List ℕ) → IsBytes bytes → IsOpen bytes → 6 ≤ l
 head_written [] fits gate long = absurd (omega arith)
 head_written (a ∷ []) fits gate long = absurd (omega arith)
 head_written (a ∷ b ∷ bytes) fits gate long =
-    let number : to_le_bytes w32 (payload_len_in (a ∷ b ∷ bytes)) ≡ take 4 bytes = ap (to_le_bytes w32) (sym (u32_at-drop (a ∷ b ∷ bytes) 2 0)) ∙ u32_written bytes (IsBytes-drop 2 (a ∷ b ∷ bytes) fits) (omega arith) in
+    let number : to_le_bytes w32 (payload_len_in (a ∷ b ∷ bytes)) ≡ take 4 bytes
+    = ap (to_le_bytes w32) (sym (u32_at-drop (a ∷ b ∷ bytes) 2 0))
+    ∙ u32_written bytes (IsBytes-drop 2 (a ∷ b ∷ bytes) fits) (omega arith) in
     ap (λ x. x ∷ b ∷ bytes) gate.opened
     ∙ ap (λ (bs : List ℕ). 1 ∷ b ∷ bs) (sym (take-append-drop 4 bytes) ∙ ap (λ (bs : List ℕ). bs ++ drop 4 bytes) (sym number))
 
@@ -165,14 +182,14 @@ pub record IsWhole (shape : Shape) (bytes : List ℕ) (kind : ℕ) : Type 0 wher
   pub whole : 6 + payload_len_in bytes ≤ length bytes
   pub formed : is_layout shape kind (payload_in bytes) ≡ true
 
-length-payload : (bytes : List ℕ) → 6 + payload_len_in bytes ≤ length bytes → length (payload_in bytes) ≡ payload_len_in bytes
-length-payload bytes whole = let l = length-drop 6 bytes in length-take-le (payload_len_in bytes) (drop 6 bytes) (omega arith)
+pub length-payload_in : (bytes : List ℕ) → 6 + payload_len_in bytes ≤ length bytes → length (payload_in bytes) ≡ payload_len_in bytes
+length-payload_in bytes whole = let l = length-drop 6 bytes in length-take-le (payload_len_in bytes) (drop 6 bytes) (omega arith)
 
 pub begins_with : (shape : Shape) (bytes : List ℕ) (kind : ℕ) → IsWhole shape bytes kind → BeginsWith shape bytes (frame_in shape kind (payload_in bytes))
 begins_with shape bytes kind w =
     let payload : List ℕ = payload_in bytes in
     let n : ℕ = payload_len_in bytes in
-    let len : length payload ≡ n = length-payload bytes w.whole in
+    let len : length payload ≡ n = length-payload_in bytes w.whole in
     let limit = limit_small shape.format in
     let small = w.small in
     let p = is_payload shape kind payload w.wide (IsBytes-take n (drop 6 bytes) (IsBytes-drop 6 bytes w.fits)) (omega arith) w.one w.formed in
@@ -183,18 +200,24 @@ begins_with shape bytes kind w =
     ∙ ap (λ k. (1 ∷ kind_in bytes ∷ to_le_bytes w32 k) ++ payload_of shape.format frame) size ∙ ap (λ (bs : List ℕ). (1 ∷ kind_in bytes ∷ to_le_bytes w32 n) ++ bs) p.spelled in
     record {
       whole = record { wide = w.wide; small = subst (λ k. k ≤ limit_of shape.format) (sym size) small; layout = p.layout };
-      text = (drop n (drop 6 bytes), head_written bytes w.fits w.gate w.long ∙ ap (λ (bs : List ℕ). (1 ∷ kind_in bytes ∷ to_le_bytes w32 n) ++ bs) (sym (take-append-drop n (drop 6 bytes))) ∙ ap (λ (bs : List ℕ). bs ++ drop n (drop 6 bytes)) (sym text));
+      text = (
+        drop n (drop 6 bytes),
+        head_written bytes w.fits w.gate w.long
+            ∙ ap (λ (bs : List ℕ). (1 ∷ kind_in bytes ∷ to_le_bytes w32 n) ++ bs) (sym (take-append-drop n (drop 6 bytes)))
+            ∙ ap (λ (bs : List ℕ). bs ++ drop n (drop 6 bytes)) (sym text),
+      );
     }
 
 -- ---- what a reader keeps
 
 pub is_read : (at : ℕ) (shape : Shape) (kind heads records : ℕ) (bytes : List ℕ) → at + length bytes < 2 ^ 64 → IsWhole shape bytes kind
-    → heads ≡ length (lengths_of (frame_in shape kind (payload_in bytes))) + length (runs_of (frame_in shape kind (payload_in bytes))) → records ≡ record_count (frame_in shape kind (payload_in bytes))
+    → heads ≡ length (lengths_of (frame_in shape kind (payload_in bytes))) + length (runs_of (frame_in shape kind (payload_in bytes)))
+    → records ≡ record_count (frame_in shape kind (payload_in bytes))
     → IsRead at shape heads records (payload_in bytes) (frame_in shape kind (payload_in bytes))
 is_read at shape kind heads records bytes placed w h r =
     let payload : List ℕ = payload_in bytes in
     let frame : Frame = frame_in shape kind payload in
-    let len = length-payload bytes w.whole in
+    let len = length-payload_in bytes w.whole in
     let limit = limit_small shape.format in
     let small = w.small in
     let whole = w.whole in

@@ -54,7 +54,13 @@ header_of_none width image none =
     let silent = silent_lines (header_lines width image) none in
     let born = or_parts _ _ silent.0 in
     let segment = or_parts _ _ silent.1.0 in
-    record { long = ltb-false _ _ segment.0; opened = eqb-true _ _ (not-false _ born.1); magic = not-false _ segment.1; version = version_known image (not-false _ silent.1.1.0); wide = eqb-true _ _ (not-false _ silent.1.1.1.0) }
+    record {
+      long = ltb-false _ _ segment.0;
+      opened = eqb-true _ _ (not-false _ born.1);
+      magic = not-false _ segment.1;
+      version = version_known image (not-false _ silent.1.1.0);
+      wide = eqb-true _ _ (not-false _ silent.1.1.1.0);
+    }
 
 first_cell : (bytes : List ℕ) (n : ℕ) → 0 < length bytes → slice_index bytes 0 ≡ n → bytes ≡ n ∷ drop 1 bytes
 first_cell [] n some is = absurd (omega arith)
@@ -68,10 +74,19 @@ header_written width image fits has =
     let some : 0 < length (drop 8 image) = let l = length-drop 8 image in omega arith in
     let version : slice_index (drop 8 image) 0 ≡ byte = get_or-drop 8 image 0 0 ∙ has.version in
     let enough : 2 ≤ length (drop 9 image) = let l = length-drop 9 image in omega arith in
-    let wide : to_le_bytes w16 width ≡ take 2 (drop 9 image) = le_bytes_2 (take 2 (drop 9 image)) width (length-take-le 2 (drop 9 image) enough) (IsBytes-take 2 (drop 9 image) (IsBytes-drop 9 image fits)) (sym has.wide) in
-    let last : drop 9 image ≡ to_le_bytes w16 width ++ drop 11 image = sym (take-append-drop 2 (drop 9 image)) ∙ ap (λ (bs : List ℕ). bs ++ drop 2 (drop 9 image)) (sym wide) ∙ ap (λ (bs : List ℕ). to_le_bytes w16 width ++ bs) (drop-drop 2 9 image) in
-    let middle : drop 8 image ≡ byte ∷ (to_le_bytes w16 width ++ drop 11 image) = first_cell (drop 8 image) byte some version ∙ ap (λ (bs : List ℕ). byte ∷ bs) (drop-drop 1 8 image ∙ last) in
-    let rest : drop 1 image ≡ codes "CVECSEG" ++ (byte ∷ (to_le_bytes w16 width ++ drop 11 image)) = sym (take-append-drop 7 (drop 1 image)) ∙ ap (λ (bs : List ℕ). bs ++ drop 7 (drop 1 image)) magic ∙ ap (λ (bs : List ℕ). codes "CVECSEG" ++ bs) (drop-drop 7 1 image ∙ middle) in
+    let wide : to_le_bytes w16 width ≡ take 2 (drop 9 image)
+    = le_bytes_2 (take 2 (drop 9 image)) width (length-take-le 2 (drop 9 image) enough) (IsBytes-take 2 (drop 9 image) (IsBytes-drop 9 image fits)) (sym has.wide) in
+    let last : drop 9 image ≡ to_le_bytes w16 width ++ drop 11 image
+    = sym (take-append-drop 2 (drop 9 image))
+    ∙ ap (λ (bs : List ℕ). bs ++ drop 2 (drop 9 image)) (sym wide)
+    ∙ ap (λ (bs : List ℕ). to_le_bytes w16 width ++ bs) (drop-drop 2 9 image) in
+    let middle : drop 8 image ≡ byte ∷ (to_le_bytes w16 width ++ drop 11 image)
+    = first_cell (drop 8 image) byte some version
+    ∙ ap (λ (bs : List ℕ). byte ∷ bs) (drop-drop 1 8 image ∙ last) in
+    let rest : drop 1 image ≡ codes "CVECSEG" ++ (byte ∷ (to_le_bytes w16 width ++ drop 11 image))
+    = sym (take-append-drop 7 (drop 1 image))
+    ∙ ap (λ (bs : List ℕ). bs ++ drop 7 (drop 1 image)) magic
+    ∙ ap (λ (bs : List ℕ). codes "CVECSEG" ++ bs) (drop-drop 7 1 image ∙ middle) in
     first_cell image 1 (omega arith) has.opened ∙ ap (λ (bs : List ℕ). 1 ∷ bs) rest
 
 starts_more : (front bytes more : List ℕ) → length front ≤ length bytes → starts_with nat_eq (bytes ++ more) front ≡ starts_with nat_eq bytes front
@@ -128,12 +143,18 @@ pub finds_version : (width : ℕ) (image : List ℕ) → IsSegment image → is_
 unfolding header_lines
 finds_version width image is other = first_line_at 2 (header_lines width image) _ (born image is.born, (segment image is, (ap not other, refl)))
 
-pub finds_width : (width found : ℕ) (image : List ℕ) → IsSegment image → is_version (slice_index image 8) ≡ true → found ≡ from_le_bytes w16 (take 2 (drop 9 image)) → (found ≡ width → ⊥) → header_fault width image ≡ Some (Width found)
+pub finds_width : (width found : ℕ) (image : List ℕ)
+    → IsSegment image → is_version (slice_index image 8) ≡ true → found ≡ from_le_bytes w16 (take 2 (drop 9 image))
+    → (found ≡ width → ⊥)
+    → header_fault width image ≡ Some (Width found)
 unfolding header_lines
 finds_width width found image is version at other =
     first_line_at 3 (header_lines width image) _ (born image is.born, (segment image is, (ap not version, (ap (λ n. not (n == width)) (sym at) ∙ ap not (ne_eqb _ _ other), ap Width (sym at)))))
 
-pub finds_none : (width found : ℕ) (image : List ℕ) → IsSegment image → is_version (slice_index image 8) ≡ true → found ≡ from_le_bytes w16 (take 2 (drop 9 image)) → found ≡ width → header_fault width image ≡ None
+pub finds_none : (width found : ℕ) (image : List ℕ)
+    → IsSegment image → is_version (slice_index image 8) ≡ true → found ≡ from_le_bytes w16 (take 2 (drop 9 image))
+    → found ≡ width
+    → header_fault width image ≡ None
 unfolding header_lines
 finds_none width found image is version at same =
     first_line_silent (header_lines width image) (born image is.born, (segment image is, (ap not version, (ap (λ n. not (n == width)) (sym at) ∙ ap not (eq-eqb _ _ same), tt))))
@@ -161,10 +182,28 @@ header_fault-append width image more long =
     let short : nat_le (length (image ++ more)) 1 ≡ nat_le (length image) 1 = lt-leb (length (image ++ more)) 1 (omega arith) ∙ sym (lt-leb (length image) 1 (omega arith)) in
     let gate : slice_index (image ++ more) 0 ≡ slice_index image 0 = get_or_append_left image more 0 0 (omega arith) in
     let cut : nat_lt (length (image ++ more)) 11 ≡ nat_lt (length image) 11 = le-ltb (length (image ++ more)) 11 (omega arith) ∙ sym (le-ltb (length image) 11 long) in
-    let magic : starts_with nat_eq (drop 1 (image ++ more)) (codes "CVECSEG") ≡ starts_with nat_eq (drop 1 image) (codes "CVECSEG") = starts_append (codes "CVECSEG") (drop 1 image) more (let l = length-drop 1 image in omega arith) (drop-append-le 1 image more (omega arith)) in
+    let magic : starts_with nat_eq (drop 1 (image ++ more)) (codes "CVECSEG")
+    ≡ starts_with nat_eq (drop 1 image) (codes "CVECSEG")
+    = starts_append (codes "CVECSEG") (drop 1 image) more (let l = length-drop 1 image in omega arith) (drop-append-le 1 image more (omega arith)) in
     let version : slice_index (image ++ more) 8 ≡ slice_index image 8 = get_or_append_left image more 0 8 (omega arith) in
-    let wide : from_le_bytes w16 (take 2 (drop 9 (image ++ more))) ≡ from_le_bytes w16 (take 2 (drop 9 image)) = ap (λ (bs : List ℕ). from_le_bytes w16 (take 2 bs)) (drop-append-le 9 image more (omega arith)) ∙ ap (from_le_bytes w16) (take-append-le 2 (drop 9 image) more (let l = length-drop 9 image in omega arith)) in
+    let wide : from_le_bytes w16 (take 2 (drop 9 (image ++ more))) ≡ from_le_bytes w16 (take 2 (drop 9 image))
+    = ap (λ (bs : List ℕ). from_le_bytes w16 (take 2 bs)) (drop-append-le 9 image more (omega arith))
+    ∙ ap (from_le_bytes w16) (take-append-le 2 (drop 9 image) more (let l = length-drop 9 image in omega arith)) in
     rw (short, gate, cut, magic, version, wide) refl
 
 pub format_in-append : (image more : List ℕ) → 9 ≤ length image → format_in (image ++ more) ≡ format_in image
 format_in-append image more long = ap (λ n. cond (n == 1) One Two) (get_or_append_left image more 0 8 (omega arith))
+
+-- ---- another width
+
+-- a header that is sound for one width is at fault for any other
+pub other_width : (width found : ℕ) (image : List ℕ)
+    → header_fault found image ≡ None → (found ≡ width → ⊥)
+    → header_fault width image ≡ Some (Width found)
+other_width width found image none other =
+    let has = header_of_none found image none in
+    let long = has.long in
+    let segment : IsSegment image =
+    record { born = record { some = omega arith; opened = has.opened }; long = has.long; magic = has.magic } in
+    let known = ap is_version has.version ∙ is_version-version_of (format_in image) in
+    finds_width width found image segment known (sym has.wide) other

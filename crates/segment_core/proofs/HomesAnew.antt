@@ -38,15 +38,24 @@ before_homes format (Change runs bytes) = frame_text format (Change runs bytes)
 before_homes format (Shrink n) = frame_text format (Shrink n)
 before_homes format (Fold count) = frame_text format (Fold count)
 
-home_behind : (shape : Shape) (i p : ℕ) (tally : Tally) (frame : Frame) (place : ℕ) → IsFrame shape frame → home_in shape.width i p tally frame ≡ Some place → p + length (before_homes shape.format frame) ≤ place
-home_behind shape i p tally (Group lengths bytes) place whole is = let b = home_in_between shape i p tally (Group lengths bytes) place whole is in omega (arith, b.from, length-front_text shape.format (Group lengths bytes))
+home_behind : (shape : Shape) (i p : ℕ) (tally : Tally) (frame : Frame) (place : ℕ)
+    → IsFrame shape frame → home_in shape.width i p tally frame ≡ Some place
+    → p + length (before_homes shape.format frame) ≤ place
+home_behind shape i p tally (Group lengths bytes) place whole is =
+    let b = home_in_between shape i p tally (Group lengths bytes) place whole is in
+    omega (arith, b.from, length-front_text shape.format (Group lengths bytes))
 home_behind shape i p tally (Change runs bytes) place whole is = absurd cc
 home_behind shape i p tally (Shrink n) place whole is = absurd cc
 home_behind shape i p tally (Fold count) place whole is = absurd cc
 
-frame_text-with_homes : (format : Format) (frame : Frame) (new : List ℕ) → length new ≡ length (home_bytes_of frame) → frame_text format (with_homes frame new) ≡ before_homes format frame ++ new
+frame_text-with_homes : (format : Format) (frame : Frame) (new : List ℕ)
+    → length new ≡ length (home_bytes_of frame)
+    → frame_text format (with_homes frame new) ≡ before_homes format frame ++ new
 frame_text-with_homes format (Group lengths bytes) new same =
-    let payloads : length (payload_of format (Group lengths new)) ≡ length (payload_of format (Group lengths bytes)) = length-payload_of format (Group lengths new) ∙ ap (λ n. 4 + length lengths * 4 + n) same ∙ sym (length-payload_of format (Group lengths bytes)) in
+    let payloads : length (payload_of format (Group lengths new)) ≡ length (payload_of format (Group lengths bytes))
+    = length-payload_of format (Group lengths new)
+    ∙ ap (λ n. 4 + length lengths * 4 + n) same
+    ∙ sym (length-payload_of format (Group lengths bytes)) in
     frame_parts format (Group lengths new)
     ∙ ap (λ n. (1 ∷ 1 ∷ to_le_bytes w32 n) ++ head_text format (Group lengths new) ++ new) payloads
 frame_text-with_homes format (Change runs bytes) new same = append-empty (frame_text format (Change runs bytes)) new same
@@ -103,8 +112,14 @@ module _ (shape : Shape) (p : ℕ) (tally : Tally) (frame : Frame) (frames : Lis
       ext_get_or 0 (take k new) front (length-take-le k new (omega arith)) (λ j lt.
       let size = length-take-le k new (omega arith) in
       let below : j < k = omega arith in
-      let no_home : IsNoHome shape p tally (frame ∷ frames) j = λ i place at from before. elim (option_or_cases (last_from (home_in shape.width i) format (p + length (frame_text format frame)) (after tally frame) frames) (home_in shape.width i p tally frame) place at) [
-        | inl later ↦ (let b = last_from_between shape (home_in shape.width i) (p + length (frame_text format frame)) (after tally frame) frames place (home_in_between shape i) legal.2 later in omega (arith, b.from, parted))
+      let no_home : IsNoHome shape p tally (frame ∷ frames) j
+      = λ i place at from before.
+      elim
+      (option_or_cases (last_from (home_in shape.width i) format (p + length (frame_text format frame)) (after tally frame) frames) (home_in shape.width i p tally frame) place at) [
+        | inl later ↦
+            (let b =
+            last_from_between shape (home_in shape.width i) (p + length (frame_text format frame)) (after tally frame) frames place (home_in_between shape i) legal.2 later in
+            omega (arith, b.from, parted))
         | inr here ↦ (let b = home_behind shape i p tally frame place legal.0 here.1 in omega arith)
       ] in
       let there : old ≡ front ++ (home_bytes_of frame ++ behind) = is ∙ ap (λ (bs : List ℕ). bs ++ behind) (home_parts format frame) ∙ append_assoc front (home_bytes_of frame) behind in
@@ -115,7 +130,10 @@ module _ (shape : Shape) (p : ℕ) (tally : Tally) (frame : Frame) (frames : Lis
       → ((j : ℕ) → j < k + m + n → IsNoHome shape p tally (frame ∷ frames) j → get_or new j 0 ≡ get_or old j 0)
       → (j : ℕ) → j < n → IsNoHome shape (p + length (frame_text format frame)) (after tally frame) frames j → get_or (drop (k + m) new) j 0 ≡ get_or behind j 0
   rest_stays behind legal is n same j lt not =
-      let no_home : IsNoHome shape p tally (frame ∷ frames) (k + m + j) = λ i place at from before. elim (option_or_cases (last_from (home_in shape.width i) format (p + length (frame_text format frame)) (after tally frame) frames) (home_in shape.width i p tally frame) place at) [
+      let no_home : IsNoHome shape p tally (frame ∷ frames) (k + m + j)
+      = λ i place at from before.
+      elim
+      (option_or_cases (last_from (home_in shape.width i) format (p + length (frame_text format frame)) (after tally frame) frames) (home_in shape.width i p tally frame) place at) [
         | inl later ↦ not i place later (omega (arith, parted)) (omega (arith, parted))
         | inr here ↦ (let b = home_in_between shape i p tally frame place legal.0 here.1 in omega (arith, b.to, parted))
       ] in
@@ -131,7 +149,8 @@ module _ (shape : Shape) (p : ℕ) (tally : Tally) (frame : Frame) (frames : Lis
       let size : length (flat_map (frame_text format) (frame ∷ frames)) ≡ k + m + length (flat_map (frame_text format) frames) = omega (arith, parted) in
       let tail : List ℕ = drop (length (flat_map (frame_text format) (frame ∷ frames))) new in
       let behind : drop (k + m) new ≡ flat_map (frame_text format) rest.others ++ tail =
-      rest.begins ∙ ap (λ (bs : List ℕ). flat_map (frame_text format) rest.others ++ bs) (drop-drop (length (flat_map (frame_text format) frames)) (k + m) new ∙ ap (λ n. drop n new) (sym size)) in
+      rest.begins
+      ∙ ap (λ (bs : List ℕ). flat_map (frame_text format) rest.others ++ bs) (drop-drop (length (flat_map (frame_text format) frames)) (k + m) new ∙ ap (λ n. drop n new) (sym size)) in
       record {
         others = other ∷ rest.others;
         alike = ap (λ f. f ∷ all_blanked rest.others) (blanked-with_homes frame homes full) ∙ ap (λ (fs : List Frame). blanked frame ∷ fs) rest.alike;
@@ -144,7 +163,9 @@ module _ (shape : Shape) (p : ℕ) (tally : Tally) (frame : Frame) (frames : Lis
             ∙ sym (append_assoc (frame_text format other) (flat_map (frame_text format) rest.others) tail);
       }
 
-pub begins_alike : (shape : Shape) (p : ℕ) (tally : Tally) (frames : List Frame) (old rest new : List ℕ) → AreLegalFrom shape tally frames → old ≡ flat_map (frame_text shape.format) frames ++ rest → length (flat_map (frame_text shape.format) frames) ≤ length new
+pub begins_alike : (shape : Shape) (p : ℕ) (tally : Tally) (frames : List Frame) (old rest new : List ℕ)
+    → AreLegalFrom shape tally frames → old ≡ flat_map (frame_text shape.format) frames ++ rest
+    → length (flat_map (frame_text shape.format) frames) ≤ length new
     → ((j : ℕ) → j < length (flat_map (frame_text shape.format) frames) → IsNoHome shape p tally frames j → get_or new j 0 ≡ get_or old j 0) → BeginsAlike shape.format frames new
 begins_alike shape p tally [] old rest new legal is long same = record { others = []; alike = refl; begins = refl }
 begins_alike shape p tally (frame ∷ frames) old rest new legal is long same =
@@ -153,10 +174,14 @@ begins_alike shape p tally (frame ∷ frames) old rest new legal is long same =
     let m : ℕ = length (home_bytes_of frame) in
     let n : ℕ = length (flat_map (frame_text shape.format) frames) in
     let there : old ≡ frame_text shape.format frame ++ behind = is ∙ append_assoc (frame_text shape.format frame) (flat_map (frame_text shape.format) frames) rest in
-    let size : length (flat_map (frame_text shape.format) (frame ∷ frames)) ≡ k + m + n = length-append (frame_text shape.format frame) (flat_map (frame_text shape.format) frames) ∙ ap (λ a. a + n) (parted shape p tally frame frames new old) in
+    let size : length (flat_map (frame_text shape.format) (frame ∷ frames)) ≡ k + m + n
+    = length-append (frame_text shape.format frame) (flat_map (frame_text shape.format) frames)
+    ∙ ap (λ a. a + n) (parted shape p tally frame frames new old) in
     let enough : k + m ≤ length new = omega arith in
     let same' : (j : ℕ) → j < k + m + n → IsNoHome shape p tally (frame ∷ frames) j → get_or new j 0 ≡ get_or old j 0 = λ j lt not. same j (omega arith) not in
     joined shape p tally frame frames new old
-    (begins_alike shape (p + length (frame_text shape.format frame)) (after tally frame) frames behind rest (drop (k + m) new) legal.2 refl (let l = length-drop (k + m) new in omega arith) (rest_stays shape p tally frame frames new old behind legal there n same'))
+    (begins_alike shape (p + length (frame_text shape.format frame)) (after tally frame) frames behind rest
+    (drop (k + m) new) legal.2 refl (let l = length-drop (k + m) new in omega arith)
+    (rest_stays shape p tally frame frames new old behind legal there n same'))
     (front_stays shape p tally frame frames new old behind legal there enough (λ j lt not. same' j (omega arith) not))
     enough

@@ -51,7 +51,10 @@ module _ {R : Type 0} (format : Format) (form : Encoding R) (image held : List �
   tally = tally_of frames
 
   -- the record that a live change says
-  said : (fs : List Frame) (rs : List R) (i place : ℕ) → AreLegal shape fs → IsVectorOf format form image fs rs → change_of shape (tally_of fs).folded fs i ≡ Some place → slice_get rs i ≡ record_in form image place
+  said : (fs : List Frame) (rs : List R) (i place : ℕ)
+      → AreLegal shape fs → IsVectorOf format form image fs rs
+      → change_of shape (tally_of fs).folded fs i ≡ Some place
+      → slice_get rs i ≡ record_in form image place
   said fs rs i place legal read told =
       let inside = live_inside shape fs i place legal told in
       let where_is = place_is shape fs i ∙ ap (λ o. option_or o (home_of shape fs i)) told in
@@ -60,7 +63,10 @@ module _ {R : Type 0} (format : Format) (form : Encoding R) (image held : List �
 
   -- a Group, or a Change that the fold's count doesn't reach
   pub HomesHold_push : (frame : Frame) → BeginsImage shape image (frames ++ frame ∷ []) → Appends frame → tally.folded ≤ count → count ≤ tally.changes
-      → IsVectorOf format form image frames records → IsVectorOf format form image (frames ++ frame ∷ []) after_records → HomesHold format form held frames count records → HomesHold format form held (frames ++ frame ∷ []) count after_records
+      → IsVectorOf format form image frames records
+      → IsVectorOf format form image (frames ++ frame ∷ []) after_records
+      → HomesHold format form held frames count records
+      → HomesHold format form held (frames ++ frame ∷ []) count after_records
   HomesHold_push frame begins appends from upto read read' hold i covered since =
       let gate : ℕ = length (text shape frames) in
       let legal = (BeginsImage_before shape image frames frame begins).legal in
@@ -71,7 +77,9 @@ module _ {R : Type 0} (format : Format) (form : Encoding R) (image held : List �
       ∙ ap (λ o. option_or o (change_of shape tally.folded frames i)) (change_in_past shape tally.folded count i gate tally frame (omega arith) upto ∙ none.0) in
       let live = some_is (change_of shape tally.folded frames i) (subst (λ (o : Option ℕ). IsSome o) still covered) in
       let inside = live_inside shape frames i live.0 legal live.1 in
-      let home : home_of shape (frames ++ frame ∷ []) i ≡ home_of shape frames i = home_push shape frames frame i ∙ ap (λ o. option_or o (home_of shape frames i)) (home_in_before shape.width i gate tally frame inside) in
+      let home : home_of shape (frames ++ frame ∷ []) i ≡ home_of shape frames i
+      = home_push shape frames frame i
+      ∙ ap (λ o. option_or o (home_of shape frames i)) (home_in_before shape.width i gate tally frame inside) in
       ap (option_and_then (record_in form held)) home
       ∙ hold i (subst (λ (o : Option ℕ). IsSome o) still covered) none.1
       ∙ said frames records i live.0 legal read live.1
@@ -79,7 +87,9 @@ module _ {R : Type 0} (format : Format) (form : Encoding R) (image held : List �
 
 -- other bytes that have the same homes
 pub HomesHold_same : {R : Type 0} (format : Format) (form : Encoding R) (held other : List ℕ) (frames : List Frame) (count : ℕ) (records : List R)
-    → ((i place : ℕ) → home_of (shape_of format form) frames i ≡ Some place → record_in form other place ≡ record_in form held place) → HomesHold format form held frames count records → HomesHold format form other frames count records
+    → ((i place : ℕ) → home_of (shape_of format form) frames i ≡ Some place → record_in form other place ≡ record_in form held place)
+    → HomesHold format form held frames count records
+    → HomesHold format form other frames count records
 HomesHold_same format form held other frames count records same hold i covered since = at (home_of (shape_of format form) frames i) refl ∙ hold i covered since
   where
     at : (o : Option ℕ) → home_of (shape_of format form) frames i ≡ o → option_and_then (record_in form other) o ≡ option_and_then (record_in form held) o
@@ -87,9 +97,13 @@ HomesHold_same format form held other frames count records same hold i covered s
     at (Some place) is = same i place is
 
 -- other home bytes in the frames
-pub HomesHold_blanked : {R : Type 0} (format : Format) (form : Encoding R) (held : List ℕ) (frames others : List Frame) (count : ℕ) (records : List R) → all_blanked frames ≡ all_blanked others → HomesHold format form held frames count records → HomesHold format form held others count records
+pub HomesHold_blanked : {R : Type 0} (format : Format) (form : Encoding R) (held : List ℕ)
+    (frames others : List Frame) (count : ℕ) (records : List R)
+    → all_blanked frames ≡ all_blanked others → HomesHold format form held frames count records
+    → HomesHold format form held others count records
 HomesHold_blanked format form held frames others count records same hold i covered since =
     let shape : Shape = shape_of format form in
     let live : change_of shape (tally_of others).folded others i ≡ change_of shape (tally_of frames).folded frames i =
     sym (same_change frames others same shape (tally_of others).folded i) ∙ ap (λ t. change_of shape t.folded frames i) (sym (same_tally frames others same)) in
-    ap (option_and_then (record_in form held)) (sym (same_home frames others same shape i)) ∙ hold i (subst (λ (o : Option ℕ). IsSome o) live covered) (same_change frames others same shape count i ∙ since)
+    ap (option_and_then (record_in form held)) (sym (same_home frames others same shape i))
+    ∙ hold i (subst (λ (o : Option ℕ). IsSome o) live covered) (same_change frames others same shape count i ∙ since)

@@ -23,7 +23,9 @@ use Rattle.segment_core.proofs.FoundChanges.{changes_push, changes_counted}
 abbrev pub group_home : Shape → List Frame → List ℕ → Home
 group_home shape frames lengths = record { position = (tally_of frames).size; place = length (text shape frames) + 10 + length lengths * 4; count = sum lengths }
 
-pub AreHomes_group : (shape : Shape) (frames : List Frame) (lengths bytes : List ℕ) (homes : List Home) → AreHomes shape frames homes → AreHomes shape (frames ++ Group lengths bytes ∷ []) (homes ++ group_home shape frames lengths ∷ [])
+pub AreHomes_group : (shape : Shape) (frames : List Frame) (lengths bytes : List ℕ) (homes : List Home)
+    → AreHomes shape frames homes
+    → AreHomes shape (frames ++ Group lengths bytes ∷ []) (homes ++ group_home shape frames lengths ∷ [])
 AreHomes_group shape frames lengths bytes homes has =
     let f : Frame = Group lengths bytes in
     let t : Tally = tally_of frames in
@@ -44,8 +46,13 @@ AreHomes_group shape frames lengths bytes homes has =
     }
 
 -- a frame that has no home bytes, and leaves as many records at most
-pub AreHomes_same : (shape : Shape) (frames : List Frame) (f : Frame) (homes later : List Home) → ((i p : ℕ) (t : Tally) → home_in shape.width i p t f ≡ None) → (after (tally_of frames) f).size ≤ (tally_of frames).size → AreHomes shape frames homes
-    → AreInTurn 0 later (after (tally_of frames) f).size → ((i : ℕ) → i < (after (tally_of frames) f).size → home_among shape.width later i ≡ home_among shape.width homes i) → AreHomes shape (frames ++ f ∷ []) later
+pub AreHomes_same : (shape : Shape) (frames : List Frame) (f : Frame) (homes later : List Home)
+    → ((i p : ℕ) (t : Tally) → home_in shape.width i p t f ≡ None)
+    → (after (tally_of frames) f).size ≤ (tally_of frames).size
+    → AreHomes shape frames homes
+    → AreInTurn 0 later (after (tally_of frames) f).size
+    → ((i : ℕ) → i < (after (tally_of frames) f).size → home_among shape.width later i ≡ home_among shape.width homes i)
+    → AreHomes shape (frames ++ f ∷ []) later
 AreHomes_same shape frames f homes later none shorter has turn same =
     let size : (tally_of (frames ++ f ∷ [])).size ≡ (after (tally_of frames) f).size = ap (λ x. x.size) (tally_from_push nothing frames f) in
     record {
@@ -58,10 +65,13 @@ AreHomes_same shape frames f homes later none shorter has turn same =
 -- ---- live changes
 
 -- a frame that is no change and no fold
-pub live_of_same : (shape : Shape) (frames : List Frame) (f : Frame) → ((p : ℕ) → changes_in shape p f ≡ []) → (after (tally_of frames) f).folded ≡ (tally_of frames).folded → live_of shape (frames ++ f ∷ []) ≡ live_of shape frames
+pub live_of_same : (shape : Shape) (frames : List Frame) (f : Frame)
+    → ((p : ℕ) → changes_in shape p f ≡ []) → (after (tally_of frames) f).folded ≡ (tally_of frames).folded
+    → live_of shape (frames ++ f ∷ []) ≡ live_of shape frames
 live_of_same shape frames f none folded =
     ap (λ m. drop m (changes_of shape (frames ++ f ∷ []))) (ap (λ x. x.folded) (tally_from_push nothing frames f) ∙ folded)
-    ∙ ap (drop (tally_of frames).folded) (changes_push shape frames f ∙ ap (λ (cs : List Seen). changes_of shape frames ++ cs) (none (length (text shape frames))) ∙ append-nil (changes_of shape frames))
+    ∙ ap (drop (tally_of frames).folded)
+    (changes_push shape frames f ∙ ap (λ (cs : List Seen). changes_of shape frames ++ cs) (none (length (text shape frames))) ∙ append-nil (changes_of shape frames))
 
 pub live_of_change : (shape : Shape) (frames : List Frame) (runs : List Run) (bytes : List ℕ) → (tally_of frames).folded ≤ (tally_of frames).changes
     → live_of shape (frames ++ Change runs bytes ∷ []) ≡ live_of shape frames ++ record { at = length (text shape frames); shape = shape; frame = Change runs bytes } ∷ []
@@ -72,7 +82,9 @@ live_of_change shape frames runs bytes few =
     ∙ ap (drop (tally_of frames).folded) (changes_push shape frames f)
     ∙ drop-append-le (tally_of frames).folded (changes_of shape frames) (record { at = length (text shape frames); shape = shape; frame = f } ∷ []) (omega arith)
 
-pub live_of_fold : (shape : Shape) (frames : List Frame) (count : ℕ) → (tally_of frames).folded ≤ count → live_of shape (frames ++ Fold count ∷ []) ≡ drop (count - (tally_of frames).folded) (live_of shape frames)
+pub live_of_fold : (shape : Shape) (frames : List Frame) (count : ℕ)
+    → (tally_of frames).folded ≤ count
+    → live_of shape (frames ++ Fold count ∷ []) ≡ drop (count - (tally_of frames).folded) (live_of shape frames)
 live_of_fold shape frames count from =
     let f : Frame = Fold count in
     let both : (tally_of frames).folded + (count - (tally_of frames).folded) ≡ count = omega arith in

@@ -38,7 +38,8 @@ none_or (Some x) not = absurd (not x refl)
 -- ---- one more frame
 
 pub last_from_push : (says : ℕ → Tally → Frame → Option ℕ) (format : Format) (p : ℕ) (tally : Tally) (frames : List Frame) (frame : Frame)
-    → last_from says format p tally (frames ++ frame ∷ []) ≡ option_or (says (p + length (flat_map (frame_text format) frames)) (tally_from tally frames) frame) (last_from says format p tally frames)
+    → last_from says format p tally (frames ++ frame ∷ [])
+    ≡ option_or (says (p + length (flat_map (frame_text format) frames)) (tally_from tally frames) frame) (last_from says format p tally frames)
 last_from_push says format p tally [] frame = let here : p + 0 ≡ p = omega arith in sym (option_or_none (says (p + 0) tally frame) ∙ ap (λ n. says n tally frame) here)
 last_from_push says format p tally (first ∷ frames) frame =
     let n : ℕ = p + length (frame_text format first) in
@@ -55,12 +56,14 @@ gate_is shape frames = sym (length-text shape frames)
 
 -- frames of a file
 pub last_push : (says : ℕ → Tally → Frame → Option ℕ) (shape : Shape) (frames : List Frame) (frame : Frame)
-    → last_from says shape.format (length (header shape)) nothing (frames ++ frame ∷ []) ≡ option_or (says (length (text shape frames)) (tally_of frames) frame) (last_from says shape.format (length (header shape)) nothing frames)
+    → last_from says shape.format (length (header shape)) nothing (frames ++ frame ∷ [])
+    ≡ option_or (says (length (text shape frames)) (tally_of frames) frame) (last_from says shape.format (length (header shape)) nothing frames)
 last_push says shape frames frame =
     last_from_push says shape.format (length (header shape)) nothing frames frame
     ∙ ap (λ n. option_or (says n (tally_of frames) frame) (last_from says shape.format (length (header shape)) nothing frames)) (gate_is shape frames)
 
-pub home_push : (shape : Shape) (frames : List Frame) (frame : Frame) (i : ℕ) → home_of shape (frames ++ frame ∷ []) i ≡ option_or (home_in shape.width i (length (text shape frames)) (tally_of frames) frame) (home_of shape frames i)
+pub home_push : (shape : Shape) (frames : List Frame) (frame : Frame) (i : ℕ)
+    → home_of shape (frames ++ frame ∷ []) i ≡ option_or (home_in shape.width i (length (text shape frames)) (tally_of frames) frame) (home_of shape frames i)
 home_push shape frames frame i = last_push (home_in shape.width i) shape frames frame
 
 pub change_push : (shape : Shape) (folded : ℕ) (frames : List Frame) (frame : Frame) (i : ℕ)
@@ -74,7 +77,9 @@ place_is shape frames i = refl
 -- behind one more frame, which leaves this fold count
 pub place_of_push : (shape : Shape) (folded : ℕ) (frames : List Frame) (frame : Frame) (i : ℕ) → (after (tally_of frames) frame).folded ≡ folded
     → place_of shape (frames ++ frame ∷ []) i
-    ≡ option_or (option_or (change_in shape folded i (length (text shape frames)) (tally_of frames) frame) (change_of shape folded frames i)) (option_or (home_in shape.width i (length (text shape frames)) (tally_of frames) frame) (home_of shape frames i))
+    ≡ option_or
+    (option_or (change_in shape folded i (length (text shape frames)) (tally_of frames) frame) (change_of shape folded frames i))
+    (option_or (home_in shape.width i (length (text shape frames)) (tally_of frames) frame) (home_of shape frames i))
 place_of_push shape folded frames frame i is =
     let count : (tally_of (frames ++ frame ∷ [])).folded ≡ folded = ap (λ t. t.folded) (tally_from_push nothing frames frame) ∙ is in
     place_is shape (frames ++ frame ∷ []) i

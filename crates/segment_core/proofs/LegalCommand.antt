@@ -53,7 +53,10 @@ each_counted [] each = tt
 each_counted (run ∷ runs) each = (each.0.1.0, each_counted runs each.1)
 
 -- runs that are filled by few records, inside a vector
-pub are_runs : (size : ℕ) (runs : List Run) → size ≤ 2 ^ 32 → records_of_runs runs < 2 ^ 32 → AllByRecursion (λ run. 0 < run.count) runs → are_inside size runs ≡ true → AllByRecursion IsRun runs
+pub are_runs : (size : ℕ) (runs : List Run)
+    → size ≤ 2 ^ 32 → records_of_runs runs < 2 ^ 32 → AllByRecursion (λ run. 0 < run.count) runs
+    → are_inside size runs ≡ true
+    → AllByRecursion IsRun runs
 are_runs size [] limit few each inside = tt
 are_runs size (run ∷ runs) limit few each inside =
     let both = and_parts (nat_le (run.start + run.count) size) (are_inside size runs) inside in
@@ -68,7 +71,9 @@ module _ {R : Type 0} (format : Format) (form : Encoding R) (tally : Tally) (rec
   pub IsLegalCommand_frame : (command : Command R) (frame : Frame) → IsFrameOf form command frame → IsFrame shape frame → MayFollow tally frame → IsLegalCommand shape records command
   IsLegalCommand_frame (commands.Grow new) frame is whole may = grow is.0 is.1 is.3 (subst (IsFrame shape) is.2 whole) (subst (MayFollow tally) is.2 may)
     where
-      grow : (lengths bytes : List ℕ) → AreRecords form bytes new → IsFrame shape (Group lengths bytes) → MayFollow tally (Group lengths bytes) → IsLegalCommand shape records (commands.Grow new)
+      grow : (lengths bytes : List ℕ)
+          → AreRecords form bytes new → IsFrame shape (Group lengths bytes) → MayFollow tally (Group lengths bytes)
+          → IsLegalCommand shape records (commands.Grow new)
       grow lengths bytes are whole may =
           let many = as_many form bytes new (sum lengths) whole.wide are whole.layout.2 in
           let some = some_sum lengths whole.layout.0 whole.layout.1 in
@@ -80,7 +85,9 @@ module _ {R : Type 0} (format : Format) (form : Encoding R) (tally : Tally) (rec
   IsLegalCommand_frame (commands.Shrink n) frame is whole may = let le = ltb-false tally.size n ((subst (MayFollow tally) is may).inside) in omega arith
   IsLegalCommand_frame (commands.Change runs new) frame is whole may = change is.0 is.2 (subst (IsFrame shape) is.1 whole) (subst (MayFollow tally) is.1 may)
     where
-      change : (bytes : List ℕ) → AreRecords form bytes new → IsFrame shape (Change runs bytes) → MayFollow tally (Change runs bytes) → IsLegalCommand shape records (commands.Change runs new)
+      change : (bytes : List ℕ)
+          → AreRecords form bytes new → IsFrame shape (Change runs bytes) → MayFollow tally (Change runs bytes)
+          → IsLegalCommand shape records (commands.Change runs new)
       change bytes are whole may =
           let fits = whole.small in
           let all = length-payload_of format (Change runs bytes) in (
@@ -97,7 +104,10 @@ module _ {R : Type 0} (format : Format) (form : Encoding R) (tally : Tally) (rec
   -- ---- from the command to the frame
 
   -- growths that are cut out of the records anywhere
-  pub IsFrame_group : (new : List R) (lengths bytes : List ℕ) → 0 < form.width → AreRecords form bytes new → 0 < length lengths → AllByRecursion IsLength lengths → sum lengths ≡ length new → 4 + length lengths * 4 + length new * form.width ≤ limit_of format
+  pub IsFrame_group : (new : List R) (lengths bytes : List ℕ)
+      → 0 < form.width → AreRecords form bytes new → 0 < length lengths → AllByRecursion IsLength lengths
+      → sum lengths ≡ length new
+      → 4 + length lengths * 4 + length new * form.width ≤ limit_of format
       → IsFrame shape (Group lengths bytes)
   IsFrame_group new lengths bytes wide are some each all fits = record {
     wide = wide;
@@ -109,14 +119,22 @@ module _ {R : Type 0} (format : Format) (form : Encoding R) (tally : Tally) (rec
   MayFollow_group new lengths bytes all short = record { ordered = refl; inside = refl; folded = refl; counted = refl; short = le-ltb (2 ^ 32) (tally.size + sum lengths) (omega arith) }
 
   -- one growth
-  pub IsFrame_grow : (new : List R) (bytes : List ℕ) → 0 < form.width → AreRecords form bytes new → IsLegalCommand shape records (commands.Grow new) → IsFrame shape (Group (length new ∷ []) bytes) × MayFollow tally (Group (length new ∷ []) bytes)
+  pub IsFrame_grow : (new : List R) (bytes : List ℕ)
+      → 0 < form.width → AreRecords form bytes new → IsLegalCommand shape records (commands.Grow new)
+      → IsFrame shape (Group (length new ∷ []) bytes) × MayFollow tally (Group (length new ∷ []) bytes)
   IsFrame_grow new bytes wide are legal =
       let limit = limit_small format in
       let many = mul-le (length new) 1 (length new) form.width (omega arith) (omega arith) in
-      let alone : sum (length new ∷ []) ≡ length new = omega arith in
-      (IsFrame_group new (length new ∷ []) bytes wide are (omega arith) ((legal.0, omega (arith, legal.1)), tt) alone (omega (arith, legal.1)), MayFollow_group new (length new ∷ []) bytes alone legal.2)
+      let alone : sum (length new ∷ []) ≡ length new = omega arith in (
+        IsFrame_group new (length new ∷ []) bytes wide are (omega arith) ((legal.0, omega (arith, legal.1)), tt) alone
+            (omega (arith, legal.1)),
+        MayFollow_group new (length new ∷ []) bytes alone legal.2,
+      )
 
-  pub IsFrame_shrink : (n : ℕ) → 0 < form.width → tally.size ≤ 2 ^ 32 → tally.changes ≤ tally.folded → IsLegalCommand shape records (commands.Shrink n) → IsFrame shape (Shrink n) × MayFollow tally (Shrink n)
+  pub IsFrame_shrink : (n : ℕ)
+      → 0 < form.width → tally.size ≤ 2 ^ 32 → tally.changes ≤ tally.folded
+      → IsLegalCommand shape records (commands.Shrink n)
+      → IsFrame shape (Shrink n) × MayFollow tally (Shrink n)
   IsFrame_shrink n wide limit none legal = (
     record { wide = wide; small = some_limit format; layout = omega arith },
     record { ordered = refl; inside = le-ltb tally.size n (omega arith); folded = le-ltb tally.folded tally.changes none; counted = refl; short = refl },
@@ -125,14 +143,33 @@ module _ {R : Type 0} (format : Format) (form : Encoding R) (tally : Tally) (rec
   pub IsFrame_fold : (count : ℕ) → 0 < form.width → count < 2 ^ 64 → tally.folded ≤ count → count ≤ tally.changes → IsFrame shape (Fold count) × MayFollow tally (Fold count)
   IsFrame_fold count wide few from upto = (
     record { wide = wide; small = some_limit format; layout = few },
-    record { ordered = refl; inside = refl; folded = refl; counted = or_from (nat_lt count tally.folded) (nat_lt tally.changes count) (le-ltb count tally.folded from) (le-ltb tally.changes count upto); short = refl },
+    record {
+      ordered = refl;
+      inside = refl;
+      folded = refl;
+      counted = or_from (nat_lt count tally.folded) (nat_lt tally.changes count) (le-ltb count tally.folded from) (le-ltb tally.changes count upto);
+      short = refl;
+    },
   )
 
-  pub IsFrame_change : (runs : List Run) (new : List R) (bytes : List ℕ) → 0 < form.width → tally.size ≤ 2 ^ 32 → AreRecords form bytes new → IsLegalCommand shape records (commands.Change runs new) → IsFrame shape (Change runs bytes) × MayFollow tally (Change runs bytes)
+  pub IsFrame_change : (runs : List Run) (new : List R) (bytes : List ℕ)
+      → 0 < form.width → tally.size ≤ 2 ^ 32 → AreRecords form bytes new
+      → IsLegalCommand shape records (commands.Change runs new)
+      → IsFrame shape (Change runs bytes) × MayFollow tally (Change runs bytes)
   IsFrame_change runs new bytes wide limit are legal =
       let least = mul-le (length new) 1 (length new) form.width (omega arith) (omega arith) in
       let few : records_of_runs runs < 2 ^ 32 = omega (arith, legal.0.filled, legal.1, limit_small format) in
       let runs_are = are_runs (length records) runs (omega arith) few legal.0.each legal.0.inside in (
-        record { wide = wide; small = omega (arith, length-payload_of format (Change runs bytes), are.filled, legal.1); layout = (legal.0.some, runs_are, are.filled ∙ ap (λ n. n * form.width) legal.0.filled) },
-        record { ordered = not_from_true (are_ascending 0 runs) legal.0.ordered; inside = not_from_true (are_inside tally.size runs) (ap (λ n. are_inside n runs) (sym size) ∙ legal.0.inside); folded = refl; counted = refl; short = refl },
+        record {
+          wide = wide;
+          small = omega (arith, length-payload_of format (Change runs bytes), are.filled, legal.1);
+          layout = (legal.0.some, runs_are, are.filled ∙ ap (λ n. n * form.width) legal.0.filled);
+        },
+        record {
+          ordered = not_from_true (are_ascending 0 runs) legal.0.ordered;
+          inside = not_from_true (are_inside tally.size runs) (ap (λ n. are_inside n runs) (sym size) ∙ legal.0.inside);
+          folded = refl;
+          counted = refl;
+          short = refl;
+        },
       )

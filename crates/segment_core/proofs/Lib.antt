@@ -7,6 +7,7 @@ pub mod Payload
 pub mod Lines
 pub mod Longest
 pub mod Head
+pub mod Fronts
 pub mod Reader
 pub mod Header
 pub mod Refusals

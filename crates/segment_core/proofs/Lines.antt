@@ -46,10 +46,14 @@ pub frame_lines-frame_text : (shape : Shape) (p : ℕ) (frame : Frame) (rest : L
 unfolding frame_lines
 frame_lines-frame_text shape p frame rest whole =
     let bytes : List ℕ = frame_text shape.format frame ++ rest in
-    let len : length bytes ≡ 6 + length (payload_of shape.format frame) + length rest = length-append (frame_text shape.format frame) rest ∙ ap (λ n. n + length rest) (length-frame_text shape.format frame) in
+    let len : length bytes ≡ 6 + length (payload_of shape.format frame) + length rest
+    = length-append (frame_text shape.format frame) rest
+    ∙ ap (λ n. n + length rest) (length-frame_text shape.format frame) in
     let claimed : payload_len_in bytes ≡ length (payload_of shape.format frame) = payload_len_in-frame_text shape.format frame rest (small_payload shape frame whole) in
     let small : length (payload_of shape.format frame) ≤ limit_of shape.format = whole.small in
-    let formed : is_layout shape (kind_in bytes) (payload_in bytes) ≡ true = ap (is_layout shape (kind_of frame)) (payload_in-frame_text shape.format frame rest (small_payload shape frame whole)) ∙ is_layout-payload_of shape frame whole in
+    let formed : is_layout shape (kind_in bytes) (payload_in bytes) ≡ true
+    = ap (is_layout shape (kind_of frame)) (payload_in-frame_text shape.format frame rest (small_payload shape frame whole))
+    ∙ is_layout-payload_of shape frame whole in
     first_line_silent (frame_lines shape p bytes) (
       ne_eqb (length bytes) 0 (λ (none : length bytes ≡ 0). absurd (omega arith)),
       (
@@ -75,24 +79,35 @@ order_lines-may_follow p tally frame may = first_line_silent (order_lines p tall
 pub is_closed-frame_text : (format : Format) (frame : Frame) (rest : List ℕ) → is_closed (frame_text format frame ++ rest) ≡ false
 is_closed-frame_text format frame rest = second_false (nat_lt 0 (length (frame_text format frame ++ rest))) false refl
 
-pub frame_fault-frame_text : (shape : Shape) (p : ℕ) (tally : Tally) (frame : Frame) (rest : List ℕ) → IsFrame shape frame → MayFollow tally frame → frame_fault shape p tally (frame_text shape.format frame ++ rest) ≡ None
+pub frame_fault-frame_text : (shape : Shape) (p : ℕ) (tally : Tally) (frame : Frame) (rest : List ℕ)
+    → IsFrame shape frame → MayFollow tally frame
+    → frame_fault shape p tally (frame_text shape.format frame ++ rest) ≡ None
 unfolding frame_fault
 frame_fault-frame_text shape p tally frame rest whole may =
     let bytes : List ℕ = frame_text shape.format frame ++ rest in
     let here : frame_in shape (kind_in bytes) (payload_in bytes) ≡ frame = frame_in-frame_text shape frame rest whole in
-    let order : first_line (order_lines p tally (frame_in shape (kind_in bytes) (payload_in bytes))) ≡ None = ap (λ f. first_line (order_lines p tally f)) here ∙ order_lines-may_follow p tally frame may in
-    let all : first_line (frame_lines shape p bytes ++ order_lines p tally (frame_in shape (kind_in bytes) (payload_in bytes))) ≡ None = first_line-append (frame_lines shape p bytes) _ (frame_lines-frame_text shape p frame rest whole) ∙ order in
+    let order : first_line (order_lines p tally (frame_in shape (kind_in bytes) (payload_in bytes))) ≡ None
+    = ap (λ f. first_line (order_lines p tally f)) here ∙ order_lines-may_follow p tally frame may in
+    let all :
+    first_line (frame_lines shape p bytes ++ order_lines p tally (frame_in shape (kind_in bytes) (payload_in bytes)))
+    ≡ None
+    = first_line-append (frame_lines shape p bytes) _ (frame_lines-frame_text shape p frame rest whole) ∙ order in
     ap (λ b. cond b None (first_line (frame_lines shape p bytes ++ order_lines p tally (frame_in shape (kind_in bytes) (payload_in bytes))))) (is_closed-frame_text shape.format frame rest) ∙ all
 
 -- where a line on the frame by itself holds, it is the fault
-pub frame_fault_from_lines : (shape : Shape) (p : ℕ) (tally : Tally) (bytes : List ℕ) (fault : ScanFault) → is_closed bytes ≡ false → first_line (frame_lines shape p bytes) ≡ Some fault → frame_fault shape p tally bytes ≡ Some fault
+pub frame_fault_from_lines : (shape : Shape) (p : ℕ) (tally : Tally) (bytes : List ℕ) (fault : ScanFault)
+    → is_closed bytes ≡ false → first_line (frame_lines shape p bytes) ≡ Some fault
+    → frame_fault shape p tally bytes ≡ Some fault
 unfolding frame_fault
 frame_fault_from_lines shape p tally bytes fault opened some =
     let order : List (Bool × ScanFault) = order_lines p tally (frame_in shape (kind_in bytes) (payload_in bytes)) in
     ap (λ b. cond b None (first_line (frame_lines shape p bytes ++ order))) opened ∙ first_line-append_some (frame_lines shape p bytes) order fault some
 
 -- where the frame is whole and a line on its order holds, that is the fault
-pub frame_fault_from_order : (shape : Shape) (p : ℕ) (tally : Tally) (frame : Frame) (rest : List ℕ) (fault : ScanFault) → IsFrame shape frame → first_line (order_lines p tally frame) ≡ Some fault → frame_fault shape p tally (frame_text shape.format frame ++ rest) ≡ Some fault
+pub frame_fault_from_order : (shape : Shape) (p : ℕ) (tally : Tally) (frame : Frame) (rest : List ℕ)
+    (fault : ScanFault)
+    → IsFrame shape frame → first_line (order_lines p tally frame) ≡ Some fault
+    → frame_fault shape p tally (frame_text shape.format frame ++ rest) ≡ Some fault
 unfolding frame_fault
 frame_fault_from_order shape p tally frame rest fault whole some =
     let bytes : List ℕ = frame_text shape.format frame ++ rest in

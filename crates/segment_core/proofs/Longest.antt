@@ -30,18 +30,31 @@ NoFrame_closed shape tally bytes closed frame rest whole may is =
     absurd cc
 
 -- bytes begin with one frame at most
-pub same_frame : (shape : Shape) (one other : Frame) (a b : List ℕ) → IsFrame shape one → IsFrame shape other → frame_text shape.format one ++ a ≡ frame_text shape.format other ++ b → (one ≡ other) × (a ≡ b)
+pub same_frame : (shape : Shape) (one other : Frame) (a b : List ℕ)
+    → IsFrame shape one → IsFrame shape other → frame_text shape.format one ++ a ≡ frame_text shape.format other ++ b
+    → (one ≡ other) × (a ≡ b)
 same_frame shape one other a b p q same =
     let is : one ≡ other = sym (frame_in-frame_text shape one a p) ∙ ap (λ (bs : List ℕ). frame_in shape (kind_in bs) (payload_in bs)) same ∙ frame_in-frame_text shape other b q in
     (is, append_cancel_left (frame_text shape.format one) a b (same ∙ ap (λ f. frame_text shape.format f ++ b) (sym is)))
 
-longest_from : (shape : Shape) (tally : Tally) (frames others : List Frame) (image rest more : List ℕ) → image ≡ flat_map (frame_text shape.format) frames ++ rest → image ≡ flat_map (frame_text shape.format) others ++ more
-    → AreLegalFrom shape tally frames → AreLegalFrom shape tally others → NoFrame shape (tally_from tally frames) rest → length (flat_map (frame_text shape.format) others) ≤ length (flat_map (frame_text shape.format) frames)
+longest_from : (shape : Shape) (tally : Tally) (frames others : List Frame) (image rest more : List ℕ)
+    → image ≡ flat_map (frame_text shape.format) frames ++ rest
+    → image ≡ flat_map (frame_text shape.format) others ++ more
+    → AreLegalFrom shape tally frames
+    → AreLegalFrom shape tally others → NoFrame shape (tally_from tally frames) rest
+    → length (flat_map (frame_text shape.format) others) ≤ length (flat_map (frame_text shape.format) frames)
 longest_from shape tally frames [] image rest more p q legal legal' none = omega arith
 longest_from shape tally [] (other ∷ others) image rest more p q legal legal' none =
-    absurd (none other (flat_map (frame_text shape.format) others ++ more) legal'.0 legal'.1 (sym p ∙ q ∙ append_assoc (frame_text shape.format other) (flat_map (frame_text shape.format) others) more))
+    absurd
+    (none other (flat_map (frame_text shape.format) others ++ more) legal'.0 legal'.1
+    (sym p ∙ q ∙ append_assoc (frame_text shape.format other) (flat_map (frame_text shape.format) others) more))
 longest_from shape tally (frame ∷ frames) (other ∷ others) image rest more p q legal legal' none =
-    let same : frame_text shape.format frame ++ (flat_map (frame_text shape.format) frames ++ rest) ≡ frame_text shape.format other ++ (flat_map (frame_text shape.format) others ++ more) = sym (append_assoc (frame_text shape.format frame) (flat_map (frame_text shape.format) frames) rest) ∙ sym p ∙ q ∙ append_assoc (frame_text shape.format other) (flat_map (frame_text shape.format) others) more in
+    let same : frame_text shape.format frame ++ (flat_map (frame_text shape.format) frames ++ rest)
+    ≡ frame_text shape.format other ++ (flat_map (frame_text shape.format) others ++ more)
+    = sym (append_assoc (frame_text shape.format frame) (flat_map (frame_text shape.format) frames) rest)
+    ∙ sym p
+    ∙ q
+    ∙ append_assoc (frame_text shape.format other) (flat_map (frame_text shape.format) others) more in
     let one = same_frame shape frame other (flat_map (frame_text shape.format) frames ++ rest) (flat_map (frame_text shape.format) others ++ more) legal.0 legal'.0 same in
     let legal'' : AreLegalFrom shape (after tally frame) others = subst (λ f. AreLegalFrom shape (after tally f) others) (sym one.0) legal'.2 in
     let shorter = longest_from shape (after tally frame) frames others (flat_map (frame_text shape.format) frames ++ rest) rest more refl one.1 legal.2 legal'' none in
@@ -53,11 +66,15 @@ longest_from shape tally (frame ∷ frames) (other ∷ others) image rest more p
 behind_header : (shape : Shape) (frames : List Frame) (image rest : List ℕ) → image ≡ text shape frames ++ rest → image ≡ header shape ++ (flat_map (frame_text shape.format) frames ++ rest)
 behind_header shape frames image rest is = is ∙ append_assoc (header shape) (flat_map (frame_text shape.format) frames) rest
 
-pub is_longest : (shape : Shape) (frames : List Frame) (image rest : List ℕ) → AreLegal shape frames → image ≡ text shape frames ++ rest → NoFrame shape (tally_of frames) rest → IsLongest shape image frames
+pub is_longest : (shape : Shape) (frames : List Frame) (image rest : List ℕ)
+    → AreLegal shape frames → image ≡ text shape frames ++ rest → NoFrame shape (tally_of frames) rest
+    → IsLongest shape image frames
 is_longest shape frames image rest legal is none = record {
   begins = record { legal = legal; begins = (rest, is) };
   longest = λ others begins. (
-      let same : flat_map (frame_text shape.format) frames ++ rest ≡ flat_map (frame_text shape.format) others ++ begins.begins.0 = append_cancel_left (header shape) _ _ (sym (behind_header shape frames image rest is) ∙ behind_header shape others image begins.begins.0 begins.begins.1) in
+      let same : flat_map (frame_text shape.format) frames ++ rest
+      ≡ flat_map (frame_text shape.format) others ++ begins.begins.0
+      = append_cancel_left (header shape) _ _ (sym (behind_header shape frames image rest is) ∙ behind_header shape others image begins.begins.0 begins.begins.1) in
       let shorter = longest_from shape nothing frames others (flat_map (frame_text shape.format) frames ++ rest) rest begins.begins.0 refl same legal begins.legal none in
       let a = length-append (header shape) (flat_map (frame_text shape.format) frames) in
       let b = length-append (header shape) (flat_map (frame_text shape.format) others) in

@@ -19,7 +19,9 @@ use Rattle.segment_core.proofs.Apart.{place_of_told}
 use Rattle.segment_core.proofs.Blanked.{same_tally, same_home, same_change, same_place, same_legal}
 use Rattle.segment_core.proofs.HomesAnew.{BeginsAlike, begins_alike}
 
-pub take_same : (n q : ℕ) (a b : List ℕ) → q + n ≤ length a → q + n ≤ length b → ((j : ℕ) → q ≤ j → j < q + n → get_or a j 0 ≡ get_or b j 0) → take n (drop q a) ≡ take n (drop q b)
+pub take_same : (n q : ℕ) (a b : List ℕ)
+    → q + n ≤ length a → q + n ≤ length b → ((j : ℕ) → q ≤ j → j < q + n → get_or a j 0 ≡ get_or b j 0)
+    → take n (drop q a) ≡ take n (drop q b)
 take_same n q a b in_a in_b same =
     let la = length-take-le n (drop q a) (omega (arith, length-drop q a)) in
     let lb = length-take-le n (drop q b) (omega (arith, length-drop q b)) in
@@ -34,7 +36,9 @@ IsLoose_same shape frames others j same loose = record {
   place = loose.place;
   told = loose.told;
   home_is = sym (same_home frames others same shape loose.position) ∙ loose.home_is;
-  covered = sym (ap (λ t. change_of shape t.folded frames loose.position) (same_tally frames others same) ∙ same_change frames others same shape (tally_of others).folded loose.position) ∙ loose.covered;
+  covered =
+      sym (ap (λ t. change_of shape t.folded frames loose.position) (same_tally frames others same) ∙ same_change frames others same shape (tally_of others).folded loose.position)
+      ∙ loose.covered;
   from = loose.from;
   before = loose.before;
 }
@@ -51,7 +55,9 @@ pub record SaysAgain {R : Type 0} (format : Format) (form : Encoding R) (other :
   pub begins : BeginsImage (shape_of format form) other others
   pub read : IsVectorOf format form other others records
 
-module _ {R : Type 0} (format : Format) (form : Encoding R) (image other : List ℕ) (frames : List Frame) (records : List R) (begins : BeginsImage (shape_of format form) image frames) (same : AgreesButLoose (shape_of format form) frames image other) where
+module _ {R : Type 0} (format : Format) (form : Encoding R) (image other : List ℕ) (frames : List Frame)
+    (records : List R) (begins : BeginsImage (shape_of format form) image frames)
+    (same : AgreesButLoose (shape_of format form) frames image other) where
   abbrev shape : Shape
   shape = shape_of format form
 
@@ -102,7 +108,8 @@ module _ {R : Type 0} (format : Format) (form : Encoding R) (image other : List 
       let b = place_of_between shape frames i place legal is in
       let size = length-append (text shape frames) rest in
       let len = ap length begins.begins.1 in
-      take_same form.width place other image (omega (arith, b.to, same.long)) (omega (arith, b.to)) (λ j from before. same.each j (omega (arith, b.to)) (place_of_told shape frames i place j legal is from before))
+      take_same form.width place other image (omega (arith, b.to, same.long)) (omega (arith, b.to))
+      (λ j from before. same.each j (omega (arith, b.to)) (place_of_told shape frames i place j legal is from before))
 
   record_stays : (i : ℕ) → record_at format form other frames_stay.others i ≡ record_at format form image frames i
   record_stays i = ap (option_and_then (record_in form other)) (same_place frames_stay.others frames frames_stay.alike shape i) ∙ at_place (place_of shape frames i) refl

@@ -39,7 +39,23 @@ abbrev folded_file : List ℕ
 folded_file = text shape (written ++ Fold 1 ∷ []) ++ 0 ∷ []
 
 changed_legal : AreLegal shape (grown ++ change ∷ [])
-changed_legal = (record { wide = omega arith; small = omega arith; layout = (omega arith, ((omega arith, omega arith), tt), refl) }, record { ordered = refl; inside = refl; folded = refl; counted = refl; short = refl }, (record { wide = omega arith; small = omega arith; layout = (refl, ((omega arith, (omega arith, omega arith)), tt), refl) }, record { ordered = refl; inside = refl; folded = refl; counted = refl; short = refl }, tt))
+changed_legal = (
+  record {
+    wide = omega arith;
+    small = omega arith;
+    layout = (omega arith, ((omega arith, omega arith), tt), refl);
+  },
+  record { ordered = refl; inside = refl; folded = refl; counted = refl; short = refl },
+  (
+    record {
+      wide = omega arith;
+      small = omega arith;
+      layout = (refl, ((omega arith, (omega arith, omega arith)), tt), refl);
+    },
+    record { ordered = refl; inside = refl; folded = refl; counted = refl; short = refl },
+    tt,
+  ),
+)
 
 grown_vector : IsVectorOf One numbers changed_file grown (5 ∷ [])
 unfolding place_of
@@ -57,10 +73,28 @@ seven = record { filled = refl; each = each }
     each (suc i) lt = absurd (omega arith)
 
 changed_vector : IsVectorOf One numbers changed_file (grown ++ change ∷ []) (7 ∷ [])
-changed_vector = IsVectorOf_change One numbers changed_file grown (5 ∷ []) grown_vector (record { start = 0; count = 1 } ∷ []) (to_le_bytes w64 7) (7 ∷ []) (record { legal = changed_legal; begins = (0 ∷ [], refl) }) seven
+changed_vector =
+    IsVectorOf_change One numbers changed_file grown (5 ∷ []) grown_vector (record { start = 0; count = 1 } ∷ [])
+    (to_le_bytes w64 7) (7 ∷ []) (record { legal = changed_legal; begins = (0 ∷ [], refl) }) seven
 
 written_legal : AreLegal shape (written ++ Fold 1 ∷ [])
-written_legal = (record { wide = omega arith; small = omega arith; layout = (omega arith, ((omega arith, omega arith), tt), refl) }, record { ordered = refl; inside = refl; folded = refl; counted = refl; short = refl }, (record { wide = omega arith; small = omega arith; layout = (refl, ((omega arith, (omega arith, omega arith)), tt), refl) }, record { ordered = refl; inside = refl; folded = refl; counted = refl; short = refl }, (record { wide = omega arith; small = omega arith; layout = omega arith }, record { ordered = refl; inside = refl; folded = refl; counted = refl; short = refl }, tt)))
+written_legal = (
+  record {
+    wide = omega arith;
+    small = omega arith;
+    layout = (omega arith, ((omega arith, omega arith), tt), refl);
+  },
+  record { ordered = refl; inside = refl; folded = refl; counted = refl; short = refl },
+  (
+    record {
+      wide = omega arith;
+      small = omega arith;
+      layout = (refl, ((omega arith, (omega arith, omega arith)), tt), refl);
+    },
+    record { ordered = refl; inside = refl; folded = refl; counted = refl; short = refl },
+    (record { wide = omega arith; small = omega arith; layout = omega arith }, record { ordered = refl; inside = refl; folded = refl; counted = refl; short = refl }, tt),
+  ),
+)
 
 written_begins : BeginsImage shape folded_file (written ++ Fold 1 ∷ [])
 written_begins = record { legal = written_legal; begins = (0 ∷ [], refl) }

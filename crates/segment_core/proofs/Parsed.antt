@@ -18,7 +18,9 @@ use Rattle.segment_core.specs.Parsed.{frames_from, frames_before, cell_at, cells
 use Rattle.segment_core.proofs.Payload.{length-frame_text, payload_len_in-frame_text, small_payload, frame_in-frame_text}
 use Rattle.segment_core.proofs.Push.{length-text}
 
-frames_from-text : (shape : Shape) (tally : Tally) (frames : List Frame) (most : ℕ) → AreLegalFrom shape tally frames → length (flat_map (frame_text shape.format) frames) ≤ most → frames_from shape most (flat_map (frame_text shape.format) frames) ≡ frames
+frames_from-text : (shape : Shape) (tally : Tally) (frames : List Frame) (most : ℕ)
+    → AreLegalFrom shape tally frames → length (flat_map (frame_text shape.format) frames) ≤ most
+    → frames_from shape most (flat_map (frame_text shape.format) frames) ≡ frames
 frames_from-text shape tally [] zero legal enough = refl
 frames_from-text shape tally [] (suc n) legal enough = refl
 frames_from-text shape tally (frame ∷ frames) zero legal enough =
@@ -31,7 +33,9 @@ frames_from-text shape tally (frame ∷ frames) (suc n) legal enough =
     let all = length-append here rest in
     let size = length-frame_text shape.format frame in
     let first = frame_in-frame_text shape frame rest legal.0 in
-    let behind : drop (6 + payload_len_in (here ++ rest)) (here ++ rest) ≡ rest = ap (λ k. drop (6 + k) (here ++ rest)) (payload_len_in-frame_text shape.format frame rest (small_payload shape frame legal.0)) ∙ drop_at here rest _ size in
+    let behind : drop (6 + payload_len_in (here ++ rest)) (here ++ rest) ≡ rest
+    = ap (λ k. drop (6 + k) (here ++ rest)) (payload_len_in-frame_text shape.format frame rest (small_payload shape frame legal.0))
+    ∙ drop_at here rest _ size in
     ap (λ f. f ∷ frames_from shape n (drop (6 + payload_len_in (here ++ rest)) (here ++ rest))) first
     ∙ ap (λ (fs : List Frame). frame ∷ fs) (ap (frames_from shape n) behind ∙ frames_from-text shape (after tally frame) frames n legal.2 (omega arith))
 
@@ -49,7 +53,10 @@ cell_there : (width : ℕ) (image : List ℕ) (place : Option ℕ) (cell : List 
 cell_there width image None cell is = absurd cc
 cell_there width image (Some place) cell is = same_Some (take width (drop place image)) cell is
 
-cells_from-drop : (format : Format) (width n : ℕ) (frames : List Frame) (image : List ℕ) (cells : List (List ℕ)) (i : ℕ) → IsVectorOf format (raw width) image frames cells → n + i ≡ length cells
+cells_from-drop : (format : Format) (width n : ℕ) (frames : List Frame) (image : List ℕ) (cells : List (List ℕ))
+    (i : ℕ)
+    → IsVectorOf format (raw width) image frames cells
+    → n + i ≡ length cells
     → cells_from (shape_of format (raw width)) n frames image i ≡ drop i cells
 cells_from-drop format width zero frames image cells i read is = sym (drop_all i cells (omega arith))
 cells_from-drop format width (suc n) frames image cells i read is =
@@ -60,7 +67,9 @@ cells_from-drop format width (suc n) frames image cells i read is =
     let more : cells_from shape n frames image (suc i) ≡ drop (i + 1) cells = cells_from-drop format width n frames image cells (suc i) read (omega arith) ∙ ap (λ k. drop k cells) next in
     ap (λ c. c ∷ cells_from shape n frames image (suc i)) one ∙ ap (λ (cs : List (List ℕ)). get_or cells i [] ∷ cs) more ∙ sym (drop_more cells i [] lt)
 
-pub vector_before-text : (format : Format) (width : ℕ) (image : List ℕ) (frames : List Frame) (cells : List (List ℕ)) → BeginsImage (shape_of format (raw width)) image frames → IsVectorOf format (raw width) image frames cells
+pub vector_before-text : (format : Format) (width : ℕ) (image : List ℕ) (frames : List Frame) (cells : List (List ℕ))
+    → BeginsImage (shape_of format (raw width)) image frames
+    → IsVectorOf format (raw width) image frames cells
     → vector_before (shape_of format (raw width)) (length (text (shape_of format (raw width)) frames)) image ≡ cells
 unfolding vector_before
 vector_before-text format width image frames cells begins read =

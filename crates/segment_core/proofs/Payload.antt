@@ -52,12 +52,17 @@ spelled_group format width payload fits p =
     let n : ℕ = count_in payload in
     let front : to_le_bytes w32 (length (lengths_in payload)) ≡ take 4 payload = ap (to_le_bytes w32) (length-numbers_in n (drop 4 payload)) ∙ u32_written payload fits p.counted in
     let left : n * 4 ≤ length (drop 4 payload) = let l = length-drop 4 payload in let i = p.inside in omega arith in
-    let rest : flat_map (to_le_bytes w32) (lengths_in payload) ++ homes_in payload ≡ drop 4 payload = ap (λ (bs : List ℕ). flat_map (to_le_bytes w32) (lengths_in payload) ++ bs) (sym (drop-drop (n * 4) 4 payload)) ∙ numbers_text-numbers_in n (drop 4 payload) (IsBytes-drop 4 payload fits) left in
+    let rest : flat_map (to_le_bytes w32) (lengths_in payload) ++ homes_in payload ≡ drop 4 payload
+    = ap (λ (bs : List ℕ). flat_map (to_le_bytes w32) (lengths_in payload) ++ bs) (sym (drop-drop (n * 4) 4 payload))
+    ∙ numbers_text-numbers_in n (drop 4 payload) (IsBytes-drop 4 payload fits) left in
     ap (λ (bs : List ℕ). bs ++ (flat_map (to_le_bytes w32) (lengths_in payload) ++ homes_in payload)) front ∙ ap (λ (bs : List ℕ). take 4 payload ++ bs) rest ∙ take-append-drop 4 payload
 
 layout_group : (shape : Shape) (payload : List ℕ) → IsBytes payload → GroupParts shape.width payload → HasLayout shape (Group (lengths_in payload) (homes_in payload))
-layout_group shape payload fits p =
-    (let l = length-numbers_in (count_in payload) (drop 4 payload) in let s = p.some in omega arith, lengths_positive (count_in payload) (drop 4 payload) (IsBytes-drop 4 payload fits) p.positive, p.filled)
+layout_group shape payload fits p = (
+  let l = length-numbers_in (count_in payload) (drop 4 payload) in let s = p.some in omega arith,
+  lengths_positive (count_in payload) (drop 4 payload) (IsBytes-drop 4 payload fits) p.positive,
+  p.filled,
+)
 
 -- ---- a Change, from the payload to the frame
 
@@ -86,7 +91,9 @@ change_from_parts shape payload p =
 number_of_runs : (shape : Shape) (payload : List ℕ) → length (runs_in shape payload) ≡ run_count_in shape.format payload
 number_of_runs shape payload = length-runs_from shape.format ((length payload - 8) / shape.width) (run_count_in shape.format payload) (drop (number_len shape.format) payload)
 
-spelled_change : (shape : Shape) (payload : List ℕ) → IsBytes payload → ChangeParts shape payload → payload_of shape.format (Change (runs_in shape payload) (new_in shape.format payload)) ≡ payload
+spelled_change : (shape : Shape) (payload : List ℕ)
+    → IsBytes payload → ChangeParts shape payload
+    → payload_of shape.format (Change (runs_in shape payload) (new_in shape.format payload)) ≡ payload
 spelled_change shape payload fits p =
     let format : Format = shape.format in
     let n : ℕ = run_count_in format payload in
@@ -94,10 +101,12 @@ spelled_change shape payload fits p =
     let size : ℕ = 8 + number in
     let behind : List ℕ = drop number payload in
     let texts : List ℕ = flat_map (run_text format) (runs_in shape payload) in
-    let front : number_text format (length (runs_in shape payload)) ≡ take number payload = ap (number_text format) (number_of_runs shape payload) ∙ number_written format 1 payload fits p.counted in
+    let front : number_text format (length (runs_in shape payload)) ≡ take number payload
+    = ap (number_text format) (number_of_runs shape payload) ∙ number_written format 1 payload fits p.counted in
     let left : n * size ≤ length behind = let l = length-drop number payload in let i = p.inside in omega arith in
     let rest : texts ++ new_in format payload ≡ behind
-    = ap (λ (bs : List ℕ). texts ++ bs) (sym (drop-drop (n * size) number payload)) ∙ run_texts-runs_from format ((length payload - 8) / shape.width) n behind (IsBytes-drop number payload fits) left in
+    = ap (λ (bs : List ℕ). texts ++ bs) (sym (drop-drop (n * size) number payload))
+    ∙ run_texts-runs_from format ((length payload - 8) / shape.width) n behind (IsBytes-drop number payload fits) left in
     append_assoc (number_text format (length (runs_in shape payload))) texts (new_in format payload)
     ∙ ap (λ (bs : List ℕ). bs ++ (texts ++ new_in format payload)) front ∙ ap (λ (bs : List ℕ). take number payload ++ bs) rest ∙ take-append-drop number payload
 
@@ -109,7 +118,9 @@ pub div_small : (n width : ℕ) → 0 < width → n / width ≤ n
 div_small n zero wide = absurd (omega arith)
 div_small n (suc w) wide = div-le_of_le-mul (suc w) {m = n} {n = n} (omega arith)
 
-layout_change : (shape : Shape) (payload : List ℕ) → 0 < shape.width → IsBytes payload → length payload < 2 ^ 32 → ChangeParts shape payload → HasLayout shape (Change (runs_in shape payload) (new_in shape.format payload))
+layout_change : (shape : Shape) (payload : List ℕ)
+    → 0 < shape.width → IsBytes payload → length payload < 2 ^ 32 → ChangeParts shape payload
+    → HasLayout shape (Change (runs_in shape payload) (new_in shape.format payload))
 layout_change shape payload wide fits small p =
     let filling : ℕ = (length payload - 8) / shape.width in
     let few : filling < 2 ^ 32 = let d = div_small (length payload - 8) shape.width wide in omega arith in (
@@ -136,7 +147,9 @@ pub record IsPayload (shape : Shape) (kind : ℕ) (payload : List ℕ) : Type 0 
   pub spelled : payload_of shape.format (frame_in shape kind payload) ≡ payload
   pub layout : HasLayout shape (frame_in shape kind payload)
 
-pub is_payload : (shape : Shape) (kind : ℕ) (payload : List ℕ) → 0 < shape.width → IsBytes payload → length payload < 2 ^ 32 → OneOf kind → is_layout shape kind payload ≡ true → IsPayload shape kind payload
+pub is_payload : (shape : Shape) (kind : ℕ) (payload : List ℕ)
+    → 0 < shape.width → IsBytes payload → length payload < 2 ^ 32 → OneOf kind → is_layout shape kind payload ≡ true
+    → IsPayload shape kind payload
 is_payload shape kind payload wide fits small (IsGroup is) formed =
     let p = parts_of_group shape.width payload (ap (λ k. is_layout shape k payload) (sym is) ∙ formed) in
     subst (λ k. IsPayload shape k payload) (sym is) (record { kind_is = refl; spelled = spelled_group shape.format shape.width payload fits p; layout = layout_group shape payload fits p })
@@ -167,8 +180,11 @@ count_in-group format lengths bytes lt = u32_at_first (length lengths) (flat_map
 
 lengths_in-group : (format : Format) (lengths bytes : List ℕ) → length lengths < 2 ^ 32 → AllByRecursion IsLength lengths → lengths_in (payload_of format (Group lengths bytes)) ≡ lengths
 lengths_in-group format lengths bytes lt each =
-    let rest : drop 4 (payload_of format (Group lengths bytes)) ≡ flat_map (to_le_bytes w32) lengths ++ bytes = drop_at (to_le_bytes w32 (length lengths)) (flat_map (to_le_bytes w32) lengths ++ bytes) 4 refl in
-    ap (λ n. numbers_in n (drop 4 (payload_of format (Group lengths bytes)))) (count_in-group format lengths bytes lt) ∙ ap (numbers_in (length lengths)) rest ∙ numbers_in-written lengths bytes each
+    let rest : drop 4 (payload_of format (Group lengths bytes)) ≡ flat_map (to_le_bytes w32) lengths ++ bytes
+    = drop_at (to_le_bytes w32 (length lengths)) (flat_map (to_le_bytes w32) lengths ++ bytes) 4 refl in
+    ap (λ n. numbers_in n (drop 4 (payload_of format (Group lengths bytes)))) (count_in-group format lengths bytes lt)
+    ∙ ap (numbers_in (length lengths)) rest
+    ∙ numbers_in-written lengths bytes each
 
 homes_in-group : (format : Format) (lengths bytes : List ℕ) → length lengths < 2 ^ 32 → homes_in (payload_of format (Group lengths bytes)) ≡ bytes
 homes_in-group format lengths bytes lt =
@@ -190,7 +206,9 @@ record IsChangeText (shape : Shape) (runs : List Run) (bytes : List ℕ) : Type 
   runs_are : runs_in shape (payload_of shape.format (Change runs bytes)) ≡ runs
   new_is : new_in shape.format (payload_of shape.format (Change runs bytes)) ≡ bytes
 
-run_count_written : (format : Format) (runs : List Run) (rest : List ℕ) → HasRuns format runs → length runs < 2 ^ 32 → number_at format 1 (number_text format (length runs) ++ rest) 0 ≡ length runs
+run_count_written : (format : Format) (runs : List Run) (rest : List ℕ)
+    → HasRuns format runs → length runs < 2 ^ 32
+    → number_at format 1 (number_text format (length runs) ++ rest) 0 ≡ length runs
 run_count_written One runs rest has lt = sym has
 run_count_written Two runs rest has lt = u32_at_first (length runs) rest lt
 
@@ -203,7 +221,9 @@ filled_one width (run ∷ []) n wide one filled =
     (sym (ap (λ k. k / width) (filled ∙ ap (λ k. k * width) count) ∙ mul-div_cancel run.count wide), tt)
 filled_one width (run ∷ other ∷ runs) n wide one filled = absurd (omega arith)
 
-are_given_in : (format : Format) (width : ℕ) (runs : List Run) (bytes : List ℕ) → 0 < width → HasRuns format runs → length bytes ≡ records_of_runs runs * width → AreGiven format ((length (payload_of format (Change runs bytes)) - 8) / width) runs
+are_given_in : (format : Format) (width : ℕ) (runs : List Run) (bytes : List ℕ)
+    → 0 < width → HasRuns format runs → length bytes ≡ records_of_runs runs * width
+    → AreGiven format ((length (payload_of format (Change runs bytes)) - 8) / width) runs
 are_given_in One width runs bytes wide has filled =
     let len = length-change_payload One runs bytes in
     let left : length (payload_of One (Change runs bytes)) - 8 ≡ length bytes = omega arith in
@@ -224,8 +244,12 @@ change_text shape runs bytes whole =
     let number : List ℕ = number_text format (length runs) in
     let texts : List ℕ = flat_map (run_text format) runs in
     let split : payload ≡ number ++ (texts ++ bytes) = append_assoc number texts bytes in
-    let counted : run_count_in format payload ≡ length runs = ap (λ (bs : List ℕ). number_at format 1 bs 0) split ∙ run_count_written format runs (texts ++ bytes) whole.layout.0 (few_runs shape runs bytes whole) in
-    let left : drop (number_len format) payload ≡ texts ++ bytes = ap (drop (number_len format)) split ∙ drop_at number (texts ++ bytes) (number_len format) (length-number_text format (length runs)) in
+    let counted : run_count_in format payload ≡ length runs
+    = ap (λ (bs : List ℕ). number_at format 1 bs 0) split
+    ∙ run_count_written format runs (texts ++ bytes) whole.layout.0 (few_runs shape runs bytes whole) in
+    let left : drop (number_len format) payload ≡ texts ++ bytes
+    = ap (drop (number_len format)) split
+    ∙ drop_at number (texts ++ bytes) (number_len format) (length-number_text format (length runs)) in
     let filling : ℕ = (length payload - 8) / shape.width in
     record {
       counted = counted;
@@ -237,7 +261,8 @@ change_text shape runs bytes whole =
 pub frame_in-payload_of : (shape : Shape) (frame : Frame) → IsFrame shape frame → frame_in shape (kind_of frame) (payload_of shape.format frame) ≡ frame
 frame_in-payload_of shape (Group lengths bytes) whole =
     let lt = few_lengths shape lengths bytes whole in
-    ap (λ (ls : List ℕ). Group ls (homes_in (payload_of shape.format (Group lengths bytes)))) (lengths_in-group shape.format lengths bytes lt whole.layout.1) ∙ ap (Group lengths) (homes_in-group shape.format lengths bytes lt)
+    ap (λ (ls : List ℕ). Group ls (homes_in (payload_of shape.format (Group lengths bytes)))) (lengths_in-group shape.format lengths bytes lt whole.layout.1)
+    ∙ ap (Group lengths) (homes_in-group shape.format lengths bytes lt)
 frame_in-payload_of shape (Change runs bytes) whole =
     let t = change_text shape runs bytes whole in
     ap (λ (rs : List Run). Change rs (new_in shape.format (payload_of shape.format (Change runs bytes)))) t.runs_are ∙ ap (Change runs) t.new_is
@@ -281,13 +306,17 @@ is_layout-payload_of shape (Fold count) whole = refl
 
 -- ---- the fields of a frame in the bytes that it begins
 
-pub payload_len_in-frame_text : (format : Format) (frame : Frame) (rest : List ℕ) → length (payload_of format frame) < 2 ^ 32 → payload_len_in (frame_text format frame ++ rest) ≡ length (payload_of format frame)
+pub payload_len_in-frame_text : (format : Format) (frame : Frame) (rest : List ℕ)
+    → length (payload_of format frame) < 2 ^ 32
+    → payload_len_in (frame_text format frame ++ rest) ≡ length (payload_of format frame)
 payload_len_in-frame_text format frame rest small =
     let n : ℕ = length (payload_of format frame) in
     let at : drop 2 (frame_text format frame ++ rest) ≡ to_le_bytes w32 n ++ (payload_of format frame ++ rest) = append_assoc (to_le_bytes w32 n) (payload_of format frame) rest in
     sym (u32_at-drop (frame_text format frame ++ rest) 2 0) ∙ ap (λ (bs : List ℕ). u32_at bs 0) at ∙ u32_at_first n (payload_of format frame ++ rest) small
 
-pub payload_in-frame_text : (format : Format) (frame : Frame) (rest : List ℕ) → length (payload_of format frame) < 2 ^ 32 → payload_in (frame_text format frame ++ rest) ≡ payload_of format frame
+pub payload_in-frame_text : (format : Format) (frame : Frame) (rest : List ℕ)
+    → length (payload_of format frame) < 2 ^ 32
+    → payload_in (frame_text format frame ++ rest) ≡ payload_of format frame
 payload_in-frame_text format frame rest small =
     ap (λ n. take n (drop 6 (frame_text format frame ++ rest))) (payload_len_in-frame_text format frame rest small) ∙ take_at (payload_of format frame) rest (length (payload_of format frame)) refl
 
@@ -298,8 +327,12 @@ pub small_payload : (shape : Shape) (frame : Frame) → IsFrame shape frame → 
 small_payload shape frame whole = let s = whole.small in let limit = limit_small shape.format in omega arith
 
 -- the frame that begins the bytes is no other
-pub frame_in-frame_text : (shape : Shape) (frame : Frame) (rest : List ℕ) → IsFrame shape frame → frame_in shape (kind_in (frame_text shape.format frame ++ rest)) (payload_in (frame_text shape.format frame ++ rest)) ≡ frame
-frame_in-frame_text shape frame rest whole = ap (frame_in shape (kind_of frame)) (payload_in-frame_text shape.format frame rest (small_payload shape frame whole)) ∙ frame_in-payload_of shape frame whole
+pub frame_in-frame_text : (shape : Shape) (frame : Frame) (rest : List ℕ)
+    → IsFrame shape frame
+    → frame_in shape (kind_in (frame_text shape.format frame ++ rest)) (payload_in (frame_text shape.format frame ++ rest)) ≡ frame
+frame_in-frame_text shape frame rest whole =
+    ap (frame_in shape (kind_of frame)) (payload_in-frame_text shape.format frame rest (small_payload shape frame whole))
+    ∙ frame_in-payload_of shape frame whole
 
 -- ---- what a reader of a payload finds
 
@@ -314,11 +347,16 @@ pub length-homes_in : (payload : List ℕ) (n : ℕ) → n ≡ count_in payload 
 length-homes_in payload n is = length-drop (4 + count_in payload * 4) payload ∙ ap (λ k. length payload - (4 + k * 4)) (sym is)
 
 -- the records don't fill their part
-pub no_group_unfilled : (width : ℕ) (payload : List ℕ) (growths records : ℕ) → growths ≡ count_in payload → records ≡ sum (lengths_in payload) → (records * width ≡ length payload - (4 + growths * 4) → ⊥) → is_group_layout width payload ≡ false
+pub no_group_unfilled : (width : ℕ) (payload : List ℕ) (growths records : ℕ)
+    → growths ≡ count_in payload → records ≡ sum (lengths_in payload)
+    → (records * width ≡ length payload - (4 + growths * 4) → ⊥)
+    → is_group_layout width payload ≡ false
 no_group_unfilled width payload growths records g r apart =
     no_group width payload (λ p. apart (ap (λ n. n * width) r ∙ sym p.filled ∙ length-homes_in payload growths g))
 
-pub is_group : (width : ℕ) (payload : List ℕ) (growths records : ℕ) → growths ≡ count_in payload → records ≡ sum (lengths_in payload) → 0 < growths → 4 + growths * 4 ≤ length payload → list_all (nat_lt 0) (lengths_in payload) ≡ true
+pub is_group : (width : ℕ) (payload : List ℕ) (growths records : ℕ)
+    → growths ≡ count_in payload → records ≡ sum (lengths_in payload) → 0 < growths → 4 + growths * 4 ≤ length payload
+    → list_all (nat_lt 0) (lengths_in payload) ≡ true
     → records * width ≡ length payload - (4 + growths * 4) → is_group_layout width payload ≡ true
 is_group width payload growths records g r some inside positive filled =
     group_from_parts width payload (record {
@@ -335,11 +373,17 @@ no_change shape payload h = not_true (is_change_layout shape payload) (λ test. 
 pub length-new_in : (format : Format) (payload : List ℕ) (n : ℕ) → n ≡ run_count_in format payload → length (new_in format payload) ≡ length payload - runs_len format n
 length-new_in format payload n is = length-drop (runs_len format (run_count_in format payload)) payload ∙ ap (λ k. length payload - runs_len format k) (sym is)
 
-pub no_change_unfilled : (shape : Shape) (payload : List ℕ) (runs records : ℕ) → runs ≡ run_count_in shape.format payload → records ≡ records_of_runs (runs_in shape payload) → (records * shape.width ≡ length payload - runs_len shape.format runs → ⊥) → is_change_layout shape payload ≡ false
+pub no_change_unfilled : (shape : Shape) (payload : List ℕ) (runs records : ℕ)
+    → runs ≡ run_count_in shape.format payload → records ≡ records_of_runs (runs_in shape payload)
+    → (records * shape.width ≡ length payload - runs_len shape.format runs → ⊥)
+    → is_change_layout shape payload ≡ false
 no_change_unfilled shape payload runs records n r apart =
     no_change shape payload (λ p. apart (ap (λ k. k * shape.width) r ∙ sym p.filled ∙ length-new_in shape.format payload runs n))
 
-pub is_change : (shape : Shape) (payload : List ℕ) (runs records : ℕ) → runs ≡ run_count_in shape.format payload → records ≡ records_of_runs (runs_in shape payload) → 0 < runs → number_len shape.format ≤ length payload → runs_len shape.format runs ≤ length payload
+pub is_change : (shape : Shape) (payload : List ℕ) (runs records : ℕ)
+    → runs ≡ run_count_in shape.format payload → records ≡ records_of_runs (runs_in shape payload) → 0 < runs
+    → number_len shape.format ≤ length payload
+    → runs_len shape.format runs ≤ length payload
     → list_all (λ run. nat_lt 0 run.count) (runs_in shape payload) ≡ true → records * shape.width ≡ length payload - runs_len shape.format runs → is_change_layout shape payload ≡ true
 is_change shape payload runs records n r some counted inside positive filled =
     change_from_parts shape payload (record {

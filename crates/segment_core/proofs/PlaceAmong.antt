@@ -48,7 +48,8 @@ place_among_between width p start count i place is =
 pub place_in_runs_between : (width i p : ℕ) (runs : List Run) (place : ℕ) → place_in_runs width i p runs ≡ Some place → Between p (p + records_of_runs runs * width) width place
 place_in_runs_between width i p [] place is = absurd cc
 place_in_runs_between width i p (run ∷ runs) place is =
-    let all : records_of_runs (run ∷ runs) * width ≡ run.count * width + records_of_runs runs * width = ap (λ n. n * width) (records_of_runs-cons run runs) ∙ add-mul run.count (records_of_runs runs) width in
+    let all : records_of_runs (run ∷ runs) * width ≡ run.count * width + records_of_runs runs * width
+    = ap (λ n. n * width) (records_of_runs-cons run runs) ∙ add-mul run.count (records_of_runs runs) width in
     elim (option_or_cases (place_in_runs width i (p + run.count * width) runs) (place_among width p run.start run.count i) place is) [
       | inl later ↦ (let b = place_in_runs_between width i (p + run.count * width) runs place later in record { from = omega (arith, b.from); to = omega (arith, b.to, all) })
       | inr here ↦ (let b = place_among_between width p run.start run.count i place here.1 in record { from = b.from; to = omega (arith, b.to, all) })

@@ -23,7 +23,9 @@ pub tally_from_push : (tally : Tally) (frames : List Frame) (frame : Frame) → 
 tally_from_push tally [] frame = refl
 tally_from_push tally (first ∷ frames) frame = tally_from_push (after tally first) frames frame
 
-pub AreLegalFrom_push : (shape : Shape) (tally : Tally) (frames : List Frame) (frame : Frame) → AreLegalFrom shape tally frames → IsFrame shape frame → MayFollow (tally_from tally frames) frame → AreLegalFrom shape tally (frames ++ frame ∷ [])
+pub AreLegalFrom_push : (shape : Shape) (tally : Tally) (frames : List Frame) (frame : Frame)
+    → AreLegalFrom shape tally frames → IsFrame shape frame → MayFollow (tally_from tally frames) frame
+    → AreLegalFrom shape tally (frames ++ frame ∷ [])
 AreLegalFrom_push shape tally [] frame legal whole may = (whole, may, tt)
 AreLegalFrom_push shape tally (first ∷ frames) frame legal whole may = (legal.0, legal.1, AreLegalFrom_push shape (after tally first) frames frame legal.2 whole may)
 
@@ -31,20 +33,26 @@ pub AreLegalFrom_before : (shape : Shape) (tally : Tally) (frames : List Frame) 
 AreLegalFrom_before shape tally [] frame legal = tt
 AreLegalFrom_before shape tally (first ∷ frames) frame legal = (legal.0, legal.1, AreLegalFrom_before shape (after tally first) frames frame legal.2)
 
-pub AreLegalFrom_last : (shape : Shape) (tally : Tally) (frames : List Frame) (frame : Frame) → AreLegalFrom shape tally (frames ++ frame ∷ []) → IsFrame shape frame × MayFollow (tally_from tally frames) frame
+pub AreLegalFrom_last : (shape : Shape) (tally : Tally) (frames : List Frame) (frame : Frame)
+    → AreLegalFrom shape tally (frames ++ frame ∷ [])
+    → IsFrame shape frame × MayFollow (tally_from tally frames) frame
 AreLegalFrom_last shape tally [] frame legal = (legal.0, legal.1)
 AreLegalFrom_last shape tally (first ∷ frames) frame legal = AreLegalFrom_last shape (after tally first) frames frame legal.2
 
 -- ---- an image that begins with them
 
-pub Begins_push : (shape : Shape) (image : List ℕ) (frames : List Frame) (frame : Frame) (rest : List ℕ) → AreLegal shape frames → IsFrame shape frame → MayFollow (tally_of frames) frame → image ≡ text shape frames ++ (frame_text shape.format frame ++ rest)
+pub Begins_push : (shape : Shape) (image : List ℕ) (frames : List Frame) (frame : Frame) (rest : List ℕ)
+    → AreLegal shape frames → IsFrame shape frame → MayFollow (tally_of frames) frame
+    → image ≡ text shape frames ++ (frame_text shape.format frame ++ rest)
     → BeginsImage shape image (frames ++ frame ∷ [])
 Begins_push shape image frames frame rest legal whole may is = record {
   legal = AreLegalFrom_push shape nothing frames frame legal whole may;
   begins = (rest, is ∙ sym (append_assoc (text shape frames) (frame_text shape.format frame) rest) ∙ ap (λ (bs : List ℕ). bs ++ rest) (sym (text_push shape frames frame)));
 }
 
-pub BeginsImage_behind : (shape : Shape) (image : List ℕ) (frames : List Frame) (frame : Frame) → BeginsImage shape image (frames ++ frame ∷ []) → (rest : List ℕ) × (image ≡ text shape frames ++ (frame_text shape.format frame ++ rest))
+pub BeginsImage_behind : (shape : Shape) (image : List ℕ) (frames : List Frame) (frame : Frame)
+    → BeginsImage shape image (frames ++ frame ∷ [])
+    → (rest : List ℕ) × (image ≡ text shape frames ++ (frame_text shape.format frame ++ rest))
 BeginsImage_behind shape image frames frame begins =
     let rest : List ℕ = begins.begins.0 in
     (rest, begins.begins.1 ∙ ap (λ (bs : List ℕ). bs ++ rest) (text_push shape frames frame) ∙ append_assoc (text shape frames) (frame_text shape.format frame) rest)
@@ -59,7 +67,10 @@ BeginsImage_before shape image frames frame begins =
 pub HasFrames_begins : (shape : Shape) (image : List ℕ) (frames : List Frame) → HasFrames shape image frames → BeginsImage shape image frames
 HasFrames_begins shape image frames has = record { legal = has.legal; begins = (has.closed.0 ∷ has.closed.1, has.closed.3) }
 
-pub HasFrames_closed : (shape : Shape) (image : List ℕ) (frames : List Frame) → BeginsImage shape image frames → length (text shape frames) < length image → get_or image (length (text shape frames)) 0 ≢ 1 → HasFrames shape image frames
+pub HasFrames_closed : (shape : Shape) (image : List ℕ) (frames : List Frame)
+    → BeginsImage shape image frames → length (text shape frames) < length image
+    → get_or image (length (text shape frames)) 0 ≢ 1
+    → HasFrames shape image frames
 HasFrames_closed shape image frames begins inside closed =
     let gate : ℕ = length (text shape frames) in
     let behind : drop gate image ≡ begins.begins.0 = ap (drop gate) begins.begins.1 ∙ drop_at (text shape frames) begins.begins.0 gate refl in

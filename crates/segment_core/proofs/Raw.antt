@@ -31,7 +31,9 @@ slice_get-cells_in width zero bytes i lt = absurd (omega arith)
 slice_get-cells_in width (suc n) bytes zero lt = let none : 0 * width ≡ 0 = omega arith in ap (λ k. Some (take width (drop k bytes))) (sym none)
 slice_get-cells_in width (suc n) bytes (suc i) lt =
     let more : width + i * width ≡ suc i * width = omega arith in
-    slice_get-cells_in width n (drop width bytes) i (omega arith) ∙ ap (λ (bs : List ℕ). Some (take width bs)) (drop-drop (i * width) width bytes) ∙ ap (λ k. Some (take width (drop k bytes))) more
+    slice_get-cells_in width n (drop width bytes) i (omega arith)
+    ∙ ap (λ (bs : List ℕ). Some (take width bs)) (drop-drop (i * width) width bytes)
+    ∙ ap (λ k. Some (take width (drop k bytes))) more
 
 pub AreRecords-cells_in : (width n : ℕ) (bytes : List ℕ) → length bytes ≡ n * width → AreRecords (raw width) bytes (cells_in width n bytes)
 AreRecords-cells_in width n bytes filled = record {
@@ -41,8 +43,12 @@ AreRecords-cells_in width n bytes filled = record {
 
 -- ---- one more frame
 
-pub IsVectorOf_frame : (format : Format) (width : ℕ) (image : List ℕ) (frames : List Frame) (cells : List (List ℕ)) (frame : Frame) → IsVectorOf format (raw width) image frames cells → BeginsImage (shape_of format (raw width)) image (frames ++ frame ∷ [])
-    → ((count : ℕ) → frame ≡ Fold count → HomesHold format (raw width) image frames count cells) → IsVectorOf format (raw width) image (frames ++ frame ∷ []) (after_frame width cells frame)
+pub IsVectorOf_frame : (format : Format) (width : ℕ) (image : List ℕ) (frames : List Frame) (cells : List (List ℕ))
+    (frame : Frame)
+    → IsVectorOf format (raw width) image frames cells
+    → BeginsImage (shape_of format (raw width)) image (frames ++ frame ∷ [])
+    → ((count : ℕ) → frame ≡ Fold count → HomesHold format (raw width) image frames count cells)
+    → IsVectorOf format (raw width) image (frames ++ frame ∷ []) (after_frame width cells frame)
 IsVectorOf_frame format width image frames cells (Group lengths bytes) read begins hold =
     let whole = (AreLegalFrom_last (shape_of format (raw width)) nothing frames (Group lengths bytes) begins.legal).0 in
     IsVectorOf_group format (raw width) image frames cells read lengths bytes (cells_in width (sum lengths) bytes) begins (AreRecords-cells_in width (sum lengths) bytes whole.layout.2)
@@ -55,11 +61,15 @@ IsVectorOf_frame format width image frames cells (Fold count) read begins hold =
 -- ---- records and their bytes
 
 -- the same places say both
-place_told : {R : Type 0} (form : Encoding R) (image : List ℕ) (place : Option ℕ) → option_and_then (record_in form image) place ≡ option_and_then form.value_of (option_and_then (record_in (raw form.width) image) place)
+place_told : {R : Type 0} (form : Encoding R) (image : List ℕ) (place : Option ℕ)
+    → option_and_then (record_in form image) place ≡ option_and_then form.value_of (option_and_then (record_in (raw form.width) image) place)
 place_told form image None = refl
 place_told form image (Some place) = refl
 
-pub IsVectorOf_typed : {R : Type 0} (format : Format) (form : Encoding R) (image : List ℕ) (frames : List Frame) (cells : List (List ℕ)) (records : List R) → IsVectorOf format (raw form.width) image frames cells → AreReadAs form cells records
+pub IsVectorOf_typed : {R : Type 0} (format : Format) (form : Encoding R) (image : List ℕ) (frames : List Frame)
+    (cells : List (List ℕ)) (records : List R)
+    → IsVectorOf format (raw form.width) image frames cells
+    → AreReadAs form cells records
     → IsVectorOf format form image frames records
 IsVectorOf_typed format form image frames cells records read are = record {
   size = sym are.size ∙ read.size;
@@ -73,7 +83,10 @@ some_at (x ∷ xs) zero lt = (x, refl)
 some_at (x ∷ xs) (suc i) lt = some_at xs i (omega arith)
 
 -- what is read of bytes is written as them, so what an image says as records it says as their bytes
-pub IsVectorOf_raw : {R : Type 0} (format : Format) (form : Encoding R) (image : List ℕ) (frames : List Frame) (records : List R) → WritesBack form → IsBytes image → BeginsImage (shape_of format form) image frames → IsVectorOf format form image frames records
+pub IsVectorOf_raw : {R : Type 0} (format : Format) (form : Encoding R) (image : List ℕ) (frames : List Frame)
+    (records : List R)
+    → WritesBack form → IsBytes image → BeginsImage (shape_of format form) image frames
+    → IsVectorOf format form image frames records
     → IsVectorOf format (raw form.width) image frames (map form.bytes_of records)
 IsVectorOf_raw {R} format form image frames records back fits begins read = record {
   size = length-map records form.bytes_of ∙ read.size;
@@ -83,7 +96,10 @@ IsVectorOf_raw {R} format form image frames records back fits begins read = reco
     shape : Shape
     shape = shape_of format form
 
-    at : (i : ℕ) (o : Option ℕ) → (r : R) × (slice_get records i ≡ Some r) → place_of shape frames i ≡ o → record_at format form image frames i ≡ slice_get records i → option_and_then (record_in (raw form.width) image) (place_of shape frames i) ≡ slice_get (map form.bytes_of records) i
+    at : (i : ℕ) (o : Option ℕ)
+        → (r : R) × (slice_get records i ≡ Some r) → place_of shape frames i ≡ o
+        → record_at format form image frames i ≡ slice_get records i
+        → option_and_then (record_in (raw form.width) image) (place_of shape frames i) ≡ slice_get (map form.bytes_of records) i
     at i None one is told =
         let none : Some one.0 ≡ None = sym one.1 ∙ sym told ∙ ap (option_and_then (record_in form image)) is in
         absurd cc

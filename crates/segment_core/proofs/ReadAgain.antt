@@ -23,7 +23,10 @@ use Rattle.segment_core.proofs.Written.{sum-lengths, length-group_frame, long_gr
 
 -- ---- a group's frame keeps the rules
 
-are_lengths : {R : Type 0} (width limit : ℕ) (growths : List (List R)) → 1 ≤ width → AllByRecursion (λ growth. 0 < length growth) growths → length (joined growths) * width ≤ limit → limit < 2 ^ 32 → AllByRecursion IsLength (map length growths)
+are_lengths : {R : Type 0} (width limit : ℕ) (growths : List (List R))
+    → 1 ≤ width → AllByRecursion (λ growth. 0 < length growth) growths → length (joined growths) * width ≤ limit
+    → limit < 2 ^ 32
+    → AllByRecursion IsLength (map length growths)
 are_lengths width limit [] wide some fits small = tt
 are_lengths width limit (growth ∷ growths) wide some fits small =
     let all = length-append growth (joined growths) in
@@ -31,7 +34,10 @@ are_lengths width limit (growth ∷ growths) wide some fits small =
     let long = long_growth width (length growth) wide in
     ((some.0, omega arith), are_lengths width limit growths wide some.1 (omega arith) small)
 
-pub is_frame : {R : Type 0} (format : Format) (form : Encoding R) (growths : List (List R)) → 1 ≤ form.width → ((r : R) → length (form.bytes_of r) ≡ form.width) → 0 < length growths → AllByRecursion (λ growth. 0 < length growth) growths → payload_len form.width growths ≤ limit_of format
+pub is_frame : {R : Type 0} (format : Format) (form : Encoding R) (growths : List (List R))
+    → 1 ≤ form.width → ((r : R) → length (form.bytes_of r) ≡ form.width) → 0 < length growths
+    → AllByRecursion (λ growth. 0 < length growth) growths
+    → payload_len form.width growths ≤ limit_of format
     → IsFrame (shape_of format form) (group_frame form growths)
 is_frame format form growths wide bytes some each fits =
     let limit = limit_small format in
@@ -39,7 +45,11 @@ is_frame format form growths wide bytes some each fits =
     record {
       wide = wide;
       small = let n = length-group_frame format form growths bytes in omega arith;
-      layout = (omega arith, are_lengths form.width (limit_of format) growths wide each (omega arith) (omega arith), length-flat_map_bytes form (joined growths) bytes ∙ ap (λ n. n * form.width) (sum-lengths growths));
+      layout = (
+        omega arith,
+        are_lengths form.width (limit_of format) growths wide each (omega arith) (omega arith),
+        length-flat_map_bytes form (joined growths) bytes ∙ ap (λ n. n * form.width) (sum-lengths growths),
+      );
     }
 
 pub may_follow : {R : Type 0} (form : Encoding R) (tally : Tally) (growths : List (List R)) → tally.size + length (joined growths) ≤ 2 ^ 32 → MayFollow tally (group_frame form growths)
@@ -53,9 +63,16 @@ AreReadAgain_first : {R : Type 0} (form : Encoding R) (a b : List R) → AreRead
 AreReadAgain_first form [] b again = (tt, again)
 AreReadAgain_first form (r ∷ a) b again = let more = AreReadAgain_first form a b again.1 in ((again.0, more.0), more.1)
 
-reads_groups : {R : Type 0} (format : Format) (form : Encoding R) (image rest : List ℕ) (frames : List Frame) (records : List R) (groups : List (List (List R))) → 1 ≤ form.width → ((r : R) → length (form.bytes_of r) ≡ form.width)
-    → AreFilled groups → AllByRecursion (λ group. payload_len form.width group ≤ limit_of format) groups → AreReadAgain form (all_records groups) → length records + length (all_records groups) ≤ 2 ^ 32
-    → AreLegal (shape_of format form) frames → IsVectorOf format form image frames records → image ≡ text (shape_of format form) frames ++ (flat_map (frame_text format) (map (group_frame form) groups) ++ rest)
+reads_groups : {R : Type 0} (format : Format) (form : Encoding R) (image rest : List ℕ) (frames : List Frame)
+    (records : List R) (groups : List (List (List R)))
+    → 1 ≤ form.width
+    → ((r : R) → length (form.bytes_of r) ≡ form.width)
+    → AreFilled groups
+    → AllByRecursion (λ group. payload_len form.width group ≤ limit_of format) groups
+    → AreReadAgain form (all_records groups)
+    → length records + length (all_records groups) ≤ 2 ^ 32
+    → AreLegal (shape_of format form) frames → IsVectorOf format form image frames records
+    → image ≡ text (shape_of format form) frames ++ (flat_map (frame_text format) (map (group_frame form) groups) ++ rest)
     → AreLegal (shape_of format form) (frames ++ map (group_frame form) groups) × IsVectorOf format form image (frames ++ map (group_frame form) groups) (records ++ all_records groups)
 reads_groups {R} format form image rest frames records [] wide bytes filled fit again small legal read is = (
   subst (λ fs. AreLegal (shape_of format form) fs) (sym (append-nil frames)) legal,
@@ -70,10 +87,18 @@ reads_groups {R} format form image rest frames records (group ∷ groups) wide b
     let all = length-append (joined group) (all_records groups) in
     let so_far = length-append records (joined group) in
     let size = read.size in
-    let here : image ≡ text shape frames ++ (frame_text format frame ++ behind) = is ∙ ap (λ (bs : List ℕ). text shape frames ++ bs) (append_assoc (frame_text format frame) (flat_map (frame_text format) others) rest) in
+    let here : image ≡ text shape frames ++ (frame_text format frame ++ behind)
+    = is
+    ∙ ap (λ (bs : List ℕ). text shape frames ++ bs) (append_assoc (frame_text format frame) (flat_map (frame_text format) others) rest) in
     let begins = Begins_push shape image frames frame behind legal (is_frame format form group wide bytes filled.0.0 filled.0.1 fit.0) (may_follow form (tally_of frames) group (omega arith)) here in
-    let told = IsVectorOf_group format form image frames records read (map length group) (flat_map form.bytes_of (joined group)) (joined group) begins (AreRecords_written form (joined group) bytes parts.0) in
-    let next : image ≡ text shape (frames ++ frame ∷ []) ++ behind = here ∙ sym (append_assoc (text shape frames) (frame_text format frame) behind) ∙ ap (λ (bs : List ℕ). bs ++ behind) (sym (text_push shape frames frame)) in
+    let told =
+    IsVectorOf_group format form image frames records read (map length group)
+    (flat_map form.bytes_of (joined group)) (joined group) begins
+    (AreRecords_written form (joined group) bytes parts.0) in
+    let next : image ≡ text shape (frames ++ frame ∷ []) ++ behind
+    = here
+    ∙ sym (append_assoc (text shape frames) (frame_text format frame) behind)
+    ∙ ap (λ (bs : List ℕ). bs ++ behind) (sym (text_push shape frames frame)) in
     let more = reads_groups format form image rest (frames ++ frame ∷ []) (records ++ joined group) groups wide bytes filled.1 fit.1 parts.1 (omega arith) begins.legal told next in
     let one_by_one = append_assoc frames (frame ∷ []) others in (
       subst (λ fs. AreLegal shape fs) one_by_one more.0,
@@ -81,13 +106,20 @@ reads_groups {R} format form image rest frames records (group ∷ groups) wide b
           (subst (λ (rs : List R). IsVectorOf format form image ((frames ++ frame ∷ []) ++ others) rs) (append_assoc records (joined group) (all_records groups)) more.1),
     )
 
-pub has_vector : {R : Type 0} (form : Encoding R) (file : List ℕ) (groups : List (List (List R))) → 1 ≤ form.width → ((r : R) → length (form.bytes_of r) ≡ form.width) → AreFilled groups → AllFit form.width groups
-    → file ≡ file_of form groups → AreReadAgain form (all_records groups) → length (all_records groups) ≤ 2 ^ 32 → HasVector One form file (map (group_frame form) groups) (all_records groups)
+pub has_vector : {R : Type 0} (form : Encoding R) (file : List ℕ) (groups : List (List (List R)))
+    → 1 ≤ form.width → ((r : R) → length (form.bytes_of r) ≡ form.width) → AreFilled groups
+    → AllFit form.width groups
+    → file ≡ file_of form groups
+    → AreReadAgain form (all_records groups) → length (all_records groups) ≤ 2 ^ 32
+    → HasVector One form file (map (group_frame form) groups) (all_records groups)
 has_vector {R} form file groups wide bytes filled fit is again small =
     let shape : Shape = shape_of One form in
     let behind : List ℕ = flat_map (frame_text One) (map (group_frame form) groups) in
     let none : List R = [] in
-    let start : file ≡ text shape [] ++ (behind ++ 0 ∷ []) = is ∙ append_assoc (header shape) behind (0 ∷ []) ∙ ap (λ (bs : List ℕ). bs ++ (behind ++ 0 ∷ [])) (sym (append-nil (header shape))) in
+    let start : file ≡ text shape [] ++ (behind ++ 0 ∷ [])
+    = is
+    ∙ append_assoc (header shape) behind (0 ∷ [])
+    ∙ ap (λ (bs : List ℕ). bs ++ (behind ++ 0 ∷ [])) (sym (append-nil (header shape))) in
     let told = reads_groups One form file (0 ∷ []) [] none groups wide bytes filled fit again (omega arith) tt (record { size = refl; each = λ i lt. absurd (omega arith) }) start in
     record {
       framed = record { legal = told.0; closed = (0, [], λ (one : 0 ≡ 1). absurd (omega arith), is) };

@@ -17,7 +17,9 @@ use Rattle.segment_core.proofs.OneVector.{same_items}
 use Rattle.segment_core.proofs.Written.{sum-lengths, AreReadAgain-append}
 
 -- the records of bytes that were written of them
-pub cells_in-flat_map_bytes : {R : Type 0} (form : Encoding R) (records : List R) → ((r : R) → length (form.bytes_of r) ≡ form.width) → cells_in form.width (length records) (flat_map form.bytes_of records) ≡ map form.bytes_of records
+pub cells_in-flat_map_bytes : {R : Type 0} (form : Encoding R) (records : List R)
+    → ((r : R) → length (form.bytes_of r) ≡ form.width)
+    → cells_in form.width (length records) (flat_map form.bytes_of records) ≡ map form.bytes_of records
 cells_in-flat_map_bytes form [] size_of = refl
 cells_in-flat_map_bytes form (r ∷ records) size_of =
     let here : List ℕ = form.bytes_of r in
@@ -76,25 +78,44 @@ module _ {R : Type 0} (form : Encoding R) where
   AreCellsOf-drop n cells records are = record { written = ap (drop n) are.written ∙ drop-map form.bytes_of n records; read_again = AreReadAgain-drop n records are.read_again }
 
   -- records that are replaced by others
-  pub AreCellsOf-replaced : (cells : List (List ℕ)) (runs : List Run) (written : List (List ℕ)) (records new : List R) → AreCellsOf form cells records → AreCellsOf form written new → AreCellsOf form (replaced cells runs written) (replaced records runs new)
+  pub AreCellsOf-replaced : (cells : List (List ℕ)) (runs : List Run) (written : List (List ℕ)) (records new : List R)
+      → AreCellsOf form cells records → AreCellsOf form written new
+      → AreCellsOf form (replaced cells runs written) (replaced records runs new)
   AreCellsOf-replaced cells [] written records new are are_new = are
   AreCellsOf-replaced cells (run ∷ runs) written records new are are_new =
       let end : ℕ = run.start + run.count in
-      let front = AreCellsOf-append (take run.start cells) (take run.count written) (take run.start records) (take run.count new) (AreCellsOf-take run.start cells records are) (AreCellsOf-take run.count written new are_new) in
-      let whole = AreCellsOf-append (take run.start cells ++ take run.count written) (drop end cells) (take run.start records ++ take run.count new) (drop end records) front (AreCellsOf-drop end cells records are) in
-      AreCellsOf-replaced (take run.start cells ++ take run.count written ++ drop end cells) runs (drop run.count written) (take run.start records ++ take run.count new ++ drop end records) (drop run.count new) whole (AreCellsOf-drop run.count written new are_new)
+      let front =
+      AreCellsOf-append (take run.start cells) (take run.count written) (take run.start records)
+      (take run.count new) (AreCellsOf-take run.start cells records are)
+      (AreCellsOf-take run.count written new are_new) in
+      let whole =
+      AreCellsOf-append (take run.start cells ++ take run.count written) (drop end cells)
+      (take run.start records ++ take run.count new) (drop end records) front
+      (AreCellsOf-drop end cells records are) in
+      AreCellsOf-replaced (take run.start cells ++ take run.count written ++ drop end cells) runs
+      (drop run.count written) (take run.start records ++ take run.count new ++ drop end records)
+      (drop run.count new) whole (AreCellsOf-drop run.count written new are_new)
 
   -- ---- the vector behind a frame
 
-  pub AreCellsOf_group : (width : ℕ) (cells : List (List ℕ)) (records : List R) (growths : List (List R)) → form.width ≡ width → ((r : R) → length (form.bytes_of r) ≡ form.width) → AreReadAgain form (joined growths)
+  pub AreCellsOf_group : (width : ℕ) (cells : List (List ℕ)) (records : List R) (growths : List (List R))
+      → form.width ≡ width → ((r : R) → length (form.bytes_of r) ≡ form.width)
+      → AreReadAgain form (joined growths)
       → AreCellsOf form cells records → AreCellsOf form (after_frame width cells (group_frame form growths)) (records ++ joined growths)
   AreCellsOf_group width cells records growths same size_of again are =
       let bytes : List ℕ = flat_map form.bytes_of (joined growths) in
-      let written = ap (λ w. cells_in w (sum (map length growths)) bytes) (sym same) ∙ ap (λ n. cells_in form.width n bytes) (sym (sum-lengths growths)) ∙ cells_in-flat_map_bytes form (joined growths) size_of in
+      let written =
+      ap (λ w. cells_in w (sum (map length growths)) bytes) (sym same)
+      ∙ ap (λ n. cells_in form.width n bytes) (sym (sum-lengths growths))
+      ∙ cells_in-flat_map_bytes form (joined growths) size_of in
       subst (λ (cs : List (List ℕ)). AreCellsOf form (cells ++ cs) (records ++ joined growths)) (sym written)
       (AreCellsOf-append cells (map form.bytes_of (joined growths)) records (joined growths) are (AreCellsOf_written (joined growths) again))
 
-  pub AreCellsOf_change : (width : ℕ) (cells : List (List ℕ)) (records : List R) (runs : List Run) (pieces : List (List R)) → form.width ≡ width → ((r : R) → length (form.bytes_of r) ≡ form.width) → length (joined pieces) ≡ records_of_runs runs → AreReadAgain form (joined pieces)
+  pub AreCellsOf_change : (width : ℕ) (cells : List (List ℕ)) (records : List R) (runs : List Run)
+      (pieces : List (List R))
+      → form.width ≡ width → ((r : R) → length (form.bytes_of r) ≡ form.width)
+      → length (joined pieces) ≡ records_of_runs runs
+      → AreReadAgain form (joined pieces)
       → AreCellsOf form cells records → AreCellsOf form (after_frame width cells (change_frame form runs pieces)) (replaced records runs (joined pieces))
   AreCellsOf_change width cells records runs pieces same size_of filled again are =
       let bytes : List ℕ = flat_map form.bytes_of (joined pieces) in

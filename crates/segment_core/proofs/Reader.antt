@@ -4,8 +4,8 @@ use Rattle.std.specs.Prelude.{slice_get, sum, MatchOption}
 use Rattle.std.specs.List.{flat_map}
 use Rattle.std.specs.Int.{w32, to_le_bytes}
 use Rattle.std.proofs.lemmas.List.{append-nil, drop_at, length-append}
-use Rattle.segment_core.specs.declared.frame.Unread.{Unread}
-use Rattle.segment_core.specs.declared.frame.Unread.TheVariants.{Short, Fault}
+use Rattle.segment_core.specs.declared.frame_head.Unread.{Unread}
+use Rattle.segment_core.specs.declared.frame_head.Unread.TheVariants.{Short, Fault}
 use Rattle.segment_core.specs.declared.format.Format.{Format}
 use Rattle.segment_core.specs.declared.format.Format.TheVariants.{One, Two}
 use Rattle.segment_core.specs.declared.format.Shape.{Shape}
@@ -29,7 +29,9 @@ none_behind_closed shape bytes frame closed begins =
     absurd cc
 
 -- nor where a line of the table holds
-pub none_where_faulty : (shape : Shape) (p : ℕ) (bytes : List ℕ) (frame : Frame) (fault : ScanFault) → first_line (frame_lines shape p bytes) ≡ Some fault → BeginsWith shape bytes frame → ⊥
+pub none_where_faulty : (shape : Shape) (p : ℕ) (bytes : List ℕ) (frame : Frame) (fault : ScanFault)
+    → first_line (frame_lines shape p bytes) ≡ Some fault → BeginsWith shape bytes frame
+    → ⊥
 none_where_faulty shape p bytes frame fault some begins =
     let clash : Some fault ≡ None = sym some ∙ ap (λ bs. first_line (frame_lines shape p bs)) begins.text.1 ∙ frame_lines-frame_text shape p frame begins.text.0 begins.whole in
     absurd cc
@@ -63,10 +65,14 @@ behind_head format (Change runs bytes) = drop_at (runs_text format runs) bytes (
 behind_head format (Shrink n) = refl
 behind_head format (Fold count) = refl
 
-pub area_read : (at : ℕ) (shape : Shape) (heads records : ℕ) (payload : List ℕ) (frame : Frame) → IsRead at shape heads records payload frame → drop (head_len shape.format frame) payload ≡ record_bytes_of frame
+pub area_read : (at : ℕ) (shape : Shape) (heads records : ℕ) (payload : List ℕ) (frame : Frame)
+    → IsRead at shape heads records payload frame
+    → drop (head_len shape.format frame) payload ≡ record_bytes_of frame
 area_read at shape heads records payload frame read = ap (drop (head_len shape.format frame)) (sym read.spelled) ∙ behind_head shape.format frame
 
-pub length_read : (shape : Shape) (payload : List ℕ) (kind : FrameKind) (k : ℕ) → k < length (lengths_of (frame_in shape (kind_byte kind) payload)) → u32_at payload (4 + k * 4) ≡ get_or (lengths_of (frame_in shape (kind_byte kind) payload)) k 0
+pub length_read : (shape : Shape) (payload : List ℕ) (kind : FrameKind) (k : ℕ)
+    → k < length (lengths_of (frame_in shape (kind_byte kind) payload))
+    → u32_at payload (4 + k * 4) ≡ get_or (lengths_of (frame_in shape (kind_byte kind) payload)) k 0
 length_read shape payload kinds.Group k lt =
     let count = heads_of_group shape payload in
     sym (u32_at-drop payload 4 (k * 4)) ∙ sym (get_or-numbers_in (count_in payload) (drop 4 payload) k (omega arith))
@@ -104,13 +110,23 @@ is_run_of at shape heads records payload kinds.Fold k read lt = absurd (omega ar
 -- what is counted of a payload of this kind, if it has the form of one
 abbrev pub CountsAre : Shape → List ℕ → Option (ℕ × ℕ) → FrameKind → Type 0
 CountsAre shape payload counts kind = MatchOption counts (is_layout shape (kind_byte kind) payload ≡ false)
-    (λ c. (is_layout shape (kind_byte kind) payload ≡ true) × (c.0 ≡ length (lengths_of (frame_in shape (kind_byte kind) payload)) + length (runs_of (frame_in shape (kind_byte kind) payload))) × (c.1 ≡ record_count (frame_in shape (kind_byte kind) payload)))
+    (λ c.
+    (is_layout shape (kind_byte kind) payload ≡ true)
+    × (c.0 ≡ length (lengths_of (frame_in shape (kind_byte kind) payload)) + length (runs_of (frame_in shape (kind_byte kind) payload)))
+    × (c.1 ≡ record_count (frame_in shape (kind_byte kind) payload)))
 
-group_counted : (shape : Shape) (payload : List ℕ) (counts : Option (ℕ × ℕ)) → MatchOption counts (is_group_layout shape.width payload ≡ false) (λ c. (is_group_layout shape.width payload ≡ true) × (c.0 ≡ count_in payload) × (c.1 ≡ sum (lengths_in payload))) → CountsAre shape payload counts kinds.Group
+group_counted : (shape : Shape) (payload : List ℕ) (counts : Option (ℕ × ℕ))
+    → MatchOption counts (is_group_layout shape.width payload ≡ false)
+    (λ c. (is_group_layout shape.width payload ≡ true) × (c.0 ≡ count_in payload) × (c.1 ≡ sum (lengths_in payload)))
+    → CountsAre shape payload counts kinds.Group
 group_counted shape payload None m = m
 group_counted shape payload (Some c) m = (m.0, (let n = m.1 in let h = heads_of_group shape payload in omega arith), m.2)
 
-pub counted_of_group : (shape : Shape) (payload : List ℕ) (counts : Option (ℕ × ℕ)) (kind : FrameKind) → kind ≡ kinds.Group → MatchOption counts (is_group_layout shape.width payload ≡ false) (λ c. (is_group_layout shape.width payload ≡ true) × (c.0 ≡ count_in payload) × (c.1 ≡ sum (lengths_in payload))) → CountsAre shape payload counts kind
+pub counted_of_group : (shape : Shape) (payload : List ℕ) (counts : Option (ℕ × ℕ)) (kind : FrameKind)
+    → kind ≡ kinds.Group
+    → MatchOption counts (is_group_layout shape.width payload ≡ false)
+    (λ c. (is_group_layout shape.width payload ≡ true) × (c.0 ≡ count_in payload) × (c.1 ≡ sum (lengths_in payload)))
+    → CountsAre shape payload counts kind
 counted_of_group shape payload counts kind is m = subst (CountsAre shape payload counts) (sym is) (group_counted shape payload counts m)
 
 -- ---- formats by their versions

@@ -27,37 +27,58 @@ pub refused_by_header : {R : Type 0} (form : Encoding R) (image : List ℕ) (fau
 refused_by_header form image fault some =
     inl (at_some (header_fault form.width image) fault (IsFrameFault (format_in image) form image fault) (λ first. fault ≡ first) some refl)
 
-refused_at : {R : Type 0} (form : Encoding R) (format : Format) (image : List ℕ) (fault : ScanFault) → IsSound form.width format image → IsFrameFault format form image fault → IsRefused form image fault
+refused_at : {R : Type 0} (form : Encoding R) (format : Format) (image : List ℕ) (fault : ScanFault)
+    → IsSound form.width format image → IsFrameFault format form image fault
+    → IsRefused form image fault
 refused_at form format image fault sound found =
-    inl (at_none (header_fault form.width image) (IsFrameFault (format_in image) form image fault) (λ first. fault ≡ first) sound.no_fault (subst (λ f. IsFrameFault f form image fault) (sym sound.names) found))
+    inl
+    (at_none (header_fault form.width image) (IsFrameFault (format_in image) form image fault)
+    (λ first. fault ≡ first) sound.no_fault
+    (subst (λ f. IsFrameFault f form image fault) (sym sound.names) found))
 
-pub refused_by_frame : {R : Type 0} (form : Encoding R) (format : Format) (image : List ℕ) (frames : List Frame) (fault : ScanFault) → IsSound form.width format image → IsLongest (shape_of format form) image frames
-    → frame_fault (shape_of format form) (length (text (shape_of format form) frames)) (tally_of frames) (drop (length (text (shape_of format form) frames)) image) ≡ Some fault → IsRefused form image fault
+pub refused_by_frame : {R : Type 0} (form : Encoding R) (format : Format) (image : List ℕ) (frames : List Frame)
+    (fault : ScanFault)
+    → IsSound form.width format image
+    → IsLongest (shape_of format form) image frames
+    → frame_fault (shape_of format form) (length (text (shape_of format form) frames)) (tally_of frames) (drop (length (text (shape_of format form) frames)) image) ≡ Some fault
+    → IsRefused form image fault
 refused_by_frame form format image frames fault sound longest some =
     refused_at form format image fault sound (frames, longest, at_some _ fault (IsBadRecord format form image frames fault) (λ first. fault ≡ first) some refl)
 
-pub refused_for_memory : {R : Type 0} (form : Encoding R) (format : Format) (image : List ℕ) (fault : ScanFault) → IsSound form.width format image → fault ≡ Memory → IsRefused form image fault
+pub refused_for_memory : {R : Type 0} (form : Encoding R) (format : Format) (image : List ℕ) (fault : ScanFault)
+    → IsSound form.width format image → fault ≡ Memory
+    → IsRefused form image fault
 refused_for_memory form format image fault sound memory = inr (memory, sound.no_fault)
 
 -- the gate that ends the frames
 pub ends_closed : (shape : Shape) (image : List ℕ) (frames : List Frame) → HasFrames shape image frames → is_closed (drop (length (text shape frames)) image) ≡ true
 ends_closed shape image frames has =
     let gate = has.closed in
-    let left : drop (length (text shape frames)) image ≡ gate.0 ∷ gate.1 = ap (drop (length (text shape frames))) gate.3 ∙ drop_at (text shape frames) (gate.0 ∷ gate.1) (length (text shape frames)) refl in
+    let left : drop (length (text shape frames)) image ≡ gate.0 ∷ gate.1
+    = ap (drop (length (text shape frames))) gate.3
+    ∙ drop_at (text shape frames) (gate.0 ∷ gate.1) (length (text shape frames)) refl in
     let some : nat_lt 0 (length (gate.0 ∷ gate.1)) ≡ true = lt-ltb 0 (length (gate.0 ∷ gate.1)) (omega arith) in
     ap is_closed left ∙ true_both _ _ some (ap not (ne_eqb gate.0 1 gate.2))
 
 pub longest_closed : (shape : Shape) (image : List ℕ) (frames : List Frame) → HasFrames shape image frames → IsLongest shape image frames
 longest_closed shape image frames has =
     let gate = has.closed in
-    let left : drop (length (text shape frames)) image ≡ gate.0 ∷ gate.1 = ap (drop (length (text shape frames))) gate.3 ∙ drop_at (text shape frames) (gate.0 ∷ gate.1) (length (text shape frames)) refl in
+    let left : drop (length (text shape frames)) image ≡ gate.0 ∷ gate.1
+    = ap (drop (length (text shape frames))) gate.3
+    ∙ drop_at (text shape frames) (gate.0 ∷ gate.1) (length (text shape frames)) refl in
     is_longest shape frames image (gate.0 ∷ gate.1) has.legal gate.3 (NoFrame_closed shape (tally_of frames) (gate.0 ∷ gate.1) (ap is_closed (sym left) ∙ ends_closed shape image frames has))
 
-pub refused_by_record : {R : Type 0} (form : Encoding R) (format : Format) (image : List ℕ) (frames : List Frame) (fault : ScanFault) → IsSound form.width format image → HasFrames (shape_of format form) image frames → IsBadRecord format form image frames fault → IsRefused form image fault
+pub refused_by_record : {R : Type 0} (form : Encoding R) (format : Format) (image : List ℕ) (frames : List Frame)
+    (fault : ScanFault)
+    → IsSound form.width format image → HasFrames (shape_of format form) image frames
+    → IsBadRecord format form image frames fault
+    → IsRefused form image fault
 refused_by_record form format image frames fault sound has bad =
     let shape : Shape = shape_of format form in
     refused_at form format image fault sound (
       frames,
       longest_closed shape image frames has,
-      at_none _ (IsBadRecord format form image frames fault) (λ first. fault ≡ first) (frame_fault_closed shape (length (text shape frames)) (tally_of frames) (drop (length (text shape frames)) image) (ends_closed shape image frames has)) bad,
+      at_none _ (IsBadRecord format form image frames fault) (λ first. fault ≡ first)
+          (frame_fault_closed shape (length (text shape frames)) (tally_of frames) (drop (length (text shape frames)) image) (ends_closed shape image frames has))
+          bad,
     )

@@ -54,7 +54,9 @@ module _ {R : Type 0} (records new : List R) (start count : ℕ) (inside : start
   pub spliced_inside : (i : ℕ) → start ≤ i → i < start + count → slice_get spliced i ≡ slice_get new (i - start)
   spliced_inside i from before =
       slice_get-append_left (take start records ++ take count new) (drop (start + count) records) i (omega (arith, length-two))
-      ∙ slice_get-append_right (take start records) (take count new) i (omega (arith, length-front)) ∙ ap (λ n. slice_get (take count new) (i - n)) length-front ∙ slice_get-take count new (i - start) (omega arith)
+      ∙ slice_get-append_right (take start records) (take count new) i (omega (arith, length-front))
+      ∙ ap (λ n. slice_get (take count new) (i - n)) length-front
+      ∙ slice_get-take count new (i - start) (omega arith)
 
   pub spliced_past : (i : ℕ) → start + count ≤ i → slice_get spliced i ≡ slice_get records i
   spliced_past i past =
@@ -81,7 +83,9 @@ record Splits {R : Type 0} (records : List R) (run : Run) (runs : List Run) (new
   rest_inside : are_inside (length (take run.start records ++ take run.count new ++ drop (run.start + run.count) records)) runs ≡ true
   rest_filled : length (drop run.count new) ≡ records_of_runs runs
 
-splits : {R : Type 0} (records : List R) (run : Run) (runs : List Run) (new : List R) → are_inside (length records) (run ∷ runs) ≡ true → length new ≡ records_of_runs (run ∷ runs) → Splits records run runs new
+splits : {R : Type 0} (records : List R) (run : Run) (runs : List Run) (new : List R)
+    → are_inside (length records) (run ∷ runs) ≡ true → length new ≡ records_of_runs (run ∷ runs)
+    → Splits records run runs new
 splits records run runs new inside filled =
     let both = and_parts (nat_le (run.start + run.count) (length records)) (are_inside (length records) runs) inside in
     let end = leb-true (run.start + run.count) (length records) both.0 in
@@ -95,13 +99,17 @@ splits records run runs new inside filled =
       rest_filled = omega (arith, length-drop run.count new);
     }
 
-pub length-replaced : {R : Type 0} (records : List R) (runs : List Run) (new : List R) → are_inside (length records) runs ≡ true → length new ≡ records_of_runs runs → length (replaced records runs new) ≡ length records
+pub length-replaced : {R : Type 0} (records : List R) (runs : List Run) (new : List R)
+    → are_inside (length records) runs ≡ true → length new ≡ records_of_runs runs
+    → length (replaced records runs new) ≡ length records
 length-replaced records [] new inside filled = refl
 length-replaced records (run ∷ runs) new inside filled =
     let s = splits records run runs new inside filled in
     length-replaced (take run.start records ++ take run.count new ++ drop (run.start + run.count) records) runs (drop run.count new) s.rest_inside s.rest_filled ∙ s.size
 
-pub replaced_kept : {R : Type 0} (width i p : ℕ) (records : List R) (runs : List Run) (new : List R) → are_inside (length records) runs ≡ true → length new ≡ records_of_runs runs → place_in_runs width i p runs ≡ None
+pub replaced_kept : {R : Type 0} (width i p : ℕ) (records : List R) (runs : List Run) (new : List R)
+    → are_inside (length records) runs ≡ true → length new ≡ records_of_runs runs
+    → place_in_runs width i p runs ≡ None
     → slice_get (replaced records runs new) i ≡ slice_get records i
 replaced_kept width i p records [] new inside filled none = refl
 replaced_kept width i p records (run ∷ runs) new inside filled none =
@@ -118,7 +126,9 @@ pub record IsNew {R : Type 0} (width p place : ℕ) (left new : List R) (i : ℕ
   pub at : place ≡ p + index * width
   pub same : slice_get left i ≡ slice_get new index
 
-pub replaced_told : {R : Type 0} (width i p : ℕ) (records : List R) (runs : List Run) (new : List R) (place : ℕ) → are_inside (length records) runs ≡ true → length new ≡ records_of_runs runs → place_in_runs width i p runs ≡ Some place
+pub replaced_told : {R : Type 0} (width i p : ℕ) (records : List R) (runs : List Run) (new : List R) (place : ℕ)
+    → are_inside (length records) runs ≡ true → length new ≡ records_of_runs runs
+    → place_in_runs width i p runs ≡ Some place
     → IsNew width p place (replaced records runs new) new i
 replaced_told width i p records [] new place inside filled is = absurd cc
 replaced_told {R} width i p records (run ∷ runs) new place inside filled is =
@@ -139,6 +149,8 @@ replaced_told {R} width i p records (run ∷ runs) new place inside filled is =
             index = i - run.start;
             inside = omega (arith, among.from, among.before, s.filled);
             at = among.at;
-            same = replaced_kept width i (p + run.count * width) next runs (drop run.count new) s.rest_inside s.rest_filled here.0 ∙ spliced_inside records new run.start run.count s.inside s.filled i among.from among.before;
+            same =
+                replaced_kept width i (p + run.count * width) next runs (drop run.count new) s.rest_inside s.rest_filled here.0
+                ∙ spliced_inside records new run.start run.count s.inside s.filled i among.from among.before;
           })
     ]

@@ -37,7 +37,9 @@ module _ (c w bytes q rest last : ℕ) (wide : 0 < w) (split : q * (14 + c * w) 
       omega arith
 
 -- the same of a shape, as the quotients and rests are computed
-module _ (shape : Shape) (w limit told behind rest : ℕ) (wide : 0 < w) (w_is : w ≡ shape.width) (limit_is : limit ≡ limit_of shape.format) (behind_is : behind ≡ told - 12) (rest_is : rest ≡ behind % (14 + (limit - 8) / w * w) - 14) where
+module _ (shape : Shape) (w limit told behind rest : ℕ) (wide : 0 < w) (w_is : w ≡ shape.width)
+    (limit_is : limit ≡ limit_of shape.format) (behind_is : behind ≡ told - 12)
+    (rest_is : rest ≡ behind % (14 + (limit - 8) / w * w) - 14) where
   abbrev c : ℕ
   c = (limit - 8) / w
 
@@ -54,4 +56,6 @@ module _ (shape : Shape) (w limit told behind rest : ℕ) (wide : 0 < w) (w_is :
 
   pub room_most : (n : ℕ) → CanHold shape told n → n ≤ behind / full * c + rest / w
   room_most n can =
-      most c w told (behind / full) (behind % full) (rest / w) wide (omega arith) (omega arith) n can.groups (omega arith) (subst (λ k. n ≤ can.groups * k) (sym c_is) can.in_groups) (subst (λ k. 12 + can.groups * 14 + n * k ≤ told) (sym w_is) can.in_bytes)
+      most c w told (behind / full) (behind % full) (rest / w) wide (omega arith) (omega arith) n can.groups
+      (omega arith) (subst (λ k. n ≤ can.groups * k) (sym c_is) can.in_groups)
+      (subst (λ k. 12 + can.groups * 14 + n * k ≤ told) (sym w_is) can.in_bytes)

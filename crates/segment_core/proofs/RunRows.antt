@@ -48,7 +48,9 @@ pub number_at-drop : (format : Format) (given : ℕ) (bytes : List ℕ) (n i : �
 number_at-drop One given bytes n i = refl
 number_at-drop Two given bytes n i = u32_at-drop bytes n i
 
-pub number_written : (format : Format) (given : ℕ) (bytes : List ℕ) → IsBytes bytes → number_len format ≤ length bytes → number_text format (number_at format given bytes 0) ≡ take (number_len format) bytes
+pub number_written : (format : Format) (given : ℕ) (bytes : List ℕ)
+    → IsBytes bytes → number_len format ≤ length bytes
+    → number_text format (number_at format given bytes 0) ≡ take (number_len format) bytes
 number_written One given bytes fits long = refl
 number_written Two given bytes fits long = u32_written bytes fits long
 
@@ -94,7 +96,9 @@ run_read-drop format filling bytes n i =
     let c : number_at format filling (drop n bytes) (i + 8) ≡ number_at format filling bytes (n + i + 8) = number_at-drop format filling bytes n (i + 8) ∙ ap (number_at format filling bytes) at in
     ap (λ (x : ℕ). record { start = x; count = number_at format filling (drop n bytes) (i + 8) }) s ∙ ap (λ (x : ℕ). record { start = u64_at bytes (n + i); count = x }) c
 
-pub slice_get-runs_from : (format : Format) (filling n : ℕ) (bytes : List ℕ) (k : ℕ) → k < n → slice_get (runs_from format filling n bytes) k ≡ Some (run_read format filling bytes (k * (8 + number_len format)))
+pub slice_get-runs_from : (format : Format) (filling n : ℕ) (bytes : List ℕ) (k : ℕ)
+    → k < n
+    → slice_get (runs_from format filling n bytes) k ≡ Some (run_read format filling bytes (k * (8 + number_len format)))
 slice_get-runs_from format filling zero bytes k lt = absurd (omega arith)
 slice_get-runs_from format filling (suc n) bytes zero lt =
     let none : 0 * (8 + number_len format) ≡ 0 = omega arith in
@@ -111,7 +115,9 @@ abbrev pub AreGiven : Format → ℕ → List Run → Type 0
 AreGiven One filling runs = AllByRecursion (λ run. run.count ≡ filling) runs
 AreGiven Two filling runs = Unit {0}
 
-given_first : (format : Format) (filling : ℕ) (run : Run) (runs : List Run) (rest : List ℕ) → AreGiven format filling (run ∷ runs) → run.count < 2 ^ 32 → number_at format filling (number_text format run.count ++ rest) 0 ≡ run.count
+given_first : (format : Format) (filling : ℕ) (run : Run) (runs : List Run) (rest : List ℕ)
+    → AreGiven format filling (run ∷ runs) → run.count < 2 ^ 32
+    → number_at format filling (number_text format run.count ++ rest) 0 ≡ run.count
 given_first One filling run runs rest given lt = sym given.0
 given_first Two filling run runs rest given lt = u32_at_first run.count rest lt
 
@@ -120,7 +126,9 @@ given_rest One filling run runs given = given.1
 given_rest Two filling run runs given = tt
 
 -- what was written is read again
-pub runs_from-written : (format : Format) (filling : ℕ) (runs : List Run) (rest : List ℕ) → AllByRecursion IsRun runs → AreGiven format filling runs → runs_from format filling (length runs) (flat_map (run_text format) runs ++ rest) ≡ runs
+pub runs_from-written : (format : Format) (filling : ℕ) (runs : List Run) (rest : List ℕ)
+    → AllByRecursion IsRun runs → AreGiven format filling runs
+    → runs_from format filling (length runs) (flat_map (run_text format) runs ++ rest) ≡ runs
 runs_from-written format filling [] rest each given = refl
 runs_from-written format filling (run ∷ runs) rest each given =
     let size : ℕ = 8 + number_len format in
@@ -132,14 +140,21 @@ runs_from-written format filling (run ∷ runs) rest each given =
     let split : all ≡ start ++ (count ++ (others ++ rest)) = behind ∙ append_assoc start count (others ++ rest) in
     let first : u64_at all 0 ≡ run.start = ap (λ (bs : List ℕ). u64_at bs 0) split ∙ u64_at_first run.start (count ++ (others ++ rest)) each.0.0 in
     let counted : number_at format filling all 8 ≡ run.count
-    = sym (number_at-drop format filling all 8 0) ∙ ap (λ (bs : List ℕ). number_at format filling (drop 8 bs) 0) split ∙ ap (λ (bs : List ℕ). number_at format filling bs 0) (drop_at start (count ++ (others ++ rest)) 8 refl) ∙ given_first format filling run runs (others ++ rest) given each.0.1.1 in
+    = sym (number_at-drop format filling all 8 0)
+    ∙ ap (λ (bs : List ℕ). number_at format filling (drop 8 bs) 0) split
+    ∙ ap (λ (bs : List ℕ). number_at format filling bs 0) (drop_at start (count ++ (others ++ rest)) 8 refl)
+    ∙ given_first format filling run runs (others ++ rest) given each.0.1.1 in
     let left : drop size all ≡ others ++ rest = ap (drop size) behind ∙ drop_at (run_text format run) (others ++ rest) size (length-run_text format run) in
-    let head : run_read format filling all 0 ≡ run = ap (λ (x : ℕ). record { start = x; count = number_at format filling all 8 }) first ∙ ap (λ (x : ℕ). record { start = run.start; count = x }) counted in
+    let head : run_read format filling all 0 ≡ run
+    = ap (λ (x : ℕ). record { start = x; count = number_at format filling all 8 }) first
+    ∙ ap (λ (x : ℕ). record { start = run.start; count = x }) counted in
     ap (λ (x : Run). x ∷ runs_from format filling (length runs) (drop size all)) head
     ∙ ap (λ (rs : List Run). run ∷ rs) (ap (runs_from format filling (length runs)) left ∙ runs_from-written format filling runs rest each.1 (given_rest format filling run runs given))
 
 -- what was read is written as it stood
-pub run_texts-runs_from : (format : Format) (filling n : ℕ) (bytes : List ℕ) → IsBytes bytes → n * (8 + number_len format) ≤ length bytes → flat_map (run_text format) (runs_from format filling n bytes) ++ drop (n * (8 + number_len format)) bytes ≡ bytes
+pub run_texts-runs_from : (format : Format) (filling n : ℕ) (bytes : List ℕ)
+    → IsBytes bytes → n * (8 + number_len format) ≤ length bytes
+    → flat_map (run_text format) (runs_from format filling n bytes) ++ drop (n * (8 + number_len format)) bytes ≡ bytes
 run_texts-runs_from format filling zero bytes fits long = let none : 0 * (8 + number_len format) ≡ 0 = omega arith in ap (λ k. drop k bytes) none
 run_texts-runs_from format filling (suc n) bytes fits long =
     let number : ℕ = number_len format in
@@ -150,10 +165,14 @@ run_texts-runs_from format filling (suc n) bytes fits long =
     let others = run_texts-runs_from format filling n (drop size bytes) (IsBytes-drop size bytes fits) (omega arith) in
     let texts : List ℕ = flat_map (run_text format) (runs_from format filling n (drop size bytes)) in
     let start : to_le_bytes w64 (u64_at bytes 0) ≡ take 8 bytes = u64_written bytes fits (omega arith) in
-    let count : number_text format (number_at format filling bytes 8) ≡ take number (drop 8 bytes) = ap (number_text format) (sym (number_at-drop format filling bytes 8 0)) ∙ number_written format filling (drop 8 bytes) (IsBytes-drop 8 bytes fits) (omega arith) in
+    let count : number_text format (number_at format filling bytes 8) ≡ take number (drop 8 bytes)
+    = ap (number_text format) (sym (number_at-drop format filling bytes 8 0))
+    ∙ number_written format filling (drop 8 bytes) (IsBytes-drop 8 bytes fits) (omega arith) in
     let behind : drop number (drop 8 bytes) ≡ drop size bytes = drop-drop number 8 bytes in
     append_assoc (to_le_bytes w64 (u64_at bytes 0) ++ number_text format (number_at format filling bytes 8)) texts (drop (suc n * size) bytes)
-    ∙ ap (λ (bs : List ℕ). (to_le_bytes w64 (u64_at bytes 0) ++ number_text format (number_at format filling bytes 8)) ++ (texts ++ bs)) (ap (λ k. drop k bytes) next ∙ sym (drop-drop (n * size) size bytes))
+    ∙ ap
+    (λ (bs : List ℕ). (to_le_bytes w64 (u64_at bytes 0) ++ number_text format (number_at format filling bytes 8)) ++ (texts ++ bs))
+    (ap (λ k. drop k bytes) next ∙ sym (drop-drop (n * size) size bytes))
     ∙ ap (λ (bs : List ℕ). (to_le_bytes w64 (u64_at bytes 0) ++ number_text format (number_at format filling bytes 8)) ++ bs) others
     ∙ append_assoc (to_le_bytes w64 (u64_at bytes 0)) (number_text format (number_at format filling bytes 8)) (drop size bytes)
     ∙ ap (λ (bs : List ℕ). bs ++ (number_text format (number_at format filling bytes 8) ++ drop size bytes)) start
@@ -164,12 +183,18 @@ run_texts-runs_from format filling (suc n) bytes fits long =
 
 -- ---- tests of all runs
 
-pub runs_positive : (format : Format) (filling n : ℕ) (bytes : List ℕ) → IsBytes bytes → filling < 2 ^ 32 → list_all (λ run. nat_lt 0 run.count) (runs_from format filling n bytes) ≡ true → AllByRecursion IsRun (runs_from format filling n bytes)
+pub runs_positive : (format : Format) (filling n : ℕ) (bytes : List ℕ)
+    → IsBytes bytes → filling < 2 ^ 32
+    → list_all (λ run. nat_lt 0 run.count) (runs_from format filling n bytes) ≡ true
+    → AllByRecursion IsRun (runs_from format filling n bytes)
 runs_positive format filling zero bytes fits small all = tt
 runs_positive format filling (suc n) bytes fits small all =
     let count : ℕ = number_at format filling bytes 8 in
-    let parts = both_true (nat_lt 0 count) (list_all (λ run. nat_lt 0 run.count) (runs_from format filling n (drop (8 + number_len format) bytes))) all in
-    ((u64_small bytes 0 fits, (ltb-true 0 count parts.0, number_small format filling bytes 8 fits small)), runs_positive format filling n (drop (8 + number_len format) bytes) (IsBytes-drop (8 + number_len format) bytes fits) small parts.1)
+    let parts = both_true (nat_lt 0 count) (list_all (λ run. nat_lt 0 run.count) (runs_from format filling n (drop (8 + number_len format) bytes))) all in (
+      (u64_small bytes 0 fits, (ltb-true 0 count parts.0, number_small format filling bytes 8 fits small)),
+      runs_positive format filling n (drop (8 + number_len format) bytes)
+          (IsBytes-drop (8 + number_len format) bytes fits) small parts.1,
+    )
 
 pub positive_runs : (runs : List Run) → AllByRecursion IsRun runs → list_all (λ run. nat_lt 0 run.count) runs ≡ true
 positive_runs [] each = refl

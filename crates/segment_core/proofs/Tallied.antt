@@ -57,18 +57,28 @@ pub finds_runs : (p : ℕ) (tally : Tally) (frame : Frame) → is_disordered fra
 unfolding order_lines
 finds_runs p tally frame a = first_line_at 0 (order_lines p tally frame) _ (a, refl)
 
-pub finds_range : (p : ℕ) (tally : Tally) (frame : Frame) → is_disordered frame ≡ false → is_outside tally frame ≡ true → first_line (order_lines p tally frame) ≡ Some (damaged (p + 6) Range)
+pub finds_range : (p : ℕ) (tally : Tally) (frame : Frame)
+    → is_disordered frame ≡ false → is_outside tally frame ≡ true
+    → first_line (order_lines p tally frame) ≡ Some (damaged (p + 6) Range)
 unfolding order_lines
 finds_range p tally frame a b = first_line_at 1 (order_lines p tally frame) _ (a, (b, refl))
 
-pub finds_unfolded : (p : ℕ) (tally : Tally) (frame : Frame) → is_disordered frame ≡ false → is_outside tally frame ≡ false → is_unfolded tally frame ≡ true → first_line (order_lines p tally frame) ≡ Some (damaged p Unfolded)
+pub finds_unfolded : (p : ℕ) (tally : Tally) (frame : Frame)
+    → is_disordered frame ≡ false → is_outside tally frame ≡ false → is_unfolded tally frame ≡ true
+    → first_line (order_lines p tally frame) ≡ Some (damaged p Unfolded)
 unfolding order_lines
 finds_unfolded p tally frame a b d = first_line_at 2 (order_lines p tally frame) _ (a, (b, (d, refl)))
 
-pub finds_fold_count : (p : ℕ) (tally : Tally) (frame : Frame) → is_disordered frame ≡ false → is_outside tally frame ≡ false → is_unfolded tally frame ≡ false → is_miscounted tally frame ≡ true → first_line (order_lines p tally frame) ≡ Some (damaged (p + 6) FoldCount)
+pub finds_fold_count : (p : ℕ) (tally : Tally) (frame : Frame)
+    → is_disordered frame ≡ false → is_outside tally frame ≡ false → is_unfolded tally frame ≡ false
+    → is_miscounted tally frame ≡ true
+    → first_line (order_lines p tally frame) ≡ Some (damaged (p + 6) FoldCount)
 unfolding order_lines
 finds_fold_count p tally frame a b d e = first_line_at 3 (order_lines p tally frame) _ (a, (b, (d, (e, refl))))
 
-pub finds_too_long : (p : ℕ) (tally : Tally) (frame : Frame) → is_disordered frame ≡ false → is_outside tally frame ≡ false → is_unfolded tally frame ≡ false → is_miscounted tally frame ≡ false → is_too_long tally frame ≡ true → first_line (order_lines p tally frame) ≡ Some (damaged (p + 6) TooLong)
+pub finds_too_long : (p : ℕ) (tally : Tally) (frame : Frame)
+    → is_disordered frame ≡ false → is_outside tally frame ≡ false → is_unfolded tally frame ≡ false
+    → is_miscounted tally frame ≡ false → is_too_long tally frame ≡ true
+    → first_line (order_lines p tally frame) ≡ Some (damaged (p + 6) TooLong)
 unfolding order_lines
 finds_too_long p tally frame a b d e f = first_line_at 4 (order_lines p tally frame) _ (a, (b, (d, (e, (f, refl)))))

@@ -51,7 +51,15 @@ of_some a b same = cc
 -- ---- frames, and the vector
 
 grown_legal : AreLegal one grown
-grown_legal = (record { wide = omega arith; small = omega arith; layout = (omega arith, ((omega arith, omega arith), tt), refl) }, record { ordered = refl; inside = refl; folded = refl; counted = refl; short = refl }, tt)
+grown_legal = (
+  record {
+    wide = omega arith;
+    small = omega arith;
+    layout = (omega arith, ((omega arith, omega arith), tt), refl);
+  },
+  record { ordered = refl; inside = refl; folded = refl; counted = refl; short = refl },
+  tt,
+)
 
 pub changed_legal : AreLegal one changed
 changed_legal = (
@@ -121,7 +129,15 @@ changed_scan scanned = (
 )
 
 -- in numbers
-changed_told : (scanned : Scanned ℕ) → IsScanOf numbers changed_file scanned → (scanned.records.items ≡ 7 ∷ []) × (scanned.version ≡ 1) × (scanned.width ≡ 8) × (scanned.frames ≡ 2) × (scanned.changes ≡ 1) × (scanned.folded ≡ 0) × (scanned.gate ≡ 55)
+changed_told : (scanned : Scanned ℕ)
+    → IsScanOf numbers changed_file scanned
+    → (scanned.records.items ≡ 7 ∷ [])
+    × (scanned.version ≡ 1)
+    × (scanned.width ≡ 8)
+    × (scanned.frames ≡ 2)
+    × (scanned.changes ≡ 1)
+    × (scanned.folded ≡ 0)
+    × (scanned.gate ≡ 55)
 changed_told scanned scan = let tells = (changed_scan scanned).1 scan in (tells.records_are, tells.version_is, tells.width_is, tells.frames_are, tells.changes_are, tells.folded_is, tells.gate_is)
 
 -- ---- the first fault
@@ -135,7 +151,11 @@ gate_fault : (fault : ScanFault) → IsFirstFault numbers (text one changed) fau
 gate_fault fault = (λ is. one_fault numbers (text one changed) fault (damaged 55 NoGate) is here, λ is. subst (IsFirstFault numbers (text one changed)) (sym is) here)
   where
     here : IsFirstFault numbers (text one changed) (damaged 55 NoGate)
-    here = cut_first numbers (text one changed) 55 NoGate (refused_by_frame numbers One (text one changed) changed (damaged 55 NoGate) gate_sound (is_longest one changed (text one changed) [] changed_legal refl (NoFrame_fault one 55 (tally_of changed) [] (damaged 55 NoGate) no_gate_at_55)) no_gate_at_55)
+    here =
+        cut_first numbers (text one changed) 55 NoGate
+        (refused_by_frame numbers One (text one changed) changed (damaged 55 NoGate) gate_sound
+        (is_longest one changed (text one changed) [] changed_legal refl (NoFrame_fault one 55 (tally_of changed) [] (damaged 55 NoGate) no_gate_at_55))
+        no_gate_at_55)
 
 -- a frame of another kind behind a growth
 abbrev other_kind : List ℕ
@@ -156,7 +176,11 @@ kind_fault : (fault : ScanFault) → IsFirstFault numbers kind_file fault ↔ fa
 kind_fault fault = (λ is. one_fault numbers kind_file fault (damaged 34 (Kind 5)) is here, λ is. subst (IsFirstFault numbers kind_file) (sym is) here)
   where
     here : IsFirstFault numbers kind_file (damaged 34 (Kind 5))
-    here = cut_first numbers kind_file 34 (Kind 5) (refused_by_frame numbers One kind_file grown (damaged 34 (Kind 5)) kind_sound (is_longest one grown kind_file other_kind grown_legal refl (NoFrame_fault one 33 (tally_of grown) other_kind (damaged 34 (Kind 5)) kind_at_34)) kind_at_34)
+    here =
+        cut_first numbers kind_file 34 (Kind 5)
+        (refused_by_frame numbers One kind_file grown (damaged 34 (Kind 5)) kind_sound
+        (is_longest one grown kind_file other_kind grown_legal refl (NoFrame_fault one 33 (tally_of grown) other_kind (damaged 34 (Kind 5)) kind_at_34))
+        kind_at_34)
 
 -- ---- records that are none: two of flag 2
 
@@ -173,7 +197,15 @@ abbrev bad_file : List ℕ
 bad_file = text flags bad ++ 0 ∷ []
 
 bad_legal : AreLegal flags bad
-bad_legal = (record { wide = omega arith; small = omega arith; layout = (omega arith, ((omega arith, omega arith), tt), refl) }, record { ordered = refl; inside = refl; folded = refl; counted = refl; short = refl }, tt)
+bad_legal = (
+  record {
+    wide = omega arith;
+    small = omega arith;
+    layout = (omega arith, ((omega arith, omega arith), tt), refl);
+  },
+  record { ordered = refl; inside = refl; folded = refl; counted = refl; short = refl },
+  tt,
+)
 
 bad_frames : HasFrames flags bad_file bad
 bad_frames = record { legal = bad_legal; closed = (0, [], differ 0 1 (omega arith), refl) }
@@ -195,7 +227,9 @@ bad_fault : (fault : ScanFault) → IsFirstFault flagged bad_file fault ↔ faul
 bad_fault fault = (λ is. one_fault flagged bad_file fault (damaged 25 BadRecord) is here, λ is. subst (IsFirstFault flagged bad_file) (sym is) here)
   where
     here : IsFirstFault flagged bad_file (damaged 25 BadRecord)
-    here = fault_by_record One flagged bad bad_file (damaged 25 BadRecord) bad_sound bad_frames (0, 25, record { inside = omega arith; bad = bad_record; before = λ k lt. absurd (omega arith) }, bad_place, refl)
+    here =
+        fault_by_record One flagged bad bad_file (damaged 25 BadRecord) bad_sound bad_frames
+        (0, 25, record { inside = omega arith; bad = bad_record; before = λ k lt. absurd (omega arith) }, bad_place, refl)
 
 -- a frame's fault is told before a bad record in front of it
 bad_kind_at_44 : frame_fault flags 43 (tally_of bad) other_kind ≡ Some (damaged 44 (Kind 5))
@@ -213,7 +247,11 @@ frame_before_record : (fault : ScanFault) → IsFirstFault flagged bad_kind_file
 frame_before_record fault = (λ is. one_fault flagged bad_kind_file fault (damaged 44 (Kind 5)) is here, λ is. subst (IsFirstFault flagged bad_kind_file) (sym is) here)
   where
     here : IsFirstFault flagged bad_kind_file (damaged 44 (Kind 5))
-    here = cut_first flagged bad_kind_file 44 (Kind 5) (refused_by_frame flagged One bad_kind_file bad (damaged 44 (Kind 5)) bad_kind_sound (is_longest flags bad bad_kind_file other_kind bad_legal refl (NoFrame_fault flags 43 (tally_of bad) other_kind (damaged 44 (Kind 5)) bad_kind_at_44)) bad_kind_at_44)
+    here =
+        cut_first flagged bad_kind_file 44 (Kind 5)
+        (refused_by_frame flagged One bad_kind_file bad (damaged 44 (Kind 5)) bad_kind_sound
+        (is_longest flags bad bad_kind_file other_kind bad_legal refl (NoFrame_fault flags 43 (tally_of bad) other_kind (damaged 44 (Kind 5)) bad_kind_at_44))
+        bad_kind_at_44)
 
 -- a file that has a vector has no fault
 no_fault : (fault : ScanFault) → IsFirstFault numbers changed_file fault → ⊥

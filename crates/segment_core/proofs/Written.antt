@@ -30,7 +30,8 @@ joined-append a b = flat_map-append (λ growth. growth) a b
 pub joined_push : {R : Type 0} (growths : List (List R)) (growth : List R) → joined (growths ++ growth ∷ []) ≡ joined growths ++ growth
 joined_push growths growth = joined-append growths (growth ∷ []) ∙ ap (λ (rs : List _). joined growths ++ rs) (append-nil growth)
 
-pub payload_len_push : {R : Type 0} (width : ℕ) (growths : List (List R)) (growth : List R) → payload_len width (growths ++ growth ∷ []) ≡ payload_len width growths + (4 + length growth * width)
+pub payload_len_push : {R : Type 0} (width : ℕ) (growths : List (List R)) (growth : List R)
+    → payload_len width (growths ++ growth ∷ []) ≡ payload_len width growths + (4 + length growth * width)
 payload_len_push width growths growth =
     let records = ap length (joined_push growths growth) ∙ length-append (joined growths) growth in
     let count = length-append growths (growth ∷ []) in
@@ -50,11 +51,14 @@ take_more (y ∷ xs) zero x is = let same : y ≡ x = cc in ap (λ (z : _). z �
 take_more (y ∷ xs) (suc k) x is = let n : suc k + 1 ≡ suc (k + 1) = omega arith in rw n (ap (λ (l : List _). y ∷ l) (take_more xs k x is))
 
 -- the lengths of the growths, and of one more
-pub lengths_push : {R : Type 0} (growths : List (List R)) (growth : List R) → flat_map (to_le_bytes w32) (map length (growths ++ growth ∷ [])) ≡ flat_map (to_le_bytes w32) (map length growths) ++ to_le_bytes w32 (length growth)
+pub lengths_push : {R : Type 0} (growths : List (List R)) (growth : List R)
+    → flat_map (to_le_bytes w32) (map length (growths ++ growth ∷ [])) ≡ flat_map (to_le_bytes w32) (map length growths) ++ to_le_bytes w32 (length growth)
 lengths_push growths growth =
     ap (flat_map (to_le_bytes w32)) (map_push length growths growth) ∙ flat_map-append (to_le_bytes w32) (map length growths) (length growth ∷ [])
 
-pub payload_len_more : {R : Type 0} (width : ℕ) (growths : List (List R)) (k : ℕ) (growth : List R) → slice_get growths k ≡ Some growth → payload_len width (take (k + 1) growths) ≡ payload_len width (take k growths) + (4 + length growth * width)
+pub payload_len_more : {R : Type 0} (width : ℕ) (growths : List (List R)) (k : ℕ) (growth : List R)
+    → slice_get growths k ≡ Some growth
+    → payload_len width (take (k + 1) growths) ≡ payload_len width (take k growths) + (4 + length growth * width)
 payload_len_more width growths k growth is = ap (payload_len width) (take_more growths k growth is) ∙ payload_len_push width (take k growths) growth
 
 pub payload_len_within : {R : Type 0} (width : ℕ) (growths : List (List R)) (k : ℕ) → payload_len width (take k growths) ≤ payload_len width growths
@@ -62,13 +66,17 @@ payload_len_within {R} width growths k =
     subst (λ (gs : List (List R)). payload_len width (take k growths) ≤ payload_len width gs) (take-append-drop k growths) (payload_len-append width (take k growths) (drop k growths))
 
 -- a growth takes part of its group's payload
-pub growth_within : {R : Type 0} (width : ℕ) (growths : List (List R)) (k : ℕ) (growth : List R) → slice_get growths k ≡ Some growth → payload_len width (take k growths) + (4 + length growth * width) ≤ payload_len width growths
+pub growth_within : {R : Type 0} (width : ℕ) (growths : List (List R)) (k : ℕ) (growth : List R)
+    → slice_get growths k ≡ Some growth
+    → payload_len width (take k growths) + (4 + length growth * width) ≤ payload_len width growths
 growth_within width growths k growth is = let more = payload_len_more width growths k growth is in let within = payload_len_within width growths (k + 1) in omega arith
 
 pub payload_len_nothing : {R : Type 0} (width : ℕ) (growths : List (List R)) → growths ≡ [] → payload_len width growths ≡ 4
 payload_len_nothing width growths none = ap (payload_len width) none ∙ (let nothing : 4 + 0 * 4 + 0 * width ≡ 4 = omega arith in nothing)
 
-pub records_more : {R : Type 0} (growths : List (List R)) (k : ℕ) (growth : List R) → slice_get growths k ≡ Some growth → length (joined (take (k + 1) growths)) ≡ length (joined (take k growths)) + length growth
+pub records_more : {R : Type 0} (growths : List (List R)) (k : ℕ) (growth : List R)
+    → slice_get growths k ≡ Some growth
+    → length (joined (take (k + 1) growths)) ≡ length (joined (take k growths)) + length growth
 records_more growths k growth is = ap (λ gs. length (joined gs)) (take_more growths k growth is) ∙ ap length (joined_push (take k growths) growth) ∙ length-append (joined (take k growths)) growth
 
 pub records_within : {R : Type 0} (growths : List (List R)) (k : ℕ) → length (joined (take k growths)) ≤ length (joined growths)
@@ -78,7 +86,9 @@ records_within growths k =
     omega arith
 
 -- the bytes of the records up to a growth, and of this one
-pub cells_more : {R : Type 0} (width : ℕ) (growths : List (List R)) (k : ℕ) (growth : List R) → slice_get growths k ≡ Some growth → length (joined (take (k + 1) growths)) * width ≡ length (joined (take k growths)) * width + length growth * width
+pub cells_more : {R : Type 0} (width : ℕ) (growths : List (List R)) (k : ℕ) (growth : List R)
+    → slice_get growths k ≡ Some growth
+    → length (joined (take (k + 1) growths)) * width ≡ length (joined (take k growths)) * width + length growth * width
 cells_more width growths k growth is = ap (λ n. n * width) (records_more growths k growth is) ∙ add-mul (length (joined (take k growths))) (length growth) width
 
 pub cells_within : {R : Type 0} (width : ℕ) (growths : List (List R)) (k : ℕ) → length (joined (take k growths)) * width ≤ length (joined growths) * width
@@ -96,7 +106,9 @@ sum-lengths growths = length-flat_map (λ growth. growth) growths ∙ sym (sum-m
 pub size-group_frame : {R : Type 0} (form : Encoding R) (tally : Tally) (growths : List (List R)) → (after tally (group_frame form growths)).size ≡ tally.size + length (joined growths)
 size-group_frame form tally growths = ap (λ n. tally.size + n) (sym (sum-lengths growths))
 
-pub length-group_frame : {R : Type 0} (format : Format) (form : Encoding R) (growths : List (List R)) → ((r : R) → length (form.bytes_of r) ≡ form.width) → length (payload_of format (group_frame form growths)) ≡ payload_len form.width growths
+pub length-group_frame : {R : Type 0} (format : Format) (form : Encoding R) (growths : List (List R))
+    → ((r : R) → length (form.bytes_of r) ≡ form.width)
+    → length (payload_of format (group_frame form growths)) ≡ payload_len form.width growths
 length-group_frame format form growths wide =
     let a = length-group_payload format (map length growths) (flat_map form.bytes_of (joined growths)) in
     let b = length-map growths length in
@@ -138,16 +150,26 @@ group_appended format form growths len n file headed counted listed done wide si
 
 -- ---- one group more
 
-pub groups_more : {R : Type 0} (groups : List (Vec (Vec R))) (k : ℕ) (group : Vec (Vec R)) → k < length groups → group ≡ get_or groups k group → groups_of (take (k + 1) groups) ≡ groups_of (take k groups) ++ growths_of group.items ∷ []
-groups_more {R} groups k group lt is = map_more (λ (g : Vec (Vec R)). growths_of g.items) groups k group lt ∙ ap (λ (g : Vec (Vec R)). groups_of (take k groups) ++ growths_of g.items ∷ []) (sym is)
+pub groups_more : {R : Type 0} (groups : List (Vec (Vec R))) (k : ℕ) (group : Vec (Vec R))
+    → k < length groups → group ≡ get_or groups k group
+    → groups_of (take (k + 1) groups) ≡ groups_of (take k groups) ++ growths_of group.items ∷ []
+groups_more {R} groups k group lt is =
+    map_more (λ (g : Vec (Vec R)). growths_of g.items) groups k group lt
+    ∙ ap (λ (g : Vec (Vec R)). groups_of (take k groups) ++ growths_of g.items ∷ []) (sym is)
 
 pub all_records_push : {R : Type 0} (groups : List (List (List R))) (group : List (List R)) → all_records (groups ++ group ∷ []) ≡ all_records groups ++ joined group
 all_records_push groups group = ap joined (map_push joined groups group) ∙ joined_push (map joined groups) (joined group)
 
-pub text_more : {R : Type 0} (format : Format) (form : Encoding R) (groups : List (List (List R))) (group : List (List R)) → text (shape_of format form) (map (group_frame form) (groups ++ group ∷ [])) ≡ text (shape_of format form) (map (group_frame form) groups) ++ frame_text format (group_frame form group)
-text_more format form groups group = ap (text (shape_of format form)) (map_push (group_frame form) groups group) ∙ text_push (shape_of format form) (map (group_frame form) groups) (group_frame form group)
+pub text_more : {R : Type 0} (format : Format) (form : Encoding R) (groups : List (List (List R)))
+    (group : List (List R))
+    → text (shape_of format form) (map (group_frame form) (groups ++ group ∷ [])) ≡ text (shape_of format form) (map (group_frame form) groups) ++ frame_text format (group_frame form group)
+text_more format form groups group =
+    ap (text (shape_of format form)) (map_push (group_frame form) groups group)
+    ∙ text_push (shape_of format form) (map (group_frame form) groups) (group_frame form group)
 
-pub AllFit_push : {R : Type 0} (width : ℕ) (groups : List (List (List R))) (group : List (List R)) → AllFit width groups → payload_len width group ≤ payload_limit → AllFit width (groups ++ group ∷ [])
+pub AllFit_push : {R : Type 0} (width : ℕ) (groups : List (List (List R))) (group : List (List R))
+    → AllFit width groups → payload_len width group ≤ payload_limit
+    → AllFit width (groups ++ group ∷ [])
 AllFit_push width [] group fit small = (small, tt)
 AllFit_push width (first ∷ groups) group fit small = (fit.0, AllFit_push width groups group fit.1 small)
 

@@ -42,6 +42,10 @@ header_lines width image =
 abbrev pub header_fault : ℕ → List ℕ → Option ScanFault
 header_fault width image = first_line (header_lines width image)
 
+-- the fault that a header has, whatever the width of the records
+abbrev pub IsHeaderFault : List ℕ → ScanFault → Type 0
+IsHeaderFault image fault = (width : ℕ) → 0 < width → header_fault width image ≡ Some fault
+
 -- the header is sound, and names this format
 pub record IsSound (width : ℕ) (format : Format) (image : List ℕ) : Type 0 where
   pub no_fault : header_fault width image ≡ None

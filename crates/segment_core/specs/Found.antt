@@ -111,7 +111,9 @@ HasHome form bytes home held note = (place : ℕ) × (home ≡ Some place) × (p
 pub record IsFound {R : Type 0} (form : Encoding R) (format : Format) (frames : List Frame) (found : Found R) : Type 0 where
   pub size_is : length found.records.items ≡ (tally_of frames).size
   pub small : (tally_of frames).size ≤ record_limit
-  pub each : (i : ℕ) → i < (tally_of frames).size → HasHome form (text (shape_of format form) frames) (home_of (shape_of format form) frames i) (slice_get found.records.items i) (noted found.notes i)
+  pub each : (i : ℕ)
+      → i < (tally_of frames).size
+      → HasHome form (text (shape_of format form) frames) (home_of (shape_of format form) frames i) (slice_get found.records.items i) (noted found.notes i)
   pub homes : AreHomes (shape_of format form) frames found.homes.items
   pub folded_is : found.folded ≡ (tally_of frames).folded
   pub counted : (tally_of frames).folded ≤ (tally_of frames).changes

@@ -2,8 +2,8 @@
 use Rattle.std.specs.Prelude.{◌≡◌, ◌≤◌, ◌<◌, ℕ, ◌+◌, ◌*◌, ◌^◌, true, false, List, [], ◌++◌, length, sum, Option, Some, None, Result, Ok, Err}
 use Rattle.segment_core.specs.declared.fault.Cause.TheVariants.{NoGate, ShortFrame}
 use Rattle.segment_core.specs.declared.fault.ScanFault.{ScanFault}
-use Rattle.segment_core.specs.declared.frame.Unread.{Unread}
-use Rattle.segment_core.specs.declared.frame.Unread.TheVariants.{Short, Fault}
+use Rattle.segment_core.specs.declared.frame_head.Unread.{Unread}
+use Rattle.segment_core.specs.declared.frame_head.Unread.TheVariants.{Short, Fault}
 use Rattle.segment_core.specs.declared.format.Format.{Format}
 use Rattle.segment_core.specs.declared.format.Shape.{Shape}
 use Rattle.segment_core.specs.Shape.{limit_of}

@@ -38,7 +38,11 @@ IsTail shape at bytes Short = IsShort shape at bytes
 
 -- the fault at the end of the frames, whatever follows
 abbrev pub IsFaultOf : Shape → List ℕ → ScanFault → Type 0
-IsFaultOf shape image fault = (more : List ℕ) → (frames : List Frame) × IsLongest shape (image ++ more) frames × (frame_fault shape (length (text shape frames)) (tally_of frames) (drop (length (text shape frames)) (image ++ more)) ≡ Some fault)
+IsFaultOf shape image fault =
+    (more : List ℕ)
+    → (frames : List Frame)
+    × IsLongest shape (image ++ more) frames
+    × (frame_fault shape (length (text shape frames)) (tally_of frames) (drop (length (text shape frames)) (image ++ more)) ≡ Some fault)
 
 -- what a walk answers in place of going on
 abbrev pub IsWalkRefused : Shape → List ℕ → ScanFault → Type 0

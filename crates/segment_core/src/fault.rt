@@ -1,5 +1,7 @@
 //! Why an image has no vector, and why growths make no image.
 
+ghost use Rattle.std.specs.Prelude.{◌≡◌};
+
 use thiserror::Error;
 
 /// What is wrong with a frame or a record, in the order in which it is looked for.
@@ -83,4 +85,11 @@ pub enum GroupFault {
     /// A growth of memory was refused.
     #[error("memory")]
     Memory,
+}
+
+/// The fault of a cause that was found at this place.
+pub(crate) fn damaged(at: u64, cause: Cause) -> ScanFault
+    ensures { result ≡ ScanFault.Damaged at cause }
+{
+    ScanFault::Damaged { at, cause }
 }

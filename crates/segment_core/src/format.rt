@@ -84,9 +84,6 @@ pub const OPEN_GATE: u8 = 0x01;
 /// The gate as it is written closed.
 pub const CLOSED_GATE: u8 = 0x00;
 
-/// What stands behind the first gate.
-pub(crate) const MAGIC: &[u8; 7] = b"CVECSEG";
-
 /// The bytes of the header: a gate, the magic, the version and the width.
 pub const HEADER_LEN: usize = 11;
 
@@ -98,6 +95,9 @@ pub const GATE_LIMIT: u64 = 1 << 48;
 
 /// The bytes of a frame before its payload: the gate, the kind and the payload's length.
 pub const FRAME_HEAD_LEN: usize = 6;
+
+/// The bytes of a frame that `FrameHead::read` looks at: its head, and the longest number that begins a payload.
+pub const FRONT_LEN: usize = 14;
 
 /// The bytes of the first position of a run.
 pub const START_LEN: usize = 8;

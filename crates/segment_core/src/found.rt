@@ -1,25 +1,29 @@
 //! What the frames so far say of the vector. Records are decoded as their home bytes come by, and live changes
 //! are laid over them at the end.
 
-ghost use Rattle.std.specs.Prelude.{◌≡◌, ◌≢◌, ◌≤◌, ◌<◌, ◌+◌, ◌*◌, ◌-◌, ◌^◌, ◌++◌, ◌∷◌, ◌⊎◌, [], ℕ, List, Some, None, length, drop, OnOk, IfOk, MatchResult, vec_len, vec_capacity};
-ghost use Rattle.std.specs.List.{flat_map, AllByRecursion};
+ghost use Rattle.std.specs.Prelude.{◌≡◌, ◌≤◌, ◌+◌, ◌-◌, ◌++◌, ◌∷◌, [], ℕ, List, length, drop, OnOk, IfOk, MatchResult, vec_capacity};
+ghost use Rattle.std.specs.List.{flat_map};
 ghost use Rattle.record_core.specs.Limits.{record_limit};
 ghost use Rattle.segment_core.specs.declared.format.Format.{Format};
 ghost use Rattle.segment_core.specs.Shape.{shape_of};
 ghost use Rattle.segment_core.specs.Frame.{Frame};
-ghost use Rattle.segment_core.specs.Vector.{place_among, place_in_runs, IsVectorOf};
-ghost use Rattle.segment_core.specs.Reading.{runs_of, record_bytes_of, record_count};
-ghost use Rattle.segment_core.specs.Notes.{noted};
-ghost use Rattle.segment_core.specs.Found.{StandsAt, first_record_of, IsDecoded, IsLaid, home_among, AreInTurn, AreHomesOf, IsInside, IsFound, StandsNext, AreLaid, IsGrown, IsSame, IsCut, BeginsWithText, IsNoVector, IsLeastNoted, pairs_of};
+ghost use Rattle.segment_core.specs.Vector.{IsVectorOf};
+ghost use Rattle.segment_core.specs.Reading.{record_count};
+ghost use Rattle.segment_core.specs.Found.{AreInTurn, AreHomesOf, IsFound, StandsNext, IsGrown, IsSame, IsCut, BeginsWithText, IsNoVector, pairs_of};
 
-use crate::fault::{Cause, ScanFault};
+use crate::fault::ScanFault;
 use crate::format::FrameKind;
 use crate::frame::{FrameReader, Kept};
+use crate::homes::cut;
 use crate::notes::Notes;
-use record_core::{Record, width_of};
+use decoding::grow;
+use laying::lay_live;
+use record_core::Record;
 use std::alloc::{AllocError, Global};
 use std::collections::VecDeque;
-use std::mem::replace;
+
+mod decoding;
+mod laying;
 
 /// Where the home bytes of consecutive positions stand, one record behind the other.
 #[derive(Clone, Copy, Debug, PartialEq, Eq)]
@@ -57,187 +61,6 @@ pub(crate) struct Found<R> {
     live: VecDeque<Kept>,
 }
 
-/// The record of a position, whose bytes stand at this place; a blank one where they are no record, which is
-/// noted.
-#[inline(always)]
-fn decode<R: Record>(
-    bytes: &[u8],
-    position: u64,
-    place: u64,
-    notes: &mut Notes,
-) -> Result<R, AllocError>
-    requires { length bytes.now ≡ R.form.width }
-    ensures decoded { IfOk result (λ r. (image : List ℕ) → StandsAt image place bytes.now → IsDecoded R.form image place (Some r) (noted notes.new position)) }
-    ensures others { OnOk result ((q : ℕ) → q ≢ position → noted notes.new q ≡ noted notes.old q) }
-{
-    match R::take(bytes) {
-        Some(record) => {
-            notes.forget(position);
-            Ok(record)
-        }
-        None => {
-            notes.note(position, place)?;
-            Ok(R::blank())
-        }
-    }
-}
-
-/// Appends the records of these bytes up to the first that is none, as long as nothing is noted, and answers how
-/// many they are. The loop touches nothing but the bytes and the records, so that numbers are copied many at once.
-fn grow_sound<R: Record>(area: &[u8], count: usize, records: &mut Vec<R>, notes: &Notes) -> usize
-    requires filled { length area.now ≡ count * R.form.width }
-    requires room { vec_len records.old + count ≤ vec_capacity records.old }
-    ensures inside { result ≤ count }
-    ensures longer { length records.new.items ≡ length records.old.items + result }
-    ensures room { vec_len records.new + count ≤ vec_capacity records.new + result }
-    ensures laid { (image : List ℕ) (place : ℕ) → StandsAt image place area.now
-        → IsLaid R.form image (place_among R.form.width place (length records.old.items) result) records.old.items notes.now records.new.items notes.now }
-{
-    if !notes.is_empty() {
-        return 0;
-    }
-    let width = width_of::<R>();
-    // Held here, so that the loop keeps its length in a register.
-    let alloc = *records.allocator();
-    let mut grown = replace(records, Vec::new(alloc));
-    let mut sound = 0;
-    while sound < count {
-        let at = sound * width;
-        let Some(record) = R::take(&area[at..at + width]) else {
-            break;
-        };
-        grown.push_reserved(record);
-        sound += 1;
-    }
-    *records = grown;
-    sound
-}
-
-/// Appends the `count` records of these bytes, which stand at this place.
-fn grow<R: Record>(
-    area: &[u8],
-    place: u64,
-    count: usize,
-    records: &mut Vec<R>,
-    notes: &mut Notes,
-) -> Result<(), AllocError>
-    requires filled { length area.now ≡ count * R.form.width }
-    requires placed { place + length area.now < 2 ^ 64 }
-    requires few { length records.old.items + count ≤ record_limit }
-    ensures longer { OnOk result (length records.new.items ≡ length records.old.items + count) }
-    ensures laid { OnOk result ((image : List ℕ) → StandsAt image place area.now
-        → IsLaid R.form image (place_among R.form.width place (length records.old.items) count) records.old.items notes.old records.new.items notes.new) }
-{
-    let width = width_of::<R>();
-    let start = records.len();
-    records.reserve(count)?;
-    let sound = grow_sound(area, count, records, notes);
-    for k in sound..count {
-        let at = k * width;
-        let position = (start + k) as u64;
-        let record = decode(&area[at..at + width], position, place + at as u64, notes)?;
-        records.push_reserved(record);
-    }
-    Ok(())
-}
-
-/// Writes the `count` records of these bytes, which stand at this place, over those from `start` on.
-fn lay<R: Record>(
-    area: &[u8],
-    place: u64,
-    start: usize,
-    count: usize,
-    records: &mut [R],
-    notes: &mut Notes,
-) -> Result<(), AllocError>
-    requires filled { length area.now ≡ count * R.form.width }
-    requires placed { place + length area.now < 2 ^ 64 }
-    requires inside { start + count ≤ length records.old }
-    ensures { OnOk result ((image : List ℕ) → StandsAt image place area.now
-        → IsLaid R.form image (place_among R.form.width place start count) records.old notes.old records.new notes.new) }
-{
-    let width = width_of::<R>();
-    for k in 0..count {
-        let at = k * width;
-        let position = (start + k) as u64;
-        let record = decode(&area[at..at + width], position, place + at as u64, notes)?;
-        records[start + k] = record;
-    }
-    Ok(())
-}
-
-/// Writes the records of a change over those of its positions.
-fn lay_change<R: Record>(
-    change: &FrameReader<'_>,
-    records: &mut [R],
-    notes: &mut Notes,
-) -> Result<(), AllocError>
-    requires wide { change.now.shape.width ≡ R.form.width }
-    requires inside { IsInside (length records.old) change.now }
-    ensures { OnOk result ((image : List ℕ) → StandsAt image (first_record_of change.now) (record_bytes_of change.now.frame)
-        → IsLaid R.form image (λ i. place_in_runs R.form.width i (first_record_of change.now) (runs_of change.now.frame)) records.old notes.old records.new notes.new) }
-{
-    let width = width_of::<R>();
-    let area = change.record_area();
-    let place = change.first_record();
-    let mut at = 0;
-    for k in 0..change.runs() {
-        let (start, count) = change.run(k);
-        let end = at + count as usize * width;
-        lay(
-            &area[at..end],
-            (place + at) as u64,
-            start as usize,
-            count as usize,
-            records,
-            notes,
-        )?;
-        at = end;
-    }
-    Ok(())
-}
-
-/// Writes the records of changes over those of their positions, one change after the other.
-fn lay_all<R: Record>(
-    changes: &VecDeque<Kept>,
-    records: &mut [R],
-    notes: &mut Notes,
-) -> Result<(), AllocError>
-    requires wide { AllByRecursion (λ change. change.shape.width ≡ R.form.width) changes.now.items }
-    requires inside { AllByRecursion (IsInside (length records.old)) changes.now.items }
-    ensures { OnOk result (AreLaid R.form changes.now.items records.old notes.old records.new notes.new) }
-{
-    for k in 0..changes.len() {
-        let change = &changes[k];
-        lay_change(&change.frame(), records, notes)?;
-    }
-    Ok(())
-}
-
-/// The same; the fault is that of the least position whose bytes are no record then.
-fn lay_live<R: Record>(
-    changes: &VecDeque<Kept>,
-    records: &mut [R],
-    notes: &mut Notes,
-) -> Result<(), ScanFault>
-    requires wide { AllByRecursion (λ change. change.shape.width ≡ R.form.width) changes.now.items }
-    requires inside { AllByRecursion (IsInside (length records.old)) changes.now.items }
-    ensures { MatchResult result
-        (λ _. AreLaid R.form changes.now.items records.old notes.old records.new notes.new × ((i : ℕ) → i < length records.new → noted notes.new i ≡ None))
-        (λ fault. (AreLaid R.form changes.now.items records.old notes.old records.new notes.new × IsLeastNoted (length records.new) notes.new fault) ⊎ (fault ≡ ScanFault.Memory)) }
-{
-    let Ok(()) = lay_all(changes, records, notes) else {
-        return Err(ScanFault::Memory);
-    };
-    match notes.least(records.len() as u64) {
-        None => Ok(()),
-        Some((_, place)) => Err(ScanFault::Damaged {
-            at: place,
-            cause: Cause::BadRecord,
-        }),
-    }
-}
-
 /// Appends start and count of each run of a change.
 fn push_runs(change: &FrameReader<'_>, runs: &mut Vec<(u64, u64)>) -> Result<(), AllocError>
     ensures { OnOk result (runs.new.items ≡ runs.old.items ++ pairs_of change.now) }
@@ -258,23 +81,6 @@ fn runs_of_all(alloc: Global, changes: &VecDeque<Kept>) -> Result<Vec<(u64, u64)
         push_runs(&change.frame(), &mut runs)?;
     }
     Ok(runs)
-}
-
-/// Keeps the homes of the first positions alone.
-pub(crate) fn cut(homes: &mut Vec<Home>, size: u64)
-    requires { (old : ℕ) × (size ≤ old) × AreInTurn 0 homes.old.items old }
-    ensures in_turn { AreInTurn 0 homes.new.items size }
-    ensures each { (width i : ℕ) → i < size → home_among width homes.new.items i ≡ home_among width homes.old.items i }
-{
-    while let Some(home) = homes.pop() {
-        if home.position < size {
-            homes.push_reserved(Home {
-                count: size - home.position,
-                ..home
-            });
-            return;
-        }
-    }
 }
 
 /// No records, with memory for `room` of them, where it could be had.

@@ -8,9 +8,10 @@ ghost use Rattle.segment_core.specs.Kind.{kind_byte};
 ghost use Rattle.segment_core.specs.Layout.{u32_at, u64_at, numbers_in, count_in, lengths_in, number_at, run_count_in, runs_in, frame_in, is_group_layout, is_change_layout, is_layout};
 ghost use Rattle.segment_core.specs.Reading.{IsNext, BeginsWith, lengths_of, runs_of, record_bytes_of, record_count, head_len};
 
-use crate::fault::{Cause, ScanFault};
-use crate::format::{FRAME_HEAD_LEN, Format, FrameKind, OPEN_GATE, Shape};
-use payload::{counts, run_at, u32_at, u64_at};
+use crate::fault::{Cause, damaged};
+use crate::format::{FRAME_HEAD_LEN, FRONT_LEN, Format, FrameKind, Shape};
+use crate::frame_head::{FrameHead, Unread, u32_at, u64_at};
+use payload::{counts, run_at};
 use std::alloc::{AllocError, Global};
 use std::marker::Model;
 
@@ -75,15 +76,6 @@ impl Kept {
             shape: self.shape,
         }
     }
-}
-
-/// Why no frame was read behind an open gate.
-#[derive(Clone, Copy, Debug)]
-pub(crate) enum Unread {
-    /// The bytes end before the frame does, and so far nothing is wrong with it.
-    Short,
-    /// The first fault that the frame has by itself.
-    Fault(ScanFault),
 }
 
 impl<'a> FrameReader<'a> {
@@ -233,10 +225,10 @@ impl<'a> FrameReader<'a> {
     }
 
     /// Where its payload stands in the image.
-    pub(crate) fn payload_at(&self) -> usize
+    pub(crate) fn payload_at(&self) -> u64
         ensures { result ≡ self.now.at + frame_head_len }
     {
-        self.at + FRAME_HEAD_LEN
+        (self.at + FRAME_HEAD_LEN) as u64
     }
 
     /// Where its first record stands in the image.
@@ -281,45 +273,24 @@ pub(crate) fn read_frame(
     requires place { at + length bytes.now < 2 ^ 64 }
     ensures { IsNext shape at bytes.now result }
 {
-    if bytes.is_empty() {
-        return Err(Unread::Short);
-    }
-    if bytes[0] != OPEN_GATE {
-        return Ok(None);
-    }
-    if bytes.len() < FRAME_HEAD_LEN {
-        return Err(Unread::Short);
-    }
-    let Some(kind) = FrameKind::from_byte(bytes[1]) else {
-        return Err(Unread::Fault(damaged(at + 1, Cause::Kind(bytes[1]))));
+    let front = &bytes[..bytes.len().min(FRONT_LEN)];
+    let found = match FrameHead::read(front, bytes.len() as u64, at as u64, shape) {
+        Ok(found) => found,
+        Err(unread) => return Err(unread),
     };
-    let payload_len = u32_at(bytes, 2) as usize;
-    if payload_len > shape.format.payload_limit() {
-        return Err(Unread::Fault(damaged(at + 2, Cause::TooLarge)));
-    }
-    if bytes.len() < FRAME_HEAD_LEN + payload_len {
-        return Err(Unread::Short);
-    }
-    let payload = &bytes[FRAME_HEAD_LEN..FRAME_HEAD_LEN + payload_len];
-    let Some((heads, records)) = counts(payload, kind, shape) else {
-        return Err(Unread::Fault(damaged(at + FRAME_HEAD_LEN, Cause::Layout)));
+    let Some(head) = found else {
+        return Ok(None);
+    };
+    let payload = &bytes[FRAME_HEAD_LEN..FRAME_HEAD_LEN + head.payload_len as usize];
+    let Some((heads, records)) = counts(payload, head.kind, head.number, shape) else {
+        return Err(Unread::Fault(damaged((at + FRAME_HEAD_LEN) as u64, Cause::Layout)));
     };
     Ok(Some(FrameReader {
         at,
-        kind,
+        kind: head.kind,
         payload,
         heads,
         records,
         shape,
     }))
-}
-
-/// The fault of a cause that was found at this place.
-pub(crate) fn damaged(at: usize, cause: Cause) -> ScanFault
-    ensures { result ≡ ScanFault.Damaged at cause }
-{
-    ScanFault::Damaged {
-        at: at as u64,
-        cause,
-    }
 }

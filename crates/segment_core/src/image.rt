@@ -4,17 +4,15 @@ ghost use Rattle.std.specs.Prelude.{◌≡◌, ◌≤◌, ◌++◌, ◌∷◌, [
 ghost use Rattle.record_core.specs.Cells.{AreReadAgain};
 ghost use Rattle.record_core.specs.Limits.{record_limit};
 ghost use Rattle.segment_core.specs.declared.format.Format.TheVariants.{One};
-ghost use Rattle.segment_core.specs.Shape.{shape_of};
-ghost use Rattle.segment_core.specs.Frame.{closed_gate, header};
+ghost use Rattle.segment_core.specs.Frame.{closed_gate};
 ghost use Rattle.segment_core.specs.Vector.{HasVector};
 ghost use Rattle.segment_core.specs.Written.{AreFilled, AllFit, groups_of, group_frame, file_of, all_records, IsImageRefused};
 
 use crate::fault::ImageFault;
-use crate::format::{
-    CLOSED_GATE, EMPTY_FILE_LEN, FRAME_HEAD_LEN, Format, HEADER_LEN, MAGIC, OPEN_GATE,
-};
+use crate::file_header::append_header;
+use crate::format::{CLOSED_GATE, EMPTY_FILE_LEN, FRAME_HEAD_LEN, Format};
 use crate::group::{append_group, payload_size};
-use record_core::{PAYLOAD_LIMIT, Record, width_of};
+use record_core::{PAYLOAD_LIMIT, Record};
 use std::alloc::{AllocError, Global};
 
 /// Makes the file of these growths: the header, a group frame for each group, and a closed gate. Its memory is
@@ -54,33 +52,6 @@ fn image_len<R: Record>(groups: &[Vec<Vec<R>>]) -> Result<usize, ImageFault>
         size = size.saturating_add(FRAME_HEAD_LEN + len);
     }
     Ok(size)
-}
-
-/// The header of a file of this format, whose records have this width in bytes.
-fn header_bytes(format: Format, width: u16) -> [u8; HEADER_LEN]
-    ensures { result ≡ header (record { format = format; width = width }) }
-{
-    let mut bytes = [OPEN_GATE; HEADER_LEN];
-    bytes[1..8].copy_from_slice(MAGIC);
-    bytes[8] = format.version();
-    bytes[9..].copy_from_slice(&width.to_le_bytes());
-    bytes
-}
-
-/// An empty file of this format, whose records have this width in bytes: its header, and a closed gate.
-pub fn empty_file(format: Format, width: u16) -> [u8; EMPTY_FILE_LEN]
-    ensures { result ≡ header (record { format = format; width = width }) ++ closed_gate ∷ [] }
-{
-    let mut bytes = [CLOSED_GATE; EMPTY_FILE_LEN];
-    bytes[..HEADER_LEN].copy_from_slice(&header_bytes(format, width));
-    bytes
-}
-
-/// Appends the header of a file of this format, of records of this type.
-pub fn append_header<R: Record>(format: Format, file: &mut Vec<u8>) -> Result<(), AllocError>
-    ensures { OnOk result (file.new.items ≡ file.old.items ++ header (shape_of format R.form)) }
-{
-    file.extend_from_slice(&header_bytes(format, width_of::<R>() as u16))
 }
 
 /// Appends the closed gate behind the last frame.

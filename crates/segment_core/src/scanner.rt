@@ -9,11 +9,10 @@ ghost use Rattle.segment_core.specs.Found.{AreHomesOf};
 ghost use Rattle.segment_core.specs.Scanned.{IsScanOf};
 ghost use Rattle.segment_core.specs.Scanner.{len_told, GoesOn, HasEnded, IsOn, IsRefusedFor, IsFedAt, IsFed, IsLost, IsDecided, IsCutShort, CanHold};
 
-use crate::fault::{Cause, ScanFault};
-use crate::format::{FRAME_HEAD_LEN, Format, HEADER_LEN, MAGIC, OPEN_GATE, Shape};
+use crate::fault::{Cause, ScanFault, damaged};
+use crate::format::{FRAME_HEAD_LEN, Format, HEADER_LEN, Shape};
 use crate::found::Homes;
-use crate::frame::damaged;
-use crate::frame::payload::u32_at;
+use crate::frame_head::u32_at;
 use crate::vector::Scanned;
 use crate::walk::{Tail, Walk};
 use record_core::{GROWTH_HEAD_LEN, RECORD_LIMIT, Record, width_of};
@@ -50,24 +49,16 @@ pub struct Scanner<R> {
 
 /// The format of the file, if the header is that of a file whose records have this width.
 fn check_header(bytes: &[u8], width: usize) -> Result<Format, ScanFault>
+    requires { 0 < width }
     ensures { MatchResult result
         (λ format. (header_fault width bytes.now ≡ None) × (format_in bytes.now ≡ format) × (bytes.now ≡ header (record { format = format; width = width }) ++ drop header_len bytes.now))
         (λ fault. header_fault width bytes.now ≡ Some fault) }
 {
-    if bytes.len() <= 1 || bytes[0] != OPEN_GATE {
-        return Err(ScanFault::Unborn);
+    let shape = Shape::read(bytes)?;
+    if shape.width != width {
+        return Err(ScanFault::Width(shape.width as u16));
     }
-    if bytes.len() < HEADER_LEN || !bytes[1..].starts_with(MAGIC) {
-        return Err(ScanFault::NotSegment);
-    }
-    let Some(format) = Format::from_version(bytes[8]) else {
-        return Err(ScanFault::Version(bytes[8]));
-    };
-    let file_width = u16::from_le_bytes([bytes[9], bytes[10]]);
-    if file_width as usize != width {
-        return Err(ScanFault::Width(file_width));
-    }
-    Ok(format)
+    Ok(shape.format)
 }
 
 /// How many bytes to take next: all where no frame has begun, else what is left of its head, or of the whole frame.
@@ -364,7 +355,7 @@ impl<R: Record> Scanner<R> {
                 } else {
                     Cause::ShortFrame
                 };
-                Err(damaged(self.walk.at, cause))
+                Err(damaged(self.walk.at as u64, cause))
             }
             Stage::Closed => Ok(()),
             Stage::Refused(fault) => Err(fault),

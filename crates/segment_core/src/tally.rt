@@ -6,9 +6,9 @@ ghost use Rattle.segment_core.specs.Tally.{after, are_ascending, are_inside, is_
 ghost use Rattle.segment_core.specs.Fault.{first_line, order_lines};
 ghost use Rattle.segment_core.specs.Reading.{runs_of};
 
-use crate::fault::{Cause, ScanFault};
+use crate::fault::{Cause, ScanFault, damaged};
 use crate::format::FrameKind;
-use crate::frame::{FrameReader, damaged};
+use crate::frame::FrameReader;
 use record_core::RECORD_LIMIT;
 
 /// What the frames so far leave.

@@ -9,7 +9,8 @@ ghost use Rattle.segment_core.specs.Walk.{IsBehind, StandsBefore, IsTail, IsWalk
 use crate::fault::ScanFault;
 use crate::format::{HEADER_LEN, Shape};
 use crate::found::Found;
-use crate::frame::{FrameReader, Unread, read_frame};
+use crate::frame::{FrameReader, read_frame};
+use crate::frame_head::Unread;
 use crate::tally::Tally;
 use record_core::Record;
 use std::alloc::Global;

@@ -6,30 +6,10 @@ ghost use Rattle.segment_core.specs.Frame.{number_len, runs_len, records_of_runs
 ghost use Rattle.segment_core.specs.Kind.{kind_byte};
 ghost use Rattle.segment_core.specs.Layout.{u32_at, u64_at, numbers_in, count_in, lengths_in, number_at, run_count_in, runs_in, frame_in, is_group_layout, is_change_layout, is_layout};
 ghost use Rattle.segment_core.specs.Reading.{lengths_of, runs_of, record_count};
+ghost use Rattle.segment_core.specs.FrameHead.{FitsNumber, first_number};
 
 use crate::format::{Format, FrameKind, Shape};
-
-/// The number whose four bytes begin at `at`.
-#[tactic(auto, unfolding(crate::specs::Layout::u32_at))]
-pub(crate) fn u32_at(bytes: &[u8], at: usize) -> u32
-    requires { at + 4 ≤ length bytes.now }
-    ensures { result ≡ u32_at bytes.now at }
-{
-    let mut word = [0u8; 4];
-    word.copy_from_slice(&bytes[at..at + 4]);
-    u32::from_le_bytes(word)
-}
-
-/// The number whose eight bytes begin at `at`.
-#[tactic(auto, unfolding(crate::specs::Layout::u64_at))]
-pub(super) fn u64_at(bytes: &[u8], at: usize) -> u64
-    requires { at + 8 ≤ length bytes.now }
-    ensures { result ≡ u64_at bytes.now at }
-{
-    let mut word = [0u8; 8];
-    word.copy_from_slice(&bytes[at..at + 8]);
-    u64::from_le_bytes(word)
-}
+use crate::frame_head::{u32_at, u64_at};
 
 /// Run `k` of a change's payload: its start, and how many positions it has.
 pub(super) fn run_at(payload: &[u8], shape: Shape, k: usize) -> (u64, usize)
@@ -59,18 +39,6 @@ fn count_at(payload: &[u8], shape: Shape, at: usize) -> usize
     }
 }
 
-/// How many runs a change's payload has.
-fn run_count(payload: &[u8], format: Format) -> usize
-    requires { number_len format ≤ length payload.now }
-    ensures is { result ≡ run_count_in format payload.now }
-    ensures small { result < 2 ^ 32 }
-{
-    match format {
-        Format::One => 1,
-        Format::Two => u32_at(payload, 0) as usize,
-    }
-}
-
 /// The sum of the lengths that stand behind the count of growths, if each is above 0.
 fn sum_of_lengths(payload: &[u8], growths: usize) -> Option<usize>
     requires inside { 4 + growths * 4 ≤ length payload.now }
@@ -90,17 +58,17 @@ fn sum_of_lengths(payload: &[u8], growths: usize) -> Option<usize>
     Some(records)
 }
 
-/// How many growths and how many records a group's payload has, if it has the form of one.
-fn group_counts(payload: &[u8], width: usize) -> Option<(usize, usize)>
-    requires { length payload.now ≤ 2 ^ 24 }
+/// How many growths and how many records a group's payload that begins with this count of growths has, if it has the
+/// form of one.
+fn group_counts(payload: &[u8], growths: usize, width: usize) -> Option<(usize, usize)>
+    requires small { length payload.now ≤ 2 ^ 24 }
+    requires counted { 4 ≤ length payload.now }
+    requires few { growths < 2 ^ 32 }
+    requires is { growths ≡ count_in payload.now }
     ensures { MatchOption result
         (is_group_layout width payload.now ≡ false)
         (λ counts. (is_group_layout width payload.now ≡ true) × (counts.0 ≡ count_in payload.now) × (counts.1 ≡ sum (lengths_in payload.now))) }
 {
-    if payload.len() < 4 {
-        return None;
-    }
-    let growths = u32_at(payload, 0) as usize;
     if growths == 0 || payload.len() < 4 + growths * 4 {
         return None;
     }
@@ -134,18 +102,17 @@ fn sum_of_runs(payload: &[u8], shape: Shape, runs: usize) -> Option<usize>
     Some(records)
 }
 
-/// How many runs and how many records a change's payload has, if it has the form of one.
-fn change_counts(payload: &[u8], shape: Shape) -> Option<(usize, usize)>
+/// How many runs and how many records a change's payload of so many runs has, if it has the form of one.
+fn change_counts(payload: &[u8], runs: usize, shape: Shape) -> Option<(usize, usize)>
     requires wide { 0 < shape.width }
     requires small { length payload.now ≤ 2 ^ 24 }
+    requires counted { number_len shape.format ≤ length payload.now }
+    requires few { runs < 2 ^ 32 }
+    requires is { runs ≡ run_count_in shape.format payload.now }
     ensures { MatchOption result
         (is_change_layout shape payload.now ≡ false)
         (λ counts. (is_change_layout shape payload.now ≡ true) × (counts.0 ≡ run_count_in shape.format payload.now) × (counts.1 ≡ records_of_runs (runs_in shape payload.now))) }
 {
-    if payload.len() < shape.format.number_len() {
-        return None;
-    }
-    let runs = run_count(payload, shape.format);
     if runs == 0 || payload.len() < shape.format.runs_len(runs) {
         return None;
     }
@@ -158,11 +125,19 @@ fn change_counts(payload: &[u8], shape: Shape) -> Option<(usize, usize)>
     }
 }
 
-/// How many growths or runs, and how many records, a payload of this kind has, if it has the form of one.
+/// How many growths or runs, and how many records, a payload of this kind has that begins with this number, if it has
+/// the form of one.
 #[tactic(auto, using(crate::proofs::Reader::heads_of_change))]
-pub(super) fn counts(payload: &[u8], kind: FrameKind, shape: Shape) -> Option<(usize, usize)>
+pub(super) fn counts(
+    payload: &[u8],
+    kind: FrameKind,
+    number: u64,
+    shape: Shape,
+) -> Option<(usize, usize)>
     requires wide { 0 < shape.width }
     requires small { length payload.now ≤ 2 ^ 24 }
+    requires fits { FitsNumber shape.format kind (length payload.now) number }
+    requires is { number ≡ first_number shape.format kind payload.now }
     ensures { MatchOption result
         (is_layout shape (kind_byte kind) payload.now ≡ false)
         (λ counts. (is_layout shape (kind_byte kind) payload.now ≡ true)
@@ -170,14 +145,8 @@ pub(super) fn counts(payload: &[u8], kind: FrameKind, shape: Shape) -> Option<(u
         × (counts.1 ≡ record_count (frame_in shape (kind_byte kind) payload.now))) }
 {
     match kind {
-        FrameKind::Group => group_counts(payload, shape.width),
-        FrameKind::Change => change_counts(payload, shape),
-        FrameKind::Shrink | FrameKind::Fold => {
-            if payload.len() == 8 {
-                Some((0, 0))
-            } else {
-                None
-            }
-        }
+        FrameKind::Group => group_counts(payload, number as usize, shape.width),
+        FrameKind::Change => change_counts(payload, number as usize, shape),
+        FrameKind::Shrink | FrameKind::Fold => Some((0, 0)),
     }
 }

@@ -11,7 +11,11 @@ use Rattle.segment_core.proofs.change.append_change.Goals as goal
 pub returns-clause-text : goal.returns-clause-text
 returns-clause-text g c =
     let laws = g.met.R.Record g.world.𝓛 g.world.𝓜 g.world.𝓡 ((λ s x. x), (λ x. x), (λ x. x), λ x. x) in
-    on_ok_weaker c.append_growths.result (λ bytes. change_appended c.args.format g.R.Record.form (runs_given c.args.runs.now) (g.G.GrowthList.growths c.args.pieces.now) c.args.payload_len c.args.file.now.items c.append_head.new.file.items c.append_runs.new.file.items c.append_growths.new.file.items
+    on_ok_weaker c.append_growths.result
+    (λ bytes.
+    change_appended c.args.format g.R.Record.form (runs_given c.args.runs.now)
+    (g.G.GrowthList.growths c.args.pieces.now) c.args.payload_len c.args.file.now.items
+    c.append_head.new.file.items c.append_runs.new.file.items c.append_growths.new.file.items
     laws.width_of_bytes c.requires.filled c.requires.len c.in_ok-append_head.ensures.text c.in_ok-append_runs.ensures.text bytes) c.append_growths.ensures.bytes
 
 pub returns-clause-room : goal.returns-clause-room

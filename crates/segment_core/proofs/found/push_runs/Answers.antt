@@ -11,7 +11,9 @@ loop-k-preserved c =
     let runs : List Run = runs_of c.args.change.now.frame in
     let run : Run = record { start = c.run.result.0; count = c.run.result.1 } in
     let is = c.run.ensures.run in
-    let more : take (c.loop-k.k + 1) runs ≡ take c.loop-k.k runs ++ run ∷ [] = take_more runs c.loop-k.k run (slice_get_within runs c.loop-k.k run is) ∙ ap (λ r. take c.loop-k.k runs ++ r ∷ []) (get_or_from_slice_get runs c.loop-k.k run run is) in
+    let more : take (c.loop-k.k + 1) runs ≡ take c.loop-k.k runs ++ run ∷ []
+    = take_more runs c.loop-k.k run (slice_get_within runs c.loop-k.k run is)
+    ∙ ap (λ r. take c.loop-k.k runs ++ r ∷ []) (get_or_from_slice_get runs c.loop-k.k run run is) in
     c.in_ok-push.ensures.items
     ∙ ap (λ (ps : List (ℕ × ℕ)). ps ++ c.run.result ∷ []) c.loop-k.invariant
     ∙ append_assoc c.args.runs.now.items (map pair_of (take c.loop-k.k runs)) (c.run.result ∷ [])

@@ -29,7 +29,8 @@ loop-k-preserved g c =
     = ap joined (take_more growths c.loop-k.k growth c.growth.ensures) ∙ joined_push (take c.loop-k.k growths) growth in
     let bytes : c.append_records.new.out.items ≡ c.args.file.now.items ++ flat_map g.R.Record.form.bytes_of (before ++ growth)
     = wrote.bytes ∙ ap (λ (bs : List ℕ). bs ++ flat_map g.R.Record.form.bytes_of growth) so_far.bytes
-    ∙ append_assoc c.args.file.now.items (flat_map g.R.Record.form.bytes_of before) (flat_map g.R.Record.form.bytes_of growth) ∙ ap (λ (bs : List ℕ). c.args.file.now.items ++ bs) (sym (flat_map-append g.R.Record.form.bytes_of before growth)) in
+    ∙ append_assoc c.args.file.now.items (flat_map g.R.Record.form.bytes_of before) (flat_map g.R.Record.form.bytes_of growth)
+    ∙ ap (λ (bs : List ℕ). c.args.file.now.items ++ bs) (sym (flat_map-append g.R.Record.form.bytes_of before growth)) in
     let again : AreReadAgain g.R.Record.form (before ++ growth)
     = AreReadAgain-append g.R.Record.form before growth so_far.read_again wrote.read_again in
     record {

@@ -17,6 +17,9 @@ loop-k-preserved g c =
     let growths = g.G.GrowthList.growths c.args.group.now in
     let before = take c.loop-k.k growths in
     let more = take_more growths c.loop-k.k c.growth.result.now c.growth.ensures in
-    rw more (c.in_ok-extend_from_slice.ensures.items ∙ ap (λ (bs : List ℕ). c.loop-k.file.items ++ bs) c.to_le_bytes.ensures ∙ ap (λ (bs : List ℕ). bs ++ to_le_bytes w32 (length c.growth.result.now)) c.loop-k.invariant
+    rw more
+    (c.in_ok-extend_from_slice.ensures.items
+    ∙ ap (λ (bs : List ℕ). c.loop-k.file.items ++ bs) c.to_le_bytes.ensures
+    ∙ ap (λ (bs : List ℕ). bs ++ to_le_bytes w32 (length c.growth.result.now)) c.loop-k.invariant
     ∙ append_assoc c.args.file.now.items (flat_map (to_le_bytes w32) (map length before)) (to_le_bytes w32 (length c.growth.result.now))
     ∙ ap (λ (bs : List ℕ). c.args.file.now.items ++ bs) (sym (lengths_push before c.growth.result.now)))

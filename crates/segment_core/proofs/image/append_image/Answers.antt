@@ -32,9 +32,13 @@ returns-clause-text g c =
     let all = take_all c.loop-group.group-index c.args.groups.now c.loop-group-test.false in
     on_ok_weaker c.append_last_gate.result (λ gate. gate ∙ ap (λ (bs : List ℕ). bs ++ 0 ∷ []) c.loop-group.invariant.so_far
     ∙ append_assoc c.args.file.now.items (text (shape_of One g.R.Record.form) (map (group_frame g.R.Record.form) (groups_of (take c.loop-group.group-index c.args.groups.now)))) (0 ∷ [])
-    ∙ ap (λ (gs : List (Vec (Vec g.row.R.Denot))). c.args.file.now.items ++ (text (shape_of One g.R.Record.form) (map (group_frame g.R.Record.form) (groups_of gs)) ++ 0 ∷ [])) all) c.append_last_gate.ensures
+    ∙ ap
+    (λ (gs : List (Vec (Vec g.row.R.Denot))). c.args.file.now.items ++ (text (shape_of One g.R.Record.form) (map (group_frame g.R.Record.form) (groups_of gs)) ++ 0 ∷ []))
+    all) c.append_last_gate.ensures
 
 pub returns-clause-read_again : goal.returns-clause-read_again
 returns-clause-read_again g c =
     let all = take_all c.loop-group.group-index c.args.groups.now c.loop-group-test.false in
-    on_ok_weaker c.append_last_gate.result (λ _. subst (λ (gs : List (Vec (Vec g.row.R.Denot))). AreReadAgain g.R.Record.form (all_records (groups_of gs))) all c.loop-group.invariant.read_again) c.append_last_gate.ensures
+    on_ok_weaker c.append_last_gate.result
+    (λ _. subst (λ (gs : List (Vec (Vec g.row.R.Denot))). AreReadAgain g.R.Record.form (all_records (groups_of gs))) all c.loop-group.invariant.read_again)
+    c.append_last_gate.ensures

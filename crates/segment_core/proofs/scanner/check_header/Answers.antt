@@ -1,47 +1,20 @@
-use Rattle.std.proofs.Common.{◌≡◌, ◌-◌, ℕ, List, Bool, true, false, length, take, drop, sym, ap, ◌∙◌, ◌++◌, codes, arith}
-use Rattle.std.specs.Prelude.{nat_eq}
-use Rattle.std.specs.List.{starts_with}
-use Rattle.std.proofs.lemmas.List.{take_rest}
+use Rattle.std.proofs.Common.{◌++◌, ℕ, List, drop, sym, ap, ◌∙◌}
 use Rattle.segment_core.specs.Frame.{header}
-use Rattle.segment_core.specs.Fault.{is_version}
-use Rattle.segment_core.proofs.Header.{IsBorn, IsSegment, finds_unborn_short, finds_unborn_closed, finds_other_short, finds_other_magic, finds_version, finds_width, finds_none, width_read, format_known, is_version-version_of, header_of_none, header_written}
+use Rattle.segment_core.specs.Fault.{header_fault}
+use Rattle.segment_core.proofs.Header.{other_width}
 use Rattle.segment_core.proofs.scanner.check_header.Goals as goal
-use Rattle.segment_core.proofs.scanner.check_header.Goals.{then-bytes-le1-via-then-bytes-le1, then-bytes-le1-via-else-bytes-le1+then-bytes-ne-OPEN_GATE, then-bytes-lt-HEADER_LEN-via-then-bytes-lt-HEADER_LEN, then-bytes-lt-HEADER_LEN-via-else-bytes-lt-HEADER_LEN+then-not-starts_with}
 
-pub returns-then-bytes-le1 : goal.returns-then-bytes-le1
-returns-then-bytes-le1 c = elim c.then-bytes-le1.branch [
-  | then-bytes-le1-via-then-bytes-le1 w ↦ finds_unborn_short c.args.width c.args.bytes.now w.if-bytes-le1.true
-  | then-bytes-le1-via-else-bytes-le1+then-bytes-ne-OPEN_GATE w ↦ finds_unborn_closed c.args.width c.args.bytes.now w.if-bytes-ne-OPEN_GATE.true
-]
-
--- the test of the magic, on the bytes from place 1 on
-magic_tested : (bytes : List ℕ) (answer : Bool) (b : Bool) → answer ≡ starts_with nat_eq (take (length bytes - 1) (drop 1 bytes)) (codes "CVECSEG") → answer ≡ b → starts_with nat_eq (drop 1 bytes) (codes "CVECSEG") ≡ b
-magic_tested bytes answer b is told = ap (λ (bs : List ℕ). starts_with nat_eq bs (codes "CVECSEG")) (sym (take_rest bytes 1)) ∙ sym is ∙ told
-
-pub returns-then-bytes-lt-HEADER_LEN : goal.returns-then-bytes-lt-HEADER_LEN
-returns-then-bytes-lt-HEADER_LEN c =
-    let born : IsBorn c.args.bytes.now = record { some = c.if-bytes-le1.false; opened = c.if-bytes-ne-OPEN_GATE.false } in
-    elim c.then-bytes-lt-HEADER_LEN.branch [
-      | then-bytes-lt-HEADER_LEN-via-then-bytes-lt-HEADER_LEN w ↦ finds_other_short c.args.width c.args.bytes.now born w.if-bytes-lt-HEADER_LEN.true
-      | then-bytes-lt-HEADER_LEN-via-else-bytes-lt-HEADER_LEN+then-not-starts_with w ↦ finds_other_magic c.args.width c.args.bytes.now born (magic_tested c.args.bytes.now w.starts_with.result false w.starts_with.ensures.value w.if-not-starts_with.true)
-    ]
-
-pub returns-in_default : goal.returns-in_default
-returns-in_default c =
-    let segment : IsSegment c.args.bytes.now = record { born = record { some = c.if-bytes-le1.false; opened = c.if-bytes-ne-OPEN_GATE.false }; long = c.if-bytes-lt-HEADER_LEN.false; magic = magic_tested c.args.bytes.now c.starts_with.result true c.starts_with.ensures.value c.if-not-starts_with.false } in
-    finds_version c.args.width c.args.bytes.now segment c.in_default.ensures.unknown
-
-pub returns-then-file_width-width : goal.returns-then-file_width-width
-returns-then-file_width-width c =
-    let segment : IsSegment c.args.bytes.now = record { born = record { some = c.if-bytes-le1.false; opened = c.if-bytes-ne-OPEN_GATE.false }; long = c.if-bytes-lt-HEADER_LEN.false; magic = magic_tested c.args.bytes.now c.starts_with.result true c.starts_with.ensures.value c.if-not-starts_with.false } in
-    let known = ap is_version (sym c.in-Some.ensures.known) ∙ is_version-version_of c.in-Some.format in
-    finds_width c.args.width c.from_le_bytes-file_width.result c.args.bytes.now segment known (c.from_le_bytes-file_width.ensures ∙ width_read c.args.bytes.now segment) c.if-file_width-width.true
+pub returns-then-shape-width : goal.returns-then-shape-width
+returns-then-shape-width c =
+    other_width c.args.width c.in_ok-shape.shape.width c.args.bytes.now c.in_ok-shape.ensures.sound.2.no_fault c.if-shape-width.true
 
 pub returns : goal.returns
 returns c =
-    let segment : IsSegment c.args.bytes.now = record { born = record { some = c.if-bytes-le1.false; opened = c.if-bytes-ne-OPEN_GATE.false }; long = c.if-bytes-lt-HEADER_LEN.false; magic = magic_tested c.args.bytes.now c.starts_with.result true c.starts_with.ensures.value c.if-not-starts_with.false } in
-    let known = ap is_version (sym c.in-Some.ensures.known) ∙ is_version-version_of c.in-Some.format in
-    let none = finds_none c.args.width c.from_le_bytes-file_width.result c.args.bytes.now segment known (c.from_le_bytes-file_width.ensures ∙ width_read c.args.bytes.now segment) c.if-file_width-width.false in
-    let names = format_known c.args.bytes.now c.in-Some.format c.in-Some.ensures.known in
-    let written = header_written c.args.width c.args.bytes.now (λ i. omega (arith, c.type_inv.bytes i)) (header_of_none c.args.width c.args.bytes.now none) in
-    (none, names, written ∙ ap (λ f. header (record { format = f; width = c.args.width }) ++ drop 11 c.args.bytes.now) names)
+    let bytes : List ℕ = c.args.bytes.now in
+    let sound = c.in_ok-shape.ensures.sound.2 in
+    let same = c.if-shape-width.false in (
+      ap (λ n. header_fault n bytes) (sym same) ∙ sound.no_fault,
+      sound.names,
+      c.in_ok-shape.ensures.spelled
+          ∙ ap (λ n. header (record { format = c.in_ok-shape.shape.format; width = n }) ++ drop 11 bytes) same,
+    )

@@ -19,7 +19,10 @@ returns-then-count-size c =
       | then-count-size-via-then-count-size w ↦ let t = w.if-count-size.true in omega arith
       | then-count-size-via-else-count-size+then-start-size w ↦ let f = w.if-count-size.false in let t = w.if-start-size.true in omega arith
     ] in
-    sym (c.loop-k.invariant ∙ ap (are_inside c.args.size) left ∙ first_false (nat_le (run.start + run.count) c.args.size) (are_inside c.args.size (drop (c.loop-k.k + 1) runs)) (lt-leb (run.start + run.count) c.args.size past))
+    sym
+    (c.loop-k.invariant
+    ∙ ap (are_inside c.args.size) left
+    ∙ first_false (nat_le (run.start + run.count) c.args.size) (are_inside c.args.size (drop (c.loop-k.k + 1) runs)) (lt-leb (run.start + run.count) c.args.size past))
 
 pub loop-k-preserved : goal.loop-k-preserved
 loop-k-preserved c =

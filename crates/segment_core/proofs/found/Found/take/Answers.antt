@@ -10,7 +10,8 @@ on_ok_map (Err y) P Q p f = tt
 
 pub returns-in-Group : goal.returns-in-Group
 returns-in-Group g c =
-    on_ok_map c.take_group.result _ _ c.take_group.ensures (λ grown frames follows. found_group g.R.Record.form frames c.args.frame.now c.args.self.now c.take_group.new.self (sym c.in-Group.ensures) follows grown)
+    on_ok_map c.take_group.result _ _ c.take_group.ensures
+    (λ grown frames follows. found_group g.R.Record.form frames c.args.frame.now c.args.self.now c.take_group.new.self (sym c.in-Group.ensures) follows grown)
 
 pub returns-in_ok-push_back-in-Change : goal.returns-in_ok-push_back-in-Change
 returns-in_ok-push_back-in-Change g c = λ frames follows.
@@ -21,4 +22,7 @@ pub returns-in-Shrink : goal.returns-in-Shrink
 returns-in-Shrink g c = λ frames follows. found_shrink g.R.Record.form frames c.args.frame.now c.args.self.now c.shrink.new.self c.new_length.result c.new_length.ensures follows c.shrink.ensures
 
 pub returns-in-Fold : goal.returns-in-Fold
-returns-in-Fold g c = λ frames follows. found_fold g.R.Record.form frames c.args.frame.now c.args.self.now c.fold.new.self c.fold_count.result c.fold_count.ensures follows c.fold.ensures.same c.fold.ensures.folded c.fold.ensures.live
+returns-in-Fold g c =
+    λ frames follows.
+    found_fold g.R.Record.form frames c.args.frame.now c.args.self.now c.fold.new.self c.fold_count.result
+    c.fold_count.ensures follows c.fold.ensures.same c.fold.ensures.folded c.fold.ensures.live

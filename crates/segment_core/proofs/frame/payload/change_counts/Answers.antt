@@ -5,15 +5,9 @@ use Rattle.segment_core.proofs.Payload.{no_change, no_change_unfilled, is_change
 use Rattle.segment_core.proofs.frame.payload.change_counts.Goals as goal
 use Rattle.segment_core.proofs.frame.payload.change_counts.Goals.{then-runs-eq0-via-then-runs-eq0, then-runs-eq0-via-else-runs-eq0+then-payload-runs_len}
 
-pub returns-then-payload-number_len : goal.returns-then-payload-number_len
-returns-then-payload-number_len c =
-    let size = c.number_len.ensures in
-    let short = c.if-payload-number_len.true in
-    no_change c.args.shape c.args.payload.now (λ p. let counted = p.counted in absurd (omega arith))
-
 pub returns-then-runs-eq0 : goal.returns-then-runs-eq0
 returns-then-runs-eq0 c =
-    let count = c.run_count-runs.ensures.is in
+    let count = c.requires.is in
     let head = ap (runs_len c.args.shape.format) count in
     no_change c.args.shape c.args.payload.now (λ p. (
     let some = p.some in
@@ -32,7 +26,8 @@ pub returns-in_err-filled : goal.returns-in_err-filled
 returns-in_err-filled c =
     let counts = c.in_ok-records.ensures in
     let small = c.requires.small in
-    rw c.from_residual-in_err-filled.ensures (no_change_unfilled c.args.shape c.args.payload.now c.run_count-runs.result c.in_ok-records.records c.run_count-runs.ensures.is counts.1 (λ filled. c.in_err-filled.ensures (omega arith)))
+    rw c.from_residual-in_err-filled.ensures
+    (no_change_unfilled c.args.shape c.args.payload.now c.args.runs c.in_ok-records.records c.requires.is counts.1 (λ filled. c.in_err-filled.ensures (omega arith)))
 
 pub returns-then-filled-payload : goal.returns-then-filled-payload
 returns-then-filled-payload c =
@@ -41,15 +36,22 @@ returns-then-filled-payload c =
     let some = c.if-runs-eq0.false in
     let head = c.runs_len.ensures in
     let head' = c.runs_len-2.ensures in
-    let number = c.number_len.ensures in
-    let long = c.if-payload-number_len.false in
+    let long = c.requires.counted in
     let longer = c.if-payload-runs_len.false in
-    let left : c.in_ok-filled.filled ≡ length c.args.payload.now - runs_len c.args.shape.format c.run_count-runs.result = c.if-filled-payload.true ∙ ap (λ n. length c.args.payload.now - n) head' in
-    (is_change c.args.shape c.args.payload.now c.run_count-runs.result c.in_ok-records.records c.run_count-runs.ensures.is counts.1 (omega arith) (omega arith) (omega arith) counts.0 (sym filled.1 ∙ left), c.run_count-runs.ensures.is, counts.1)
+    let left :
+    c.in_ok-filled.filled ≡ length c.args.payload.now - runs_len c.args.shape.format c.args.runs
+    = c.if-filled-payload.true ∙ ap (λ n. length c.args.payload.now - n) head' in (
+      is_change c.args.shape c.args.payload.now c.args.runs c.in_ok-records.records
+          c.requires.is counts.1 (omega arith) (omega arith) (omega arith) counts.0 (sym filled.1 ∙ left),
+      c.requires.is,
+      counts.1,
+    )
 
 pub returns-else-filled-payload : goal.returns-else-filled-payload
 returns-else-filled-payload c =
     let counts = c.in_ok-records.ensures in
     let filled = c.in_ok-filled.ensures in
     let head' = c.runs_len-2.ensures in
-    no_change_unfilled c.args.shape c.args.payload.now c.run_count-runs.result c.in_ok-records.records c.run_count-runs.ensures.is counts.1 (λ is. c.if-filled-payload.false (filled.1 ∙ is ∙ ap (λ n. length c.args.payload.now - n) (sym head')))
+    no_change_unfilled c.args.shape c.args.payload.now c.args.runs c.in_ok-records.records
+    c.requires.is counts.1
+    (λ is. c.if-filled-payload.false (filled.1 ∙ is ∙ ap (λ n. length c.args.payload.now - n) (sym head')))

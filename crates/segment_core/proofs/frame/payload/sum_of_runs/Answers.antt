@@ -23,7 +23,9 @@ loop-k-preserved c =
     let below = c.run_at-count.ensures.small in
     let so_far = c.loop-k.invariant.small in
     record {
-      positive = ap (list_all (λ r. nat_lt 0 r.count)) more ∙ list_all-append (λ (r : Run). nat_lt 0 r.count) (take k runs) (run ∷ []) c.loop-k.invariant.positive (true_both (nat_lt 0 run.count) true (lt-ltb 0 run.count positive) refl);
+      positive =
+          ap (list_all (λ r. nat_lt 0 r.count)) more
+          ∙ list_all-append (λ (r : Run). nat_lt 0 r.count) (take k runs) (run ∷ []) c.loop-k.invariant.positive (true_both (nat_lt 0 run.count) true (lt-ltb 0 run.count positive) refl);
       counted = ap (λ x. x + run.count) c.loop-k.invariant.counted ∙ sym (records_of_runs_push (take k runs) run) ∙ ap records_of_runs (sym more);
       small = omega arith;
     }

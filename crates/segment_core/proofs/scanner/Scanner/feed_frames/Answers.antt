@@ -7,7 +7,10 @@ use Rattle.segment_core.proofs.scanner.Scanner.feed_frames.Goals as goal
 use Rattle.segment_core.proofs.scanner.Scanner.feed_frames.Goals.{then-is_empty+in_ok-take, else-is_empty+in_ok-pend}
 
 pub returns-in_default : goal.returns-in_default
-returns-in_default g c = record { ok = λ image goes. on_ended g.R.Record.form image c.args.piece.now c.loop-used.used c.loop-used.self (c.loop-used.invariant.on image goes) (λ is. c.in_default.not-Open is); err = tt }
+returns-in_default g c = record {
+  ok = λ image goes. on_ended g.R.Record.form image c.args.piece.now c.loop-used.used c.loop-used.self (c.loop-used.invariant.on image goes) (λ is. c.in_default.not-Open is);
+  err = tt;
+}
 
 -- the image and the part that is fed next are no longer than the whole
 fits : (image piece : List ℕ) (used n : ℕ) → used + n ≤ length piece → length (image ++ take used piece) + length (take (used + n - used) (drop used piece)) ≤ length image + length piece
@@ -40,13 +43,15 @@ pub returns-in_err-take-clause-err : goal.returns-in_err-take-clause-err
 returns-in_err-take-clause-err g c =
     let p = err_from_is_err_and c.from_residual.result c.from_residual.ensures.1 in
     rw (p.1, p.2) (λ image goes. refused_part g.R.Record.form image c.args.piece.now c.loop-used.used c.min-n.result c.in_err-take.field-0.0
-    (c.in_err-take.ensures.err (image ++ take c.loop-used.used c.args.piece.now) (on_open g.R.Record.form (image ++ take c.loop-used.used c.args.piece.now) c.loop-used.self (c.loop-used.invariant.on image goes) c.in-Open.is)))
+    (c.in_err-take.ensures.err (image ++ take c.loop-used.used c.args.piece.now)
+    (on_open g.R.Record.form (image ++ take c.loop-used.used c.args.piece.now) c.loop-used.self (c.loop-used.invariant.on image goes) c.in-Open.is)))
 
 pub returns-in_err-pend-clause-err : goal.returns-in_err-pend-clause-err
 returns-in_err-pend-clause-err g c =
     let p = err_from_is_err_and c.from_residual-in_err-pend.result c.from_residual-in_err-pend.ensures.1 in
     rw (p.1, p.2) (λ image goes. refused_part g.R.Record.form image c.args.piece.now c.loop-used.used c.min-n.result c.in_err-pend.field-0.0
-    (c.in_err-pend.ensures.err (image ++ take c.loop-used.used c.args.piece.now) (on_open g.R.Record.form (image ++ take c.loop-used.used c.args.piece.now) c.loop-used.self (c.loop-used.invariant.on image goes) c.in-Open.is)))
+    (c.in_err-pend.ensures.err (image ++ take c.loop-used.used c.args.piece.now)
+    (on_open g.R.Record.form (image ++ take c.loop-used.used c.args.piece.now) c.loop-used.self (c.loop-used.invariant.on image goes) c.in-Open.is)))
 
 pub loop-used-preserved : goal.loop-used-preserved
 loop-used-preserved g c =
@@ -60,8 +65,14 @@ loop-used-preserved g c =
           let before = on_open form front c.loop-used.self (c.loop-used.invariant.on image goes) c.in-Open.is in
           subst (λ (bs : List ℕ). IsOn form bs c.if-is_empty.self) (next_part image c.args.piece.now c.loop-used.used c.min-n.result)
           (elim c.if-is_empty.branch [
-            | then-is_empty+in_ok-take w ↦ subst (IsOn form (front ++ take (c.loop-used.used + c.min-n.result - c.loop-used.used) (drop c.loop-used.used c.args.piece.now))) (sym w.self-is) (w.in_ok-take.ensures.ok front before)
-            | else-is_empty+in_ok-pend w ↦ subst (IsOn form (front ++ take (c.loop-used.used + c.min-n.result - c.loop-used.used) (drop c.loop-used.used c.args.piece.now))) (sym w.self-is) (w.in_ok-pend.ensures.ok front before)
+            | then-is_empty+in_ok-take w ↦
+                subst
+                (IsOn form (front ++ take (c.loop-used.used + c.min-n.result - c.loop-used.used) (drop c.loop-used.used c.args.piece.now)))
+                (sym w.self-is) (w.in_ok-take.ensures.ok front before)
+            | else-is_empty+in_ok-pend w ↦
+                subst
+                (IsOn form (front ++ take (c.loop-used.used + c.min-n.result - c.loop-used.used) (drop c.loop-used.used c.args.piece.now)))
+                (sym w.self-is) (w.in_ok-pend.ensures.ok front before)
           ]));
     }
 

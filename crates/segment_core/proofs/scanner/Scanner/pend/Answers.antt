@@ -7,7 +7,10 @@ use Rattle.segment_core.proofs.Fed.{sound_more, refused_by_walk, memory_for, aft
 use Rattle.segment_core.proofs.scanner.Scanner.pend.Goals as goal
 
 pub returns-in-Err-clause-err : goal.returns-in-Err-clause-err
-returns-in-Err-clause-err g c = λ image on. memory_for g.R.Record.form c.args.self.now.walk.shape.format (image ++ c.args.bytes.now) _ (sound_more g.R.Record.form.width c.args.self.now.walk.shape.format image c.args.bytes.now on.sound) refl
+returns-in-Err-clause-err g c =
+    λ image on.
+    memory_for g.R.Record.form c.args.self.now.walk.shape.format (image ++ c.args.bytes.now) _
+    (sound_more g.R.Record.form.width c.args.self.now.walk.shape.format image c.args.bytes.now on.sound) refl
 
 pub read-requires-after_bounds : goal.read-requires-after_bounds
 read-requires-after_bounds g c κs within =
@@ -15,8 +18,12 @@ read-requires-after_bounds g c κs within =
     let on = c.requires.open.1 in
     let len = length-append image c.args.bytes.now in
     let small = c.requires.open.2 in
-    let grown : c.extend_from_slice.new.self.items ≡ c.args.self.now.pending.items ++ c.args.bytes.now = c.in-Ok.ensures.items in
-    (image ++ c.args.bytes.now, stands_behind_pending g.R.Record.form image c.args.self.now.pending.items c.args.bytes.now c.deref.result.now c.args.self.now.walk on.stands (c.deref.ensures.value ∙ grown), omega arith)
+    let grown : c.extend_from_slice.new.self.items ≡ c.args.self.now.pending.items ++ c.args.bytes.now = c.in-Ok.ensures.items in (
+      image ++ c.args.bytes.now,
+      stands_behind_pending g.R.Record.form image c.args.self.now.pending.items c.args.bytes.now c.deref.result.now
+          c.args.self.now.walk on.stands (c.deref.ensures.value ∙ grown),
+      omega arith,
+    )
 
 pub returns-in_err-used-clause-err : goal.returns-in_err-used-clause-err
 returns-in_err-used-clause-err g c =
@@ -24,31 +31,64 @@ returns-in_err-used-clause-err g c =
     let grown : c.extend_from_slice.new.self.items ≡ c.args.self.now.pending.items ++ c.args.bytes.now = c.in-Ok.ensures.items in
     rw (p.1, p.2) (λ image on. (
     let stands = stands_behind_pending g.R.Record.form image c.args.self.now.pending.items c.args.bytes.now c.deref.result.now c.args.self.now.walk on.stands (c.deref.ensures.value ∙ grown) in
-    refused_by_walk g.R.Record.form (image ++ c.args.bytes.now) c.args.self.now.walk c.in_err-used.field-0.0 (sound_more g.R.Record.form.width c.args.self.now.walk.shape.format image c.args.bytes.now on.sound) on.stands.behind.width_is (c.in_err-used.ensures.err (image ++ c.args.bytes.now) stands)))
+    refused_by_walk g.R.Record.form (image ++ c.args.bytes.now) c.args.self.now.walk c.in_err-used.field-0.0
+    (sound_more g.R.Record.form.width c.args.self.now.walk.shape.format image c.args.bytes.now on.sound)
+    on.stands.behind.width_is (c.in_err-used.ensures.err (image ++ c.args.bytes.now) stands)))
 
 pub returns-in_err-cut_front-in-Short-clause-err : goal.returns-in_err-cut_front-in-Short-clause-err
 returns-in_err-cut_front-in-Short-clause-err g c =
     let p = err_from_is_err_and c.from_residual-in_err-cut_front-in-Short.result c.from_residual-in_err-cut_front-in-Short.ensures.1 in
-    rw (p.1, p.2) (λ image on. memory_for g.R.Record.form c.args.self.now.walk.shape.format (image ++ c.args.bytes.now) c.in_err-cut_front-in-Short.field-0.0 (sound_more g.R.Record.form.width c.args.self.now.walk.shape.format image c.args.bytes.now on.sound) c.in_err-cut_front-in-Short.ensures.memory)
+    rw (p.1, p.2)
+    (λ image on.
+    memory_for g.R.Record.form c.args.self.now.walk.shape.format (image ++ c.args.bytes.now)
+    c.in_err-cut_front-in-Short.field-0.0
+    (sound_more g.R.Record.form.width c.args.self.now.walk.shape.format image c.args.bytes.now on.sound)
+    c.in_err-cut_front-in-Short.ensures.memory)
 
 pub returns-in-Closed-clause-ok : goal.returns-in-Closed-clause-ok
 returns-in-Closed-clause-ok g c = λ image on. (
     let self = c.args.self.now in
     let form = g.R.Record.form in
-    let now : Scanner g.row.R.Denot = record { alloc = self.alloc; told = self.told; header = self.header; filled = self.filled; stage = stages.Closed; pending = c.extend_from_slice.new.self; walk = c.read.new.self } in
+    let now : Scanner g.row.R.Denot = record {
+      alloc = self.alloc;
+      told = self.told;
+      header = self.header;
+      filled = self.filled;
+      stage = stages.Closed;
+      pending = c.extend_from_slice.new.self;
+      walk = c.read.new.self;
+    } in
     let grown : c.extend_from_slice.new.self.items ≡ self.pending.items ++ c.args.bytes.now = c.in-Ok.ensures.items in
     let stands = stands_behind_pending form image self.pending.items c.args.bytes.now c.deref.result.now self.walk on.stands (c.deref.ensures.value ∙ grown) in
     let tail = rw c.in-Closed.is at c.in_ok-used.ensures.tail in
-    inr (refl, after_closed form (image ++ c.args.bytes.now) (drop c.in_ok-used.used c.deref.result.now) now self.walk c.in_ok-used.ensures.shape (sound_more form.width self.walk.shape.format image c.args.bytes.now on.sound) (c.in_ok-used.ensures.stands (image ++ c.args.bytes.now) stands) tail.1))
+    inr (
+      refl,
+      after_closed form (image ++ c.args.bytes.now) (drop c.in_ok-used.used c.deref.result.now) now self.walk
+          c.in_ok-used.ensures.shape (sound_more form.width self.walk.shape.format image c.args.bytes.now on.sound)
+          (c.in_ok-used.ensures.stands (image ++ c.args.bytes.now) stands) tail.1,
+    ))
 
 pub returns-in_ok-cut_front-in-Short-clause-ok : goal.returns-in_ok-cut_front-in-Short-clause-ok
 returns-in_ok-cut_front-in-Short-clause-ok g c = λ image on. (
     let self = c.args.self.now in
     let form = g.R.Record.form in
     let left : List ℕ = drop c.in_ok-used.used c.deref.result.now in
-    let now : Scanner g.row.R.Denot = record { alloc = self.alloc; told = self.told; header = self.header; filled = self.filled; stage = self.stage; pending = c.cut_front.new.bytes; walk = c.read.new.self } in
+    let now : Scanner g.row.R.Denot = record {
+      alloc = self.alloc;
+      told = self.told;
+      header = self.header;
+      filled = self.filled;
+      stage = self.stage;
+      pending = c.cut_front.new.bytes;
+      walk = c.read.new.self;
+    } in
     let grown : c.extend_from_slice.new.self.items ≡ self.pending.items ++ c.args.bytes.now = c.in-Ok.ensures.items in
     let stands = stands_behind_pending form image self.pending.items c.args.bytes.now c.deref.result.now self.walk on.stands (c.deref.ensures.value ∙ grown) in
     let tail = rw c.in-Short.is at c.in_ok-used.ensures.tail in
     let pending : c.cut_front.new.bytes.items ≡ left = c.in_ok-cut_front-in-Short.ensures.ok ∙ ap (drop c.in_ok-used.used) (sym c.deref.ensures.value) in
-    inl (c.requires.stage, after_short form (image ++ c.args.bytes.now) left now self.walk c.in_ok-used.ensures.shape (sound_more form.width self.walk.shape.format image c.args.bytes.now on.sound) (c.in_ok-used.ensures.stands (image ++ c.args.bytes.now) stands) tail.1 pending))
+    inl (
+      c.requires.stage,
+      after_short form (image ++ c.args.bytes.now) left now self.walk c.in_ok-used.ensures.shape
+          (sound_more form.width self.walk.shape.format image c.args.bytes.now on.sound)
+          (c.in_ok-used.ensures.stands (image ++ c.args.bytes.now) stands) tail.1 pending,
+    ))

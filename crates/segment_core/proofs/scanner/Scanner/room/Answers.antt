@@ -10,6 +10,7 @@ returns-clause-held g c = λ some.
 
 pub returns-clause-most : goal.returns-clause-most
 returns-clause-most g c = λ n can small. (
-    let most = room_most (shape_of c.args.format g.R.Record.form) c.width_of-width.result c.payload_limit.result c.args.self.now.told c.saturating_sub-bytes.result c.saturating_sub.result (omega arith)
+    let most =
+    room_most (shape_of c.args.format g.R.Record.form) c.width_of-width.result c.payload_limit.result c.args.self.now.told c.saturating_sub-bytes.result c.saturating_sub.result (omega arith)
     c.width_of-width.ensures.is c.payload_limit.ensures.is c.saturating_sub-bytes.ensures c.saturating_sub.ensures n can in
     omega arith)

@@ -3,7 +3,7 @@ use Rattle.std.proofs.lemmas.List.{take_rest, drop-drop}
 use Rattle.std.proofs.lemmas.Result.{err_from_is_err_and}
 use Rattle.segment_core.specs.declared.fault.ScanFault.{ScanFault}
 use Rattle.segment_core.specs.declared.format.Shape.{Shape}
-use Rattle.segment_core.specs.declared.frame.Unread.TheVariants.{Fault}
+use Rattle.segment_core.specs.declared.frame_head.Unread.TheVariants.{Fault}
 use Rattle.segment_core.specs.Frame.{frame_text}
 use Rattle.segment_core.specs.Reading.{Seen, IsNext, BeginsWith, IsShort, IsFaulty}
 use Rattle.segment_core.specs.Fault.{is_closed}
@@ -40,7 +40,12 @@ returns-in_err-step-in-Ok-Some-clause-err g c =
     let left : List ℕ = drop c.loop-frame.used c.args.bytes.now in
     let read = frame_read c.loop-frame.self.shape c.loop-frame.self.at left _ c.in-Ok-Some.frame (take_rest c.args.bytes.now c.loop-frame.used) (rw c.in-Ok-Some.field-0-is at c.in-Ok-Some.ensures) in
     rw (p.1, p.2) (λ image stands. elim c.in_err-step-in-Ok-Some.ensures.err [
-      | inl some ↦ subst (λ s. IsWalkRefused s image c.in_err-step-in-Ok-Some.field-0.0) c.loop-frame.invariant.same (inl (refused_by_order g.R.Record.form image left c.loop-frame.self c.in-Ok-Some.frame.frame c.in_err-step-in-Ok-Some.field-0.0 (c.loop-frame.invariant.stands image stands) read.begins some))
+      | inl some ↦
+          subst (λ s. IsWalkRefused s image c.in_err-step-in-Ok-Some.field-0.0) c.loop-frame.invariant.same
+          (inl
+          (refused_by_order g.R.Record.form image left c.loop-frame.self c.in-Ok-Some.frame.frame
+          c.in_err-step-in-Ok-Some.field-0.0 (c.loop-frame.invariant.stands image stands) read.begins
+          some))
       | inr memory ↦ inr memory
     ])
 
@@ -73,8 +78,11 @@ faulty_read shape at bytes part fault is next = subst (λ (bs : List ℕ). IsFau
 pub returns-in-Err-Fault-clause-err : goal.returns-in-Err-Fault-clause-err
 returns-in-Err-Fault-clause-err g c = λ image stands. (
     let left : List ℕ = drop c.loop-frame.used c.args.bytes.now in
-    let faulty = faulty_read c.loop-frame.self.shape c.loop-frame.self.at left _ c.in-Err-Fault.fault (take_rest c.args.bytes.now c.loop-frame.used) (rw c.in-Err-Fault.field-0-is at c.in-Err-Fault.ensures) in
-    subst (λ s. IsWalkRefused s image c.in-Err-Fault.fault) c.loop-frame.invariant.same (inl (refused_by_lines g.R.Record.form image left c.loop-frame.self c.in-Err-Fault.fault (c.loop-frame.invariant.stands image stands) faulty)))
+    let faulty =
+    faulty_read c.loop-frame.self.shape c.loop-frame.self.at left _ c.in-Err-Fault.fault
+    (take_rest c.args.bytes.now c.loop-frame.used) (rw c.in-Err-Fault.field-0-is at c.in-Err-Fault.ensures) in
+    subst (λ s. IsWalkRefused s image c.in-Err-Fault.fault) c.loop-frame.invariant.same
+    (inl (refused_by_lines g.R.Record.form image left c.loop-frame.self c.in-Err-Fault.fault (c.loop-frame.invariant.stands image stands) faulty)))
 
 -- what ends the frames
 pub returns-in-Ok-None-clause-tail : goal.returns-in-Ok-None-clause-tail

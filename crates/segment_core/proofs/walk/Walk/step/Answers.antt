@@ -31,5 +31,7 @@ returns-clause-ok g c = λ frames behind. (
       at_is = ap (λ n. c.args.self.now.at + n) (c.len.ensures.is ∙ ap (λ (s : Shape). length (frame_text s.format seen.frame)) same);
       one_more = refl;
       tally_is = c.after-self.ensures;
-      found = subst (λ (s : Shape). IsFound g.R.Record.form s.format (frames ++ seen.frame ∷ []) c.take.new.self) same (c.in-Ok.ensures frames (stands_next g.R.Record.form frames c.args.self.now seen behind c.requires.at same c.requires.whole may));
+      found =
+          subst (λ (s : Shape). IsFound g.R.Record.form s.format (frames ++ seen.frame ∷ []) c.take.new.self) same
+          (c.in-Ok.ensures frames (stands_next g.R.Record.form frames c.args.self.now seen behind c.requires.at same c.requires.whole may));
     }))

@@ -5,7 +5,7 @@ use Rattle.segment_core.specs.Reading.{runs_of, record_bytes_of}
 use Rattle.segment_core.specs.Vector.{place_among, place_in_runs}
 use Rattle.segment_core.specs.Found.{StandsAt, first_record_of, IsLaid}
 use Rattle.segment_core.proofs.FoundLaid.{stands_part, laid_nothing, laid_run, run_fits}
-use Rattle.segment_core.proofs.found.lay_change.Goals as goal
+use Rattle.segment_core.proofs.found.laying.lay_change.Goals as goal
 
 pub overflow_add-end : goal.overflow_add-end
 overflow_add-end g c =
@@ -77,16 +77,24 @@ loop-k-preserved g c =
     record {
       here = fits.next;
       laid = λ image stands. (
-          let here : StandsAt image place area = subst (λ (bs : List ℕ). StandsAt image place bs) (sym c.record_area-area.ensures.bytes) (subst (λ (p : ℕ). StandsAt image p (record_bytes_of frame)) (sym c.first_record-place.ensures.is) stands) in
+          let here : StandsAt image place area
+          = subst (λ (bs : List ℕ). StandsAt image place bs) (sym c.record_area-area.ensures.bytes)
+          (subst (λ (p : ℕ). StandsAt image p (record_bytes_of frame)) (sym c.first_record-place.ensures.is) stands) in
           let one = c.in_ok-lay.ensures image (stands_part image place area at size here (omega arith)) in
           laid_run form image (first_record_of c.args.change.now) at k start count (runs_of frame) c.args.records.now c.args.notes.now c.loop-k.records c.loop-k.notes c.lay.new.records c.lay.new.notes
           c.loop-k.invariant.here fits.more c.lay.auto.records (c.loop-k.invariant.laid image stands)
-          (subst (λ (p : ℕ). IsLaid form image (place_among form.width (p + at) start count) c.loop-k.records c.loop-k.notes c.lay.new.records c.lay.new.notes) c.first_record-place.ensures.is one));
+          (subst
+          (λ (p : ℕ). IsLaid form image (place_among form.width (p + at) start count) c.loop-k.records c.loop-k.notes c.lay.new.records c.lay.new.notes)
+          c.first_record-place.ensures.is one));
     }
 
 pub returns : goal.returns
 returns g c = λ image stands. (
     let runs : List Run = runs_of c.args.change.now.frame in
     let all : take c.loop-k.k runs ≡ runs = take_all c.loop-k.k runs (omega (arith, c.loop-k-test.false, c.runs-k-end.ensures)) in
-    subst (λ (rs : List Run). IsLaid g.R.Record.form image (λ i. place_in_runs g.R.Record.form.width i (first_record_of c.args.change.now) rs) c.args.records.now c.args.notes.now c.loop-k.records c.loop-k.notes) all
+    subst
+    (λ (rs : List Run).
+    IsLaid g.R.Record.form image
+    (λ i. place_in_runs g.R.Record.form.width i (first_record_of c.args.change.now) rs) c.args.records.now
+    c.args.notes.now c.loop-k.records c.loop-k.notes) all
     (c.loop-k.invariant.laid image stands))

@@ -2,7 +2,7 @@ use Rattle.std.proofs.Common.{◌≡◌, ◌+◌, ◌-◌, ◌*◌, List, length
 use Rattle.std.proofs.lemmas.List.{length_push, length-take-le, length-drop}
 use Rattle.segment_core.specs.Notes.{noted}
 use Rattle.segment_core.proofs.FoundLaid.{decoded_whole, laid_push, stands_part, cell_within}
-use Rattle.segment_core.proofs.found.grow_sound.Goals as goal
+use Rattle.segment_core.proofs.found.decoding.grow_sound.Goals as goal
 
 pub loop-sound-preserved : goal.loop-sound-preserved
 loop-sound-preserved g c =
@@ -25,6 +25,8 @@ loop-sound-preserved g c =
       room = omega (arith, so_far.room, c.push_reserved.ensures.len, c.push_reserved.ensures.capacity);
       laid = λ image place stands. laid_push form image place (length old) k w (length old + k) old notes c.loop-sound.grown.items notes c.push_reserved.new.self.items notes c.in-Some.record
           c.width_of-width.ensures.is refl so_far.longer pushed (so_far.laid image place stands)
-          (decoded_whole form image (place + k * w) bytes c.in-Some.record (noted notes (length old + k)) wide (sym c.in-Some.ensures) (stands_part image place area (k * w) (k * w + w - k * w) stands within) (clean (length old + k)))
+          (decoded_whole form image (place + k * w) bytes c.in-Some.record (noted notes (length old + k)) wide
+          (sym c.in-Some.ensures) (stands_part image place area (k * w) (k * w + w - k * w) stands within)
+          (clean (length old + k)))
           (λ q apart. refl);
     }

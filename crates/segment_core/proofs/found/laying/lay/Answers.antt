@@ -2,10 +2,13 @@ use Rattle.std.proofs.Common.{◌≡◌, ◌+◌, ◌-◌, ◌*◌, length, ℕ,
 use Rattle.segment_core.specs.Vector.{place_among}
 use Rattle.segment_core.specs.Found.{IsLaid}
 use Rattle.segment_core.proofs.FoundLaid.{laid_nothing, laid_set, place_among_none, stands_part, cell_within}
-use Rattle.segment_core.proofs.found.lay.Goals as goal
+use Rattle.segment_core.proofs.found.laying.lay.Goals as goal
 
 pub loop-k-init : goal.loop-k-init
-loop-k-init g c = λ image stands. laid_nothing g.R.Record.form image (place_among g.R.Record.form.width c.args.place c.args.start 0) c.args.records.now c.args.notes.now (place_among_none g.R.Record.form.width c.args.place c.args.start)
+loop-k-init g c =
+    λ image stands.
+    laid_nothing g.R.Record.form image (place_among g.R.Record.form.width c.args.place c.args.start 0)
+    c.args.records.now c.args.notes.now (place_among_none g.R.Record.form.width c.args.place c.args.start)
 
 pub loop-k-preserved : goal.loop-k-preserved
 loop-k-preserved g c =

@@ -3,7 +3,7 @@ use Rattle.segment_core.specs.Frame.{records_of_runs}
 use Rattle.segment_core.specs.Reading.{runs_of, record_bytes_of}
 use Rattle.segment_core.specs.Vector.{place_in_runs}
 use Rattle.segment_core.specs.Found.{StandsAt, first_record_of, IsLaid}
-use Rattle.segment_core.proofs.found.lay_change.Given as goal
+use Rattle.segment_core.proofs.found.laying.lay_change.Given as goal
 
 abbrev pub invariant-loop-k : goal.invariant-loop-k
 invariant-loop-k g l = record {

@@ -1,6 +1,6 @@
 use Rattle.std.proofs.Common.{◌≡◌, ◌≤◌, ◌<◌, length, ℕ}
 use Rattle.segment_core.specs.Found.{home_among, AreInTurn}
-use Rattle.segment_core.proofs.found.cut.Given as goal
+use Rattle.segment_core.proofs.homes.cut.Given as goal
 
 abbrev pub invariant-loop-home : goal.invariant-loop-home
 invariant-loop-home l = record {

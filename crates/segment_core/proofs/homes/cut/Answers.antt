@@ -2,7 +2,7 @@ use Rattle.std.proofs.Common.{◌-◌, List, refl, sym, ap, subst, ◌∙◌, ar
 use Rattle.segment_core.specs.declared.found.Home.{Home}
 use Rattle.segment_core.specs.Found.{home_among, AreInTurn}
 use Rattle.segment_core.proofs.FoundHomes.{in_turn_push, in_turn_pop, home_among_popped, home_among_cut}
-use Rattle.segment_core.proofs.found.cut.Goals as goal
+use Rattle.segment_core.proofs.homes.cut.Goals as goal
 
 pub returns-then-home-size-clause-in_turn : goal.returns-then-home-size-clause-in_turn
 returns-then-home-size-clause-in_turn c =

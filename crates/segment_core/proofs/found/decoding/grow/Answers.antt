@@ -3,7 +3,7 @@ use Rattle.std.proofs.lemmas.List.{length_push}
 use Rattle.segment_core.specs.Vector.{place_among}
 use Rattle.segment_core.specs.Found.{IsLaid}
 use Rattle.segment_core.proofs.FoundLaid.{laid_push, stands_part, cell_within}
-use Rattle.segment_core.proofs.found.grow.Goals as goal
+use Rattle.segment_core.proofs.found.decoding.grow.Goals as goal
 
 pub loop-k-preserved : goal.loop-k-preserved
 loop-k-preserved g c =
@@ -18,7 +18,11 @@ loop-k-preserved g c =
     record {
       longer = ap length pushed ∙ length_push c.loop-k.records.items c.in_ok-record.record ∙ omega (arith, so_far.longer);
       room = omega (arith, so_far.room, c.push_reserved.ensures.len, c.push_reserved.ensures.capacity);
-      laid = λ image stands. laid_push form image c.args.place start k w (c.len-start.result + k) c.args.records.now.items c.args.notes.now c.loop-k.records.items c.loop-k.notes c.push_reserved.new.self.items c.decode.new.notes c.in_ok-record.record
+      laid =
+          λ image stands.
+          laid_push form image c.args.place start k w (c.len-start.result + k) c.args.records.now.items
+          c.args.notes.now c.loop-k.records.items c.loop-k.notes c.push_reserved.new.self.items
+          c.decode.new.notes c.in_ok-record.record
           c.width_of-width.ensures.is (ap (λ n. n + k) first) so_far.longer pushed (so_far.laid image stands)
           (c.in_ok-record.ensures.decoded image (stands_part image c.args.place c.args.area.now (k * w) (k * w + w - k * w) stands within))
           c.in_ok-record.ensures.others;
@@ -27,5 +31,9 @@ loop-k-preserved g c =
 pub returns-clause-laid : goal.returns-clause-laid
 returns-clause-laid g c = λ image stands. (
     let all : c.loop-k.k ≡ c.args.count = omega (arith, c.loop-k-test.false, c.loop-k.auto.k-end) in
-    subst (λ (n : ℕ). IsLaid g.R.Record.form image (place_among g.R.Record.form.width c.args.place (length c.args.records.now.items) n) c.args.records.now.items c.args.notes.now c.loop-k.records.items c.loop-k.notes) all
+    subst
+    (λ (n : ℕ).
+    IsLaid g.R.Record.form image
+    (place_among g.R.Record.form.width c.args.place (length c.args.records.now.items) n)
+    c.args.records.now.items c.args.notes.now c.loop-k.records.items c.loop-k.notes) all
     (c.loop-k.invariant.laid image stands))

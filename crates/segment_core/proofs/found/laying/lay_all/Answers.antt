@@ -5,7 +5,7 @@ use Rattle.segment_core.specs.Found.{StandsAt, first_record_of, IsLaid, live_amo
 use Rattle.segment_core.specs.Reading.{runs_of}
 use Rattle.segment_core.specs.Vector.{place_in_runs}
 use Rattle.segment_core.proofs.FoundChanges.{all_at, laid_change}
-use Rattle.segment_core.proofs.found.lay_all.Goals as goal
+use Rattle.segment_core.proofs.found.laying.lay_all.Goals as goal
 
 pub loop-k-preserved : goal.loop-k-preserved
 loop-k-preserved g c = λ image all. (
@@ -15,13 +15,19 @@ loop-k-preserved g c = λ image all. (
     let inside : c.loop-k.k < length changes = search rules in
     let stands = all_at (λ x. StandsAt image (first_record_of x) (record_bytes_of x.frame)) changes c.loop-k.k change all inside c.index-change.ensures in
     let one = c.in_ok-lay_change.ensures image (subst (λ x. StandsAt image (first_record_of x) (record_bytes_of x.frame)) (sym c.frame.ensures) stands) in
-    laid_change form image c.loop-k.k changes change c.args.records.now c.args.notes.now c.loop-k.records c.loop-k.notes c.lay_change.new.records c.lay_change.new.notes inside c.index-change.ensures c.lay_change.auto.records
+    laid_change form image c.loop-k.k changes change c.args.records.now c.args.notes.now c.loop-k.records
+    c.loop-k.notes c.lay_change.new.records c.lay_change.new.notes inside c.index-change.ensures
+    c.lay_change.auto.records
     (c.loop-k.invariant image all)
-    (subst (λ (x : Seen). IsLaid form image (λ i. place_in_runs form.width i (first_record_of x) (runs_of x.frame)) c.loop-k.records c.loop-k.notes c.lay_change.new.records c.lay_change.new.notes) c.frame.ensures one))
+    (subst
+    (λ (x : Seen). IsLaid form image (λ i. place_in_runs form.width i (first_record_of x) (runs_of x.frame)) c.loop-k.records c.loop-k.notes c.lay_change.new.records c.lay_change.new.notes)
+    c.frame.ensures one))
 
 pub returns : goal.returns
 returns g c = λ image all. (
     let changes : List Seen = c.args.changes.now.items in
     let past : length changes ≤ c.loop-k.k = search rules in
-    subst (λ (cs : List Seen). IsLaid g.R.Record.form image (live_among g.R.Record.form.width cs) c.args.records.now c.args.notes.now c.loop-k.records c.loop-k.notes) (take_all c.loop-k.k changes past)
+    subst
+    (λ (cs : List Seen). IsLaid g.R.Record.form image (live_among g.R.Record.form.width cs) c.args.records.now c.args.notes.now c.loop-k.records c.loop-k.notes)
+    (take_all c.loop-k.k changes past)
     (c.loop-k.invariant image all))
