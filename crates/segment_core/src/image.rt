@@ -46,7 +46,7 @@ fn image_len<R: Record>(groups: &[Vec<Vec<R>>]) -> Result<usize, ImageFault>
         (λ _. AllFit R.form.width (groups_of groups.now))
         (IsImageRefused R.form.width (groups_of groups.now)) }
 {
-    let mut size = HEADER_LEN + 1;
+    let mut size = EMPTY_FILE_LEN;
     for (k, group) in groups.iter().enumerate() {
         let Some(len) = payload_size::<R, &[Vec<R>]>(&group.as_slice(), PAYLOAD_LIMIT) else {
             return Err(ImageFault::TooLarge(k));
@@ -56,36 +56,31 @@ fn image_len<R: Record>(groups: &[Vec<Vec<R>>]) -> Result<usize, ImageFault>
     Ok(size)
 }
 
+/// The header of a file of this format, whose records have this width in bytes.
+fn header_bytes(format: Format, width: u16) -> [u8; HEADER_LEN]
+    ensures { result ≡ header (record { format = format; width = width }) }
+{
+    let mut bytes = [OPEN_GATE; HEADER_LEN];
+    bytes[1..8].copy_from_slice(MAGIC);
+    bytes[8] = format.version();
+    bytes[9..].copy_from_slice(&width.to_le_bytes());
+    bytes
+}
+
 /// An empty file of this format, whose records have this width in bytes: its header, and a closed gate.
 pub fn empty_file(format: Format, width: u16) -> [u8; EMPTY_FILE_LEN]
     ensures { result ≡ header (record { format = format; width = width }) ++ closed_gate ∷ [] }
 {
-    let [c, v, e, c2, s, e2, g] = *MAGIC;
-    let [low, high] = width.to_le_bytes();
-    [
-        OPEN_GATE,
-        c,
-        v,
-        e,
-        c2,
-        s,
-        e2,
-        g,
-        format.version(),
-        low,
-        high,
-        CLOSED_GATE,
-    ]
+    let mut bytes = [CLOSED_GATE; EMPTY_FILE_LEN];
+    bytes[..HEADER_LEN].copy_from_slice(&header_bytes(format, width));
+    bytes
 }
 
 /// Appends the header of a file of this format, of records of this type.
 pub fn append_header<R: Record>(format: Format, file: &mut Vec<u8>) -> Result<(), AllocError>
     ensures { OnOk result (file.new.items ≡ file.old.items ++ header (shape_of format R.form)) }
 {
-    file.push(OPEN_GATE)?;
-    file.extend_from_slice(MAGIC)?;
-    file.push(format.version())?;
-    file.extend_from_slice(&(width_of::<R>() as u16).to_le_bytes())
+    file.extend_from_slice(&header_bytes(format, width_of::<R>() as u16))
 }
 
 /// Appends the closed gate behind the last frame.

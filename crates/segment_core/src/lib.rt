@@ -1,7 +1,7 @@
 //! A segment file: the growths and changes of a vector, frame behind frame, and the vector that is found again.
 //!
-//! `write_image` makes the whole file of some growths, `append_group`, `append_change` and `append_shrink` one frame,
-//! `scan` reads the vector of an image or names its first fault, `Scanner` does so of an image that comes in pieces, and
+//! `write_image` makes the whole file of some growths, `append_group`, `append_change`, `append_shrink` and `append_fold`
+//! one frame, `scan` reads the vector of an image or names its first fault, `Scanner` does so of an image that comes in pieces, and
 //! `FrameReader` gives the fields of one frame. The format is in `docs/file/format.md`.
 #![tactic(auto)]
 
@@ -10,6 +10,7 @@ mod fault;
 mod format;
 mod found;
 mod frame;
+mod frame_head;
 mod group;
 mod growth_list;
 mod growth_row;
