@@ -110,8 +110,10 @@ called_seen shape gate tally bytes o fold calls at =
     fold_is_seen (advanced fold) (still_held fold.stage calls)
     ∙ ap (λ left. Some (record { count = fold.count; left = left; stage = stage_after fold.stage })) (left_called shape gate tally bytes o fold fold.stage calls at)
 
-pub listed_called : (keeps : Type 0) (states : List State) (shape : Shape) (gate : ℕ) (tally : Tally) (bytes : List ℕ) (o : Option Step) (homes : Homes) (live : ℕ) (fold : Fold) → has_call fold.stage ≡ true → IsListed keeps states shape gate tally bytes o homes live fold → IsListed keeps states shape gate tally bytes o homes live (advanced fold)
-listed_called keeps states shape gate tally bytes o homes live fold calls listed = record {
+pub listed_called : {keeps : Type 0} {states : List State} {shape : Shape} {gate : ℕ} {tally : Tally} {bytes : List ℕ} {o : Option Step}
+    {homes : Homes} {live : ℕ} {fold : Fold} → has_call fold.stage ≡ true
+    → IsListed keeps states shape gate tally bytes o homes live fold → IsListed keeps states shape gate tally bytes o homes live (advanced fold)
+listed_called {fold = fold} calls listed = record {
   frames = listed.frames;
   legal = listed.legal;
   gate_is = listed.gate_is;

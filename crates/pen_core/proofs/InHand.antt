@@ -105,8 +105,10 @@ group_held keeps states shape gate tally bytes bytes' o broken fold form growths
     fold_begun keeps states shape gate tally bytes bytes' o broken fold (group_frame form growths) Body is idle spelled (omega arith)
 
 -- no job is in hand: its bytes may be others
-pub fold_same : (keeps : Type 0) (states : List State) (shape : Shape) (gate : ℕ) (tally : Tally) (bytes bytes' : List ℕ) (o : Option Step) (broken : Bool) (fold : Fold) → IsFold keeps states shape gate tally bytes o broken fold → o ≡ None → IsFold keeps states shape gate tally bytes' o broken fold
-fold_same keeps states shape gate tally bytes bytes' o broken fold is idle =
+pub fold_same : {keeps : Type 0} {states : List State} {shape : Shape} {gate : ℕ} {tally : Tally} {bytes : List ℕ} {o : Option Step}
+    {broken : Bool} {fold : Fold} → IsFold keeps states shape gate tally bytes o broken fold → o ≡ None
+    → (bytes' : List ℕ) → IsFold keeps states shape gate tally bytes' o broken fold
+fold_same {keeps} {states} {shape} {gate} {tally} {bytes} {o} {broken} {fold} is idle bytes' =
     let none : (bs : List ℕ) → frame_in_hand shape bs o ≡ None = λ bs. ap (frame_in_hand shape bs) idle in
     record {
       counts = stage_on shape gate gate tally tally bytes bytes' o o fold fold.stage is.counts (λ filed. none bytes' ∙ sym (none bytes)) refl (omega arith) (omega arith)
@@ -150,7 +152,8 @@ same_folded tally (Change runs bytes) no_fold = refl
 same_folded tally (Shrink n) no_fold = refl
 same_folded tally (kinds.Fold c) no_fold = absurd (no_fold c refl)
 
-module _ (keeps keeps' : Type 0) (states new : List State) (shape : Shape) (gate : ℕ) (tally : Tally) (bytes : List ℕ) (o : Option Step) (broken : Bool) (fold : Fold) (is : IsFold keeps states shape gate tally bytes o broken fold) (back : keeps' → keeps) where
+module _ {keeps keeps' : Type 0} {states : List State} {shape : Shape} {gate : ℕ} {tally : Tally} {bytes : List ℕ} {o : Option Step}
+    {broken : Bool} {fold : Fold} (is : IsFold keeps states shape gate tally bytes o broken fold) (back : keeps' → keeps) (new : List State) where
   abbrev fs : List Frame
   fs = blanked_before shape gate (bytes_of states)
 

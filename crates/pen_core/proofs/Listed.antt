@@ -129,7 +129,8 @@ listed_new keeps states shape bytes homes fold at none idle empty = record {
   same = empty;
 }
 
-module _ (keeps : Type 0) (states : List State) (shape : Shape) (gate : ℕ) (tally : Tally) (bytes : List ℕ) (o : Option Step) (homes : Homes) (live : ℕ) {fold : folds.Fold} (listed : IsListed keeps states shape gate tally bytes o homes live fold) where
+module _ {keeps : Type 0} {states : List State} {shape : Shape} {gate : ℕ} {tally : Tally} {bytes : List ℕ} {o : Option Step}
+    {homes : Homes} {live : ℕ} {fold : folds.Fold} (listed : IsListed keeps states shape gate tally bytes o homes live fold) where
   -- a call of the disk that leaves the frames, or none
   pub listed_stays : (keeps' : Type 0) (new : List State) (o' : Option Step) → frame_in_hand shape bytes o' ≡ frame_in_hand shape bytes o → (keeps' → keeps) → (keeps' → FileStays shape gate states new) → IsListed keeps' new shape gate tally bytes o' homes live fold
   listed_stays keeps' new o' same back stays = record {
@@ -283,6 +284,6 @@ pub group_listed : {R : Type 0} (keeps : Type 0) (states : List State) (shape : 
 group_listed keeps states shape gate tally bytes bytes' o homes homes' live {fold} form growths listed idle at count records counted told homes_more old_is live_same =
     let place : gate + (10 + count * 4) ≡ gate + 10 + length (map length growths) * 4 = omega (arith, counted, length-map growths length) in
     let all : records ≡ sum (map length growths) = told ∙ sum-lengths growths in
-    listed_begun keeps states shape gate tally bytes o homes live listed idle bytes' homes' (group_frame form growths) Body at (λ c is. absurd cc)
+    listed_begun listed idle bytes' homes' (group_frame form growths) Body at (λ c is. absurd cc)
     (homes_more ∙ ap (λ hs. hs ++ record { position = tally.size; place = gate + (10 + count * 4); count = records } ∷ []) old_is ∙ ap (λ n. homes.homes.items ++ record { position = tally.size; place = n; count = records } ∷ []) place ∙ ap (λ n. homes.homes.items ++ record { position = tally.size; place = gate + 10 + length (map length growths) * 4; count = n } ∷ []) all)
     (ap (λ v. v.items) live_same ∙ sym (append-nil homes.live.items))

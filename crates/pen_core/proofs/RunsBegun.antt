@@ -183,7 +183,7 @@ change_begun {R} {count} keeps states shape gate tally next bytes bytes' o broke
     let at : frame_at shape bytes' ≡ frame = begun_frame keeps states shape gate tally next (after tally frame) bytes bytes' o broken frame pen allowed.whole idle reads spelled framed follows refl no_fold room in
     record {
       pen = begun keeps states shape gate tally next (after tally frame) bytes bytes' o broken frame pen allowed.whole idle reads spelled framed follows refl no_fold room;
-      listed = listed_begun keeps states shape gate tally bytes o homes live listed idle bytes' homes' frame Body at no_fold (ap (λ v. v.items) homes_same ∙ sym (append-nil homes.homes.items)) (live_more ∙ ap (λ rs. homes.live.items ++ rs) (sym (runs_again runs)));
+      listed = listed_begun listed idle bytes' homes' frame Body at no_fold (ap (λ v. v.items) homes_same ∙ sym (append-nil homes.homes.items)) (live_more ∙ ap (λ rs. homes.live.items ++ rs) (sym (runs_again runs)));
       held = fold_begun keeps states shape gate tally bytes bytes' o broken fold frame Body is_fold idle spelled (omega arith);
       frame_is = at;
       tells = λ vector records are. subst (λ f. AreCellsOf form (after_frame shape.width vector f) (replaced records given (joined pieces))) (sym at) (AreCellsOf_change form shape.width vector records given pieces width size_of filled again are);

@@ -11,7 +11,7 @@ use Rattle.segment_core.specs.Scanner.{IsDecided, IsCutShort}
 use Rattle.segment_core.specs.Tally.{nothing}
 use Rattle.pen_core.specs.declared.fault.PenFault.TheVariants.{Broken, Busy}
 use Rattle.pen_core.specs.Births.{calls_of_creation, IsNew, IsEmpty}
-use Rattle.pen_core.specs.Opening.{OnlySyncs, IsAtRest, IsOpened, AreCallsDone, AreNeeded, calls_of, pieces_of, pieces_front}
+use Rattle.pen_core.specs.Opening.{OnlySyncs, IsAtRest, IsOpened, AreCallsDone, AreNeeded, calls_of, reads_of, pieces_front}
 use Rattle.pen_core.specs.Pen.{IsReadyToFold, job_len}
 use Rattle.pen_core.specs.PenOf.{PenOf}
 use Rattle.pen_core.specs.Refusals.{first_refusal, ready_lines}
@@ -45,11 +45,12 @@ no_read_more : (n : ℕ) → AreCallsDone 4096 n → n ≤ 3
 no_read_more n is = is.1
 
 -- nothing is read behind the first pieces that aren't cut short, and all up to there
-no_piece_behind : {R : Type 0} (form : Encoding R) (bytes : List ℕ) (n k : ℕ) → AreNeeded form bytes n → (IsCutShort form (pieces_front k bytes) → ⊥) → n ≤ k
-no_piece_behind form bytes n k is told = elim (cases_lt k n) [ inl behind ↦ absurd (told (is.needed k behind)) | inr upto ↦ upto ]
+module _ {R : Type 0} (form : Encoding R) (piece : ℕ) (bytes : List ℕ) (n : ℕ) (is : AreNeeded piece form bytes n) where
+  no_piece_behind : (k : ℕ) → (IsCutShort form (pieces_front piece k bytes) → ⊥) → n ≤ k
+  no_piece_behind k told = elim (cases_lt k n) [ inl behind ↦ absurd (told (is.needed k behind)) | inr upto ↦ upto ]
 
-no_piece_less : {R : Type 0} (form : Encoding R) (bytes : List ℕ) (n : ℕ) → AreNeeded form bytes n → n < pieces_of (length bytes) → IsDecided form (pieces_front n bytes)
-no_piece_less form bytes n is less = elim is.enough [ inl all ↦ absurd (omega arith) | inr decided ↦ decided ]
+  no_piece_less : n < reads_of piece (length bytes) → IsDecided form (pieces_front piece n bytes)
+  no_piece_less less = elim is.enough [ inl all ↦ absurd (omega arith) | inr decided ↦ decided ]
 
 -- ---- what the sync is for
 

@@ -95,7 +95,7 @@ pub record CountsDone {D : Type 0} (frame : Frame) (old new : PenOf D) : Type 0 
   pub fold_is : new.fold ≡ fold_behind frame old.fold
   pub tally_is : new.tally ≡ after old.tally frame
   pub gate_is : new.gate ≡ old.gate + length (frame_text old.shape.format frame)
-  -- a Fold gives back memory
+  -- the frame of a fold gives back memory
   pub room_same : ((count : ℕ) → frame ≡ Fold count → ⊥) → new.room ≡ old.room
   pub places_same : ((count : ℕ) → frame ≡ Fold count → ⊥) → new.places ≡ old.places
   pub job_done : new.job ≡ None

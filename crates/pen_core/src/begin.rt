@@ -55,7 +55,7 @@ impl<D: Disk> Pen<D> {
             || self.gate + (FRAME_HEAD_LEN + payload) as u64 + self.fold.frame_len() >= GATE_LIMIT
     }
 
-    /// BeginsFrame to shrink the vector to its first `n` records.
+    /// Begins to shrink the vector to its first `n` records.
     ///
     /// Refused, in this order: `Broken`; `Busy`; `OutOfRange`, where it has fewer; `Unfolded`, while a change is live;
     /// `FileFull`; `Memory`.

@@ -11,8 +11,8 @@ ghost use Rattle.pen_core.specs.Refusals.{room_for};
 
 use record_core::Record;
 use segment_core::{
-    CLOSED_GATE, FRAME_HEAD_LEN, Format, GrowthList, SHRINK_PAYLOAD_LEN, append_change, append_fold,
-    append_shrink,
+    CLOSED_GATE, FRAME_HEAD_LEN, Format, GrowthList, SHRINK_PAYLOAD_LEN, append_change,
+    append_fold, append_shrink,
 };
 use std::alloc::AllocError;
 

@@ -53,7 +53,7 @@ impl<D: Disk> Pen<D> {
         Ok(())
     }
 
-    /// BeginsFrame to commit growths as one group, of which each lends its records as one slice.
+    /// Begins to commit growths as one group, of which each lends its records as one slice.
     ///
     /// Refused, in this order: `Broken`; `Busy`; `OutOfRange`, where the vector would have more than 2^32 records;
     /// `TooLarge`, past the limit of the format's payloads; `FileFull`; `Memory`.
@@ -110,7 +110,7 @@ impl<D: Disk> Pen<D> {
         Ok(())
     }
 
-    /// BeginsFrame to commit growths as one group: at least one, and none empty. `begin_growths` says more.
+    /// Begins to commit growths as one group: at least one, and none empty. `begin_growths` says more.
     pub fn begin_group<R: Record>(&mut self, growths: &[&[R]]) -> Result<(), PenFault>
         requires width { R.form.width ≡ self.old.shape.width }
         requires some { 0 < length growths.now }

@@ -5,11 +5,13 @@ use Rattle.pen_core.proofs.NewPen.{new_frames, new_vector, new_pen}
 use Rattle.pen_core.proofs.InHand.{no_fold_at, pen_unfolded}
 use Rattle.pen_core.proofs.Listed.{listed_new}
 use Rattle.pen_core.proofs.Whole.{pen_kept}
+use Rattle.pen_core.proofs.AtRest.{sound}
 use Rattle.pen_core.proofs.pen.Pen.create_as.Goals as goal
 
 pub invariant_of-result : goal.invariant_of-result
 invariant_of-result g c =
-    let new = c.make.new.disk in (
+    let new = c.make.new.disk in
+    sound (
       pen_unfolded (g.D.Disk.keeps new) (g.D.Disk.states new) (record { format = c.args.format; width = c.args.width }) 11 nothing nothing c.in-Ok.bytes.items None false c.none.result c.none.ensures
           (new_pen (g.D.Disk.keeps new) (g.D.Disk.states new) (record { format = c.args.format; width = c.args.width }) nothing c.in-Ok.bytes.items c.in_default-make.ensures.done (c.requires, c.ranges.width.fits)),
       listed_new (g.D.Disk.keeps new) (g.D.Disk.states new) (record { format = c.args.format; width = c.args.width }) c.in-Ok.bytes.items c.new.result c.none.result c.none.ensures c.new.ensures.homes c.new.ensures.live

@@ -6,6 +6,7 @@ use Rattle.pen_core.proofs.Whole.{pen_kept}
 use Rattle.pen_core.specs.InHand.{fold_of}
 use Rattle.pen_core.proofs.InHand.{no_fold_at, pen_unfolded}
 use Rattle.pen_core.proofs.Opening.{opened_pen, opened_lists, opened_as}
+use Rattle.pen_core.proofs.AtRest.{sound}
 use Rattle.pen_core.proofs.pen.Pen.go_on.Goals as goal
 
 pub invariant_of-result : goal.invariant_of-result
@@ -15,7 +16,8 @@ invariant_of-result g c =
     let keeps = g.D.Disk.keeps c.args.disk in
     let states = g.D.Disk.states c.args.disk in
     let tally : Tally = record { size = c.len.result; changes = c.args.scanned.now.changes; folded = c.args.scanned.now.folded } in
-    let counted : c.len.result ≡ length c.args.scanned.now.records.items = c.len.ensures ∙ c.args.scanned.now.records.ok.0 in (
+    let counted : c.len.result ≡ length c.args.scanned.now.records.items = c.len.ensures ∙ c.args.scanned.now.records.ok.0 in
+    sound (
       pen_unfolded keeps states (record { format = c.in-Some.format; width = c.args.scanned.now.width }) c.args.scanned.now.gate tally tally c.new.result.items None false c.none.result c.none.ensures
           (opened_pen form keeps states c.args.scanned.now c.args.homes c.requires laws.writes_back c.in-Some.format c.in-Some.ensures.known c.len.result counted tally c.new.result.items laws.width_in_range),
       opened_lists form keeps states c.args.scanned.now c.args.homes c.requires laws.writes_back c.in-Some.format c.in-Some.ensures.known c.len.result counted c.new.result.items c.len-2.result c.none.result c.none.ensures (c.len-2.ensures ∙ c.args.homes.live.ok.0),
