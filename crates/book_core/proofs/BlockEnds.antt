@@ -20,7 +20,8 @@ module _ {R : Type 0} (blocks : List (Vec R)) (i : ℕ) (block : Vec R) (lt : i 
   pub end_more-le : sum_by length (take i (records_of blocks)) + length block.items ≤ length (joined_pieces (records_of blocks))
   end_more-le = let more = end_more in omega (arith, length-joined_pieces (records_of blocks), sum_by-take-le length (records_of blocks) (i + 1))
 
-  pub ends_more : (ends : List ℕ) (size end : ℕ) → length ends ≡ i → sum_by length (take i (records_of blocks)) ≡ size → end ≡ size + length block.items → ((k : ℕ) → k < i → get_or ends k 0 ≡ sum_by length (take (k + 1) (records_of blocks)))
+  pub ends_more : (ends : List ℕ) (size end : ℕ) → length ends ≡ i → sum_by length (take i (records_of blocks)) ≡ size
+      → end ≡ size + length block.items → ((k : ℕ) → k < i → get_or ends k 0 ≡ sum_by length (take (k + 1) (records_of blocks)))
       → (k : ℕ) → k < i + 1 → get_or (ends ++ end ∷ []) k 0 ≡ sum_by length (take (k + 1) (records_of blocks))
   ends_more ends size end as_many is_size is_end before =
       below_more (λ (k : ℕ). get_or (ends ++ end ∷ []) k 0 ≡ sum_by length (take (k + 1) (records_of blocks))) i
@@ -31,14 +32,16 @@ module _ {R : Type 0} (blocks : List (Vec R)) (i : ℕ) (block : Vec R) (lt : i 
 pub length-records_of : {R : Type 0} (blocks : List (Vec R)) (n : ℕ) → length blocks ≤ n → length (joined_pieces (records_of blocks)) ≡ sum_by length (take n (records_of blocks))
 length-records_of blocks n le = length-joined_pieces (records_of blocks) ∙ ap (sum_by length) (sym (take_all n (records_of blocks) (omega (arith, length-map blocks (λ (b : Vec _). b.items)))))
 
-module _ {R : Type 0} (blocks : List (Vec R)) (ends : List ℕ) (as_many : length ends ≡ length blocks) (ends_are : (k : ℕ) → k < length blocks → get_or ends k 0 ≡ sum_by length (take (k + 1) (records_of blocks))) where
+module _ {R : Type 0} (blocks : List (Vec R)) (ends : List ℕ) (as_many : length ends ≡ length blocks)
+    (ends_are : (k : ℕ) → k < length blocks → get_or ends k 0 ≡ sum_by length (take (k + 1) (records_of blocks))) where
   -- no block ends before another that stands before it
   ends_rise : (j k : ℕ) → j ≤ k → k < length blocks → get_or ends j 0 ≤ get_or ends k 0
   ends_rise j k le lt =
       let here = ends_are j (omega arith) in
       let there = ends_are k lt in
       let part = sum_by-take-le length (take (k + 1) (records_of blocks)) (j + 1) in
-      let same : sum_by length (take (j + 1) (take (k + 1) (records_of blocks))) ≡ sum_by length (take (j + 1) (records_of blocks)) = ap (sum_by length) (take-take (j + 1) (k + 1) (records_of blocks) (omega arith)) in
+      let same : sum_by length (take (j + 1) (take (k + 1) (records_of blocks))) ≡ sum_by length (take (j + 1) (records_of blocks)) =
+      ap (sum_by length) (take-take (j + 1) (k + 1) (records_of blocks) (omega arith)) in
       omega arith
 
   pub IsPartitionedBy-ends : (i : ℕ) → IsPartitionedBy (λ end. leb end i) ends
@@ -53,7 +56,8 @@ module _ {R : Type 0} (blocks : List (Vec R)) (ends : List ℕ) (as_many : lengt
   pub start_at : (n : ℕ) → n ≤ length blocks → 0 < n → get_or ends (n - 1) 0 ≡ sum_by length (take n (records_of blocks))
   start_at n le some = let one : n - 1 + 1 ≡ n = omega arith in ends_are (n - 1) (omega arith) ∙ ap (λ (k : ℕ). sum_by length (take k (records_of blocks))) one
 
-  module _ (i number : ℕ) (lt : i < length (joined_pieces (records_of blocks))) (bound : number ≤ length ends) (point : IsPartitionPoint (λ end. leb end i ≡ true) (λ end. leb end i ≡ false) ends number) where
+  module _ (i number : ℕ) (lt : i < length (joined_pieces (records_of blocks))) (bound : number ≤ length ends)
+      (point : IsPartitionPoint (λ end. leb end i ≡ true) (λ end. leb end i ≡ false) ends number) where
     found_from : sum_by length (take number (records_of blocks)) ≤ i
     found_from =
         elim (cases_eq number 0) [
@@ -83,7 +87,9 @@ module _ {R : Type 0} (blocks : List (Vec R)) (ends : List ℕ) (as_many : lengt
     found = (found_inside, found_from, found_until)
 
 -- a place in a block
-module _ {R : Type 0} (blocks : List (Vec R)) (i number start : ℕ) (block : Vec R) (lt : number < length blocks) (is : block ≡ get_or blocks number block) (start_is : start ≡ sum_by length (take number (records_of blocks))) (from : sum_by length (take number (records_of blocks)) ≤ i) (until : i < sum_by length (take (number + 1) (records_of blocks))) where
+module _ {R : Type 0} (blocks : List (Vec R)) (i number start : ℕ) (block : Vec R) (lt : number < length blocks)
+    (is : block ≡ get_or blocks number block) (start_is : start ≡ sum_by length (take number (records_of blocks)))
+    (from : sum_by length (take number (records_of blocks)) ≤ i) (until : i < sum_by length (take (number + 1) (records_of blocks))) where
   pub place_inside : i - start < length block.items
   place_inside = let more = end_more blocks number block lt is in omega arith
 
@@ -95,7 +101,9 @@ module _ {R : Type 0} (blocks : List (Vec R)) (i number start : ℕ) (block : Ve
     before = omega arith;
   }
 
-pub block_found : {R : Type 0} (blocks : List (Vec R)) (i number start : ℕ) → number < length blocks → start ≡ sum_by length (take number (records_of blocks)) → sum_by length (take number (records_of blocks)) ≤ i → i < sum_by length (take (number + 1) (records_of blocks))
+pub block_found : {R : Type 0} (blocks : List (Vec R)) (i number start : ℕ) → number < length blocks
+    → start ≡ sum_by length (take number (records_of blocks)) → sum_by length (take number (records_of blocks)) ≤ i
+    → i < sum_by length (take (number + 1) (records_of blocks))
     → IsPlaceIn (records_of blocks) i number (i - start)
 block_found blocks i number start lt is from until =
     elim ((slice_get_cases blocks number).1) [

@@ -8,7 +8,7 @@ use Rattle.book_core.specs.declared.mark.MarkState.{MarkState}
 use Rattle.book_core.specs.declared.mark.MarkState.TheVariants.{Running, Ended, Broken}
 use Rattle.book_core.specs.declared.mark.Reading.{Reading}
 use Rattle.book_core.specs.declared.mark.View.{View}
-use Rattle.book_core.specs.Marks.{nothing, Rises, code, word_of, writer, reader, nobody, shown, Fits, Kept, Stored, Loaded, Checked}
+use Rattle.book_core.specs.Marks.{nothing_told, Rises, code, word_of, writer, reader, nobody, shown, Fits, Kept, Stored, Loaded, Checked}
 
 Rises-refl : (r : Reading) → Rises r r
 Rises-refl r = record { count = omega arith; state = λ over. over }
@@ -16,8 +16,8 @@ Rises-refl r = record { count = omega arith; state = λ over. over }
 Rises-trans : (a b c : Reading) → Rises a b → Rises b c → Rises a c
 Rises-trans a b c ab bc = let x = ab.count in let y = bc.count in record { count = omega arith; state = λ over. bc.state (ab.state over) }
 
-Rises-nothing : (r : Reading) → Rises nothing r
-Rises-nothing r = record { count = omega arith; state = λ over. absurd over }
+Rises-nothing_told : (r : Reading) → Rises nothing_told r
+Rises-nothing_told r = record { count = omega arith; state = λ over. absurd over }
 
 off : false ≡ true → ⊥
 off e = true≢false (sym e)
@@ -38,7 +38,8 @@ word_of-injective : (a b : Reading) → word_of a ≡ word_of b → a ≡ b
 word_of-injective a b e = let same = one_told a.count b.count a.state b.state e in λ i. record { count = same.0 i; state = same.1 i }
 
 -- the views after a change of one
-fits_set : (seat : ℕ) (mark : Reading) (views : List View) (by : ℕ) (w : View) → ((j : ℕ) (u : View) → j ≢ by → get_elem? views j ≡ some u → Fits seat mark j u) → Fits seat mark by w
+fits_set : (seat : ℕ) (mark : Reading) (views : List View) (by : ℕ) (w : View)
+    → ((j : ℕ) (u : View) → j ≢ by → get_elem? views j ≡ some u → Fits seat mark j u) → Fits seat mark by w
     → (j : ℕ) (u : View) → get_elem? (set views by w) j ≡ some u → Fits seat mark j u
 fits_set seat mark views by w others mine j u e =
     ⊎_elim
@@ -48,13 +49,14 @@ fits_set seat mark views by w others mine j u e =
 
 -- who doesn't write fits wherever it stands
 fits_reader : (seat : ℕ) (mark told : Reading) (by : ℕ) → Rises told mark → Fits seat mark by (reader told)
-fits_reader seat mark told by up = record { one_writes = λ k. absurd (off k); no_more = up; no_claim = Rises-nothing mark }
+fits_reader seat mark told by up = record { one_writes = λ k. absurd (off k); no_more = up; no_claim = Rises-nothing_told mark }
 
-pub opens : {S : Type 0} (homes : List (mathlib.Core.Option.Option S)) → Kept {S = S} (record { words = 0 ∷ []; homes = homes; views = writer nothing ∷ [] })
-opens homes = (0, nothing, refl, one)
+pub opens : {S : Type 0} (homes : List (mathlib.Core.Option.Option S)) → Kept {S = S} (record { words = 0 ∷ []; homes = homes; views = writer nothing_told ∷ [] })
+opens homes = (0, nothing_told, refl, one)
   where
-    one : (by : ℕ) (v : View) → get_elem? (writer nothing ∷ []) by ≡ some v → Fits 0 nothing by v
-    one zero v e = subst (λ (u : View). Fits 0 nothing 0 u) (some-injective (writer nothing) v e) (record { one_writes = λ k. (refl, refl); no_more = Rises-refl nothing; no_claim = Rises-refl nothing })
+    one : (by : ℕ) (v : View) → get_elem? (writer nothing_told ∷ []) by ≡ some v → Fits 0 nothing_told by v
+    one zero v e = subst (λ (u : View). Fits 0 nothing_told 0 u) (some-injective (writer nothing_told) v e)
+        (record { one_writes = λ k. (refl, refl); no_more = Rises-refl nothing_told; no_claim = Rises-refl nothing_told })
     one (suc by) v e = absurd (some-ne-none v (sym e))
 
 pub splits : {S : Type 0} (by : ℕ) (v : View) → Splits {S = S} Kept by v v (reader v.told)
@@ -74,19 +76,22 @@ pub takes_in : {S : Type 0} (by : ℕ) (v : View) (other : ℕ) (u : View) → J
 takes_in by v other u s h at apart there =
     let w = shown v u in
     let mine = h.3 by v at in
-    let theirs = ⊎_elim (λ (t : (other ≡ by) × (w ≡ u)). absurd (apart t.0)) (λ (t : (other ≢ by) × (get_elem? s.views other ≡ some u)). h.3 other u t.1) (at_set s.views by other w u there) in (
+    let theirs = ⊎_elim (λ (t : (other ≡ by) × (w ≡ u)). absurd (apart t.0))
+    (λ (t : (other ≢ by) × (get_elem? s.views other ≡ some u)). h.3 other u t.1) (at_set s.views by other w u there) in (
       h.0,
       h.1,
       h.2,
       fits_set h.0 h.1 (set s.views by w) other nobody
           (λ j y _ e. fits_set h.0 h.1 s.views by w (λ i z _ e'. h.3 i z e') (record { one_writes = mine.one_writes; no_more = mine.no_more; no_claim = theirs.no_more }) j y e)
-          (fits_reader h.0 h.1 nothing other (Rises-nothing h.1)),
+          (fits_reader h.0 h.1 nothing_told other (Rises-nothing_told h.1)),
     )
 
-pub checks : {S : Type 0} (slots by : ℕ) (me : Me S View) (told claim : Reading) → me.0 ≡ record { writes = true; told = told; claim = claim } → Allows {S = S} Kept slots by me 0 (λ n. n) (λ found after. Checked me after)
+pub checks : {S : Type 0} (slots by : ℕ) (me : Me S View) (told claim : Reading) → me.0 ≡ record { writes = true; told = told; claim = claim }
+    → Allows {S = S} Kept slots by me 0 (λ n. n) (λ found after. Checked me after)
 checks {S} slots by me told claim is = subst (λ (v : View). Allows {S = S} Kept slots by (v, me.1) 0 (λ n. n) (λ found after. Checked (v, me.1) after)) (sym is) at_known
   where
-    at_known : Allows {S = S} Kept slots by (record { writes = true; told = told; claim = claim }, me.1) 0 (λ n. n) (λ found after. Checked (record { writes = true; told = told; claim = claim }, me.1) after)
+    at_known : Allows {S = S} Kept slots by (record { writes = true; told = told; claim = claim }, me.1) 0 (λ n. n)
+        (λ found after. Checked (record { writes = true; told = told; claim = claim }, me.1) after)
     at_known s h len at small =
         let v : View = record { writes = true; told = told; claim = claim } in
         let mine = h.3 by v at in
@@ -95,7 +100,7 @@ checks {S} slots by me told claim is = subst (λ (v : View). Allows {S = S} Kept
           writer told,
           keeps,
           tt,
-          (h.0, h.1, words, fits_set h.0 h.1 s.views by (writer told) (λ j u _ e. h.3 j u e) (record { one_writes = mine.one_writes; no_more = mine.no_more; no_claim = Rises-nothing h.1 })),
+          (h.0, h.1, words, fits_set h.0 h.1 s.views by (writer told) (λ j u _ e. h.3 j u e) (record { one_writes = mine.one_writes; no_more = mine.no_more; no_claim = Rises-nothing_told h.1 })),
           record { same = (refl, refl); rises = subst (λ (r : Reading). Rises claim r) (sym known) mine.no_claim },
         )
 
@@ -131,8 +136,13 @@ stores {S} slots by me old told word is free up tells =
             told,
             words,
             fits_set h.0 told s.views by (writer told)
-                (λ j u ne e. let f = h.3 j u e in record { one_writes = λ k. absurd (ne ((f.one_writes k).0 ∙ sym writes.0)); no_more = rises u.told f.no_more; no_claim = rises u.claim f.no_claim })
-                (record { one_writes = λ _. (writes.0, refl); no_more = Rises-refl told; no_claim = Rises-nothing told }),
+                (λ j u ne e. let f = h.3 j u e in
+                record {
+                  one_writes = λ k. absurd (ne ((f.one_writes k).0 ∙ sym writes.0));
+                  no_more = rises u.told f.no_more;
+                  no_claim = rises u.claim f.no_claim;
+                })
+                (record { one_writes = λ _. (writes.0, refl); no_more = Rises-refl told; no_claim = Rises-nothing_told told }),
           ),
           (λ t e. (ap writer (word_of-injective told t (sym tells ∙ e)), free)),
         )

@@ -42,7 +42,8 @@ push_get (z ∷ xs) x zero y is = inl is
 push_get (z ∷ xs) x (suc k) y is = elim (push_get xs x k y is) [ inl before ↦ inl before | inr last ↦ let at = last.0 in inr (omega arith, last.1) ]
 
 -- one more new seat
-pub seats-push : {R : Type 0} (directory : Identity) (mark : MarkName) (seats : List (Seated R)) (seat : Seated R) → AreNewSeats directory mark seats → IsNewSeat directory mark (length seats) seat → AreNewSeats directory mark (seats ++ seat ∷ [])
+pub seats-push : {R : Type 0} (directory : Identity) (mark : MarkName) (seats : List (Seated R)) (seat : Seated R) → AreNewSeats directory mark seats
+    → IsNewSeat directory mark (length seats) seat → AreNewSeats directory mark (seats ++ seat ∷ [])
 seats-push {R} directory mark seats seat all new k s is =
     elim (push_get seats seat k s is) [
       | inl before ↦ all k s before
@@ -62,10 +63,14 @@ get-last [] x = refl
 get-last (z ∷ xs) x = get-last xs x
 
 -- the last of new seats is new, and so are the others
-pub seats-pop : {R : Type 0} (directory : Identity) (mark : MarkName) (seats rest : List (Seated R)) (last : Option (Seated R)) → AreNewSeats directory mark seats → seats ≡ rest ++ option_to_list last
+pub seats-pop : {R : Type 0} (directory : Identity) (mark : MarkName) (seats rest : List (Seated R)) (last : Option (Seated R))
+    → AreNewSeats directory mark seats → seats ≡ rest ++ option_to_list last
     → AreNewSeats directory mark rest × IfSome last (λ seat. IsNewSeat directory mark (length rest) seat)
 seats-pop directory mark seats rest None all is = (λ k s at. all k s (ap (λ (xs : List _). slice_get xs k) (is ∙ append-nil rest) ∙ at), tt)
-seats-pop directory mark seats rest (Some seat) all is = (λ k s at. all k s (ap (λ (xs : List _). slice_get xs k) is ∙ get-push rest seat k s at), all (length rest) seat (ap (λ (xs : List _). slice_get xs (length rest)) is ∙ get-last rest seat))
+seats-pop directory mark seats rest (Some seat) all is = (
+  λ k s at. all k s (ap (λ (xs : List _). slice_get xs k) is ∙ get-push rest seat k s at),
+  all (length rest) seat (ap (λ (xs : List _). slice_get xs (length rest)) is ∙ get-last rest seat),
+)
 
 -- a new seat is of its book
 pub new-is_of : {R : Type 0} (live : Phase R) (id : ℕ) (last : Option (Seated R)) → IfSome last (λ seat. IsNewSeat live.directory live.mark id seat) → IfSome last (λ seat. IsSeatOf live seat)
@@ -73,6 +78,7 @@ new-is_of live id None new = tt
 new-is_of live id (Some seat) new = record { directory = new.of; mark = ap (λ (m : MarkEnd). m.of) new.marked }
 
 -- a last one there is but of an empty row
-pub last_or_none : {X : Type 0} (last : Option X) (len left many : ℕ) (P Q : X → Type 0) → MatchOption last ((len ≡ 0) × (left ≡ 0)) Q → IfSome last P → many ≡ len → MatchOption last (many ≡ 0) P
+pub last_or_none : {X : Type 0} (last : Option X) (len left many : ℕ) (P Q : X → Type 0) → MatchOption last ((len ≡ 0) × (left ≡ 0)) Q → IfSome last P
+    → many ≡ len → MatchOption last (many ≡ 0) P
 last_or_none None len left many P Q none is same = same ∙ none.0
 last_or_none (Some x) len left many P Q left_is is same = is

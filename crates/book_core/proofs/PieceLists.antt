@@ -79,7 +79,8 @@ run_at (p ∷ ps) zero place piece is lt =
     rw (same, at) (sym (take_at (drop place piece) (joined_pieces ps) (length (drop place piece)) refl))
 run_at (p ∷ ps) (suc number) place piece is lt =
     let sum : sum_by length (p ∷ take number ps) ≡ length p + sum_by length (take number ps) = sum_by-cons length p (take number ps) in
-    let at : drop ((length p + sum_by length (take number ps)) + place) (p ++ joined_pieces ps) ≡ drop (sum_by length (take number ps) + place) (joined_pieces ps) = rw add_assoc (drop_past p (joined_pieces ps) (sum_by length (take number ps) + place)) in
+    let at : drop ((length p + sum_by length (take number ps)) + place) (p ++ joined_pieces ps)
+    ≡ drop (sum_by length (take number ps) + place) (joined_pieces ps) = rw add_assoc (drop_past p (joined_pieces ps) (sum_by length (take number ps) + place)) in
     rw (sum, at) (run_at ps number place piece is lt)
 
 -- the rest of a piece is a run of the records joined
@@ -97,7 +98,8 @@ module _ {R : Type 0} (blocks : List (List R)) (es : List (Growth R)) where
   growths_rest i rest at = subst (λ (xs : List R). IsPieceAt xs i rest) (joined_pieces-growths blocks es) (IsPieceAt-rest (blocks ++ map (λ e. e.records) es) i rest at)
 
   -- what is found of the growths, behind the blocks
-  pub place_behind : (i before number place : ℕ) → before ≡ length (joined_pieces blocks) → before ≤ i → IsPlaceOf es (i - before) number place → IsPlaceIn (blocks ++ map (λ e. e.records) es) i (length blocks + number) place
+  pub place_behind : (i before number place : ℕ) → before ≡ length (joined_pieces blocks) → before ≤ i → IsPlaceOf es (i - before) number place
+      → IsPlaceIn (blocks ++ map (λ e. e.records) es) i (length blocks + number) place
   place_behind i before number place is le at =
       let sum : length (joined_pieces blocks) + (i - before) ≡ i = omega arith in
       rw (← sum) (place-append_right blocks (map (λ e. e.records) es) (i - before) number place (place-growths es (i - before) number place at))
@@ -118,7 +120,8 @@ pub length-from_place : {R : Type 0} (place : ℕ) (pieces : List (List R)) → 
 length-from_place place [] = refl
 length-from_place place (p ∷ pieces) = refl
 
-pub next_from : {R : Type 0} (pieces : List (List R)) (k place : ℕ) (p : List R) → slice_get pieces k ≡ Some p → from_place place (drop k pieces) ≡ drop place p ∷ from_place 0 (drop (k + 1) pieces)
+pub next_from : {R : Type 0} (pieces : List (List R)) (k place : ℕ) (p : List R) → slice_get pieces k ≡ Some p
+    → from_place place (drop k pieces) ≡ drop place p ∷ from_place 0 (drop (k + 1) pieces)
 next_from pieces k place p is =
     ap (from_place place) (drop_next pieces k p is)
     ∙ ap (λ (ps : List (List _)). drop place p ∷ ps) (sym (from_place-zero (drop (k + 1) pieces)))
@@ -131,13 +134,16 @@ joined_from (p ∷ ps) zero place piece is lt =
     rw (same, zero-add) (sym (drop-append-le place piece (joined_pieces ps) (le_of_lt lt)))
 joined_from (p ∷ ps) (suc number) place piece is lt =
     let sum : sum_by length (p ∷ take number ps) ≡ length p + sum_by length (take number ps) = sum_by-cons length p (take number ps) in
-    let at : drop ((length p + sum_by length (take number ps)) + place) (p ++ joined_pieces ps) ≡ drop (sum_by length (take number ps) + place) (joined_pieces ps) = rw add_assoc (drop_past p (joined_pieces ps) (sum_by length (take number ps) + place)) in
+    let at : drop ((length p + sum_by length (take number ps)) + place) (p ++ joined_pieces ps)
+    ≡ drop (sum_by length (take number ps) + place) (joined_pieces ps) = rw add_assoc (drop_past p (joined_pieces ps) (sum_by length (take number ps) + place)) in
     rw (sum, at) (joined_from ps number place piece is lt)
 
 -- from where a position is found on, or, where it isn't, behind the last piece
-pub left_from : {R : Type 0} (pieces : List (List R)) (list : List R) (i count : ℕ) (r : Option (ℕ × ℕ)) → joined_pieces pieces ≡ list → count ≡ length pieces → MatchOption r (length list ≤ i) (λ found. IsPlaceIn pieces i found.0 found.1)
+pub left_from : {R : Type 0} (pieces : List (List R)) (list : List R) (i count : ℕ) (r : Option (ℕ × ℕ)) → joined_pieces pieces ≡ list
+    → count ≡ length pieces → MatchOption r (length list ≤ i) (λ found. IsPlaceIn pieces i found.0 found.1)
     → joined_pieces (from_place ((unwrap_or r (count, 0)).1) (drop ((unwrap_or r (count, 0)).0) pieces)) ≡ drop i list
-left_from pieces list i count None same all past = ap (λ (n : ℕ). joined_pieces (from_place 0 (drop n pieces))) all ∙ (ap (λ (ps : List (List _)). joined_pieces (from_place 0 ps)) (drop_all (length pieces) pieces (omega arith)) ∙ sym (drop_all i list past))
+left_from pieces list i count None same all past = ap (λ (n : ℕ). joined_pieces (from_place 0 (drop n pieces))) all
+    ∙ (ap (λ (ps : List (List _)). joined_pieces (from_place 0 ps)) (drop_all (length pieces) pieces (omega arith)) ∙ sym (drop_all i list past))
 left_from pieces list i count (Some found) same all here =
     joined_from pieces found.0 found.1 here.piece here.at here.inside
     ∙ (λ k. drop (here.before k) (same k))

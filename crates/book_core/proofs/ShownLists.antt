@@ -6,7 +6,7 @@ use Rattle.std.proofs.lemmas.Option.{slice_get_within, get_or_from_slice_get}
 use Rattle.block_core.specs.Growth.{Growth}
 use Rattle.directory_core.specs.Chain.{total, joined, Agree, IsPrefix}
 use Rattle.book_core.specs.Lists.{Phase, Seated, opening_of, joined_pieces}
-use Rattle.book_core.specs.Snapshots.{Shown, Shows, full_of, growths_of}
+use Rattle.book_core.specs.Snapshots.{Shown, ShowsSeat, full_of, growth_records}
 use Rattle.book_core.proofs.Owns.{length-list}
 use Rattle.book_core.proofs.PieceLists.{joined_pieces-growths}
 use Rattle.book_core.proofs.Slices.{joined-full_of}
@@ -29,7 +29,8 @@ growths_more {R} old es from n e le is =
     let many = length-map es (λ (f : Growth R). f.records) in
     let here : get_or gs n e.records ≡ e.records = get_or-map (λ (f : Growth R). f.records) es n e e.records inside ∙ ap (λ (f : Growth R). f.records) (get_or_from_slice_get es n e e is) in
     let more : take (n + 1) gs ≡ take n gs ++ e.records ∷ [] = take_more gs n e.records (omega arith) ∙ ap (λ (p : List R). take n gs ++ p ∷ []) here in
-    let before : drop from (take n gs ++ e.records ∷ []) ≡ drop from (take n gs) ++ e.records ∷ [] = drop-append-le from (take n gs) (e.records ∷ []) (omega (arith, length-take-le n gs (omega arith))) in
+    let before : drop from (take n gs ++ e.records ∷ []) ≡ drop from (take n gs) ++ e.records ∷ [] =
+    drop-append-le from (take n gs) (e.records ∷ []) (omega (arith, length-take-le n gs (omega arith))) in
     append_assoc old (drop from (take n gs)) (e.records ∷ []) ∙ ap (λ (ps : List (List R)). old ++ ps) (sym before ∙ ap (drop from) (sym more))
 
 pub length-joined-push : {R : Type 0} (pieces : List (List R)) (p : List R) → length (joined_pieces (pieces ++ p ∷ [])) ≡ length (joined_pieces pieces) + length p
@@ -38,7 +39,7 @@ length-joined-push pieces p =
     ∙ (length-append (joined_pieces pieces) (p ++ []) ∙ ap (λ (q : List _). length (joined_pieces pieces) + length q) (append-nil p))
 
 -- what has all growths that the seat knows has its list
-pub shows_all : {R : Type 0} (shown : Shown R) (seat : Seated R) → shown.growths ≡ growths_of seat → Shows shown.of seat shown
+pub shows_all : {R : Type 0} (shown : Shown R) (seat : Seated R) → shown.growths ≡ growth_records seat → ShowsSeat shown.of seat shown
 shows_all {R} shown seat same = record {
   of = refl;
   growths = same;
@@ -47,22 +48,27 @@ shows_all {R} shown seat same = record {
 }
 
 -- where it has as many it has the same ones
-pub same_growths : {R : Type 0} (shown : Shown R) (seat : Seated R) → Agree shown.growths (growths_of seat) → length shown.growths ≡ length seat.pass.entries → shown.growths ≡ growths_of seat
+pub same_growths : {R : Type 0} (shown : Shown R) (seat : Seated R) → Agree shown.growths (growth_records seat)
+    → length shown.growths ≡ length seat.pass.entries → shown.growths ≡ growth_records seat
 same_growths {R} shown seat agree many =
     let all = length-map seat.pass.entries (λ (e : Growth R). e.records) in
-    sym (agree_begins shown.growths (growths_of seat) agree (omega arith)) ∙ take_all (length shown.growths) (growths_of seat) (omega arith)
+    sym (agree_begins shown.growths (growth_records seat) agree (omega arith)) ∙ take_all (length shown.growths) (growth_records seat) (omega arith)
 
 -- pieces, of which so many are the blocks from before the phase, and the others are growths that the seat knows
-module _ {R : Type 0} (live : Phase R) (seat : Seated R) (pieces : List (List R)) (blocks n : ℕ) (inside : blocks ≤ length pieces) (first : take blocks pieces ≡ full_of live.blocks) (many : n ≡ length (drop blocks pieces)) (agree : Agree (drop blocks pieces) (growths_of seat)) (le : n ≤ length seat.pass.entries) where
-  begins : drop blocks pieces ≡ take n (growths_of seat)
-  begins = sym (rw many (agree_begins (drop blocks pieces) (growths_of seat) agree (omega (arith, length-map seat.pass.entries (λ (e : Growth R). e.records)))))
+module _ {R : Type 0} (live : Phase R) (seat : Seated R) (pieces : List (List R)) (blocks n : ℕ) (inside : blocks ≤ length pieces)
+    (first : take blocks pieces ≡ full_of live.blocks) (many : n ≡ length (drop blocks pieces))
+    (agree : Agree (drop blocks pieces) (growth_records seat)) (le : n ≤ length seat.pass.entries) where
+  begins : drop blocks pieces ≡ take n (growth_records seat)
+  begins = sym (rw many (agree_begins (drop blocks pieces) (growth_records seat) agree (omega (arith, length-map seat.pass.entries (λ (e : Growth R). e.records)))))
 
   pub behind : length (joined_pieces pieces) ≡ length (opening_of live) + total (take n seat.pass.entries)
   behind =
-      let cut : pieces ≡ full_of live.blocks ++ map (λ e. e.records) (take n seat.pass.entries) = sym (take-append-drop blocks pieces) ∙ ap₂ (λ (xs ys : List (List R)). xs ++ ys) first (begins ∙ take-map (λ (e : Growth R). e.records) n seat.pass.entries) in
+      let cut : pieces ≡ full_of live.blocks ++ map (λ e. e.records) (take n seat.pass.entries) = sym (take-append-drop blocks pieces)
+      ∙ ap₂ (λ (xs ys : List (List R)). xs ++ ys) first (begins ∙ take-map (λ (e : Growth R). e.records) n seat.pass.entries) in
       ap (λ (ps : List (List R)). length (joined_pieces ps)) cut
       ∙ (ap length (joined_pieces-growths (full_of live.blocks) (take n seat.pass.entries) ∙ ap (λ (rs : List R). rs ++ joined (take n seat.pass.entries)) (joined-full_of live.blocks))
       ∙ length-list (opening_of live) (take n seat.pass.entries))
 
-  pub all_added : drop blocks (pieces ++ drop n (growths_of seat)) ≡ growths_of seat
-  all_added = drop-append-le blocks pieces (drop n (growths_of seat)) inside ∙ (ap (λ (ps : List (List R)). ps ++ drop n (growths_of seat)) begins ∙ take-append-drop n (growths_of seat))
+  pub all_added : drop blocks (pieces ++ drop n (growth_records seat)) ≡ growth_records seat
+  all_added = drop-append-le blocks pieces (drop n (growth_records seat)) inside
+      ∙ (ap (λ (ps : List (List R)). ps ++ drop n (growth_records seat)) begins ∙ take-append-drop n (growth_records seat))

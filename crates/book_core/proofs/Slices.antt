@@ -13,24 +13,26 @@ use Rattle.std.proofs.lemmas.Option.{slice_get_cases, slice_get_within, slice_ge
 use Rattle.record_core.specs.Limits.{record_limit}
 use Rattle.directory_core.specs.Finding.{IsBetween}
 use Rattle.book_core.specs.Lists.{records_of, joined_pieces, IsPlaceIn, IsRestOfPiece}
-use Rattle.book_core.specs.Snapshots.{AreFull, AreLaid, AreEven, IsStepWith, full_of}
+use Rattle.book_core.specs.Snapshots.{AreFull, HaveStarts, AreEven, IsStepWith, full_of}
 use Rattle.book_core.proofs.PieceLists.{length-joined_pieces}
 
 -- the record at a place
-pub joined_at : {R : Type 0} (pieces : List (List R)) (i number place : ℕ) (d : R) (here : IsPlaceIn pieces i number place) → slice_get (joined_pieces pieces) i ≡ Some (get_or here.piece place d)
+pub joined_at : {R : Type 0} (pieces : List (List R)) (i number place : ℕ) (d : R) (here : IsPlaceIn pieces i number place)
+    → slice_get (joined_pieces pieces) i ≡ Some (get_or here.piece place d)
 joined_at {R} pieces i number place d here =
     let piece = here.piece in
     let inside = slice_get_within pieces number piece here.at in
     let is : get_or pieces number piece ≡ piece = get_or_from_slice_get pieces number piece piece here.at in
     let short : place < length (get_or pieces number piece) = subst (λ (p : List R). place < length p) (sym is) here.inside in
     let start : length (joined_pieces (take number pieces)) + place ≡ i = ap (λ (n : ℕ). n + place) (length-joined_pieces (take number pieces)) ∙ here.before in
-    let got : get_or (joined_pieces pieces) (length (joined_pieces (take number pieces)) + place) d ≡ get_or (get_or pieces number piece) place d = get_or-flat_map (λ (p : List R). p) pieces number place piece d inside short in
+    let got : get_or (joined_pieces pieces) (length (joined_pieces (take number pieces)) + place) d ≡ get_or (get_or pieces number piece) place d =
+    get_or-flat_map (λ (p : List R). p) pieces number place piece d inside short in
     let more : sum_by length (take (number + 1) pieces) ≡ sum_by length (take number pieces) + length (get_or pieces number piece) = sum_by_more length pieces number piece inside in
     let before = here.before in
     let in_all : i < length (joined_pieces pieces) = omega (arith, more, short, before, sum_by-take-le length pieces (number + 1), length-joined_pieces pieces) in
     slice_get-get_or (joined_pieces pieces) i d in_all ∙ ap Some (ap (λ (k : ℕ). get_or (joined_pieces pieces) k d) (sym start) ∙ (got ∙ ap (λ (p : List R). get_or p place d) is))
 
-module _ {R : Type 0} {pieces : List (List R)} {starts : List ℕ} {size : ℕ} (h : AreLaid pieces starts size) where
+module _ {R : Type 0} {pieces : List (List R)} {starts : List ℕ} {size : ℕ} (h : HaveStarts pieces starts size) where
   pub length_is : size ≡ length (joined_pieces pieces)
   length_is = h.size_is ∙ sym (length-joined_pieces pieces)
 
@@ -38,7 +40,7 @@ module _ {R : Type 0} {pieces : List (List R)} {starts : List ℕ} {size : ℕ} 
   piece_at k lt = elim ((slice_get_cases pieces k).1) [ inl found ↦ (found.0, found.2, found.3) | inr past ↦ absurd (omega (arith, past.0)) ]
 
   -- one piece more
-  pub laid_push : (p : List R) → 0 < length p → size + length p ≤ record_limit → AreLaid (pieces ++ p ∷ []) (starts ++ size ∷ []) (size + length p)
+  pub laid_push : (p : List R) → 0 < length p → size + length p ≤ record_limit → HaveStarts (pieces ++ p ∷ []) (starts ++ size ∷ []) (size + length p)
   laid_push p some limit =
       let many = h.as_many in
       let size_is = h.size_is in
@@ -79,7 +81,8 @@ module _ {R : Type 0} {pieces : List (List R)} {starts : List ℕ} {size : ℕ} 
       let inside : number < length pieces = omega arith in
       let p = piece_at number inside in
       let start = h.start_at number inside in
-      let more : sum_by length (take (number + 1) pieces) ≡ sum_by length (take number pieces) + length p.0 = sum_by_more length pieces number p.0 inside ∙ ap (λ (q : List R). sum_by length (take number pieces) + length q) p.2 in
+      let more : sum_by length (take (number + 1) pieces) ≡ sum_by length (take number pieces) + length p.0 =
+      sum_by_more length pieces number p.0 inside ∙ ap (λ (q : List R). sum_by length (take number pieces) + length q) p.2 in
       let short : i < sum_by length (take (number + 1) pieces) = elim (cases_eq (number + 1) (length pieces)) [
         | inl last ↦ let all : sum_by length (take (number + 1) pieces) ≡ sum_by length pieces = ap (sum_by length) (take_all (number + 1) pieces (omega (arith, last))) in omega arith
         | inr other ↦ let next : number + 1 < length pieces = omega (arith, other) in let until = found.until (omega (arith, next, many)) in let end = h.start_at (number + 1) next in omega arith
@@ -117,14 +120,16 @@ joined-full_of {R} ((x ∷ xs) ∷ ps) =
     ap (λ (b : Bool). joined_pieces (cond b ((x ∷ xs) ∷ full_of ps) (full_of ps))) passes ∙ ap (λ (rs : List R). (x ∷ xs) ++ rs) (joined-full_of ps)
 
 -- the slice that is read at a place
-pub read_is : {R : Type 0} (items : List (Bor (List R))) (pieces : List (List R)) (number : ℕ) (p : List R) (s : Bor (List R)) → map (λ t. t.now) items ≡ pieces → slice_get pieces number ≡ Some p → s ≡ get_or items number s → s.now ≡ p
+pub read_is : {R : Type 0} (items : List (Bor (List R))) (pieces : List (List R)) (number : ℕ) (p : List R) (s : Bor (List R))
+    → map (λ t. t.now) items ≡ pieces → slice_get pieces number ≡ Some p → s ≡ get_or items number s → s.now ≡ p
 read_is items pieces number p s are at is =
     let inside = slice_get_within pieces number p at in
     let lt : number < length items = omega (arith, inside, ap length are, length-map items (λ (t : Bor _). t.now)) in
     ap (λ (t : Bor _). t.now) is ∙ (sym (get_or-map (λ (t : Bor _). t.now) items number s p lt) ∙ (ap (λ (ps : List _). get_or ps number p) are ∙ get_or_from_slice_get pieces number p p at))
 
 -- the records from a place to the end of its piece
-pub rest_is : {R : Type 0} (pieces : List (List R)) (i number place : ℕ) (s : List R) (here : IsPlaceIn pieces i number place) → s ≡ here.piece → IsRestOfPiece pieces i (take (length s - place) (drop place s))
+pub rest_is : {R : Type 0} (pieces : List (List R)) (i number place : ℕ) (s : List R) (here : IsPlaceIn pieces i number place) → s ≡ here.piece
+    → IsRestOfPiece pieces i (take (length s - place) (drop place s))
 rest_is {R} pieces i number place s here same = record {
   number = number;
   place = place;
@@ -157,7 +162,8 @@ module _ {R : Type 0} (old : List (List R)) (blocks : List (Vec R)) (k : ℕ) (l
     in_records = omega (arith, lt, length-map blocks (λ (b : Vec R). b.items))
 
     pub with_push : 0 < length block.items → (old ++ full_of (take k (records_of blocks))) ++ block.items ∷ [] ≡ old ++ full_of (take (k + 1) (records_of blocks))
-    with_push some = append_assoc old (full_of (take k (records_of blocks))) (block.items ∷ []) ∙ ap (λ (ps : List (List R)). old ++ ps) (sym (full_of-push (records_of blocks) k block.items in_records here some))
+    with_push some = append_assoc old (full_of (take k (records_of blocks))) (block.items ∷ [])
+        ∙ ap (λ (ps : List (List R)). old ++ ps) (sym (full_of-push (records_of blocks) k block.items in_records here some))
 
     pub with_skip : length block.items ≡ 0 → old ++ full_of (take k (records_of blocks)) ≡ old ++ full_of (take (k + 1) (records_of blocks))
     with_skip none = ap (λ (ps : List (List R)). old ++ ps) (sym (full_of-skip (records_of blocks) k block.items in_records here none))
@@ -190,7 +196,8 @@ module _ {starts : List ℕ} {size step : ℕ} (even : AreEven starts size step)
       omega arith
 
 -- one piece more
-pub even_push : (starts : List ℕ) (size step len new : ℕ) → AreEven starts size step → IsStepWith (length starts) size step len new → (length starts ≡ 0 → size ≡ 0) → AreEven (starts ++ size ∷ []) (size + len) new
+pub even_push : (starts : List ℕ) (size step len new : ℕ) → AreEven starts size step → IsStepWith (length starts) size step len new
+    → (length starts ≡ 0 → size ≡ 0) → AreEven (starts ++ size ∷ []) (size + len) new
 even_push starts size step len new even is empty = elim is [
   | inl none ↦ record { start_at = λ k some lt. absurd (omega (arith, none, some)); no_more = λ some. absurd (omega (arith, none, some)) }
   | inr more ↦ elim more [
@@ -201,7 +208,8 @@ even_push starts size step len new even is empty = elim is [
     | inr same ↦ let long = length_push starts size in record {
       start_at = λ k some lt. let some' : 0 < step = omega (arith, same.0, some) in elim (cases_eq k (length starts)) [
         | inl last ↦ get_or_push starts size 0 k (sym last) ∙ (same.1 ∙ (ap (λ (n : ℕ). n * step) (sym last) ∙ ap (λ (n : ℕ). k * n) (sym same.0)))
-        | inr other ↦ let inside : k < length starts = omega (arith, other, lt, long) in get_or_append_left starts (size ∷ []) 0 k inside ∙ (even.start_at k some' inside ∙ ap (λ (n : ℕ). k * n) (sym same.0))
+        | inr other ↦ let inside : k < length starts = omega (arith, other, lt, long) in
+            get_or_append_left starts (size ∷ []) 0 k inside ∙ (even.start_at k some' inside ∙ ap (λ (n : ℕ). k * n) (sym same.0))
       ];
       no_more = λ some. rw (long, same.0) (let is = more_times (length starts) step in let at = same.1 in let le = same.2 in omega arith);
     }

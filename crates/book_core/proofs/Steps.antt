@@ -27,7 +27,8 @@ learns-trans a b c ab bc = record {
 
 pub grown-after : {R : Type 0} (live : Phase R) (a b c : Seated R) (records : List R) (receipt : Receipt) → SeatLearns a b → Grown live b c records receipt → Grown live a c records receipt
 grown-after live a b c records receipt ab grown =
-    let same : growth_of b grown.before records ≡ growth_of a grown.before records = λ i. record { number = length grown.before; start = total grown.before; seat = ab.id i; serial = length (ab.made i); records = records } in
+    let same : growth_of b grown.before records ≡ growth_of a grown.before records =
+    λ i. record { number = length grown.before; start = total grown.before; seat = ab.id i; serial = length (ab.made i); records = records } in
     record {
       before = grown.before;
       begins = begins-trans a.pass.entries b.pass.entries grown.before ab.begins grown.begins;
@@ -49,7 +50,8 @@ fill-after live a b c n v (Ok (Some receipt)) ab told = record { count = told.co
 fill-after live a b c n v (Err e) ab told = learns-trans a b c ab told
 
 -- what the book refuses of the records that the size was short of n
-pub fill_from_book : {R : Type 0} (width : ℕ) (live : Phase R) (seat : Seated R) (n short : ℕ) (fault : GrowFault) → size_of live seat < n → short ≡ n - size_of live seat → IsBlockLength width short → n ≤ record_limit
+pub fill_from_book : {R : Type 0} (width : ℕ) (live : Phase R) (seat : Seated R) (n short : ℕ) (fault : GrowFault) → size_of live seat < n
+    → short ≡ n - size_of live seat → IsBlockLength width short → n ≤ record_limit
     → IsBookRefusal live seat short fault → IsFillRefusal width live seat n fault
 fill_from_book width live seat n short Closed less is block fits told = tt
 fill_from_book width live seat n short Full less is block fits told = (told.0, less, told.1)

@@ -11,10 +11,10 @@ use Rattle.book_core.specs.declared.fault.SettleFault.{SettleFault}
 use Rattle.book_core.specs.declared.fault.SettleFault.TheVariants as settle
 use Rattle.book_core.specs.declared.mark.MarkState.{MarkState}
 use Rattle.book_core.specs.declared.mark.MarkState.TheVariants.{Running, Ended, Broken}
-use Rattle.book_core.specs.Marks.{MarkName, MarkEnd, nothing, word_of, Rises}
+use Rattle.book_core.specs.Marks.{MarkName, MarkEnd, nothing_told, word_of, Rises}
 use Rattle.book_core.specs.Lists.{Phase, Seated, IsRestOfPiece, joined_pieces, own_of, StandInList}
 use Rattle.book_core.specs.Pieces.{from_place, IsLeftOf}
-use Rattle.book_core.specs.Snapshots.{AreLaid, full_of, Shows}
+use Rattle.book_core.specs.Snapshots.{HaveStarts, full_of, ShowsSeat}
 use Rattle.book_core.specs.Beginning.{IsNewSeat, MayBegin, IsBeginRefusal}
 use Rattle.book_core.specs.Growing.{SeatLearns, IsPast, SeatIsTold, IsToldOf}
 use Rattle.book_core.proofs.PieceLists.{length-from_place}
@@ -69,7 +69,7 @@ module _ (name : Name) (mark : MarkName) (held : Held) where
   of = record { name = name; room = 2; limit = 2 ^ 32 }
 
   abbrev seat : List (Growth ℕ) → List (Growth ℕ) → Seated ℕ
-  seat made known = record { id = 0; made = made; pass = record { of = of; entries = known; held = held }; mark = record { of = mark; told = nothing } }
+  seat made known = record { id = 0; made = made; pass = record { of = of; entries = known; held = held }; mark = record { of = mark; told = nothing_told } }
 
   abbrev mine : ℕ → Growth ℕ
   mine serial = record { number = serial; start = serial; seat = 0; serial = serial; records = 7 ∷ [] }
@@ -116,7 +116,7 @@ module _ (name : Name) (mark : MarkName) (held : Held) where
   not_new new = let count = ap (λ (end : MarkEnd). end.told.count) new.marked in omega arith
 
   -- a snapshot that lacks a growth doesn't show the list of who knows it
-  lacks_one : (live : Phase ℕ) → Shows live (seat [] (mine 0 ∷ [])) (record { of = live; growths = [] }) → ⊥
+  lacks_one : (live : Phase ℕ) → ShowsSeat live (seat [] (mine 0 ∷ [])) (record { of = live; growths = [] }) → ⊥
   lacks_one live shows = let few = ap length shows.growths in omega arith
 
 -- ---- phases that begin
@@ -160,7 +160,8 @@ abbrev three : List (List ℕ)
 three = (1 ∷ 2 ∷ []) ∷ [] ∷ (3 ∷ []) ∷ []
 
 -- nothing but the third piece stands at position 2
-third_place : (number place : ℕ) (piece : List ℕ) → slice_get three number ≡ Some piece → place < length piece → sum_by length (take number three) + place ≡ 2 → drop place piece ≡ 3 ∷ []
+third_place : (number place : ℕ) (piece : List ℕ) → slice_get three number ≡ Some piece → place < length piece
+    → sum_by length (take number three) + place ≡ 2 → drop place piece ≡ 3 ∷ []
 third_place zero place piece is inside at = let same : 1 ∷ 2 ∷ [] ≡ piece = cc in absurd (omega (arith, ap length same))
 third_place (suc zero) place piece is inside at = let same : [] ≡ piece = cc in absurd (omega (arith, ap length same))
 third_place (suc (suc zero)) place piece is inside at = let same : 3 ∷ [] ≡ piece = cc in let here : place ≡ 0 = omega arith in λ i. drop (here i) (sym same i)
@@ -194,11 +195,11 @@ both_start zero lt = refl
 both_start (suc zero) lt = refl
 both_start (suc (suc k)) lt = absurd (omega arith)
 
-laid : AreLaid both (0 ∷ 2 ∷ []) 3
+laid : HaveStarts both (0 ∷ 2 ∷ []) 3
 laid = record { full = both_full; as_many = refl; start_at = both_start; size_is = refl; in_limit = omega arith }
 
-none_empty : AreLaid {R = ℕ} ([] ∷ []) (0 ∷ []) 0 → ⊥
+none_empty : HaveStarts {R = ℕ} ([] ∷ []) (0 ∷ []) 0 → ⊥
 none_empty laid = let some = laid.full 0 [] (omega arith) in omega arith
 
-starts_at_ends : AreLaid both (0 ∷ 1 ∷ []) 3 → ⊥
+starts_at_ends : HaveStarts both (0 ∷ 1 ∷ []) 3 → ⊥
 starts_at_ends laid = let second = laid.start_at 1 (omega arith) in omega arith

@@ -8,7 +8,7 @@ use Rattle.directory_core.specs.Identity.{Name}
 use Rattle.book_core.specs.declared.fault.GrowFault.{GrowFault}
 use Rattle.book_core.specs.declared.fault.GrowFault.TheVariants.{Closed, Full, TooLong, Strayed, Memory, Empty, TooLarge}
 use Rattle.book_core.specs.declared.seat.Receipt.{Receipt}
-use Rattle.book_core.specs.Marks.{MarkName, nothing}
+use Rattle.book_core.specs.Marks.{MarkName, nothing_told}
 use Rattle.book_core.specs.Lists.{Phase, Seated}
 use Rattle.book_core.specs.Growing.{Grown, FillsUp, growth_of, PhaseHasRoom, PhaseKeepsLimit, IsForeign, IsStray, IsBookRefusal, StraysInLimit, IsLookFault, IsCopiesRefusal, IsFillRefusal}
 
@@ -29,7 +29,7 @@ module _ (name : Name) (mark : MarkName) where
     id = 0;
     made = made;
     pass = record { of = live.directory; entries = known; held = record { buckets = []; cells = [] } };
-    mark = record { of = mark; told = nothing };
+    mark = record { of = mark; told = nothing_told };
   }
 
   -- a growth of the seat 1, and two of the seat 0 behind it
@@ -58,7 +58,8 @@ module _ (name : Name) (mark : MarkName) where
   }
 
   -- its receipt: three records from before the phase and two of the other growth stand before it
-  the_receipt : (records : List ℕ) (receipt : Receipt) → Grown live (seat [] (other ∷ [])) (seat (mine ∷ []) (other ∷ mine ∷ [])) records receipt → length records ≡ 2 → receipt ≡ record { number = 1; start = 5; len = 2; seat = 0; serial = 0 }
+  the_receipt : (records : List ℕ) (receipt : Receipt) → Grown live (seat [] (other ∷ [])) (seat (mine ∷ []) (other ∷ mine ∷ [])) records receipt
+      → length records ≡ 2 → receipt ≡ record { number = 1; start = 5; len = 2; seat = 0; serial = 0 }
   the_receipt records receipt grown two =
       let before : grown.before ≡ other ∷ [] = front_is (other ∷ []) grown.before mine (growth_of (seat [] (other ∷ [])) grown.before records) grown.ends in
       let number = grown.number ∙ ap length before in

@@ -4,7 +4,7 @@ use Rattle.directory_core.specs.Identity.{Identity}
 use Rattle.directory_core.specs.Limits.{growth_limit}
 use Rattle.book_core.specs.declared.fault.GrowFault.{GrowFault}
 use Rattle.book_core.specs.declared.fault.GrowFault.TheVariants.{Memory, TooLarge}
-use Rattle.book_core.specs.Marks.{MarkName, nothing}
+use Rattle.book_core.specs.Marks.{MarkName, nothing_told}
 use Rattle.book_core.specs.Lists.{Seated}
 
 -- the seats of a phase at most
@@ -17,7 +17,7 @@ pub record IsNewSeat {R : Type 0} (directory : Identity) (mark : MarkName) (id :
   pub made : seat.made ≡ []
   pub of : seat.pass.of ≡ directory
   pub knows : seat.pass.entries ≡ []
-  pub marked : seat.mark ≡ record { of = mark; told = nothing }
+  pub marked : seat.mark ≡ record { of = mark; told = nothing_told }
 
 -- seats with the ids 0, 1, ..
 abbrev pub AreNewSeats : {R : Type 0} → Identity → MarkName → List (Seated R) → Type 0

@@ -44,8 +44,8 @@ abbrev pub list_of : {R : Type 0} → Phase R → Seated R → List R
 list_of live seat = opening_of live ++ joined seat.pass.entries
 
 -- the pieces in which it stands: the blocks from before the phase, then the growths by their numbers
-abbrev pub pieces_of : {R : Type 0} → Phase R → Seated R → List (List R)
-pieces_of live seat = live.blocks ++ map (λ e. e.records) seat.pass.entries
+abbrev pub seat_pieces : {R : Type 0} → Phase R → Seated R → List (List R)
+seat_pieces live seat = live.blocks ++ map (λ e. e.records) seat.pass.entries
 
 -- position i of the pieces joined is that place of that piece
 pub record IsPlaceIn {R : Type 0} (pieces : List (List R)) (i number place : ℕ) : Type 0 where

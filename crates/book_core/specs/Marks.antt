@@ -12,8 +12,8 @@ use Rattle.book_core.specs.declared.mark.View.{View}
 -- ---- what a mark tells
 
 -- no growth is settled, and more may be
-abbrev pub nothing : Reading
-nothing = record { count = 0; state = Running }
+abbrev pub nothing_told : Reading
+nothing_told = record { count = 0; state = Running }
 
 -- the mark doesn't run any more
 abbrev pub IsOver : MarkState → Type 0
@@ -50,14 +50,14 @@ pub record MarkEnd : Type 0 where
 -- ---- the rule of the word and of the views of all ends
 
 abbrev pub writer : Reading → View
-writer told = record { writes = true; told = told; claim = nothing }
+writer told = record { writes = true; told = told; claim = nothing_told }
 
 abbrev pub reader : Reading → View
-reader told = record { writes = false; told = told; claim = nothing }
+reader told = record { writes = false; told = told; claim = nothing_told }
 
 -- what is left of a view that was taken in
 abbrev pub nobody : View
-nobody = reader nothing
+nobody = reader nothing_told
 
 -- the first view, with the claim that the second was told this
 abbrev pub shown : View → View → View

@@ -9,7 +9,7 @@ abbrev pub AreFull : {R : Type 0} → List (List R) → Type 0
 AreFull pieces = All (λ p. 0 < length p) pieces
 
 -- each piece has a record and starts where the one before it ends, and together they have so many records
-pub record AreLaid {R : Type 0} (pieces : List (List R)) (starts : List ℕ) (size : ℕ) : Type 0 where
+pub record HaveStarts {R : Type 0} (pieces : List (List R)) (starts : List ℕ) (size : ℕ) : Type 0 where
   pub full : AreFull pieces
   pub as_many : length starts ≡ length pieces
   pub start_at : (k : ℕ) → k < length pieces → get_or starts k 0 ≡ sum_by length (take k pieces)
@@ -62,11 +62,11 @@ abbrev pub AreFoundAt : {R : Type 0} → List R → List ℕ → List (Option (B
 AreFoundAt records positions found = (k i : ℕ) (it : Option (Bor _)) → slice_get positions k ≡ Some i → slice_get found k ≡ Some it → IsFoundAt records i it
 
 -- the records of each growth that the seat knows
-abbrev pub growths_of : {R : Type 0} → Seated R → List (List R)
-growths_of seat = map (λ e. e.records) seat.pass.entries
+abbrev pub growth_records : {R : Type 0} → Seated R → List (List R)
+growth_records seat = map (λ e. e.records) seat.pass.entries
 
 -- it has just what the seat knows
-pub record Shows {R : Type 0} (live : Phase R) (seat : Seated R) (shown : Shown R) : Type 0 where
+pub record ShowsSeat {R : Type 0} (live : Phase R) (seat : Seated R) (shown : Shown R) : Type 0 where
   pub of : shown.of ≡ live
-  pub growths : shown.growths ≡ growths_of seat
+  pub growths : shown.growths ≡ growth_records seat
   pub list : list_in shown ≡ list_of live seat

@@ -2,7 +2,7 @@
 
 ghost use Rattle.std.specs.Prelude.{◌≡◌, ◌≤◌, [], ◌++◌, length, option_to_list, IfOk, IfErr, IfSome, MatchOption, OnOk};
 ghost use Rattle.record_core.specs.Limits.{record_limit};
-ghost use Rattle.book_core.specs.Marks.{nothing};
+ghost use Rattle.book_core.specs.Marks.{nothing_told};
 ghost use Rattle.book_core.specs.Lists.{records_of, joined_pieces, IsSeatOf};
 ghost use Rattle.book_core.specs.Beginning.{IsNewSeat, AreNewSeats, IsBeginRefusal, MayBegin};
 
@@ -59,7 +59,7 @@ fn seats_of<R: Record>(
     writer: &mut Writer,
     count: u16,
 ) -> Option<Vec<Seat<R>>>
-    requires mark { writer.old ≡ record { of = mark.now; told = nothing } }
+    requires mark { writer.old ≡ record { of = mark.now; told = nothing_told } }
     ensures same { writer.new ≡ writer.old }
     ensures seats { IfSome result (λ seats.
         (length seats.items ≡ count) × AreNewSeats directory.now mark.now seats.items) }
@@ -87,7 +87,7 @@ impl<R: Record> Parts<R> {
         ensures pass { IfSome result (λ parts.
             (parts.pass.of ≡ parts.directory) × (parts.pass.entries ≡ [])) }
         ensures mark { IfSome result (λ parts.
-            parts.writer ≡ record { of = parts.mark; told = nothing }) }
+            parts.writer ≡ record { of = parts.mark; told = nothing_told }) }
     {
         let doors = doors_of(alloc, seats)?;
         let Ok(directory) = Directory::with_limit(alloc, room, limit) else {
@@ -129,7 +129,7 @@ impl<R: Record> Live<R> {
         ensures pass { IfOk result (λ begun.
             (begun.pass.of ≡ begun.live.directory) × (begun.pass.entries ≡ [])) }
         ensures mark { IfOk result (λ begun.
-            begun.mark ≡ record { of = begun.live.mark; told = nothing }) }
+            begun.mark ≡ record { of = begun.live.mark; told = nothing_told }) }
         ensures seat_count { IfOk result (λ begun. begun.live.seat_count ≡ seats) }
         ensures may { OnOk result (MayBegin room seats) }
         ensures refused { IfErr result (λ refused.

@@ -21,8 +21,8 @@ pub enum GrowFault {
     /// The vector would have more than 2^32 records.
     #[error("too long")]
     TooLong,
-    /// The growth of this number doesn't follow those before it: the seat then knows these, and there is room for it. Or the seat knows the growth of this
-    /// number, which bears the seat's id and is none of its growths.
+    /// The growth of this number doesn't follow those before it: the seat then knows these, and there is room for it.
+    /// Or the seat knows the growth of this number, which bears the seat's id and is none of its growths.
     #[error("strayed at growth {0}")]
     Strayed(u64),
     /// A growth of memory was refused.

@@ -175,8 +175,9 @@ impl<R: Record> Live<R> {
     }
 
     /// Grows by as many copies of the value as bring the size to `n`. `None` where it is already there. The block is
-    /// made behind the seat's door, again where another growth came first: it is refused by the first that holds of `Closed`, `Strayed`, `Full`, `TooLarge`,
-    /// `TooLong` and `Memory`, of which all but the first two come only where the size falls short of `n`.
+    /// made behind the seat's door, again where another growth came first: it is refused by the first that holds of
+    /// `Closed`, `Strayed`, `Full`, `TooLarge`, `TooLong` and `Memory`, of which all but the first two come only where
+    /// the size falls short of `n`.
     pub fn grow_to_at_least<E: Wait>(
         &self,
         rt: &E,

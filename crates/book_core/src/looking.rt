@@ -2,7 +2,7 @@
 
 ghost use Rattle.std.specs.Prelude.{◌≡◌, ◌+◌, ◌≤◌, length, take, IfErr, OnOk, MatchOption, MatchResult};
 ghost use Rattle.record_core.specs.Limits.{record_limit};
-ghost use Rattle.directory_core.specs.Chain.{Agree, Meets};
+ghost use Rattle.directory_core.specs.Chain.{Agree, IsLongerOf};
 ghost use Rattle.book_core.specs.Lists.{IsSeatOf, own_of, HasJustItsOwn, IsFirstOf, list_of};
 ghost use Rattle.book_core.specs.Growing.{SeatLearns, IsLookFault, size_of};
 
@@ -36,7 +36,7 @@ impl<R: Record> Live<R> {
         None
     }
 
-    /// SeatLearns what others have published, and finds that of the seat's own growths its list has just those that it
+    /// The seat learns what others have published, and finds that of its own growths its list has just those that it
     /// made.
     pub(crate) fn catch_up(&self, seat: &mut Seat<R>) -> Result<(), GrowFault>
         requires of { IsSeatOf self.now seat.old }
@@ -56,7 +56,7 @@ impl<R: Record> Live<R> {
         }
     }
 
-    /// SeatLearns what others have published, and answers the size that the seat then knows. `Strayed` names the first
+    /// The seat learns what others have published. Answers the size that it then knows. `Strayed` names the first
     /// number whose growth doesn't follow those before it, or bears the seat's id and is none of its growths.
     pub fn look(&self, seat: &mut Seat<R>) -> Result<u64, GrowFault>
         requires of { IsSeatOf self.now seat.old }
@@ -87,7 +87,7 @@ impl<R: Record> Live<R> {
         ensures same { other.new ≡ other.old }
         ensures learns { SeatLearns seat.old seat.new }
         ensures agree { Agree seat.old.pass.entries other.old.pass.entries }
-        ensures meets { Meets seat.old.pass.entries other.old.pass.entries seat.new.pass.entries }
+        ensures meets { IsLongerOf seat.old.pass.entries other.old.pass.entries seat.new.pass.entries }
     {
         seat.pass.meet(&mut other.pass);
     }

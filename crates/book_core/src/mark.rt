@@ -2,7 +2,7 @@
 //! whether more may be.
 
 ghost use Rattle.std.specs.Prelude.{◌≡◌, ◌<◌, ◌≤◌, ◌+◌, ◌*◌, ◌^◌, [], IfOk};
-ghost use Rattle.book_core.specs.Marks.{nothing, IsOver, Rises, code, word_of, writer};
+ghost use Rattle.book_core.specs.Marks.{nothing_told, IsOver, Rises, code, word_of, writer};
 
 use atomic_table::{Join, Play, Seat, Split, Table, TableRule};
 use std::alloc::{AllocError, Global};
@@ -39,11 +39,11 @@ pub struct View {
 pub struct Rule;
 
 impl TableRule<u8, View, ()> for Rule {
-    ghost use Rattle.book_core.specs.Marks.{Kept, writer, nothing};
+    ghost use Rattle.book_core.specs.Marks.{Kept, writer, nothing_told};
 
     ghost holds = { λ _ s. Kept s };
 
-    ghost first = { λ _. writer nothing };
+    ghost first = { λ _. writer nothing_told };
 }
 
 /// A reader is made that was told what the writer tells.
@@ -152,7 +152,7 @@ impl Model for Reader {
 impl Mark {
     /// A mark that tells that nothing is settled and more may be, and its writing end.
     pub fn make(alloc: Global) -> Result<(Mark, Writer), AllocError>
-        ensures { IfOk result (λ made. (made.1.of ≡ made.0) × (made.1.told ≡ nothing)) }
+        ensures { IfOk result (λ made. (made.1.of ≡ made.0) × (made.1.told ≡ nothing_told)) }
     {
         let (table, seat) = Table::of_words(alloc, &[0], &())?;
         let told = Reading {

@@ -3,7 +3,7 @@
 
 ghost use Rattle.std.specs.Prelude.{◌≡◌, ◌≤◌, List, length, drop, slice_get, Some, MatchOption, IfSome};
 ghost use Rattle.directory_core.specs.Finding.{IsPieceAt};
-ghost use Rattle.book_core.specs.Lists.{IsSeatOf, joined_pieces, list_of, pieces_of, IsPlaceIn, IsRestOfPiece};
+ghost use Rattle.book_core.specs.Lists.{IsSeatOf, joined_pieces, list_of, seat_pieces, IsPlaceIn, IsRestOfPiece};
 
 use crate::live::Live;
 use crate::seat::Seat;
@@ -15,7 +15,7 @@ impl<R: Record> Live<R> {
         requires of { IsSeatOf self.now seat.now }
         ensures { MatchOption result
             (length (list_of self.now seat.now) ≤ i)
-            (λ found. IsPlaceIn (pieces_of self.now seat.now) i found.0 found.1) }
+            (λ found. IsPlaceIn (seat_pieces self.now seat.now) i found.0 found.1) }
     {
         let before = self.opening.len();
         if i < before {
@@ -45,7 +45,7 @@ impl<R: Record> Live<R> {
         ensures same { seat.new ≡ seat.old }
         ensures value { MatchOption result
             (length (list_of self.now seat.old) ≤ i)
-            (λ piece. IsRestOfPiece (pieces_of self.now seat.old) i piece.now) }
+            (λ piece. IsRestOfPiece (seat_pieces self.now seat.old) i piece.now) }
         ensures in_order { IfSome result (λ piece. IsPieceAt (list_of self.now seat.old) i piece.now) }
     {
         let (number, place) = self.find(seat, i)?;
@@ -56,8 +56,8 @@ impl<R: Record> Live<R> {
     /// In how many pieces the list stands as the seat knows it: the blocks from before the phase, and the growths.
     pub fn piece_count(&self, seat: &Seat<R>) -> u64
         requires of { IsSeatOf self.now seat.now }
-        ensures count { result ≡ length (pieces_of self.now seat.now) }
-        ensures joined { joined_pieces (pieces_of self.now seat.now) ≡ list_of self.now seat.now }
+        ensures count { result ≡ length (seat_pieces self.now seat.now) }
+        ensures joined { joined_pieces (seat_pieces self.now seat.now) ≡ list_of self.now seat.now }
     {
         self.opening.blocks.len() as u64 + seat.pass.known()
     }
@@ -69,8 +69,8 @@ impl<R: Record> Live<R> {
         requires of { IsSeatOf self.now seat.old }
         ensures same { seat.new ≡ seat.old }
         ensures value { MatchOption result
-            (length (pieces_of self.now seat.old) ≤ number)
-            (λ piece. slice_get (pieces_of self.now seat.old) number ≡ Some piece.now) }
+            (length (seat_pieces self.now seat.old) ≤ number)
+            (λ piece. slice_get (seat_pieces self.now seat.old) number ≡ Some piece.now) }
     {
         let blocks = self.opening.blocks.len() as u64;
         if number < blocks {
@@ -92,9 +92,9 @@ pub struct Pieces<'a, 's, R: Record> {
     place: usize,
     count: u64,
     ghost of: { IsSeatOf live.now seat.now },
-    ghost counted: { count ≡ length (pieces_of live.now seat.now) },
+    ghost counted: { count ≡ length (seat_pieces live.now seat.now) },
     ghost inside: { next ≤ count },
-    ghost placed: { (piece : List R) → slice_get (pieces_of live.now seat.now) next ≡ Some piece → place ≤ length piece },
+    ghost placed: { (piece : List R) → slice_get (seat_pieces live.now seat.now) next ≡ Some piece → place ≤ length piece },
 }
 
 impl<R: Record> Live<R> {
@@ -104,7 +104,7 @@ impl<R: Record> Live<R> {
     /// the phase, then the growths by their numbers.
     pub fn pieces<'a, 's>(&'a self, seat: &'s mut Seat<R>) -> Pieces<'a, 's, R>
         requires of { IsSeatOf self.now seat.old }
-        ensures pieces { pieces_left result ≡ pieces_of self.now seat.old }
+        ensures pieces { pieces_left result ≡ seat_pieces self.now seat.old }
         ensures seat { (result.seat.ghost_name ≡ seat.entry.ghost_name) × (result.seat.now ≡ seat.old) }
     {
         let count = self.piece_count(seat);
@@ -122,7 +122,7 @@ impl<R: Record> Live<R> {
     pub fn pieces_from<'a, 's>(&'a self, seat: &'s mut Seat<R>, i: u64) -> Pieces<'a, 's, R>
         requires of { IsSeatOf self.now seat.old }
         ensures list { joined_pieces (pieces_left result) ≡ drop i (list_of self.now seat.old) }
-        ensures pieces { IsLeftOf (pieces_of self.now seat.old) (pieces_left result) }
+        ensures pieces { IsLeftOf (seat_pieces self.now seat.old) (pieces_left result) }
         ensures seat { (result.seat.ghost_name ≡ seat.entry.ghost_name) × (result.seat.now ≡ seat.old) }
     {
         let count = self.piece_count(seat);

@@ -1,7 +1,7 @@
 //! What a phase lends to who settles its growths, by a pass of its own.
 
 ghost use Rattle.std.specs.Prelude.{◌≡◌, ◌<◌, ◌≤◌, length, slice_get, Some, IfErr, MatchOption, MatchResult};
-ghost use Rattle.directory_core.specs.Chain.{IsPrefix, Agree, Meets};
+ghost use Rattle.directory_core.specs.Chain.{IsPrefix, Agree, IsLongerOf};
 ghost use Rattle.book_core.specs.Marks.{Rises};
 ghost use Rattle.book_core.specs.Lists.{IsSeatOf};
 ghost use Rattle.book_core.specs.Growing.{SeatLearns};
@@ -53,7 +53,7 @@ impl<R: Record> Live<R> {
         ensures of { pass.new.of ≡ self.now.directory }
         ensures same { seat.new ≡ seat.old }
         ensures agree { Agree pass.old.entries seat.old.pass.entries }
-        ensures meets { Meets pass.old.entries seat.old.pass.entries pass.new.entries }
+        ensures meets { IsLongerOf pass.old.entries seat.old.pass.entries pass.new.entries }
     {
         pass.meet(&mut seat.pass);
     }
@@ -65,7 +65,7 @@ impl<R: Record> Live<R> {
         ensures same { pass.new ≡ pass.old }
         ensures learns { SeatLearns seat.old seat.new }
         ensures agree { Agree seat.old.pass.entries pass.old.entries }
-        ensures meets { Meets seat.old.pass.entries pass.old.entries seat.new.pass.entries }
+        ensures meets { IsLongerOf seat.old.pass.entries pass.old.entries seat.new.pass.entries }
     {
         seat.pass.meet(pass);
     }
@@ -76,7 +76,7 @@ impl<R: Record> Live<R> {
         requires of { (pass.old.of ≡ self.now.directory) × (mark.old.of ≡ self.now.mark) × IsSeatOf self.now seat }
         ensures of { pass.new.of ≡ self.now.directory }
         ensures agree { Agree pass.old.entries seat.pass.entries }
-        ensures meets { Meets pass.old.entries seat.pass.entries pass.new.entries }
+        ensures meets { IsLongerOf pass.old.entries seat.pass.entries pass.new.entries }
         ensures same { mark.new ≡ mark.old }
         ensures told { Rises seat.mark.told mark.old.told }
     {

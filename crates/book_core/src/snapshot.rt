@@ -5,7 +5,7 @@ ghost use Rattle.record_core.specs.Limits.{record_limit};
 ghost use Rattle.directory_core.specs.Chain.{Agree, total};
 ghost use Rattle.directory_core.specs.Finding.{IsPieceAt};
 ghost use Rattle.book_core.specs.Lists.{IsSeatOf, IsRestOfPiece, opening_of, joined_pieces};
-ghost use Rattle.book_core.specs.Snapshots.{Shows, AreFull, AreFoundAt, HasRoomFor, pieces_in, list_in, growths_of};
+ghost use Rattle.book_core.specs.Snapshots.{ShowsSeat, AreFull, AreFoundAt, HasRoomFor, pieces_in, list_in, growth_records};
 
 use crate::fault::GrowFault;
 use crate::live::Live;
@@ -83,7 +83,7 @@ impl<R: Record> Live<R> {
     pub fn snapshot<'a>(&'a self, seat: &mut Seat<R>) -> Result<Snapshot<'a, R>, GrowFault>
         requires of { IsSeatOf self.now seat.old }
         ensures same { seat.new ≡ seat.old }
-        ensures list { MatchResult result (Shows self.now seat.old) (λ fault. fault ≡ GrowFault.Memory) }
+        ensures list { MatchResult result (ShowsSeat self.now seat.old) (λ fault. fault ≡ GrowFault.Memory) }
     {
         let slices = Slices::of_blocks(self.alloc, self.opening.blocks.as_slice())?;
         let blocks = slices.count();
@@ -98,15 +98,15 @@ impl<R: Record> Live<R> {
 }
 
 impl<'a, R: Record> Snapshot<'a, R> {
-    /// Adds the growths that the seat knows and the snapshot doesn't have, of memory as much as `Live::snapshot` takes. The two must agree
-    /// on the growths that both have, as they do where the seat is the one that it was made from, or has met that.
-    /// Where the seat knows no more, and on `Memory`, it stays as it is.
+    /// Adds the growths that the seat knows and the snapshot doesn't have, of memory as much as `Live::snapshot` takes.
+    /// The two must agree on the growths that both have, as they do where the seat is the one that it was made from, or
+    /// has met that. Where the seat knows no more, and on `Memory`, it stays as it is.
     pub fn update(&mut self, seat: &mut Seat<R>) -> Result<(), GrowFault>
         requires of { IsSeatOf self.old.of seat.old }
-        requires agree { Agree self.old.growths (growths_of seat.old) }
+        requires agree { Agree self.old.growths (growth_records seat.old) }
         ensures same { seat.new ≡ seat.old }
         ensures more { OnOk result (
-            length self.old.growths ≤ length seat.old.pass.entries → Shows self.old.of seat.old self.new) }
+            length self.old.growths ≤ length seat.old.pass.entries → ShowsSeat self.old.of seat.old self.new) }
         ensures no_more { length seat.old.pass.entries ≤ length self.old.growths → self.new ≡ self.old }
         ensures of { self.new.of ≡ self.old.of }
         ensures refused { IfErr result (λ fault. (fault ≡ GrowFault.Memory)

@@ -1,12 +1,60 @@
 //! Waiting without spinning: seats for the mark, and the flusher for growths and for seats.
 //!
-//! Why no wake-up is lost. The flusher says that it sleeps, and then reads whether there is more or the book is closed;
-//! a growth and a close change that, and then read whether it sleeps: so either it has read the change, or it is found
-//! asleep and woken. It read how often it was woken before it said so: a wake between that and its sleep ends the sleep.
-//! A seat reads how often seats were woken, counts itself, and reads the mark once more. Who raises the mark and then
-//! calls `wake_settled` stores first, and takes the count then: so either the seat has read the new mark, or it was
-//! counted, and then seats are woken once more than it read. The flusher that gathers says with how many seats it is to
-//! be woken before it reads their count; one that it should miss costs it no more than its time.
+//! # Why nobody sleeps for ever
+//!
+//! No clause says it: these tables do. All steps stand in one order, `<`, since each is `SeqCst`. Who sleeps on a count
+//! does so while its low 32 bits are those that were read before, and may wake for no reason. So an addition to the count
+//! that comes after that reading, and is followed by a wake, ends the sleep, or keeps it from beginning.
+//!
+//! ## The flusher, one thread, for growths (`await_more`), and who rings (`wake_flusher`)
+//!
+//! | The flusher | Who rings |
+//! |---|---|
+//! | F1 reads `wakes` | R1 makes a change: a grower sets the cell of its growth, a close sets `done` |
+//! | F2 sets `asleep` | R2 reads `asleep`: cleared, it is through |
+//! | F3 reads `done` and the next cell: changed, it clears `asleep` and returns | R3 clears `asleep`: it was cleared, it is through |
+//! | F4 sleeps on `wakes`, and goes on at F1 | R4 adds to `wakes`, and wakes |
+//!
+//! - R1 < F3: the flusher reads the change.
+//! - F3 < R1, and R3 finds `asleep` set: F1 < R1 < R4, so R4 ends the sleep.
+//! - F3 < R1, and R2 or R3 finds it cleared: F2 had set it, so another has cleared it at an R3 behind F2, and that one's R4
+//!   ends the sleep. If ours was through before the next F2, then R1 < the next F3. If not, these lines hold of the next turn.
+//! - An R4 that belongs to an earlier turn ends a sleep too soon, and F1 follows. Each thread has one of them at most.
+//!
+//! ## A close, and growths under way (`Live::close`, `Live::grow`)
+//!
+//! | A grower | A close |
+//! |---|---|
+//! | G1 takes its door | C1 sets `begun` |
+//! | G2 reads `begun`: set, it is refused | C2 takes each door, and leaves it |
+//! | G3 sets the cell: R1 | C3 sets `done`: R1 |
+//! | G4 leaves the door, then R2 | then R2 |
+//!
+//! - G1 < C2 at its door: C2 waits for G4, so G3 < C3, and who reads `done` finds the growth. C2 < G1: it is refused.
+//! - At a door nobody waits for ever: who holds one takes no other, and sleeps for a time that it chose (`Patience`), once for
+//!   each growth that came before its own, of which a phase has no more than its room.
+//!
+//! ## A seat, for the mark (`await_settled`), and the flusher (`wake_settled`)
+//!
+//! | A seat | The flusher |
+//! |---|---|
+//! | A1 reads `raises` | M1 writes the mark: a count, Ended or Broken |
+//! | A2 adds to `waiting` | M2 takes all of `waiting`: none, it is through |
+//! | A3 reads the mark: past, it returns | M3 adds to `raises`, and wakes all |
+//! | A4 sleeps on `raises`, reads the mark as at A3, and goes on at A1 | |
+//!
+//! M1 is the write by which the seat's growth is past. Behind each write of `Flusher::serve` stands M2, also where it breaks.
+//!
+//! - M1 < A3: the seat reads it. A seat that comes once the mark says Ended or Broken reads that before A1.
+//! - A3 < M1, and this M2 takes A2's one: A1 < M3, so M3 ends the sleep, and the seat reads the mark.
+//! - A3 < M1, and an earlier M2 took it: that one's M3 ends the sleep. The seat reads M1 then, or these lines hold of its next turn.
+//! - It is taken by one of these two, since A2 < A3 < M1 < M2. A seat must not stand between A1 and A4 for 2^32 raises.
+//!
+//! ## The flusher, for those that it woke (`await_waiters`)
+//!
+//! It reads `enough`, sets `wanted`, reads `waiting`, and sleeps on `enough` where that is less, for 100 microseconds at most.
+//! A seat adds to `waiting`, reads `wanted`, and adds to `enough` where it is the last: it comes before the flusher's reading
+//! of `waiting`, or finds `wanted` set. A wake that is missed for all that costs no more than the time.
 
 ghost use Rattle.std.specs.Prelude.{◌≡◌, ◌<◌, ◌≤◌, ◌↔◌, IsTrue};
 ghost use Rattle.book_core.specs.Lists.{IsSeatOf};
@@ -24,7 +72,7 @@ use std::sync::atomic::{AtomicBool, AtomicU64};
 use std::time::Duration;
 
 /// For how many microseconds the flusher waits at most for seats that it woke.
-const GATHER_MICROS: u64 = 100;
+const LONGEST_WAIT: u64 = 100;
 
 /// How far a close is.
 #[derive(Drop)]
@@ -45,10 +93,10 @@ pub(crate) struct Waking {
     raises: CachePadded<AtomicU64>,
     /// How many have come to wait for it since.
     waiting: CachePadded<AtomicU64>,
-    /// With how many of these the flusher is to be woken that gathers, 0 where it doesn't.
+    /// With how many of these the flusher that waits for them is to be woken, 0 where it doesn't wait.
     wanted: AtomicU64,
-    /// How often it was woken so.
-    gathers: AtomicU64,
+    /// How often as many as it wanted had come.
+    enough: AtomicU64,
 }
 
 /// What a sleep compares of a count: its low 32 bits.
@@ -68,7 +116,7 @@ impl Waking {
             raises: CachePadded::new(AtomicU64::new(0)),
             waiting: CachePadded::new(AtomicU64::new(0)),
             wanted: AtomicU64::new(0),
-            gathers: AtomicU64::new(0),
+            enough: AtomicU64::new(0),
         }
     }
 
@@ -96,13 +144,13 @@ impl Waking {
         }
     }
 
-    /// Counts a seat that comes to wait, and wakes the flusher where it gathers and this is the last that it wants.
+    /// Counts a seat that comes to wait, and wakes the flusher where it waits for seats and this is the last that it wants.
     fn come_to_wait(&self) {
         let waiting = self.waiting.fetch_add(1, SeqCst).wrapping_add(1);
         let wanted = self.wanted.load(SeqCst);
         if wanted != 0 && wanted <= waiting && self.wanted.swap(0, SeqCst) != 0 {
-            self.gathers.fetch_add(1, SeqCst);
-            self.gathers.wake_one();
+            self.enough.fetch_add(1, SeqCst);
+            self.enough.wake_one();
         }
     }
 }
@@ -122,10 +170,7 @@ impl<R: Record> Live<R> {
     /// closed. For the one flusher of a phase.
     ///
     /// After `true` a look finds all growths of the phase, unless it answers `Strayed`; after `false`, more than
-    /// `known`. No clause says so; the reason is the seats' doors. A growth is published behind its seat's door, by who
-    /// found there that no close had begun. A close begins, then takes each door once, and is told here after that. So a
-    /// growth that took its door before the close did was published before this answers, and one that takes it after
-    /// that is refused.
+    /// `known`. No clause says so; the reason is the seats' doors, as the head of this module tells.
     pub fn await_more<E: Wait>(&self, rt: &E, known: u64) -> bool {
         let waking = &self.waking;
         for _ in rt.forever() {
@@ -156,16 +201,16 @@ impl<R: Record> Live<R> {
     /// Waits until as many have come to wait for the mark as were woken, for 100 microseconds at most; where none was, it
     /// returns at once. For the flusher, before it takes the next group: what those that it woke grow by in between is
     /// then in that group.
-    pub fn gather<E: Wait>(&self, rt: &E, woken: u64) {
+    pub fn await_waiters<E: Wait>(&self, rt: &E, woken: u64) {
         if woken == 0 {
             return;
         }
         let waking = &self.waking;
-        let gathers = waking.gathers.load(SeqCst);
+        let enough = waking.enough.load(SeqCst);
         waking.wanted.store(woken, SeqCst);
         if waking.waiting.load(SeqCst) < woken {
-            let most = Duration::from_micros(GATHER_MICROS);
-            waking.gathers.park_timeout(rt, low_half(gathers), most);
+            let most = Duration::from_micros(LONGEST_WAIT);
+            waking.enough.park_timeout(rt, low_half(enough), most);
         }
         waking.wanted.store(0, SeqCst);
     }

@@ -5,7 +5,7 @@ use Rattle.std.proofs.lemmas.List.Concat.{length-flat_map}
 use Rattle.std.proofs.lemmas.List.Sums.{sum_by_more, sum_by_more_le}
 use Rattle.std.proofs.lemmas.Option.{slice_get_within, get_or_from_slice_get}
 use Rattle.block_core.specs.Growth.{Growth}
-use Rattle.directory_core.specs.Chain.{total, joined, IsNext, IsChained}
+use Rattle.directory_core.specs.Chain.{total, joined, IsNextGrowth, IsChained}
 
 pub length-joined : {R : Type 0} (es : List (Growth R)) → length (joined es) ≡ total es
 length-joined es = length-flat_map (λ (e : Growth _). e.records) es
@@ -17,7 +17,7 @@ push_get [] x (suc g) y is = grind arith
 push_get (z ∷ xs) x zero y is = inl is
 push_get (z ∷ xs) x (suc g) y is = elim (push_get xs x g y is) [ inl before ↦ inl before | inr last ↦ let at = last.0 in inr (omega arith, last.1) ]
 
-pub chained_push : {R : Type 0} (es : List (Growth R)) (e : Growth R) → IsChained es → IsNext es e → IsChained (es ++ e ∷ [])
+pub chained_push : {R : Type 0} (es : List (Growth R)) (e : Growth R) → IsChained es → IsNextGrowth es e → IsChained (es ++ e ∷ [])
 chained_push es e chained next g f is =
     elim (push_get es e g f is) [
       | inl before ↦ rw (take-append-le g es (e ∷ []) (le_of_lt (slice_get_within es g f before))) (chained g f before)
@@ -25,7 +25,9 @@ chained_push es e chained next g f is =
     ]
 
 -- what stands at a place of the chain
-pub chained_at : {R : Type 0} (es : List (Growth R)) (g : ℕ) (e : Growth R) → IsChained es → slice_get es g ≡ Some e → (e.number ≡ g) × (e.start ≡ total (take g es)) × (total (take (g + 1) es) ≡ total (take g es) + length e.records) × (total (take g es) + length e.records ≤ total es)
+pub chained_at : {R : Type 0} (es : List (Growth R)) (g : ℕ) (e : Growth R) → IsChained es → slice_get es g ≡ Some e
+    → (e.number ≡ g) × (e.start ≡ total (take g es)) × (total (take (g + 1) es) ≡ total (take g es) + length e.records)
+    × (total (take g es) + length e.records ≤ total es)
 chained_at es g e chained is =
     let inside : g < length es = slice_get_within es g e is in
     let here : get_or es g e ≡ e = get_or_from_slice_get es g e e is in

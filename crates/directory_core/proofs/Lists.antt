@@ -9,7 +9,7 @@ use Rattle.block_core.specs.Length.{IsBlockLength}
 use Rattle.block_core.specs.Growth.{Growth}
 use Rattle.directory_core.specs.Chain.{total}
 use Rattle.directory_core.specs.Finding.{IsPlaceOf}
-use Rattle.directory_core.specs.Notes.{Follows, ListHolds}
+use Rattle.directory_core.specs.Notes.{IsNextInLimit, ListHolds}
 use Rattle.directory_core.proofs.Chains.{chained_at, chained_push}
 
 module _ {R : Type 0} {width room limit : ℕ} {entries : List (Growth R)} {starts : List ℕ} {size : ℕ} (h : ListHolds width room limit entries starts size) where
@@ -27,7 +27,7 @@ module _ {R : Type 0} {width room limit : ℕ} {entries : List (Growth R)} {star
   entry_at g lt = elim ((slice_get_cases entries g).1) [ inl found ↦ (found.0, found.2) | inr past ↦ absurd (omega (arith, past.0)) ]
 
   -- a growth follows those before it
-  pub follows_at : (g : ℕ) (e : Growth R) → slice_get entries g ≡ Some e → Follows width limit (take g entries) (length e.records) e
+  pub follows_at : (g : ℕ) (e : Growth R) → slice_get entries g ≡ Some e → IsNextInLimit width limit (take g entries) (length e.records) e
   follows_at g e is =
       let inside = slice_get_within entries g e is in
       let in_total = (chained_at entries g e h.chained is).3 in
@@ -36,15 +36,19 @@ module _ {R : Type 0} {width room limit : ℕ} {entries : List (Growth R)} {star
       record {
         next = h.chained g e is;
         len_is = refl;
-        block = subst (λ (f : Growth R). IsBlockLength width (length f.records)) (get_or_from_slice_get entries g e e is) (All-get_or (λ (f : Growth R). IsBlockLength width (length f.records)) entries g e inside h.blocks);
+        block = subst (λ (f : Growth R). IsBlockLength width (length f.records)) (get_or_from_slice_get entries g e e is)
+            (All-get_or (λ (f : Growth R). IsBlockLength width (length f.records)) entries g e inside h.blocks);
         fits = omega arith;
       }
 
-  pub follows_there : (g len : ℕ) → g < length entries → ((e : Growth R) → slice_get entries g ≡ Some e → len ≡ length e.records) → MatchOption (slice_get entries g) ⊥ (Follows width limit (take g entries) len)
+  pub follows_there : (g len : ℕ) → g < length entries → ((e : Growth R) → slice_get entries g ≡ Some e → len ≡ length e.records)
+      → MatchOption (slice_get entries g) ⊥ (IsNextInLimit width limit (take g entries) len)
   follows_there g len lt is = let e = entry_at g lt in rw (e.1, is e.0 e.1) (follows_at g e.0 e.1)
 
   -- a growth ends where the next starts, and the last one at the end
-  pub ends_at : (g : ℕ) (e : Growth R) → slice_get entries g ≡ Some e → (g + 1 < length starts → get_or starts (g + 1) 0 ≡ get_or starts g 0 + length e.records) × (length starts ≤ g + 1 → size ≡ get_or starts g 0 + length e.records)
+  pub ends_at : (g : ℕ) (e : Growth R) → slice_get entries g ≡ Some e
+      → (g + 1 < length starts → get_or starts (g + 1) 0 ≡ get_or starts g 0 + length e.records)
+      × (length starts ≤ g + 1 → size ≡ get_or starts g 0 + length e.records)
   ends_at g e is =
       let many = as_many_starts in
       let here = start_at g e is in
@@ -64,7 +68,8 @@ module _ {R : Type 0} {width room limit : ℕ} {entries : List (Growth R)} {star
       (omega arith, omega arith)
 
   -- the growth of the last start at or before i has i
-  pub finds : (low i : ℕ) → low < length starts → get_or starts low 0 ≤ i → (low + 1 < length starts → i < get_or starts (low + 1) 0) → i < size → IsPlaceOf entries i low (i - get_or starts low 0)
+  pub finds : (low i : ℕ) → low < length starts → get_or starts low 0 ≤ i → (low + 1 < length starts → i < get_or starts (low + 1) 0) → i < size
+      → IsPlaceOf entries i low (i - get_or starts low 0)
   finds low i inside from until lt =
       let many = as_many_starts in
       let e = entry_at low (omega arith) in
@@ -77,7 +82,8 @@ module _ {R : Type 0} {width room limit : ℕ} {entries : List (Growth R)} {star
       record { growth = e.0; is = e.1; inside = omega arith; at = omega arith }
 
   -- the list with the next growth
-  pub list_added : (e : Growth R) (len : ℕ) → length entries < room → Follows width limit entries len e → ListHolds width room limit (entries ++ e ∷ []) (starts ++ size ∷ []) (size + len)
+  pub list_added : (e : Growth R) (len : ℕ) → length entries < room → IsNextInLimit width limit entries len e
+      → ListHolds width room limit (entries ++ e ∷ []) (starts ++ size ∷ []) (size + len)
   list_added e len lt follows =
       let start : size ≡ e.start = h.size_is ∙ sym follows.next.start in
       let more : total (entries ++ e ∷ []) ≡ total entries + length e.records = sum_by_push (λ (f : Growth R). length f.records) entries e in
@@ -87,7 +93,9 @@ module _ {R : Type 0} {width room limit : ℕ} {entries : List (Growth R)} {star
       record {
         chained = chained_push entries e h.chained follows.next;
         blocks = All-push (λ (f : Growth R). IsBlockLength width (length f.records)) entries e h.blocks (rw follows.len_is follows.block);
-        starts_are = ap (λ (xs : List ℕ). xs ++ size ∷ []) h.starts_are ∙ (ap (λ (k : ℕ). map (λ (f : Growth R). f.start) entries ++ k ∷ []) start ∙ sym (map-append (λ (f : Growth R). f.start) entries (e ∷ [])));
+        starts_are = ap (λ (xs : List ℕ). xs ++ size ∷ []) h.starts_are
+            ∙ (ap (λ (k : ℕ). map (λ (f : Growth R). f.start) entries ++ k ∷ []) start
+            ∙ sym (map-append (λ (f : Growth R). f.start) entries (e ∷ [])));
         size_is = omega arith;
         in_limit = omega arith;
         in_room = omega (arith, length_push entries e);

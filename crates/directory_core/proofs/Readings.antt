@@ -33,7 +33,9 @@ agrees_is : {X : Type 0} (o : Option X) (x : X) → Agrees o x → (o ≡ None �
 agrees_is None x agree some = absurd (some refl)
 agrees_is (Some y) x agree some = ap Some agree
 
-pub reads : {X : Type 0} (xs : List X) (i : ℕ) (known new : Option X) (r : Option (Bor X)) → known ≡ slice_get xs i → i < length xs → MatchOption r ((known ≡ None) × (new ≡ None)) (λ b. (new ≡ Some b.now) × Agrees known b.now) → MatchOption r (length xs ≤ i) (λ b. slice_get xs i ≡ Some b.now)
+pub reads : {X : Type 0} (xs : List X) (i : ℕ) (known new : Option X) (r : Option (Bor X)) → known ≡ slice_get xs i → i < length xs
+    → MatchOption r ((known ≡ None) × (new ≡ None)) (λ b. (new ≡ Some b.now) × Agrees known b.now)
+    → MatchOption r (length xs ≤ i) (λ b. slice_get xs i ≡ Some b.now)
 reads xs i known new None is lt told = get_none xs i (sym is ∙ told.0)
 reads xs i known new (Some b) is lt told = sym is ∙ agrees_is known b.now told.1 (λ none. let past = get_none xs i (sym is ∙ none) in omega arith)
 
@@ -41,7 +43,8 @@ drop_past : {X : Type 0} (xs ys : List X) (n : ℕ) → drop (length xs + n) (xs
 drop_past xs ys n = sym (drop-drop n (length xs) (xs ++ ys)) ∙ ap (drop n) (drop_at xs ys (length xs) refl)
 
 -- the rest of a growth stands in the records joined
-joined_rest : {R : Type 0} (es : List (Growth R)) (g : ℕ) (e : Growth R) (place : ℕ) → slice_get es g ≡ Some e → place < length e.records → drop place e.records ≡ take (length (drop place e.records)) (drop (total (take g es) + place) (joined es))
+joined_rest : {R : Type 0} (es : List (Growth R)) (g : ℕ) (e : Growth R) (place : ℕ) → slice_get es g ≡ Some e → place < length e.records
+    → drop place e.records ≡ take (length (drop place e.records)) (drop (total (take g es) + place) (joined es))
 joined_rest [] g e place is lt = grind arith
 joined_rest (f ∷ es) zero e place is lt =
     let same : f ≡ e = grind arith in
@@ -49,11 +52,14 @@ joined_rest (f ∷ es) zero e place is lt =
     rw (same, at) (sym (take_at (drop place e.records) (joined es) (length (drop place e.records)) refl))
 joined_rest (f ∷ es) (suc g) e place is lt =
     let sum : total (f ∷ take g es) ≡ length f.records + total (take g es) = sum_by-cons (λ (h : Growth _). length h.records) f (take g es) in
-    let at : drop ((length f.records + total (take g es)) + place) (f.records ++ joined es) ≡ drop (total (take g es) + place) (joined es) = rw add_assoc (drop_past f.records (joined es) (total (take g es) + place)) in
+    let at : drop ((length f.records + total (take g es)) + place) (f.records ++ joined es) ≡ drop (total (take g es) + place) (joined es) =
+    rw add_assoc (drop_past f.records (joined es) (total (take g es) + place)) in
     rw (sum, at) (joined_rest es g e place is lt)
 
 -- one more note of a row of cells
-pub cells_more : {C U : Type 0} (name : C → ℕ) (cells : List C) (i : ℕ) (cell : C) (notes : List (Note U)) (note : Note U) → i < length cells → cell ≡ get_or cells i cell → cells_of notes ≡ take i (map name cells) → note.cell ≡ name cell → cells_of (notes ++ note ∷ []) ≡ take (i + 1) (map name cells)
+pub cells_more : {C U : Type 0} (name : C → ℕ) (cells : List C) (i : ℕ) (cell : C) (notes : List (Note U)) (note : Note U) → i < length cells
+    → cell ≡ get_or cells i cell → cells_of notes ≡ take i (map name cells) → note.cell ≡ name cell
+    → cells_of (notes ++ note ∷ []) ≡ take (i + 1) (map name cells)
 cells_more name cells i cell notes note lt is before names =
     map-append (λ (n : Note _). n.cell) notes (note ∷ [])
     ∙ (ap₂ (λ (xs : List ℕ) (n : ℕ). xs ++ n ∷ []) before (names ∙ ap name is)

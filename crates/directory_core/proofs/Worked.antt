@@ -3,7 +3,7 @@ use Rattle.std.proofs.Common.{◌≡◌, ℕ, zero, suc, ◌+◌, inl, inr, List
 use Rattle.block_core.specs.Growth.{Growth}
 use Rattle.directory_core.specs.declared.fault.DirFault.{DirFault}
 use Rattle.directory_core.specs.declared.fault.DirFault.TheVariants.{Taken, Full, Strayed, Memory}
-use Rattle.directory_core.specs.Chain.{total, joined, IsNext, IsChained, AreBlocks, IsPrefix, Agree, Meets}
+use Rattle.directory_core.specs.Chain.{total, joined, IsNextGrowth, IsChained, AreBlocks, IsPrefix, Agree, IsLongerOf}
 use Rattle.directory_core.specs.Fault.{DirectoryKeepsLimit, IsPublishRefusal}
 use Rattle.directory_core.specs.Finding.{IsPlaceOf, IsRestAt, IsPieceAt}
 use Rattle.directory_core.specs.Identity.{Name, Identity}
@@ -44,10 +44,10 @@ of_both : (total (one ∷ other ∷ []) ≡ 3) × (joined (one ∷ other ∷ [])
 of_both = (refl, refl)
 
 -- what is behind the first has its number and its start
-no_gap : IsNext (one ∷ []) (record { number = 1; start = 3; seat = 1; serial = 0; records = 9 ∷ [] }) → ⊥
+no_gap : IsNextGrowth (one ∷ []) (record { number = 1; start = 3; seat = 1; serial = 0; records = 9 ∷ [] }) → ⊥
 no_gap next = let start = next.start in omega arith
 
-no_skip : IsNext (one ∷ []) (record { number = 2; start = 2; seat = 1; serial = 0; records = 9 ∷ [] }) → ⊥
+no_skip : IsNextGrowth (one ∷ []) (record { number = 2; start = 2; seat = 1; serial = 0; records = 9 ∷ [] }) → ⊥
 no_skip next = let number = next.number in omega arith
 
 no_chain : IsChained (other ∷ []) → ⊥
@@ -74,13 +74,13 @@ no_agreement : Agree {X = ℕ} (7 ∷ 8 ∷ []) (7 ∷ 9 ∷ []) → ⊥
 no_agreement agree = let second = agree 1 (omega arith) (omega arith) in absurd cc
 
 -- of two lists of which one begins the other they give the longer
-the_longer : (both : List ℕ) → Meets (7 ∷ []) (7 ∷ 8 ∷ []) both → both ≡ 7 ∷ 8 ∷ []
+the_longer : (both : List ℕ) → IsLongerOf (7 ∷ []) (7 ∷ 8 ∷ []) both → both ≡ 7 ∷ 8 ∷ []
 the_longer both meets = elim meets.is_one [
   | inl short ↦ let begins = meets.begins_theirs in absurd (let wrong : take 2 (7 ∷ []) ≡ 7 ∷ 8 ∷ [] = ap (take 2) (sym short) ∙ begins in cc)
   | inr long ↦ long
 ]
 
-nothing_given : (both : List ℕ) → Meets (7 ∷ []) (8 ∷ []) both → ⊥
+nothing_given : (both : List ℕ) → IsLongerOf (7 ∷ []) (8 ∷ []) both → ⊥
 nothing_given both meets = let seven : List ℕ = 7 ∷ [] in let eight : List ℕ = 8 ∷ [] in let same : seven ≡ eight = sym meets.begins_mine ∙ meets.begins_theirs in absurd cc
 
 -- ---- positions
@@ -95,7 +95,8 @@ third = record { growth = other; is = refl; inside = omega arith; at = refl }
 not_past_its_end : IsPlaceOf (one ∷ other ∷ []) 2 0 2 → ⊥
 not_past_its_end at = let same : one ≡ at.growth = let is = at.is in cc in let inside = at.inside in let long = ap (λ (e : Growth ℕ). length e.records) same in omega arith
 
-rest_of_second : (place number : ℕ) (e : Growth ℕ) (piece : List ℕ) → slice_get (one ∷ other ∷ []) number ≡ Some e → total (take number (one ∷ other ∷ [])) + place ≡ 1 → piece ≡ drop place e.records → piece ≡ 8 ∷ []
+rest_of_second : (place number : ℕ) (e : Growth ℕ) (piece : List ℕ) → slice_get (one ∷ other ∷ []) number ≡ Some e
+    → total (take number (one ∷ other ∷ [])) + place ≡ 1 → piece ≡ drop place e.records → piece ≡ 8 ∷ []
 rest_of_second place zero e piece is at piece_is = let same : one ≡ e = cc in let here : place ≡ 1 = omega arith in piece_is ∙ (λ i. drop (here i) ((sym same i).records))
 rest_of_second place (suc zero) e piece is at piece_is = absurd (omega arith)
 rest_of_second place (suc (suc g)) e piece is at piece_is = absurd cc

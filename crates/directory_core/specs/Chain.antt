@@ -12,13 +12,13 @@ abbrev pub joined : {R : Type 0} → List (Growth R) → List R
 joined entries = flat_map (λ e. e.records) entries
 
 -- the growth behind these: its number is their count, and its start the sum of their lengths
-pub record IsNext {R : Type 0} (entries : List (Growth R)) (e : Growth R) : Type 0 where
+pub record IsNextGrowth {R : Type 0} (entries : List (Growth R)) (e : Growth R) : Type 0 where
   pub number : e.number ≡ length entries
   pub start : e.start ≡ total entries
 
 -- each is the growth behind those before it
 abbrev pub IsChained : {R : Type 0} → List (Growth R) → Type 0
-IsChained {R} entries = (g : ℕ) (e : Growth R) → slice_get entries g ≡ Some e → IsNext (take g entries) e
+IsChained {R} entries = (g : ℕ) (e : Growth R) → slice_get entries g ≡ Some e → IsNextGrowth (take g entries) e
 
 -- each has records, and few enough for one frame
 abbrev pub AreBlocks : {R : Type 0} → ℕ → List (Growth R) → Type 0
@@ -33,7 +33,7 @@ abbrev pub Agree : {X : Type 0} → List X → List X → Type 0
 Agree xs ys = (g : ℕ) → g < length xs → g < length ys → slice_get xs g ≡ slice_get ys g
 
 -- what two lists give together where they agree: it is one of them, and both begin it
-pub record Meets {X : Type 0} (mine theirs both : List X) : Type 0 where
+pub record IsLongerOf {X : Type 0} (mine theirs both : List X) : Type 0 where
   pub begins_mine : IsPrefix mine both
   pub begins_theirs : IsPrefix theirs both
   pub is_one : (both ≡ mine) ⊎ (both ≡ theirs)

@@ -6,7 +6,7 @@ use Rattle.block_core.specs.Growth.{Growth}
 use Rattle.directory_core.specs.Limits.{growth_limit}
 use Rattle.record_core.specs.Limits.{record_limit}
 use Rattle.directory_core.specs.Spot.{IsSpot}
-use Rattle.directory_core.specs.Chain.{total, IsNext, IsChained, AreBlocks}
+use Rattle.directory_core.specs.Chain.{total, IsNextGrowth, IsChained, AreBlocks}
 
 -- the names of the cells that the notes are of, and what the notes know
 abbrev pub cells_of : {T : Type 0} → List (Note T) → List ℕ
@@ -31,14 +31,14 @@ abbrev pub StandsIn : ℕ → ℕ → ℕ → Option (List ℕ) → ℕ → Type
 StandsIn g bucket place known cell = IsSpot g bucket place × (cell_in known place ≡ Some cell)
 
 -- growth g has that cell of one of the buckets
-pub record IsFiled (buckets : List (Option (List ℕ))) (g cell : ℕ) : Type 0 where
+pub record HasCell (buckets : List (Option (List ℕ))) (g cell : ℕ) : Type 0 where
   pub bucket : ℕ
   pub place : ℕ
   pub at : StandsIn g bucket place (get_or buckets bucket None) cell
 
 -- the growth behind these, of that length, keeps the directory within its limit
-pub record Follows {R : Type 0} (width limit : ℕ) (entries : List (Growth R)) (len : ℕ) (e : Growth R) : Type 0 where
-  pub next : IsNext entries e
+pub record IsNextInLimit {R : Type 0} (width limit : ℕ) (entries : List (Growth R)) (len : ℕ) (e : Growth R) : Type 0 where
+  pub next : IsNextGrowth entries e
   pub len_is : length e.records ≡ len
   pub block : IsBlockLength width len
   pub fits : total entries + len ≤ limit
@@ -48,7 +48,7 @@ pub record NotesHold {R : Type 0} (buckets : List (Option (List ℕ))) (cells : 
   pub all_buckets : length buckets ≡ 17
   pub all_known : known ≡ map Some (somes known)
   pub as_many : length cells ≡ length known
-  pub filed : (g : ℕ) → g < length cells → IsFiled buckets g (get_or cells g 0)
+  pub filed : (g : ℕ) → g < length cells → HasCell buckets g (get_or cells g 0)
 
 -- the growths that are known follow one another within the directory's bounds
 pub record ListHolds {R : Type 0} (width room limit : ℕ) (entries : List (Growth R)) (starts : List ℕ) (size : ℕ) : Type 0 where
@@ -61,7 +61,8 @@ pub record ListHolds {R : Type 0} (width room limit : ℕ) (entries : List (Grow
   pub limits : (room ≤ growth_limit) × (limit ≤ record_limit)
 
 -- what a pass keeps true: of its notes, of its list, and that its rows are reserved for the whole room
-pub record Holds {R : Type 0} (width room limit : ℕ) (buckets : List (Option (List ℕ))) (cells : List ℕ) (known : List (Option (Growth R))) (starts : List ℕ) (size noted kept : ℕ) : Type 0 where
+pub record PassHolds {R : Type 0} (width room limit : ℕ) (buckets : List (Option (List ℕ))) (cells : List ℕ) (known : List (Option (Growth R)))
+    (starts : List ℕ) (size noted kept : ℕ) : Type 0 where
   pub notes : NotesHold buckets cells known
   pub list : ListHolds width room limit (somes known) starts size
   pub reserved : (room ≤ noted) × (room ≤ kept)

@@ -4,7 +4,7 @@ ghost use Rattle.std.specs.Prelude.{◌≡◌, ◌+◌, ◌<◌, ◌≤◌, ◌�
 ghost use Rattle.directory_core.specs.Limits.{growth_limit};
 ghost use Rattle.record_core.specs.Limits.{record_limit};
 ghost use Rattle.directory_core.specs.Spot.{span};
-ghost use Rattle.directory_core.specs.Chain.{total, joined, IsNext, IsPrefix};
+ghost use Rattle.directory_core.specs.Chain.{total, joined, IsNextGrowth, IsPrefix};
 ghost use Rattle.directory_core.specs.Fault.{IsPublishRefusal};
 ghost use Rattle.directory_core.specs.Finding.{IsPieceAt, IsRestAt};
 
@@ -109,7 +109,7 @@ impl<R: Record> Directory<R> {
         entry: Box<Entry<R>>,
     ) -> Result<(), (Box<Entry<R>>, DirFault)>
         requires of { pass.old.of ≡ self.now }
-        requires next { IsNext pass.old.entries entry.value }
+        requires next { IsNextGrowth pass.old.entries entry.value }
         ensures of { pass.new.of ≡ self.now }
         ensures list { MatchResult result
             (λ _. pass.new.entries ≡ pass.old.entries ++ entry.value ∷ [])

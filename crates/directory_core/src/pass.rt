@@ -3,9 +3,9 @@
 ghost use Rattle.std.specs.Prelude.{[], vec_capacity, ◌≡◌, ◌+◌, ◌<◌, ◌≤◌, ◌++◌, length, take, slice_get, slice_index, slice_index_or, option_to_list, Some, None, MatchOption, IfSome};
 ghost use Rattle.directory_core.specs.Limits.{growth_limit};
 ghost use Rattle.record_core.specs.Limits.{record_limit};
-ghost use Rattle.directory_core.specs.Chain.{total, IsChained, AreBlocks, Agree, Meets};
+ghost use Rattle.directory_core.specs.Chain.{total, IsChained, AreBlocks, Agree, IsLongerOf};
 ghost use Rattle.directory_core.specs.Finding.{IsPlaceOf};
-ghost use Rattle.directory_core.specs.Notes.{cells_of, IsFiled, StandsIn, Follows};
+ghost use Rattle.directory_core.specs.Notes.{cells_of, HasCell, StandsIn, IsNextInLimit};
 
 use crate::address::spot;
 use crate::bucket::Bucket;
@@ -33,7 +33,7 @@ pub struct Pass<R: Record> {
 impl<R: Record> Model for Pass<R> {
     ghost use Rattle.std.specs.Prelude.{vec_capacity};
     ghost use Rattle.directory_core.specs.Known.{Known};
-    ghost use Rattle.directory_core.specs.Notes.{cells_of, known_of, somes, Holds};
+    ghost use Rattle.directory_core.specs.Notes.{cells_of, known_of, somes, PassHolds};
 
     ghost Value = { Known R };
 
@@ -43,7 +43,7 @@ impl<R: Record> Model for Pass<R> {
       held = record { buckets = known_of pass.buckets.items; cells = cells_of pass.notes.items };
     } };
 
-    ghost invariant = { λ pass. Holds R.form.width pass.room pass.limit
+    ghost invariant = { λ pass. PassHolds R.form.width pass.room pass.limit
         (known_of pass.buckets.items) (cells_of pass.notes.items) (known_of pass.notes.items)
         pass.starts.items pass.size (vec_capacity pass.notes) (vec_capacity pass.starts) };
 }
@@ -112,7 +112,7 @@ impl<R: Record> Pass<R> {
         requires { number < length self.old.entries }
         ensures same { self.new ≡ self.old }
         ensures cell { result.cell ≡ slice_index self.old.held.cells number }
-        ensures filed { IsFiled self.old.held.buckets number result.cell }
+        ensures filed { HasCell self.old.held.buckets number result.cell }
         ensures known { result.known ≡ slice_get self.old.entries number }
     {
         self.notes[number].again()
@@ -135,7 +135,7 @@ impl<R: Record> Pass<R> {
         requires stands { StandsIn (length self.old.entries) bucket place bucket_note.known note.cell }
         requires follows { MatchOption note.known
             ⊥
-            (Follows R.form.width self.old.of.limit self.old.entries len) }
+            (IsNextInLimit R.form.width self.old.of.limit self.old.entries len) }
         ensures of { self.new.of ≡ self.old.of }
         ensures entries { self.new.entries ≡ self.old.entries ++ option_to_list note.known }
     {
@@ -150,7 +150,7 @@ impl<R: Record> Pass<R> {
         requires { number < length self.now.entries }
         ensures { MatchOption (slice_get self.now.entries number)
             ⊥
-            (Follows R.form.width self.now.of.limit (take number self.now.entries) result) }
+            (IsNextInLimit R.form.width self.now.of.limit (take number self.now.entries) result) }
     {
         let start = self.starts[number] as u64;
         if number + 1 < self.starts.len() {
@@ -203,7 +203,7 @@ impl<R: Record> Pass<R> {
         ensures of { self.new.of ≡ self.old.of }
         ensures same { other.new ≡ other.old }
         ensures agree { Agree self.old.entries other.old.entries }
-        ensures meets { Meets self.old.entries other.old.entries self.new.entries }
+        ensures meets { IsLongerOf self.old.entries other.old.entries self.new.entries }
     {
         let mine = self.known() as usize;
         let theirs = other.known() as usize;

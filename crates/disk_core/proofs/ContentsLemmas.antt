@@ -4,7 +4,8 @@ use Rattle.disk_core.specs.declared.extent.Extent.{Extent}
 use Rattle.disk_core.specs.State.{State, touched}
 use Rattle.disk_core.specs.Contents.{contents_state}
 
-contents_state-push : (bytes synced : List ℕ) (es : List Extent) (e : Extent) (greatest : ℕ) → contents_state bytes synced (es ++ e ∷ []) greatest ≡ record { seen = bytes; synced = synced; pending = es ++ e ∷ []; greatest = greatest }
+contents_state-push : (bytes synced : List ℕ) (es : List Extent) (e : Extent) (greatest : ℕ)
+    → contents_state bytes synced (es ++ e ∷ []) greatest ≡ record { seen = bytes; synced = synced; pending = es ++ e ∷ []; greatest = greatest }
 contents_state-push bytes synced [] e greatest = refl
 contents_state-push bytes synced (x ∷ es) e greatest = refl
 
@@ -26,7 +27,9 @@ on_err (Ok value) to p = p
 on_err (Err error) to p = to p
 
 -- memory ran out once the extent was pending
-pub touched_from : (s : State) (bytes synced new : List ℕ) (es pushed : List Extent) (greatest raised at len : ℕ) → contents_state bytes synced es greatest ≡ s → (es ≡ [] → (synced ≡ bytes) × (greatest ≡ length bytes))
+pub touched_from : (s : State) (bytes synced new : List ℕ) (es pushed : List Extent) (greatest raised at len : ℕ)
+    → contents_state bytes synced es greatest ≡ s → (es ≡ [] → (synced ≡ bytes) × (greatest ≡ length bytes))
     → new ≡ bytes → pushed ≡ es ++ record { at = at; len = len } ∷ [] → raised ≡ max greatest (at + len) → contents_state new synced pushed raised ≡ touched s at len s.seen
 touched_from s bytes synced new es pushed greatest raised at len is fresh same push raise =
-    rw (← is, same, push, raise) (contents_state-touched bytes synced es greatest at len fresh ∙ ap (touched (contents_state bytes synced es greatest) at len) (sym (contents_state-seen bytes synced es greatest)))
+    rw (← is, same, push, raise) (contents_state-touched bytes synced es greatest at len fresh
+    ∙ ap (touched (contents_state bytes synced es greatest) at len) (sym (contents_state-seen bytes synced es greatest)))

@@ -2,7 +2,7 @@
 use Rattle.std.proofs.Common.{◌≡◌, ℕ, ◌+◌, ◌≤◌, List, [], ◌∷◌, length, refl, sym, ◌∙◌, ◌-◌, drop, ap, arith}
 use Rattle.std.specs.Prelude.{slice_range}
 use Rattle.std.proofs.lemmas.List.{length-take, length-drop}
-use Rattle.disk_core.specs.declared.snapshot.Snapshot.{Snapshot}
+use Rattle.disk_core.specs.declared.ghost_bytes.GhostBytes.{GhostBytes}
 use Rattle.disk_core.specs.declared.extent.Extent.{Extent}
 use Rattle.disk_core.specs.declared.file_event.FileEvent.{FileEvent}
 use Rattle.disk_core.specs.declared.file_event.FileEvent.TheVariants.{Measured, Read, Written, Torn, Synced, Failed}
@@ -15,11 +15,12 @@ use Rattle.disk_core.specs.State.{IsTorn}
 abbrev pub five_bytes : FileTruth
 five_bytes = record { held = 0 ∷ 1 ∷ 2 ∷ 3 ∷ 4 ∷ []; left = [] }
 
-module _ (truth : FileTruth) (log : List (FileEvent × Snapshot)) (agreed : HasAgreed truth log) (s : Snapshot) where
+module _ (truth : FileTruth) (log : List (FileEvent × GhostBytes)) (agreed : HasAgreed truth log) (s : GhostBytes) where
   pub HasAgreed-measured : HasAgreed truth ((Measured (length (bytes_of (file_states truth log))), s) ∷ log)
   HasAgreed-measured = (refl, agreed)
 
-  pub HasAgreed-read : (at n : ℕ) → at + n ≤ length (bytes_of (file_states truth log)) → s.bytes ≡ slice_range (bytes_of (file_states truth log)) at (at + n) → HasAgreed truth ((Read at, s) ∷ log)
+  pub HasAgreed-read : (at n : ℕ) → at + n ≤ length (bytes_of (file_states truth log))
+      → s.bytes ≡ slice_range (bytes_of (file_states truth log)) at (at + n) → HasAgreed truth ((Read at, s) ∷ log)
   HasAgreed-read at n inside is =
       let seen = bytes_of (file_states truth log) in
       let long : length s.bytes ≡ n = ap length is ∙ omega (arith, length-take (at + n - at) (drop at seen), length-drop at seen) in

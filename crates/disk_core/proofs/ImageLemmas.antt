@@ -100,13 +100,21 @@ torn_image s at len seen is torn = record {
 }
 
 pub length-overlay : (old : List ℕ) (at : ℕ) (bytes : List ℕ) → at ≤ length old → length (overlay old at bytes) ≡ max (length old) (at + length bytes)
-length-overlay old at bytes le = omega (arith, length-append (take at old ++ bytes) (drop (at + length bytes) old), length-append (take at old) bytes, length-take at old, length-drop (at + length bytes) old)
+length-overlay old at bytes le =
+    omega (
+      arith,
+      length-append (take at old ++ bytes) (drop (at + length bytes) old),
+      length-append (take at old) bytes,
+      length-take at old,
+      length-drop (at + length bytes) old,
+    )
 
 outside : (at len i : ℕ) → has_place (record { at = at; len = len }) i ≡ false → (i < at) ⊎ (at + len ≤ i)
 outside at len i out = grind (arith, nat_tests)
 
 -- outside its extent a write changes nothing
-pub get_or-overlay : (old : List ℕ) (at : ℕ) (bytes : List ℕ) (i : ℕ) → at ≤ length old → i < length old → (i < at) ⊎ (at + length bytes ≤ i) → get_or (overlay old at bytes) i 0 ≡ get_or old i 0
+pub get_or-overlay : (old : List ℕ) (at : ℕ) (bytes : List ℕ) (i : ℕ) → at ≤ length old → i < length old → (i < at) ⊎ (at + length bytes ≤ i)
+    → get_or (overlay old at bytes) i 0 ≡ get_or old i 0
 get_or-overlay old at bytes i le lt (inl before) =
     let long : length (take at old) ≡ at = length-take-le at old le in
     get_or_append_left (take at old ++ bytes) (drop (at + length bytes) old) 0 i (omega (arith, length-append (take at old) bytes))
@@ -159,5 +167,7 @@ pub torn_by_part : {T : Type 0} (r : Result T DiskFault) (at len : ℕ) (part : 
 torn_by_part (Ok value) at len part old new inside le done torn =
     let s = now old in
     let after = written s at part in
-    subst (λ states. IsTornWrite at len s (now states)) (sym done) (torn_longer at (length part) len s after le (touched_torn s at (length part) (overlay s.seen at part) (overlay_torn s.seen at part inside)))
-torn_by_part (Err fault) at len part old new inside le done torn = subst (λ states. IsTornWrite at len (now old) (now states)) (sym torn.1) (torn_longer at (length part) len (now old) torn.0 le torn.2)
+    subst (λ states. IsTornWrite at len s (now states)) (sym done)
+    (torn_longer at (length part) len s after le (touched_torn s at (length part) (overlay s.seen at part) (overlay_torn s.seen at part inside)))
+torn_by_part (Err fault) at len part old new inside le done torn =
+    subst (λ states. IsTornWrite at len (now old) (now states)) (sym torn.1) (torn_longer at (length part) len (now old) torn.0 le torn.2)

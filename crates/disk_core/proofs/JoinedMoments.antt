@@ -11,7 +11,8 @@ LeftSince-later [] t image left = absurd left
 LeftSince-later (s ∷ earlier) t image left = left.0
 
 -- The rule on moments: what was left since t was left between t and the moment of the old states, or since that one.
-pub LeftSince-split : (fresh old : List State) (t : ℕ) (image : List ℕ) → t ≤ clock old → LeftSince (fresh ++ old) t image → LeftSince old t image ⊎ LeftSince (fresh ++ old) (clock old) image
+pub LeftSince-split : (fresh old : List State) (t : ℕ) (image : List ℕ) → t ≤ clock old → LeftSince (fresh ++ old) t image
+    → LeftSince old t image ⊎ LeftSince (fresh ++ old) (clock old) image
 LeftSince-split [] old t image le left = inl left
 LeftSince-split (s ∷ fresh) old t image le left =
     let passed : clock old ≤ suc (clock (fresh ++ old)) = omega (arith, length-append fresh old) in
@@ -21,7 +22,8 @@ LeftSince-split (s ∷ fresh) old t image le left =
     ]
 
 -- the same of any moment in between
-pub LeftSince-between : (states : List State) (t m : ℕ) (image : List ℕ) → t ≤ m → m ≤ clock states → LeftSince states t image → LeftBetween states t m image ⊎ LeftSince states m image
+pub LeftSince-between : (states : List State) (t m : ℕ) (image : List ℕ) → t ≤ m → m ≤ clock states → LeftSince states t image
+    → LeftBetween states t m image ⊎ LeftSince states m image
 LeftSince-between states t m image le inside left =
     let k : ℕ = clock states - m in
     let old : List State = drop k states in
@@ -68,7 +70,8 @@ LeavesOnly-start states P here = record {
 }
 
 -- one call more, which made this state
-pub LeavesOnly-more : (old mid new : List State) (s : State) (P : List ℕ → Type 0) → LeavesOnly old mid P → new ≡ s ∷ mid → ((image : List ℕ) → IsImage s image → P image) → LeavesOnly old new P
+pub LeavesOnly-more : (old mid new : List State) (s : State) (P : List ℕ → Type 0) → LeavesOnly old mid P → new ≡ s ∷ mid
+    → ((image : List ℕ) → IsImage s image → P image) → LeavesOnly old new P
 LeavesOnly-more old mid new s P so_far is here = subst (λ states. LeavesOnly old states P) (sym is) (record {
   past = Follows-join old mid (s ∷ mid) so_far.past (s ∷ [], refl);
   each = λ image left. elim left.1 [ inl newest ↦ here image newest | inr before ↦ so_far.each image before ];
@@ -76,7 +79,8 @@ LeavesOnly-more old mid new s P so_far is here = subst (λ states. LeavesOnly ol
 })
 
 -- what was left since an earlier moment was left between it and the old states' moment, or has P
-pub LeavesOnly-before : (old new : List State) (P : List ℕ → Type 0) → LeavesOnly old new P → (t : ℕ) (image : List ℕ) → t ≤ clock old → LeftSince new t image → LeftSince old t image ⊎ P image
+pub LeavesOnly-before : (old new : List State) (P : List ℕ → Type 0) → LeavesOnly old new P → (t : ℕ) (image : List ℕ) → t ≤ clock old
+    → LeftSince new t image → LeftSince old t image ⊎ P image
 LeavesOnly-before old new P leaves t image le left =
     let whole = sym leaves.past.1 in
     elim (LeftSince-split leaves.past.0 old t image le (subst (λ states. LeftSince states t image) leaves.past.1 left)) [
@@ -104,7 +108,8 @@ pub LeavesOnly-now : (old new : List State) (P : List ℕ → Type 0) → Leaves
 LeavesOnly-now old new P leaves = leaves.newest
 
 -- What is known up to one moment stays known, whatever the calls after it did: also where the disk has not kept the model since.
-pub LeavesOnly-stays_known : (old mid new : List State) (P : List ℕ → Type 0) → LeavesOnly old mid P → Follows mid new → (image : List ℕ) → LeftBetween new (clock old) (clock mid) image → P image
+pub LeavesOnly-stays_known : (old mid new : List State) (P : List ℕ → Type 0) → LeavesOnly old mid P → Follows mid new → (image : List ℕ)
+    → LeftBetween new (clock old) (clock mid) image → P image
 LeavesOnly-stays_known old mid new P leaves follows image left = leaves.each image (subst (λ states. LeftSince states (clock old) image) (states_at-Follows mid new follows) left)
 
 -- one call more, of which nothing is known: what is known of the moments before it stays known

@@ -6,7 +6,8 @@ use Rattle.disk_core.specs.State.{State, now, IsTornWrite}
 use Rattle.disk_core.specs.Calls.{TearsWrite}
 use Rattle.disk_core.specs.History.{logged_states}
 
-pub logged_states-call : {A : Type 0} (states_of : A → List State) (succeeded : Bool) (below : A) (log : List (A × Event)) (at len : ℕ) → IsTornWrite at len (now (logged_states states_of log)) (now (states_of below))
+pub logged_states-call : {A : Type 0} (states_of : A → List State) (succeeded : Bool) (below : A) (log : List (A × Event)) (at len : ℕ)
+    → IsTornWrite at len (now (logged_states states_of log)) (now (states_of below))
     → TearsWrite at len (logged_states states_of log) (logged_states states_of ((below, cond succeeded Done Failed) ∷ log))
 logged_states-call states_of true below log at len has = (now (states_of below), refl, has)
 logged_states-call states_of false below log at len has = (now (states_of below), refl, has)

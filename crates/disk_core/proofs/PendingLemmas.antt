@@ -33,7 +33,8 @@ is_within-more [] e i = or_false (has_place e i)
 is_within-more (x ∷ es) e i = ap (λ b. has_place x i || b) (is_within-more es e i) ∙ or_assoc (has_place x i) (is_within es i) (has_place e i)
 
 -- a write adds its extent, and no other place
-pub is_within-touched : (s : State) (at len : ℕ) (seen : List ℕ) (i : ℕ) → is_within (touched s at len seen).pending i ≡ (is_within s.pending i || has_place (record { at = at; len = len }) i)
+pub is_within-touched : (s : State) (at len : ℕ) (seen : List ℕ) (i : ℕ)
+    → is_within (touched s at len seen).pending i ≡ (is_within s.pending i || has_place (record { at = at; len = len }) i)
 is_within-touched s at len seen i = is_within-more s.pending (record { at = at; len = len }) i
 
 pub is_pending-touched : (s : State) (at len : ℕ) (seen : List ℕ) (i : ℕ) → is_pending (touched s at len seen) i ≡ (is_pending s i || has_place (record { at = at; len = len }) i)
@@ -42,7 +43,8 @@ is_pending-touched s at len seen i =
     ap (λ b. nat_le (length s.synced) i || b) (is_within-more s.pending e i) ∙ or_assoc (nat_le (length s.synced) i) (is_within s.pending i) (has_place e i)
 
 -- a write that failed adds no place outside its extent
-pub is_pending-torn : (at len : ℕ) (before after : State) (i : ℕ) → IsTornWrite at len before after → is_pending before i ≡ false → has_place (record { at = at; len = len }) i ≡ false → is_pending after i ≡ false
+pub is_pending-torn : (at len : ℕ) (before after : State) (i : ℕ) → IsTornWrite at len before after → is_pending before i ≡ false
+    → has_place (record { at = at; len = len }) i ≡ false → is_pending after i ≡ false
 is_pending-torn at len before after i torn out past =
     let parts = neither _ _ out in
     both _ _ (rw torn.synced parts.0) (torn.pending i parts.1 past)

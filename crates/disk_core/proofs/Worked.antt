@@ -68,8 +68,10 @@ lengthened a = record { no_shorter = omega arith; no_longer = omega arith; each 
     each (suc i) lt out = absurd (omega arith)
 
 -- a state that is on the disk has one image
-settled_image : (image : List ℕ) → IsImage synced_again image → (length image ≡ 4) × (slice_index image 0 ≡ 1) × (slice_index image 1 ≡ 7) × (slice_index image 2 ≡ 8) × (slice_index image 3 ≡ 9)
-settled_image image is = let le = is.no_shorter in let ge = is.no_longer in (omega arith, is.each 0 (omega arith) refl, is.each 1 (omega arith) refl, is.each 2 (omega arith) refl, is.each 3 (omega arith) refl)
+settled_image : (image : List ℕ) → IsImage synced_again image
+    → (length image ≡ 4) × (slice_index image 0 ≡ 1) × (slice_index image 1 ≡ 7) × (slice_index image 2 ≡ 8) × (slice_index image 3 ≡ 9)
+settled_image image is = let le = is.no_shorter in let ge = is.no_longer in
+    (omega arith, is.each 0 (omega arith) refl, is.each 1 (omega arith) refl, is.each 2 (omega arith) refl, is.each 3 (omega arith) refl)
 
 -- ---- moments
 
@@ -114,7 +116,10 @@ nothing_yet image left = let late = left.0 in absurd (omega arith)
 
 -- of two states: both since the first moment, the newer one since the second
 since_first : (new old : State) (image : List ℕ) → LeftSince (new ∷ old ∷ []) 1 image ↔ (IsImage new image ⊎ IsImage old image)
-since_first new old image = (λ left. elim left.1 [ inl newest ↦ inl newest | inr before ↦ elim before.1 [ inl oldest ↦ inr oldest | inr none ↦ absurd none ] ], λ is. elim is [ inl newest ↦ (omega arith, inl newest) | inr oldest ↦ (omega arith, inr (omega arith, inl oldest)) ])
+since_first new old image = (
+  λ left. elim left.1 [ inl newest ↦ inl newest | inr before ↦ elim before.1 [ inl oldest ↦ inr oldest | inr none ↦ absurd none ] ],
+  λ is. elim is [ inl newest ↦ (omega arith, inl newest) | inr oldest ↦ (omega arith, inr (omega arith, inl oldest)) ],
+)
 
 since_second : (new old : State) (image : List ℕ) → LeftSince (new ∷ old ∷ []) 2 image ↔ IsImage new image
 since_second new old image = (λ left. elim left.1 [ inl newest ↦ newest | inr before ↦ (let late = before.0 in absurd (omega arith)) ], λ is. (omega arith, inl is))
@@ -137,7 +142,10 @@ second_is_torn leaves = differ 7 200 (omega arith) (sym (leaves.each torn torn_s
 
 -- the state that was there before the calls counts, too
 second_was_old : LeavesOnly start middle (λ image. slice_index image 0 ≡ 2) → ⊥
-second_was_old leaves = differ 1 2 (omega arith) (leaves.each (1 ∷ 2 ∷ 3 ∷ []) (omega arith, inr (omega arith, inl (record { no_shorter = omega arith; no_longer = omega arith; each = λ i lt out. refl }))))
+second_was_old leaves =
+    differ 1 2 (omega arith)
+    (leaves.each (1 ∷ 2 ∷ 3 ∷ [])
+    (omega arith, inr (omega arith, inl (record { no_shorter = omega arith; no_longer = omega arith; each = λ i lt out. refl }))))
 
 -- the newer states stand in front of the old ones as they stood
 other_past : (P : List ℕ → Type 0) → LeavesOnly middle (unsynced ∷ synced_again ∷ []) P → ⊥

@@ -1,6 +1,6 @@
 -- A real file as a disk: what its calls and their answers, of which the newest stands first, make of what it held.
 use Rattle.std.specs.Prelude.{ℕ, ◌+◌, ◌≡◌, List, [], ◌∷◌, length, get_or, slice_range}
-use Rattle.disk_core.specs.declared.snapshot.Snapshot.{Snapshot}
+use Rattle.disk_core.specs.declared.ghost_bytes.GhostBytes.{GhostBytes}
 use Rattle.disk_core.specs.declared.file_event.FileEvent.{FileEvent}
 use Rattle.disk_core.specs.declared.file_event.FileEvent.TheVariants.{Measured, Read, Written, Torn, Synced, Failed}
 use Rattle.disk_core.specs.FileTruth.{FileTruth}
@@ -20,12 +20,12 @@ state_after Synced bytes left s = settled s.seen
 state_after Failed bytes left s = s
 
 -- what the call that came after these left
-abbrev pub left_by : FileTruth → List (FileEvent × Snapshot) → List ℕ
+abbrev pub left_by : FileTruth → List (FileEvent × GhostBytes) → List ℕ
 left_by truth log = get_or truth.left (length log) []
 
-abbrev pub file_states : FileTruth → List (FileEvent × Snapshot) → List State
+abbrev pub file_states : FileTruth → List (FileEvent × GhostBytes) → List State
 file_states truth [] = opened truth.held ∷ []
-file_states truth ((event, snapshot) ∷ log) = state_after event snapshot.bytes (left_by truth log) (now (file_states truth log)) ∷ file_states truth log
+file_states truth ((event, passed) ∷ log) = state_after event passed.bytes (left_by truth log) (now (file_states truth log)) ∷ file_states truth log
 
 -- the answer is that of a file which keeps the model
 abbrev pub Agrees : FileEvent → List ℕ → List ℕ → State → Type 0
@@ -37,9 +37,9 @@ Agrees Synced bytes left s = Unit {0}
 Agrees Failed bytes left s = Unit {0}
 
 -- so far all answers are
-abbrev pub HasAgreed : FileTruth → List (FileEvent × Snapshot) → Type 0
+abbrev pub HasAgreed : FileTruth → List (FileEvent × GhostBytes) → Type 0
 HasAgreed truth [] = Unit {0}
-HasAgreed truth ((event, snapshot) ∷ log) = Agrees event snapshot.bytes (left_by truth log) (now (file_states truth log)) × HasAgreed truth log
+HasAgreed truth ((event, passed) ∷ log) = Agrees event passed.bytes (left_by truth log) (now (file_states truth log)) × HasAgreed truth log
 
 abbrev pub faults_after_call : FileEvent → ℕ → ℕ
 faults_after_call (Measured n) earlier = earlier
@@ -49,6 +49,6 @@ faults_after_call (Torn e) earlier = earlier + 1
 faults_after_call Synced earlier = earlier
 faults_after_call Failed earlier = earlier + 1
 
-abbrev pub file_faults : List (FileEvent × Snapshot) → ℕ
+abbrev pub file_faults : List (FileEvent × GhostBytes) → ℕ
 file_faults [] = 0
-file_faults ((event, snapshot) ∷ log) = faults_after_call event (file_faults log)
+file_faults ((event, passed) ∷ log) = faults_after_call event (file_faults log)

@@ -4,8 +4,8 @@ ghost use Rattle.disk_core.specs.State.{now, IsImage};
 ghost use Rattle.disk_core.specs.File.{file_states, HasAgreed};
 
 use crate::file_event::FileEvent;
+use crate::ghost_bytes::GhostBytes;
 use crate::log::Log;
-use crate::snapshot::Snapshot;
 use crate::truth::Truth;
 use crate::{Disk, DiskFault, Extent};
 use std::fs::{self, File, OpenFile, OpenOptions};
@@ -42,7 +42,7 @@ pub struct FileDisk<F: FileExt + OpenFile + Drop = File> {
     /// without it. So all later ones fail.
     sync_failed: bool,
     truth: Truth,
-    log: Log<FileEvent, Snapshot>,
+    log: Log<FileEvent, GhostBytes>,
     ghost readable: { HasAgreed truth.facts log.items
         → IsImage (now (file_states truth.facts log.items)) (now (file_states truth.facts log.items)).seen },
 }
@@ -150,11 +150,13 @@ impl<F: FileExt + OpenFile + Drop> Disk for FileDisk<F> {
     fn len(&mut self) -> Result<u64, DiskFault> {
         match length_of(&self.file) {
             Ok(len) => {
-                self.log = self.log.and(&FileEvent::Measured(len), &Snapshot::of(&[]));
+                self.log = self
+                    .log
+                    .and(&FileEvent::Measured(len), &GhostBytes::of(&[]));
                 Ok(len)
             }
             Err(_) => {
-                self.log = self.log.and(&FileEvent::Failed, &Snapshot::of(&[]));
+                self.log = self.log.and(&FileEvent::Failed, &GhostBytes::of(&[]));
                 Err(DiskFault::Length)
             }
         }
@@ -163,11 +165,11 @@ impl<F: FileExt + OpenFile + Drop> Disk for FileDisk<F> {
     fn read_at(&mut self, at: u64, out: &mut [u8]) -> Result<(), DiskFault> {
         match self.file.read_exact_at(out, at) {
             Ok(()) => {
-                self.log = self.log.and(&FileEvent::Read(at), &Snapshot::of(out));
+                self.log = self.log.and(&FileEvent::Read(at), &GhostBytes::of(out));
                 Ok(())
             }
             Err(_) => {
-                self.log = self.log.and(&FileEvent::Failed, &Snapshot::of(&[]));
+                self.log = self.log.and(&FileEvent::Failed, &GhostBytes::of(&[]));
                 Err(DiskFault::Read)
             }
         }
@@ -191,14 +193,16 @@ impl<F: FileExt + OpenFile + Drop> Disk for FileDisk<F> {
     {
         match self.file.write_all_at(bytes, at) {
             Ok(()) => {
-                self.log = self.log.and(&FileEvent::Written(at), &Snapshot::of(bytes));
+                self.log = self
+                    .log
+                    .and(&FileEvent::Written(at), &GhostBytes::of(bytes));
                 Ok(())
             }
             Err(_) => {
                 let len = bytes.len() as u64;
                 self.log = self
                     .log
-                    .and(&FileEvent::Torn(Extent { at, len }), &Snapshot::of(&[]));
+                    .and(&FileEvent::Torn(Extent { at, len }), &GhostBytes::of(&[]));
                 Err(DiskFault::Write)
             }
         }
@@ -208,11 +212,11 @@ impl<F: FileExt + OpenFile + Drop> Disk for FileDisk<F> {
     /// needs, as the times of the file, so a sync of bytes in place costs no change of the file system's own records.
     fn sync(&mut self) -> Result<(), DiskFault> {
         if !self.sync_failed && self.file.sync_data().is_ok() {
-            self.log = self.log.and(&FileEvent::Synced, &Snapshot::of(&[]));
+            self.log = self.log.and(&FileEvent::Synced, &GhostBytes::of(&[]));
             Ok(())
         } else {
             self.sync_failed = true;
-            self.log = self.log.and(&FileEvent::Failed, &Snapshot::of(&[]));
+            self.log = self.log.and(&FileEvent::Failed, &GhostBytes::of(&[]));
             Err(DiskFault::Sync)
         }
     }

@@ -12,10 +12,10 @@ mod fault;
 mod file;
 mod file_event;
 mod fuse;
+mod ghost_bytes;
 mod image;
 mod log;
 mod ram;
-mod snapshot;
 mod truth;
 
 pub use blow::Blow;

@@ -44,7 +44,8 @@ signed_back w once bytes z fits len is =
 
 -- ---- a flag
 
-flag_by_tests : (is_0 is_1 : Bool) (byte : ℕ) (b : Bool) → (is_0 ≡ true → byte ≡ 0) → (is_1 ≡ true → byte ≡ 1) → (if is_0 then Some false else if is_1 then Some true else None) ≡ Some b → from_bool b ∷ [] ≡ byte ∷ []
+flag_by_tests : (is_0 is_1 : Bool) (byte : ℕ) (b : Bool) → (is_0 ≡ true → byte ≡ 0) → (is_1 ≡ true → byte ≡ 1)
+    → (if is_0 then Some false else if is_1 then Some true else None) ≡ Some b → from_bool b ∷ [] ≡ byte ∷ []
 flag_by_tests true is_1 byte false zeroth first is = rw (zeroth refl) refl
 flag_by_tests true is_1 byte true zeroth first is = absurd cc
 flag_by_tests false true byte true zeroth first is = rw (first refl) refl
@@ -92,7 +93,8 @@ joined_back parts a b a_back b_back bytes c fits len is =
     let behind : b.bytes_of found.right ≡ drop a.width bytes = b_back (drop a.width bytes) found.right (IsBytes-drop a.width bytes fits) (omega (arith, length-drop a.width bytes)) found.is_right in
     rw (first, second, front, behind) (take-append-drop a.width bytes)
 
-pub joined_exact : {A B C : Type 0} (parts : Parts A B C) (a_eq : A → A → Bool) (b_eq : B → B → Bool) → ((x y : A) → a_eq x y ≡ true → x ≡ y) → ((x y : B) → b_eq x y ≡ true → x ≡ y)
+pub joined_exact : {A B C : Type 0} (parts : Parts A B C) (a_eq : A → A → Bool) (b_eq : B → B → Bool) → ((x y : A) → a_eq x y ≡ true → x ≡ y)
+    → ((x y : B) → b_eq x y ≡ true → x ≡ y)
     → (x y : C) → (a_eq (parts.first x) (parts.first y) && b_eq (parts.second x) (parts.second y)) ≡ true → x ≡ y
 joined_exact parts a_eq b_eq a_exact b_exact x y is =
     let equal = and_parts (a_eq (parts.first x) (parts.first y)) (b_eq (parts.second x) (parts.second y)) is in

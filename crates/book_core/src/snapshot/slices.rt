@@ -27,7 +27,7 @@ pub(crate) struct Slices<'a, R: Record> {
 
 impl<'a, R: Record> Model for Slices<'a, R> {
     ghost use Rattle.std.specs.Prelude.{map, vec_capacity};
-    ghost use Rattle.book_core.specs.Snapshots.{Row, AreLaid, AreEven};
+    ghost use Rattle.book_core.specs.Snapshots.{Row, HaveStarts, AreEven};
 
     ghost Value = { Row R };
 
@@ -38,7 +38,7 @@ impl<'a, R: Record> Model for Slices<'a, R> {
     } };
 
     ghost invariant = { λ row.
-        AreLaid (map (λ s. s.now) row.slices.items) row.starts.items row.size
+        HaveStarts (map (λ s. s.now) row.slices.items) row.starts.items row.size
         × AreEven row.starts.items row.size row.step };
 }
 

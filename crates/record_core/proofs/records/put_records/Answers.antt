@@ -13,7 +13,8 @@ loop-i-preserved g c =
     let wide : length c.put.new.out ≡ g.R.Record.form.width = c.put.auto.out ∙ omega (arith, c.width_of-width.ensures.is) in
     let at : c.loop-i.i * c.width_of-width.result ≡ c.loop-i.i * g.R.Record.form.width = ap (λ w. c.loop-i.i * w) c.width_of-width.ensures.is in
     record {
-      written = written_more g.R.Record.form c.args.records.now c.loop-i.out c.put.new.out c.loop-i.i _ _ r c.loop-i-test.true c.index-records-i.is (c.loop-i.auto.out ∙ c.requires) at (omega (arith, c.width_of-width.ensures.is)) c.put.ensures.bytes wide c.loop-i.invariant.written;
+      written = written_more g.R.Record.form c.args.records.now c.loop-i.out c.put.new.out c.loop-i.i _ _ r c.loop-i-test.true c.index-records-i.is
+          (c.loop-i.auto.out ∙ c.requires) at (omega (arith, c.width_of-width.ensures.is)) c.put.ensures.bytes wide c.loop-i.invariant.written;
       read_again = AreReadAgain_more g.R.Record.form c.args.records.now c.loop-i.i r c.loop-i-test.true c.index-records-i.is c.loop-i.invariant.read_again c.put.ensures.read_again;
     }
 

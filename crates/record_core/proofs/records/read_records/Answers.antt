@@ -14,8 +14,16 @@ loop-i-preserved g c =
     let r = c.in-Some.record in
     let ok : is_ok c.push.result ≡ true = sym c.map_err.ensures.variant ∙ ap is_ok c.in_ok-map_err.was in
     let pushed : c.push.new.self.items ≡ c.loop-i.records.items ++ r ∷ [] = c.push.ensures.items ∙ ap (λ b. cond b (c.loop-i.records.items ++ r ∷ []) c.loop-i.records.items) ok in
-    let here : g.R.Record.form.value_of (cell g.R.Record.form.width c.args.bytes.now c.loop-i.i) ≡ Some r = ap g.R.Record.form.value_of (cell_is g.R.Record.form.width c.width_of-width.result c.args.bytes.now c.loop-i.i c.width_of-width.ensures.is) ∙ sym c.take.ensures ∙ c.in-Some.is in
-    (before.0 ++ r ∷ [], pushed ∙ ap (λ (rs : List g.row.R.Denot). rs ++ r ∷ []) before.1 ∙ append_assoc c.args.records.now.items before.0 (r ∷ []), HasRead_more g.R.Record.form c.args.bytes.now c.loop-i.i before.0 r before.2 here, search rules, search rules)
+    let here : g.R.Record.form.value_of (cell g.R.Record.form.width c.args.bytes.now c.loop-i.i) ≡ Some r =
+    ap g.R.Record.form.value_of (cell_is g.R.Record.form.width c.width_of-width.result c.args.bytes.now c.loop-i.i c.width_of-width.ensures.is)
+    ∙ sym c.take.ensures ∙ c.in-Some.is in (
+      before.0 ++ r ∷ [],
+      pushed ∙ ap (λ (rs : List g.row.R.Denot). rs ++ r ∷ []) before.1
+          ∙ append_assoc c.args.records.now.items before.0 (r ∷ []),
+      HasRead_more g.R.Record.form c.args.bytes.now c.loop-i.i before.0 r before.2 here,
+      search rules,
+      search rules,
+    )
 
 pub returns-clause-ok : goal.returns-clause-ok
 returns-clause-ok g c =
@@ -29,5 +37,7 @@ returns-clause-kept g c =
 
 pub returns-in_default-clause-bad : goal.returns-in_default-clause-bad
 returns-in_default-clause-bad g c =
-    let now : g.R.Record.form.value_of (cell g.R.Record.form.width c.args.bytes.now c.loop-i.i) ≡ c.take.result = ap g.R.Record.form.value_of (cell_is g.R.Record.form.width c.width_of-width.result c.args.bytes.now c.loop-i.i c.width_of-width.ensures.is) ∙ sym c.take.ensures in
+    let now : g.R.Record.form.value_of (cell g.R.Record.form.width c.args.bytes.now c.loop-i.i) ≡ c.take.result =
+    ap g.R.Record.form.value_of (cell_is g.R.Record.form.width c.width_of-width.result c.args.bytes.now c.loop-i.i c.width_of-width.ensures.is)
+    ∙ sym c.take.ensures in
     record { inside = omega arith; bad = now ∙ c.in_default.is; before = HasRead_some g.R.Record.form c.args.bytes.now c.loop-i.i c.loop-i.invariant.0 c.loop-i.invariant.2 }

@@ -6,7 +6,10 @@ pub returns-clause-rest : goal.returns-clause-rest
 returns-clause-rest g c = (seats-pop c.args.self.now.directory c.args.self.now.mark c.args.seats.now.items c.pop.new.self.items c.pop.result c.requires c.pop.ensures.items).0
 
 pub returns-clause-of : goal.returns-clause-of
-returns-clause-of g c = new-is_of c.args.self.now _ c.pop.result (seats-pop c.args.self.now.directory c.args.self.now.mark c.args.seats.now.items c.pop.new.self.items c.pop.result c.requires c.pop.ensures.items).1
+returns-clause-of g c =
+    new-is_of c.args.self.now _ c.pop.result
+    (seats-pop c.args.self.now.directory c.args.self.now.mark c.args.seats.now.items c.pop.new.self.items c.pop.result c.requires
+    c.pop.ensures.items).1
 
 pub returns-clause-seat : goal.returns-clause-seat
 returns-clause-seat g c =

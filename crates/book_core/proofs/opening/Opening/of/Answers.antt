@@ -27,7 +27,9 @@ loop-block-preserved g c =
       end_more c.args.blocks.items i d lt is ∙ (let size = inv.0 in let len = c.len-in-loop-block.ensures in omega arith),
       (let n = inv.1 in omega (arith, c.push_reserved.ensures.len)),
       (let n = inv.2 in omega (arith, c.push_reserved.ensures.capacity)),
-      rw c.push_reserved.ensures.items (ends_more c.args.blocks.items i d lt is c.loop-block.ends.items c.loop-block.size _ many inv.0 (let len = c.len-in-loop-block.ensures in let ok' = d.ok in omega arith) inv.3),
+      rw c.push_reserved.ensures.items
+          (ends_more c.args.blocks.items i d lt is c.loop-block.ends.items c.loop-block.size _ many inv.0
+          (let len = c.len-in-loop-block.ensures in let ok' = d.ok in omega arith) inv.3),
     )
 
 pub invariant_of-result : goal.invariant_of-result

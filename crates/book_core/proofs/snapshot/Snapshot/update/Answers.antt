@@ -2,7 +2,7 @@ use Rattle.std.proofs.Common.{◌+◌, ◌-◌, ◌++◌, ◌∙◌, length, tak
 use Rattle.std.proofs.lemmas.List.{length-drop}
 use Rattle.directory_core.specs.Chain.{Agree, total}
 use Rattle.book_core.specs.Lists.{opening_of, joined_pieces}
-use Rattle.book_core.specs.Snapshots.{Shown, growths_of}
+use Rattle.book_core.specs.Snapshots.{Shown, growth_records}
 use Rattle.book_core.proofs.ShownLists.{shows_all, same_growths, behind, all_added}
 use Rattle.book_core.proofs.snapshot.Snapshot.update.Goals as goal
 
@@ -23,7 +23,7 @@ add_growths-requires-clause-behind g c _ _ =
     let count = c.count.ensures in
     let known = c.known-knows.ensures.count in
     let more = c.if-knows-has.false in
-    let agree = subst (λ (v : Shown g.row.R.Denot). Agree v.growths (growths_of c.args.seat.now)) (sym c.self.view_is) c.requires.agree in
+    let agree = subst (λ (v : Shown g.row.R.Denot). Agree v.growths (growth_records c.args.seat.now)) (sym c.self.view_is) c.requires.agree in
     let has = length-drop blocks pieces in
     let n = c.count.result - blocks in
     ap (λ ps. length (joined_pieces ps)) c.reserve.ensures.same
@@ -38,8 +38,8 @@ returns-clause-more g c le =
     let count = c.count.ensures in
     let known = c.known-knows.ensures.count in
     let more = c.if-knows-has.false in
-    let agree = subst (λ (v : Shown g.row.R.Denot). Agree v.growths (growths_of c.args.seat.now)) (sym c.self.view_is) c.requires.agree in
+    let agree = subst (λ (v : Shown g.row.R.Denot). Agree v.growths (growth_records c.args.seat.now)) (sym c.self.view_is) c.requires.agree in
     let has = length-drop blocks pieces in
     let n = c.count.result - blocks in
-    let added = ap (λ v. v.pieces) c.lay_hints.ensures ∙ (c.add_growths.ensures.pieces ∙ ap₂ (λ ps s. ps ++ drop n (growths_of s)) c.reserve.ensures.same c.seat.view_is) in
+    let added = ap (λ v. v.pieces) c.lay_hints.ensures ∙ (c.add_growths.ensures.pieces ∙ ap₂ (λ ps s. ps ++ drop n (growth_records s)) c.reserve.ensures.same c.seat.view_is) in
     rw (← c.self.view_is) (shows_all _ c.args.seat.now (ap (drop blocks) added ∙ all_added c.self.inside.live.now c.args.seat.now pieces blocks n i.0 i.1 (omega arith) agree (omega arith)))

@@ -12,5 +12,7 @@ loop-bucket-preserved g c =
     let lt : c.loop-bucket.bucket-index < length c.self.inside.buckets.items = omega (arith, c.loop-bucket-test.true, ap length v) in (
       omega (arith, c.push_reserved.ensures.len),
       omega (arith, c.push_reserved.ensures.capacity),
-      rw c.push_reserved.ensures.items (cells_more cell_name c.self.inside.buckets.items c.loop-bucket.bucket-index c.bucket-item.result c.loop-bucket.buckets.items c.note.result lt (c.bucket-item.is ∙ ap (λ xs. get_or xs c.loop-bucket.bucket-index c.bucket-item.result) v) i.2 c.note.ensures.0),
+      rw c.push_reserved.ensures.items
+          (cells_more cell_name c.self.inside.buckets.items c.loop-bucket.bucket-index c.bucket-item.result c.loop-bucket.buckets.items c.note.result
+          lt (c.bucket-item.is ∙ ap (λ xs. get_or xs c.loop-bucket.bucket-index c.bucket-item.result) v) i.2 c.note.ensures.0),
     )

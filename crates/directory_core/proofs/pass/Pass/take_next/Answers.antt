@@ -1,6 +1,6 @@
 use Rattle.std.proofs.Common.{◌≡◌, ◌++◌, sym, ◌∙◌, ap, ap₂, subst, None, slice_get, get_or, option_to_list, take, add-one}
 use Rattle.directory_core.specs.Known.{Known}
-use Rattle.directory_core.specs.Notes.{IsFiled}
+use Rattle.directory_core.specs.Notes.{HasCell}
 use Rattle.directory_core.proofs.NoteRows.{filed_here, keeps_from, take_more_get}
 use Rattle.directory_core.proofs.pass.Pass.take_next.Goals as goal
 
@@ -8,19 +8,22 @@ pub add-requires-clause-keeps : goal.add-requires-clause-keeps
 add-requires-clause-keeps g c κs held =
     let known : c.again.result.known ≡ get_or c.args.other.now.held.buckets c.spot-at.result.0 None = ap (λ n. n.known) c.again.ensures.1 ∙ c.bucket_note-bucket.ensures.known in
     let known' : c.again.new.self.known ≡ get_or c.args.other.now.held.buckets c.spot-at.result.0 None = ap (λ n. n.known) c.again.ensures.0 ∙ c.bucket_note-bucket.ensures.known in
-    let filed = subst (λ (v : Known g.row.R.Denot). IsFiled v.held.buckets c.args.number c.note-note.result.cell) c.bucket_note-bucket.ensures.same c.note-note.ensures.filed in
+    let filed = subst (λ (v : Known g.row.R.Denot). HasCell v.held.buckets c.args.number c.note-note.result.cell) c.bucket_note-bucket.ensures.same c.note-note.ensures.filed in
     let here = filed_here c.args.number c.spot-at.result.0 c.spot-at.result.1 c.spot-at.ensures.spot c.args.other.now.held.buckets c.note-note.result.cell filed in
-    rw (c.bucket_note-mine.ensures.same, ← c.bucket_note-mine.ensures.known) (keeps_from c.bucket_note-mine.result.known c.again.new.self.known c.spot-at.result.1 c.note-note.result.cell (rw known' here) (rw (known' ∙ sym known) c.compare.ensures.1))
+    rw (c.bucket_note-mine.ensures.same, ← c.bucket_note-mine.ensures.known)
+    (keeps_from c.bucket_note-mine.result.known c.again.new.self.known c.spot-at.result.1 c.note-note.result.cell (rw known' here)
+    (rw (known' ∙ sym known) c.compare.ensures.1))
 
 pub add-requires-clause-stands : goal.add-requires-clause-stands
 add-requires-clause-stands g c κs held =
     let known' : c.again.new.self.known ≡ get_or c.args.other.now.held.buckets c.spot-at.result.0 None = ap (λ n. n.known) c.again.ensures.0 ∙ c.bucket_note-bucket.ensures.known in
-    let filed = subst (λ (v : Known g.row.R.Denot). IsFiled v.held.buckets c.args.number c.note-note.result.cell) c.bucket_note-bucket.ensures.same c.note-note.ensures.filed in
+    let filed = subst (λ (v : Known g.row.R.Denot). HasCell v.held.buckets c.args.number c.note-note.result.cell) c.bucket_note-bucket.ensures.same c.note-note.ensures.filed in
     let here = filed_here c.args.number c.spot-at.result.0 c.spot-at.result.1 c.spot-at.ensures.spot c.args.other.now.held.buckets c.note-note.result.cell filed in
     rw (c.bucket_note-mine.ensures.same, ← c.requires.number, known') (c.spot-at.ensures.spot, here)
 
 pub returns-clause-next : goal.returns-clause-next
 returns-clause-next g c =
-    let known : c.note-note.result.known ≡ slice_get c.args.other.now.entries c.args.number = c.note-note.ensures.known ∙ ap (λ (v : Known g.row.R.Denot). slice_get v.entries c.args.number) c.bucket_note-bucket.ensures.same in
+    let known : c.note-note.result.known ≡ slice_get c.args.other.now.entries c.args.number = c.note-note.ensures.known
+    ∙ ap (λ (v : Known g.row.R.Denot). slice_get v.entries c.args.number) c.bucket_note-bucket.ensures.same in
     let mine : c.bucket_note-mine.new.self.entries ≡ take c.args.number c.args.other.now.entries = ap (λ v. v.entries) c.bucket_note-mine.ensures.same ∙ sym c.requires.begins in
     c.add.ensures.entries ∙ (ap₂ (λ xs o. xs ++ option_to_list o) mine known ∙ rw add-one (sym (take_more_get c.args.other.now.entries c.args.number)))

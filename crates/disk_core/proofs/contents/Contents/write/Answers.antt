@@ -20,9 +20,11 @@ returns-clause-half_done c =
           let copied : w.in_ok-self-inside.field-0.items ≡ old.bytes.items = search rules in
           let view : contents_state mid.bytes.items mid.synced.items mid.pending.items mid.greatest ≡ c.args.self.now = grind (arith, common_steps) in
           let fresh : mid.pending.items ≡ [] → (mid.synced.items ≡ mid.bytes.items) × (mid.greatest ≡ length mid.bytes.items) = search rules in
-          inr (touched_from c.args.self.now mid.bytes.items mid.synced.items c.lay_over.new.bytes.items mid.pending.items c.push.new.self.items mid.greatest c.max-self-inside.result c.args.at (length c.args.bytes.now) view fresh same (search rules) (search rules))
+          inr (touched_from c.args.self.now mid.bytes.items mid.synced.items c.lay_over.new.bytes.items mid.pending.items c.push.new.self.items
+          mid.greatest c.max-self-inside.result c.args.at (length c.args.bytes.now) view fresh same (search rules) (search rules))
       | else-is_empty w ↦
           let view : contents_state mid.bytes.items mid.synced.items mid.pending.items mid.greatest ≡ c.args.self.now = search rules in
           let fresh : mid.pending.items ≡ [] → (mid.synced.items ≡ mid.bytes.items) × (mid.greatest ≡ length mid.bytes.items) = search rules in
-          inr (touched_from c.args.self.now mid.bytes.items mid.synced.items c.lay_over.new.bytes.items mid.pending.items c.push.new.self.items mid.greatest c.max-self-inside.result c.args.at (length c.args.bytes.now) view fresh same (search rules) (search rules))
+          inr (touched_from c.args.self.now mid.bytes.items mid.synced.items c.lay_over.new.bytes.items mid.pending.items c.push.new.self.items
+          mid.greatest c.max-self-inside.result c.args.at (length c.args.bytes.now) view fresh same (search rules) (search rules))
     ]) c.lay_over.ensures.same

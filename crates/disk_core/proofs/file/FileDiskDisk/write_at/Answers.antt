@@ -6,4 +6,8 @@ use Rattle.disk_core.proofs.file.FileDiskDisk.write_at.Goals as goal
 pub invariant_of-self : goal.invariant_of-self
 invariant_of-self g c =
     let disk = c.args.self.now in
-    rw c.and-self.ensures (record { readable = λ agreed. written_image (now (file_states disk.truth.facts disk.log.items)) c.args.at c.of.result.bytes (c.requires.inside agreed.1) (disk.readable agreed.1) })
+    rw c.and-self.ensures
+    (record {
+      readable = λ agreed. written_image (now (file_states disk.truth.facts disk.log.items)) c.args.at c.of.result.bytes
+          (c.requires.inside agreed.1) (disk.readable agreed.1);
+    })

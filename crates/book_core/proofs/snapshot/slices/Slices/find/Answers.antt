@@ -21,7 +21,10 @@ pub last_start_near-number-requires-clause-first : goal.last_start_near-number-r
 last_start_near-number-requires-clause-first g c = rw c.as_slice-starts.ensures.value (let inside = c.if-i-self.false in first_start c.self.invariant.0 c.args.i (omega arith)).1
 
 pub returns : goal.returns
-returns g c = rw (← c.self.view_is, c.as_slice-starts.ensures.value) (let inside = c.if-i-self.false in finds c.self.invariant.0 c.last_start_near-number.result c.args.i (rw (← c.as_slice-starts.ensures.value) c.last_start_near-number.ensures) (omega arith))
+returns g c = rw (← c.self.view_is, c.as_slice-starts.ensures.value) (
+    let inside = c.if-i-self.false in
+    finds c.self.invariant.0 c.last_start_near-number.result c.args.i (rw (← c.as_slice-starts.ensures.value) c.last_start_near-number.ensures)
+    (omega arith))
 
 pub returns-then-self-ne0 : goal.returns-then-self-ne0
 returns-then-self-ne0 g c = rw (← c.self.view_is) (

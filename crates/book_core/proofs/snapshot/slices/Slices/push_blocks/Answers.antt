@@ -36,11 +36,14 @@ loop-block-preserved g c =
     let item = c.block-item.is in
     let value = c.as_slice-records.ensures.value in
     elim c.if-not-is_empty.branch [
-      | then-not-is_empty w ↦ let no = eqb-false (length c.as_slice-records.result.now) 0 (sym c.is_empty.ensures ∙ w.if-not-is_empty.true) in let some = lt_of_not-le (λ (le : length c.as_slice-records.result.now ≤ 0). no (omega arith)) in (
-        ap (λ v. v.pieces) w.self-is ∙ (w.push.ensures.pieces ∙ (ap₂ (λ ps p. ps ++ p ∷ []) i.0 value ∙ with_push old c.args.blocks.now at lt c.block-item.result item (rw (← value) some))),
-        ap (λ v. v.slice_room) w.self-is ∙ (w.push.ensures.room.0 ∙ i.1),
-        ap (λ v. v.start_room) w.self-is ∙ (w.push.ensures.room.1 ∙ i.2),
-      )
+      | then-not-is_empty w ↦ let no = eqb-false (length c.as_slice-records.result.now) 0 (sym c.is_empty.ensures ∙ w.if-not-is_empty.true) in
+          let some = lt_of_not-le (λ (le : length c.as_slice-records.result.now ≤ 0). no (omega arith)) in (
+            ap (λ v. v.pieces) w.self-is
+                ∙ (w.push.ensures.pieces
+                ∙ (ap₂ (λ ps p. ps ++ p ∷ []) i.0 value ∙ with_push old c.args.blocks.now at lt c.block-item.result item (rw (← value) some))),
+            ap (λ v. v.slice_room) w.self-is ∙ (w.push.ensures.room.0 ∙ i.1),
+            ap (λ v. v.start_room) w.self-is ∙ (w.push.ensures.room.1 ∙ i.2),
+          )
       | else-not-is_empty w ↦ let none = eqb-true (length c.as_slice-records.result.now) 0 (sym c.is_empty.ensures ∙ w.if-not-is_empty.false) in (
         ap (λ v. v.pieces) w.self-is ∙ (i.0 ∙ with_skip old c.args.blocks.now at lt c.block-item.result item (rw (← value) none)),
         ap (λ v. v.slice_room) w.self-is ∙ i.1,

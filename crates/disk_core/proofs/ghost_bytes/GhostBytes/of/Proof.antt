@@ -32,11 +32,11 @@ use denote.Triple.Table.{entered}
 use denote.Triple.Walked.{says, Stays, stay_none_slice, Goes-none_slice, walk_of, Walks, ends_at, walked, walk_Meets}
 use Rattle.std.specs.contracts.marker.PhantomData as Mark
 use Rattle.disk_core.proofs.Walks.{none, one, one_made}
-use Rattle.disk_core.specs.contracts.snapshot.Snapshot as Snapshot
-use Rattle.disk_core.specs.contracts.snapshot.Snapshot.of as F
-use Rattle.disk_core.specs.contracts.snapshot.Snapshot.of.Key.{name as #self}
-use Rattle.disk_core.proofs.snapshot.Snapshot.of.Statement as stated
-use Rattle.disk_core.proofs.snapshot.Snapshot.of.Code as code
+use Rattle.disk_core.specs.contracts.ghost_bytes.GhostBytes as GhostBytes
+use Rattle.disk_core.specs.contracts.ghost_bytes.GhostBytes.of as F
+use Rattle.disk_core.specs.contracts.ghost_bytes.GhostBytes.of.Key.{name as #self}
+use Rattle.disk_core.proofs.ghost_bytes.GhostBytes.of.Statement as stated
+use Rattle.disk_core.proofs.ghost_bytes.GhostBytes.of.Code as code
 
 abbrev stayed : Stays F.ended.signature.params F.ended.kept
 stayed = (stay_none_slice (0 ∷ []) tt (plain (λ _. u8)) yes, tt)
@@ -51,7 +51,7 @@ module _ {M : Type 1} {𝓤 : Ura M} (𝓛 : Logic 𝓤) (at_mem : Memory → SP
     abbrev at : List Val × Unit {0}
     at = (slice_val s.ref_ptr (length s.now) ∷ [], tt)
 
-    abbrev made : Snapshot.the_row.Denot
+    abbrev made : GhostBytes.the_row.Denot
     made = record { of = record {}; bytes = s.now }
 
     abbrev Post : Val → SProp 𝓤
@@ -75,7 +75,8 @@ module _ {M : Type 1} {𝓤 : Ura M} (𝓛 : Logic 𝓤) (at_mem : Memory → SP
       (λ κs qs bounds a _ are. via 𝓤 _ (fst∗ 𝓤 _ (emp 𝓤)) (walk κs.0 qs.0 a.0 C Λ are.0.0.1.0))
 
   meets : (𝓣 : Tables 𝓤 H) → Meets 𝓛 F.signature (WpFn 𝓤 H 𝓣.C 𝓣.Λ code.function) (F.spec 𝓛 at_mem run)
-  meets 𝓣 = walk_Meets 𝓛 F.ended stayed (Goes-none_slice 𝓛 1 (0 ∷ []) tt (plain (λ _. u8)) yes, tt) held (WpFn 𝓤 H 𝓣.C 𝓣.Λ code.function) (WpFn-mono 𝓤 H 𝓛.laws 𝓣 code.function) (walks 𝓣.C 𝓣.Λ)
+  meets 𝓣 = walk_Meets 𝓛 F.ended stayed (Goes-none_slice 𝓛 1 (0 ∷ []) tt (plain (λ _. u8)) yes, tt) held (WpFn 𝓤 H 𝓣.C 𝓣.Λ code.function)
+      (WpFn-mono 𝓤 H 𝓛.laws 𝓣 code.function) (walks 𝓣.C 𝓣.Λ)
 
 pub of_spec : {M : Type 1} → stated.statement M
 unfolding tables_of

@@ -1,6 +1,6 @@
--- A snapshot owns nothing, so it may go to another thread.
+-- It owns nothing, so it may go to another thread.
 use denote.Param.Send.{IsSend, owning_send, sendable}
-use Rattle.disk_core.specs.contracts.snapshot.Snapshot.{the_row, the_type}
+use Rattle.disk_core.specs.contracts.ghost_bytes.GhostBytes.{the_row, the_type}
 
 pub send : IsSend the_row
 send = owning_send the_type (search sendable, tt) (λ d. tt) (λ k x w. tt)
