@@ -6,14 +6,11 @@ use crate::entry::{Entry, Label};
 use crate::fault::FreshFault;
 use crate::filling::touch_parts;
 use crate::touching::Touch;
-use record_core::{PAYLOAD_LIMIT, Record, width_of};
+use record_core::{GROWTH_HEAD_LEN, PAYLOAD_LIMIT, Record, width_of};
 use std::alloc::Global;
 use std::marker::Model;
 use std::slice::ChunksMut;
 use std::thread::Threads;
-
-/// The bytes that stand in a frame before the records of its one growth: the count of growths, and one length.
-const HEAD: u64 = 8;
 
 /// At least one record, and few enough for one frame of the segment file, in the buffer and the box in which
 /// they will be published. Until then nobody else sees them.
@@ -47,7 +44,7 @@ impl<R: Record> Fresh<R> {
             return Err(FreshFault::Empty);
         }
         match n.checked_mul(width_of::<R>() as u64) {
-            Some(bytes) if bytes <= PAYLOAD_LIMIT as u64 - HEAD => Ok(()),
+            Some(bytes) if bytes <= (PAYLOAD_LIMIT - GROWTH_HEAD_LEN) as u64 => Ok(()),
             _ => Err(FreshFault::TooLarge),
         }
     }

@@ -4,7 +4,7 @@ use Rattle.std.proofs.lemmas.List.{length-take, take-take}
 use Rattle.block_core.specs.Growth.{Growth}
 use Rattle.block_core.specs.Length.{IsBlockLength}
 use Rattle.directory_core.specs.Chain.{total, IsPrefix}
-use Rattle.directory_core.specs.Limits.{record_limit}
+use Rattle.record_core.specs.Limits.{record_limit}
 use Rattle.book_core.specs.declared.fault.GrowFault.{GrowFault}
 use Rattle.book_core.specs.declared.fault.GrowFault.TheVariants.{Closed, Full, TooLong, Strayed, Memory, Empty, TooLarge}
 use Rattle.book_core.specs.declared.seat.Receipt.{Receipt}

@@ -1,10 +1,9 @@
 -- What a growth does to a seat, and why it is refused.
 use Rattle.std.specs.Prelude.{◌≡◌, ℕ, ◌+◌, ◌-◌, ◌<◌, ◌≤◌, ◌⊎◌, List, [], ◌∷◌, ◌++◌, length, take, slice_get, replicate, Some, Option, Result, Ok, Err, MatchOption, MatchResult}
-use Rattle.record_core.specs.Limits.{payload_limit}
+use Rattle.record_core.specs.Limits.{payload_limit, record_limit}
 use Rattle.block_core.specs.Growth.{Growth}
 use Rattle.block_core.specs.Length.{IsBlockLength, payload_len}
 use Rattle.directory_core.specs.Chain.{total, IsPrefix}
-use Rattle.directory_core.specs.Limits.{record_limit}
 use Rattle.book_core.specs.declared.fault.GrowFault.{GrowFault}
 use Rattle.book_core.specs.declared.fault.GrowFault.TheVariants.{Closed, Full, TooLong, Strayed, Memory, Empty, TooLarge}
 use Rattle.book_core.specs.declared.seat.Receipt.{Receipt}

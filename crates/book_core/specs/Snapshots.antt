@@ -1,7 +1,7 @@
 -- The list of a seat, laid out in slices.
 use Rattle.std.specs.Prelude.{◌≡◌, ℕ, ◌+◌, ◌*◌, ◌<◌, ◌≤◌, ◌⊎◌, List, ◌++◌, length, map, take, get_or, slice_get, filter, sum_by, nat_lt, All, Option, Some, MatchOption}
 use Rattle.std.specs.Borrow.{Bor}
-use Rattle.directory_core.specs.Limits.{record_limit}
+use Rattle.record_core.specs.Limits.{record_limit}
 use Rattle.book_core.specs.Lists.{Phase, Seated, joined_pieces, list_of}
 
 -- each piece has a record

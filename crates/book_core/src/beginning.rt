@@ -1,7 +1,7 @@
 //! How a phase begins: what its threads share, and a seat for each of them.
 
 ghost use Rattle.std.specs.Prelude.{◌≡◌, ◌≤◌, [], ◌++◌, length, option_to_list, IfOk, IfErr, IfSome, MatchOption, OnOk};
-ghost use Rattle.directory_core.specs.Limits.{record_limit};
+ghost use Rattle.record_core.specs.Limits.{record_limit};
 ghost use Rattle.book_core.specs.Marks.{nothing};
 ghost use Rattle.book_core.specs.Lists.{records_of, joined_pieces, IsSeatOf};
 ghost use Rattle.book_core.specs.Beginning.{IsNewSeat, AreNewSeats, IsBeginRefusal, MayBegin};
@@ -13,8 +13,8 @@ use crate::opening::Opening;
 use crate::seat::Seat;
 use crate::waking::Waking;
 use crossbeam_utils::CachePadded;
-use directory_core::{Directory, GROWTH_LIMIT, Pass, RECORD_LIMIT};
-use record_core::Record;
+use directory_core::{Directory, GROWTH_LIMIT, Pass};
+use record_core::{RECORD_LIMIT, Record};
 use std::alloc::Global;
 use std::sync::Mutex;
 

@@ -1,7 +1,7 @@
 //! Growing: each seat behind its own door, by turns that the directory's set-once cells decide.
 
 ghost use Rattle.std.specs.Prelude.{◌≡◌, ◌+◌, ◌<◌, ◌≤◌, [], ◌∷◌, ◌++◌, length, replicate, IfOk, IfErr, IfSome, MatchOption, MatchResult};
-ghost use Rattle.directory_core.specs.Limits.{record_limit};
+ghost use Rattle.record_core.specs.Limits.{record_limit};
 ghost use Rattle.directory_core.specs.Chain.{total, IsChained};
 ghost use Rattle.book_core.specs.Lists.{IsSeatOf, HasJustItsOwn};
 ghost use Rattle.book_core.specs.Growing.{SeatLearns, Grown, GrowsBy, FillsOrReaches, IsBookRefusal, StraysInLimit, IsCopiesRefusal, IsFillRefusal};
@@ -11,8 +11,8 @@ use crate::live::Live;
 use crate::patience::Patience;
 use crate::seat::{Receipt, Seat};
 use block_core::{Fresh, Label};
-use directory_core::{DirFault, RECORD_LIMIT};
-use record_core::Record;
+use directory_core::DirFault;
+use record_core::{RECORD_LIMIT, Record};
 use std::sync::{MutexGuard, Wait};
 
 impl<R: Record> Live<R> {

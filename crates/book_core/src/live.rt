@@ -1,7 +1,7 @@
 //! A growth phase as all its threads see it.
 
 ghost use Rattle.std.specs.Prelude.{◌≡◌, ◌+◌, ◌<◌, length, slice_get, Some};
-ghost use Rattle.directory_core.specs.Limits.{record_limit};
+ghost use Rattle.record_core.specs.Limits.{record_limit};
 ghost use Rattle.book_core.specs.Lists.{records_of, opening_of};
 
 use crate::mark::Mark;
@@ -34,7 +34,7 @@ pub struct Live<R: Record> {
 
 impl<R: Record> Model for Live<R> {
     ghost use Rattle.std.specs.Prelude.{◌≡◌, ◌+◌, length};
-    ghost use Rattle.directory_core.specs.Limits.{record_limit};
+    ghost use Rattle.record_core.specs.Limits.{record_limit};
     ghost use Rattle.book_core.specs.Lists.{Phase, records_of, joined_pieces};
 
     ghost Value = { Phase R };

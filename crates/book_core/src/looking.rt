@@ -1,7 +1,7 @@
 //! What a seat learns of the growths of others.
 
 ghost use Rattle.std.specs.Prelude.{◌≡◌, ◌+◌, ◌≤◌, length, take, IfErr, OnOk, MatchOption, MatchResult};
-ghost use Rattle.directory_core.specs.Limits.{record_limit};
+ghost use Rattle.record_core.specs.Limits.{record_limit};
 ghost use Rattle.directory_core.specs.Chain.{Agree, Meets};
 ghost use Rattle.book_core.specs.Lists.{IsSeatOf, own_of, HasJustItsOwn, IsFirstOf, list_of};
 ghost use Rattle.book_core.specs.Growing.{SeatLearns, IsLookFault, size_of};

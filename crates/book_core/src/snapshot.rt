@@ -1,7 +1,7 @@
 //! The whole list that a seat knows, laid out for reads at any position.
 
 ghost use Rattle.std.specs.Prelude.{◌≡◌, ◌+◌, ◌-◌, ◌<◌, ◌≤◌, ◌++◌, length, map, take, drop, slice_get, Some, MatchOption, MatchResult, [], IsTrue, ◌↔◌, IfErr, IfSome, OnOk};
-ghost use Rattle.directory_core.specs.Limits.{record_limit};
+ghost use Rattle.record_core.specs.Limits.{record_limit};
 ghost use Rattle.directory_core.specs.Chain.{Agree, total};
 ghost use Rattle.directory_core.specs.Finding.{IsPieceAt};
 ghost use Rattle.book_core.specs.Lists.{IsSeatOf, IsRestOfPiece, opening_of, joined_pieces};
@@ -36,7 +36,7 @@ pub struct Snapshot<'a, R: Record> {
 
 impl<'a, R: Record> Model for Snapshot<'a, R> {
     ghost use Rattle.std.specs.Prelude.{◌≡◌, ◌+◌, ◌≤◌, length, take, drop};
-    ghost use Rattle.directory_core.specs.Limits.{record_limit};
+    ghost use Rattle.record_core.specs.Limits.{record_limit};
     ghost use Rattle.book_core.specs.Lists.{opening_of};
     ghost use Rattle.book_core.specs.Snapshots.{Shown, full_of};
 

@@ -14,18 +14,12 @@ ghost use Rattle.cvec_c.specs.Records.{c_pair, c_flagged};
 use crate::records::{CvecFlagged, CvecPair};
 use crate::stat::CvecStat;
 use crate::status::Status;
-use record_core::{RECORD_LIMIT, Record, width_of};
-use segment_core::{CLOSED_GATE, Format, append_group};
+use record_core::{GROWTH_HEAD_LEN, RECORD_LIMIT, Record, width_of};
+use segment_core::{CLOSED_GATE, FRAME_HEAD_LEN, Format, GATE_LIMIT, append_group};
 use std::alloc::{AllocError, Global};
 
 /// The bytes that stand in a frame before the records of its one growth.
-const HEAD_LEN: u64 = 14;
-
-/// The bytes of them that belong to the payload.
-const GROWTH_HEAD_LEN: u64 = 8;
-
-/// Gates stand below this place.
-const GATE_LIMIT: u64 = 1 << 48;
+const HEAD_LEN: u64 = (FRAME_HEAD_LEN + GROWTH_HEAD_LEN) as u64;
 
 /// Why so many records can't be appended, whatever memory there is.
 fn refusal<R: Record>(stat: &CvecStat, records: u64, room: u64) -> Option<Status>
@@ -45,7 +39,7 @@ fn refusal<R: Record>(stat: &CvecStat, records: u64, room: u64) -> Option<Status
         return Some(Status::OutOfRange);
     }
     let bytes = records * width;
-    if GROWTH_HEAD_LEN + bytes > format.payload_limit() as u64 {
+    if GROWTH_HEAD_LEN as u64 + bytes > format.payload_limit() as u64 {
         return Some(Status::TooLarge);
     }
     if stat.gate >= GATE_LIMIT || stat.gate + HEAD_LEN + bytes >= GATE_LIMIT {

@@ -13,34 +13,7 @@ use crate::records::{CvecFlagged, CvecPair};
 use crate::stat::CvecStat;
 use crate::status::Status;
 use record_core::{Record, width_of};
-use segment_core::{CLOSED_GATE, Format, OPEN_GATE};
-
-/// The bytes of an empty file.
-const EMPTY_LEN: usize = 12;
-
-/// The place of the first gate behind the header.
-const FIRST_GATE: u64 = 11;
-
-/// An empty file: its header, and a closed gate.
-fn empty_file(format: Format, width: u16) -> [u8; EMPTY_LEN]
-    ensures { result ≡ header (record { format = format; width = width }) ++ 0 ∷ [] }
-{
-    let [low, high] = width.to_le_bytes();
-    [
-        OPEN_GATE,
-        b'C',
-        b'V',
-        b'E',
-        b'C',
-        b'S',
-        b'E',
-        b'G',
-        format.version(),
-        low,
-        high,
-        CLOSED_GATE,
-    ]
-}
+use segment_core::{EMPTY_FILE_LEN, Format, HEADER_LEN, empty_file};
 
 /// Answers 0, and writes an empty file of this version over the front of `out`; `stat` is what is told of it. Else it
 /// answers which test fails first, and nothing changes.
@@ -53,17 +26,17 @@ fn empty<R: Record>(version: u8, out: &mut [u8], stat: &mut CvecStat) -> u32
     let Some(format) = Format::from_version(version) else {
         return Status::Version.code();
     };
-    if out.len() < EMPTY_LEN {
+    if out.len() < EMPTY_FILE_LEN {
         return Status::NoRoom.code();
     }
     let width = width_of::<R>() as u16;
-    out[..EMPTY_LEN].copy_from_slice(&empty_file(format, width));
+    out[..EMPTY_FILE_LEN].copy_from_slice(&empty_file(format, width));
     *stat = CvecStat {
         size: 0,
         frames: 0,
         changes: 0,
         folded: 0,
-        gate: FIRST_GATE,
+        gate: HEADER_LEN as u64,
         width,
         version,
     };

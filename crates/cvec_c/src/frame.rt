@@ -6,10 +6,7 @@ ghost use Rattle.segment_core.specs.Reading.{lengths_of};
 ghost use Rattle.cvec_c.specs.Frame.{IsFrameTold, IsNoFrame};
 
 use crate::status::Status;
-use segment_core::{FrameKind, FrameReader};
-
-/// The bytes of a frame before its payload.
-const HEAD_LEN: u64 = 6;
+use segment_core::{FRAME_HEAD_LEN, FrameKind, FrameReader};
 
 /// What a frame has, and where.
 #[repr(C)]
@@ -62,7 +59,7 @@ pub extern "C" fn cvec_frame_at(
     let Some(frame) = FrameReader::new(image, at, version, width) else {
         return Status::NoFrame.code();
     };
-    let next = at + HEAD_LEN + u64::from(frame.payload_len());
+    let next = at + FRAME_HEAD_LEN as u64 + u64::from(frame.payload_len());
     *fields = CvecFrame {
         first_record: next - u64::from(frame.records()) * u64::from(width),
         next,

@@ -7,7 +7,8 @@ use Rattle.directory_core.specs.Chain.{total, joined, IsNext, IsChained, AreBloc
 use Rattle.directory_core.specs.Fault.{DirectoryKeepsLimit, IsPublishRefusal}
 use Rattle.directory_core.specs.Finding.{IsPlaceOf, IsRestAt, IsPieceAt}
 use Rattle.directory_core.specs.Identity.{Name, Identity}
-use Rattle.directory_core.specs.Limits.{growth_limit, record_limit}
+use Rattle.directory_core.specs.Limits.{growth_limit}
+use Rattle.record_core.specs.Limits.{record_limit}
 use Rattle.directory_core.specs.Spot.{places_before, IsSpot}
 
 -- ---- spots

@@ -1,10 +1,6 @@
 -- What bounds a directory.
-use Rattle.std.specs.Prelude.{ℕ, ◌^◌}
+use Rattle.std.specs.Prelude.{ℕ}
 
 -- the growths of one directory at most: the places of 17 buckets
 abbrev pub growth_limit : ℕ
 growth_limit = 1048568
-
--- the records of one directory at most
-abbrev pub record_limit : ℕ
-record_limit = 2 ^ 32

@@ -3,7 +3,8 @@ use Rattle.std.specs.Prelude.{◌≡◌, ℕ, ◌+◌, ◌<◌, ◌≤◌, List,
 use Rattle.once_cell.specs.declared.race.note.Note.{Note}
 use Rattle.block_core.specs.Length.{IsBlockLength}
 use Rattle.block_core.specs.Growth.{Growth}
-use Rattle.directory_core.specs.Limits.{growth_limit, record_limit}
+use Rattle.directory_core.specs.Limits.{growth_limit}
+use Rattle.record_core.specs.Limits.{record_limit}
 use Rattle.directory_core.specs.Spot.{IsSpot}
 use Rattle.directory_core.specs.Chain.{total, IsNext, IsChained, AreBlocks}
 

@@ -1,7 +1,8 @@
 //! The growths that all threads share.
 
 ghost use Rattle.std.specs.Prelude.{◌≡◌, ◌+◌, ◌<◌, ◌≤◌, ◌∷◌, [], ◌++◌, if◌then◌else◌, length, slice_get, Some, MatchOption, MatchResult, IfOk, IfErr, IfSome, IsTrue};
-ghost use Rattle.directory_core.specs.Limits.{growth_limit, record_limit};
+ghost use Rattle.directory_core.specs.Limits.{growth_limit};
+ghost use Rattle.record_core.specs.Limits.{record_limit};
 ghost use Rattle.directory_core.specs.Spot.{span};
 ghost use Rattle.directory_core.specs.Chain.{total, joined, IsNext, IsPrefix};
 ghost use Rattle.directory_core.specs.Fault.{IsPublishRefusal};
@@ -13,12 +14,9 @@ use crate::fault::DirFault;
 use crate::pass::Pass;
 use block_core::Entry;
 use once_cell::race::OnceBox;
-use record_core::Record;
+use record_core::{RECORD_LIMIT, Record};
 use std::alloc::{AllocError, Global};
 use std::marker::Model;
-
-/// The records of one directory at most.
-pub const RECORD_LIMIT: u64 = 4_294_967_296;
 
 /// The growths that many threads publish and find, each in a cell that is set once. The cells stand in buckets of
 /// 8, 16, 32, .. places; a bucket is made when its first growth is published, and set once too. Contracts see which
@@ -35,7 +33,8 @@ impl<R: Record> Model for Directory<R> {
     ghost use Rattle.std.specs.Prelude.{◌≤◌, ◌≡◌, length, map};
     ghost use Rattle.once_cell.specs.Once.{cell_name};
     ghost use Rattle.directory_core.specs.Identity.{Identity};
-    ghost use Rattle.directory_core.specs.Limits.{growth_limit, record_limit};
+    ghost use Rattle.directory_core.specs.Limits.{growth_limit};
+    ghost use Rattle.record_core.specs.Limits.{record_limit};
 
     ghost Value = { Identity };
 

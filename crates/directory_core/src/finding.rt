@@ -1,7 +1,7 @@
 //! A row of starts is searched for the last one at or before a position.
 
 ghost use Rattle.std.specs.Prelude.{◌≡◌, ◌+◌, ◌<◌, ◌≤◌, IsTrue, length, slice_index};
-ghost use Rattle.directory_core.specs.Limits.{record_limit};
+ghost use Rattle.record_core.specs.Limits.{record_limit};
 ghost use Rattle.directory_core.specs.Finding.{IsBetween};
 
 /// How far round the guess it is looked first.

@@ -17,7 +17,7 @@ mod finding;
 mod pass;
 
 pub use address::{GROWTH_LIMIT, spot};
-pub use directory::{Directory, RECORD_LIMIT};
+pub use directory::Directory;
 pub use fault::DirFault;
 pub use finding::{last_start, last_start_near};
 pub use pass::Pass;

@@ -1,7 +1,8 @@
 //! What one thread knows of a directory.
 
 ghost use Rattle.std.specs.Prelude.{[], vec_capacity, ◌≡◌, ◌+◌, ◌<◌, ◌≤◌, ◌++◌, length, take, slice_get, slice_index, slice_index_or, option_to_list, Some, None, MatchOption, IfSome};
-ghost use Rattle.directory_core.specs.Limits.{growth_limit, record_limit};
+ghost use Rattle.directory_core.specs.Limits.{growth_limit};
+ghost use Rattle.record_core.specs.Limits.{record_limit};
 ghost use Rattle.directory_core.specs.Chain.{total, IsChained, AreBlocks, Agree, Meets};
 ghost use Rattle.directory_core.specs.Finding.{IsPlaceOf};
 ghost use Rattle.directory_core.specs.Notes.{cells_of, IsFiled, StandsIn, Follows};

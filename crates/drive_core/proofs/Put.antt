@@ -6,13 +6,12 @@ use Rattle.std.proofs.lemmas.List.Sums.{sum_by-cons}
 use Rattle.std.proofs.lemmas.List.Concat.{flat_map-append}
 use Rattle.std.proofs.Math.Seq.{take-length}
 use Rattle.record_core.specs.Bytes.{Encoding}
-use Rattle.record_core.specs.Limits.{payload_limit}
+use Rattle.record_core.specs.Limits.{payload_limit, record_limit}
 use Rattle.disk_core.specs.State.{State}
 use Rattle.segment_core.specs.Command.{Grow, content}
 use Rattle.block_core.specs.Growth as block
 use Rattle.block_core.specs.Length.{IsBlockLength}
 use Rattle.directory_core.specs.Chain.{IsPrefix, total, joined}
-use Rattle.directory_core.specs.Limits.{record_limit}
 use Rattle.directory_core.proofs.Chains.{length-joined}
 use Rattle.book_core.specs.declared.seat.Receipt.{Receipt}
 use Rattle.book_core.specs.declared.fault.GrowFault.{GrowFault}

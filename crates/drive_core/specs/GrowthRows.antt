@@ -1,12 +1,11 @@
 -- The rows of the growth phase.
 use Rattle.std.specs.Prelude.{◌≡◌, ℕ, ◌+◌, ◌-◌, ◌*◌, ◌≤◌, true, ◌==◌, nat_lt, nat_le, List, [], ◌∷◌, ◌++◌, length, Option, Some, None, slice_index, slice_set}
 use Rattle.record_core.specs.Bytes.{Encoding}
-use Rattle.record_core.specs.Limits.{payload_limit}
+use Rattle.record_core.specs.Limits.{payload_limit, record_limit}
 use Rattle.segment_core.specs.Command.{Grow}
 use Rattle.segment_core.specs.Written.{group_frame, payload_len}
 use Rattle.pen_core.specs.Refusals.{ready_lines, is_full}
 use Rattle.pen_core.specs.declared.step.Step.TheVariants.{Body}
-use Rattle.directory_core.specs.Limits.{record_limit}
 use Rattle.book_core.specs.declared.fault.GrowFault.TheVariants as grow
 use Rattle.book_core.specs.declared.mark.MarkState.TheVariants.{Running}
 use Rattle.pen_core.specs.declared.fault.PenFault.TheVariants as pen_fault

@@ -9,7 +9,7 @@ ghost use Rattle.files_core.specs.declared.fault.FileFault.TheVariants as faults
 ghost use Rattle.files_core.specs.GrowthLines.{AllFit, AreGrowthLines, IsFirstTooLarge, IsGrowthLine, IsGrowthLineOf, IsLinesRefusal};
 
 use crate::fault::FileFault;
-use record_core::{PAYLOAD_LIMIT, width_of};
+use record_core::{GROWTH_HEAD_LEN, PAYLOAD_LIMIT, width_of};
 use segment_core::Growths;
 use std::alloc::Global;
 use std::io::Read;
@@ -46,9 +46,6 @@ fn read_growth<R: TextRecord>(line: &[u8], growths: &mut Growths<R>) -> Result<(
     }
     growths.end().map_err(|_| LineFault::Memory)
 }
-
-/// The bytes that stand in a frame's payload before the records of its one growth.
-const GROWTH_HEAD_LEN: usize = 8;
 
 /// How many records a growth has at most.
 fn greatest_growth<R: TextRecord>() -> usize

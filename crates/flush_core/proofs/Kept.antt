@@ -15,7 +15,7 @@ use Rattle.pen_core.specs.Pen.{MayOpen, vector_after, vector_with}
 use Rattle.pen_core.proofs.Typed.{vector_after-none, MayOpen_typed}
 use Rattle.directory_core.specs.Chain.{total, joined}
 use Rattle.directory_core.specs.Known.{Known}
-use Rattle.directory_core.specs.Limits.{record_limit}
+use Rattle.record_core.specs.Limits.{record_limit}
 use Rattle.book_core.specs.Marks.{MarkEnd, nothing}
 use Rattle.flush_core.specs.Flusher.{FlusherOf, IsFlusher, OpensToJob, list_to, read_as, tally_with}
 

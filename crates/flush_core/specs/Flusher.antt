@@ -10,7 +10,7 @@ use Rattle.pen_core.specs.Typed.{OpensTo}
 use Rattle.directory_core.specs.Chain.{total, joined}
 use Rattle.directory_core.specs.Chain as chains
 use Rattle.directory_core.specs.Known.{Known}
-use Rattle.directory_core.specs.Limits.{record_limit}
+use Rattle.record_core.specs.Limits.{record_limit}
 use Rattle.book_core.specs.Marks.{MarkEnd}
 use Rattle.book_core.specs.Lists.{Phase, opening_of}
 

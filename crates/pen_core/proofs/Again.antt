@@ -42,20 +42,27 @@ or_later a b y at = record { value = y; is = ap (λ o. option_or o b) at }
 
 -- where the later says less, what it says is said
 last_from_more : (says more : ℕ → Tally → Frame → Option ℕ) (shape : Shape) (p : ℕ) (tally : Tally) (frames : List Frame) (x : ℕ)
-    → ((q : ℕ) (t : Tally) (frame : Frame) (y : ℕ) → says q t frame ≡ Some y → more q t frame ≡ Some y) → last_from says shape.format p tally frames ≡ Some x → Said ℕ (last_from more shape.format p tally frames)
+    → ((q : ℕ) (t : Tally) (frame : Frame) (y : ℕ) → says q t frame ≡ Some y → more q t frame ≡ Some y)
+    → last_from says shape.format p tally frames ≡ Some x → Said ℕ (last_from more shape.format p tally frames)
 last_from_more says more shape p tally [] x all is = absurd cc
 last_from_more says more shape p tally (frame ∷ frames) x all is =
     let q : ℕ = p + length (frame_text shape.format frame) in
     let t : Tally = after tally frame in
     elim (option_or_cases (last_from says shape.format q t frames) (says p tally frame) x is) [
-      | inl later ↦ (let s = last_from_more says more shape q t frames x all later in or_later (last_from more shape.format q t frames) (more p tally frame) s.value s.is)
+      | inl
+          later ↦ (let s = last_from_more says more shape q t frames x all later in
+            or_later (last_from more shape.format q t frames) (more p tally frame) s.value s.is)
       | inr here ↦ or_now (last_from more shape.format q t frames) (more p tally frame) x (all p tally frame x here.1)
     ]
 
-pub folded_covered : (shape : Shape) (count : ℕ) (frames : List Frame) (j : ℕ) → (is : IsBeingFolded shape count frames j) → (told : ℕ) × (change_of shape (tally_of frames).folded frames is.position ≡ Some told)
+pub folded_covered : (shape : Shape) (count : ℕ) (frames : List Frame) (j : ℕ) → (is : IsBeingFolded shape count frames j)
+    → (told : ℕ) × (change_of shape (tally_of frames).folded frames is.position ≡ Some told)
 folded_covered shape count frames j is =
     let folded : ℕ = (tally_of frames).folded in
-    let said = last_from_more (early_in shape folded count is.position) (change_in shape folded is.position) shape (length (header shape)) nothing frames is.told (λ q t frame y at. early_said (nat_lt t.changes count) (change_in shape folded is.position q t frame) y at) is.covered in
+    let said =
+    last_from_more (early_in shape folded count is.position) (change_in shape folded is.position) shape
+    (length (header shape)) nothing frames is.told
+    (λ q t frame y at. early_said (nat_lt t.changes count) (change_in shape folded is.position q t frame) y at) is.covered in
     (said.value, said.is)
 
 pub folded_loose : (shape : Shape) (count : ℕ) (frames : List Frame) (j : ℕ) → IsBeingFolded shape count frames j → IsLoose shape frames j
@@ -66,8 +73,10 @@ folded_loose shape count frames j is =
 -- ---- the same file
 
 -- The same frames but for home bytes, and the same vector, in bytes that are the same but for loose ones.
-pub Holds-again : (shape : Shape) (frames : List Frame) (vector : List (List ℕ)) (base image : List ℕ) → Holds shape frames vector base → gate_of shape frames ≤ length image
-    → ((j : ℕ) → j < gate_of shape frames → (IsLoose shape frames j → ⊥) → get_or image j 0 ≡ get_or base j 0) → Holds shape frames vector image
+pub Holds-again : (shape : Shape) (frames : List Frame) (vector : List (List ℕ)) (base image : List ℕ)
+    → Holds shape frames vector base → gate_of shape frames ≤ length image
+    → ((j : ℕ) → j < gate_of shape frames → (IsLoose shape frames j → ⊥) → get_or image j 0 ≡ get_or base j 0)
+    → Holds shape frames vector image
 Holds-again shape frames vector base image has long same =
     let gate = gate_behind shape has.found frames has.alike in
     let again = IsVectorOf_loose shape.format (raw shape.width) base image has.found vector has.begins (record {
@@ -77,7 +86,9 @@ Holds-again shape frames vector base image has long same =
     record { found = again.others; alike = again.alike ∙ has.alike; begins = again.begins; read = again.read }
 
 -- and where the gate behind them is closed, such an image opens so
-pub Holds-opens : (shape : Shape) (frames : List Frame) (vector : List (List ℕ)) (image : List ℕ) → Holds shape frames vector image → gate_of shape frames < length image → get_or image (gate_of shape frames) 0 ≢ 1 → Opens shape frames vector image
+pub Holds-opens : (shape : Shape) (frames : List Frame) (vector : List (List ℕ)) (image : List ℕ)
+    → Holds shape frames vector image → gate_of shape frames < length image → get_or image (gate_of shape frames) 0 ≢ 1
+    → Opens shape frames vector image
 Holds-opens shape frames vector image has long closed =
     let gate = gate_behind shape has.found frames has.alike in
     let b = has.begins.begins in
@@ -89,7 +100,9 @@ Holds-opens shape frames vector image has long closed =
       opened = record {
         framed = record {
           legal = has.begins.legal;
-          closed = (get_or image p 0, drop (p + 1) image, λ opened. closed (ap (λ n. get_or image n 0) (sym gate) ∙ opened), b.1 ∙ ap (λ (bs : List ℕ). text shape has.found ++ bs) (sym rest ∙ drop_more image p 0 (omega arith)));
+          closed =
+              (get_or image p 0, drop (p + 1) image, λ opened. closed (ap (λ n. get_or image n 0) (sym gate) ∙ opened),
+                  b.1 ∙ ap (λ (bs : List ℕ). text shape has.found ++ bs) (sym rest ∙ drop_more image p 0 (omega arith)));
         };
         read = has.read;
       };

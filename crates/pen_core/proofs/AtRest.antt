@@ -5,6 +5,8 @@ use Rattle.segment_core.specs.declared.format.Shape.{Shape}
 use Rattle.segment_core.specs.declared.found.Homes.{Homes}
 use Rattle.segment_core.specs.declared.tally.Tally.{Tally}
 use Rattle.pen_core.specs.declared.fold.Fold.{Fold}
+use Rattle.pen_core.specs.declared.pen.Pen.TheInside.{Inside}
+use Rattle.pen_core.specs.Fields.{count_open, IsSound}
 use Rattle.pen_core.specs.declared.stage.FoldStage.{FoldStage}
 use Rattle.pen_core.specs.declared.stage.FoldStage.TheVariants as stages
 use Rattle.pen_core.specs.declared.step.Step.{Step}
@@ -16,9 +18,12 @@ use Rattle.pen_core.specs.Pen.{open_count}
 use Rattle.pen_core.proofs.InHand.{fold_same, no_fold_at, no_fold_seen, pen_unfolded}
 use Rattle.pen_core.proofs.Listed.{listed_same}
 
-pub pen_same : (count : ℕ) (keeps : Type 0) (states : List State) (shape : Shape) (gate : ℕ) (tally next : Tally) (bytes bytes' : List ℕ) (o : Option Step) (broken : Bool) → IsPen count keeps states shape gate tally next bytes o broken → o ≡ None → IsPen count keeps states shape gate tally next bytes' o broken
-pen_same count keeps states shape gate tally next bytes bytes' o broken pen idle =
-    let rests : IsPen count keeps states shape gate tally next bytes None broken = subst (λ s. IsPen count keeps states shape gate tally next bytes s broken) idle pen in
+pub pen_same : {count : ℕ} {keeps : Type 0} {states : List State} {shape : Shape} {gate : ℕ} {tally next : Tally} {bytes : List ℕ}
+    {o : Option Step} {broken : Bool} → IsPen count keeps states shape gate tally next bytes o broken → o ≡ None
+    → (bytes' : List ℕ) → IsPen count keeps states shape gate tally next bytes' o broken
+pen_same {count} {keeps} {states} {shape} {gate} {tally} {next} {bytes} {o} {broken} pen idle bytes' =
+    let rests : IsPen count keeps states shape gate tally next bytes None broken =
+    subst (λ s. IsPen count keeps states shape gate tally next bytes s broken) idle pen in
     let made : IsPen count keeps states shape gate tally next bytes' None broken = record {
       wide = rests.wide;
       gate_fits = rests.gate_fits;
@@ -26,19 +31,39 @@ pen_same count keeps states shape gate tally next bytes bytes' o broken pen idle
       changes_fit = rests.changes_fit;
       folded_counted = rests.folded_counted;
       job = tt;
-      knows = λ model. let k = rests.knows model in record { gate_is = k.gate_is; tally_is = k.tally_is; file = k.file; images_open = k.images_open; gate_pending = k.gate_pending; stands = k.stands };
+      knows = λ model. (
+          let k = rests.knows model in
+          record {
+            gate_is = k.gate_is;
+            tally_is = k.tally_is;
+            file = k.file;
+            images_open = k.images_open;
+            gate_pending = k.gate_pending;
+            stands = k.stands;
+          });
     } in
     subst (λ s. IsPen count keeps states shape gate tally next bytes' s broken) (sym idle) made
 
 -- the invariant
-pub at_rest : (keeps : Type 0) (states : List State) (shape : Shape) (gate : ℕ) (tally next : Tally) (bytes bytes' : List ℕ) (o : Option Step) (broken : Bool) (homes homes' : Homes) (live : ℕ) (fold : Fold)
-    → IsPen (open_count fold.stage fold.count) keeps states shape gate tally next bytes o broken → IsListed keeps states shape gate tally bytes o homes live fold → IsFold keeps states shape gate tally bytes o broken fold → o ≡ None → homes'.homes.items ≡ homes.homes.items → homes'.live.items ≡ homes.live.items
-    → IsPen (open_count fold.stage fold.count) keeps states shape gate tally next bytes' o broken × IsListed keeps states shape gate tally bytes' o homes' live fold × IsFold keeps states shape gate tally bytes' o broken fold
-at_rest keeps states shape gate tally next bytes bytes' o broken homes homes' live fold pen listed is_fold idle homes_same live_same = (
-  pen_same (open_count fold.stage fold.count) keeps states shape gate tally next bytes bytes' o broken pen idle,
-  listed_same keeps states shape gate tally bytes o homes live listed idle bytes' homes' homes_same live_same,
-  fold_same keeps states shape gate tally bytes bytes' o broken fold is_fold idle,
+pub at_rest : {D : Type 0} {keeps : D → Type 0} {states : D → List State} {pen : Inside D} → IsSound keeps states pen
+    → (bytes' : List ℕ) (homes' : Homes) → pen.step ≡ None → homes'.homes.items ≡ pen.homes.homes.items
+    → homes'.live.items ≡ pen.homes.live.items
+    → IsPen (count_open pen) (keeps pen.disk) (states pen.disk) pen.shape pen.gate pen.tally pen.next bytes' pen.step pen.broken
+    × IsListed (keeps pen.disk) (states pen.disk) pen.shape pen.gate pen.tally bytes' pen.step homes' pen.live pen.fold
+    × IsFold (keeps pen.disk) (states pen.disk) pen.shape pen.gate pen.tally bytes' pen.step pen.broken pen.fold
+at_rest sound bytes' homes' idle homes_same live_same = (
+  pen_same sound.job idle bytes',
+  listed_same sound.lists idle bytes' homes' homes_same live_same,
+  fold_same sound.fold idle bytes',
 )
+
+-- all parts of it
+pub sound : {D : Type 0} {keeps : D → Type 0} {states : D → List State} {pen : Inside D}
+    → IsPen (count_open pen) (keeps pen.disk) (states pen.disk) pen.shape pen.gate pen.tally pen.next pen.bytes.items pen.step pen.broken
+    × IsListed (keeps pen.disk) (states pen.disk) pen.shape pen.gate pen.tally pen.bytes.items pen.step pen.homes pen.live pen.fold
+    × IsFold (keeps pen.disk) (states pen.disk) pen.shape pen.gate pen.tally pen.bytes.items pen.step pen.broken pen.fold
+    → IsSound keeps states pen
+sound parts = record { job = parts.0; lists = parts.1; fold = parts.2 }
 
 -- ---- no fold
 
@@ -60,11 +85,17 @@ module _ (fold fold' : Fold) (none : fold_of fold ≡ None) (same : fold'.stage 
   unfolded_seen = no_fold_seen fold' none' ∙ sym none
 
   -- the invariant
-  pub unfolded_rest : (keeps : Type 0) (states : List State) (shape : Shape) (gate : ℕ) (tally next : Tally) (bytes : List ℕ) (o : Option Step) (broken : Bool) (homes : Homes) (live : ℕ)
-      → IsPen (open_count fold.stage fold.count) keeps states shape gate tally next bytes o broken → IsListed keeps states shape gate tally bytes o homes live fold
-      → IsPen (open_count fold'.stage fold'.count) keeps states shape gate tally next bytes o broken × IsListed keeps states shape gate tally bytes o homes live fold' × IsFold keeps states shape gate tally bytes o broken fold'
+  pub unfolded_rest : (keeps : Type 0) (states : List State) (shape : Shape) (gate : ℕ) (tally next : Tally) (bytes : List ℕ)
+      (o : Option Step) (broken : Bool) (homes : Homes) (live : ℕ)
+      → IsPen (open_count fold.stage fold.count) keeps states shape gate tally next bytes o broken
+      → IsListed keeps states shape gate tally bytes o homes live fold
+      → IsPen (open_count fold'.stage fold'.count) keeps states shape gate tally next bytes o broken
+      × IsListed keeps states shape gate tally bytes o homes live fold'
+      × IsFold keeps states shape gate tally bytes o broken fold'
   unfolded_rest keeps states shape gate tally next bytes o broken homes live pen listed = (
-    pen_unfolded keeps states shape gate tally next bytes o broken fold' none' (subst (λ stage. IsPen (open_count stage fold.count) keeps states shape gate tally next bytes o broken) (unfolded fold none) pen),
+    pen_unfolded keeps states shape gate tally next bytes o broken fold' none'
+        (subst (λ stage. IsPen (open_count stage fold.count) keeps states shape gate tally next bytes o broken)
+            (unfolded fold none) pen),
     record {
       frames = listed.frames;
       legal = listed.legal;

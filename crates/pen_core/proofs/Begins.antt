@@ -23,11 +23,13 @@ pub no_job_same : (shape : Shape) (bytes bytes' : List ℕ) (o : Option Step) �
 no_job_same shape bytes bytes' o idle = subst (λ s. job_of shape bytes' s ≡ job_of shape bytes s) (sym idle) refl
 
 -- a frame that doesn't fill the file, nor does a fold's behind it
-pub all_fits : (full : Bool) (gate payload fold : ℕ) → full ≡ nat_le (2 ^ 48) (gate + (6 + payload) + fold) → full ≡ false → gate + (6 + payload) + fold < 2 ^ 48
+pub all_fits : (full : Bool) (gate payload fold : ℕ) → full ≡ nat_le (2 ^ 48) (gate + (6 + payload) + fold) → full ≡ false
+    → gate + (6 + payload) + fold < 2 ^ 48
 all_fits full gate payload fold is no_room = leb-false (2 ^ 48) (gate + (6 + payload) + fold) (sym is ∙ no_room)
 
 -- a frame that doesn't fill the file
-pub not_full : (full : Bool) (gate payload fold : ℕ) → full ≡ nat_le (2 ^ 48) (gate + (6 + payload) + fold) → full ≡ false → gate + (6 + payload) < 2 ^ 48
+pub not_full : (full : Bool) (gate payload fold : ℕ) → full ≡ nat_le (2 ^ 48) (gate + (6 + payload) + fold) → full ≡ false
+    → gate + (6 + payload) < 2 ^ 48
 not_full full gate payload fold is no_room = let below = leb-false (2 ^ 48) (gate + (6 + payload) + fold) (sym is ∙ no_room) in omega arith
 
 some_limit : (format : Format) → 8 ≤ limit_of format
@@ -40,4 +42,11 @@ pub shrink_framed : (shape : Shape) (n : ℕ) → 1 ≤ shape.width → n < 2 ^ 
 shrink_framed shape n wide fits = record { wide = omega arith; small = some_limit shape.format; layout = fits }
 
 pub shrink_follows : (tally : Tally) (n : ℕ) → n ≤ tally.size → tally.changes ≤ tally.folded → MayFollow tally (Shrink n)
-shrink_follows tally n inside folded = record { ordered = refl; inside = le-ltb tally.size n inside; folded = le-ltb tally.folded tally.changes folded; counted = refl; short = refl }
+shrink_follows tally n inside folded =
+    record {
+      ordered = refl;
+      inside = le-ltb tally.size n inside;
+      folded = le-ltb tally.folded tally.changes folded;
+      counted = refl;
+      short = refl;
+    }

@@ -42,7 +42,8 @@ use Rattle.pen_core.proofs.Pens.{gate_with, knows_at}
 never_early : (shape : Shape) (folded i p : ℕ) (tally : Tally) (frame : Frame) → early_in shape folded 0 i p tally frame ≡ None
 never_early shape folded i p tally frame = ap (λ b. cond b (change_in shape folded i p tally frame) None) (le-ltb tally.changes 0 (omega arith))
 
-never_said : (says : ℕ → Tally → Frame → Option ℕ) (shape : Shape) (p : ℕ) (tally : Tally) (frames : List Frame) → ((q : ℕ) (t : Tally) (f : Frame) → says q t f ≡ None) → last_from says shape.format p tally frames ≡ None
+never_said : (says : ℕ → Tally → Frame → Option ℕ) (shape : Shape) (p : ℕ) (tally : Tally) (frames : List Frame)
+    → ((q : ℕ) (t : Tally) (f : Frame) → says q t f ≡ None) → last_from says shape.format p tally frames ≡ None
 never_said says shape p tally [] never = refl
 never_said says shape p tally (f ∷ frames) never =
     ap (λ o. option_or o (says p tally f)) (never_said says shape (p + length (frame_text shape.format f)) (after tally f) frames never) ∙ never p tally f
@@ -50,18 +51,23 @@ never_said says shape p tally (f ∷ frames) never =
 -- where no fold is in hand nothing is being folded
 pub nothing_folded : (shape : Shape) (frames : List Frame) (j : ℕ) → IsBeingFolded shape 0 frames j → ⊥
 nothing_folded shape frames j is =
-    let none = never_said (early_in shape (tally_of frames).folded 0 is.position) shape (length (header shape)) nothing frames (λ q t f. never_early shape (tally_of frames).folded is.position q t f) in
+    let none =
+        never_said (early_in shape (tally_of frames).folded 0 is.position) shape (length (header shape)) nothing frames
+          (λ q t f. never_early shape (tally_of frames).folded is.position q t f) in
     let some = is.covered in
     absurd cc
 
 -- frames that bytes hold keep the rules, whatever their home bytes
-pub held_legal : (shape : Shape) (frames : List Frame) (vector : List (List ℕ)) (bytes : List ℕ) → Holds shape frames vector bytes → AreLegal shape frames
+pub held_legal : (shape : Shape) (frames : List Frame) (vector : List (List ℕ)) (bytes : List ℕ)
+    → Holds shape frames vector bytes → AreLegal shape frames
 held_legal shape frames vector bytes has = same_legal has.found frames (sym (blank_again has.found frames has.alike)) shape has.begins.legal
 
 -- ---- the body
 
 -- with the body behind the gate, and the gate open, the bytes are those of one frame more
-opened_text : (front body r : List ℕ) (gate : ℕ) → length front ≡ gate → 0 < length r → overlay (overlay (front ++ r) (gate + 1) body) gate (1 ∷ []) ≡ front ++ ((1 ∷ body) ++ drop (gate + 1 + length body) (front ++ r))
+opened_text : (front body r : List ℕ) (gate : ℕ) → length front ≡ gate → 0 < length r
+    → overlay (overlay (front ++ r) (gate + 1) body) gate
+      (1 ∷ []) ≡ front ++ ((1 ∷ body) ++ drop (gate + 1 + length body) (front ++ r))
 opened_text front body r gate is some =
     let seen : List ℕ = front ++ r in
     let size = length-append front r in
@@ -69,13 +75,17 @@ opened_text front body r gate is some =
     let behind : List ℕ = drop (gate + 1 + length body) seen in
     let long : length kept ≡ gate + 1 = length-take-le (gate + 1) seen (omega arith) in
     let start : take gate (kept ++ body ++ behind) ≡ front =
-    take-append-le gate (kept ++ body) behind (omega (arith, length-append kept body)) ∙ take-append-le gate kept body (omega arith) ∙ take-take gate (gate + 1) seen (omega arith) ∙ take_at front r gate is in
-    let rest : drop (gate + 1) (kept ++ body ++ behind) ≡ body ++ behind = ap (drop (gate + 1)) (append_assoc kept body behind) ∙ drop_at kept (body ++ behind) (gate + 1) long in
+    take-append-le gate (kept ++ body) behind (omega (arith, length-append kept body))
+        ∙ take-append-le gate kept body (omega arith) ∙ take-take gate (gate + 1) seen (omega arith)
+        ∙ take_at front r gate is in
+    let rest : drop (gate + 1) (kept ++ body ++ behind) ≡ body ++ behind =
+        ap (drop (gate + 1)) (append_assoc kept body behind) ∙ drop_at kept (body ++ behind) (gate + 1) long in
     ap (λ (bs : List ℕ). bs ++ 1 ∷ [] ++ drop (gate + 1) (kept ++ body ++ behind)) start
     ∙ ap (λ (bs : List ℕ). front ++ 1 ∷ [] ++ bs) rest
     ∙ append_assoc front (1 ∷ []) (body ++ behind)
 
-module _ (count : ℕ) (shape : Shape) (frames : List Frame) (vector : List (List ℕ)) (s : State) (f : Frame) (has : Holds shape frames vector s.seen) (there : gate_of shape frames < length s.seen) (whole : IsFrame shape f)
+module _ (count : ℕ) (shape : Shape) (frames : List Frame) (vector : List (List ℕ)) (s : State) (f : Frame)
+    (has : Holds shape frames vector s.seen) (there : gate_of shape frames < length s.seen) (whole : IsFrame shape f)
     (may : MayFollow (tally_of frames) f) (hold : (fold : ℕ) → f ≡ Fold fold → HomesHold shape.format (raw shape.width) s.seen frames fold vector) where
   abbrev gate : ℕ
   gate = gate_of shape frames
@@ -103,7 +113,9 @@ module _ (count : ℕ) (shape : Shape) (frames : List Frame) (vector : List (Lis
       let b = has.begins.begins in
       let g = gate_behind shape has.found frames has.alike in
       let size = ap length b.1 ∙ length-append (text shape has.found) b.0 in
-      let opened = ap (λ (bs : List ℕ). overlay (overlay bs (gate + 1) body) gate (1 ∷ [])) b.1 ∙ opened_text (text shape has.found) body b.0 gate g (omega arith) in
+      let opened =
+          ap (λ (bs : List ℕ). overlay (overlay bs (gate + 1) body) gate (1 ∷ [])) b.1
+            ∙ opened_text (text shape has.found) body b.0 gate g (omega arith) in
       opened ∙ ap (λ (bs : List ℕ). text shape has.found ++ bs) (append_assoc (frame_text shape.format f) (0 ∷ []) tail)
 
   -- the homes of the frames are as they were
@@ -115,8 +127,11 @@ module _ (count : ℕ) (shape : Shape) (frames : List Frame) (vector : List (Lis
       let long = ap length has.begins.begins.1 in
       let long' = ap length image_is ∙ length-append (text shape has.found) (frame_text shape.format f ++ 0 ∷ tail) in
       take_same shape.width place image s.seen (omega (arith, b.to)) (omega (arith, b.to)) (λ j from before.
-      ap (λ (bs : List ℕ). get_or bs j 0) image_is ∙ get_or_append_left (text shape has.found) (frame_text shape.format f ++ 0 ∷ tail) 0 j (omega (arith, b.to))
-      ∙ sym (ap (λ (bs : List ℕ). get_or bs j 0) has.begins.begins.1 ∙ get_or_append_left (text shape has.found) has.begins.begins.0 0 j (omega (arith, b.to))))
+      ap (λ (bs : List ℕ). get_or bs j 0) image_is
+          ∙ get_or_append_left (text shape has.found) (frame_text shape.format f ++ 0 ∷ tail) 0 j (omega (arith, b.to))
+      ∙ sym
+        (ap (λ (bs : List ℕ). get_or bs j 0) has.begins.begins.1
+              ∙ get_or_append_left (text shape has.found) has.begins.begins.0 0 j (omega (arith, b.to))))
 
   hold_there : (fold : ℕ) → f ≡ Fold fold → HomesHold shape.format (raw shape.width) image has.found fold vector
   hold_there fold is =
@@ -126,7 +141,9 @@ module _ (count : ℕ) (shape : Shape) (frames : List Frame) (vector : List (Lis
   body_holds : Holds shape (frames_with frames f) (after_frame shape.width vector f) image
   body_holds =
       let begins = Begins_push shape image has.found f (0 ∷ tail) has.begins.legal whole may' image_is in
-      let before = IsVectorOf_begins shape.format (raw shape.width) s.seen image has.found vector has.begins (BeginsImage_before shape image has.found f begins) has.read in
+      let before =
+          IsVectorOf_begins shape.format (raw shape.width) s.seen image has.found vector has.begins
+            (BeginsImage_before shape image has.found f begins) has.read in
       record {
         found = has.found ++ f ∷ [];
         alike = map_push blanked has.found f ∙ ap (λ (fs : List Frame). fs ++ blanked f ∷ []) has.alike;
@@ -134,7 +151,8 @@ module _ (count : ℕ) (shape : Shape) (frames : List Frame) (vector : List (Lis
         read = IsVectorOf_frame shape.format shape.width image has.found vector f before begins hold_there;
       }
 
-  pub body_is : PendingIsFolded shape count frames (frames_with frames f) s → IsBodyOf shape count gate frames (frames_with frames f) (after_frame shape.width vector f) body s
+  pub body_is : PendingIsFolded shape count frames (frames_with frames f) s
+      → IsBodyOf shape count gate frames (frames_with frames f) (after_frame shape.width vector f) body s
   body_is pending =
       let front : List ℕ = (kind_of f ∷ to_le_bytes w32 (length (payload_of shape.format f))) ++ payload_of shape.format f in
       let size = length-append front (0 ∷ []) in
@@ -150,8 +168,12 @@ module _ (count : ℕ) (shape : Shape) (frames : List Frame) (vector : List (Lis
 
 -- ---- on a pen's fields
 
-module _ {count : ℕ} (keeps : Type 0) (states : List State) (shape : Shape) (gate : ℕ) (tally next next' : Tally) (bytes bytes' : List ℕ) (o : Option Step) (broken : Bool) (f : Frame) (pen : IsPen count keeps states shape gate tally next bytes o broken)
-    (whole : broken ≡ false) (idle : o ≡ None) (reads : keeps → IsImage (now states) (bytes_of states)) (spelled : bytes' ≡ frame_text shape.format f ++ 0 ∷ []) (framed : IsFrame shape f) (may : MayFollow tally f) (counted : next' ≡ after tally f)
+module _ {count : ℕ} (keeps : Type 0) (states : List State) (shape : Shape) (gate : ℕ) (tally next next' : Tally)
+    (bytes bytes' : List ℕ) (o : Option Step) (broken : Bool) (f : Frame)
+    (pen : IsPen count keeps states shape gate tally next bytes o broken)
+    (whole : broken ≡ false) (idle : o ≡ None) (reads : keeps → IsImage (now states) (bytes_of states))
+    (spelled : bytes' ≡ frame_text shape.format f ++ 0 ∷ []) (framed : IsFrame shape f) (may : MayFollow tally f)
+    (counted : next' ≡ after tally f)
     (no_fold : (fold : ℕ) → f ≡ Fold fold → ⊥) (fits : gate + length (frame_text shape.format f) < 2 ^ 48) where
   abbrev frames : List Frame
   frames = blanked_before shape gate (bytes_of states)
@@ -165,16 +187,27 @@ module _ {count : ℕ} (keeps : Type 0) (states : List State) (shape : Shape) (g
   knows : keeps → Knows count shape gate tally frames vector bytes None broken (now states)
   knows model = subst (λ step. Knows count shape gate tally frames vector bytes step broken (now states)) idle (pen.knows model)
 
-  at_body : (model : keeps) → IsAtStep shape count gate frames (frames_with frames (frame_at shape bytes')) (after_frame shape.width vector (frame_at shape bytes')) bytes' Body (now states)
+  at_body : (model : keeps)
+      → IsAtStep shape count gate frames (frames_with frames (frame_at shape bytes'))
+        (after_frame shape.width vector (frame_at shape bytes')) bytes' Body (now states)
   at_body model =
       let k = knows model in
       let s = now states in
       let there = reads model in
-      let made = body_is count shape frames vector s f k.file.holds (omega (arith, k.file.gate_synced, there.no_shorter)) framed (subst (λ t. MayFollow t f) k.tally_is may) (λ fold is. absurd (no_fold fold is))
-      (λ j lt pending. IsBeingFolded_push shape count frames f j (held_legal shape frames vector (now states).seen k.file.holds) no_fold (k.file.pending_is_folded j lt pending)) in
+      let made =
+      body_is count shape frames vector s f k.file.holds (omega (arith, k.file.gate_synced, there.no_shorter)) framed
+      (subst (λ t. MayFollow t f) k.tally_is may) (λ fold is. absurd (no_fold fold is))
+      (λ j lt pending.
+        IsBeingFolded_push shape count frames f j (held_legal shape frames vector (now states).seen k.file.holds) no_fold
+            (k.file.pending_is_folded j lt pending)) in
       subst (λ g. IsAtStep shape count gate frames (frames_with frames g) (after_frame shape.width vector g) bytes' Body s) (sym begun_frame)
       (subst (λ bs. IsAtStep shape count gate frames (frames_with frames f) (after_frame shape.width vector f) bs Body s) (sym spelled)
-      (k.stands whole, subst (λ g. IsBodyOf shape count g frames (frames_with frames f) (after_frame shape.width vector f) (body_of (frame_text shape.format f ++ 0 ∷ [])) s) (sym k.gate_is) made))
+      (k.stands whole,
+          subst
+                (λ g.
+                    IsBodyOf shape count g frames (frames_with frames f) (after_frame shape.width vector f)
+                        (body_of (frame_text shape.format f ++ 0 ∷ [])) s)
+                (sym k.gate_is) made))
 
   pub begun : IsPen count keeps states shape gate tally next' bytes' (Some Body) broken
   begun = record {
@@ -190,5 +223,8 @@ module _ {count : ℕ} (keeps : Type 0) (states : List State) (shape : Shape) (g
       next_is = subst (λ g. next' ≡ after tally g) (sym begun_frame) counted;
       fits = let all = ap length spelled ∙ length-append (frame_text shape.format f) (0 ∷ []) in omega arith;
     };
-    knows = λ model. let k = knows model in knows_at shape gate tally frames vector bytes' (now states) k.gate_is k.tally_is Body broken k.file (at_body model) (reads model);
+    knows =
+        λ model. let k = knows model in
+        knows_at shape gate tally frames vector bytes' (now states) k.gate_is k.tally_is Body broken k.file (at_body model)
+          (reads model);
   }

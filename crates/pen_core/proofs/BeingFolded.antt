@@ -29,20 +29,27 @@ same_folded tally (Change runs bytes) no_fold = refl
 same_folded tally (Shrink n) no_fold = refl
 same_folded tally (Fold count) no_fold = absurd (no_fold count refl)
 
-pub IsBeingFolded_push : (shape : Shape) (count : ℕ) (frames : List Frame) (f : Frame) (j : ℕ) → AreLegal shape frames → ((fold : ℕ) → f ≡ Fold fold → ⊥) → IsBeingFolded shape count frames j → IsBeingFolded shape count (frames_with frames f) j
+pub IsBeingFolded_push : (shape : Shape) (count : ℕ) (frames : List Frame) (f : Frame) (j : ℕ) → AreLegal shape frames
+    → ((fold : ℕ) → f ≡ Fold fold → ⊥) → IsBeingFolded shape count frames j
+    → IsBeingFolded shape count (frames_with frames f) j
 IsBeingFolded_push shape count frames f j legal no_fold is =
     let t : Tally = tally_of frames in
     let i : ℕ = is.position in
     let covered = folded_covered shape count frames j is in
     let inside : i < t.size = live_inside shape frames i covered.0 legal covered.1 in
-    let folded : (tally_of (frames_with frames f)).folded ≡ t.folded = ap (λ u. u.folded) (tally_from_push nothing frames (blanked f)) ∙ same_folded t f no_fold in
+    let folded : (tally_of (frames_with frames f)).folded ≡ t.folded =
+        ap (λ u. u.folded) (tally_from_push nothing frames (blanked f)) ∙ same_folded t f no_fold in
     let here : Option ℕ = early_in shape t.folded count i (length (text shape frames)) t (blanked f) in
     let again = told_again here is.told in
     record {
       position = i;
       place = is.place;
       told = again.turned;
-      home_is = home_push shape frames (blanked f) i ∙ ap (λ o. option_or o (home_of shape frames i)) (home_in_before shape.width i (length (text shape frames)) t (blanked f) inside) ∙ is.home_is;
+      home_is =
+          home_push shape frames (blanked f) i
+            ∙ ap (λ o. option_or o (home_of shape frames i))
+              (home_in_before shape.width i (length (text shape frames)) t (blanked f) inside)
+            ∙ is.home_is;
       covered =
           ap (λ n. last_from (early_in shape n count i) shape.format (length (header shape)) nothing (frames_with frames f)) folded
           ∙ last_push (early_in shape t.folded count i) shape frames (blanked f) ∙ ap (option_or here) is.covered ∙ again.is;

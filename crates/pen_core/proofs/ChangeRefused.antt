@@ -43,7 +43,8 @@ module _ {D : Type 0} (pen : PenOf D) (runs : List Run) (whole : pen.broken ≡ 
   refused_old old = rw (whole, idle, old) refl
 
   module _ (new : is_old pen pen.shape.format runs ≡ false) where
-    pub refused_disordered : (list_all (λ run. nat_lt 0 run.count) runs && are_ascending 0 runs) ≡ false → first_refusal (change_lines pen runs) ≡ Some Runs
+    pub refused_disordered : (list_all (λ run. nat_lt 0 run.count) runs && are_ascending 0 runs) ≡ false
+        → first_refusal (change_lines pen runs) ≡ Some Runs
     refused_disordered disordered = rw (whole, idle, new, disordered) refl
 
     module _ (ordered : (list_all (λ run. nat_lt 0 run.count) runs && are_ascending 0 runs) ≡ true) where

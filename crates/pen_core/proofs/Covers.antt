@@ -25,8 +25,11 @@ pub true-has : (i start count : ℕ) → start ≤ i → i < start + count → h
 true-has i start count from to = and_from (nat_le start i) (nat_lt i (start + count)) (le-leb start i from) (lt-ltb i (start + count) to)
 
 -- a run, and one that begins in it or right behind it and ends further, are one run
-pub has-longer : (i start end next count : ℕ) → start ≤ next → next ≤ end → end ≤ next + count → (has i (start, end - start) || has i (next, count)) ≡ has i (start, next + count - start)
-has-longer i start end next count after touches further = same_test (has i (start, end - start) || has i (next, count)) (has i (start, next + count - start)) (λ e. elim (or_cases (has i (start, end - start)) (has i (next, count)) e) [
+pub has-longer : (i start end next count : ℕ) → start ≤ next → next ≤ end → end ≤ next + count
+    → (has i (start, end - start) || has i (next, count)) ≡ has i (start, next + count - start)
+has-longer i start end next count after touches further =
+    same_test (has i (start, end - start) || has i (next, count)) (has i (start, next + count - start))
+      (λ e. elim (or_cases (has i (start, end - start)) (has i (next, count)) e) [
   | inl h ↦ let b = has-true i start (end - start) h in true-has i start (next + count - start) b.0 (omega arith)
   | inr h ↦ let b = has-true i next count h in true-has i start (next + count - start) (omega arith) (omega arith)
 ]) (λ e. let b = has-true i start (next + count - start) e in elim (cases_lt i end) [
@@ -35,8 +38,11 @@ has-longer i start end next count after touches further = same_test (has i (star
 ])
 
 -- a run that ends inside another that began before it adds nothing
-pub has-inner : (i start end next count : ℕ) → start ≤ next → next + count ≤ end → (has i (start, end - start) || has i (next, count)) ≡ has i (start, end - start)
-has-inner i start end next count after inside = same_test (has i (start, end - start) || has i (next, count)) (has i (start, end - start)) (λ e. elim (or_cases (has i (start, end - start)) (has i (next, count)) e) [
+pub has-inner : (i start end next count : ℕ) → start ≤ next → next + count ≤ end
+    → (has i (start, end - start) || has i (next, count)) ≡ has i (start, end - start)
+has-inner i start end next count after inside =
+    same_test (has i (start, end - start) || has i (next, count)) (has i (start, end - start))
+      (λ e. elim (or_cases (has i (start, end - start)) (has i (next, count)) e) [
   | inl h ↦ h
   | inr h ↦ let b = has-true i next count h in true-has i start (end - start) (omega arith) (omega arith)
 ]) (λ e. or_left (has i (start, end - start)) (has i (next, count)) e)
@@ -57,14 +63,18 @@ covers-push i runs run = list_any-append (has i) runs (run ∷ []) ∙ ap (λ b.
 abbrev pub EndBefore : ℕ → List (ℕ × ℕ) → Type 0
 EndBefore place runs = AllByRecursion (λ run. run.0 + run.1 < place) runs
 
-pub EndBefore-push : (place later : ℕ) (runs : List (ℕ × ℕ)) (run : ℕ × ℕ) → place ≤ later → EndBefore place runs → run.0 + run.1 < later → EndBefore later (runs ++ run ∷ [])
+pub EndBefore-push : (place later : ℕ) (runs : List (ℕ × ℕ)) (run : ℕ × ℕ) → place ≤ later → EndBefore place runs
+    → run.0 + run.1 < later → EndBefore later (runs ++ run ∷ [])
 EndBefore-push place later [] run le before lt = (lt, tt)
 EndBefore-push place later (first ∷ runs) run le before lt = (omega (arith, before.0), EndBefore-push place later runs run le before.1 lt)
 
 -- a run behind a gap behind those that stand apart
-pub StandApart-push : (from start count : ℕ) (runs : List (ℕ × ℕ)) → StandApart from runs → EndBefore start runs → from ≤ start → 0 < count → StandApart from (runs ++ (start, count) ∷ [])
+pub StandApart-push : (from start count : ℕ) (runs : List (ℕ × ℕ)) → StandApart from runs → EndBefore start runs
+    → from ≤ start → 0 < count → StandApart from (runs ++ (start, count) ∷ [])
 StandApart-push from start count [] apart before le some = (le, some, tt)
-StandApart-push from start count (first ∷ runs) apart before le some = (apart.0, apart.1, StandApart-push (first.0 + first.1 + 1) start count runs apart.2 before.1 (omega (arith, before.0)) some)
+StandApart-push from start count (first ∷ runs) apart before le some =
+    (apart.0, apart.1,
+        StandApart-push (first.0 + first.1 + 1) start count runs apart.2 before.1 (omega (arith, before.0)) some)
 
 -- runs that were sorted: none begins before an earlier one, each has a position, and none ends too late
 pub record AreSorted (runs : List (ℕ × ℕ)) : Type 0 where
@@ -82,7 +92,8 @@ pub record IsSwept (runs : List (ℕ × ℕ)) (k start end : ℕ) (cover : List 
   pub behind : (j : ℕ) → k ≤ j → j < length runs → start ≤ (get_or runs j (0, 0)).0
   pub fewer : length cover < k
 
-pub swept-first : (runs : List (ℕ × ℕ)) → AreSorted runs → 0 < length runs → IsSwept runs 1 (get_or runs 0 (0, 0)).0 ((get_or runs 0 (0, 0)).0 + (get_or runs 0 (0, 0)).1) []
+pub swept-first : (runs : List (ℕ × ℕ)) → AreSorted runs → 0 < length runs
+    → IsSwept runs 1 (get_or runs 0 (0, 0)).0 ((get_or runs 0 (0, 0)).0 + (get_or runs 0 (0, 0)).1) []
 swept-first runs sorted lt =
     let run = get_or runs 0 (0, 0) in
     let count : run.0 + run.1 - run.0 ≡ run.1 = omega arith in
@@ -96,7 +107,8 @@ swept-first runs sorted lt =
       fewer = omega arith;
     }
 
-module _ (runs : List (ℕ × ℕ)) (k start end : ℕ) (cover : List (ℕ × ℕ)) (sorted : AreSorted runs) (lt : k < length runs) (swept : IsSwept runs k start end cover) where
+module _ (runs : List (ℕ × ℕ)) (k start end : ℕ) (cover : List (ℕ × ℕ)) (sorted : AreSorted runs) (lt : k < length runs)
+    (swept : IsSwept runs k start end cover) where
   abbrev run : ℕ × ℕ
   run = get_or runs k (0, 0)
 
@@ -158,7 +170,8 @@ module _ (runs : List (ℕ × ℕ)) (k start end : ℕ) (cover : List (ℕ × �
   ]
 
 -- at the end the last piece stands behind the others
-pub swept-all : (runs : List (ℕ × ℕ)) (k start end : ℕ) (cover : List (ℕ × ℕ)) → length runs ≤ k → IsSwept runs k start end cover → IsCover runs (cover ++ (start, end - start) ∷ [])
+pub swept-all : (runs : List (ℕ × ℕ)) (k start end : ℕ) (cover : List (ℕ × ℕ)) → length runs ≤ k
+    → IsSwept runs k start end cover → IsCover runs (cover ++ (start, end - start) ∷ [])
 swept-all runs k start end cover all swept = record {
   same = λ i. covers-push i cover (start, end - start) ∙ swept.same i ∙ ap (covers i) (take_all k runs all);
   apart = StandApart-push 0 start (end - start) cover swept.apart swept.before (omega arith) (omega (arith, swept.some));
@@ -170,7 +183,8 @@ IsCover-moved given runs cover moved is = record {
   apart = is.apart;
 }
 
-pub AreSorted-from : (runs : List (ℕ × ℕ)) → All (λ run. 0 < run.1) runs → All (λ run. run.0 + run.1 ≤ 2 ^ 32) runs → IsNonDecreasingBy (λ run. run.0) runs → AreSorted runs
+pub AreSorted-from : (runs : List (ℕ × ℕ)) → All (λ run. 0 < run.1) runs → All (λ run. run.0 + run.1 ≤ 2 ^ 32) runs
+    → IsNonDecreasingBy (λ run. run.0) runs → AreSorted runs
 AreSorted-from runs some inside ascend = record {
   ascend = λ i j le lt. ascend i j (0, 0) le lt;
   some = λ j lt. All-get_or (λ run. 0 < run.1) runs j (0, 0) lt some;

@@ -21,6 +21,8 @@ use Rattle.segment_core.specs.Raw.{raw, after_frame}
 use Rattle.segment_core.specs.Folding.{HomesHold}
 use Rattle.segment_core.specs.Parsed.{vector_before}
 use Rattle.pen_core.specs.declared.fold.Fold.{Fold}
+use Rattle.pen_core.specs.declared.pen.Pen.TheInside.{Inside}
+use Rattle.pen_core.specs.Fields.{IsSound}
 use Rattle.pen_core.specs.declared.step.Step.{Step}
 use Rattle.pen_core.specs.declared.step.Step.TheVariants.{Body}
 use Rattle.pen_core.specs.declared.stage.FoldStage.TheVariants.{Ready, Filed}
@@ -43,116 +45,182 @@ drop_whole : {A : Type 0} (xs : List A) (n : ℕ) → n ≡ length xs → drop n
 drop_whole [] n is = ap (λ k. drop k []) is
 drop_whole (x ∷ xs) n is = ap (λ k. drop k (x ∷ xs)) is ∙ drop_whole xs (length xs) refl
 
-module _ (keeps : Type 0) (states : List State) (shape : Shape) (gate : ℕ) (tally next : Tally) (bytes bytes' : List ℕ) (o : Option Step) (broken : Bool) (homes : Homes) (live : ℕ) (fold fold' : Fold) (pen : IsPen (open_count fold.stage fold.count) keeps states shape gate tally next bytes o broken)
-    (listed : IsListed keeps states shape gate tally bytes o homes live fold) (is_fold : IsFold keeps states shape gate tally bytes o broken fold) (whole : broken ≡ false) (idle : o ≡ None) (ready : fold.stage ≡ Ready) (reads : keeps → IsImage (now states) (bytes_of states)) (swapped : bytes' ≡ fold.frame.items)
-    (filed : fold'.stage ≡ Filed) (count_same : fold'.count ≡ fold.count) (runs_same : fold'.runs ≡ fold.runs) (writes_same : fold'.writes ≡ fold.writes) (done_same : fold'.done ≡ fold.done) where
+-- What a tick knows that makes the frame of a fold the job: then the pen has the frame's bytes, and that fold. Each disk
+-- that keeps the model reads as an image.
+pub record Files {D : Type 0} (keeps : D → Type 0) (states : D → List State) (pen then : Inside D) : Type 0 where
+  pub sound : IsSound keeps states pen
+  pub going : pen.broken ≡ false
+  pub idle : pen.step ≡ None
+  pub ready : pen.fold.stage ≡ Ready
+  pub reads : (disk : D) → keeps disk → IsImage (now (states disk)) (bytes_of (states disk))
+  pub swapped : then.bytes.items ≡ pen.fold.frame.items
+  pub filed : then.fold.stage ≡ Filed
+  pub count_same : then.fold.count ≡ pen.fold.count
+  pub runs_same : then.fold.runs ≡ pen.fold.runs
+  pub writes_same : then.fold.writes ≡ pen.fold.writes
+  pub done_same : then.fold.done ≡ pen.fold.done
+
+module _ {D : Type 0} {keeps : D → Type 0} {states : D → List State} {pen then : Inside D} (files : Files keeps states pen then) where
+  abbrev old : List State
+  old = states pen.disk
+
   abbrev frames : List Frame
-  frames = blanked_before shape gate (bytes_of states)
+  frames = blanked_before pen.shape pen.gate (bytes_of old)
 
   abbrev vector : List (List ℕ)
-  vector = vector_before shape gate (bytes_of states)
+  vector = vector_before pen.shape pen.gate (bytes_of old)
 
   abbrev f : Frame
-  f = kinds.Fold fold.count
+  f = kinds.Fold pen.fold.count
 
   abbrev next' : Tally
-  next' = record { size = tally.size; changes = tally.changes; folded = fold.count }
+  next' = record { size = pen.tally.size; changes = pen.tally.changes; folded = pen.fold.count }
 
-  at_ready : IsUnfiled shape gate tally bytes o fold × (fold.done ≡ length fold.writes.items)
-  at_ready = subst (IsAtStage shape gate tally bytes o fold) ready is_fold.counts
+  at_ready : IsUnfiled pen.shape pen.gate pen.tally pen.bytes.items pen.step pen.fold × (pen.fold.done ≡ length pen.fold.writes.items)
+  at_ready = subst (IsAtStage pen.shape pen.gate pen.tally pen.bytes.items pen.step pen.fold) files.ready files.sound.fold.counts
 
-  waiting : IsUnfiled shape gate tally bytes o fold
+  waiting : IsUnfiled pen.shape pen.gate pen.tally pen.bytes.items pen.step pen.fold
   waiting = at_ready.0
 
-  spelled : bytes' ≡ frame_text shape.format f ++ 0 ∷ []
-  spelled = swapped ∙ waiting.spelled
+  spelled : then.bytes.items ≡ frame_text pen.shape.format f ++ 0 ∷ []
+  spelled = files.swapped ∙ waiting.spelled
 
-  framed : IsFrame shape f
+  framed : IsFrame pen.shape f
   framed =
-      let fits = pen.changes_fit in
-      let small = pen.gate_fits in
+      let fits = files.sound.job.changes_fit in
+      let small = files.sound.job.gate_fits in
       let upto = waiting.upto in
-      record { wide = omega (arith, pen.wide.0); small = some_limit shape.format; layout = omega arith }
+      record { wide = omega (arith, files.sound.job.wide.0); small = some_limit pen.shape.format; layout = omega arith }
 
-  follows : MayFollow tally f
+  follows : MayFollow pen.tally f
   follows =
       let live = waiting.live in
       let upto = waiting.upto in
-      let low = le-ltb fold.count tally.folded (omega arith) in
-      let high = le-ltb tally.changes fold.count (omega arith) in
+      let low = le-ltb pen.fold.count pen.tally.folded (omega arith) in
+      let high = le-ltb pen.tally.changes pen.fold.count (omega arith) in
       record { ordered = refl; inside = refl; folded = refl; counted = both low high; short = refl }
     where
-      both : nat_lt fold.count tally.folded ≡ false → nat_lt tally.changes fold.count ≡ false → is_miscounted tally (kinds.Fold fold.count) ≡ false
+      both : nat_lt pen.fold.count pen.tally.folded ≡ false → nat_lt pen.tally.changes pen.fold.count ≡ false
+          → is_miscounted pen.tally (kinds.Fold pen.fold.count) ≡ false
       both low high = cc
 
-  pub filed_frame : frame_at shape bytes' ≡ f
-  filed_frame = ap (frame_at shape) spelled ∙ frame_at-text shape f (0 ∷ []) framed
+  pub filed_frame : frame_at pen.shape then.bytes.items ≡ f
+  filed_frame = ap (frame_at pen.shape) spelled ∙ frame_at-text pen.shape f (0 ∷ []) framed
 
-  knows : keeps → Knows 0 shape gate tally frames vector bytes None broken (now states)
-  knows model = subst (λ step. Knows 0 shape gate tally frames vector bytes step broken (now states)) idle (subst (λ st. Knows (open_count st fold.count) shape gate tally frames vector bytes o broken (now states)) ready (pen.knows model))
+  knows : keeps pen.disk → Knows 0 pen.shape pen.gate pen.tally frames vector pen.bytes.items None pen.broken (now old)
+  knows model =
+      subst (λ step. Knows 0 pen.shape pen.gate pen.tally frames vector pen.bytes.items step pen.broken (now old)) files.idle
+        (subst
+            (λ st.
+                Knows (open_count st pen.fold.count) pen.shape pen.gate pen.tally frames vector pen.bytes.items pen.step
+                    pen.broken (now old))
+            files.ready (files.sound.job.knows model))
 
   -- the homes are on the disk
-  held : (model : keeps) → HomesHold shape.format (raw shape.width) (bytes_of states) frames fold.count vector
+  held : (model : keeps pen.disk) → HomesHold pen.shape.format (raw pen.shape.width) (bytes_of old) frames pen.fold.count vector
   held model =
-      let homes_are : IsFolding shape fold.count frames vector (left_of fold) (now states) = subst (HomesAt shape frames vector fold (now states)) ready (is_fold.homes model whole) in
-      let none : left_of fold ≡ [] = ap (map (write_of fold.bytes.items)) (drop_whole fold.writes.items fold.done at_ready.1) in
-      subst (λ left. HomesHold shape.format (raw shape.width) (laid left (bytes_of states)) frames fold.count vector) none homes_are.homes_hold
+      let homes_are : IsFolding pen.shape pen.fold.count frames vector (left_of pen.fold) (now old) =
+          subst (HomesAt pen.shape frames vector pen.fold (now old)) files.ready
+            (files.sound.fold.homes model files.going) in
+      let none : left_of pen.fold ≡ [] = ap (map (write_of pen.fold.bytes.items)) (drop_whole pen.fold.writes.items pen.fold.done at_ready.1) in
+      subst (λ left. HomesHold pen.shape.format (raw pen.shape.width) (laid left (bytes_of old)) frames pen.fold.count vector) none homes_are.homes_hold
 
-  at_body : (model : keeps) → IsAtStep shape 0 gate frames (frames_with frames (frame_at shape bytes')) (after_frame shape.width vector (frame_at shape bytes')) bytes' Body (now states)
+  at_body : (model : keeps pen.disk)
+      → IsAtStep pen.shape 0 pen.gate frames (frames_with frames (frame_at pen.shape then.bytes.items))
+        (after_frame pen.shape.width vector (frame_at pen.shape then.bytes.items)) then.bytes.items Body (now old)
   at_body model =
       let k = knows model in
-      let s = now states in
-      let there = reads model in
-      let made = body_is 0 shape frames vector s f k.file.holds (omega (arith, k.file.gate_synced, there.no_shorter)) framed (subst (λ t. MayFollow t f) k.tally_is follows)
-      (λ count is. subst (λ n. HomesHold shape.format (raw shape.width) s.seen frames n vector) (same_count count is) (held model))
-      (λ j lt pending. absurd (nothing_folded shape frames j (k.file.pending_is_folded j lt pending))) in
-      subst (λ g. IsAtStep shape 0 gate frames (frames_with frames g) (after_frame shape.width vector g) bytes' Body s) (sym filed_frame)
-      (subst (λ bs. IsAtStep shape 0 gate frames (frames_with frames f) (after_frame shape.width vector f) bs Body s) (sym spelled)
-      (k.stands whole, subst (λ g. IsBodyOf shape 0 g frames (frames_with frames f) (after_frame shape.width vector f) (body_of (frame_text shape.format f ++ 0 ∷ [])) s) (sym k.gate_is) made))
+      let s = now old in
+      let there = files.reads pen.disk model in
+      let made =
+      body_is 0 pen.shape frames vector s f k.file.holds (omega (arith, k.file.gate_synced, there.no_shorter)) framed
+      (subst (λ t. MayFollow t f) k.tally_is follows)
+      (λ count is. subst (λ n. HomesHold pen.shape.format (raw pen.shape.width) s.seen frames n vector) (same_count count is) (held model))
+      (λ j lt pending. absurd (nothing_folded pen.shape frames j (k.file.pending_is_folded j lt pending))) in
+      subst (λ g. IsAtStep pen.shape 0 pen.gate frames (frames_with frames g) (after_frame pen.shape.width vector g) then.bytes.items Body s) (sym filed_frame)
+      (subst (λ bs. IsAtStep pen.shape 0 pen.gate frames (frames_with frames f) (after_frame pen.shape.width vector f) bs Body s) (sym spelled)
+      (k.stands files.going,
+          subst
+                (λ g.
+                    IsBodyOf pen.shape 0 g frames (frames_with frames f) (after_frame pen.shape.width vector f)
+                        (body_of (frame_text pen.shape.format f ++ 0 ∷ [])) s)
+                (sym k.gate_is) made))
     where
-      same_count : (count : ℕ) → kinds.Fold fold.count ≡ kinds.Fold count → fold.count ≡ count
+      same_count : (count : ℕ) → kinds.Fold pen.fold.count ≡ kinds.Fold count → pen.fold.count ≡ count
       same_count count is = cc
 
-  room : gate + 14 < 2 ^ 48
-  room = subst (λ g. g + 14 < 2 ^ 48) (ap (gate_then gate bytes) idle) waiting.room
+  room : pen.gate + 14 < 2 ^ 48
+  room = subst (λ g. g + 14 < 2 ^ 48) (ap (gate_then pen.gate pen.bytes.items) files.idle) waiting.room
 
-  pub pen_filed : IsPen (open_count fold'.stage fold'.count) keeps states shape gate tally next' bytes' (Some Body) broken
-  pen_filed = subst (λ st. IsPen (open_count st fold'.count) keeps states shape gate tally next' bytes' (Some Body) broken) (sym filed) (record {
-    wide = pen.wide;
-    gate_fits = pen.gate_fits;
-    size_fits = pen.size_fits;
-    changes_fit = pen.changes_fit;
-    folded_counted = pen.folded_counted;
+  filed_job : IsPen (open_count then.fold.stage then.fold.count) (keeps pen.disk) old pen.shape pen.gate pen.tally next' then.bytes.items (Some Body) pen.broken
+  filed_job =
+      subst
+        (λ st.
+            IsPen (open_count st then.fold.count) (keeps pen.disk) old pen.shape pen.gate pen.tally next' then.bytes.items
+                (Some Body) pen.broken)
+        (sym files.filed) (record {
+    wide = files.sound.job.wide;
+    gate_fits = files.sound.job.gate_fits;
+    size_fits = files.sound.job.size_fits;
+    changes_fit = files.sound.job.changes_fit;
+    folded_counted = files.sound.job.folded_counted;
     job = record {
-      spelled = subst (λ g. bytes' ≡ frame_text shape.format g ++ 0 ∷ []) (sym filed_frame) spelled;
-      whole = subst (IsFrame shape) (sym filed_frame) framed;
-      may_follow = subst (MayFollow tally) (sym filed_frame) follows;
-      next_is = subst (λ g. next' ≡ after tally g) (sym filed_frame) refl;
-      fits = let all = ap length spelled ∙ length-append (frame_text shape.format f) (0 ∷ []) in let below = room in omega arith;
+      spelled = subst (λ g. then.bytes.items ≡ frame_text pen.shape.format g ++ 0 ∷ []) (sym filed_frame) spelled;
+      whole = subst (IsFrame pen.shape) (sym filed_frame) framed;
+      may_follow = subst (MayFollow pen.tally) (sym filed_frame) follows;
+      next_is = subst (λ g. next' ≡ after pen.tally g) (sym filed_frame) refl;
+      fits = let all = ap length spelled ∙ length-append (frame_text pen.shape.format f) (0 ∷ []) in let below = room in omega arith;
     };
-    knows = λ model. let k = knows model in knows_at shape gate tally frames vector bytes' (now states) k.gate_is k.tally_is Body broken k.file (at_body model) (reads model);
+    knows =
+        λ model. let k = knows model in
+        knows_at pen.shape pen.gate pen.tally frames vector then.bytes.items (now old) k.gate_is k.tally_is Body pen.broken
+          k.file (at_body model) (files.reads pen.disk model);
   })
 
-  pub fold_filed : IsFold keeps states shape gate tally bytes' (Some Body) broken fold'
-  fold_filed = record {
-    counts = subst (IsAtStage shape gate tally bytes' (Some Body) fold') (sym filed) (ap (λ g. Some g) filed_frame ∙ ap (λ n. Some (kinds.Fold n)) (sym count_same), done_same ∙ at_ready.1 ∙ sym (ap (λ ws. length ws.items) writes_same));
-    homes = λ model whole'. subst (HomesAt shape frames vector fold' (now states)) (sym filed) tt;
+  filed_fold : IsFold (keeps pen.disk) old pen.shape pen.gate pen.tally then.bytes.items (Some Body) pen.broken then.fold
+  filed_fold = record {
+    counts =
+        subst (IsAtStage pen.shape pen.gate pen.tally then.bytes.items (Some Body) then.fold) (sym files.filed)
+          (ap (λ g. Some g) filed_frame ∙ ap (λ n. Some (kinds.Fold n)) (sym files.count_same),
+              files.done_same ∙ at_ready.1 ∙ sym (ap (λ ws. length ws.items) files.writes_same));
+    homes = λ model whole'. subst (HomesAt pen.shape frames vector then.fold (now old)) (sym files.filed) tt;
   }
 
-  pub listed_filed : IsListed keeps states shape gate tally bytes' (Some Body) homes live fold'
-  listed_filed =
-      let ahead : Some f ≡ frame_in_hand shape bytes' (Some Body) = sym (ap (λ g. Some g) filed_frame) in
-      let rests : Lists shape listed.frames None homes live = subst (λ step. Lists shape listed.frames (frame_in_hand shape bytes step) homes live) idle listed.lists in
+  filed_lists : IsListed (keeps pen.disk) old pen.shape pen.gate pen.tally then.bytes.items (Some Body) pen.homes pen.live then.fold
+  filed_lists =
+      let ahead : Some f ≡ frame_in_hand pen.shape then.bytes.items (Some Body) = sym (ap (λ g. Some g) filed_frame) in
+      let rests : Lists pen.shape files.sound.lists.frames None pen.homes pen.live =
+          subst
+            (λ step.
+                Lists pen.shape files.sound.lists.frames (frame_in_hand pen.shape pen.bytes.items step) pen.homes pen.live)
+            files.idle files.sound.lists.lists in
       record {
-        frames = listed.frames;
-        legal = listed.legal;
-        gate_is = listed.gate_is;
-        tally_is = listed.tally_is;
-        lists = subst (λ g. Lists shape listed.frames g homes live) ahead (record { told = rests.told; are_homes = rests.are_homes; homes_are = rests.homes_are; live_is = rests.live_is; counted = rests.counted });
-        filed = λ count is. (filed, same_count count (ahead ∙ is) ∙ sym count_same);
-        runs_are = λ held. runs_same ∙ listed.runs_are (subst IsInHand (sym ready) tt) ∙ ap (λ n. length (flat_map pairs_of (take (n - tally.folded) (live_of shape listed.frames)))) (sym count_same);
-        same = listed.same;
+        frames = files.sound.lists.frames;
+        legal = files.sound.lists.legal;
+        gate_is = files.sound.lists.gate_is;
+        tally_is = files.sound.lists.tally_is;
+        lists =
+            subst (λ g. Lists pen.shape files.sound.lists.frames g pen.homes pen.live) ahead
+              (record
+                  {
+                    told = rests.told;
+                    are_homes = rests.are_homes;
+                    homes_are = rests.homes_are;
+                    live_is = rests.live_is;
+                    counted = rests.counted;
+                  });
+        filed = λ count is. (files.filed, same_count count (ahead ∙ is) ∙ sym files.count_same);
+        runs_are =
+            λ held. files.runs_same ∙ files.sound.lists.runs_are (subst IsInHand (sym files.ready) tt)
+              ∙ ap
+                (λ n. length (flat_map pairs_of (take (n - pen.tally.folded) (live_of pen.shape files.sound.lists.frames))))
+                (sym files.count_same);
+        same = files.sound.lists.same;
       }
     where
-      same_count : (count : ℕ) → Some (kinds.Fold fold.count) ≡ Some (kinds.Fold count) → count ≡ fold.count
+      same_count : (count : ℕ) → Some (kinds.Fold pen.fold.count) ≡ Some (kinds.Fold count) → count ≡ pen.fold.count
       same_count count is = cc
+
+  -- the frame is the job
+  pub pen_filed : IsSound keeps states (record pen { next = next'; bytes = then.bytes; step = Some Body; fold = then.fold })
+  pen_filed = record { job = filed_job; lists = filed_lists; fold = filed_fold }

@@ -54,7 +54,8 @@ length-joined_cells width (cell ∷ cells) wide =
     let more : width + length cells * width ≡ suc (length cells) * width = omega arith in
     omega (arith, length-append cell (joined_cells cells))
 
-get_or-joined_cells : (width : ℕ) (cells : List (List ℕ)) (k m : ℕ) → All (HasWidth width) cells → k < length cells → m < width → get_or (joined_cells cells) (k * width + m) 0 ≡ get_or (get_or cells k []) m 0
+get_or-joined_cells : (width : ℕ) (cells : List (List ℕ)) (k m : ℕ) → All (HasWidth width) cells → k < length cells
+    → m < width → get_or (joined_cells cells) (k * width + m) 0 ≡ get_or (get_or cells k []) m 0
 get_or-joined_cells width [] k m wide lt inside = absurd (omega arith)
 get_or-joined_cells width (cell ∷ cells) zero m wide lt inside =
     let first = All-head (HasWidth width) cell cells wide in
@@ -67,18 +68,24 @@ get_or-joined_cells width (cell ∷ cells) (suc k) m wide lt inside =
     ap (λ n. get_or (cell ++ joined_cells cells) n 0) here ∙ get_or-append-add cell (joined_cells cells) (k * width + m) 0
     ∙ get_or-joined_cells width cells k m (All-tail (HasWidth width) cell cells wide) (omega arith) inside
 
-length-bytes_at : (width : ℕ) (cells : List (List ℕ)) (from count : ℕ) → All (HasWidth width) cells → from + count ≤ length cells → length (bytes_at (raw width) cells from count) ≡ count * width
+length-bytes_at : (width : ℕ) (cells : List (List ℕ)) (from count : ℕ) → All (HasWidth width) cells
+    → from + count ≤ length cells → length (bytes_at (raw width) cells from count) ≡ count * width
 length-bytes_at width cells from count wide inside =
     length-joined_cells width (take count (drop from cells)) (All-take (HasWidth width) count (drop from cells) (All-drop (HasWidth width) from cells wide))
     ∙ ap (λ n. n * width) (length-take-le count (drop from cells) (omega (arith, length-drop from cells)))
 
-get_or-bytes_at : (width : ℕ) (cells : List (List ℕ)) (from count i m : ℕ) → All (HasWidth width) cells → from + count ≤ length cells → from ≤ i → i < from + count → m < width
+get_or-bytes_at : (width : ℕ) (cells : List (List ℕ)) (from count i m : ℕ) → All (HasWidth width) cells
+    → from + count ≤ length cells → from ≤ i → i < from + count → m < width
     → get_or (bytes_at (raw width) cells from count) ((i - from) * width + m) 0 ≡ get_or (get_or cells i []) m 0
 get_or-bytes_at width cells from count i m wide inside le lt small =
     let part : List (List ℕ) = take count (drop from cells) in
     let here : from + (i - from) ≡ i = omega arith in
-    get_or-joined_cells width part (i - from) m (All-take (HasWidth width) count (drop from cells) (All-drop (HasWidth width) from cells wide)) (omega (arith, length-take-le count (drop from cells) (omega (arith, length-drop from cells)))) small
-    ∙ ap (λ cell. get_or cell m 0) (get_or-take count (drop from cells) (i - from) [] (omega arith) ∙ get_or-drop from cells (i - from) [] ∙ ap (λ n. get_or cells n []) here)
+    get_or-joined_cells width part (i - from) m
+        (All-take (HasWidth width) count (drop from cells) (All-drop (HasWidth width) from cells wide))
+        (omega (arith, length-take-le count (drop from cells) (omega (arith, length-drop from cells)))) small
+    ∙ ap (λ cell. get_or cell m 0)
+    (get_or-take count (drop from cells) (i - from) [] (omega arith) ∙ get_or-drop from cells (i - from) []
+      ∙ ap (λ n. get_or cells n []) here)
 
 -- ---- rows of one width
 
@@ -92,7 +99,9 @@ row_of : (place width count j : ℕ) → place ≤ j → j < place + count * wid
 row_of place width zero j from before = absurd (omega arith)
 row_of place width (suc count) j from before = elim (cases_lt j (place + count * width)) [
   | inl first ↦ (let r = row_of place width count j from first in record { row = r.row; inside = omega (arith, r.inside); from = r.from; before = r.before })
-  | inr last ↦ (let more : width + count * width ≡ suc count * width = omega arith in record { row = count; inside = omega arith; from = last; before = omega arith })
+  | inr
+      last ↦ (let more : width + count * width ≡ suc count * width = omega arith in
+        record { row = count; inside = omega arith; from = last; before = omega arith })
 ]
 
 -- ---- runs that are at home
@@ -104,25 +113,33 @@ SaysHomes shape frames homes = (i : ℕ) → i < (tally_of frames).size → home
 record IsAtHome (shape : Shape) (frames : List Frame) (run : Home) : Type 0 where
   some : 0 < run.count
   inside : run.position + run.count ≤ (tally_of frames).size
-  adjacent : (i : ℕ) → run.position ≤ i → i < run.position + run.count → home_of shape frames i ≡ Some (run.place + (i - run.position) * shape.width)
+  adjacent : (i : ℕ) → run.position ≤ i → i < run.position + run.count
+      → home_of shape frames i ≡ Some (run.place + (i - run.position) * shape.width)
 
-all_at_home : (shape : Shape) (frames : List Frame) (homes : List Home) (from : ℕ) (runs : List Home) → SaysHomes shape frames homes → AreAscending from (tally_of frames).size runs → All (IsHomeRun shape.width (home_among shape.width homes)) runs → AllByRecursion (IsAtHome shape frames) runs
+all_at_home : (shape : Shape) (frames : List Frame) (homes : List Home) (from : ℕ) (runs : List Home)
+    → SaysHomes shape frames homes → AreAscending from (tally_of frames).size runs
+    → All (IsHomeRun shape.width (home_among shape.width homes)) runs → AllByRecursion (IsAtHome shape frames) runs
 all_at_home shape frames homes from [] are ascend each = tt
 all_at_home shape frames homes from (run ∷ runs) are ascend each =
     let first = All-head (IsHomeRun shape.width (home_among shape.width homes)) run runs each in
     let end = ascending-inside (run.position + run.count) (tally_of frames).size runs ascend.1 in (
       record { some = first.some; inside = end; adjacent = λ i le lt. sym (are i (omega arith)) ∙ first.adjacent i le lt },
-      all_at_home shape frames homes (run.position + run.count) runs are ascend.1 (All-tail (IsHomeRun shape.width (home_among shape.width homes)) run runs each),
+      all_at_home shape frames homes (run.position + run.count) runs are ascend.1
+          (All-tail (IsHomeRun shape.width (home_among shape.width homes)) run runs each),
     )
 
-home_runs_of : (shape : Shape) (frames : List Frame) (homes : List Home) (from : ℕ) (runs : List Home) → SaysHomes shape frames homes → AreAscending from (tally_of frames).size runs → All (IsHomeRun shape.width (home_among shape.width homes)) runs → All (IsHomeRun shape.width (home_of shape frames)) runs
+home_runs_of : (shape : Shape) (frames : List Frame) (homes : List Home) (from : ℕ) (runs : List Home)
+    → SaysHomes shape frames homes → AreAscending from (tally_of frames).size runs
+    → All (IsHomeRun shape.width (home_among shape.width homes)) runs
+    → All (IsHomeRun shape.width (home_of shape frames)) runs
 home_runs_of shape frames homes from [] says ascend each = All-nil (IsHomeRun shape.width (home_of shape frames))
 home_runs_of shape frames homes from (run ∷ runs) says ascend each =
     let first = All-head (IsHomeRun shape.width (home_among shape.width homes)) run runs each in
     let end = ascending-inside (run.position + run.count) (tally_of frames).size runs ascend.1 in
     All-cons (IsHomeRun shape.width (home_of shape frames)) run runs
     (record { some = first.some; few = first.few; adjacent = λ i le lt. sym (says i (omega arith)) ∙ first.adjacent i le lt })
-    (home_runs_of shape frames homes (run.position + run.count) runs says ascend.1 (All-tail (IsHomeRun shape.width (home_among shape.width homes)) run runs each))
+    (home_runs_of shape frames homes (run.position + run.count) runs says ascend.1
+      (All-tail (IsHomeRun shape.width (home_among shape.width homes)) run runs each))
 
 -- ---- writes laid
 
@@ -137,14 +154,16 @@ pub record HasPlace (gate : ℕ) (write : HomeWrite) : Type 0 where
 abbrev Misses : ℕ → HomeWrite → Type 0
 Misses j write = (j < write.place) ⊎ (write.place + length write.bytes ≤ j)
 
-laid_kept : (n j : ℕ) (writes : List HomeWrite) (bytes : List ℕ) → AllByRecursion (EndsAt n) writes → AllByRecursion (Misses j) writes → n ≤ length bytes → j < n → get_or (laid writes bytes) j 0 ≡ get_or bytes j 0
+laid_kept : (n j : ℕ) (writes : List HomeWrite) (bytes : List ℕ) → AllByRecursion (EndsAt n) writes
+    → AllByRecursion (Misses j) writes → n ≤ length bytes → j < n → get_or (laid writes bytes) j 0 ≡ get_or bytes j 0
 laid_kept n j [] bytes ends misses long lt = refl
 laid_kept n j (write ∷ writes) bytes ends misses long lt =
     let fits = ends.0 in
     laid_kept n j writes (overlay bytes write.place write.bytes) ends.1 misses.1 (omega (arith, length-overlay bytes write.place write.bytes (omega arith))) lt
     ∙ get_or-overlay bytes write.place write.bytes j (omega arith) (omega arith) misses.0
 
-laid_long : (n : ℕ) (writes : List HomeWrite) (bytes : List ℕ) → AllByRecursion (EndsAt n) writes → n ≤ length bytes → n ≤ length (laid writes bytes)
+laid_long : (n : ℕ) (writes : List HomeWrite) (bytes : List ℕ) → AllByRecursion (EndsAt n) writes → n ≤ length bytes
+    → n ≤ length (laid writes bytes)
 laid_long n [] bytes ends long = long
 laid_long n (write ∷ writes) bytes ends long =
     let fits = ends.0 in
@@ -152,7 +171,8 @@ laid_long n (write ∷ writes) bytes ends long =
 
 -- ---- the writes of runs that are at home
 
-module _ (shape : Shape) (frames : List Frame) (cells : List (List ℕ)) (legal : AreLegal shape frames) (wide : All (HasWidth shape.width) cells) (size_is : length cells ≡ (tally_of frames).size) where
+module _ (shape : Shape) (frames : List Frame) (cells : List (List ℕ)) (legal : AreLegal shape frames)
+    (wide : All (HasWidth shape.width) cells) (size_is : length cells ≡ (tally_of frames).size) where
   abbrev width : ℕ
   width = shape.width
 
@@ -178,7 +198,8 @@ module _ (shape : Shape) (frames : List Frame) (cells : List (List ℕ)) (legal 
   all_end_below [] homes = tt
   all_end_below (run ∷ runs) homes = (ends_below run homes.0, all_end_below runs homes.1)
 
-  pub all_placed : (homes : List Home) (cover : List (ℕ × ℕ)) (runs : List Home) → 0 < width → SaysHomes shape frames homes → AreHomeRuns width (tally_of frames).size homes cover runs → AllByRecursion (HasPlace gate) (map write runs)
+  pub all_placed : (homes : List Home) (cover : List (ℕ × ℕ)) (runs : List Home) → 0 < width → SaysHomes shape frames homes
+      → AreHomeRuns width (tally_of frames).size homes cover runs → AllByRecursion (HasPlace gate) (map write runs)
   all_placed homes cover runs some says at = go runs (all_at_home shape frames homes 0 runs says at.runs_are.ascend at.runs_are.each)
     where
       go : (rest : List Home) → AllByRecursion (IsAtHome shape frames) rest → AllByRecursion (HasPlace gate) (map write rest)
@@ -212,14 +233,16 @@ module _ (shape : Shape) (frames : List Frame) (cells : List (List ℕ)) (legal 
       }
 
   -- a position's home bytes are in no write of a run that hasn't it
-  misses : (run : Home) (i place m : ℕ) → IsAtHome shape frames run → (i < run.position) ⊎ (run.position + run.count ≤ i) → home_of shape frames i ≡ Some place → m < width → Misses (place + m) (write run)
+  misses : (run : Home) (i place m : ℕ) → IsAtHome shape frames run → (i < run.position) ⊎ (run.position + run.count ≤ i)
+      → home_of shape frames i ≡ Some place → m < width → Misses (place + m) (write run)
   misses run i place m home other is small = elim (cases_lt (place + m) run.place) [
     | inl before ↦ inl before
     | inr from ↦ elim (cases_lt (place + m) (run.place + length (write run).bytes)) [
       | inr past ↦ inr past
       | inl inside ↦ (
           let at = written_at run (place + m) home from inside in
-          let elsewhere : i ≡ at.position → ⊥ = λ same. elim other [ inl before ↦ omega (arith, same, at.from) | inr past ↦ omega (arith, same, at.to) ] in
+          let elsewhere : i ≡ at.position → ⊥ =
+              λ same. elim other [ inl before ↦ omega (arith, same, at.from) | inr past ↦ omega (arith, same, at.to) ] in
           elim (home_of_apart shape frames i at.position place at.place legal elsewhere is at.home_is) [
             | inl first ↦ absurd (omega (arith, at.place_from))
             | inr then ↦ absurd (omega (arith, at.place_to))
@@ -227,7 +250,9 @@ module _ (shape : Shape) (frames : List Frame) (cells : List (List ℕ)) (legal 
     ]
   ]
 
-  later_miss : (from i place m : ℕ) (runs : List Home) → AreAscending from (tally_of frames).size runs → AllByRecursion (IsAtHome shape frames) runs → i < from → home_of shape frames i ≡ Some place → m < width → AllByRecursion (Misses (place + m)) (map write runs)
+  later_miss : (from i place m : ℕ) (runs : List Home) → AreAscending from (tally_of frames).size runs
+      → AllByRecursion (IsAtHome shape frames) runs → i < from → home_of shape frames i ≡ Some place → m < width
+      → AllByRecursion (Misses (place + m)) (map write runs)
   later_miss from i place m [] ascend homes lt is small = tt
   later_miss from i place m (run ∷ runs) ascend homes lt is small =
       let behind = ascend.0 in (
@@ -236,14 +261,17 @@ module _ (shape : Shape) (frames : List Frame) (cells : List (List ℕ)) (legal 
       )
 
   -- each byte of a covered position's record is laid into its home
-  byte_laid : (from i place m : ℕ) (runs : List Home) (bytes : List ℕ) → AreAscending from (tally_of frames).size runs → AllByRecursion (IsAtHome shape frames) runs → covers i (map span_of runs) ≡ true → home_of shape frames i ≡ Some place → m < width → gate ≤ length bytes
+  byte_laid : (from i place m : ℕ) (runs : List Home) (bytes : List ℕ) → AreAscending from (tally_of frames).size runs
+      → AllByRecursion (IsAtHome shape frames) runs → covers i (map span_of runs) ≡ true
+      → home_of shape frames i ≡ Some place → m < width → gate ≤ length bytes
       → get_or (laid (map write runs) bytes) (place + m) 0 ≡ get_or (get_or cells i []) m 0
   byte_laid from i place m [] bytes ascend homes covered is small long = absurd cc
   byte_laid from i place m (run ∷ runs) bytes ascend homes covered is small long =
       let fits = ends_below run homes.0 in
       let longer = length-overlay bytes run.place (write run).bytes (omega arith) in
       elim (or_cases (has i (span_of run)) (covers i (map span_of runs)) covered) [
-        | inr later ↦ byte_laid (run.position + run.count) i place m runs (overlay bytes run.place (write run).bytes) ascend.1 homes.1 later is small (omega arith)
+        | inr later ↦ byte_laid (run.position + run.count) i place m runs (overlay bytes run.place (write run).bytes)
+            ascend.1 homes.1 later is small (omega arith)
         | inl here ↦ (
             let within = has-true i run.position run.count here in
             let inside = homes.0.inside in
@@ -260,7 +288,9 @@ module _ (shape : Shape) (frames : List Frame) (cells : List (List ℕ)) (legal 
       ]
 
   -- and so the whole record
-  cell_laid : (i place : ℕ) (runs : List Home) (bytes : List ℕ) → AreAscending 0 (tally_of frames).size runs → AllByRecursion (IsAtHome shape frames) runs → covers i (map span_of runs) ≡ true → home_of shape frames i ≡ Some place → i < length cells → gate ≤ length bytes
+  cell_laid : (i place : ℕ) (runs : List Home) (bytes : List ℕ) → AreAscending 0 (tally_of frames).size runs
+      → AllByRecursion (IsAtHome shape frames) runs → covers i (map span_of runs) ≡ true
+      → home_of shape frames i ≡ Some place → i < length cells → gate ≤ length bytes
       → take width (drop place (laid (map write runs) bytes)) ≡ get_or cells i []
   cell_laid i place runs bytes ascend homes covered is lt long =
       let image : List ℕ = laid (map write runs) bytes in
@@ -269,9 +299,13 @@ module _ (shape : Shape) (frames : List Frame) (cells : List (List ℕ)) (legal 
       let whole = length-take-le width (drop place image) (omega (arith, length-drop place image, below.to)) in
       let one = All-get_or (HasWidth width) cells i [] lt wide in
       ext_get_or 0 (take width (drop place image)) (get_or cells i []) (whole ∙ sym one) (λ m small.
-      get_or-take width (drop place image) m 0 (omega arith) ∙ get_or-drop place image m 0 ∙ byte_laid 0 i place m runs bytes ascend homes covered is (omega arith) long)
+      get_or-take width (drop place image) m 0 (omega arith) ∙ get_or-drop place image m 0
+            ∙ byte_laid 0 i place m runs bytes ascend homes covered is (omega arith) long)
 
-  homes_hold_laid : (count : ℕ) (runs : List Home) (bytes : List ℕ) → AreAscending 0 (tally_of frames).size runs → AllByRecursion (IsAtHome shape frames) runs → ((i : ℕ) → is_some (change_of shape (tally_of frames).folded frames i) ≡ covers i (map span_of runs)) → gate ≤ length bytes
+  homes_hold_laid : (count : ℕ) (runs : List Home) (bytes : List ℕ) → AreAscending 0 (tally_of frames).size runs
+      → AllByRecursion (IsAtHome shape frames) runs
+      → ((i : ℕ) → is_some (change_of shape (tally_of frames).folded frames i) ≡ covers i (map span_of runs))
+      → gate ≤ length bytes
       → HomesHold shape.format (raw width) (laid (map write runs) bytes) frames count cells
   homes_hold_laid count runs bytes ascend homes same long i some since =
       let told = some_told (change_of shape (tally_of frames).folded frames i) some in
@@ -286,7 +320,9 @@ module _ (shape : Shape) (frames : List Frame) (cells : List (List ℕ)) (legal 
       some_told None some = absurd cc
       some_told (Some x) some = (x, refl)
 
-  home_write : (count : ℕ) (run : Home) → IsAtHome shape frames run → 0 < width → ((i : ℕ) → has i (span_of run) ≡ true → (told : ℕ) × (early_of shape count frames i ≡ Some told)) → IsHomeWrite shape count frames (write run)
+  home_write : (count : ℕ) (run : Home) → IsAtHome shape frames run → 0 < width
+      → ((i : ℕ) → has i (span_of run) ≡ true → (told : ℕ) × (early_of shape count frames i ≡ Some told))
+      → IsHomeWrite shape count frames (write run)
   home_write count run home some covered =
       let row = row_fits 0 width run.count width home.some (omega arith) in
       record {
@@ -295,10 +331,20 @@ module _ (shape : Shape) (frames : List Frame) (cells : List (List ℕ)) (legal 
         folded = λ j from before. (
             let at = written_at run j home from before in
             let told = covered at.position (true-has at.position run.position run.count at.from at.to) in
-            record { position = at.position; place = at.place; told = told.0; home_is = at.home_is; covered = told.1; from = at.place_from; before = at.place_to });
+            record {
+              position = at.position;
+              place = at.place;
+              told = told.0;
+              home_is = at.home_is;
+              covered = told.1;
+              from = at.place_from;
+              before = at.place_to;
+            });
       }
 
-  all_home_writes : (count : ℕ) (runs : List Home) → AllByRecursion (IsAtHome shape frames) runs → 0 < width → ((i : ℕ) → covers i (map span_of runs) ≡ true → (told : ℕ) × (early_of shape count frames i ≡ Some told)) → AllByRecursion (IsHomeWrite shape count frames) (map write runs)
+  all_home_writes : (count : ℕ) (runs : List Home) → AllByRecursion (IsAtHome shape frames) runs → 0 < width
+      → ((i : ℕ) → covers i (map span_of runs) ≡ true → (told : ℕ) × (early_of shape count frames i ≡ Some told))
+      → AllByRecursion (IsHomeWrite shape count frames) (map write runs)
   all_home_writes count [] homes some covered = tt
   all_home_writes count (run ∷ runs) homes some covered = (
     home_write count run homes.0 some (λ i e. covered i (or_left (has i (span_of run)) (covers i (map span_of runs)) e)),
@@ -308,27 +354,35 @@ module _ (shape : Shape) (frames : List Frame) (cells : List (List ℕ)) (legal 
 -- ---- the vector of a file
 
 -- the bytes of each record have the width
-pub held_wide : (shape : Shape) (frames : List Frame) (vector : List (List ℕ)) (bytes : List ℕ) → Holds shape frames vector bytes → All (HasWidth shape.width) vector
+pub held_wide : (shape : Shape) (frames : List Frame) (vector : List (List ℕ)) (bytes : List ℕ)
+    → Holds shape frames vector bytes → All (HasWidth shape.width) vector
 held_wide shape frames vector bytes has = All-from_get_or (HasWidth shape.width) vector [] (λ i lt. at i lt (place_of shape has.found i) refl)
   where
     at : (i : ℕ) → i < length vector → (o : Option ℕ) → place_of shape has.found i ≡ o → HasWidth shape.width (get_or vector i [])
     at i lt None is =
-        let none : None ≡ Some (get_or vector i []) = sym (ap (option_and_then (record_in (raw shape.width) bytes)) is) ∙ has.read.each i lt ∙ slice_get-get_or vector i [] lt in
+        let none : None ≡ Some (get_or vector i []) =
+            sym (ap (option_and_then (record_in (raw shape.width) bytes)) is) ∙ has.read.each i lt
+              ∙ slice_get-get_or vector i [] lt in
         absurd cc
     at i lt (Some place) is =
         let b = place_of_between shape has.found i place has.begins.legal is in
         let size = ap length has.begins.begins.1 ∙ length-append (text shape has.found) has.begins.begins.0 in
-        let told : Some (take shape.width (drop place bytes)) ≡ Some (get_or vector i []) = sym (ap (option_and_then (record_in (raw shape.width) bytes)) is) ∙ has.read.each i lt ∙ slice_get-get_or vector i [] lt in
+        let told : Some (take shape.width (drop place bytes)) ≡ Some (get_or vector i []) =
+            sym (ap (option_and_then (record_in (raw shape.width) bytes)) is) ∙ has.read.each i lt
+              ∙ slice_get-get_or vector i [] lt in
         let same : take shape.width (drop place bytes) ≡ get_or vector i [] = cc in
         ap length (sym same) ∙ length-take-le shape.width (drop place bytes) (omega (arith, b.to, length-drop place bytes))
 
 -- homes are the same whatever stands in them
 SaysHomes-blanked : (shape : Shape) (frames : List Frame) (homes : List Home) → SaysHomes shape frames homes → SaysHomes shape (all_blanked frames) homes
-SaysHomes-blanked shape frames homes says i lt = says i (subst (λ t. i < t.size) (tally_from-blanked nothing frames) lt) ∙ sym (home_of-blanked shape frames i)
+SaysHomes-blanked shape frames homes says i lt =
+    says i (subst (λ t. i < t.size) (tally_from-blanked nothing frames) lt) ∙ sym (home_of-blanked shape frames i)
 
 -- All changes are folded: once the writes of the cover's runs are done, each covered position has its record in its
 -- home bytes.
-module _ (shape : Shape) (frames : List Frame) (vector : List (List ℕ)) (homes : List Home) (cover : List (ℕ × ℕ)) (runs : List Home) (s : State) (some : 0 < shape.width) (has : Holds shape (all_blanked frames) vector s.seen) (are : SaysHomes shape frames homes)
+module _ (shape : Shape) (frames : List Frame) (vector : List (List ℕ)) (homes : List Home) (cover : List (ℕ × ℕ))
+    (runs : List Home) (s : State) (some : 0 < shape.width) (has : Holds shape (all_blanked frames) vector s.seen)
+    (are : SaysHomes shape frames homes)
     (is : IsCover (live_runs shape frames) cover) (at : AreHomeRuns shape.width (tally_of frames).size homes cover runs) where
   abbrev others : List Frame
   others = all_blanked frames
@@ -364,7 +418,13 @@ module _ (shape : Shape) (frames : List Frame) (vector : List (List ℕ)) (homes
     runs = runs;
     writes_are = refl;
     covered = λ i. sym (same_covered i);
-    runs_are = record { ascend = ascend_others; each = home_runs_of shape others homes 0 runs (SaysHomes-blanked shape frames homes are) ascend_others at.runs_are.each; greatest = at.runs_are.greatest };
+    runs_are =
+        record {
+          ascend = ascend_others;
+          each = home_runs_of shape others homes 0 runs (SaysHomes-blanked shape frames homes are) ascend_others
+              at.runs_are.each;
+          greatest = at.runs_are.greatest;
+        };
   }
 
   pub IsFolding-begun : IsFolding shape (tally_of frames).changes others vector (writes_for (raw shape.width) vector runs) s
@@ -373,6 +433,8 @@ module _ (shape : Shape) (frames : List Frame) (vector : List (List ℕ)) (homes
       let wide = held_wide shape others vector s.seen has in
       let at_home = all_at_home shape others homes 0 runs (SaysHomes-blanked shape frames homes are) ascend_others at.runs_are.each in
       record {
-        homes_hold = homes_hold_laid shape others vector legal wide vector_size (tally_of frames).changes runs s.seen ascend_others at_home same_covered gate_seen;
+        homes_hold =
+            homes_hold_laid shape others vector legal wide vector_size (tally_of frames).changes runs s.seen ascend_others
+              at_home same_covered gate_seen;
         into_homes = all_home_writes shape others vector legal wide vector_size (tally_of frames).changes runs at_home some covered_early;
       }

@@ -31,7 +31,9 @@ use Rattle.pen_core.proofs.LiveRuns.{HasSome, EndsBy, live_runs_some, live_runs_
 use Rattle.pen_core.proofs.RunPositions.{covers-home_runs}
 use Rattle.pen_core.proofs.WritesFor.{Within}
 
-module _ (keeps : Type 0) (states : List State) (shape : Shape) (gate : ℕ) (tally : Tally) (bytes : List ℕ) (step : Option Step) (homes : Homes) (live : ℕ) {fold : Fold} (listed : IsListed keeps states shape gate tally bytes step homes live fold) where
+module _ (keeps : Type 0) (states : List State) (shape : Shape) (gate : ℕ) (tally : Tally) (bytes : List ℕ)
+    (step : Option Step) (homes : Homes) (live : ℕ) {fold : Fold}
+    (listed : IsListed keeps states shape gate tally bytes step homes live fold) where
   abbrev frames : List Frame
   frames = listed.frames
 
@@ -40,7 +42,9 @@ module _ (keeps : Type 0) (states : List State) (shape : Shape) (gate : ℕ) (ta
   runs_now = take live homes.live.items
 
   runs_are : runs_now ≡ live_runs shape frames
-  runs_are = ap (take live) listed.lists.live_is ∙ take_at (live_runs shape frames) (runs_ahead (frame_in_hand shape bytes step)) live (sym listed.lists.counted)
+  runs_are =
+      ap (take live) listed.lists.live_is
+        ∙ take_at (live_runs shape frames) (runs_ahead (frame_in_hand shape bytes step)) live (sym listed.lists.counted)
 
   pub some_live : All HasSome runs_now
   some_live = subst (All HasSome) (sym runs_are) (live_runs_some shape frames listed.legal)
@@ -49,7 +53,10 @@ module _ (keeps : Type 0) (states : List State) (shape : Shape) (gate : ℕ) (ta
   small_live = subst (All (EndsBy (2 ^ 32))) (sym runs_are) (live_runs_small shape frames listed.legal)
 
   pub live_inside : live ≤ length homes.live.items
-  live_inside = omega (arith, listed.lists.counted, ap length listed.lists.live_is, length-append (live_runs shape frames) (runs_ahead (frame_in_hand shape bytes step)))
+  live_inside =
+      omega
+        (arith, listed.lists.counted, ap length listed.lists.live_is,
+            length-append (live_runs shape frames) (runs_ahead (frame_in_hand shape bytes step)))
 
   pub says_homes : SaysHomes shape frames homes.homes.items
   says_homes = SaysHomes-listed shape frames (frame_in_hand shape bytes step) homes live listed.lists
@@ -72,42 +79,69 @@ module _ (keeps : Type 0) (states : List State) (shape : Shape) (gate : ℕ) (ta
           there [] i covered = absurd cc
           there (run ∷ found) i covered = omega arith
 
-      pub IsFolding-pen : keeps → 0 < shape.width → Holds shape (blanked_before shape gate (bytes_of states)) (vector_before shape gate (bytes_of states)) (now states).seen
-          → IsFolding shape tally.changes (blanked_before shape gate (bytes_of states)) (vector_before shape gate (bytes_of states)) (writes_for (raw shape.width) (vector_before shape gate (bytes_of states)) runs) (now states)
+      pub IsFolding-pen : keeps → 0 < shape.width
+          → Holds shape (blanked_before shape gate (bytes_of states)) (vector_before shape gate (bytes_of states))
+            (now states).seen
+          → IsFolding shape tally.changes (blanked_before shape gate (bytes_of states))
+          (vector_before shape gate (bytes_of states))
+          (writes_for (raw shape.width) (vector_before shape gate (bytes_of states)) runs) (now states)
       IsFolding-pen model some has =
           let vector : List (List ℕ) = vector_before shape gate (bytes_of states) in
           let same = listed.same model in
           let here = subst (λ t. AreHomeRuns shape.width t.size homes.homes.items cover runs) listed.tally_is at in
           subst (λ fs. IsFolding shape tally.changes fs vector (writes_for (raw shape.width) vector runs) (now states)) (sym same)
           (subst (λ t. IsFolding shape t.changes (all_blanked frames) vector (writes_for (raw shape.width) vector runs) (now states)) (sym listed.tally_is)
-          (IsFolding-begun shape frames vector homes.homes.items cover runs (now states) some (subst (λ fs. Holds shape fs vector (now states).seen) same has) says_homes file_cover here))
+          (IsFolding-begun shape frames vector homes.homes.items cover runs (now states) some
+              (subst (λ fs. Holds shape fs vector (now states).seen) same has) says_homes file_cover here))
 
-      IsWholeFold-pen : keeps → 0 < shape.width → Holds shape (blanked_before shape gate (bytes_of states)) (vector_before shape gate (bytes_of states)) (now states).seen
-          → IsWholeFold shape (blanked_before shape gate (bytes_of states)) (vector_before shape gate (bytes_of states)) (writes_for (raw shape.width) (vector_before shape gate (bytes_of states)) runs)
+      IsWholeFold-pen : keeps → 0 < shape.width
+          → Holds shape (blanked_before shape gate (bytes_of states)) (vector_before shape gate (bytes_of states))
+            (now states).seen
+          → IsWholeFold shape (blanked_before shape gate (bytes_of states)) (vector_before shape gate (bytes_of states))
+          (writes_for (raw shape.width) (vector_before shape gate (bytes_of states)) runs)
       IsWholeFold-pen model some has =
           let vector : List (List ℕ) = vector_before shape gate (bytes_of states) in
           let same = listed.same model in
           let here = subst (λ t. AreHomeRuns shape.width t.size homes.homes.items cover runs) listed.tally_is at in
           subst (λ fs. IsWholeFold shape fs vector (writes_for (raw shape.width) vector runs)) (sym same)
-          (IsWholeFold-begun shape frames vector homes.homes.items cover runs (now states) some (subst (λ fs. Holds shape fs vector (now states).seen) same has) says_homes file_cover here)
+          (IsWholeFold-begun shape frames vector homes.homes.items cover runs (now states) some
+            (subst (λ fs. Holds shape fs vector (now states).seen) same has) says_homes file_cover here)
 
-      module _ {R : Type 0} (form : Encoding R) (records : List R) (made : List ℕ) (writes : List Write) (some : 0 < shape.width) (made_is : map (write_of made) writes ≡ writes_for form records runs) where
-        pub planned_pen : ((r : R) → length (form.bytes_of r) ≡ shape.width) → length records ≡ tally.size → All (Within (length made)) writes → AllByRecursion (IsPlanned gate (length made)) writes
+      module _ {R : Type 0} (form : Encoding R) (records : List R) (made : List ℕ) (writes : List Write)
+          (some : 0 < shape.width) (made_is : map (write_of made) writes ≡ writes_for form records runs) where
+        pub planned_pen : ((r : R) → length (form.bytes_of r) ≡ shape.width) → length records ≡ tally.size
+            → All (Within (length made)) writes → AllByRecursion (IsPlanned gate (length made)) writes
         planned_pen each size within =
             let here = subst (λ t. AreHomeRuns shape.width t.size homes.homes.items cover runs) listed.tally_is at in
             subst (λ g. AllByRecursion (IsPlanned g (length made)) writes) (sym listed.gate_is)
-            (ArePlanned-begun form shape frames homes.homes.items cover runs records made writes some each listed.legal says_homes here (size ∙ ap (λ t. t.size) listed.tally_is) made_is within)
+            (ArePlanned-begun form shape frames homes.homes.items cover runs records made writes some each listed.legal
+              says_homes here (size ∙ ap (λ t. t.size) listed.tally_is) made_is within)
 
         -- the vector is these records, as their bytes
-        made_of_vector : vector_before shape gate (bytes_of states) ≡ map form.bytes_of records → map (write_of made) writes ≡ writes_for (raw shape.width) (vector_before shape gate (bytes_of states)) runs
+        made_of_vector : vector_before shape gate (bytes_of states) ≡ map form.bytes_of records
+            → map (write_of made) writes ≡ writes_for (raw shape.width) (vector_before shape gate (bytes_of states)) runs
         made_of_vector same = made_is ∙ writes_for-raw form shape.width records runs ∙ ap (λ cells. writes_for (raw shape.width) cells runs) (sym same)
 
-        pub folding_pen : keeps → Holds shape (blanked_before shape gate (bytes_of states)) (vector_before shape gate (bytes_of states)) (now states).seen → vector_before shape gate (bytes_of states) ≡ map form.bytes_of records
-            → IsFolding shape tally.changes (blanked_before shape gate (bytes_of states)) (vector_before shape gate (bytes_of states)) (map (write_of made) writes) (now states)
+        pub folding_pen : keeps
+            → Holds shape (blanked_before shape gate (bytes_of states)) (vector_before shape gate (bytes_of states))
+              (now states).seen
+            → vector_before shape gate (bytes_of states) ≡ map form.bytes_of records
+            → IsFolding shape tally.changes (blanked_before shape gate (bytes_of states))
+            (vector_before shape gate (bytes_of states)) (map (write_of made) writes) (now states)
         folding_pen model has same =
-            subst (λ left. IsFolding shape tally.changes (blanked_before shape gate (bytes_of states)) (vector_before shape gate (bytes_of states)) left (now states)) (sym (made_of_vector same)) (IsFolding-pen model some has)
+            subst
+                (λ left.
+                    IsFolding shape tally.changes (blanked_before shape gate (bytes_of states))
+                        (vector_before shape gate (bytes_of states)) left (now states))
+                (sym (made_of_vector same)) (IsFolding-pen model some has)
 
-        pub whole_pen : keeps → Holds shape (blanked_before shape gate (bytes_of states)) (vector_before shape gate (bytes_of states)) (now states).seen → vector_before shape gate (bytes_of states) ≡ map form.bytes_of records
+        pub whole_pen : keeps
+            → Holds shape (blanked_before shape gate (bytes_of states)) (vector_before shape gate (bytes_of states))
+              (now states).seen
+            → vector_before shape gate (bytes_of states) ≡ map form.bytes_of records
             → IsWholeFold shape (blanked_before shape gate (bytes_of states)) (vector_before shape gate (bytes_of states)) (map (write_of made) writes)
         whole_pen model has same =
-            subst (IsWholeFold shape (blanked_before shape gate (bytes_of states)) (vector_before shape gate (bytes_of states))) (sym (made_of_vector same)) (IsWholeFold-pen model some has)
+            subst
+                (IsWholeFold shape (blanked_before shape gate (bytes_of states))
+                    (vector_before shape gate (bytes_of states)))
+                (sym (made_of_vector same)) (IsWholeFold-pen model some has)

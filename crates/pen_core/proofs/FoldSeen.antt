@@ -24,7 +24,8 @@ use Rattle.pen_core.specs.Inside.{job_of}
 
 -- ---- the writes that are left
 
-firsts : (f : Write → HomeWrite) (ws : List Write) (done : ℕ) → done < length ws → map f (drop done ws) ≡ first_write (map f (drop done ws)) ∷ map f (drop (done + 1) ws)
+firsts : (f : Write → HomeWrite) (ws : List Write) (done : ℕ) → done < length ws
+    → map f (drop done ws) ≡ first_write (map f (drop done ws)) ∷ map f (drop (done + 1) ws)
 firsts f ws done lt =
     let none : Write = record { place = 0; from = 0; to = 0 } in
     let split : map f (drop done ws) ≡ f (get_or ws done none) ∷ map f (drop (done + 1) ws) = ap (map f) (drop_more ws done none lt) in
@@ -75,10 +76,15 @@ ready_or_filed Sync quiet held = absurd cc
 ready_or_filed Ready quiet held = inl refl
 ready_or_filed Filed quiet held = inr refl
 
-pub ready_at : (shape : Shape) (gate : ℕ) (tally : Tally) (bytes : List ℕ) (o : Option Step) (fold : Fold) → IsAtStage shape gate tally bytes o fold fold.stage → has_call fold.stage ≡ false → is_unfolded fold.stage ≡ false → o ≡ None → fold.stage ≡ Ready
+pub ready_at : (shape : Shape) (gate : ℕ) (tally : Tally) (bytes : List ℕ) (o : Option Step) (fold : Fold)
+    → IsAtStage shape gate tally bytes o fold fold.stage → has_call fold.stage ≡ false → is_unfolded fold.stage ≡ false
+    → o ≡ None → fold.stage ≡ Ready
 ready_at shape gate tally bytes o fold at quiet held idle = elim (ready_or_filed fold.stage quiet held) [
   | inl ready ↦ ready
-  | inr filed ↦ (let clash : None ≡ Some (kinds.Fold fold.count) = sym (ap (frame_in_hand shape bytes) idle) ∙ filed_at shape gate tally bytes o fold at filed in absurd cc)
+  | inr
+      filed ↦ (let clash : None ≡ Some (kinds.Fold fold.count) = sym (ap (frame_in_hand shape bytes) idle)
+          ∙ filed_at shape gate tally bytes o fold at filed in
+        absurd cc)
 ]
 
 pub none_at : (o : Option Step) → is_some o ≡ false → o ≡ None
@@ -92,12 +98,18 @@ job_some shape bytes (Some step) some = refl
 -- behind a call
 still_held : (stage : FoldStage) → has_call stage ≡ true → is_unfolded (stage_after stage) ≡ false
 still_held stages.None calls = absurd cc
-still_held (Home n) calls = elim (cases_Bool (nat_lt 1 n)) [ inl more ↦ ap (λ b. is_unfolded (cond b (Home (n - 1)) Sync)) more | inr last ↦ ap (λ b. is_unfolded (cond b (Home (n - 1)) Sync)) last ]
+still_held (Home n) calls =
+    elim (cases_Bool (nat_lt 1 n))
+      [
+        | inl more ↦ ap (λ b. is_unfolded (cond b (Home (n - 1)) Sync)) more
+        | inr last ↦ ap (λ b. is_unfolded (cond b (Home (n - 1)) Sync)) last
+      ]
 still_held Sync calls = refl
 still_held Ready calls = absurd cc
 still_held Filed calls = absurd cc
 
-left_called : (shape : Shape) (gate : ℕ) (tally : Tally) (bytes : List ℕ) (o : Option Step) (fold : Fold) (stage : FoldStage) → has_call stage ≡ true → IsAtStage shape gate tally bytes o fold stage
+left_called : (shape : Shape) (gate : ℕ) (tally : Tally) (bytes : List ℕ) (o : Option Step) (fold : Fold) (stage : FoldStage)
+    → has_call stage ≡ true → IsAtStage shape gate tally bytes o fold stage
     → map (write_of fold.bytes.items) (drop (done_after stage fold.done) fold.writes.items) ≡ left_after stage (left_of fold)
 left_called shape gate tally bytes o fold stages.None calls at = absurd cc
 left_called shape gate tally bytes o fold (Home n) calls at = sym (ap (drop 1) (left_next fold (omega (arith, at.1, at.2))))
@@ -105,13 +117,18 @@ left_called shape gate tally bytes o fold Sync calls at = refl
 left_called shape gate tally bytes o fold Ready calls at = absurd cc
 left_called shape gate tally bytes o fold Filed calls at = absurd cc
 
-pub called_seen : (shape : Shape) (gate : ℕ) (tally : Tally) (bytes : List ℕ) (o : Option Step) (fold : Fold) → has_call fold.stage ≡ true → IsAtStage shape gate tally bytes o fold fold.stage → fold_of (advanced fold) ≡ Some (called (seen fold))
+pub called_seen : (shape : Shape) (gate : ℕ) (tally : Tally) (bytes : List ℕ) (o : Option Step) (fold : Fold)
+    → has_call fold.stage ≡ true → IsAtStage shape gate tally bytes o fold fold.stage
+    → fold_of (advanced fold) ≡ Some (called (seen fold))
 called_seen shape gate tally bytes o fold calls at =
     fold_is_seen (advanced fold) (still_held fold.stage calls)
-    ∙ ap (λ left. Some (record { count = fold.count; left = left; stage = stage_after fold.stage })) (left_called shape gate tally bytes o fold fold.stage calls at)
+    ∙ ap (λ left. Some (record { count = fold.count; left = left; stage = stage_after fold.stage }))
+    (left_called shape gate tally bytes o fold fold.stage calls at)
 
-pub listed_called : (keeps : Type 0) (states : List State) (shape : Shape) (gate : ℕ) (tally : Tally) (bytes : List ℕ) (o : Option Step) (homes : Homes) (live : ℕ) (fold : Fold) → has_call fold.stage ≡ true → IsListed keeps states shape gate tally bytes o homes live fold → IsListed keeps states shape gate tally bytes o homes live (advanced fold)
-listed_called keeps states shape gate tally bytes o homes live fold calls listed = record {
+pub listed_called : {keeps : Type 0} {states : List State} {shape : Shape} {gate : ℕ} {tally : Tally} {bytes : List ℕ} {o : Option Step}
+    {homes : Homes} {live : ℕ} {fold : Fold} → has_call fold.stage ≡ true
+    → IsListed keeps states shape gate tally bytes o homes live fold → IsListed keeps states shape gate tally bytes o homes live (advanced fold)
+listed_called {fold = fold} calls listed = record {
   frames = listed.frames;
   legal = listed.legal;
   gate_is = listed.gate_is;
@@ -132,7 +149,10 @@ listed_called keeps states shape gate tally bytes o homes live fold calls listed
 pub left_long : (fold : Fold) → length (left_of fold) ≡ length fold.writes.items - fold.done
 left_long fold = length-map (drop fold.done fold.writes.items) (write_of fold.bytes.items) ∙ length-drop fold.done fold.writes.items
 
-left_at : (shape : Shape) (gate : ℕ) (tally : Tally) (bytes : List ℕ) (o : Option Step) (fold : Fold) (stage : FoldStage) → IsAtStage shape gate tally bytes o fold stage → IfSome (in_stage stage (record { count = fold.count; left = left_of fold; stage = stage })) (λ f. length f.left ≡ writes_left f.stage)
+left_at : (shape : Shape) (gate : ℕ) (tally : Tally) (bytes : List ℕ) (o : Option Step) (fold : Fold) (stage : FoldStage)
+    → IsAtStage shape gate tally bytes o fold stage
+    → IfSome (in_stage stage (record { count = fold.count; left = left_of fold; stage = stage }))
+      (λ f. length f.left ≡ writes_left f.stage)
 left_at shape gate tally bytes o fold stages.None at = tt
 left_at shape gate tally bytes o fold (Home n) at = left_long fold ∙ omega (arith, at.1)
 left_at shape gate tally bytes o fold Sync at = left_long fold ∙ omega (arith, at.1)
@@ -140,5 +160,6 @@ left_at shape gate tally bytes o fold Ready at = left_long fold ∙ omega (arith
 left_at shape gate tally bytes o fold Filed at = left_long fold ∙ omega (arith, at.1)
 
 -- as many writes are left as the stage tells
-pub left_told : (shape : Shape) (gate : ℕ) (tally : Tally) (bytes : List ℕ) (o : Option Step) (fold : Fold) → IsAtStage shape gate tally bytes o fold fold.stage → IfSome (fold_of fold) (λ f. length f.left ≡ writes_left f.stage)
+pub left_told : (shape : Shape) (gate : ℕ) (tally : Tally) (bytes : List ℕ) (o : Option Step) (fold : Fold)
+    → IsAtStage shape gate tally bytes o fold fold.stage → IfSome (fold_of fold) (λ f. length f.left ≡ writes_left f.stage)
 left_told shape gate tally bytes o fold at = left_at shape gate tally bytes o fold fold.stage at

@@ -37,16 +37,21 @@ pub record LaidAlike (n : ℕ) (a b : List ℕ) : Type 0 where
   pub long_too : n ≤ length b
   pub each : (j : ℕ) → j < n → get_or a j 0 ≡ get_or b j 0
 
-overlays_agree : (a b : List ℕ) (at : ℕ) (bytes : List ℕ) (n j : ℕ) → n ≤ length a → n ≤ length b → at + length bytes ≤ n → j < n → get_or a j 0 ≡ get_or b j 0 → get_or (overlay a at bytes) j 0 ≡ get_or (overlay b at bytes) j 0
+overlays_agree : (a b : List ℕ) (at : ℕ) (bytes : List ℕ) (n j : ℕ) → n ≤ length a → n ≤ length b → at + length bytes ≤ n
+    → j < n → get_or a j 0 ≡ get_or b j 0 → get_or (overlay a at bytes) j 0 ≡ get_or (overlay b at bytes) j 0
 overlays_agree a b at bytes n j la lb fits lt same = elim (cases_lt j at) [
-  | inl before ↦ get_or-overlay a at bytes j (omega arith) (omega arith) (inl before) ∙ same ∙ sym (get_or-overlay b at bytes j (omega arith) (omega arith) (inl before))
+  | inl before ↦ get_or-overlay a at bytes j (omega arith) (omega arith) (inl before) ∙ same
+      ∙ sym (get_or-overlay b at bytes j (omega arith) (omega arith) (inl before))
   | inr from ↦ elim (cases_lt j (at + length bytes)) [
     | inl inside ↦ overlaid a at bytes j (omega arith) from inside ∙ sym (overlaid b at bytes j (omega arith) from inside)
-    | inr past ↦ get_or-overlay a at bytes j (omega arith) (omega arith) (inr past) ∙ same ∙ sym (get_or-overlay b at bytes j (omega arith) (omega arith) (inr past))
+    | inr past ↦ get_or-overlay a at bytes j (omega arith) (omega arith) (inr past) ∙ same
+        ∙ sym (get_or-overlay b at bytes j (omega arith) (omega arith) (inr past))
   ]
 ]
 
-laid_alike : (shape : Shape) (count : ℕ) (frames : List Frame) (left : List HomeWrite) (a b : List ℕ) → AllByRecursion (IsHomeWrite shape count frames) left → LaidAlike (gate_of shape frames) a b → LaidAlike (gate_of shape frames) (laid left a) (laid left b)
+laid_alike : (shape : Shape) (count : ℕ) (frames : List Frame) (left : List HomeWrite) (a b : List ℕ)
+    → AllByRecursion (IsHomeWrite shape count frames) left → LaidAlike (gate_of shape frames) a b
+    → LaidAlike (gate_of shape frames) (laid left a) (laid left b)
 laid_alike shape count frames [] a b below same = same
 laid_alike shape count frames (w ∷ left) a b below same =
     let n : ℕ = gate_of shape frames in
@@ -60,7 +65,10 @@ laid_alike shape count frames (w ∷ left) a b below same =
     })
 
 -- a call that changes nothing below the gate
-pub folding_alike : (shape : Shape) (count : ℕ) (frames : List Frame) (vector : List (List ℕ)) (left : List HomeWrite) (s t : State) → AreLegal shape frames → LaidAlike (gate_of shape frames) s.seen t.seen → IsFolding shape count frames vector left s → IsFolding shape count frames vector left t
+pub folding_alike : (shape : Shape) (count : ℕ) (frames : List Frame) (vector : List (List ℕ)) (left : List HomeWrite)
+    (s t : State)
+    → AreLegal shape frames → LaidAlike (gate_of shape frames) s.seen t.seen → IsFolding shape count frames vector left s
+    → IsFolding shape count frames vector left t
 folding_alike shape count frames vector left s t legal same fold =
     let both = laid_alike shape count frames left s.seen t.seen fold.into_homes same in
     let la = both.long in
@@ -69,13 +77,23 @@ folding_alike shape count frames vector left s t legal same fold =
       homes_hold = HomesHold_same shape.format (raw shape.width) (laid left s.seen) (laid left t.seen) frames count vector
           (λ i place at. (
           let b = home_of_between shape frames i place legal at in
-          ap (λ c. Some c) (sym (take_same shape.width place (laid left s.seen) (laid left t.seen) (omega (arith, b.to)) (omega (arith, b.to)) (λ j from before. both.each j (omega (arith, b.to)))))))
+          ap (λ c. Some c)
+                  (sym
+                          (take_same shape.width place (laid left s.seen) (laid left t.seen) (omega (arith, b.to))
+                                    (omega (arith, b.to)) (λ j from before. both.each j (omega (arith, b.to)))))))
           fold.homes_hold;
       into_homes = fold.into_homes;
     }
 
-pub folding_seen : (shape : Shape) (count : ℕ) (frames : List Frame) (vector : List (List ℕ)) (left : List HomeWrite) (s t : State) → s.seen ≡ t.seen → IsFolding shape count frames vector left s → IsFolding shape count frames vector left t
-folding_seen shape count frames vector left s t same fold = record { homes_hold = subst (λ bs. HomesHold shape.format (raw shape.width) (laid left bs) frames count vector) same fold.homes_hold; into_homes = fold.into_homes }
+pub folding_seen : (shape : Shape) (count : ℕ) (frames : List Frame) (vector : List (List ℕ)) (left : List HomeWrite)
+    (s t : State)
+    → s.seen ≡ t.seen → IsFolding shape count frames vector left s → IsFolding shape count frames vector left t
+folding_seen shape count frames vector left s t same fold =
+    record {
+      homes_hold = subst (λ bs. HomesHold shape.format (raw shape.width) (laid left bs) frames count vector) same
+          fold.homes_hold;
+      into_homes = fold.into_homes;
+    }
 
 -- ---- one more group or change
 
@@ -95,7 +113,13 @@ ends_with (f ∷ g ∷ frames) [] last is = absurd cc
 ends_with (f ∷ frames) (g ∷ front) last is =
     let rest = ends_with frames front last cc in
     let first : blanked f ≡ g = cc in
-    record { init = f ∷ rest.init; end = rest.end; is = ap (λ fs. f ∷ fs) rest.is; alike = ap (λ x. x ∷ all_blanked rest.init) first ∙ ap (λ fs. g ∷ fs) rest.alike; ends_alike = rest.ends_alike }
+    record {
+      init = f ∷ rest.init;
+      end = rest.end;
+      is = ap (λ fs. f ∷ fs) rest.is;
+      alike = ap (λ x. x ∷ all_blanked rest.init) first ∙ ap (λ fs. g ∷ fs) rest.alike;
+      ends_alike = rest.ends_alike;
+    }
 
 same_appends : (f g : Frame) → blanked f ≡ blanked g → Appends g → Appends f
 same_appends (Group lengths bytes) g same appends = tt
@@ -115,7 +139,8 @@ no_fold (Change runs bytes) appends fold is = absurd cc
 no_fold (Shrink n) appends fold is = absurd appends
 no_fold (Fold c) appends fold is = absurd appends
 
-module _ (shape : Shape) (count : ℕ) (frames : List Frame) (f : Frame) (vector then : List (List ℕ)) (bytes held : List ℕ) (has : Holds shape frames vector bytes) (more : Holds shape (frames_with frames f) then bytes) (appends : Appends f)
+module _ (shape : Shape) (count : ℕ) (frames : List Frame) (f : Frame) (vector then : List (List ℕ)) (bytes held : List ℕ)
+    (has : Holds shape frames vector bytes) (more : Holds shape (frames_with frames f) then bytes) (appends : Appends f)
     (from : (tally_of frames).folded ≤ count) (upto : count ≤ (tally_of frames).changes) where
   ends : Ends more.found frames (blanked f)
   ends = ends_with more.found frames (blanked f) more.alike
@@ -133,7 +158,8 @@ module _ (shape : Shape) (count : ℕ) (frames : List Frame) (f : Frame) (vector
       begins_before : BeginsImage shape bytes ends.init
       begins_before = BeginsImage_before shape bytes ends.init ends.end begins
 
-  pub HomesHold_more : HomesHold shape.format (raw shape.width) held frames count vector → HomesHold shape.format (raw shape.width) held (frames_with frames f) count then
+  pub HomesHold_more : HomesHold shape.format (raw shape.width) held frames count vector
+      → HomesHold shape.format (raw shape.width) held (frames_with frames f) count then
   HomesHold_more hold =
       let tally = same_tally has.found frames (sym (blank_again has.found frames has.alike)) in
       let read = subst (λ fs. IsVectorOf shape.format (raw shape.width) bytes fs vector) init_is has.read in
@@ -149,13 +175,25 @@ module _ (shape : Shape) (count : ℕ) (frames : List Frame) (f : Frame) (vector
       blank_twice = all_blanked-all_blanked ends.init
 
 -- the writes stay home writes
-homes_behind : (shape : Shape) (count : ℕ) (frames : List Frame) (f : Frame) (left : List HomeWrite) → AreLegal shape frames → Appends f → AllByRecursion (IsHomeWrite shape count frames) left → AllByRecursion (IsHomeWrite shape count (frames_with frames f)) left
+homes_behind : (shape : Shape) (count : ℕ) (frames : List Frame) (f : Frame) (left : List HomeWrite) → AreLegal shape frames
+    → Appends f → AllByRecursion (IsHomeWrite shape count frames) left
+    → AllByRecursion (IsHomeWrite shape count (frames_with frames f)) left
 homes_behind shape count frames f [] legal appends all = tt
 homes_behind shape count frames f (w ∷ left) legal appends all =
     let below = all.0.below_gate in
-    (record { some = all.0.some; below_gate = omega (arith, gate_with shape frames f); folded = λ j from before. IsBeingFolded_push shape count frames f j legal (no_fold f appends) (all.0.folded j from before) }, homes_behind shape count frames f left legal appends all.1)
+    (record
+      {
+        some = all.0.some;
+        below_gate = omega (arith, gate_with shape frames f);
+        folded = λ j from before.
+            IsBeingFolded_push shape count frames f j legal (no_fold f appends) (all.0.folded j from before);
+      },
+      homes_behind shape count frames f left legal appends all.1)
 
-pub folding_more : (shape : Shape) (count : ℕ) (frames : List Frame) (f : Frame) (vector then : List (List ℕ)) (left : List HomeWrite) (s : State) → Holds shape frames vector s.seen → Holds shape (frames_with frames f) then s.seen → Appends f → (tally_of frames).folded ≤ count
+pub folding_more : (shape : Shape) (count : ℕ) (frames : List Frame) (f : Frame) (vector then : List (List ℕ))
+    (left : List HomeWrite) (s : State)
+    → Holds shape frames vector s.seen → Holds shape (frames_with frames f) then s.seen → Appends f
+    → (tally_of frames).folded ≤ count
     → count ≤ (tally_of frames).changes → IsFolding shape count frames vector left s → IsFolding shape count (frames_with frames f) then left s
 folding_more shape count frames f vector then left s has more appends from upto fold = record {
   homes_hold = HomesHold_more shape count frames f vector then s.seen (laid left s.seen) has more appends from upto fold.homes_hold;
@@ -164,5 +202,8 @@ folding_more shape count frames f vector then left s has more appends from upto 
 
 -- ---- a home write
 
-pub folding_written : (shape : Shape) (count : ℕ) (frames : List Frame) (vector : List (List ℕ)) (write : HomeWrite) (left : List HomeWrite) (s : State) → IsFolding shape count frames vector (write ∷ left) s → IsFolding shape count frames vector left (written s write.place write.bytes)
+pub folding_written : (shape : Shape) (count : ℕ) (frames : List Frame) (vector : List (List ℕ)) (write : HomeWrite)
+    (left : List HomeWrite) (s : State)
+    → IsFolding shape count frames vector (write ∷ left) s
+    → IsFolding shape count frames vector left (written s write.place write.bytes)
 folding_written shape count frames vector write left s fold = record { homes_hold = fold.homes_hold; into_homes = fold.into_homes.1 }

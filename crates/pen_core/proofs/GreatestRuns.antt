@@ -29,7 +29,9 @@ set_last xs d y some =
 abbrev pub longer : Home → ℕ → Home
 longer run n = record { position = run.position; place = run.place; count = run.count + n }
 
-positions_at-longer : (init : List Home) (last : Home) (n : ℕ) → positions_at (init ++ longer last n ∷ []) ≡ positions_at (init ++ last ∷ []) ++ range_with_len (last.position + last.count) n
+positions_at-longer : (init : List Home) (last : Home) (n : ℕ)
+    → positions_at (init ++ longer last n ∷ []) ≡ positions_at (init ++ last ∷ []) ++ range_with_len
+      (last.position + last.count) n
 positions_at-longer init last n =
     positions_at-append init (longer last n ∷ [])
     ∙ ap (λ ps. positions_at init ++ ps) (append-nil (range_with_len last.position (last.count + n)) ∙ sym (range-append last.position last.count n))
@@ -37,23 +39,28 @@ positions_at-longer init last n =
     ∙ ap (λ ps. (positions_at init ++ ps) ++ range_with_len (last.position + last.count) n) (sym (append-nil (range_with_len last.position last.count)))
     ∙ ap (λ ps. ps ++ range_with_len (last.position + last.count) n) (sym (positions_at-append init (last ∷ [])))
 
-ascending-longer : (from to : ℕ) (init : List Home) (last : Home) (n : ℕ) → AreAscending from to (init ++ last ∷ []) → AreAscending from (last.position + last.count + n) (init ++ longer last n ∷ [])
+ascending-longer : (from to : ℕ) (init : List Home) (last : Home) (n : ℕ) → AreAscending from to (init ++ last ∷ [])
+    → AreAscending from (last.position + last.count + n) (init ++ longer last n ∷ [])
 ascending-longer from to [] last n ascend = (ascend.0, omega arith)
 ascending-longer from to (run ∷ init) last n ascend = (ascend.0, ascending-longer (run.position + run.count) to init last n ascend.1)
 
 -- whether a run can be joined to the one before it is told by where it begins
-greatest-last : (width : ℕ) (init : List Home) (a b : Home) → b.position ≡ a.position → b.place ≡ a.place → AreGreatest width (init ++ a ∷ []) → AreGreatest width (init ++ b ∷ [])
+greatest-last : (width : ℕ) (init : List Home) (a b : Home) → b.position ≡ a.position → b.place ≡ a.place
+    → AreGreatest width (init ++ a ∷ []) → AreGreatest width (init ++ b ∷ [])
 greatest-last width [] a b position place greatest = (tt, tt)
 greatest-last width (run ∷ []) a b position place greatest = ((λ meets. greatest.0 (sym position ∙ meets.0, sym place ∙ meets.1)), (tt, tt))
 greatest-last width (run ∷ next ∷ init) a b position place greatest = (greatest.0, greatest-last width (next ∷ init) a b position place greatest.1)
 
 -- one behind the last, that can't be joined to it
-greatest-next : (width : ℕ) (init : List Home) (last next : Home) → AreGreatest width (init ++ last ∷ []) → (Meets width last next → last.count ≡ write_limit) → AreGreatest width ((init ++ last ∷ []) ++ next ∷ [])
+greatest-next : (width : ℕ) (init : List Home) (last next : Home) → AreGreatest width (init ++ last ∷ [])
+    → (Meets width last next → last.count ≡ write_limit) → AreGreatest width ((init ++ last ∷ []) ++ next ∷ [])
 greatest-next width [] last next greatest apart = (apart, (tt, tt))
 greatest-next width (run ∷ []) last next greatest apart = (greatest.0, (apart, (tt, tt)))
 greatest-next width (run ∷ other ∷ init) last next greatest apart = (greatest.0, greatest-next width (other ∷ init) last next greatest.1 apart)
 
-IsHomeRun-longer : (width : ℕ) (home : ℕ → Option ℕ) (run part : Home) (n : ℕ) → IsHomeRun width home run → IsAdjacent width home part → Meets width run part → n ≤ part.count → run.count + n ≤ 4096 → IsHomeRun width home (longer run n)
+IsHomeRun-longer : (width : ℕ) (home : ℕ → Option ℕ) (run part : Home) (n : ℕ) → IsHomeRun width home run
+    → IsAdjacent width home part → Meets width run part → n ≤ part.count → run.count + n ≤ 4096
+    → IsHomeRun width home (longer run n)
 IsHomeRun-longer width home run part n is adjacent meets some few = record {
   some = omega (arith, is.some);
   few = few;
@@ -75,8 +82,11 @@ module _ (width : ℕ) (runs : List Home) (last : Home) (some : 0 < length runs)
   were = last_split runs last some ∙ ap (λ run. init ++ run ∷ []) (sym is)
 
   -- what comes next can't be joined to it, which stays as it was
-  pub apart_next : (next : Home) → AreGreatest width runs → (Meets width last next → ⊥) → AreGreatest width (set runs (length runs - 1) last ++ next ∷ [])
-  apart_next next greatest apart = subst (λ rs. AreGreatest width (rs ++ next ∷ [])) (sym (set_last runs last last some)) (greatest-next width init last next (subst (AreGreatest width) were greatest) (λ meets. absurd (apart meets)))
+  pub apart_next : (next : Home) → AreGreatest width runs → (Meets width last next → ⊥)
+      → AreGreatest width (set runs (length runs - 1) last ++ next ∷ [])
+  apart_next next greatest apart =
+      subst (λ rs. AreGreatest width (rs ++ next ∷ [])) (sym (set_last runs last last some))
+        (greatest-next width init last next (subst (AreGreatest width) were greatest) (λ meets. absurd (apart meets)))
 
   module _ (n : ℕ) where
     abbrev grown : List Home
@@ -86,23 +96,33 @@ module _ (width : ℕ) (runs : List Home) (last : Home) (some : 0 < length runs)
     are = set_last runs last (longer last n) some
 
     pub longer_positions : positions_at grown ≡ positions_at runs ++ range_with_len (last.position + last.count) n
-    longer_positions = ap positions_at are ∙ positions_at-longer init last n ∙ ap (λ rs. positions_at rs ++ range_with_len (last.position + last.count) n) (sym were)
+    longer_positions =
+        ap positions_at are ∙ positions_at-longer init last n
+          ∙ ap (λ rs. positions_at rs ++ range_with_len (last.position + last.count) n) (sym were)
 
     longer_greatest : AreGreatest width runs → AreGreatest width (init ++ longer last n ∷ [])
     longer_greatest greatest = greatest-last width init last (longer last n) refl refl (subst (AreGreatest width) were greatest)
 
-    pub longer_runs : (home : ℕ → Option ℕ) (to : ℕ) (part : Home) → IsAdjacent width home part → Meets width last part → n ≤ part.count → last.count + n ≤ 4096 → AreRuns width home to runs → AreRuns width home (last.position + last.count + n) grown
+    pub longer_runs : (home : ℕ → Option ℕ) (to : ℕ) (part : Home) → IsAdjacent width home part → Meets width last part
+        → n ≤ part.count → last.count + n ≤ 4096 → AreRuns width home to runs
+        → AreRuns width home (last.position + last.count + n) grown
     longer_runs home to part adjacent meets fits few so_far =
         let each = subst (IsHomeRun width home) (sym is) (so_far.each (length runs - 1) last (omega arith)) in
         record {
-          ascend = subst (AreAscending 0 (last.position + last.count + n)) (sym are) (ascending-longer 0 to init last n (subst (AreAscending 0 to) were so_far.ascend));
-          each = All-set (IsHomeRun width home) runs (length runs - 1) (longer last n) (IsHomeRun-longer width home last part n each adjacent meets fits few) so_far.each;
+          ascend =
+              subst (AreAscending 0 (last.position + last.count + n)) (sym are)
+                (ascending-longer 0 to init last n (subst (AreAscending 0 to) were so_far.ascend));
+          each =
+              All-set (IsHomeRun width home) runs (length runs - 1) (longer last n)
+                (IsHomeRun-longer width home last part n each adjacent meets fits few) so_far.each;
           greatest = subst (AreGreatest width) (sym are) (longer_greatest so_far.greatest);
         }
 
     -- where it fills a write, what is left stands behind it
     pub full_next : (next : Home) → AreGreatest width runs → last.count + n ≡ 4096 → AreGreatest width (grown ++ next ∷ [])
-    full_next next greatest full = subst (λ rs. AreGreatest width (rs ++ next ∷ [])) (sym are) (greatest-next width init (longer last n) next (longer_greatest greatest) (λ meets. full))
+    full_next next greatest full =
+        subst (λ rs. AreGreatest width (rs ++ next ∷ [])) (sym are)
+          (greatest-next width init (longer last n) next (longer_greatest greatest) (λ meets. full))
 
 -- ---- a run behind the others
 
@@ -110,20 +130,24 @@ module _ (width : ℕ) (runs : List Home) (last : Home) (some : 0 < length runs)
 abbrev next_of : ℕ → Home → ℕ → ℕ → Home
 next_of width part done count = record { position = part.position + done; place = part.place + done * width; count = count }
 
-IsHomeRun-next : (width : ℕ) (home : ℕ → Option ℕ) (part : Home) (done count : ℕ) → IsAdjacent width home part → done + count ≤ part.count → 0 < count → count ≤ 4096 → IsHomeRun width home (next_of width part done count)
+IsHomeRun-next : (width : ℕ) (home : ℕ → Option ℕ) (part : Home) (done count : ℕ) → IsAdjacent width home part
+    → done + count ≤ part.count → 0 < count → count ≤ 4096 → IsHomeRun width home (next_of width part done count)
 IsHomeRun-next width home part done count adjacent fits some few = record {
   some = some;
   few = few;
   adjacent = λ i from to. (
       let here : i - part.position ≡ done + (i - (part.position + done)) = omega arith in
-      adjacent i (omega arith) (omega arith) ∙ ap Some (ap (λ n. part.place + n * width) here ∙ sym (moved part.place done (i - (part.position + done)) width)));
+      adjacent i (omega arith) (omega arith)
+            ∙ ap Some
+                (ap (λ n. part.place + n * width) here ∙ sym (moved part.place done (i - (part.position + done)) width)));
 }
 
 module _ (width : ℕ) (part : Home) (done count : ℕ) (runs : List Home) where
   abbrev next : Home
   next = next_of width part done count
 
-  pub next_positions : (old : List Home) → positions_at runs ≡ positions_at old ++ range_with_len part.position done → positions_at (runs ++ next ∷ []) ≡ positions_at old ++ range_with_len part.position (done + count)
+  pub next_positions : (old : List Home) → positions_at runs ≡ positions_at old ++ range_with_len part.position done
+      → positions_at (runs ++ next ∷ []) ≡ positions_at old ++ range_with_len part.position (done + count)
   next_positions old so_far =
       positions_at-append runs (next ∷ [])
       ∙ ap (λ ps. positions_at runs ++ ps) (append-nil (range_with_len (part.position + done) count))
@@ -134,7 +158,9 @@ module _ (width : ℕ) (part : Home) (done count : ℕ) (runs : List Home) where
   next_greatest : AreGreatest width (runs ++ behind width part done ∷ []) → AreGreatest width (runs ++ next ∷ [])
   next_greatest greatest = greatest-last width runs (behind width part done) next refl refl greatest
 
-  pub next_runs : (home : ℕ → Option ℕ) → AreRuns width home (part.position + done) runs → IsAdjacent width home part → done + count ≤ part.count → 0 < count → count ≤ 4096 → AreGreatest width (runs ++ behind width part done ∷ []) → AreRuns width home (part.position + (done + count)) (runs ++ next ∷ [])
+  pub next_runs : (home : ℕ → Option ℕ) → AreRuns width home (part.position + done) runs → IsAdjacent width home part
+      → done + count ≤ part.count → 0 < count → count ≤ 4096 → AreGreatest width (runs ++ behind width part done ∷ [])
+      → AreRuns width home (part.position + (done + count)) (runs ++ next ∷ [])
   next_runs home so_far adjacent fits some few greatest =
       let all : part.position + done + count ≡ part.position + (done + count) = omega arith in
       record {
@@ -144,11 +170,13 @@ module _ (width : ℕ) (part : Home) (done count : ℕ) (runs : List Home) where
       }
 
   -- where it fills a write, what is left stands behind it
-  pub next_next : AreGreatest width (runs ++ behind width part done ∷ []) → count ≡ 4096 → AreGreatest width ((runs ++ next ∷ []) ++ behind width part (done + count) ∷ [])
+  pub next_next : AreGreatest width (runs ++ behind width part done ∷ []) → count ≡ 4096
+      → AreGreatest width ((runs ++ next ∷ []) ++ behind width part (done + count) ∷ [])
   next_next greatest full = greatest-next width runs next (behind width part (done + count)) (next_greatest greatest) (λ meets. full)
 
 pub AreRuns-none : (width : ℕ) (home : ℕ → Option ℕ) → AreRuns width home 0 []
 AreRuns-none width home = record { ascend = omega arith; each = All-nil (IsHomeRun width home); greatest = tt }
 
-pub AreRuns-to : (width : ℕ) (home : ℕ → Option ℕ) (to more : ℕ) (runs : List Home) → to ≤ more → AreRuns width home to runs → AreRuns width home more runs
+pub AreRuns-to : (width : ℕ) (home : ℕ → Option ℕ) (to more : ℕ) (runs : List Home) → to ≤ more → AreRuns width home to runs
+    → AreRuns width home more runs
 AreRuns-to width home to more runs le so_far = record { ascend = ascending-to 0 to more runs so_far.ascend le; each = so_far.each; greatest = so_far.greatest }

@@ -36,7 +36,8 @@ home_among-past width start end i (home ∷ homes) turn past =
     ap (λ o. option_or o (place_among width home.place home.position home.count i)) (home_among-past width (start + home.count) end i homes turn.1 past)
     ∙ place_among_past width home.place home.position home.count i (omega (arith, turn.0))
 
-pub AreHomesTo-file : (shape : Shape) (frames : List Frame) (homes : List Home) → AreLegal shape frames → gate_of shape frames ≤ 2 ^ 48 → AreHomes shape frames homes → AreHomesTo shape.width (tally_of frames).size homes
+pub AreHomesTo-file : (shape : Shape) (frames : List Frame) (homes : List Home) → AreLegal shape frames
+    → gate_of shape frames ≤ 2 ^ 48 → AreHomes shape frames homes → AreHomesTo shape.width (tally_of frames).size homes
 AreHomesTo-file shape frames homes legal fits are = record {
   end = (tally_of frames).size;
   reached = omega arith;
@@ -50,7 +51,8 @@ AreHomesTo-file shape frames homes legal fits are = record {
 
 -- ---- with a home that a job in hand has entered
 
-home_among-ahead : (width gate size i : ℕ) (told : List Home) (ahead : Option Frame) → i < size → home_among width (told ++ homes_ahead gate size ahead) i ≡ home_among width told i
+home_among-ahead : (width gate size i : ℕ) (told : List Home) (ahead : Option Frame) → i < size
+    → home_among width (told ++ homes_ahead gate size ahead) i ≡ home_among width told i
 home_among-ahead width gate size i told None lt = ap (λ hs. home_among width hs i) (append-nil told)
 home_among-ahead width gate size i told (Some (Group lengths bytes)) lt =
     let place : ℕ = gate + 10 + length lengths * 4 in
@@ -60,7 +62,8 @@ home_among-ahead width gate size i told (Some (Change runs bytes)) lt = ap (λ h
 home_among-ahead width gate size i told (Some (Shrink n)) lt = ap (λ hs. home_among width hs i) (append-nil told)
 home_among-ahead width gate size i told (Some (Fold count)) lt = ap (λ hs. home_among width hs i) (append-nil told)
 
-pub SaysHomes-listed : (shape : Shape) (frames : List Frame) (ahead : Option Frame) (homes : Homes) (live : ℕ) → Lists shape frames ahead homes live → SaysHomes shape frames homes.homes.items
+pub SaysHomes-listed : (shape : Shape) (frames : List Frame) (ahead : Option Frame) (homes : Homes) (live : ℕ)
+    → Lists shape frames ahead homes live → SaysHomes shape frames homes.homes.items
 SaysHomes-listed shape frames ahead homes live lists i lt =
     ap (λ hs. home_among shape.width hs i) lists.homes_are
     ∙ home_among-ahead shape.width (gate_of shape frames) (tally_of frames).size i lists.told ahead lt
@@ -68,7 +71,14 @@ SaysHomes-listed shape frames ahead homes live lists i lt =
 
 -- fewer positions
 AreHomesTo-fewer : (width size more : ℕ) (homes : List Home) → size ≤ more → AreHomesTo width more homes → AreHomesTo width size homes
-AreHomesTo-fewer width size more homes le are = record { end = are.end; reached = omega (arith, are.reached); small = are.small; in_turn = are.in_turn; placed = are.placed }
+AreHomesTo-fewer width size more homes le are =
+    record {
+      end = are.end;
+      reached = omega (arith, are.reached);
+      small = are.small;
+      in_turn = are.in_turn;
+      placed = are.placed;
+    }
 
 -- a frame that may be the next, below the limit on gates
 pub record MayCome (shape : Shape) (frames : List Frame) (f : Frame) : Type 0 where
@@ -76,35 +86,60 @@ pub record MayCome (shape : Shape) (frames : List Frame) (f : Frame) : Type 0 wh
   pub may : MayFollow (tally_of frames) f
   pub fits : gate_of shape frames + length (frame_text shape.format f) ≤ 2 ^ 48
 
-pub AreHomesTo-listed : (shape : Shape) (frames : List Frame) (ahead : Option Frame) (homes : Homes) (live : ℕ) → AreLegal shape frames → gate_of shape frames ≤ 2 ^ 48 → ((f : Frame) → ahead ≡ Some f → MayCome shape frames f) → Lists shape frames ahead homes live
+pub AreHomesTo-listed : (shape : Shape) (frames : List Frame) (ahead : Option Frame) (homes : Homes) (live : ℕ)
+    → AreLegal shape frames → gate_of shape frames ≤ 2 ^ 48 → ((f : Frame) → ahead ≡ Some f → MayCome shape frames f)
+    → Lists shape frames ahead homes live
     → AreHomesTo shape.width (tally_of frames).size homes.homes.items
-AreHomesTo-listed shape frames None homes live legal fits may lists = subst (AreHomesTo shape.width (tally_of frames).size) (sym (lists.homes_are ∙ append-nil lists.told)) (AreHomesTo-file shape frames lists.told legal fits lists.are_homes)
+AreHomesTo-listed shape frames None homes live legal fits may lists =
+    subst (AreHomesTo shape.width (tally_of frames).size) (sym (lists.homes_are ∙ append-nil lists.told))
+      (AreHomesTo-file shape frames lists.told legal fits lists.are_homes)
 AreHomesTo-listed shape frames (Some (Group lengths bytes)) homes live legal fits may lists =
     let f : Frame = Group lengths bytes in
     let t : Tally = tally_of frames in
     let come = may f refl in
     let size : (tally_of (frames ++ f ∷ [])).size ≡ t.size + sum lengths = ap (λ u. u.size) (tally_from_push nothing frames f) in
-    let gate : gate_of shape (frames ++ f ∷ []) ≡ gate_of shape frames + length (frame_text shape.format f) = ap length (text_push shape frames f) ∙ length-append (text shape frames) (frame_text shape.format f) in
+    let gate : gate_of shape (frames ++ f ∷ []) ≡ gate_of shape frames + length (frame_text shape.format f) =
+        ap length (text_push shape frames f) ∙ length-append (text shape frames) (frame_text shape.format f) in
     let end = come.fits in
     subst (AreHomesTo shape.width t.size) (sym lists.homes_are)
     (AreHomesTo-fewer shape.width t.size (tally_of (frames ++ f ∷ [])).size (lists.told ++ group_home shape frames lengths ∷ []) (omega arith)
-    (AreHomesTo-file shape (frames ++ f ∷ []) (lists.told ++ group_home shape frames lengths ∷ []) (AreLegalFrom_push shape nothing frames f legal come.whole come.may) (omega arith) (AreHomes_group shape frames lengths bytes lists.told lists.are_homes)))
-AreHomesTo-listed shape frames (Some (Change runs bytes)) homes live legal fits may lists = subst (AreHomesTo shape.width (tally_of frames).size) (sym (lists.homes_are ∙ append-nil lists.told)) (AreHomesTo-file shape frames lists.told legal fits lists.are_homes)
-AreHomesTo-listed shape frames (Some (Shrink n)) homes live legal fits may lists = subst (AreHomesTo shape.width (tally_of frames).size) (sym (lists.homes_are ∙ append-nil lists.told)) (AreHomesTo-file shape frames lists.told legal fits lists.are_homes)
-AreHomesTo-listed shape frames (Some (Fold count)) homes live legal fits may lists = subst (AreHomesTo shape.width (tally_of frames).size) (sym (lists.homes_are ∙ append-nil lists.told)) (AreHomesTo-file shape frames lists.told legal fits lists.are_homes)
+    (AreHomesTo-file shape (frames ++ f ∷ []) (lists.told ++ group_home shape frames lengths ∷ [])
+        (AreLegalFrom_push shape nothing frames f legal come.whole come.may) (omega arith)
+        (AreHomes_group shape frames lengths bytes lists.told lists.are_homes)))
+AreHomesTo-listed shape frames (Some (Change runs bytes)) homes live legal fits may lists =
+    subst (AreHomesTo shape.width (tally_of frames).size) (sym (lists.homes_are ∙ append-nil lists.told))
+      (AreHomesTo-file shape frames lists.told legal fits lists.are_homes)
+AreHomesTo-listed shape frames (Some (Shrink n)) homes live legal fits may lists =
+    subst (AreHomesTo shape.width (tally_of frames).size) (sym (lists.homes_are ∙ append-nil lists.told))
+      (AreHomesTo-file shape frames lists.told legal fits lists.are_homes)
+AreHomesTo-listed shape frames (Some (Fold count)) homes live legal fits may lists =
+    subst (AreHomesTo shape.width (tally_of frames).size) (sym (lists.homes_are ∙ append-nil lists.told))
+      (AreHomesTo-file shape frames lists.told legal fits lists.are_homes)
 
 -- on a pen's fields
-may_come : (shape : Shape) (frames : List Frame) (gate : ℕ) (tally next : Tally) (bytes : List ℕ) (step : Option Step) → gate ≡ gate_of shape frames → tally ≡ tally_of frames → IsMaybeJob shape gate tally next bytes step → (f : Frame) → frame_in_hand shape bytes step ≡ Some f → MayCome shape frames f
+may_come : (shape : Shape) (frames : List Frame) (gate : ℕ) (tally next : Tally) (bytes : List ℕ) (step : Option Step)
+    → gate ≡ gate_of shape frames → tally ≡ tally_of frames → IsMaybeJob shape gate tally next bytes step → (f : Frame)
+    → frame_in_hand shape bytes step ≡ Some f → MayCome shape frames f
 may_come shape frames gate tally next bytes None gate_is tally_is job f is = absurd cc
 may_come shape frames gate tally next bytes (Some step) gate_is tally_is job f is =
     let same : frame_at shape bytes ≡ f = cc in
     let end = job.fits in
     let size = ap length job.spelled ∙ length-append (frame_text shape.format (frame_at shape bytes)) (0 ∷ []) in
-    subst (MayCome shape frames) same (record { whole = job.whole; may = subst (λ t. MayFollow t (frame_at shape bytes)) tally_is job.may_follow; fits = omega arith })
+    subst (MayCome shape frames) same
+        (record
+            {
+              whole = job.whole;
+              may = subst (λ t. MayFollow t (frame_at shape bytes)) tally_is job.may_follow;
+              fits = omega arith;
+            })
 
-pub AreHomesTo-pen : (keeps : Type 0) (states : List State) (shape : Shape) (gate : ℕ) (tally next : Tally) (bytes : List ℕ) (step : Option Step) (homes : Homes) (live : ℕ) {fold : folds.Fold} → gate ≤ 2 ^ 48 → IsMaybeJob shape gate tally next bytes step → IsListed keeps states shape gate tally bytes step homes live fold
+pub AreHomesTo-pen : (keeps : Type 0) (states : List State) (shape : Shape) (gate : ℕ) (tally next : Tally) (bytes : List ℕ)
+    (step : Option Step) (homes : Homes) (live : ℕ) {fold : folds.Fold}
+    → gate ≤ 2 ^ 48 → IsMaybeJob shape gate tally next bytes step
+    → IsListed keeps states shape gate tally bytes step homes live fold
     → AreHomesTo shape.width tally.size homes.homes.items
 AreHomesTo-pen keeps states shape gate tally next bytes step homes live fits job listed =
     let below = listed.gate_is in
     subst (λ t. AreHomesTo shape.width t.size homes.homes.items) (sym listed.tally_is)
-    (AreHomesTo-listed shape listed.frames (frame_in_hand shape bytes step) homes live listed.legal (omega arith) (may_come shape listed.frames gate tally next bytes step listed.gate_is listed.tally_is job) listed.lists)
+    (AreHomesTo-listed shape listed.frames (frame_in_hand shape bytes step) homes live listed.legal (omega arith)
+      (may_come shape listed.frames gate tally next bytes step listed.gate_is listed.tally_is job) listed.lists)

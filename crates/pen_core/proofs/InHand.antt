@@ -33,10 +33,17 @@ use Rattle.pen_core.proofs.Folds.{LaidAlike, folding_alike, folding_seen, foldin
 
 -- ---- no fold
 
-pub no_fold_at : (keeps : Type 0) (states : List State) (shape : Shape) (gate : ℕ) (tally : Tally) (bytes : List ℕ) (o : Option Step) (broken : Bool) (fold : Fold) → fold.stage ≡ stages.None → IsFold keeps states shape gate tally bytes o broken fold
+pub no_fold_at : (keeps : Type 0) (states : List State) (shape : Shape) (gate : ℕ) (tally : Tally) (bytes : List ℕ)
+    (o : Option Step) (broken : Bool) (fold : Fold)
+    → fold.stage ≡ stages.None → IsFold keeps states shape gate tally bytes o broken fold
 no_fold_at keeps states shape gate tally bytes o broken fold at = record {
   counts = subst (IsAtStage shape gate tally bytes o fold) (sym at) tt;
-  homes = λ model whole. subst (HomesAt shape (blanked_before shape gate (bytes_of states)) (vector_before shape gate (bytes_of states)) fold (now states)) (sym at) tt;
+  homes =
+      λ model whole.
+        subst
+          (HomesAt shape (blanked_before shape gate (bytes_of states)) (vector_before shape gate (bytes_of states)) fold
+              (now states))
+          (sym at) tt;
 }
 
 pub fold_len_at : (stage : FoldStage) (fold : Fold) → IsInHand stage → fold.stage ≡ stage → fold_len (fold_of fold) ≡ 14
@@ -46,27 +53,44 @@ fold_len_at Sync fold held at = ap (λ st. fold_len (in_stage st (record { count
 fold_len_at Ready fold held at = ap (λ st. fold_len (in_stage st (record { count = fold.count; left = left_of fold; stage = fold.stage }))) at
 fold_len_at Filed fold held at = ap (λ st. fold_len (in_stage st (record { count = fold.count; left = left_of fold; stage = fold.stage }))) at
 
-pub pen_unfolded : (keeps : Type 0) (states : List State) (shape : Shape) (gate : ℕ) (tally next : Tally) (bytes : List ℕ) (o : Option Step) (broken : Bool) (fold : Fold) → fold.stage ≡ stages.None → IsPen 0 keeps states shape gate tally next bytes o broken → IsPen (open_count fold.stage fold.count) keeps states shape gate tally next bytes o broken
-pen_unfolded keeps states shape gate tally next bytes o broken fold at pen = subst (λ st. IsPen (open_count st fold.count) keeps states shape gate tally next bytes o broken) (sym at) pen
+pub pen_unfolded : (keeps : Type 0) (states : List State) (shape : Shape) (gate : ℕ) (tally next : Tally) (bytes : List ℕ)
+    (o : Option Step) (broken : Bool) (fold : Fold)
+    → fold.stage ≡ stages.None → IsPen 0 keeps states shape gate tally next bytes o broken
+    → IsPen (open_count fold.stage fold.count) keeps states shape gate tally next bytes o broken
+pen_unfolded keeps states shape gate tally next bytes o broken fold at pen =
+    subst (λ st. IsPen (open_count st fold.count) keeps states shape gate tally next bytes o broken) (sym at) pen
 
 pub no_fold_seen : (fold : Fold) → fold.stage ≡ stages.None → fold_of fold ≡ None
 no_fold_seen fold at = ap (λ st. in_stage st (record { count = fold.count; left = left_of fold; stage = fold.stage })) at
 
 -- ---- waiting while others commit
 
-planned_further : (gate gate' len : ℕ) (writes : List Write) → gate ≤ gate' → AllByRecursion (IsPlanned gate len) writes → AllByRecursion (IsPlanned gate' len) writes
+planned_further : (gate gate' len : ℕ) (writes : List Write) → gate ≤ gate' → AllByRecursion (IsPlanned gate len) writes
+    → AllByRecursion (IsPlanned gate' len) writes
 planned_further gate gate' len [] le all = tt
-planned_further gate gate' len (w ∷ writes) le all = let below = all.0.below_gate in (record { some = all.0.some; inside = all.0.inside; below_gate = omega arith }, planned_further gate gate' len writes le all.1)
+planned_further gate gate' len (w ∷ writes) le all =
+    let below = all.0.below_gate in
+    (record { some = all.0.some; inside = all.0.inside; below_gate = omega arith },
+        planned_further gate gate' len writes le all.1)
 
 module _ (shape : Shape) (gate gate' : ℕ) (tally tally' : Tally) (bytes bytes' : List ℕ) (o o' : Option Step) (fold : Fold) where
-  waits_on : IsUnfiled shape gate tally bytes o fold → tally'.folded ≡ tally.folded → tally.changes ≤ tally'.changes → gate ≤ gate' → gate_then gate' bytes' o' + 14 < 2 ^ 48 → IsUnfiled shape gate' tally' bytes' o' fold
+  waits_on : IsUnfiled shape gate tally bytes o fold → tally'.folded ≡ tally.folded → tally.changes ≤ tally'.changes
+      → gate ≤ gate' → gate_then gate' bytes' o' + 14 < 2 ^ 48 → IsUnfiled shape gate' tally' bytes' o' fold
   waits_on waiting folded more further room =
       let live = waiting.live in
       let upto = waiting.upto in
-      record { live = omega arith; upto = omega arith; planned = planned_further gate gate' (length fold.bytes.items) fold.writes.items further waiting.planned; spelled = waiting.spelled; room = room }
+      record {
+        live = omega arith;
+        upto = omega arith;
+        planned = planned_further gate gate' (length fold.bytes.items) fold.writes.items further waiting.planned;
+        spelled = waiting.spelled;
+        room = room;
+      }
 
   -- what a stage counts, but for a filed one
-  pub stage_on : (stage : FoldStage) → IsAtStage shape gate tally bytes o fold stage → (stage ≡ Filed → frame_in_hand shape bytes' o' ≡ frame_in_hand shape bytes o) → tally'.folded ≡ tally.folded → tally.changes ≤ tally'.changes → gate ≤ gate'
+  pub stage_on : (stage : FoldStage) → IsAtStage shape gate tally bytes o fold stage
+      → (stage ≡ Filed → frame_in_hand shape bytes' o' ≡ frame_in_hand shape bytes o) → tally'.folded ≡ tally.folded
+      → tally.changes ≤ tally'.changes → gate ≤ gate'
       → (IsInHand stage → (stage ≡ Filed → ⊥) → gate_then gate' bytes' o' + 14 < 2 ^ 48) → IsAtStage shape gate' tally' bytes' o' fold stage
   stage_on stages.None at same folded more further room = tt
   stage_on (Home n) at same folded more further room = (waits_on at.0 folded more further (room tt (λ is. absurd cc)), at.1, at.2)
@@ -75,60 +99,95 @@ module _ (shape : Shape) (gate gate' : ℕ) (tally tally' : Tally) (bytes bytes'
   stage_on Filed at same folded more further room = (same refl ∙ at.0, at.1)
 
 -- the room that a waiting fold has
-pub room_of : (shape : Shape) (gate : ℕ) (tally : Tally) (bytes : List ℕ) (o : Option Step) (fold : Fold) (stage : FoldStage) → IsAtStage shape gate tally bytes o fold stage → IsInHand stage → (stage ≡ Filed → ⊥) → IsUnfiled shape gate tally bytes o fold
+pub room_of : (shape : Shape) (gate : ℕ) (tally : Tally) (bytes : List ℕ) (o : Option Step) (fold : Fold) (stage : FoldStage)
+    → IsAtStage shape gate tally bytes o fold stage → IsInHand stage → (stage ≡ Filed → ⊥)
+    → IsUnfiled shape gate tally bytes o fold
 room_of shape gate tally bytes o fold stages.None at held unfiled = absurd held
 room_of shape gate tally bytes o fold (Home n) at held unfiled = at.0
 room_of shape gate tally bytes o fold Sync at held unfiled = at.0
 room_of shape gate tally bytes o fold Ready at held unfiled = at.0
 room_of shape gate tally bytes o fold Filed at held unfiled = absurd (unfiled refl)
 
-pub filed_at : (shape : Shape) (gate : ℕ) (tally : Tally) (bytes : List ℕ) (o : Option Step) (fold : Fold) → IsAtStage shape gate tally bytes o fold fold.stage → fold.stage ≡ Filed → frame_in_hand shape bytes o ≡ Some (kinds.Fold fold.count)
+pub filed_at : (shape : Shape) (gate : ℕ) (tally : Tally) (bytes : List ℕ) (o : Option Step) (fold : Fold)
+    → IsAtStage shape gate tally bytes o fold fold.stage → fold.stage ≡ Filed
+    → frame_in_hand shape bytes o ≡ Some (kinds.Fold fold.count)
 filed_at shape gate tally bytes o fold at is = (subst (IsAtStage shape gate tally bytes o fold) is at).0
 
 -- ---- a job is begun
 
-pub fold_begun : (keeps : Type 0) (states : List State) (shape : Shape) (gate : ℕ) (tally : Tally) (bytes bytes' : List ℕ) (o : Option Step) (broken : Bool) (fold : Fold) (f : Frame) (step : Step) → IsFold keeps states shape gate tally bytes o broken fold → o ≡ None → bytes' ≡ frame_text shape.format f ++ 0 ∷ []
+pub fold_begun : (keeps : Type 0) (states : List State) (shape : Shape) (gate : ℕ) (tally : Tally) (bytes bytes' : List ℕ)
+    (o : Option Step) (broken : Bool) (fold : Fold) (f : Frame) (step : Step)
+    → IsFold keeps states shape gate tally bytes o broken fold → o ≡ None → bytes' ≡ frame_text shape.format f ++ 0 ∷ []
     → gate + length (frame_text shape.format f) + fold_len (fold_of fold) < 2 ^ 48 → IsFold keeps states shape gate tally bytes' (Some step) broken fold
 fold_begun keeps states shape gate tally bytes bytes' o broken fold f step is idle spelled room =
-    let unfiled : fold.stage ≡ Filed → ⊥ = λ filed. (let clash : None ≡ Some (kinds.Fold fold.count) = sym (ap (frame_in_hand shape bytes) idle) ∙ filed_at shape gate tally bytes o fold is.counts filed in absurd cc) in
+    let unfiled : fold.stage ≡ Filed → ⊥ =
+        λ filed.
+          (let clash : None ≡ Some (kinds.Fold fold.count) = sym (ap (frame_in_hand shape bytes) idle)
+              ∙ filed_at shape gate tally bytes o fold is.counts filed in
+            absurd cc) in
     let long = ap length spelled ∙ length-append (frame_text shape.format f) (0 ∷ []) in
     record {
-      counts = stage_on shape gate gate tally tally bytes bytes' o (Some step) fold fold.stage is.counts (λ filed. absurd (unfiled filed)) refl (omega arith) (omega arith) (λ held out. let len = fold_len_at fold.stage fold held refl in omega arith);
+      counts =
+          stage_on shape gate gate tally tally bytes bytes' o (Some step) fold fold.stage is.counts
+            (λ filed. absurd (unfiled filed)) refl (omega arith) (omega arith)
+            (λ held out. let len = fold_len_at fold.stage fold held refl in omega arith);
       homes = is.homes;
     }
 
 -- growths are begun
-pub group_held : {R : Type 0} (keeps : Type 0) (states : List State) (shape : Shape) (gate : ℕ) (tally : Tally) (bytes bytes' : List ℕ) (o : Option Step) (broken : Bool) (fold : Fold) (form : Encoding R) (growths : List (List R)) → IsFold keeps states shape gate tally bytes o broken fold → o ≡ None
-    → bytes' ≡ frame_text shape.format (group_frame form growths) ++ 0 ∷ [] → ((r : R) → length (form.bytes_of r) ≡ form.width) → gate + (6 + payload_len form.width growths) + fold_len (fold_of fold) < 2 ^ 48 → IsFold keeps states shape gate tally bytes' (Some Body) broken fold
+pub group_held : {R : Type 0} (keeps : Type 0) (states : List State) (shape : Shape) (gate : ℕ) (tally : Tally)
+    (bytes bytes' : List ℕ) (o : Option Step) (broken : Bool) (fold : Fold) (form : Encoding R) (growths : List (List R))
+    → IsFold keeps states shape gate tally bytes o broken fold → o ≡ None
+    → bytes' ≡ frame_text shape.format (group_frame form growths) ++ 0 ∷ []
+    → ((r : R) → length (form.bytes_of r) ≡ form.width)
+    → gate + (6 + payload_len form.width growths) + fold_len (fold_of fold) < 2 ^ 48
+    → IsFold keeps states shape gate tally bytes' (Some Body) broken fold
 group_held keeps states shape gate tally bytes bytes' o broken fold form growths is idle spelled size_of room =
     let long = length-frame_text shape.format (group_frame form growths) ∙ ap (λ n. 6 + n) (length-group_frame shape.format form growths size_of) in
     fold_begun keeps states shape gate tally bytes bytes' o broken fold (group_frame form growths) Body is idle spelled (omega arith)
 
 -- no job is in hand: its bytes may be others
-pub fold_same : (keeps : Type 0) (states : List State) (shape : Shape) (gate : ℕ) (tally : Tally) (bytes bytes' : List ℕ) (o : Option Step) (broken : Bool) (fold : Fold) → IsFold keeps states shape gate tally bytes o broken fold → o ≡ None → IsFold keeps states shape gate tally bytes' o broken fold
-fold_same keeps states shape gate tally bytes bytes' o broken fold is idle =
+pub fold_same : {keeps : Type 0} {states : List State} {shape : Shape} {gate : ℕ} {tally : Tally} {bytes : List ℕ} {o : Option Step}
+    {broken : Bool} {fold : Fold} → IsFold keeps states shape gate tally bytes o broken fold → o ≡ None
+    → (bytes' : List ℕ) → IsFold keeps states shape gate tally bytes' o broken fold
+fold_same {keeps} {states} {shape} {gate} {tally} {bytes} {o} {broken} {fold} is idle bytes' =
     let none : (bs : List ℕ) → frame_in_hand shape bs o ≡ None = λ bs. ap (frame_in_hand shape bs) idle in
     record {
-      counts = stage_on shape gate gate tally tally bytes bytes' o o fold fold.stage is.counts (λ filed. none bytes' ∙ sym (none bytes)) refl (omega arith) (omega arith)
-          (λ held out. let w = (room_of shape gate tally bytes o fold fold.stage is.counts held out).room in subst (λ g. g + 14 < 2 ^ 48) (ap (gate_then gate bytes) idle ∙ sym (ap (gate_then gate bytes') idle)) w);
+      counts =
+          stage_on shape gate gate tally tally bytes bytes' o o fold fold.stage is.counts
+            (λ filed. none bytes' ∙ sym (none bytes)) refl (omega arith) (omega arith)
+          (λ held out. let w = (room_of shape gate tally bytes o fold fold.stage is.counts held out).room in
+            subst (λ g. g + 14 < 2 ^ 48) (ap (gate_then gate bytes) idle ∙ sym (ap (gate_then gate bytes') idle)) w);
       homes = is.homes;
     }
 
 -- ---- a tick of the log
 
-homes_alike : (shape : Shape) (fs : List Frame) (vector : List (List ℕ)) (fold : Fold) (s t : State) (stage : FoldStage) → AreLegal shape fs → LaidAlike (gate_of shape fs) s.seen t.seen → HomesAt shape fs vector fold s stage → HomesAt shape fs vector fold t stage
+homes_alike : (shape : Shape) (fs : List Frame) (vector : List (List ℕ)) (fold : Fold) (s t : State) (stage : FoldStage)
+    → AreLegal shape fs → LaidAlike (gate_of shape fs) s.seen t.seen → HomesAt shape fs vector fold s stage
+    → HomesAt shape fs vector fold t stage
 homes_alike shape fs vector fold s t stages.None legal same at = tt
 homes_alike shape fs vector fold s t (Home n) legal same at = folding_alike shape fold.count fs vector (left_of fold) s t legal same at
 homes_alike shape fs vector fold s t Sync legal same at = folding_alike shape fold.count fs vector (left_of fold) s t legal same at
 homes_alike shape fs vector fold s t Ready legal same at = folding_alike shape fold.count fs vector (left_of fold) s t legal same at
 homes_alike shape fs vector fold s t Filed legal same at = tt
 
-homes_more : (shape : Shape) (fs : List Frame) (f : Frame) (vector then : List (List ℕ)) (fold : Fold) (s : State) (stage : FoldStage) → Holds shape fs vector s.seen → Holds shape (frames_with fs f) then s.seen → (IsInHand stage → (stage ≡ Filed → ⊥) → Appends f × ((tally_of fs).folded ≤ fold.count) × (fold.count ≤ (tally_of fs).changes))
+homes_more : (shape : Shape) (fs : List Frame) (f : Frame) (vector then : List (List ℕ)) (fold : Fold) (s : State)
+    (stage : FoldStage)
+    → Holds shape fs vector s.seen → Holds shape (frames_with fs f) then s.seen
+    → (IsInHand stage → (stage ≡ Filed → ⊥)
+        → Appends f × ((tally_of fs).folded ≤ fold.count) × (fold.count ≤ (tally_of fs).changes))
     → HomesAt shape fs vector fold s stage → HomesAt shape (frames_with fs f) then fold s stage
 homes_more shape fs f vector then fold s stages.None has more fits at = tt
-homes_more shape fs f vector then fold s (Home n) has more fits at = let b = fits tt (λ is. absurd cc) in folding_more shape fold.count fs f vector then (left_of fold) s has more b.0 b.1 b.2 at
-homes_more shape fs f vector then fold s Sync has more fits at = let b = fits tt (λ is. absurd cc) in folding_more shape fold.count fs f vector then (left_of fold) s has more b.0 b.1 b.2 at
-homes_more shape fs f vector then fold s Ready has more fits at = let b = fits tt (λ is. absurd cc) in folding_more shape fold.count fs f vector then (left_of fold) s has more b.0 b.1 b.2 at
+homes_more shape fs f vector then fold s (Home n) has more fits at =
+    let b = fits tt (λ is. absurd cc) in
+    folding_more shape fold.count fs f vector then (left_of fold) s has more b.0 b.1 b.2 at
+homes_more shape fs f vector then fold s Sync has more fits at =
+    let b = fits tt (λ is. absurd cc) in
+    folding_more shape fold.count fs f vector then (left_of fold) s has more b.0 b.1 b.2 at
+homes_more shape fs f vector then fold s Ready has more fits at =
+    let b = fits tt (λ is. absurd cc) in
+    folding_more shape fold.count fs f vector then (left_of fold) s has more b.0 b.1 b.2 at
 homes_more shape fs f vector then fold s Filed has more fits at = tt
 
 -- a frame that may follow while a change below the count is live
@@ -150,7 +209,8 @@ same_folded tally (Change runs bytes) no_fold = refl
 same_folded tally (Shrink n) no_fold = refl
 same_folded tally (kinds.Fold c) no_fold = absurd (no_fold c refl)
 
-module _ (keeps keeps' : Type 0) (states new : List State) (shape : Shape) (gate : ℕ) (tally : Tally) (bytes : List ℕ) (o : Option Step) (broken : Bool) (fold : Fold) (is : IsFold keeps states shape gate tally bytes o broken fold) (back : keeps' → keeps) where
+module _ {keeps keeps' : Type 0} {states : List State} {shape : Shape} {gate : ℕ} {tally : Tally} {bytes : List ℕ} {o : Option Step}
+    {broken : Bool} {fold : Fold} (is : IsFold keeps states shape gate tally bytes o broken fold) (back : keeps' → keeps) (new : List State) where
   abbrev fs : List Frame
   fs = blanked_before shape gate (bytes_of states)
 
@@ -158,14 +218,23 @@ module _ (keeps keeps' : Type 0) (states new : List State) (shape : Shape) (gate
   vector = vector_before shape gate (bytes_of states)
 
   -- a step of the job's calls
-  pub fold_stays : (step behind : Step) → o ≡ Some step → (keeps' → AreLegal shape fs) → (keeps' → LaidAlike (gate_of shape fs) (bytes_of states) (bytes_of new)) → (keeps' → blanked_before shape gate (bytes_of new) ≡ fs) → (keeps' → vector_before shape gate (bytes_of new) ≡ vector)
+  pub fold_stays : (step behind : Step) → o ≡ Some step → (keeps' → AreLegal shape fs)
+      → (keeps' → LaidAlike (gate_of shape fs) (bytes_of states) (bytes_of new))
+      → (keeps' → blanked_before shape gate (bytes_of new) ≡ fs)
+      → (keeps' → vector_before shape gate (bytes_of new) ≡ vector)
       → IsFold keeps' new shape gate tally bytes (Some behind) broken fold
   fold_stays step behind at legal same frames_same vector_same =
       let there : frame_in_hand shape bytes (Some behind) ≡ frame_in_hand shape bytes o = sym (ap (frame_in_hand shape bytes) at) in
       record {
         counts = stage_on shape gate gate tally tally bytes bytes o (Some behind) fold fold.stage is.counts (λ filed. there) refl (omega arith) (omega arith)
-            (λ held out. subst (λ g. g + 14 < 2 ^ 48) (ap (gate_then gate bytes) at) (room_of shape gate tally bytes o fold fold.stage is.counts held out).room);
-        homes = λ model whole. subst (λ gs. HomesAt shape gs (vector_before shape gate (bytes_of new)) fold (now new) fold.stage) (sym (frames_same model)) (subst (λ v. HomesAt shape fs v fold (now new) fold.stage) (sym (vector_same model))
+            (λ held out.
+              subst (λ g. g + 14 < 2 ^ 48) (ap (gate_then gate bytes) at)
+                  (room_of shape gate tally bytes o fold fold.stage is.counts held out).room);
+        homes =
+            λ model whole.
+              subst (λ gs. HomesAt shape gs (vector_before shape gate (bytes_of new)) fold (now new) fold.stage)
+                (sym (frames_same model))
+                (subst (λ v. HomesAt shape fs v fold (now new) fold.stage) (sym (vector_same model))
             (homes_alike shape fs vector fold (now states) (now new) fold.stage (legal model) (same model) (is.homes (back model) whole)));
       }
 
@@ -174,15 +243,27 @@ module _ (keeps keeps' : Type 0) (states new : List State) (shape : Shape) (gate
   fold_broken = record { counts = is.counts; homes = λ model whole. absurd cc }
 
   -- the job is done, and isn't the fold's own
-  module _ (gate' : ℕ) (step : Step) (at : o ≡ Some step) (next : Tally) (may : MayFollow tally (frame_at shape bytes)) (next_is : next ≡ after tally (frame_at shape bytes)) (moved : gate' ≡ gate + (length bytes - 1)) (unfiled : fold.stage ≡ Filed → ⊥) (no_fold : (c : ℕ) → frame_at shape bytes ≡ kinds.Fold c → ⊥) where
+  module _ (gate' : ℕ) (step : Step) (at : o ≡ Some step) (next : Tally) (may : MayFollow tally (frame_at shape bytes))
+      (next_is : next ≡ after tally (frame_at shape bytes)) (moved : gate' ≡ gate + (length bytes - 1))
+      (unfiled : fold.stage ≡ Filed → ⊥) (no_fold : (c : ℕ) → frame_at shape bytes ≡ kinds.Fold c → ⊥) where
     abbrev frame : Frame
     frame = frame_at shape bytes
 
-    pub fold_done : (then : List (List ℕ)) (tally_is : keeps → tally ≡ tally_of fs) → (keeps' → Holds shape fs vector (bytes_of states)) → (keeps' → Holds shape (frames_with fs frame) then (bytes_of states)) → (keeps' → now new ≡ settled (bytes_of states)) → (keeps' → blanked_before shape gate' (bytes_of new) ≡ frames_with fs frame)
+    pub fold_done : (then : List (List ℕ)) (tally_is : keeps → tally ≡ tally_of fs)
+        → (keeps' → Holds shape fs vector (bytes_of states))
+        → (keeps' → Holds shape (frames_with fs frame) then (bytes_of states))
+        → (keeps' → now new ≡ settled (bytes_of states))
+        → (keeps' → blanked_before shape gate' (bytes_of new) ≡ frames_with fs frame)
         → (keeps' → vector_before shape gate' (bytes_of new) ≡ then) → IsFold keeps' new shape gate' next bytes None broken fold
     fold_done then tally_is has more settles frames_are vector_is = record {
-      counts = stage_on shape gate gate' tally next bytes bytes o None fold fold.stage is.counts (λ filed. absurd (unfiled filed)) (ap (λ t. t.folded) next_is ∙ same_folded tally frame no_fold) (subst (λ t. tally.changes ≤ t.changes) (sym next_is) (more_changes tally frame)) (omega arith)
-          (λ held out. let w = subst (λ g. g + 14 < 2 ^ 48) (ap (gate_then gate bytes) at) (room_of shape gate tally bytes o fold fold.stage is.counts held out).room in omega arith);
+      counts =
+          stage_on shape gate gate' tally next bytes bytes o None fold fold.stage is.counts (λ filed. absurd (unfiled filed))
+            (ap (λ t. t.folded) next_is ∙ same_folded tally frame no_fold)
+            (subst (λ t. tally.changes ≤ t.changes) (sym next_is) (more_changes tally frame)) (omega arith)
+          (λ held out.
+            let w = subst (λ g. g + 14 < 2 ^ 48) (ap (gate_then gate bytes) at)
+              (room_of shape gate tally bytes o fold fold.stage is.counts held out).room in
+            omega arith);
       homes = λ model whole. (
           let m = back model in
           let made = homes_more shape fs frame vector then fold (now states) fold.stage (has model) (more model)
@@ -190,14 +271,18 @@ module _ (keeps keeps' : Type 0) (states new : List State) (shape : Shape) (gate
           let w = room_of shape gate tally bytes o fold fold.stage is.counts held out in
           let live = w.live in
           let upto = w.upto in
-          (appends_live tally frame may no_fold (omega arith), subst (λ t. t.folded ≤ fold.count) (tally_is m) (omega arith), subst (λ t. fold.count ≤ t.changes) (tally_is m) (omega arith))))
+          (appends_live tally frame may no_fold (omega arith), subst (λ t. t.folded ≤ fold.count) (tally_is m) (omega arith),
+                subst (λ t. fold.count ≤ t.changes) (tally_is m) (omega arith))))
           (is.homes m whole) in
           let seen : (now states).seen ≡ (now new).seen = sym (ap (λ s. s.seen) (settles model)) in
-          subst (λ gs. HomesAt shape gs (vector_before shape gate' (bytes_of new)) fold (now new) fold.stage) (sym (frames_are model)) (subst (λ v. HomesAt shape (frames_with fs frame) v fold (now new) fold.stage) (sym (vector_is model))
+          subst (λ gs. HomesAt shape gs (vector_before shape gate' (bytes_of new)) fold (now new) fold.stage)
+          (sym (frames_are model))
+          (subst (λ v. HomesAt shape (frames_with fs frame) v fold (now new) fold.stage) (sym (vector_is model))
           (homes_seen shape (frames_with fs frame) then fold (now states) (now new) fold.stage seen made)));
     }
       where
-        homes_seen : (shape : Shape) (gs : List Frame) (v : List (List ℕ)) (fold : Fold) (s t : State) (stage : FoldStage) → s.seen ≡ t.seen → HomesAt shape gs v fold s stage → HomesAt shape gs v fold t stage
+        homes_seen : (shape : Shape) (gs : List Frame) (v : List (List ℕ)) (fold : Fold) (s t : State) (stage : FoldStage)
+            → s.seen ≡ t.seen → HomesAt shape gs v fold s stage → HomesAt shape gs v fold t stage
         homes_seen shape gs v fold s t stages.None seen at = tt
         homes_seen shape gs v fold s t (Home n) seen at = folding_seen shape fold.count gs v (left_of fold) s t seen at
         homes_seen shape gs v fold s t Sync seen at = folding_seen shape fold.count gs v (left_of fold) s t seen at
@@ -221,7 +306,8 @@ live_kept Ready runs live unfiled = refl
 live_kept Filed runs live unfiled = absurd (unfiled refl)
 
 -- nothing more is pending
-pub open_ended : (fold fold' : Fold) → fold'.stage ≡ stage_ended fold.stage → ((fold.stage ≡ Filed → ⊥) → fold' ≡ fold) → open_count fold.stage fold.count ≡ open_count fold'.stage fold'.count
+pub open_ended : (fold fold' : Fold) → fold'.stage ≡ stage_ended fold.stage → ((fold.stage ≡ Filed → ⊥) → fold' ≡ fold)
+    → open_count fold.stage fold.count ≡ open_count fold'.stage fold'.count
 open_ended fold fold' ended same = elim (is_filed fold.stage) [
   | inl filed ↦ ap (λ st. open_count st fold.count) filed ∙ sym (ap (λ st. open_count st fold'.count) (ended ∙ ap stage_ended filed))
   | inr unfiled ↦ sym (ap (λ f. open_count f.stage f.count) (same unfiled))

@@ -50,7 +50,9 @@ module _ {D : Type 0} (keeps : D → Type 0) (states : D → List State) (old ne
     pending_is_told = λ j there. elim (k.pending_is_told j there) [
       | inl past ↦ inl past
       | inr (inl at) ↦ inr (inl at)
-      | inr (inr folded) ↦ absurd (nothing_folded old.shape old.frames j (subst (λ n. IsBeingFolded old.shape n old.frames j) (ap fold_count is.ready.1) folded))
+      | inr (inr folded) ↦ absurd
+          (nothing_folded old.shape old.frames j
+              (subst (λ n. IsBeingFolded old.shape n old.frames j) (ap fold_count is.ready.1) folded))
     ];
     gate_is = k.gate_is;
     tally_is = k.tally_is;

@@ -11,6 +11,7 @@ use Rattle.segment_core.specs.Frame as kinds
 use Rattle.segment_core.specs.Found.{home_among, AreInTurn}
 use Rattle.segment_core.specs.Raw.{after_frame}
 use Rattle.segment_core.specs.Parsed.{vector_before}
+use Rattle.pen_core.specs.declared.pen.Pen.TheInside.{Inside}
 use Rattle.pen_core.specs.declared.fold.Fold.{Fold}
 use Rattle.pen_core.specs.declared.stage.FoldStage.TheVariants.{Filed}
 use Rattle.pen_core.specs.declared.step.Step.{Step}
@@ -19,59 +20,102 @@ use Rattle.pen_core.specs.InHand.{fold_of, frame_in_hand, stage_ended, live_afte
 use Rattle.pen_core.specs.Inside.{IsJob, IsMaybeJob, IsPen}
 use Rattle.pen_core.specs.Listed.{IsListed}
 use Rattle.pen_core.specs.PenOf.{FoldOf}
+use Rattle.pen_core.specs.Fields.{IsSound}
 use Rattle.pen_core.specs.Pen.{open_count, fold_behind}
 use Rattle.pen_core.specs.Vectors.{frame_at}
 use Rattle.pen_core.proofs.AtRest.{pen_same}
 use Rattle.pen_core.proofs.InHand.{no_fold_at, no_fold_seen, room_of, filed_at, fold_same, fold_done, is_filed, live_kept, open_ended}
 use Rattle.pen_core.proofs.Listed.{listed_same, listed_done, listed_folded}
-use Rattle.pen_core.proofs.Whole.{tally_now, gate_moved, settles_now, holds_now, holds_next, more_frames, vector_then, whole_done}
+use Rattle.pen_core.proofs.LogCall.{LogCall, tally_now, gate_moved, settles_now, holds_now, holds_next, more_frames, vector_then, done_job}
 
-module _ (keeps keeps' : Type 0) (states new : List State) (shape : Shape) (gate : ℕ) (tally next : Tally) (bytes given bytes' : List ℕ) (o : Option Step) (broken : Bool) (step : Step) (homes homes' : Homes) (live live' : ℕ) (fold fold' : Fold) (pen : IsPen (open_count fold.stage fold.count) keeps states shape gate tally next bytes o broken)
-    (listed : IsListed keeps states shape gate tally bytes o homes live fold) (is_fold : IsFold keeps states shape gate tally bytes o broken fold) (whole : broken ≡ false) (is : o ≡ Some step) (value : given ≡ bytes) (back : keeps' → keeps) (reads : keeps → IsImage (now states) (bytes_of states))
-    (reads' : keeps' → IsImage (now new) (bytes_of new)) (call : keeps → Calls step gate given states new) (gate' : ℕ) (moved : gate' ≡ gate + (length given - 1)) (last : step_after step ≡ None) (turn : AreInTurn 0 homes'.homes.items next.size)
-    (each : (width i : ℕ) → i < next.size → home_among width homes'.homes.items i ≡ home_among width homes.homes.items i) (all : live' ≡ length homes'.live.items) (ended : fold'.stage ≡ stage_ended fold.stage) (left : homes'.live.items ≡ live_after fold.stage fold.runs homes.live.items) (same : (fold.stage ≡ Filed → ⊥) → fold' ≡ fold) where
+-- What the last tick of a job knows: the call has succeeded, the homes were cut, and a fold whose frame was the job has
+-- ended.
+pub record LastCall {D : Type 0} {keeps : D → Type 0} {states : D → List State} {pen : Inside D} {new : D} {step : Step}
+    (tick : LogCall keeps states pen new step) (then : Inside D) : Type 0 where
+  pub call : keeps pen.disk → Calls step pen.gate tick.given (states pen.disk) (states new)
+  pub moved : then.gate ≡ pen.gate + (length tick.given - 1)
+  pub last : step_after step ≡ None
+  pub turn : AreInTurn 0 then.homes.homes.items pen.next.size
+  pub each : (width i : ℕ) → i < pen.next.size → home_among width then.homes.homes.items i ≡ home_among width pen.homes.homes.items i
+  pub all : then.live ≡ length then.homes.live.items
+  pub ended : then.fold.stage ≡ stage_ended pen.fold.stage
+  pub left : then.homes.live.items ≡ live_after pen.fold.stage pen.fold.runs pen.homes.live.items
+  pub same : (pen.fold.stage ≡ Filed → ⊥) → then.fold ≡ pen.fold
+
+module _ {D : Type 0} {keeps : D → Type 0} {states : D → List State} {pen : Inside D} {new : D} {step : Step} {tick : LogCall keeps states pen new step}
+    {then : Inside D} (end : LastCall tick then) where
   abbrev frame : Frame
-  frame = frame_at shape bytes
+  frame = frame_at pen.shape pen.bytes.items
 
-  job : IsJob shape gate tally next bytes
-  job = subst (λ s. IsMaybeJob shape gate tally next bytes s) is pen.job
+  in_hand : frame_in_hand pen.shape pen.bytes.items pen.step ≡ Some frame
+  in_hand = ap (frame_in_hand pen.shape pen.bytes.items) tick.is
 
-  pub pen_last : IsPen (open_count fold'.stage fold'.count) keeps' new shape gate' next next bytes' None broken
-  pen_last = subst (λ n. IsPen n keeps' new shape gate' next next bytes' None broken) (open_ended fold fold' ended same)
-      (pen_same (open_count fold.stage fold.count) keeps' new shape gate' next next bytes bytes' None broken (whole_done keeps keeps' states new shape gate tally next bytes given o broken step pen whole is value back reads reads' call gate' moved last) refl)
+  job : IsJob pen.shape pen.gate pen.tally pen.next pen.bytes.items
+  job = subst (λ due. IsMaybeJob pen.shape pen.gate pen.tally pen.next pen.bytes.items due) tick.is tick.sound.job.job
 
   -- the frame of a filed fold
-  folds : fold.stage ≡ Filed → frame ≡ kinds.Fold fold.count
-  folds filed = same_Some frame (kinds.Fold fold.count) (sym (ap (frame_in_hand shape bytes) is) ∙ filed_at shape gate tally bytes o fold is_fold.counts filed)
+  folds : pen.fold.stage ≡ Filed → frame ≡ kinds.Fold pen.fold.count
+  folds filed =
+      same_Some frame (kinds.Fold pen.fold.count)
+      (sym in_hand ∙ filed_at pen.shape pen.gate pen.tally pen.bytes.items pen.step pen.fold tick.sound.fold.counts filed)
 
-  no_fold : (fold.stage ≡ Filed → ⊥) → (count : ℕ) → frame ≡ kinds.Fold count → ⊥
-  no_fold unfiled count at = unfiled (listed.filed count (ap (frame_in_hand shape bytes) is ∙ ap (λ g. Some g) at)).0
+  no_fold : (pen.fold.stage ≡ Filed → ⊥) → (count : ℕ) → frame ≡ kinds.Fold count → ⊥
+  no_fold unfiled count at = unfiled (tick.sound.lists.filed count (in_hand ∙ ap (λ g. Some g) at)).0
 
-  pub listed_last : IsListed keeps' new shape gate' next bytes' None homes' live' fold'
-  listed_last =
-      let further = gate_moved keeps keeps' states new shape gate tally next bytes given o broken step pen whole is value back reads reads' call gate' moved last in
-      let more = more_frames keeps keeps' states new shape gate tally next bytes given o broken step pen whole is value back reads reads' call gate' moved last in
-      let made : IsListed keeps' new shape gate' next bytes None homes' live' fold' = elim (is_filed fold.stage) [
-        | inl filed ↦ listed_folded keeps states shape gate tally bytes o homes live listed step is next pen.job keeps' new gate' homes' live' pen.folded_counted further back more turn each all fold' filed (folds filed) (ended ∙ ap stage_ended filed) (left ∙ ap (λ st. live_after st fold.runs homes.live.items) filed)
-        | inr unfiled ↦ subst (λ f. IsListed keeps' new shape gate' next bytes None homes' live' f) (sym (same unfiled))
-            (listed_done keeps states shape gate tally bytes o homes live listed step is next pen.job keeps' new gate' homes' live' pen.folded_counted further back more turn each all unfiled (λ held. (room_of shape gate tally bytes o fold fold.stage is_fold.counts held unfiled).upto)
-            (left ∙ live_kept fold.stage fold.runs homes.live.items unfiled))
+  last_job : IsPen (open_count then.fold.stage then.fold.count) (keeps new) (states new) pen.shape then.gate pen.next pen.next then.bytes.items None pen.broken
+  last_job =
+      subst (λ n. IsPen n (keeps new) (states new) pen.shape then.gate pen.next pen.next then.bytes.items None pen.broken)
+      (open_ended pen.fold then.fold end.ended end.same)
+      (pen_same (done_job tick end.call then.gate end.moved end.last) refl then.bytes.items)
+
+  last_lists : IsListed (keeps new) (states new) pen.shape then.gate pen.next then.bytes.items None then.homes then.live then.fold
+  last_lists =
+      let further = gate_moved tick end.call then.gate end.moved end.last in
+      let more = more_frames tick end.call then.gate end.moved end.last in
+      let made : IsListed (keeps new) (states new) pen.shape then.gate pen.next pen.bytes.items None then.homes then.live
+          then.fold =
+          elim (is_filed pen.fold.stage) [
+        | inl filed ↦ listed_folded tick.sound.lists step tick.is pen.next tick.sound.job.job (keeps new) (states new) then.gate then.homes then.live
+            tick.sound.job.folded_counted further tick.back more end.turn end.each end.all then.fold filed (folds filed) (end.ended ∙ ap stage_ended filed)
+            (end.left ∙ ap (λ stage. live_after stage pen.fold.runs pen.homes.live.items) filed)
+        | inr unfiled ↦ subst
+            (λ f. IsListed (keeps new) (states new) pen.shape then.gate pen.next pen.bytes.items None then.homes then.live f)
+            (sym (end.same unfiled))
+            (listed_done tick.sound.lists step tick.is pen.next tick.sound.job.job (keeps new) (states new) then.gate then.homes then.live
+            tick.sound.job.folded_counted further tick.back more end.turn end.each end.all unfiled
+            (λ held. (room_of pen.shape pen.gate pen.tally pen.bytes.items pen.step pen.fold pen.fold.stage tick.sound.fold.counts held unfiled).upto)
+            (end.left ∙ live_kept pen.fold.stage pen.fold.runs pen.homes.live.items unfiled))
       ] in
-      listed_same keeps' new shape gate' next bytes None homes' live' made refl bytes' homes' refl refl
+      listed_same made refl then.bytes.items then.homes refl refl
 
-  pub fold_last : IsFold keeps' new shape gate' next bytes' None broken fold'
-  fold_last = elim (is_filed fold.stage) [
-    | inl filed ↦ no_fold_at keeps' new shape gate' next bytes' None broken fold' (ended ∙ ap stage_ended filed)
-    | inr unfiled ↦ subst (λ f. IsFold keeps' new shape gate' next bytes' None broken f) (sym (same unfiled)) (fold_same keeps' new shape gate' next bytes bytes' None broken fold
-        (fold_done keeps keeps' states new shape gate tally bytes o broken fold is_fold back gate' step is next job.may_follow job.next_is (moved ∙ ap (λ b. gate + (length b - 1)) value) unfiled (no_fold unfiled) (after_frame shape.width (vector_before shape gate (bytes_of states)) frame)
-        (tally_now keeps keeps' states new shape gate tally next bytes given o broken step pen whole is value back reads reads')
-        (holds_now keeps keeps' states new shape gate tally next bytes given o broken step pen whole is value back reads reads' call gate' moved last)
-        (holds_next keeps keeps' states new shape gate tally next bytes given o broken step pen whole is value back reads reads' call gate' moved last)
-        (settles_now keeps keeps' states new shape gate tally next bytes given o broken step pen whole is value back reads reads' call gate' moved last)
-        (more_frames keeps keeps' states new shape gate tally next bytes given o broken step pen whole is value back reads reads' call gate' moved last)
-        (vector_then keeps keeps' states new shape gate tally next bytes given o broken step pen whole is value back reads reads' call gate' moved last))
-        refl)
+  last_fold : IsFold (keeps new) (states new) pen.shape then.gate pen.next then.bytes.items None pen.broken then.fold
+  last_fold = elim (is_filed pen.fold.stage) [
+    | inl filed ↦ no_fold_at (keeps new) (states new) pen.shape then.gate pen.next then.bytes.items None pen.broken then.fold
+        (end.ended ∙ ap stage_ended filed)
+    | inr unfiled ↦ (
+        let done : IsFold (keeps new) (states new) pen.shape then.gate pen.next pen.bytes.items None pen.broken pen.fold =
+        fold_done tick.sound.fold tick.back (states new) then.gate step tick.is pen.next job.may_follow job.next_is
+        (end.moved ∙ ap (λ b. pen.gate + (length b - 1)) tick.value) unfiled (no_fold unfiled)
+        (after_frame pen.shape.width (vector_before pen.shape pen.gate (bytes_of (states pen.disk))) frame)
+        (tally_now tick) (holds_now tick end.call then.gate end.moved end.last) (holds_next tick end.call then.gate end.moved end.last)
+        (settles_now tick end.call then.gate end.moved end.last) (more_frames tick end.call then.gate end.moved end.last)
+        (vector_then tick end.call then.gate end.moved end.last) in
+        subst (λ f. IsFold (keeps new) (states new) pen.shape then.gate pen.next then.bytes.items None pen.broken f) (sym (end.same unfiled))
+        (fold_same done refl then.bytes.items))
   ]
+
+  -- the job is done
+  pub log_last : IsSound keeps states (record pen {
+    disk = new;
+    gate = then.gate;
+    tally = pen.next;
+    bytes = then.bytes;
+    step = None;
+    homes = then.homes;
+    live = then.live;
+    fold = then.fold;
+  })
+  log_last = record { job = last_job; lists = last_lists; fold = last_fold }
 
   behind : (f : Frame) → ((count : ℕ) → f ≡ kinds.Fold count → ⊥) → (seen : Option FoldOf) → fold_behind f seen ≡ seen
   behind (Group lengths bytes) other seen = refl
@@ -79,12 +123,12 @@ module _ (keeps keeps' : Type 0) (states new : List State) (shape : Shape) (gate
   behind (Shrink n) other seen = refl
   behind (kinds.Fold count) other seen = absurd (other count refl)
 
-  pub fold_seen : fold_of fold' ≡ fold_behind frame (fold_of fold)
-  fold_seen = elim (is_filed fold.stage) [
-    | inl filed ↦ no_fold_seen fold' (ended ∙ ap stage_ended filed) ∙ sym (ap (λ f. fold_behind f (fold_of fold)) (folds filed))
-    | inr unfiled ↦ ap fold_of (same unfiled) ∙ sym (behind frame (no_fold unfiled) (fold_of fold))
+  pub fold_seen : fold_of then.fold ≡ fold_behind frame (fold_of pen.fold)
+  fold_seen = elim (is_filed pen.fold.stage) [
+    | inl filed ↦ no_fold_seen then.fold (end.ended ∙ ap stage_ended filed) ∙ sym (ap (λ f. fold_behind f (fold_of pen.fold)) (folds filed))
+    | inr unfiled ↦ ap fold_of (end.same unfiled) ∙ sym (behind frame (no_fold unfiled) (fold_of pen.fold))
   ]
 
-  -- a job that is no Fold leaves the fold
-  pub other_unfiled : ((count : ℕ) → frame ≡ kinds.Fold count → ⊥) → fold.stage ≡ Filed → ⊥
-  other_unfiled other filed = other fold.count (folds filed)
+  -- a job whose frame is no then.folds leaves the fold
+  pub other_unfiled : ((count : ℕ) → frame ≡ kinds.Fold count → ⊥) → pen.fold.stage ≡ Filed → ⊥
+  other_unfiled other filed = other pen.fold.count (folds filed)

@@ -14,9 +14,11 @@ pub mod Listed
 pub mod InHand
 pub mod AtRest
 pub mod KeptPen
+pub mod LogCall
 pub mod LastTick
 pub mod FoldSeen
 pub mod HomeTick
+pub mod HomeCall
 pub mod Filed
 pub mod BeingFolded
 pub mod Begun

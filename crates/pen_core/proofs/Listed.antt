@@ -38,33 +38,54 @@ use Rattle.pen_core.proofs.Whole.{FileStays}
 -- ---- a frame that was entered
 
 -- each position that the lists tell of has a home, also once the frame is done
-pub in_turn_ahead : (shape : Shape) (frames : List Frame) (f : Frame) (homes : Homes) (live : ℕ) → Lists shape frames (Some f) homes live → MayFollow (tally_of frames) f
+pub in_turn_ahead : (shape : Shape) (frames : List Frame) (f : Frame) (homes : Homes) (live : ℕ)
+    → Lists shape frames (Some f) homes live → MayFollow (tally_of frames) f
     → (all : ℕ) × ((after (tally_of frames) f).size ≤ all) × AreInTurn 0 homes.homes.items all
 in_turn_ahead shape frames (Group lengths bytes) homes live lists may =
     let t : Tally = tally_of frames in
     let here : Home = group_home shape frames lengths in (
       t.size + sum lengths,
       omega arith,
-      subst (λ hs. AreInTurn 0 hs (t.size + sum lengths)) (sym lists.homes_are) (in_turn_push 0 t.size (t.size + sum lengths) lists.told here lists.are_homes.in_turn refl refl),
+      subst (λ hs. AreInTurn 0 hs (t.size + sum lengths)) (sym lists.homes_are)
+          (in_turn_push 0 t.size (t.size + sum lengths) lists.told here lists.are_homes.in_turn refl refl),
     )
-in_turn_ahead shape frames (Change runs bytes) homes live lists may = ((tally_of frames).size, omega arith, subst (λ hs. AreInTurn 0 hs (tally_of frames).size) (sym (lists.homes_are ∙ append-nil lists.told)) lists.are_homes.in_turn)
+in_turn_ahead shape frames (Change runs bytes) homes live lists may =
+    ((tally_of frames).size, omega arith,
+        subst (λ hs. AreInTurn 0 hs (tally_of frames).size) (sym (lists.homes_are ∙ append-nil lists.told))
+            lists.are_homes.in_turn)
 in_turn_ahead shape frames (Shrink n) homes live lists may =
     let shorter = ltb-false (tally_of frames).size n may.inside in
-    ((tally_of frames).size, omega arith, subst (λ hs. AreInTurn 0 hs (tally_of frames).size) (sym (lists.homes_are ∙ append-nil lists.told)) lists.are_homes.in_turn)
-in_turn_ahead shape frames (Fold count) homes live lists may = ((tally_of frames).size, omega arith, subst (λ hs. AreInTurn 0 hs (tally_of frames).size) (sym (lists.homes_are ∙ append-nil lists.told)) lists.are_homes.in_turn)
+    ((tally_of frames).size, omega arith,
+      subst (λ hs. AreInTurn 0 hs (tally_of frames).size) (sym (lists.homes_are ∙ append-nil lists.told))
+          lists.are_homes.in_turn)
+in_turn_ahead shape frames (Fold count) homes live lists may =
+    ((tally_of frames).size, omega arith,
+        subst (λ hs. AreInTurn 0 hs (tally_of frames).size) (sym (lists.homes_are ∙ append-nil lists.told))
+            lists.are_homes.in_turn)
 
 -- it is done, and positions past its length have no home
-pub lists_done : (shape : Shape) (frames : List Frame) (f : Frame) (homes homes' : Homes) (live live' : ℕ) → Lists shape frames (Some f) homes live → MayFollow (tally_of frames) f → (tally_of frames).folded ≤ (tally_of frames).changes
-    → ((count : ℕ) → f ≡ Fold count → ⊥) → AreInTurn 0 homes'.homes.items (after (tally_of frames) f).size → ((width i : ℕ) → i < (after (tally_of frames) f).size → home_among width homes'.homes.items i ≡ home_among width homes.homes.items i)
+pub lists_done : (shape : Shape) (frames : List Frame) (f : Frame) (homes homes' : Homes) (live live' : ℕ)
+    → Lists shape frames (Some f) homes live → MayFollow (tally_of frames) f
+    → (tally_of frames).folded ≤ (tally_of frames).changes
+    → ((count : ℕ) → f ≡ Fold count → ⊥) → AreInTurn 0 homes'.homes.items (after (tally_of frames) f).size
+    → ((width i : ℕ) → i < (after (tally_of frames) f).size
+      → home_among width homes'.homes.items i ≡ home_among width homes.homes.items i)
     → homes'.live.items ≡ homes.live.items → live' ≡ length homes'.live.items → Lists shape (frames ++ f ∷ []) None homes' live'
 lists_done shape frames (Group lengths bytes) homes homes' live live' lists may few no_fold turn each same all =
     let f : Frame = Group lengths bytes in
     let has = AreHomes_group shape frames lengths bytes lists.told lists.are_homes in
     let size : (tally_of (frames ++ f ∷ [])).size ≡ (tally_of frames).size + sum lengths = ap (λ t. t.size) (tally_from_push nothing frames f) in
-    let runs : homes'.live.items ≡ live_runs shape (frames ++ f ∷ []) = same ∙ lists.live_is ∙ append-nil (live_runs shape frames) ∙ ap (flat_map pairs_of) (sym (live_of_same shape frames f (λ p. refl) refl)) in
+    let runs : homes'.live.items ≡ live_runs shape (frames ++ f ∷ []) =
+        same ∙ lists.live_is ∙ append-nil (live_runs shape frames)
+          ∙ ap (flat_map pairs_of) (sym (live_of_same shape frames f (λ p. refl) refl)) in
     record {
       told = homes'.homes.items;
-      are_homes = record { in_turn = subst (AreInTurn 0 homes'.homes.items) (sym size) turn; each = λ i lt. each shape.width i (omega arith) ∙ ap (λ hs. home_among shape.width hs i) lists.homes_are ∙ has.each i lt };
+      are_homes =
+          record {
+            in_turn = subst (AreInTurn 0 homes'.homes.items) (sym size) turn;
+            each = λ i lt. each shape.width i (omega arith) ∙ ap (λ hs. home_among shape.width hs i) lists.homes_are
+                ∙ has.each i lt;
+          };
       homes_are = sym (append-nil homes'.homes.items);
       live_is = runs ∙ sym (append-nil (live_runs shape (frames ++ f ∷ [])));
       counted = all ∙ ap length runs;
@@ -73,10 +94,14 @@ lists_done shape frames (Change runs bytes) homes homes' live live' lists may fe
     let f : Frame = Change runs bytes in
     let seen : Seen = record { at = length (text shape frames); shape = shape; frame = f } in
     let now : homes'.live.items ≡ live_runs shape (frames ++ f ∷ []) =
-    same ∙ lists.live_is ∙ flat_map_more pairs_of [] (live_of shape frames) seen ∙ sym (ap (flat_map pairs_of) (live_of_change shape frames runs bytes few)) in
+    same ∙ lists.live_is ∙ flat_map_more pairs_of [] (live_of shape frames) seen
+        ∙ sym (ap (flat_map pairs_of) (live_of_change shape frames runs bytes few)) in
     record {
       told = homes'.homes.items;
-      are_homes = AreHomes_same shape frames f lists.told homes'.homes.items (λ i p t. refl) (omega arith) lists.are_homes turn (λ i lt. each shape.width i lt ∙ ap (λ hs. home_among shape.width hs i) (lists.homes_are ∙ append-nil lists.told));
+      are_homes =
+          AreHomes_same shape frames f lists.told homes'.homes.items (λ i p t. refl) (omega arith) lists.are_homes turn
+            (λ i lt. each shape.width i lt
+                ∙ ap (λ hs. home_among shape.width hs i) (lists.homes_are ∙ append-nil lists.told));
       homes_are = sym (append-nil homes'.homes.items);
       live_is = now ∙ sym (append-nil (live_runs shape (frames ++ f ∷ [])));
       counted = all ∙ ap length now;
@@ -84,10 +109,15 @@ lists_done shape frames (Change runs bytes) homes homes' live live' lists may fe
 lists_done shape frames (Shrink n) homes homes' live live' lists may few no_fold turn each same all =
     let f : Frame = Shrink n in
     let shorter = ltb-false (tally_of frames).size n may.inside in
-    let now : homes'.live.items ≡ live_runs shape (frames ++ f ∷ []) = same ∙ lists.live_is ∙ append-nil (live_runs shape frames) ∙ ap (flat_map pairs_of) (sym (live_of_same shape frames f (λ p. refl) refl)) in
+    let now : homes'.live.items ≡ live_runs shape (frames ++ f ∷ []) =
+        same ∙ lists.live_is ∙ append-nil (live_runs shape frames)
+          ∙ ap (flat_map pairs_of) (sym (live_of_same shape frames f (λ p. refl) refl)) in
     record {
       told = homes'.homes.items;
-      are_homes = AreHomes_same shape frames f lists.told homes'.homes.items (λ i p t. refl) (omega arith) lists.are_homes turn (λ i lt. each shape.width i lt ∙ ap (λ hs. home_among shape.width hs i) (lists.homes_are ∙ append-nil lists.told));
+      are_homes =
+          AreHomes_same shape frames f lists.told homes'.homes.items (λ i p t. refl) (omega arith) lists.are_homes turn
+            (λ i lt. each shape.width i lt
+                ∙ ap (λ hs. home_among shape.width hs i) (lists.homes_are ∙ append-nil lists.told));
       homes_are = sym (append-nil homes'.homes.items);
       live_is = now ∙ sym (append-nil (live_runs shape (frames ++ f ∷ [])));
       counted = all ∙ ap length now;
@@ -104,19 +134,28 @@ after_unfolded t (Fold count) no_fold = absurd (no_fold count refl)
 
 -- as many changes are live as aren't folded
 pub live_counted : (shape : Shape) (frames : List Frame) → length (live_of shape frames) ≡ (tally_of frames).changes - (tally_of frames).folded
-live_counted shape frames = length-drop (tally_of frames).folded (changes_of shape frames) ∙ ap (λ n. n - (tally_of frames).folded) (sym (changes_counted shape frames))
+live_counted shape frames =
+    length-drop (tally_of frames).folded (changes_of shape frames)
+      ∙ ap (λ n. n - (tally_of frames).folded) (sym (changes_counted shape frames))
 
 -- the first of them stay so behind a frame that is no fold
-take_live : (shape : Shape) (frames : List Frame) (f : Frame) (n : ℕ) → (tally_of frames).folded ≤ (tally_of frames).changes → ((count : ℕ) → f ≡ Fold count → ⊥) → n ≤ length (live_of shape frames) → take n (live_of shape (frames ++ f ∷ [])) ≡ take n (live_of shape frames)
+take_live : (shape : Shape) (frames : List Frame) (f : Frame) (n : ℕ) → (tally_of frames).folded ≤ (tally_of frames).changes
+    → ((count : ℕ) → f ≡ Fold count → ⊥) → n ≤ length (live_of shape frames)
+    → take n (live_of shape (frames ++ f ∷ [])) ≡ take n (live_of shape frames)
 take_live shape frames (Group lengths bytes) n few no_fold le = ap (take n) (live_of_same shape frames (Group lengths bytes) (λ p. refl) refl)
-take_live shape frames (Change runs bytes) n few no_fold le = ap (take n) (live_of_change shape frames runs bytes few) ∙ take-append-le n (live_of shape frames) (record { at = length (text shape frames); shape = shape; frame = Change runs bytes } ∷ []) le
+take_live shape frames (Change runs bytes) n few no_fold le =
+    ap (take n) (live_of_change shape frames runs bytes few)
+      ∙ take-append-le n (live_of shape frames)
+        (record { at = length (text shape frames); shape = shape; frame = Change runs bytes } ∷ []) le
 take_live shape frames (Shrink m) n few no_fold le = ap (take n) (live_of_same shape frames (Shrink m) (λ p. refl) refl)
 take_live shape frames (Fold count) n few no_fold le = absurd (no_fold count refl)
 
 -- ---- on a pen's fields
 
 -- no frame
-pub listed_new : (keeps : Type 0) (states : List State) (shape : Shape) (bytes : List ℕ) (homes : Homes) (fold : folds.Fold) → fold.stage ≡ stages.None → homes.homes.items ≡ [] → homes.live.items ≡ [] → (keeps → blanked_before shape 11 (bytes_of states) ≡ [])
+pub listed_new : (keeps : Type 0) (states : List State) (shape : Shape) (bytes : List ℕ) (homes : Homes) (fold : folds.Fold)
+    → fold.stage ≡ stages.None → homes.homes.items ≡ [] → homes.live.items ≡ []
+    → (keeps → blanked_before shape 11 (bytes_of states) ≡ [])
     → IsListed keeps states shape 11 nothing bytes None homes 0 fold
 listed_new keeps states shape bytes homes fold at none idle empty = record {
   frames = [];
@@ -129,9 +168,12 @@ listed_new keeps states shape bytes homes fold at none idle empty = record {
   same = empty;
 }
 
-module _ (keeps : Type 0) (states : List State) (shape : Shape) (gate : ℕ) (tally : Tally) (bytes : List ℕ) (o : Option Step) (homes : Homes) (live : ℕ) {fold : folds.Fold} (listed : IsListed keeps states shape gate tally bytes o homes live fold) where
+module _ {keeps : Type 0} {states : List State} {shape : Shape} {gate : ℕ} {tally : Tally} {bytes : List ℕ} {o : Option Step}
+    {homes : Homes} {live : ℕ} {fold : folds.Fold} (listed : IsListed keeps states shape gate tally bytes o homes live fold) where
   -- a call of the disk that leaves the frames, or none
-  pub listed_stays : (keeps' : Type 0) (new : List State) (o' : Option Step) → frame_in_hand shape bytes o' ≡ frame_in_hand shape bytes o → (keeps' → keeps) → (keeps' → FileStays shape gate states new) → IsListed keeps' new shape gate tally bytes o' homes live fold
+  pub listed_stays : (keeps' : Type 0) (new : List State) (o' : Option Step)
+      → frame_in_hand shape bytes o' ≡ frame_in_hand shape bytes o → (keeps' → keeps)
+      → (keeps' → FileStays shape gate states new) → IsListed keeps' new shape gate tally bytes o' homes live fold
   listed_stays keeps' new o' same back stays = record {
     frames = listed.frames;
     legal = listed.legal;
@@ -148,7 +190,8 @@ module _ (keeps : Type 0) (states : List State) (shape : Shape) (gate : ℕ) (ta
     at_rest : Lists shape listed.frames None homes live
     at_rest = subst (λ step. Lists shape listed.frames (frame_in_hand shape bytes step) homes live) idle listed.lists
 
-    pub listed_same : homes'.homes.items ≡ homes.homes.items → homes'.live.items ≡ homes.live.items → IsListed keeps states shape gate tally bytes' o homes' live fold
+    pub listed_same : homes'.homes.items ≡ homes.homes.items → homes'.live.items ≡ homes.live.items
+        → IsListed keeps states shape gate tally bytes' o homes' live fold
     listed_same homes_same live_same =
         let none : frame_in_hand shape bytes' o ≡ None = ap (frame_in_hand shape bytes') idle in
         record {
@@ -156,14 +199,25 @@ module _ (keeps : Type 0) (states : List State) (shape : Shape) (gate : ℕ) (ta
           legal = listed.legal;
           gate_is = listed.gate_is;
           tally_is = listed.tally_is;
-          lists = subst (λ f. Lists shape listed.frames f homes' live) (sym none) (record { told = at_rest.told; are_homes = at_rest.are_homes; homes_are = homes_same ∙ at_rest.homes_are; live_is = live_same ∙ at_rest.live_is; counted = at_rest.counted });
+          lists =
+              subst (λ f. Lists shape listed.frames f homes' live) (sym none)
+                (record
+                    {
+                      told = at_rest.told;
+                      are_homes = at_rest.are_homes;
+                      homes_are = homes_same ∙ at_rest.homes_are;
+                      live_is = live_same ∙ at_rest.live_is;
+                      counted = at_rest.counted;
+                    });
           filed = λ count is. let clash = sym none ∙ is in absurd cc;
           runs_are = listed.runs_are;
           same = listed.same;
         }
 
     -- a job that is no fold is entered
-    pub listed_begun : (f : Frame) (step : Step) → frame_at shape bytes' ≡ f → ((count : ℕ) → f ≡ Fold count → ⊥) → homes'.homes.items ≡ homes.homes.items ++ homes_entered gate tally.size f → homes'.live.items ≡ homes.live.items ++ runs_entered f
+    pub listed_begun : (f : Frame) (step : Step) → frame_at shape bytes' ≡ f → ((count : ℕ) → f ≡ Fold count → ⊥)
+        → homes'.homes.items ≡ homes.homes.items ++ homes_entered gate tally.size f
+        → homes'.live.items ≡ homes.live.items ++ runs_entered f
         → IsListed keeps states shape gate tally bytes' (Some step) homes' live fold
     listed_begun f step at no_fold homes_more live_more =
         let ahead : Some f ≡ frame_in_hand shape bytes' (Some step) = ap (λ g. Some g) (sym at) in
@@ -177,7 +231,10 @@ module _ (keeps : Type 0) (states : List State) (shape : Shape) (gate : ℕ) (ta
           lists = subst (λ g. Lists shape listed.frames g homes' live) ahead (record {
             told = at_rest.told;
             are_homes = at_rest.are_homes;
-            homes_are = homes_more ∙ ap (λ hs. hs ++ homes_entered gate tally.size f) told ∙ ap (λ g. at_rest.told ++ homes_entered g tally.size f) listed.gate_is ∙ ap (λ t. at_rest.told ++ homes_entered (gate_of shape listed.frames) t.size f) listed.tally_is;
+            homes_are =
+                homes_more ∙ ap (λ hs. hs ++ homes_entered gate tally.size f) told
+                  ∙ ap (λ g. at_rest.told ++ homes_entered g tally.size f) listed.gate_is
+                  ∙ ap (λ t. at_rest.told ++ homes_entered (gate_of shape listed.frames) t.size f) listed.tally_is;
             live_is = live_more ∙ ap (λ rs. rs ++ runs_entered f) runs;
             counted = at_rest.counted;
           });
@@ -205,10 +262,17 @@ module _ (keeps : Type 0) (states : List State) (shape : Shape) (gate : ℕ) (ta
 
     -- what the cut of the homes asks for
     pub homes_in_turn : (all : ℕ) × (next.size ≤ all) × AreInTurn 0 homes.homes.items all
-    homes_in_turn = let turn = in_turn_ahead shape listed.frames frame homes live in_hand may in (turn.0, subst (λ t. t.size ≤ turn.0) (sym next_is) turn.1, turn.2)
+    homes_in_turn =
+        let turn = in_turn_ahead shape listed.frames frame homes live in_hand may in
+        (turn.0, subst (λ t. t.size ≤ turn.0) (sym next_is) turn.1, turn.2)
 
-    module _ (keeps' : Type 0) (new : List State) (gate' : ℕ) (homes' : Homes) (live' : ℕ) (few : tally.folded ≤ tally.changes) (moved : gate' ≡ gate + length (frame_text shape.format frame)) (back : keeps' → keeps)
-        (more : keeps' → blanked_before shape gate' (bytes_of new) ≡ frames_with (blanked_before shape gate (bytes_of states)) frame) (turn : AreInTurn 0 homes'.homes.items next.size) (each : (width i : ℕ) → i < next.size → home_among width homes'.homes.items i ≡ home_among width homes.homes.items i)
+    module _ (keeps' : Type 0) (new : List State) (gate' : ℕ) (homes' : Homes) (live' : ℕ)
+        (few : tally.folded ≤ tally.changes) (moved : gate' ≡ gate + length (frame_text shape.format frame))
+        (back : keeps' → keeps)
+        (more : keeps'
+          → blanked_before shape gate' (bytes_of new) ≡ frames_with (blanked_before shape gate (bytes_of states)) frame)
+        (turn : AreInTurn 0 homes'.homes.items next.size)
+        (each : (width i : ℕ) → i < next.size → home_among width homes'.homes.items i ≡ home_among width homes.homes.items i)
         (all : live' ≡ length homes'.live.items) where
       after_is : tally_of (listed.frames ++ frame ∷ []) ≡ after (tally_of listed.frames) frame
       after_is = tally_from_push nothing listed.frames frame
@@ -217,33 +281,51 @@ module _ (keeps : Type 0) (states : List State) (shape : Shape) (gate : ℕ) (ta
       size = ap (λ t. t.size) next_is
 
       here : gate' ≡ gate_of shape (listed.frames ++ frame ∷ [])
-      here = moved ∙ ap (λ g. g + length (frame_text shape.format frame)) listed.gate_is ∙ sym (ap length (text_push shape listed.frames frame) ∙ length-append (text shape listed.frames) (frame_text shape.format frame))
+      here =
+          moved ∙ ap (λ g. g + length (frame_text shape.format frame)) listed.gate_is
+            ∙ sym
+              (ap length (text_push shape listed.frames frame)
+                  ∙ length-append (text shape listed.frames) (frame_text shape.format frame))
 
       then_blank : keeps' → blanked_before shape gate' (bytes_of new) ≡ all_blanked (listed.frames ++ frame ∷ [])
       then_blank model = more model ∙ ap (λ bs. bs ++ blanked frame ∷ []) (listed.same (back model)) ∙ sym (map_push blanked listed.frames frame)
 
       -- a frame that is no fold's: a fold in hand counts as before
-      pub listed_done : (fold.stage ≡ Filed → ⊥) → (IsInHand fold.stage → fold.count ≤ tally.changes) → homes'.live.items ≡ homes.live.items → IsListed keeps' new shape gate' next bytes None homes' live' fold
+      pub listed_done : (fold.stage ≡ Filed → ⊥) → (IsInHand fold.stage → fold.count ≤ tally.changes)
+          → homes'.live.items ≡ homes.live.items → IsListed keeps' new shape gate' next bytes None homes' live' fold
       listed_done unfiled upto same =
-          let no_fold : (count : ℕ) → frame ≡ Fold count → ⊥ = λ count is'. unfiled (listed.filed count (ap (frame_in_hand shape bytes) is ∙ ap (λ g. Some g) is')).0 in
+          let no_fold : (count : ℕ) → frame ≡ Fold count → ⊥ =
+              λ count is'. unfiled (listed.filed count (ap (frame_in_hand shape bytes) is ∙ ap (λ g. Some g) is')).0 in
           let counted = live_counted shape listed.frames in
           record {
             frames = listed.frames ++ frame ∷ [];
             legal = AreLegalFrom_push shape nothing listed.frames frame listed.legal job_is.whole may;
             gate_is = here;
             tally_is = next_is ∙ sym after_is;
-            lists = lists_done shape listed.frames frame homes homes' live live' in_hand may (subst (λ t. t.folded ≤ t.changes) listed.tally_is few) no_fold (subst (AreInTurn 0 homes'.homes.items) size turn) (λ width i lt. each width i (subst (λ n. i < n) (sym size) lt)) same all;
+            lists =
+                lists_done shape listed.frames frame homes homes' live live' in_hand may
+                  (subst (λ t. t.folded ≤ t.changes) listed.tally_is few) no_fold
+                  (subst (AreInTurn 0 homes'.homes.items) size turn)
+                  (λ width i lt. each width i (subst (λ n. i < n) (sym size) lt)) same all;
             filed = λ count clash. absurd cc;
             runs_are = λ held. (
                 let bound : fold.count ≤ (tally_of listed.frames).changes = subst (λ t. fold.count ≤ t.changes) listed.tally_is (upto held) in
-                let folded : next.folded ≡ (tally_of listed.frames).folded = ap (λ t. t.folded) next_is ∙ after_unfolded (tally_of listed.frames) frame no_fold in
+                let folded : next.folded ≡ (tally_of listed.frames).folded =
+                    ap (λ t. t.folded) next_is ∙ after_unfolded (tally_of listed.frames) frame no_fold in
                 listed.runs_are held ∙ ap (λ t. length (flat_map pairs_of (take (fold.count - t.folded) (live_of shape listed.frames)))) listed.tally_is
-                ∙ sym (ap (λ n. length (flat_map pairs_of (take (fold.count - n) (live_of shape (listed.frames ++ frame ∷ []))))) folded ∙ ap (λ cs. length (flat_map pairs_of cs)) (take_live shape listed.frames frame (fold.count - (tally_of listed.frames).folded) (subst (λ t. t.folded ≤ t.changes) listed.tally_is few) no_fold (omega arith))));
+                ∙ sym
+                  (ap (λ n. length (flat_map pairs_of (take (fold.count - n) (live_of shape (listed.frames ++ frame ∷ [])))))
+                      folded
+                        ∙ ap (λ cs. length (flat_map pairs_of cs))
+                              (take_live shape listed.frames frame (fold.count - (tally_of listed.frames).folded)
+                                      (subst (λ t. t.folded ≤ t.changes) listed.tally_is few) no_fold (omega arith))));
             same = then_blank;
           }
 
       -- the fold's own: its changes are live no more
-      pub listed_folded : (fold' : folds.Fold) → fold.stage ≡ Filed → frame ≡ Fold fold.count → fold'.stage ≡ stages.None → homes'.live.items ≡ drop fold.runs homes.live.items → IsListed keeps' new shape gate' next bytes None homes' live' fold'
+      pub listed_folded : (fold' : folds.Fold) → fold.stage ≡ Filed → frame ≡ Fold fold.count → fold'.stage ≡ stages.None
+          → homes'.live.items ≡ drop fold.runs homes.live.items
+          → IsListed keeps' new shape gate' next bytes None homes' live' fold'
       listed_folded fold' at folds ended dropped =
           let f : Frame = Fold fold.count in
           let lists : Lists shape listed.frames (Some f) homes live = subst (λ g. Lists shape listed.frames (Some g) homes live) folds in_hand in
@@ -252,10 +334,15 @@ module _ (keeps : Type 0) (states : List State) (shape : Shape) (gate : ℕ) (ta
           let t : Tally = tally_of listed.frames in
           let lived : List Seen = live_of shape listed.frames in
           let n : ℕ = fold.count - t.folded in
-          let parts : flat_map pairs_of lived ≡ flat_map pairs_of (take n lived) ++ flat_map pairs_of (drop n lived) = ap (flat_map pairs_of) (sym (take-append-drop n lived)) ∙ flat_map-append pairs_of (take n lived) (drop n lived) in
-          let runs : fold.runs ≡ length (flat_map pairs_of (take n lived)) = listed.runs_are (subst IsInHand (sym at) tt) ∙ ap (λ u. length (flat_map pairs_of (take (fold.count - u.folded) lived))) listed.tally_is in
+          let parts : flat_map pairs_of lived ≡ flat_map pairs_of (take n lived) ++ flat_map pairs_of (drop n lived) =
+              ap (flat_map pairs_of) (sym (take-append-drop n lived))
+                ∙ flat_map-append pairs_of (take n lived) (drop n lived) in
+          let runs : fold.runs ≡ length (flat_map pairs_of (take n lived)) =
+              listed.runs_are (subst IsInHand (sym at) tt)
+                ∙ ap (λ u. length (flat_map pairs_of (take (fold.count - u.folded) lived))) listed.tally_is in
           let left : homes'.live.items ≡ live_runs shape (listed.frames ++ f ∷ []) =
-          dropped ∙ ap (drop fold.runs) (lists.live_is ∙ append-nil (live_runs shape listed.frames) ∙ parts) ∙ drop_at (flat_map pairs_of (take n lived)) (flat_map pairs_of (drop n lived)) fold.runs (sym runs)
+          dropped ∙ ap (drop fold.runs) (lists.live_is ∙ append-nil (live_runs shape listed.frames) ∙ parts)
+              ∙ drop_at (flat_map pairs_of (take n lived)) (flat_map pairs_of (drop n lived)) fold.runs (sym runs)
           ∙ sym (ap (flat_map pairs_of) (live_of_fold shape listed.frames fold.count bounds.0)) in
           record {
             frames = listed.frames ++ frame ∷ [];
@@ -266,7 +353,8 @@ module _ (keeps : Type 0) (states : List State) (shape : Shape) (gate : ℕ) (ta
               told = homes'.homes.items;
               are_homes = AreHomes_same shape listed.frames f lists.told homes'.homes.items (λ i p u. refl) (omega arith) lists.are_homes
                   (subst (AreInTurn 0 homes'.homes.items) (size ∙ ap (λ g. (after t g).size) folds) turn)
-                  (λ i lt. each shape.width i (subst (λ m. i < m) (sym (size ∙ ap (λ g. (after t g).size) folds)) lt) ∙ ap (λ hs. home_among shape.width hs i) (lists.homes_are ∙ append-nil lists.told));
+                  (λ i lt. each shape.width i (subst (λ m. i < m) (sym (size ∙ ap (λ g. (after t g).size) folds)) lt)
+                    ∙ ap (λ hs. home_among shape.width hs i) (lists.homes_are ∙ append-nil lists.told));
               homes_are = sym (append-nil homes'.homes.items);
               live_is = left ∙ sym (append-nil (live_runs shape (listed.frames ++ f ∷ [])));
               counted = all ∙ ap length left;
@@ -277,12 +365,30 @@ module _ (keeps : Type 0) (states : List State) (shape : Shape) (gate : ℕ) (ta
           }
 
 -- growths are entered
-pub group_listed : {R : Type 0} (keeps : Type 0) (states : List State) (shape : Shape) (gate : ℕ) (tally : Tally) (bytes bytes' : List ℕ) (o : Option Step) (homes homes' : Homes) (live : ℕ) {fold : folds.Fold} (form : Encoding R) (growths : List (List R)) → IsListed keeps states shape gate tally bytes o homes live fold
-    → o ≡ None → frame_at shape bytes' ≡ group_frame form growths → (count records : ℕ) → count ≡ length growths → records ≡ length (joined growths)
-    → {old : List Home} → homes'.homes.items ≡ old ++ record { position = tally.size; place = gate + (10 + count * 4); count = records } ∷ [] → old ≡ homes.homes.items → homes'.live ≡ homes.live → IsListed keeps states shape gate tally bytes' (Some Body) homes' live fold
-group_listed keeps states shape gate tally bytes bytes' o homes homes' live {fold} form growths listed idle at count records counted told homes_more old_is live_same =
+pub group_listed : {R : Type 0} (keeps : Type 0) (states : List State) (shape : Shape) (gate : ℕ) (tally : Tally)
+    (bytes bytes' : List ℕ) (o : Option Step) (homes homes' : Homes) (live : ℕ) {fold : folds.Fold} (form : Encoding R)
+    (growths : List (List R))
+    → IsListed keeps states shape gate tally bytes o homes live fold
+    → o ≡ None → frame_at shape bytes' ≡ group_frame form growths → (count records : ℕ) → count ≡ length growths
+    → records ≡ length (joined growths)
+    → {old : List Home}
+    → homes'.homes.items ≡ old ++ record { position = tally.size; place = gate + (10 + count * 4); count = records } ∷ []
+    → old ≡ homes.homes.items → homes'.live ≡ homes.live
+    → IsListed keeps states shape gate tally bytes' (Some Body) homes' live fold
+group_listed keeps states shape gate tally bytes bytes' o homes homes' live {fold} form growths listed idle at count records
+    counted told homes_more old_is live_same =
     let place : gate + (10 + count * 4) ≡ gate + 10 + length (map length growths) * 4 = omega (arith, counted, length-map growths length) in
     let all : records ≡ sum (map length growths) = told ∙ sum-lengths growths in
-    listed_begun keeps states shape gate tally bytes o homes live listed idle bytes' homes' (group_frame form growths) Body at (λ c is. absurd cc)
-    (homes_more ∙ ap (λ hs. hs ++ record { position = tally.size; place = gate + (10 + count * 4); count = records } ∷ []) old_is ∙ ap (λ n. homes.homes.items ++ record { position = tally.size; place = n; count = records } ∷ []) place ∙ ap (λ n. homes.homes.items ++ record { position = tally.size; place = gate + 10 + length (map length growths) * 4; count = n } ∷ []) all)
+    listed_begun listed idle bytes' homes' (group_frame form growths) Body at (λ c is. absurd cc)
+    (homes_more
+      ∙ ap (λ hs. hs ++ record { position = tally.size; place = gate + (10 + count * 4); count = records } ∷ []) old_is
+      ∙ ap (λ n. homes.homes.items ++ record { position = tally.size; place = n; count = records } ∷ []) place
+      ∙ ap
+          (λ n.
+              homes.homes.items ++ record {
+                position = tally.size;
+                place = gate + 10 + length (map length growths) * 4;
+                count = n;
+              } ∷ [])
+          all)
     (ap (λ v. v.items) live_same ∙ sym (append-nil homes.live.items))

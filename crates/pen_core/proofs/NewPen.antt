@@ -27,9 +27,12 @@ empty_holds shape = record {
 empty_gate : (shape : Shape) → 11 ≡ gate_of shape []
 empty_gate shape = refl
 
-module _ (keeps : Type 0) (states : List State) (shape : Shape) (next : Tally) (bytes : List ℕ) (made : keeps → now states ≡ settled (empty_file shape)) where
+module _ (keeps : Type 0) (states : List State) (shape : Shape) (next : Tally) (bytes : List ℕ)
+    (made : keeps → now states ≡ settled (empty_file shape)) where
   empty_seen : keeps → SeenAs shape 11 [] [] (bytes_of states)
-  empty_seen model = subst (λ s. SeenAs shape 11 [] [] s.seen) (sym (made model)) (seen_as shape 11 [] [] (empty_file shape) (empty_gate shape) (empty_holds shape))
+  empty_seen model =
+      subst (λ s. SeenAs shape 11 [] [] s.seen) (sym (made model))
+        (seen_as shape 11 [] [] (empty_file shape) (empty_gate shape) (empty_holds shape))
 
   pub new_frames : keeps → blanked_before shape 11 (bytes_of states) ≡ []
   new_frames model = (empty_seen model).frames_are
@@ -55,7 +58,15 @@ module _ (keeps : Type 0) (states : List State) (shape : Shape) (next : Tally) (
     job = tt;
     knows = λ model. (
         let seen = empty_seen model in
-        subst (λ s. Knows 0 shape 11 nothing (blanked_before shape 11 (bytes_of states)) (vector_before shape 11 (bytes_of states)) bytes None false s) (sym (made model))
-        (subst (λ fs. Knows 0 shape 11 nothing fs (vector_before shape 11 (bytes_of states)) bytes None false (settled (empty_file shape))) (sym seen.frames_are)
+        subst
+        (λ s.
+          Knows 0 shape 11 nothing (blanked_before shape 11 (bytes_of states)) (vector_before shape 11 (bytes_of states))
+              bytes None false s)
+        (sym (made model))
+        (subst
+          (λ fs.
+              Knows 0 shape 11 nothing fs (vector_before shape 11 (bytes_of states)) bytes None false
+                  (settled (empty_file shape)))
+          (sym seen.frames_are)
         (subst (λ v. Knows 0 shape 11 nothing [] v bytes None false (settled (empty_file shape))) (sym seen.vector_is) empty_known)));
   }

@@ -46,16 +46,19 @@ use Rattle.pen_core.proofs.Whole.{after_size, after_changes, after_folded}
 
 -- ---- what legal frames leave
 
-size_legal : (shape : Shape) (tally : Tally) (frames : List Frame) → AreLegalFrom shape tally frames → tally.size ≤ 2 ^ 32 → (tally_from tally frames).size ≤ 2 ^ 32
+size_legal : (shape : Shape) (tally : Tally) (frames : List Frame) → AreLegalFrom shape tally frames → tally.size ≤ 2 ^ 32
+    → (tally_from tally frames).size ≤ 2 ^ 32
 size_legal shape tally [] legal le = le
 size_legal shape tally (frame ∷ frames) legal le = size_legal shape (after tally frame) frames legal.2 (after_size tally frame le legal.1)
 
-folded_legal : (shape : Shape) (tally : Tally) (frames : List Frame) → AreLegalFrom shape tally frames → tally.folded ≤ tally.changes → (tally_from tally frames).folded ≤ (tally_from tally frames).changes
+folded_legal : (shape : Shape) (tally : Tally) (frames : List Frame) → AreLegalFrom shape tally frames
+    → tally.folded ≤ tally.changes → (tally_from tally frames).folded ≤ (tally_from tally frames).changes
 folded_legal shape tally [] legal le = le
 folded_legal shape tally (frame ∷ frames) legal le = folded_legal shape (after tally frame) frames legal.2 (after_folded tally frame le legal.1)
 
 -- a change has a byte at least
-changes_short : (shape : Shape) (tally : Tally) (frames : List Frame) → (tally_from tally frames).changes ≤ tally.changes + length (flat_map (frame_text shape.format) frames)
+changes_short : (shape : Shape) (tally : Tally) (frames : List Frame)
+    → (tally_from tally frames).changes ≤ tally.changes + length (flat_map (frame_text shape.format) frames)
 changes_short shape tally [] = omega arith
 changes_short shape tally (frame ∷ frames) =
     let rest : List ℕ = flat_map (frame_text shape.format) frames in
@@ -68,14 +71,18 @@ changes_short shape tally (frame ∷ frames) =
 -- ---- the records and their bytes
 
 -- what the same bytes say as bytes and as records
-AreReadAs_same : {R : Type 0} (format : Format) (form : Encoding R) (image : List ℕ) (frames : List Frame) (cells : List (List ℕ)) (records : List R) → IsVectorOf format (raw form.width) image frames cells → IsVectorOf format form image frames records
+AreReadAs_same : {R : Type 0} (format : Format) (form : Encoding R) (image : List ℕ) (frames : List Frame)
+    (cells : List (List ℕ)) (records : List R)
+    → IsVectorOf format (raw form.width) image frames cells → IsVectorOf format form image frames records
     → AreReadAs form cells records
 AreReadAs_same {R} format form image frames cells records read typed = record { size = size; each = each }
   where
     size : length cells ≡ length records
     size = read.size ∙ sym typed.size
 
-    told : (place : Option ℕ) → option_and_then form.value_of (option_and_then (record_in (raw form.width) image) place) ≡ option_and_then (record_in form image) place
+    told : (place : Option ℕ)
+        → option_and_then form.value_of (option_and_then (record_in (raw form.width) image) place) ≡ option_and_then
+          (record_in form image) place
     told None = refl
     told (Some place) = refl
 
@@ -93,15 +100,23 @@ AreReadAs_same {R} format form image frames cells records read typed = record { 
 -- ---- the file
 
 -- bytes behind the closed gate say nothing
-HasVector_more : {R : Type 0} (format : Format) (form : Encoding R) (image more : List ℕ) (found : List Frame) (records : List R) → HasVector format form image found records → HasVector format form (image ++ more) found records
+HasVector_more : {R : Type 0} (format : Format) (form : Encoding R) (image more : List ℕ) (found : List Frame)
+    (records : List R)
+    → HasVector format form image found records → HasVector format form (image ++ more) found records
 HasVector_more format form image more found records has =
     let framed = frames_more (shape_of format form) image more found has.framed in
-    record { framed = framed; read = IsVectorOf_begins format form image (image ++ more) found records (begins_of (shape_of format form) image found has.framed) (begins_of (shape_of format form) (image ++ more) found framed) has.read }
+    record {
+      framed = framed;
+      read = IsVectorOf_begins format form image (image ++ more) found records
+          (begins_of (shape_of format form) image found has.framed)
+          (begins_of (shape_of format form) (image ++ more) found framed) has.read;
+    }
   where
     begins_of : (shape : Shape) (image : List ℕ) (found : List Frame) → HasFrames shape image found → BeginsImage shape image found
     begins_of shape image found framed = record { legal = framed.legal; begins = (framed.closed.0 ∷ framed.closed.1, framed.closed.3) }
 
-module _ {R : Type 0} (format : Format) (form : Encoding R) (front more : List ℕ) (found : List Frame) (records : List R) (back : WritesBack form) (fits : IsBytes front) (read : HasVector format form front found records) where
+module _ {R : Type 0} (format : Format) (form : Encoding R) (front more : List ℕ) (found : List Frame) (records : List R)
+    (back : WritesBack form) (fits : IsBytes front) (read : HasVector format form front found records) where
   abbrev shape : Shape
   shape = shape_of format form
 
@@ -128,7 +143,9 @@ module _ {R : Type 0} (format : Format) (form : Encoding R) (front more : List �
   begins = record { legal = has.framed.legal; begins = (has.framed.closed.0 ∷ has.framed.closed.1, has.framed.closed.3) }
 
   read_raw : IsVectorOf format (raw form.width) image found cells
-  read_raw = IsVectorOf_begins format (raw form.width) front image found cells begins_front begins (IsVectorOf_raw format form front found records back fits begins_front read.read)
+  read_raw =
+      IsVectorOf_begins format (raw form.width) front image found cells begins_front begins
+        (IsVectorOf_raw format form front found records back fits begins_front read.read)
 
   holds : Holds shape frames cells image
   holds = record { found = found; alike = refl; begins = begins; read = read_raw }
@@ -147,7 +164,13 @@ module _ {R : Type 0} (format : Format) (form : Encoding R) (front more : List �
 
   shut : IsShut p (settled image)
   shut = record {
-    closed = λ opened. has.framed.closed.2 (sym (ap (λ (bs : List ℕ). get_or bs p 0) has.framed.closed.3 ∙ get_or_at (text shape found) has.framed.closed.0 has.framed.closed.1 0 p refl) ∙ opened);
+    closed =
+        λ opened.
+          has.framed.closed.2
+            (sym
+                (ap (λ (bs : List ℕ). get_or bs p 0) has.framed.closed.3
+                    ∙ get_or_at (text shape found) has.framed.closed.0 has.framed.closed.1 0 p refl)
+                ∙ opened);
     kept = refl;
   }
 
@@ -155,7 +178,9 @@ module _ {R : Type 0} (format : Format) (form : Encoding R) (front more : List �
   seen = seen_as shape p frames cells image gate_is holds
 
   known_file : (bytes : List ℕ) → Knows 0 shape p (tally_of found) frames cells bytes None false (settled image)
-  known_file bytes = knows_rest shape p (tally_of found) frames cells bytes (settled image) gate_is (sym (tally_from-blanked nothing found)) false file_is shut (settled_image image)
+  known_file bytes =
+      knows_rest shape p (tally_of found) frames cells bytes (settled image) gate_is (sym (tally_from-blanked nothing found))
+        false file_is shut (settled_image image)
 
 -- ---- a pen's fields
 
@@ -167,9 +192,13 @@ same_format Two Two v is was = refl
 
 same_tally : (t : Tally) (n c f : ℕ) → n ≡ t.size → c ≡ t.changes → f ≡ t.folded → record { size = n; changes = c; folded = f } ≡ t
 same_tally t n c f size changes folded =
-    ap (λ k. record { size = k; changes = c; folded = f }) size ∙ ap (λ k. record { size = t.size; changes = k; folded = f }) changes ∙ ap (λ k. record { size = t.size; changes = t.changes; folded = k }) folded
+    ap (λ k. record { size = k; changes = c; folded = f }) size
+        ∙ ap (λ k. record { size = t.size; changes = k; folded = f }) changes
+        ∙ ap (λ k. record { size = t.size; changes = t.changes; folded = k }) folded
 
-module _ {R : Type 0} (form : Encoding R) (keeps : Type 0) (states : List State) (scanned : Scanned R) (homes : Homes) (on : IsFoundOn form keeps states scanned homes) (back : WritesBack form) (format : Format) (known : version_of format ≡ scanned.version) (n : ℕ) (counted : n ≡ length scanned.records.items) where
+module _ {R : Type 0} (form : Encoding R) (keeps : Type 0) (states : List State) (scanned : Scanned R) (homes : Homes)
+    (on : IsFoundOn form keeps states scanned homes) (back : WritesBack form) (format : Format)
+    (known : version_of format ≡ scanned.version) (n : ℕ) (counted : n ≡ length scanned.records.items) where
   abbrev named : Format
   named = on.scan.format
 
@@ -189,7 +218,10 @@ module _ {R : Type 0} (form : Encoding R) (keeps : Type 0) (states : List State)
   file = shape_of named form
 
   pub shape_same : told ≡ file
-  shape_same = ap (λ f. record { format = f; width = scanned.width }) (same_format format named scanned.version known on.scan.version_is) ∙ ap (λ w. record { format = named; width = w }) on.scan.width_is
+  shape_same =
+      ap (λ f. record { format = f; width = scanned.width })
+        (same_format format named scanned.version known on.scan.version_is)
+        ∙ ap (λ w. record { format = named; width = w }) on.scan.width_is
 
   pub tally_same : tally ≡ tally_of found
   tally_same = same_tally (tally_of found) n scanned.changes scanned.folded (counted ∙ on.scan.vector.read.size) on.scan.changes_are on.scan.folded_is
@@ -210,16 +242,23 @@ module _ {R : Type 0} (form : Encoding R) (keeps : Type 0) (states : List State)
   has_seen model =
       subst (λ s. SeenAs s scanned.gate (all_blanked found) (map form.bytes_of records) (bytes_of states)) (sym shape_same)
       (subst (λ g. SeenAs file g (all_blanked found) (map form.bytes_of records) (bytes_of states)) (sym gate_same)
-      (subst (λ (bs : List ℕ). SeenAs file (length (text file found)) (all_blanked found) (map form.bytes_of records) bs) (sym (seen_same model)) (seen named form on.image (more model) found records back on.fits on.scan.vector)))
+      (subst (λ (bs : List ℕ). SeenAs file (length (text file found)) (all_blanked found) (map form.bytes_of records) bs)
+          (sym (seen_same model)) (seen named form on.image (more model) found records back on.fits on.scan.vector)))
 
   has_known : (bytes : List ℕ) → keeps → Knows 0 told scanned.gate tally (all_blanked found) (map form.bytes_of records) bytes None false (now states)
   has_known bytes model =
       subst (λ s. Knows 0 s scanned.gate tally (all_blanked found) (map form.bytes_of records) bytes None false (now states)) (sym shape_same)
       (subst (λ g. Knows 0 file g tally (all_blanked found) (map form.bytes_of records) bytes None false (now states)) (sym gate_same)
       (subst (λ t. Knows 0 file (length (text file found)) t (all_blanked found) (map form.bytes_of records) bytes None false (now states)) (sym tally_same)
-      (subst (λ s. Knows 0 file (length (text file found)) (tally_of found) (all_blanked found) (map form.bytes_of records) bytes None false s) (sym (on.on_disk model).1) (known_file named form on.image (more model) found records back on.fits on.scan.vector bytes))))
+      (subst
+            (λ s.
+                Knows 0 file (length (text file found)) (tally_of found) (all_blanked found) (map form.bytes_of records)
+                    bytes None false s)
+            (sym (on.on_disk model).1)
+            (known_file named form on.image (more model) found records back on.fits on.scan.vector bytes))))
 
-  pub opened_pen : (next : Tally) (bytes : List ℕ) → (1 ≤ form.width) × (form.width < 2 ^ 16) → IsPen 0 keeps states told scanned.gate tally next bytes None false
+  pub opened_pen : (next : Tally) (bytes : List ℕ) → (1 ≤ form.width) × (form.width < 2 ^ 16)
+      → IsPen 0 keeps states told scanned.gate tally next bytes None false
   opened_pen next bytes wide =
       let placed = inside_front named form on.image [] found records back on.fits on.scan.vector in
       let long = length-text file found in
@@ -235,11 +274,16 @@ module _ {R : Type 0} (form : Encoding R) (keeps : Type 0) (states : List State)
         job = tt;
         knows = λ model. (
             let seen = has_seen model in
-            subst (λ fs. Knows 0 told scanned.gate tally fs (vector_before told scanned.gate (bytes_of states)) bytes None false (now states)) (sym seen.frames_are)
+            subst
+            (λ fs.
+              Knows 0 told scanned.gate tally fs (vector_before told scanned.gate (bytes_of states)) bytes None false
+                  (now states))
+            (sym seen.frames_are)
             (subst (λ v. Knows 0 told scanned.gate tally (all_blanked found) v bytes None false (now states)) (sym seen.vector_is) (has_known bytes model)));
       }
 
-  pub opened_lists : (bytes : List ℕ) (live : ℕ) (fold : Fold) → fold.stage ≡ stages.None → live ≡ length homes.live.items → IsListed keeps states told scanned.gate tally bytes None homes live fold
+  pub opened_lists : (bytes : List ℕ) (live : ℕ) (fold : Fold) → fold.stage ≡ stages.None → live ≡ length homes.live.items
+      → IsListed keeps states told scanned.gate tally bytes None homes live fold
   opened_lists bytes live fold at all = record {
     frames = found;
     legal = subst (λ s. AreLegalFrom s nothing found) (sym shape_same) legal;
@@ -257,17 +301,26 @@ module _ {R : Type 0} (form : Encoding R) (keeps : Type 0) (states : List State)
     same = λ model. (has_seen model).frames_are;
   }
 
-  pub opened_as : {D : Type 0} (disk : D) (bytes : List ℕ) (room places : ℕ) (fold : Option FoldOf) → keeps → IsOpened form (bytes_of states) (pen_of states disk told scanned.gate tally bytes room None false places fold) records
+  pub opened_as : {D : Type 0} (disk : D) (bytes : List ℕ) (room places : ℕ) (fold : Option FoldOf) → keeps
+      → IsOpened form (bytes_of states) (pen_of states disk told scanned.gate tally bytes room None false places fold)
+        records
   opened_as disk bytes room places fold model =
       let seen = has_seen model in
       let image : bytes_of states ≡ on.image ++ more model = seen_same model in
       record {
         format = named;
         found = found;
-        vector = subst (λ (bs : List ℕ). HasVector named form bs found records) (sym image) (has named form on.image (more model) found records back on.fits on.scan.vector);
+        vector =
+            subst (λ (bs : List ℕ). HasVector named form bs found records) (sym image)
+              (has named form on.image (more model) found records back on.fits on.scan.vector);
         shape_is = shape_same;
         frames_are = seen.frames_are;
-        cells_are = AreCellsOf_read form (vector_before told scanned.gate (bytes_of states)) records seen.vector_is (subst (λ cells. AreReadAs form cells records) (sym seen.vector_is) (AreReadAs_same named form (on.image ++ more model) found (map form.bytes_of records) records (read_raw named form on.image (more model) found records back on.fits on.scan.vector) (has named form on.image (more model) found records back on.fits on.scan.vector).read));
+        cells_are =
+            AreCellsOf_read form (vector_before told scanned.gate (bytes_of states)) records seen.vector_is
+              (subst (λ cells. AreReadAs form cells records) (sym seen.vector_is)
+                  (AreReadAs_same named form (on.image ++ more model) found (map form.bytes_of records) records
+                        (read_raw named form on.image (more model) found records back on.fits on.scan.vector)
+                        (has named form on.image (more model) found records back on.fits on.scan.vector).read));
         tally_is = tally_same;
         gate_is = gate_same;
       }

@@ -27,18 +27,27 @@ use Rattle.pen_core.proofs.Ticks.{IsOpening, images_at, gate_at, Failed}
 pub tally_with : (frames : List Frame) (frame : Frame) → tally_of (frames_with frames frame) ≡ after (tally_of frames) frame
 tally_with frames frame = tally_from_push nothing frames (blanked frame) ∙ after-blanked (tally_of frames) frame
 
-pub gate_with : (shape : Shape) (frames : List Frame) (frame : Frame) → gate_of shape (frames_with frames frame) ≡ gate_of shape frames + length (frame_text shape.format frame)
-gate_with shape frames frame = ap length (text_push shape frames (blanked frame)) ∙ length-append (text shape frames) (frame_text shape.format (blanked frame)) ∙ ap (λ n. gate_of shape frames + n) (length-frame_text-blanked shape.format frame)
+pub gate_with : (shape : Shape) (frames : List Frame) (frame : Frame)
+    → gate_of shape (frames_with frames frame) ≡ gate_of shape frames + length (frame_text shape.format frame)
+gate_with shape frames frame =
+    ap length (text_push shape frames (blanked frame))
+      ∙ length-append (text shape frames) (frame_text shape.format (blanked frame))
+      ∙ ap (λ n. gate_of shape frames + n) (length-frame_text-blanked shape.format frame)
 
 -- what holds the frames holds as many records
-pub held_size : (shape : Shape) (frames : List Frame) (vector : List (List ℕ)) (bytes : List ℕ) → Holds shape frames vector bytes → (tally_of frames).size ≡ length vector
-held_size shape frames vector bytes has = ap (λ fs. (tally_of fs).size) (sym has.alike) ∙ ap (λ t. t.size) (tally_from-blanked nothing has.found) ∙ sym has.read.size
+pub held_size : (shape : Shape) (frames : List Frame) (vector : List (List ℕ)) (bytes : List ℕ)
+    → Holds shape frames vector bytes → (tally_of frames).size ≡ length vector
+held_size shape frames vector bytes has =
+    ap (λ fs. (tally_of fs).size) (sym has.alike) ∙ ap (λ t. t.size) (tally_from-blanked nothing has.found)
+      ∙ sym has.read.size
 
 -- ---- what is known
 
-module _ (shape : Shape) (gate : ℕ) (tally : Tally) (frames : List Frame) (vector : List (List ℕ)) (bytes : List ℕ) (s : State) (gate_is : gate ≡ gate_of shape frames) (tally_is : tally ≡ tally_of frames) where
+module _ (shape : Shape) (gate : ℕ) (tally : Tally) (frames : List Frame) (vector : List (List ℕ)) (bytes : List ℕ)
+    (s : State) (gate_is : gate ≡ gate_of shape frames) (tally_is : tally ≡ tally_of frames) where
   -- no job is in hand
-  pub knows_rest : {count : ℕ} (broken : Bool) → IsFileOf shape count frames vector s → IsShut gate s → IsImage s s.seen → Knows count shape gate tally frames vector bytes None broken s
+  pub knows_rest : {count : ℕ} (broken : Bool) → IsFileOf shape count frames vector s → IsShut gate s → IsImage s s.seen
+      → Knows count shape gate tally frames vector bytes None broken s
   knows_rest {count} broken file shut readable = record {
     gate_is = gate_is;
     tally_is = tally_is;
@@ -61,9 +70,12 @@ module _ (shape : Shape) (gate : ℕ) (tally : Tally) (frames : List Frame) (vec
   opening step is = is
 
   -- the next call is this one
-  pub knows_at : {count : ℕ} (step : Step) (broken : Bool) → IsFileOf shape count frames vector s → IsAtStep shape count gate frames following then bytes step s → IsImage s s.seen → Knows count shape gate tally frames vector bytes (Some step) broken s
+  pub knows_at : {count : ℕ} (step : Step) (broken : Bool) → IsFileOf shape count frames vector s
+      → IsAtStep shape count gate frames following then bytes step s → IsImage s s.seen
+      → Knows count shape gate tally frames vector bytes (Some step) broken s
   knows_at {count} step broken file at readable =
-      let at' : IsAtStep shape count (gate_of shape frames) frames following then bytes step s = subst (λ g. IsAtStep shape count g frames following then bytes step s) gate_is at in
+      let at' : IsAtStep shape count (gate_of shape frames) frames following then bytes step s =
+          subst (λ g. IsAtStep shape count g frames following then bytes step s) gate_is at in
       record {
         gate_is = gate_is;
         tally_is = tally_is;
@@ -74,7 +86,8 @@ module _ (shape : Shape) (gate : ℕ) (tally : Tally) (frames : List Frame) (vec
       }
 
   -- and it has failed
-  pub knows_broken : {count : ℕ} (step : Step) → Failed shape count frames following vector then bytes step s → Knows count shape gate tally frames vector bytes (Some step) true s
+  pub knows_broken : {count : ℕ} (step : Step) → Failed shape count frames following vector then bytes step s
+      → Knows count shape gate tally frames vector bytes (Some step) true s
   knows_broken {count} step failed = record {
     gate_is = gate_is;
     tally_is = tally_is;
@@ -85,7 +98,9 @@ module _ (shape : Shape) (gate : ℕ) (tally : Tally) (frames : List Frame) (vec
   }
 
 -- what may be pending
-pub told_pending : {count : ℕ} (shape : Shape) (gate : ℕ) (tally : Tally) (frames : List Frame) (vector : List (List ℕ)) (bytes : List ℕ) (o : Option Step) (broken : Bool) (s : State) → Knows count shape gate tally frames vector bytes o broken s
+pub told_pending : {count : ℕ} (shape : Shape) (gate : ℕ) (tally : Tally) (frames : List Frame) (vector : List (List ℕ))
+    (bytes : List ℕ) (o : Option Step) (broken : Bool) (s : State)
+    → Knows count shape gate tally frames vector bytes o broken s
     → (j : ℕ) → is_pending s j ≡ true → (gate < j) ⊎ (((j ≡ gate) × MayBeOpening (job_of shape bytes o)) ⊎ IsBeingFolded shape count frames j)
 told_pending {count} shape gate tally frames vector bytes o broken s knows j is =
     let synced = knows.file.gate_synced in

@@ -35,5 +35,6 @@ in_positions_at i (run ∷ runs) =
     ∙ ap (λ b. b || list_any (is_at i) (positions_at runs)) (in_range i run.position run.count)
     ∙ ap (λ b. has i (span_of run) || b) (in_positions_at i runs)
 
-pub covers-home_runs : (width size : ℕ) (homes : List Home) (cover : List (ℕ × ℕ)) (runs : List Home) (i : ℕ) → AreHomeRuns width size homes cover runs → covers i (map span_of runs) ≡ covers i cover
+pub covers-home_runs : (width size : ℕ) (homes : List Home) (cover : List (ℕ × ℕ)) (runs : List Home) (i : ℕ)
+    → AreHomeRuns width size homes cover runs → covers i (map span_of runs) ≡ covers i cover
 covers-home_runs width size homes cover runs i are = sym (in_positions_at i runs) ∙ ap (list_any (is_at i)) are.positions_are ∙ in_positions i cover

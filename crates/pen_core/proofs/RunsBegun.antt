@@ -59,7 +59,8 @@ pub record Allows (broken busy : Bool) (shape : Shape) (gate : ℕ) (tally : Tal
   pub not_full : gate + (6 + change_len shape runs) < 2 ^ 48
 
 -- the first test doesn't hold, nor those behind it
-passed : (test : Bool) (fault : PenFault) (lines : List (Bool × PenFault)) → first_refusal ((test, fault) ∷ lines) ≡ None → (test ≡ false) × (first_refusal lines ≡ None)
+passed : (test : Bool) (fault : PenFault) (lines : List (Bool × PenFault)) → first_refusal ((test, fault) ∷ lines) ≡ None
+    → (test ≡ false) × (first_refusal lines ≡ None)
 passed true fault lines none = absurd cc
 passed false fault lines none = (refl, none)
 
@@ -86,7 +87,9 @@ module _ {D : Type 0} (pen : PenOf D) (runs : List Run) where
   pub allows : first_refusal (change_lines pen runs) ≡ None → Allows pen.broken (is_some pen.job) pen.shape pen.gate pen.tally runs
   allows none =
       let tests = none_holds (change_lines pen runs) none in
-      let formed = and_parts (list_all (λ run. nat_lt 0 run.count) runs) (are_ascending 0 runs) (not-false (list_all (λ run. nat_lt 0 run.count) runs && are_ascending 0 runs) tests.1.1.1.0) in
+      let formed =
+          and_parts (list_all (λ run. nat_lt 0 run.count) runs) (are_ascending 0 runs)
+            (not-false (list_all (λ run. nat_lt 0 run.count) runs && are_ascending 0 runs) tests.1.1.1.0) in
       let below = leb-false (2 ^ 48) (pen.gate + (6 + change_len pen.shape runs) + fold_len pen.fold) tests.1.1.1.1.1.1.0 in
       record {
         whole = tests.0;
@@ -100,17 +103,28 @@ module _ {D : Type 0} (pen : PenOf D) (runs : List Run) where
       }
 
 -- one test holds, and none before it
-first_of_them : (before : List (Bool × PenFault)) (test : Bool) (fault : PenFault) (behind : List (Bool × PenFault)) → AllByRecursion (λ line. line.0 ≡ false) before → test ≡ true → first_refusal (before ++ (test, fault) ∷ behind) ≡ Some fault
+first_of_them : (before : List (Bool × PenFault)) (test : Bool) (fault : PenFault) (behind : List (Bool × PenFault))
+    → AllByRecursion (λ line. line.0 ≡ false) before → test ≡ true
+    → first_refusal (before ++ (test, fault) ∷ behind) ≡ Some fault
 first_of_them [] test fault behind none holds = ap (λ b. cond b (Some fault) (first_refusal behind)) holds
-first_of_them (line ∷ before) test fault behind none holds = ap (λ b. cond b (Some line.1) (first_refusal (before ++ (test, fault) ∷ behind))) none.0 ∙ first_of_them before test fault behind none.1 holds
+first_of_them (line ∷ before) test fault behind none holds =
+    ap (λ b. cond b (Some line.1) (first_refusal (before ++ (test, fault) ∷ behind))) none.0
+      ∙ first_of_them before test fault behind none.1 holds
 
 -- no vector has so many positions
-pub too_many : {D : Type 0} (pen : PenOf D) (start count : ℕ) → pen.broken ≡ false → is_some pen.job ≡ false → pen.tally.size ≤ 2 ^ 32 → 2 ^ 32 < count → IsRefusal (change_lines pen (one_run start count)) OutOfRange
+pub too_many : {D : Type 0} (pen : PenOf D) (start count : ℕ) → pen.broken ≡ false → is_some pen.job ≡ false
+    → pen.tally.size ≤ 2 ^ 32 → 2 ^ 32 < count → IsRefusal (change_lines pen (one_run start count)) OutOfRange
 too_many pen start count whole idle short many =
     let runs : List Run = one_run start count in
-    let formed : are_disordered pen runs ≡ false = ap (λ b. not ((b && true) && (nat_le 0 start && true))) (lt-ltb 0 count (omega arith)) ∙ ap (λ b. not (b && true)) (le-leb 0 start (omega arith)) in
+    let formed : are_disordered pen runs ≡ false =
+        ap (λ b. not ((b && true) && (nat_le 0 start && true))) (lt-ltb 0 count (omega arith))
+          ∙ ap (λ b. not (b && true)) (le-leb 0 start (omega arith)) in
     let outside : not (are_inside pen.tally.size runs) ≡ true = ap (λ b. not (b && true)) (lt-leb (start + count) pen.tally.size (omega arith)) in
-    let first = first_of_them (ready_lines pen ++ (is_old pen pen.shape.format runs, OldFormat) ∷ (are_disordered pen runs, Runs) ∷ []) (not (are_inside pen.tally.size runs)) OutOfRange (room_lines pen (change_len pen.shape runs)) (whole, (idle, (young pen.shape.format, (formed, tt)))) outside in
+    let first =
+        first_of_them
+          (ready_lines pen ++ (is_old pen pen.shape.format runs, OldFormat) ∷ (are_disordered pen runs, Runs) ∷ [])
+          (not (are_inside pen.tally.size runs)) OutOfRange (room_lines pen (change_len pen.shape runs))
+          (whole, (idle, (young pen.shape.format, (formed, tt)))) outside in
     subst (λ o. MatchOption o (OutOfRange ≡ Memory) (λ fault. OutOfRange ≡ fault)) (sym first) refl
   where
     young : (format : Format) → is_old pen format (one_run start count) ≡ false
@@ -123,8 +137,11 @@ runs_again : (runs : List (ℕ × ℕ)) → map (λ run. (run.start, run.count))
 runs_again [] = refl
 runs_again (run ∷ runs) = ap (λ rs. (run.0, run.1) ∷ rs) (runs_again runs)
 
-module _ {R : Type 0} (form : Encoding R) (shape : Shape) (gate : ℕ) (tally : Tally) (runs : List Run) (pieces : List (List R)) (wide : 1 ≤ shape.width) (short : tally.size ≤ 2 ^ 32) (width : form.width ≡ shape.width) (size_of : (r : R) → length (form.bytes_of r) ≡ form.width)
-    (some : 0 < length runs) (filled : length (joined pieces) ≡ records_of_runs runs) {broken busy : Bool} (allowed : Allows broken busy shape gate tally runs) where
+module _ {R : Type 0} (form : Encoding R) (shape : Shape) (gate : ℕ) (tally : Tally) (runs : List Run)
+    (pieces : List (List R)) (wide : 1 ≤ shape.width) (short : tally.size ≤ 2 ^ 32) (width : form.width ≡ shape.width)
+    (size_of : (r : R) → length (form.bytes_of r) ≡ form.width)
+    (some : 0 < length runs) (filled : length (joined pieces) ≡ records_of_runs runs) {broken busy : Bool}
+    (allowed : Allows broken busy shape gate tally runs) where
   abbrev frame : Frame
   frame = change_frame form runs pieces
 
@@ -147,7 +164,14 @@ module _ {R : Type 0} (form : Encoding R) (shape : Shape) (gate : ℕ) (tally : 
       }
 
   pub change_follows : MayFollow tally frame
-  change_follows = record { ordered = not_from_true (are_ascending 0 runs) allowed.ordered; inside = not_from_true (are_inside tally.size runs) allowed.inside; folded = refl; counted = refl; short = refl }
+  change_follows =
+      record {
+        ordered = not_from_true (are_ascending 0 runs) allowed.ordered;
+        inside = not_from_true (are_inside tally.size runs) allowed.inside;
+        folded = refl;
+        counted = refl;
+        short = refl;
+      }
 
   pub change_text_len : length (frame_text shape.format frame) ≡ 6 + change_len shape runs
   change_text_len = length-frame_text shape.format frame ∙ ap (λ n. 6 + n) payload
@@ -159,18 +183,32 @@ module _ {R : Type 0} (form : Encoding R) (shape : Shape) (gate : ℕ) (tally : 
 
 -- What stands once a change is begun: the pen's fields are sound, the job's frame is the change, and the records behind
 -- it are those with the runs replaced.
-pub record ChangeBegun {R : Type 0} (count : ℕ) (keeps : Type 0) (states : List State) (shape : Shape) (gate : ℕ) (tally : Tally) (bytes : List ℕ) (broken : Bool) (homes : Homes) (live : ℕ) (fold : Fold) (form : Encoding R) (runs : List Run) (pieces : List (List R)) : Type 0 where
+pub record ChangeBegun {R : Type 0} (count : ℕ) (keeps : Type 0) (states : List State) (shape : Shape) (gate : ℕ)
+    (tally : Tally) (bytes : List ℕ) (broken : Bool) (homes : Homes) (live : ℕ) (fold : Fold) (form : Encoding R)
+    (runs : List Run) (pieces : List (List R)) : Type 0 where
   pub pen : IsPen count keeps states shape gate tally (after tally (change_frame form runs pieces)) bytes (Some Body) broken
   pub listed : IsListed keeps states shape gate tally bytes (Some Body) homes live fold
   pub held : IsFold keeps states shape gate tally bytes (Some Body) broken fold
   pub frame_is : frame_at shape bytes ≡ change_frame form runs pieces
-  pub tells : (vector : List (List ℕ)) (records : List R) → AreCellsOf form vector records → AreCellsOf form (after_frame shape.width vector (frame_at shape bytes)) (replaced records runs (joined pieces))
+  pub tells : (vector : List (List ℕ)) (records : List R) → AreCellsOf form vector records
+      → AreCellsOf form (after_frame shape.width vector (frame_at shape bytes)) (replaced records runs (joined pieces))
 
-pub change_begun : {R : Type 0} {count : ℕ} (keeps : Type 0) (states : List State) (shape : Shape) (gate : ℕ) (tally next : Tally) (bytes bytes' : List ℕ) (o : Option Step) (broken : Bool) (homes homes' : Homes) (live : ℕ) {fold : Fold} (form : Encoding R) (runs : List (ℕ × ℕ)) (pieces : List (List R))
-    → IsPen count keeps states shape gate tally next bytes o broken → IsListed keeps states shape gate tally bytes o homes live fold → IsFold keeps states shape gate tally bytes o broken fold → gate + (6 + change_len shape (runs_given runs)) + fold_len (fold_of fold) < 2 ^ 48 → Allows broken (is_some (job_of shape bytes o)) shape gate tally (runs_given runs) → (keeps → IsImage (now states) (bytes_of states))
-    → bytes' ≡ frame_text shape.format (change_frame form (runs_given runs) pieces) ++ 0 ∷ [] → form.width ≡ shape.width → ((r : R) → length (form.bytes_of r) ≡ form.width) → 0 < length runs → length (joined pieces) ≡ records_of_runs (runs_given runs) → AreReadAgain form (joined pieces)
-    → homes'.homes ≡ homes.homes → homes'.live.items ≡ homes.live.items ++ runs → ChangeBegun count keeps states shape gate tally bytes' broken homes' live fold form (runs_given runs) pieces
-change_begun {R} {count} keeps states shape gate tally next bytes bytes' o broken homes homes' live {fold} form runs pieces pen listed is_fold space allowed reads spelled width size_of some filled again homes_same live_more =
+pub change_begun : {R : Type 0} {count : ℕ} (keeps : Type 0) (states : List State) (shape : Shape) (gate : ℕ)
+    (tally next : Tally) (bytes bytes' : List ℕ) (o : Option Step) (broken : Bool) (homes homes' : Homes) (live : ℕ)
+    {fold : Fold} (form : Encoding R) (runs : List (ℕ × ℕ)) (pieces : List (List R))
+    → IsPen count keeps states shape gate tally next bytes o broken
+    → IsListed keeps states shape gate tally bytes o homes live fold
+    → IsFold keeps states shape gate tally bytes o broken fold
+    → gate + (6 + change_len shape (runs_given runs)) + fold_len (fold_of fold) < 2 ^ 48
+    → Allows broken (is_some (job_of shape bytes o)) shape gate tally (runs_given runs)
+    → (keeps → IsImage (now states) (bytes_of states))
+    → bytes' ≡ frame_text shape.format (change_frame form (runs_given runs) pieces) ++ 0 ∷ [] → form.width ≡ shape.width
+    → ((r : R) → length (form.bytes_of r) ≡ form.width) → 0 < length runs
+    → length (joined pieces) ≡ records_of_runs (runs_given runs) → AreReadAgain form (joined pieces)
+    → homes'.homes ≡ homes.homes → homes'.live.items ≡ homes.live.items ++ runs
+    → ChangeBegun count keeps states shape gate tally bytes' broken homes' live fold form (runs_given runs) pieces
+change_begun {R} {count} keeps states shape gate tally next bytes bytes' o broken homes homes' live {fold} form runs pieces
+    pen listed is_fold space allowed reads spelled width size_of some filled again homes_same live_more =
     let given : List Run = runs_given runs in
     let frame : Frame = change_frame form given pieces in
     let counted : 0 < length given = omega (arith, length-runs_given runs) in
@@ -180,11 +218,21 @@ change_begun {R} {count} keeps states shape gate tally next bytes bytes' o broke
     let follows = change_follows form shape gate tally given pieces pen.wide.0 pen.size_fits width size_of counted filled allowed in
     let room = change_room form shape gate tally given pieces pen.wide.0 pen.size_fits width size_of counted filled allowed in
     let all = change_text_len form shape gate tally given pieces pen.wide.0 pen.size_fits width size_of counted filled allowed in
-    let at : frame_at shape bytes' ≡ frame = begun_frame keeps states shape gate tally next (after tally frame) bytes bytes' o broken frame pen allowed.whole idle reads spelled framed follows refl no_fold room in
+    let at : frame_at shape bytes' ≡ frame =
+        begun_frame keeps states shape gate tally next (after tally frame) bytes bytes' o broken frame pen allowed.whole idle
+          reads spelled framed follows refl no_fold room in
     record {
-      pen = begun keeps states shape gate tally next (after tally frame) bytes bytes' o broken frame pen allowed.whole idle reads spelled framed follows refl no_fold room;
-      listed = listed_begun keeps states shape gate tally bytes o homes live listed idle bytes' homes' frame Body at no_fold (ap (λ v. v.items) homes_same ∙ sym (append-nil homes.homes.items)) (live_more ∙ ap (λ rs. homes.live.items ++ rs) (sym (runs_again runs)));
+      pen =
+          begun keeps states shape gate tally next (after tally frame) bytes bytes' o broken frame pen allowed.whole idle
+            reads spelled framed follows refl no_fold room;
+      listed =
+          listed_begun listed idle bytes' homes' frame Body at no_fold
+            (ap (λ v. v.items) homes_same ∙ sym (append-nil homes.homes.items))
+            (live_more ∙ ap (λ rs. homes.live.items ++ rs) (sym (runs_again runs)));
       held = fold_begun keeps states shape gate tally bytes bytes' o broken fold frame Body is_fold idle spelled (omega arith);
       frame_is = at;
-      tells = λ vector records are. subst (λ f. AreCellsOf form (after_frame shape.width vector f) (replaced records given (joined pieces))) (sym at) (AreCellsOf_change form shape.width vector records given pieces width size_of filled again are);
+      tells =
+          λ vector records are.
+            subst (λ f. AreCellsOf form (after_frame shape.width vector f) (replaced records given (joined pieces))) (sym at)
+              (AreCellsOf_change form shape.width vector records given pieces width size_of filled again are);
     }

@@ -47,7 +47,8 @@ counts_join old mid new first then = record {
 }
 
 -- once the job is done the frames are the pen's
-frames_after-done : {D : Type 0} (old new : PenOf D) (job : JobOf) → old.job ≡ Some job → IfSome old.job (λ job. FileGains job.frame old new) → new.frames ≡ frames_after old
+frames_after-done : {D : Type 0} (old new : PenOf D) (job : JobOf) → old.job ≡ Some job
+    → IfSome old.job (λ job. FileGains job.frame old new) → new.frames ≡ frames_after old
 frames_after-done old new job is file = at old.job is file
   where
     at : (o : Option JobOf) → o ≡ Some job → IfSome o (λ job. FileGains job.frame old new) → new.frames ≡ frames_and old.frames o
@@ -55,7 +56,9 @@ frames_after-done old new job is file = at old.job is file
     at (Some done) is gains = gains.frames_more
 
 -- what one of two pens may open to that differ in the step of the job alone, the other may
-pub MayOpen-step : {D : Type 0} (old mid : PenOf D) (job : JobOf) (step : Step) → mid.shape ≡ old.shape → FileSame old mid → old.job ≡ Some job → mid.job ≡ Some (record { frame = job.frame; step = step }) → (image : List ℕ) → MayOpen mid image → MayOpen old image
+pub MayOpen-step : {D : Type 0} (old mid : PenOf D) (job : JobOf) (step : Step) → mid.shape ≡ old.shape → FileSame old mid
+    → old.job ≡ Some job → mid.job ≡ Some (record { frame = job.frame; step = step }) → (image : List ℕ) → MayOpen mid image
+    → MayOpen old image
 MayOpen-step old mid job step shape file was is image opens =
     subst (λ j. OpensWith old.shape old.frames old.vector j image) (sym was)
     (subst (λ v. OpensWith old.shape old.frames v (Some job) image) file.vector_same
@@ -67,8 +70,11 @@ module _ {D : Type 0} (keeps : D → Type 0) (states : D → List State) (faults
   -- ---- stretches
 
   -- one call
-  pub LogGoes-tick : (old new : PenOf D) → IsTicked old new ticks.Step → (keeps new.disk → FileTicked old new ticks.Step) → (keeps new.disk → LeavesOnly (states old.disk) (states new.disk) (MayOpen old))
-      → (old.broken ≡ false) × (new.broken ≡ false) → clock (states new.disk) ≡ clock (states old.disk) + calls_due old.broken old.job → faults new.disk ≡ faults old.disk → (keeps new.disk → keeps old.disk) → (keeps old.disk → keeps new.disk) → LogGoes keeps states faults old new
+  pub LogGoes-tick : (old new : PenOf D) → IsTicked old new ticks.Step → (keeps new.disk → FileTicked old new ticks.Step)
+      → (keeps new.disk → LeavesOnly (states old.disk) (states new.disk) (MayOpen old))
+      → (old.broken ≡ false) × (new.broken ≡ false)
+      → clock (states new.disk) ≡ clock (states old.disk) + calls_due old.broken old.job → faults new.disk ≡ faults old.disk
+      → (keeps new.disk → keeps old.disk) → (keeps old.disk → keeps new.disk) → LogGoes keeps states faults old new
   LogGoes-tick old new ticked file images whole time no_fault model goes_on =
       let job = ticked.0 in
       let was = ticked.1 in
@@ -96,16 +102,22 @@ module _ {D : Type 0} (keeps : D → Type 0) (states : D → List State) (faults
   file_join old mid new first then = record { frames_same = then.frames_same ∙ first.frames_same; vector_same = then.vector_same ∙ first.vector_same }
 
   -- what a call behind a stretch may leave
-  pub LogGoes-images : (old mid new : PenOf D) → LogGoes keeps states faults old mid → keeps mid.disk → LeavesOnly (states mid.disk) (states new.disk) (MayOpen mid) → LeavesOnly (states old.disk) (states new.disk) (MayOpen old)
+  pub LogGoes-images : (old mid new : PenOf D) → LogGoes keeps states faults old mid → keeps mid.disk
+      → LeavesOnly (states mid.disk) (states new.disk) (MayOpen mid)
+      → LeavesOnly (states old.disk) (states new.disk) (MayOpen old)
   LogGoes-images old mid new goes model images =
       LeavesOnly-join (states old.disk) (states mid.disk) (states new.disk) (MayOpen old) (goes.images model)
-      (LeavesOnly-weaker (states mid.disk) (states new.disk) (MayOpen mid) (MayOpen old) (MayOpen-step old mid goes.job goes.step goes.counts_same.shape_same (goes.file_same model) goes.job_was goes.job_is) images)
+      (LeavesOnly-weaker (states mid.disk) (states new.disk) (MayOpen mid) (MayOpen old)
+        (MayOpen-step old mid goes.job goes.step goes.counts_same.shape_same (goes.file_same model) goes.job_was goes.job_is)
+        images)
 
   LogGoes-join : (old mid new : PenOf D) → LogGoes keeps states faults old mid → LogGoes keeps states faults mid new → LogGoes keeps states faults old new
   LogGoes-join old mid new first then =
       let time₁ = first.time in
       let time₂ = then.time in
-      let same : first.job.frame ≡ then.job.frame = ap (λ (j : JobOf). j.frame) (same_Some (record { frame = first.job.frame; step = first.step }) then.job (sym first.job_is ∙ then.job_was)) in
+      let same : first.job.frame ≡ then.job.frame =
+          ap (λ (j : JobOf). j.frame)
+            (same_Some (record { frame = first.job.frame; step = first.step }) then.job (sym first.job_is ∙ then.job_was)) in
       record {
         images = λ now. LogGoes-images old mid new first (then.model now) (then.images now);
         job = first.job;
@@ -122,7 +134,8 @@ module _ {D : Type 0} (keeps : D → Type 0) (states : D → List State) (faults
       }
 
   -- where nothing may have been done before
-  pub LogGoes-first : (old mid new : PenOf D) → (mid ≡ old) ⊎ LogGoes keeps states faults old mid → LogGoes keeps states faults mid new → LogGoes keeps states faults old new
+  pub LogGoes-first : (old mid new : PenOf D) → (mid ≡ old) ⊎ LogGoes keeps states faults old mid
+      → LogGoes keeps states faults mid new → LogGoes keeps states faults old new
   LogGoes-first old mid new so_far then = elim so_far [
     | inl same ↦ subst (λ (p : PenOf D). LogGoes keeps states faults p new) same then
     | inr first ↦ LogGoes-join old mid new first then
@@ -131,7 +144,9 @@ module _ {D : Type 0} (keeps : D → Type 0) (states : D → List State) (faults
   -- ---- the end
 
   module _ (old mid new : PenOf D) (so_far : (mid ≡ old) ⊎ LogGoes keeps states faults old mid) where
-    pub ended_images : (keeps new.disk → keeps mid.disk) → (keeps new.disk → LeavesOnly (states mid.disk) (states new.disk) (MayOpen mid)) → keeps new.disk → LeavesOnly (states old.disk) (states new.disk) (MayOpen old)
+    pub ended_images : (keeps new.disk → keeps mid.disk)
+        → (keeps new.disk → LeavesOnly (states mid.disk) (states new.disk) (MayOpen mid)) → keeps new.disk
+        → LeavesOnly (states old.disk) (states new.disk) (MayOpen old)
     ended_images model images now = elim so_far [
       | inl same ↦ subst (λ (p : PenOf D). LeavesOnly (states p.disk) (states new.disk) (MayOpen p)) same (images now)
       | inr first ↦ LogGoes-images old mid new first (model now) (images now)
@@ -178,7 +193,8 @@ module _ {D : Type 0} (keeps : D → Type 0) (states : D → List State) (faults
     pub idle_settled : IsTicked mid new ticks.Idle → IsLogSettled old new
     idle_settled ticked =
         let same = idle_same ticked.0 in
-        match_none (new ≡ old) (λ (job : JobOf). CountsDone job.frame old new) old.job (ap (λ (p : PenOf D). p.job) (sym same) ∙ ticked.0) (ticked.1 ∙ same)
+        match_none (new ≡ old) (λ (job : JobOf). CountsDone job.frame old new) old.job
+            (ap (λ (p : PenOf D). p.job) (sym same) ∙ ticked.0) (ticked.1 ∙ same)
 
     pub idle_file : IsTicked mid new ticks.Idle → new.vector ≡ vector_after old
     idle_file ticked =
@@ -201,7 +217,10 @@ module _ {D : Type 0} (keeps : D → Type 0) (states : D → List State) (faults
     done_from : (job : JobOf) → mid.job ≡ Some job → (was : JobOf) × (old.job ≡ Some was) × (was.frame ≡ job.frame)
     done_from job is = elim so_far [
       | inl same ↦ (job, ap (λ (p : PenOf D). p.job) (sym same) ∙ is, refl)
-      | inr first ↦ (first.job, first.job_was, ap (λ (j : JobOf). j.frame) (same_Some (record { frame = first.job.frame; step = first.step }) job (sym first.job_is ∙ is)))
+      | inr
+          first ↦ (first.job, first.job_was,
+              ap (λ (j : JobOf). j.frame)
+                  (same_Some (record { frame = first.job.frame; step = first.step }) job (sym first.job_is ∙ is)))
     ]
 
     so_far_counts : CountsSame old mid
@@ -226,7 +245,9 @@ module _ {D : Type 0} (keeps : D → Type 0) (states : D → List State) (faults
           shape_same = done.shape_same ∙ same.shape_same;
           fold_is = done.fold_is ∙ ap (fold_behind from.0.frame) same.fold_same;
           tally_is = done.tally_is ∙ ap (λ t. after t from.0.frame) same.tally_same;
-          gate_is = done.gate_is ∙ ap (λ g. g + length (frame_text mid.shape.format from.0.frame)) same.gate_same ∙ ap (λ s. old.gate + length (frame_text s.format from.0.frame)) same.shape_same;
+          gate_is =
+              done.gate_is ∙ ap (λ g. g + length (frame_text mid.shape.format from.0.frame)) same.gate_same
+                ∙ ap (λ s. old.gate + length (frame_text s.format from.0.frame)) same.shape_same;
           room_same = λ kind. done.room_same kind ∙ same.room_same;
           places_same = λ kind. done.places_same kind ∙ same.places_same;
           job_done = done.job_done;
@@ -249,7 +270,9 @@ module _ {D : Type 0} (keeps : D → Type 0) (states : D → List State) (faults
           ∙ ap (λ fs. frames_and fs (Some first.job)) (first.file_same model).frames_same ∙ ap (frames_and old.frames) (sym first.job_was))
     ]
 
-    pub done_time : IsTicked mid new ticks.Done → mid.broken ≡ false → clock (states new.disk) ≡ clock (states mid.disk) + calls_due mid.broken mid.job → clock (states new.disk) ≡ clock (states old.disk) + log_left old.job
+    pub done_time : IsTicked mid new ticks.Done → mid.broken ≡ false
+        → clock (states new.disk) ≡ clock (states mid.disk) + calls_due mid.broken mid.job
+        → clock (states new.disk) ≡ clock (states old.disk) + log_left old.job
     done_time ticked whole time =
         let before = so_far_time in
         let due : calls_due mid.broken mid.job ≡ 1 = ap (λ b. calls_due b mid.job) whole ∙ ap (calls_due false) ticked.1 in
@@ -285,12 +308,15 @@ module _ {D : Type 0} (keeps : D → Type 0) (states : D → List State) (faults
       | inr first ↦ file_join old mid new (first.file_same (model now)) (file now)
     ]
 
-    pub fault_time : (fault : PenFault) → IsTickFault mid new fault → clock (states new.disk) ≡ clock (states mid.disk) + calls_due mid.broken mid.job → clock (states new.disk) + log_left new.job ≡ clock (states old.disk) + log_left old.job + failed_calls fault
+    pub fault_time : (fault : PenFault) → IsTickFault mid new fault
+        → clock (states new.disk) ≡ clock (states mid.disk) + calls_due mid.broken mid.job
+        → clock (states new.disk) + log_left new.job ≡ clock (states old.disk) + log_left old.job + failed_calls fault
     fault_time fault why time = elim why [
       | inl barred ↦ (
           let before = so_far_time in
           let none : failed_calls fault ≡ 0 = ap failed_calls barred.0 in
-          let same : clock (states new.disk) + log_left new.job ≡ clock (states mid.disk) + log_left mid.job = ap (λ (p : PenOf D). clock (states p.disk) + log_left p.job) barred.2 in
+          let same : clock (states new.disk) + log_left new.job ≡ clock (states mid.disk) + log_left mid.job =
+              ap (λ (p : PenOf D). clock (states p.disk) + log_left p.job) barred.2 in
           omega arith)
       | inr failed ↦ (
           let before = so_far_time in
@@ -307,17 +333,21 @@ module _ {D : Type 0} (keeps : D → Type 0) (states : D → List State) (faults
     ended_settled ticks.Step other ticked = absurd (other refl)
     ended_settled ticks.Done other ticked = done_settled ticked
 
-    pub ended_file : (tick : Ticked) → (tick ≡ ticks.Step → ⊥) → keeps mid.disk → IsTicked mid new tick → FileTicked mid new tick → new.vector ≡ vector_after old
+    pub ended_file : (tick : Ticked) → (tick ≡ ticks.Step → ⊥) → keeps mid.disk → IsTicked mid new tick
+        → FileTicked mid new tick → new.vector ≡ vector_after old
     ended_file ticks.Idle other model ticked file = idle_file ticked
     ended_file ticks.Step other model ticked file = absurd (other refl)
     ended_file ticks.Done other model ticked file = done_file model ticked file
 
-    pub ended_frames : (tick : Ticked) → (tick ≡ ticks.Step → ⊥) → keeps mid.disk → IsTicked mid new tick → FileTicked mid new tick → new.frames ≡ frames_after old
+    pub ended_frames : (tick : Ticked) → (tick ≡ ticks.Step → ⊥) → keeps mid.disk → IsTicked mid new tick
+        → FileTicked mid new tick → new.frames ≡ frames_after old
     ended_frames ticks.Idle other model ticked file = idle_frames ticked
     ended_frames ticks.Step other model ticked file = absurd (other refl)
     ended_frames ticks.Done other model ticked file = done_frames model ticked file
 
-    pub ended_time : (tick : Ticked) → (tick ≡ ticks.Step → ⊥) → IsTicked mid new tick → mid.broken ≡ false → clock (states new.disk) ≡ clock (states mid.disk) + calls_due mid.broken mid.job → clock (states new.disk) ≡ clock (states old.disk) + log_left old.job
+    pub ended_time : (tick : Ticked) → (tick ≡ ticks.Step → ⊥) → IsTicked mid new tick → mid.broken ≡ false
+        → clock (states new.disk) ≡ clock (states mid.disk) + calls_due mid.broken mid.job
+        → clock (states new.disk) ≡ clock (states old.disk) + log_left old.job
     ended_time ticks.Idle other ticked whole time = idle_time ticked
     ended_time ticks.Step other ticked whole time = absurd (other refl)
     ended_time ticks.Done other ticked whole time = done_time ticked whole time

@@ -38,28 +38,58 @@ use Rattle.pen_core.proofs.Listed.{live_counted}
 
 -- ---- where nothing is being folded, any count is known of
 
-pending_more : (shape : Shape) (count : ℕ) (frames next : List Frame) (s : State) → PendingIsFolded shape 0 frames next s → PendingIsFolded shape count frames next s
+pending_more : (shape : Shape) (count : ℕ) (frames next : List Frame) (s : State) → PendingIsFolded shape 0 frames next s
+    → PendingIsFolded shape count frames next s
 pending_more shape count frames next s none j lt is = absurd (nothing_folded shape next j (none j lt is))
 
-file_more : (shape : Shape) (count : ℕ) (frames : List Frame) (vector : List (List ℕ)) (s : State) → IsFileOf shape 0 frames vector s → IsFileOf shape count frames vector s
-file_more shape count frames vector s file = record { holds = file.holds; gate_synced = file.gate_synced; pending_is_folded = pending_more shape count frames frames s file.pending_is_folded }
+file_more : (shape : Shape) (count : ℕ) (frames : List Frame) (vector : List (List ℕ)) (s : State)
+    → IsFileOf shape 0 frames vector s → IsFileOf shape count frames vector s
+file_more shape count frames vector s file =
+    record {
+      holds = file.holds;
+      gate_synced = file.gate_synced;
+      pending_is_folded = pending_more shape count frames frames s file.pending_is_folded;
+    }
 
-written_more : (shape : Shape) (count : ℕ) (frames next : List Frame) (after : List (List ℕ)) (s : State) → IsWritten shape 0 frames next after s → IsWritten shape count frames next after s
-written_more shape count frames next after s wrote = record { longer = wrote.longer; holds = wrote.holds; closed = wrote.closed; inside = wrote.inside; pending_is_folded = pending_more shape count frames next s wrote.pending_is_folded }
+written_more : (shape : Shape) (count : ℕ) (frames next : List Frame) (after : List (List ℕ)) (s : State)
+    → IsWritten shape 0 frames next after s → IsWritten shape count frames next after s
+written_more shape count frames next after s wrote =
+    record {
+      longer = wrote.longer;
+      holds = wrote.holds;
+      closed = wrote.closed;
+      inside = wrote.inside;
+      pending_is_folded = pending_more shape count frames next s wrote.pending_is_folded;
+    }
 
-step_more : (shape : Shape) (count gate : ℕ) (frames next : List Frame) (after : List (List ℕ)) (bytes : List ℕ) (step : Step) (s : State) → IsAtStep shape 0 gate frames next after bytes step s → IsAtStep shape count gate frames next after bytes step s
-step_more shape count gate frames next after bytes Body s at = (at.0, record { some = at.1.some; size = at.1.size; closed = at.1.closed; pending_is_folded = pending_more shape count frames next s at.1.pending_is_folded; holds = at.1.holds })
+step_more : (shape : Shape) (count gate : ℕ) (frames next : List Frame) (after : List (List ℕ)) (bytes : List ℕ)
+    (step : Step) (s : State)
+    → IsAtStep shape 0 gate frames next after bytes step s → IsAtStep shape count gate frames next after bytes step s
+step_more shape count gate frames next after bytes Body s at =
+    (at.0,
+        record {
+          some = at.1.some;
+          size = at.1.size;
+          closed = at.1.closed;
+          pending_is_folded = pending_more shape count frames next s at.1.pending_is_folded;
+          holds = at.1.holds;
+        })
 step_more shape count gate frames next after bytes BodySync s at = (at.0, written_more shape count frames next after s at.1)
 step_more shape count gate frames next after bytes Gate s at = (at.0, written_more shape count frames next after s at.1, at.2)
 step_more shape count gate frames next after bytes GateSync s at = (written_more shape count frames next after s at.0, at.1, at.2)
 
-stands_more : (shape : Shape) (count gate : ℕ) (frames : List Frame) (vector : List (List ℕ)) (bytes : List ℕ) (o : Option Step) (s : State) → Stands shape 0 gate frames vector bytes o s → Stands shape count gate frames vector bytes o s
+stands_more : (shape : Shape) (count gate : ℕ) (frames : List Frame) (vector : List (List ℕ)) (bytes : List ℕ)
+    (o : Option Step) (s : State)
+    → Stands shape 0 gate frames vector bytes o s → Stands shape count gate frames vector bytes o s
 stands_more shape count gate frames vector bytes None s at = at
 stands_more shape count gate frames vector bytes (Some step) s at =
     let frame = frame_at shape bytes in
     step_more shape count gate frames (frames_with frames frame) (after_frame shape.width vector frame) bytes step s at
 
-pub pen_more : (count : ℕ) (keeps : Type 0) (states : List State) (shape : Shape) (gate : ℕ) (tally next : Tally) (bytes : List ℕ) (o : Option Step) (broken : Bool) → IsPen 0 keeps states shape gate tally next bytes o broken → IsPen count keeps states shape gate tally next bytes o broken
+pub pen_more : (count : ℕ) (keeps : Type 0) (states : List State) (shape : Shape) (gate : ℕ) (tally next : Tally)
+    (bytes : List ℕ) (o : Option Step) (broken : Bool)
+    → IsPen 0 keeps states shape gate tally next bytes o broken
+    → IsPen count keeps states shape gate tally next bytes o broken
 pen_more count keeps states shape gate tally next bytes o broken pen =
     let frames = blanked_before shape gate (bytes_of states) in
     let vector = vector_before shape gate (bytes_of states) in
@@ -72,7 +102,14 @@ pen_more count keeps states shape gate tally next bytes o broken pen =
       job = pen.job;
       knows = λ model. (
           let k = pen.knows model in
-          record { gate_is = k.gate_is; tally_is = k.tally_is; file = file_more shape count frames vector (now states) k.file; images_open = k.images_open; gate_pending = k.gate_pending; stands = λ whole. stands_more shape count gate frames vector bytes o (now states) (k.stands whole) });
+          record {
+            gate_is = k.gate_is;
+            tally_is = k.tally_is;
+            file = file_more shape count frames vector (now states) k.file;
+            images_open = k.images_open;
+            gate_pending = k.gate_pending;
+            stands = λ whole. stands_more shape count gate frames vector bytes o (now states) (k.stands whole);
+          });
     }
 
 take_whole : {A : Type 0} (xs : List A) (n : ℕ) → n ≡ length xs → take n xs ≡ xs
@@ -83,19 +120,29 @@ take_whole xs n is = ap (λ ys. take n ys) (sym (append-nil xs)) ∙ take-append
     all (x ∷ xs) n is = ap (λ k. take k (x ∷ xs)) is ∙ ap (λ ys. x ∷ ys) (all xs (length xs) refl)
 
 -- where the gate will stand, as it is seen
-gate_seen : (shape : Shape) (gate : ℕ) (tally next : Tally) (bytes : List ℕ) (o : Option Step) → IsMaybeJob shape gate tally next bytes o → gate_then gate bytes o ≡ gate + job_len shape (job_of shape bytes o)
+gate_seen : (shape : Shape) (gate : ℕ) (tally next : Tally) (bytes : List ℕ) (o : Option Step)
+    → IsMaybeJob shape gate tally next bytes o → gate_then gate bytes o ≡ gate + job_len shape (job_of shape bytes o)
 gate_seen shape gate tally next bytes None job = omega arith
-gate_seen shape gate tally next bytes (Some step) job = let all = ap length job.spelled ∙ length-append (frame_text shape.format (frame_at shape bytes)) (0 ∷ []) in omega arith
+gate_seen shape gate tally next bytes (Some step) job =
+    let all = ap length job.spelled ∙ length-append (frame_text shape.format (frame_at shape bytes)) (0 ∷ []) in omega arith
 
 -- the same plan, in a fold of other counts
-pub plan_for : {R : Type 0} (form : Encoding R) (records : List R) (width size : ℕ) (live : List (ℕ × ℕ)) (homes : List Home_.Home) (fold fold' : Fold) → fold'.bytes ≡ fold.bytes → fold'.writes ≡ fold.writes → IsPlan form records width size live homes fold → IsPlan form records width size live homes fold'
+pub plan_for : {R : Type 0} (form : Encoding R) (records : List R) (width size : ℕ) (live : List (ℕ × ℕ))
+    (homes : List Home_.Home) (fold fold' : Fold)
+    → fold'.bytes ≡ fold.bytes → fold'.writes ≡ fold.writes → IsPlan form records width size live homes fold
+    → IsPlan form records width size live homes fold'
 plan_for form records width size live homes fold fold' bytes_same writes_same plan = record {
   cover = plan.cover;
   runs = plan.runs;
   covered = plan.covered;
   at_home = plan.at_home;
-  writes_are = ap (λ bs. map (write_of bs.items) fold'.writes.items) bytes_same ∙ ap (λ ws. map (write_of fold.bytes.items) ws.items) writes_same ∙ plan.writes_are;
-  inside = subst (λ bs. All (λ write. (write.from ≤ write.to) × (write.to ≤ length bs.items)) fold'.writes.items) (sym bytes_same) (subst (λ ws. All (λ write. (write.from ≤ write.to) × (write.to ≤ length fold.bytes.items)) ws.items) (sym writes_same) plan.inside);
+  writes_are =
+      ap (λ bs. map (write_of bs.items) fold'.writes.items) bytes_same
+        ∙ ap (λ ws. map (write_of fold.bytes.items) ws.items) writes_same ∙ plan.writes_are;
+  inside =
+      subst (λ bs. All (λ write. (write.from ≤ write.to) × (write.to ≤ length bs.items)) fold'.writes.items) (sym bytes_same)
+        (subst (λ ws. All (λ write. (write.from ≤ write.to) × (write.to ≤ length fold.bytes.items)) ws.items)
+            (sym writes_same) plan.inside);
 }
 
 unseen_at : (stage : FoldStage) (fold : FoldOf) → in_stage stage fold ≡ None → stage ≡ stages.None
@@ -110,10 +157,19 @@ length_left fold first = let long = left_long fold in omega arith
 
 -- ---- it is begun
 
-module _ {R : Type 0} (form : Encoding R) (records : List R) (keeps : Type 0) (states : List State) (shape : Shape) (gate : ℕ) (tally next : Tally) (bytes : List ℕ) (o : Option Step) (broken : Bool) (homes : Homes) (live : ℕ) (fold fold' : Fold)
-    (pen : IsPen (open_count fold.stage fold.count) keeps states shape gate tally next bytes o broken) (listed : IsListed keeps states shape gate tally bytes o homes live fold) (ready : (broken ≡ false) × (fold_of fold ≡ None) × (tally.folded < tally.changes) × (gate + job_len shape (job_of shape bytes o) + 14 < 2 ^ 48))
-    (plan : IsPlan form records shape.width tally.size (take live homes.live.items) homes.homes.items fold') (size_of : (r : R) → length (form.bytes_of r) ≡ shape.width) (all : length records ≡ tally.size) (values : keeps → vector_before shape gate (bytes_of states) ≡ map form.bytes_of records)
-    (spelled : fold'.frame.items ≡ frame_text shape.format (kinds.Fold tally.changes) ++ 0 ∷ []) (at : fold'.stage ≡ Home (length fold'.writes.items)) (count_is : fold'.count ≡ tally.changes) (runs_is : fold'.runs ≡ live) (first : fold'.done ≡ 0) where
+module _ {R : Type 0} (form : Encoding R) (records : List R) (keeps : Type 0) (states : List State) (shape : Shape)
+    (gate : ℕ) (tally next : Tally) (bytes : List ℕ) (o : Option Step) (broken : Bool) (homes : Homes) (live : ℕ)
+    (fold fold' : Fold)
+    (pen : IsPen (open_count fold.stage fold.count) keeps states shape gate tally next bytes o broken)
+    (listed : IsListed keeps states shape gate tally bytes o homes live fold)
+    (ready : (broken ≡ false) × (fold_of fold ≡ None) × (tally.folded < tally.changes)
+      × (gate + job_len shape (job_of shape bytes o) + 14 < 2 ^ 48))
+    (plan : IsPlan form records shape.width tally.size (take live homes.live.items) homes.homes.items fold')
+    (size_of : (r : R) → length (form.bytes_of r) ≡ shape.width) (all : length records ≡ tally.size)
+    (values : keeps → vector_before shape gate (bytes_of states) ≡ map form.bytes_of records)
+    (spelled : fold'.frame.items ≡ frame_text shape.format (kinds.Fold tally.changes) ++ 0 ∷ [])
+    (at : fold'.stage ≡ Home (length fold'.writes.items)) (count_is : fold'.count ≡ tally.changes)
+    (runs_is : fold'.runs ≡ live) (first : fold'.done ≡ 0) where
   none : fold.stage ≡ stages.None
   none = unseen_at fold.stage (record { count = fold.count; left = left_of fold; stage = fold.stage }) ready.1
 
@@ -127,7 +183,9 @@ module _ {R : Type 0} (form : Encoding R) (records : List R) (keeps : Type 0) (s
   listed_taken =
       let counted = live_counted shape listed.frames in
       let lived : List Seen = live_of shape listed.frames in
-      let every : take (fold'.count - tally.folded) lived ≡ lived = take_whole lived (fold'.count - tally.folded) (ap (λ n. n - tally.folded) count_is ∙ ap (λ t. t.changes - t.folded) listed.tally_is ∙ sym counted) in
+      let every : take (fold'.count - tally.folded) lived ≡ lived =
+          take_whole lived (fold'.count - tally.folded)
+            (ap (λ n. n - tally.folded) count_is ∙ ap (λ t. t.changes - t.folded) listed.tally_is ∙ sym counted) in
       record {
         frames = listed.frames;
         legal = listed.legal;
@@ -151,31 +209,61 @@ module _ {R : Type 0} (form : Encoding R) (records : List R) (keeps : Type 0) (s
       record {
         live = omega (arith, ready.2);
         upto = omega arith;
-        planned = planned_pen keeps states shape gate tally bytes o homes live listed plan.cover plan.covered plan.runs plan.at_home form records fold'.bytes.items fold'.writes.items (omega (arith, pen.wide.0)) plan.writes_are size_of all plan.inside;
+        planned =
+            planned_pen keeps states shape gate tally bytes o homes live listed plan.cover plan.covered plan.runs
+              plan.at_home form records fold'.bytes.items fold'.writes.items (omega (arith, pen.wide.0)) plan.writes_are
+              size_of all plan.inside;
         spelled = spelled ∙ ap (λ n. frame_text shape.format (kinds.Fold n) ++ 0 ∷ []) (sym count_is);
         room = omega (arith, ready.3, gate_seen shape gate tally next bytes o pen.job);
       },
       omega arith,
       some_writes,
     );
-    homes = λ model whole. subst (HomesAt shape (blanked_before shape gate (bytes_of states)) (vector_before shape gate (bytes_of states)) fold' (now states)) (sym at)
+    homes =
+        λ model whole.
+          subst
+            (HomesAt shape (blanked_before shape gate (bytes_of states)) (vector_before shape gate (bytes_of states)) fold'
+                (now states))
+            (sym at)
         (folding_now model);
   }
     where
-      folding_now : (model : keeps) → HomesAt shape (blanked_before shape gate (bytes_of states)) (vector_before shape gate (bytes_of states)) fold' (now states) (Home (length fold'.writes.items))
+      folding_now : (model : keeps)
+          → HomesAt shape (blanked_before shape gate (bytes_of states)) (vector_before shape gate (bytes_of states)) fold'
+            (now states) (Home (length fold'.writes.items))
       folding_now model =
-          let made = folding_pen keeps states shape gate tally bytes o homes live listed plan.cover plan.covered plan.runs plan.at_home form records fold'.bytes.items fold'.writes.items (omega (arith, pen.wide.0)) plan.writes_are model (closed.knows model).file.holds (values model) in
-          subst (λ n. IsFolding shape n (blanked_before shape gate (bytes_of states)) (vector_before shape gate (bytes_of states)) (left_of fold') (now states)) (sym count_is)
-          (subst (λ d. IsFolding shape tally.changes (blanked_before shape gate (bytes_of states)) (vector_before shape gate (bytes_of states)) (map (write_of fold'.bytes.items) (drop d fold'.writes.items)) (now states)) (sym first) made)
+          let made =
+              folding_pen keeps states shape gate tally bytes o homes live listed plan.cover plan.covered plan.runs
+                plan.at_home form records fold'.bytes.items fold'.writes.items (omega (arith, pen.wide.0)) plan.writes_are
+                model (closed.knows model).file.holds (values model) in
+          subst
+          (λ n.
+            IsFolding shape n (blanked_before shape gate (bytes_of states)) (vector_before shape gate (bytes_of states))
+                (left_of fold') (now states))
+          (sym count_is)
+          (subst
+            (λ d.
+                IsFolding shape tally.changes (blanked_before shape gate (bytes_of states))
+                    (vector_before shape gate (bytes_of states))
+                    (map (write_of fold'.bytes.items) (drop d fold'.writes.items)) (now states))
+            (sym first) made)
 
   pub some_left : 0 < length (left_of fold')
   some_left = let some = some_writes in omega (arith, length_left fold' first)
 
-  pub taken : IsPen (open_count fold'.stage fold'.count) keeps states shape gate tally next bytes o broken × IsListed keeps states shape gate tally bytes o homes live fold' × IsFold keeps states shape gate tally bytes o broken fold'
+  pub taken : IsPen (open_count fold'.stage fold'.count) keeps states shape gate tally next bytes o broken
+      × IsListed keeps states shape gate tally bytes o homes live fold'
+      × IsFold keeps states shape gate tally bytes o broken fold'
   taken = (pen_taken, listed_taken, fold_taken)
 
   -- where the disk keeps the model
   pub whole_taken : keeps → IsWholeFold shape (blanked_before shape gate (bytes_of states)) (vector_before shape gate (bytes_of states)) (left_of fold')
   whole_taken model =
-      subst (λ d. IsWholeFold shape (blanked_before shape gate (bytes_of states)) (vector_before shape gate (bytes_of states)) (map (write_of fold'.bytes.items) (drop d fold'.writes.items))) (sym first)
-      (whole_pen keeps states shape gate tally bytes o homes live listed plan.cover plan.covered plan.runs plan.at_home form records fold'.bytes.items fold'.writes.items (omega (arith, pen.wide.0)) plan.writes_are model (closed.knows model).file.holds (values model))
+      subst
+      (λ d.
+        IsWholeFold shape (blanked_before shape gate (bytes_of states)) (vector_before shape gate (bytes_of states))
+            (map (write_of fold'.bytes.items) (drop d fold'.writes.items)))
+      (sym first)
+      (whole_pen keeps states shape gate tally bytes o homes live listed plan.cover plan.covered plan.runs plan.at_home form
+        records fold'.bytes.items fold'.writes.items (omega (arith, pen.wide.0)) plan.writes_are model
+        (closed.knows model).file.holds (values model))

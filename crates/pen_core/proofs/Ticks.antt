@@ -24,7 +24,9 @@ abbrev pub IsOpening : Step → Type 0
 IsOpening step = (step ≡ Gate) ⊎ (step ≡ GateSync)
 
 -- a failed write behind the gate or at it leaves the file
-torn_file : (shape : Shape) (count : ℕ) (frames : List Frame) (vector : List (List ℕ)) (at len : ℕ) (s left : State) → IsFileOf shape count frames vector s → IsTornWrite at len s left → Holds shape frames vector left.seen → gate_of shape frames ≤ at
+torn_file : (shape : Shape) (count : ℕ) (frames : List Frame) (vector : List (List ℕ)) (at len : ℕ) (s left : State)
+    → IsFileOf shape count frames vector s → IsTornWrite at len s left → Holds shape frames vector left.seen
+    → gate_of shape frames ≤ at
     → IsFileOf shape count frames vector left
 torn_file shape count frames vector at len s left file torn holds past = record {
   holds = holds;
@@ -48,7 +50,9 @@ module _ (shape : Shape) (count : ℕ) (frames next : List Frame) (before after 
   abbrev P : List ℕ → Type 0
   P = IsBeforeOrAfter shape frames next before after
 
-  pub images_at : (step : Step) (s : State) → IsFileOf shape count frames before s → IsAtStep shape count p frames next after bytes step s → IsImage s s.seen → (image : List ℕ) → IsImage s image → P image
+  pub images_at : (step : Step) (s : State) → IsFileOf shape count frames before s
+      → IsAtStep shape count p frames next after bytes step s → IsImage s s.seen → (image : List ℕ) → IsImage s image
+      → P image
   images_at Body s file at readable image is = inl (images_shut shape count frames before s file readable image is at.0)
   images_at BodySync s file at readable image is = inl (images_shut shape count frames before s file readable image is at.0)
   images_at Gate s file at readable image is = inl (images_shut shape count frames before s file readable image is at.0)
@@ -63,11 +67,17 @@ module _ (shape : Shape) (count : ℕ) (frames next : List Frame) (before after 
   gate_at Gate s at is = inl refl
   gate_at GateSync s at is = inr refl
 
-  pub tick_leaves : {T : Type 0} (step : Step) (old new : List State) (r : Result T DiskFault) → IsFileOf shape count frames before (now old) → IsAtStep shape count p frames next after bytes step (now old) → IsImage (now old) (bytes_of old)
+  pub tick_leaves : {T : Type 0} (step : Step) (old new : List State) (r : Result T DiskFault)
+      → IsFileOf shape count frames before (now old) → IsAtStep shape count p frames next after bytes step (now old)
+      → IsImage (now old) (bytes_of old)
       → OnOk r (Calls step p bytes old new) → OnErr r (FailsCall step p bytes old new) → LeavesOnly old new P
-  tick_leaves Body old new r file at readable done failed = LeavesOnly-write old new P r (p + 1) body done failed (λ image is. inl (images_of_body shape count frames next before after (now old) body file at.0 readable image is))
+  tick_leaves Body old new r file at readable done failed =
+      LeavesOnly-write old new P r (p + 1) body done failed
+        (λ image is. inl (images_of_body shape count frames next before after (now old) body file at.0 readable image is))
   tick_leaves BodySync old new r file at readable done failed = LeavesOnly-sync old new P r done failed readable (images_at BodySync (now old) file at readable)
-  tick_leaves Gate old new r file at readable done failed = LeavesOnly-write old new P r p (1 ∷ []) done failed (images_of_gate shape count frames next before after (now old) file at.1 at.2 readable)
+  tick_leaves Gate old new r file at readable done failed =
+      LeavesOnly-write old new P r p (1 ∷ []) done failed
+        (images_of_gate shape count frames next before after (now old) file at.1 at.2 readable)
   tick_leaves GateSync old new r file at readable done failed = LeavesOnly-sync old new P r done failed readable (images_at GateSync (now old) file at readable)
 
   -- what a step leaves for the one behind it
@@ -75,39 +85,52 @@ module _ (shape : Shape) (count : ℕ) (frames next : List Frame) (before after 
     pub file : IsFileOf shape count frames before s
     pub at : IsAtStep shape count p frames next after bytes step s
 
-  pub tick_next : (step : Step) (old new : List State) → IsFileOf shape count frames before (now old) → IsAtStep shape count p frames next after bytes step (now old) → IsImage (now old) (bytes_of old) → Calls step p bytes old new
+  pub tick_next : (step : Step) (old new : List State) → IsFileOf shape count frames before (now old)
+      → IsAtStep shape count p frames next after bytes step (now old) → IsImage (now old) (bytes_of old)
+      → Calls step p bytes old new
       → (behind : Step) → step_after step ≡ Some behind → StandsAt behind (now new)
   tick_next Body old new file at readable call behind is =
       let s = now old in
       let made : now new ≡ written s (p + 1) body = ap now call in
       subst (λ t. StandsAt behind t) (sym made) (subst (λ b. StandsAt b (written s (p + 1) body)) (same_Some BodySync behind is) (record {
         file = file_after_body shape count frames next before after s body file at.0 readable;
-        at = (shut_after_body shape count frames next before after s body file at.0 readable, written_after_body shape count frames next before after s body file at.0 readable at.1.pending_is_folded at.1.size at.1.some at.1.closed at.1.holds);
+        at =
+            (shut_after_body shape count frames next before after s body file at.0 readable,
+                written_after_body shape count frames next before after s body file at.0 readable at.1.pending_is_folded
+                    at.1.size at.1.some at.1.closed at.1.holds);
       }))
   tick_next BodySync old new file at readable call behind is =
       let s = now old in
       let made : now new ≡ settled s.seen = ap now call in
       subst (λ t. StandsAt behind t) (sym made) (subst (λ b. StandsAt b (settled s.seen)) (same_Some Gate behind is) (record {
         file = file_after_sync shape count frames next before after s readable file;
-        at = (shut_after_sync shape count frames next before after s readable p at.0, written_after_sync shape count frames next before after s readable at.1, on_disk_after_sync shape count frames next before after s readable at.1);
+        at =
+            (shut_after_sync shape count frames next before after s readable p at.0,
+                written_after_sync shape count frames next before after s readable at.1,
+                on_disk_after_sync shape count frames next before after s readable at.1);
       }))
   tick_next Gate old new file at readable call behind is =
       let s = now old in
       let made : now new ≡ written s p (1 ∷ []) = ap now call in
       subst (λ t. StandsAt behind t) (sym made) (subst (λ b. StandsAt b (written s p (1 ∷ []))) (same_Some GateSync behind is) (record {
         file = file_after_gate shape count frames next before after s file at.1 at.2 readable;
-        at = (written_after_gate shape count frames next before after s file at.1 at.2 readable, on_disk_after_gate shape count frames next before after s file at.1 at.2 readable, open_after_gate shape count frames next before after s file at.1 at.2 readable);
+        at =
+            (written_after_gate shape count frames next before after s file at.1 at.2 readable,
+                on_disk_after_gate shape count frames next before after s file at.1 at.2 readable,
+                open_after_gate shape count frames next before after s file at.1 at.2 readable);
       }))
   tick_next GateSync old new file at readable call behind is = absurd cc
 
-  pub tick_done : (step : Step) (old new : List State) → IsAtStep shape count p frames next after bytes step (now old) → IsImage (now old) (bytes_of old) → Calls step p bytes old new → step_after step ≡ None
+  pub tick_done : (step : Step) (old new : List State) → IsAtStep shape count p frames next after bytes step (now old)
+      → IsImage (now old) (bytes_of old) → Calls step p bytes old new → step_after step ≡ None
       → IsFileOf shape count next after (now new) × IsShut (gate_of shape next) (now new)
   tick_done Body old new at readable call is = absurd cc
   tick_done BodySync old new at readable call is = absurd cc
   tick_done Gate old new at readable call is = absurd cc
   tick_done GateSync old new at readable call is =
       let made : now new ≡ settled (now old).seen = ap now call in
-      subst (λ t. IsFileOf shape count next after t × IsShut (gate_of shape next) t) (sym made) (next_after_sync shape count frames next before after (now old) readable at.0 at.2)
+      subst (λ t. IsFileOf shape count next after t × IsShut (gate_of shape next) t) (sym made)
+          (next_after_sync shape count frames next before after (now old) readable at.0 at.2)
 
   -- a call that failed leaves the same file, no other image, and nothing more pending than its step may leave so
   pub record Failed (step : Step) (s : State) : Type 0 where
@@ -115,16 +138,23 @@ module _ (shape : Shape) (count : ℕ) (frames next : List Frame) (before after 
     pub images : (image : List ℕ) → IsImage s image → P image
     pub gate_pending : is_within s.pending p ≡ true → IsOpening step
 
-  pub tick_failed : (step : Step) (old new : List State) → IsFileOf shape count frames before (now old) → IsAtStep shape count p frames next after bytes step (now old) → IsImage (now old) (bytes_of old) → IsImage (now new) (bytes_of new) → FailsCall step p bytes old new
+  pub tick_failed : (step : Step) (old new : List State) → IsFileOf shape count frames before (now old)
+      → IsAtStep shape count p frames next after bytes step (now old) → IsImage (now old) (bytes_of old)
+      → IsImage (now new) (bytes_of new) → FailsCall step p bytes old new
       → Failed step (now new)
   tick_failed Body old new file at readable reads torn =
       let s = now old in
       let left = torn.0 in
       let made : now new ≡ left = ap now torn.1 in
-      let before_it : (image : List ℕ) → IsImage left image → IsImage (touched s (p + 1) (length body) s.seen) image = λ image is. torn_images (p + 1) (length body) s left s.seen image torn.2 is in
+      let before_it : (image : List ℕ) → IsImage left image → IsImage (touched s (p + 1) (length body) s.seen) image =
+          λ image is. torn_images (p + 1) (length body) s left s.seen image torn.2 is in
       let reads' : IsImage left left.seen = subst (λ t. IsImage t t.seen) made reads in
       subst (λ t. Failed Body t) (sym made) (record {
-        file = torn_file shape count frames before (p + 1) (length body) s left file torn.2 (holds_of_body shape count frames next before after s body file at.0 readable left.seen (before_it left.seen reads')) (omega arith);
+        file =
+            torn_file shape count frames before (p + 1) (length body) s left file torn.2
+              (holds_of_body shape count frames next before after s body file at.0 readable left.seen
+                  (before_it left.seen reads'))
+              (omega arith);
         images = λ image is. inl (images_of_body shape count frames next before after s body file at.0 readable image (before_it image is));
         gate_pending = λ is. elim (cases_Bool (has_place (record { at = p + 1; len = length body }) p)) [
           | inl new ↦ (let i = covered_inside (p + 1) (length body) p new in absurd (omega (arith, i.0)))
@@ -135,16 +165,33 @@ module _ (shape : Shape) (count : ℕ) (frames next : List Frame) (before after 
       let s = now old in
       let left = torn.0 in
       let made : now new ≡ left = ap now torn.1 in
-      let before_it : (image : List ℕ) → IsImage left image → IsImage (touched s p 1 s.seen) image = λ image is. torn_images p 1 s left s.seen image torn.2 is in
+      let before_it : (image : List ℕ) → IsImage left image → IsImage (touched s p 1 s.seen) image =
+          λ image is. torn_images p 1 s left s.seen image torn.2 is in
       let reads' : IsImage left left.seen = subst (λ t. IsImage t t.seen) made reads in
       subst (λ t. Failed Gate t) (sym made) (record {
-        file = torn_file shape count frames before p 1 s left file torn.2 (holds_of_gate shape count frames next before after s file at.1 at.2 readable left.seen (before_it left.seen reads')) (omega arith);
+        file =
+            torn_file shape count frames before p 1 s left file torn.2
+              (holds_of_gate shape count frames next before after s file at.1 at.2 readable left.seen
+                  (before_it left.seen reads'))
+              (omega arith);
         images = λ image is. images_of_gate shape count frames next before after s file at.1 at.2 readable image (before_it image is);
         gate_pending = λ is. inl refl;
       })
   tick_failed BodySync old new file at readable reads same =
       let made : now new ≡ now old = ap now same in
-      subst (λ t. Failed BodySync t) (sym made) (record { file = file; images = images_at BodySync (now old) file at readable; gate_pending = gate_at BodySync (now old) at })
+      subst (λ t. Failed BodySync t) (sym made)
+          (record
+              {
+                file = file;
+                images = images_at BodySync (now old) file at readable;
+                gate_pending = gate_at BodySync (now old) at;
+              })
   tick_failed GateSync old new file at readable reads same =
       let made : now new ≡ now old = ap now same in
-      subst (λ t. Failed GateSync t) (sym made) (record { file = file; images = images_at GateSync (now old) file at readable; gate_pending = gate_at GateSync (now old) at })
+      subst (λ t. Failed GateSync t) (sym made)
+          (record
+              {
+                file = file;
+                images = images_at GateSync (now old) file at readable;
+                gate_pending = gate_at GateSync (now old) at;
+              })

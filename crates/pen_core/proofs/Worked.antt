@@ -47,7 +47,9 @@ module _ {D : Type 0} (pen : PenOf D) (image : List ℕ) (may : MayOpen pen imag
   opens_at_rest : pen.job ≡ None → Opens pen.shape pen.frames pen.vector image
   opens_at_rest idle = subst (λ job. OpensWith pen.shape pen.frames pen.vector job image) idle may
 
-  opens_with_its_own : (job : JobOf) → pen.job ≡ Some job → Opens pen.shape pen.frames pen.vector image ⊎ Opens pen.shape (frames_with pen.frames job.frame) (after_frame pen.shape.width pen.vector job.frame) image
+  opens_with_its_own : (job : JobOf) → pen.job ≡ Some job
+      → Opens pen.shape pen.frames pen.vector image
+        ⊎ Opens pen.shape (frames_with pen.frames job.frame) (after_frame pen.shape.width pen.vector job.frame) image
   opens_with_its_own job is = subst (λ o. OpensWith pen.shape pen.frames pen.vector o image) is may
 
 -- ---- what stays
@@ -61,25 +63,117 @@ unchanged_pen old new is =
     ∙ ap (λ x. record new { disk = old.disk; shape = old.shape; frames = old.frames; vector = x }) is.file_same.vector_same
     ∙ ap (λ x. record new { disk = old.disk; shape = old.shape; frames = old.frames; vector = old.vector; job = x }) is.job_same
     ∙ ap (λ x. record new { disk = old.disk; shape = old.shape; frames = old.frames; vector = old.vector; job = old.job; fold = x }) is.fold_same
-    ∙ ap (λ x. record new { disk = old.disk; shape = old.shape; frames = old.frames; vector = old.vector; job = old.job; fold = old.fold; broken = x }) is.broken_same
-    ∙ ap (λ x. record new { disk = old.disk; shape = old.shape; frames = old.frames; vector = old.vector; job = old.job; fold = old.fold; broken = old.broken; tally = x }) is.tally_same
-    ∙ ap (λ x. record new { disk = old.disk; shape = old.shape; frames = old.frames; vector = old.vector; job = old.job; fold = old.fold; broken = old.broken; tally = old.tally; gate = x }) is.gate_same
+    ∙ ap
+    (λ x.
+      record new
+          {
+            disk = old.disk;
+            shape = old.shape;
+            frames = old.frames;
+            vector = old.vector;
+            job = old.job;
+            fold = old.fold;
+            broken = x;
+          })
+    is.broken_same
+    ∙ ap
+    (λ x.
+      record new
+          {
+            disk = old.disk;
+            shape = old.shape;
+            frames = old.frames;
+            vector = old.vector;
+            job = old.job;
+            fold = old.fold;
+            broken = old.broken;
+            tally = x;
+          })
+    is.tally_same
+    ∙ ap
+    (λ x.
+      record new
+          {
+            disk = old.disk;
+            shape = old.shape;
+            frames = old.frames;
+            vector = old.vector;
+            job = old.job;
+            fold = old.fold;
+            broken = old.broken;
+            tally = old.tally;
+            gate = x;
+          })
+    is.gate_same
 
 -- all but the memory and the job
-pub begun_pen : {D : Type 0} (frame : Frame) (old new : PenOf D) → BeginsFrame frame old new → new ≡ record old { job = Some (record { frame = frame; step = steps.Body }); room = new.room; places = new.places }
+pub begun_pen : {D : Type 0} (frame : Frame) (old new : PenOf D) → BeginsFrame frame old new
+    → new ≡ record old { job = Some (record { frame = frame; step = steps.Body }); room = new.room; places = new.places }
 begun_pen frame old new is =
     ap (λ x. record new { disk = x }) is.disk_same
     ∙ ap (λ x. record new { disk = old.disk; shape = x }) is.shape_same
     ∙ ap (λ x. record new { disk = old.disk; shape = old.shape; frames = x }) is.file_same.frames_same
     ∙ ap (λ x. record new { disk = old.disk; shape = old.shape; frames = old.frames; vector = x }) is.file_same.vector_same
     ∙ ap (λ x. record new { disk = old.disk; shape = old.shape; frames = old.frames; vector = old.vector; job = x }) is.job_is
-    ∙ ap (λ x. record new { disk = old.disk; shape = old.shape; frames = old.frames; vector = old.vector; job = (Some (record { frame = frame; step = steps.Body })); fold = x }) is.fold_same
-    ∙ ap (λ x. record new { disk = old.disk; shape = old.shape; frames = old.frames; vector = old.vector; job = (Some (record { frame = frame; step = steps.Body })); fold = old.fold; broken = x }) is.broken_same
-    ∙ ap (λ x. record new { disk = old.disk; shape = old.shape; frames = old.frames; vector = old.vector; job = (Some (record { frame = frame; step = steps.Body })); fold = old.fold; broken = old.broken; tally = x }) is.tally_same
-    ∙ ap (λ x. record new { disk = old.disk; shape = old.shape; frames = old.frames; vector = old.vector; job = (Some (record { frame = frame; step = steps.Body })); fold = old.fold; broken = old.broken; tally = old.tally; gate = x }) is.gate_same
+    ∙ ap
+    (λ x.
+      record new
+          {
+            disk = old.disk;
+            shape = old.shape;
+            frames = old.frames;
+            vector = old.vector;
+            job = (Some (record { frame = frame; step = steps.Body }));
+            fold = x;
+          })
+    is.fold_same
+    ∙ ap
+    (λ x.
+      record new
+          {
+            disk = old.disk;
+            shape = old.shape;
+            frames = old.frames;
+            vector = old.vector;
+            job = (Some (record { frame = frame; step = steps.Body }));
+            fold = old.fold;
+            broken = x;
+          })
+    is.broken_same
+    ∙ ap
+    (λ x.
+      record new
+          {
+            disk = old.disk;
+            shape = old.shape;
+            frames = old.frames;
+            vector = old.vector;
+            job = (Some (record { frame = frame; step = steps.Body }));
+            fold = old.fold;
+            broken = old.broken;
+            tally = x;
+          })
+    is.tally_same
+    ∙ ap
+    (λ x.
+      record new
+          {
+            disk = old.disk;
+            shape = old.shape;
+            frames = old.frames;
+            vector = old.vector;
+            job = (Some (record { frame = frame; step = steps.Body }));
+            fold = old.fold;
+            broken = old.broken;
+            tally = old.tally;
+            gate = x;
+          })
+    is.gate_same
 
 -- all but the fold
-pub folding_pen : {D : Type 0} (old new : PenOf D) (is : BeginsFold old new) → new ≡ record old { fold = Some (record { count = old.tally.changes; left = is.left; stage = folds.Home (length is.left) }) }
+pub folding_pen : {D : Type 0} (old new : PenOf D) (is : BeginsFold old new)
+    → new ≡ record old
+      { fold = Some (record { count = old.tally.changes; left = is.left; stage = folds.Home (length is.left) }) }
 folding_pen old new is =
     let fold = Some (record { count = old.tally.changes; left = is.left; stage = folds.Home (length is.left) }) in
     ap (λ x. record new { disk = x }) is.disk_same
@@ -88,14 +182,85 @@ folding_pen old new is =
     ∙ ap (λ x. record new { disk = old.disk; shape = old.shape; frames = old.frames; vector = x }) is.file_same.vector_same
     ∙ ap (λ x. record new { disk = old.disk; shape = old.shape; frames = old.frames; vector = old.vector; job = x }) is.job_same
     ∙ ap (λ x. record new { disk = old.disk; shape = old.shape; frames = old.frames; vector = old.vector; job = old.job; fold = x }) is.fold_is
-    ∙ ap (λ x. record new { disk = old.disk; shape = old.shape; frames = old.frames; vector = old.vector; job = old.job; fold = fold; broken = x }) is.broken_same
-    ∙ ap (λ x. record new { disk = old.disk; shape = old.shape; frames = old.frames; vector = old.vector; job = old.job; fold = fold; broken = old.broken; tally = x }) is.tally_same
-    ∙ ap (λ x. record new { disk = old.disk; shape = old.shape; frames = old.frames; vector = old.vector; job = old.job; fold = fold; broken = old.broken; tally = old.tally; gate = x }) is.gate_same
-    ∙ ap (λ x. record new { disk = old.disk; shape = old.shape; frames = old.frames; vector = old.vector; job = old.job; fold = fold; broken = old.broken; tally = old.tally; gate = old.gate; room = x }) is.room_same
-    ∙ ap (λ x. record new { disk = old.disk; shape = old.shape; frames = old.frames; vector = old.vector; job = old.job; fold = fold; broken = old.broken; tally = old.tally; gate = old.gate; room = old.room; places = x }) is.places_same
+    ∙ ap
+    (λ x.
+      record new
+          {
+            disk = old.disk;
+            shape = old.shape;
+            frames = old.frames;
+            vector = old.vector;
+            job = old.job;
+            fold = fold;
+            broken = x;
+          })
+    is.broken_same
+    ∙ ap
+    (λ x.
+      record new
+          {
+            disk = old.disk;
+            shape = old.shape;
+            frames = old.frames;
+            vector = old.vector;
+            job = old.job;
+            fold = fold;
+            broken = old.broken;
+            tally = x;
+          })
+    is.tally_same
+    ∙ ap
+    (λ x.
+      record new
+          {
+            disk = old.disk;
+            shape = old.shape;
+            frames = old.frames;
+            vector = old.vector;
+            job = old.job;
+            fold = fold;
+            broken = old.broken;
+            tally = old.tally;
+            gate = x;
+          })
+    is.gate_same
+    ∙ ap
+    (λ x.
+      record new
+          {
+            disk = old.disk;
+            shape = old.shape;
+            frames = old.frames;
+            vector = old.vector;
+            job = old.job;
+            fold = fold;
+            broken = old.broken;
+            tally = old.tally;
+            gate = old.gate;
+            room = x;
+          })
+    is.room_same
+    ∙ ap
+    (λ x.
+      record new
+          {
+            disk = old.disk;
+            shape = old.shape;
+            frames = old.frames;
+            vector = old.vector;
+            job = old.job;
+            fold = fold;
+            broken = old.broken;
+            tally = old.tally;
+            gate = old.gate;
+            room = old.room;
+            places = x;
+          })
+    is.places_same
 
 -- what the pen counts
-counts_stay : {D : Type 0} (old new : PenOf D) → CountsSame old new → new ≡ record new { shape = old.shape; fold = old.fold; tally = old.tally; gate = old.gate; room = old.room }
+counts_stay : {D : Type 0} (old new : PenOf D) → CountsSame old new
+    → new ≡ record new { shape = old.shape; fold = old.fold; tally = old.tally; gate = old.gate; room = old.room }
 counts_stay old new is =
     ap (λ x. record new { shape = x }) is.shape_same
     ∙ ap (λ x. record new { shape = old.shape; fold = x }) is.fold_same

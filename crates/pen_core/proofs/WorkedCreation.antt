@@ -88,13 +88,23 @@ told_by_length : AreCallsUntil (thirteen 1) (calls_of_creation (thirteen 1)) fau
 told_by_length = inl (omega arith, (omega arith, refl))
 
 not_told_by_length : IsFoundOut (twelve 1) (calls_of_creation (twelve 1)) 2 → ⊥
-not_told_by_length told = elim told [ inl long ↦ absurd (omega (arith, long.0)) | inr read ↦ absurd (let clash : Some Length ≡ Some Read = read.1.1 in cc) ]
+not_told_by_length told =
+    elim told
+      [
+        | inl long ↦ absurd (omega (arith, long.0))
+        | inr read ↦ absurd (let clash : Some Length ≡ Some Read = read.1.1 in cc)
+      ]
 
 told_by_byte : AreCallsUntil (twelve 1) (calls_of_creation (twelve 1)) faults.Exists 3
 told_by_byte = inr (omega arith, (omega arith, refl))
 
 not_told_by_byte : IsFoundOut (thirteen 1) (calls_of_creation (thirteen 1)) 3 → ⊥
-not_told_by_byte told = elim told [ inl long ↦ absurd (let clash : Some Write ≡ Some Length = long.1.1 in cc) | inr read ↦ absurd (omega (arith, read.0)) ]
+not_told_by_byte told =
+    elim told
+      [
+        | inl long ↦ absurd (let clash : Some Write ≡ Some Length = long.1.1 in cc)
+        | inr read ↦ absurd (omega (arith, read.0))
+      ]
 
 one_look_at_none : AreLooks [] (first_calls []) Blank 1
 one_look_at_none = refl
@@ -106,7 +116,11 @@ two_looks_at_two = refl
 
 -- another byte is a write
 no_other_byte : WritesNothing (settled (5 ∷ []) ∷ []) (written (settled (5 ∷ [])) 0 (6 ∷ []) ∷ settled (5 ∷ []) ∷ []) → ⊥
-no_other_byte none = let now : List ℕ = 6 ∷ [] in let before : List ℕ = 5 ∷ [] in let same : now ≡ before = none.bytes_same in omega (arith, ap (λ (bs : List ℕ). get_or bs 0 0) same)
+no_other_byte none =
+    let now : List ℕ = 6 ∷ [] in
+    let before : List ℕ = 5 ∷ [] in
+    let same : now ≡ before = none.bytes_same in
+    omega (arith, ap (λ (bs : List ℕ). get_or bs 0 0) same)
 
 -- and so is the same one, which a crash may tear
 abbrev five : List ℕ

@@ -11,7 +11,7 @@ use Rattle.segment_core.specs.Scanner.{IsDecided, IsCutShort}
 use Rattle.segment_core.specs.Tally.{nothing}
 use Rattle.pen_core.specs.declared.fault.PenFault.TheVariants.{Broken, Busy}
 use Rattle.pen_core.specs.Births.{calls_of_creation, IsNew, IsEmpty}
-use Rattle.pen_core.specs.Opening.{OnlySyncs, IsAtRest, IsOpened, AreCallsDone, AreNeeded, calls_of, pieces_of, pieces_front}
+use Rattle.pen_core.specs.Opening.{OnlySyncs, IsAtRest, IsOpened, AreCallsDone, AreNeeded, calls_of, reads_of, pieces_front}
 use Rattle.pen_core.specs.Pen.{IsReadyToFold, job_len}
 use Rattle.pen_core.specs.PenOf.{PenOf}
 use Rattle.pen_core.specs.Refusals.{first_refusal, ready_lines}
@@ -45,11 +45,12 @@ no_read_more : (n : ℕ) → AreCallsDone 4096 n → n ≤ 3
 no_read_more n is = is.1
 
 -- nothing is read behind the first pieces that aren't cut short, and all up to there
-no_piece_behind : {R : Type 0} (form : Encoding R) (bytes : List ℕ) (n k : ℕ) → AreNeeded form bytes n → (IsCutShort form (pieces_front k bytes) → ⊥) → n ≤ k
-no_piece_behind form bytes n k is told = elim (cases_lt k n) [ inl behind ↦ absurd (told (is.needed k behind)) | inr upto ↦ upto ]
+module _ {R : Type 0} (form : Encoding R) (piece : ℕ) (bytes : List ℕ) (n : ℕ) (is : AreNeeded piece form bytes n) where
+  no_piece_behind : (k : ℕ) → (IsCutShort form (pieces_front piece k bytes) → ⊥) → n ≤ k
+  no_piece_behind k told = elim (cases_lt k n) [ inl behind ↦ absurd (told (is.needed k behind)) | inr upto ↦ upto ]
 
-no_piece_less : {R : Type 0} (form : Encoding R) (bytes : List ℕ) (n : ℕ) → AreNeeded form bytes n → n < pieces_of (length bytes) → IsDecided form (pieces_front n bytes)
-no_piece_less form bytes n is less = elim is.enough [ inl all ↦ absurd (omega arith) | inr decided ↦ decided ]
+  no_piece_less : n < reads_of piece (length bytes) → IsDecided form (pieces_front piece n bytes)
+  no_piece_less less = elim is.enough [ inl all ↦ absurd (omega arith) | inr decided ↦ decided ]
 
 -- ---- what the sync is for
 
@@ -95,7 +96,20 @@ not_unsettled only =
 
 -- ---- what a pen is that was made or opened
 
-made_pen : {D : Type 0} (shape : Shape) (pen : PenOf D) → IsNew shape pen → IsEmpty pen → pen ≡ record { disk = pen.disk; shape = shape; frames = []; vector = []; job = None; fold = None; broken = false; tally = nothing; gate = 11; room = pen.room; places = pen.places }
+made_pen : {D : Type 0} (shape : Shape) (pen : PenOf D) → IsNew shape pen → IsEmpty pen
+    → pen ≡ record {
+      disk = pen.disk;
+      shape = shape;
+      frames = [];
+      vector = [];
+      job = None;
+      fold = None;
+      broken = false;
+      tally = nothing;
+      gate = 11;
+      room = pen.room;
+      places = pen.places;
+    }
 made_pen shape pen is empty =
     ap (λ x. record pen { shape = x }) is.shape_is
     ∙ ap (λ x. record pen { shape = shape; frames = x }) empty.frames_are
@@ -108,12 +122,17 @@ made_pen shape pen is empty =
 
 -- a commit may be begun at once
 ready_pen : {D : Type 0} (width size : ℕ) (pen : PenOf D) → IsAtRest width size pen → first_refusal (ready_lines pen) ≡ None
-ready_pen width size pen is = ap (λ b. if b then Some Broken else first_refusal ((is_some pen.job, Busy) ∷ [])) is.whole ∙ ap (λ job. if is_some job then Some Busy else None) is.no_job
+ready_pen width size pen is =
+    ap (λ b. if b then Some Broken else first_refusal ((is_some pen.job, Busy) ∷ [])) is.whole
+      ∙ ap (λ job. if is_some job then Some Busy else None) is.no_job
 
 -- and a fold, where a change is live and there is room
-folds_pen : {D : Type 0} (width size : ℕ) (pen : PenOf D) → IsAtRest width size pen → pen.tally.folded < pen.tally.changes → pen.gate < 2 ^ 48 - 14 → IsReadyToFold pen true
-folds_pen width size pen is live room = (is.whole, is.no_fold, live, let none : job_len pen.shape pen.job ≡ 0 = ap (job_len pen.shape) is.no_job in omega arith)
+folds_pen : {D : Type 0} (width size : ℕ) (pen : PenOf D) → IsAtRest width size pen → pen.tally.folded < pen.tally.changes
+    → pen.gate < 2 ^ 48 - 14 → IsReadyToFold pen true
+folds_pen width size pen is live room =
+    (is.whole, is.no_fold, live, let none : job_len pen.shape pen.job ≡ 0 = ap (job_len pen.shape) is.no_job in omega arith)
 
 -- its vector is the records, each as its bytes
-vector_of_records : {R D : Type 0} (form : Encoding R) (bytes : List ℕ) (pen : PenOf D) (records : List R) → IsOpened form bytes pen records → pen.vector ≡ map form.bytes_of records
+vector_of_records : {R D : Type 0} (form : Encoding R) (bytes : List ℕ) (pen : PenOf D) (records : List R)
+    → IsOpened form bytes pen records → pen.vector ≡ map form.bytes_of records
 vector_of_records form bytes pen records is = is.cells_are.written

@@ -17,7 +17,20 @@ counted size live = record { size = size; changes = live; folded = 0 }
 
 -- a pen over a file of such records, of 8 bytes
 abbrev pen : Format → ℕ → ℕ → ℕ → PenOf (Unit {0})
-pen format size live gate = record { disk = tt; shape = record { format = format; width = 8 }; frames = []; vector = []; job = None; fold = None; broken = false; tally = counted size live; gate = gate; room = 0; places = 0 }
+pen format size live gate =
+    record {
+      disk = tt;
+      shape = record { format = format; width = 8 };
+      frames = [];
+      vector = [];
+      job = None;
+      fold = None;
+      broken = false;
+      tally = counted size live;
+      gate = gate;
+      room = 0;
+      places = 0;
+    }
 
 abbrev job : JobOf
 job = record { frame = Shrink 0; step = Body }

@@ -42,12 +42,26 @@ abbrev shrink : Step → JobOf
 shrink step = record { frame = Shrink 1; step = step }
 
 abbrev pen : Option JobOf → Option FoldOf → PenOf (Unit {0})
-pen job fold = record { disk = tt; shape = shape; frames = frames; vector = zeros ∷ []; job = job; fold = fold; broken = false; tally = tally_of frames; gate = 55; room = 0; places = 0 }
+pen job fold =
+    record {
+      disk = tt;
+      shape = shape;
+      frames = frames;
+      vector = zeros ∷ [];
+      job = job;
+      fold = fold;
+      broken = false;
+      tally = tally_of frames;
+      gate = 55;
+      room = 0;
+      places = 0;
+    }
 
 -- ---- the device calls of a commit
 
 -- the frame without its gate, and 0x00 behind it, in one write
-writes_the_body : (old new : List State) → LogTickCalls (pen (Some (shrink Body)) None) ticks.Step old new → Writes 56 (3 ∷ 8 ∷ 0 ∷ 0 ∷ 0 ∷ 1 ∷ 0 ∷ 0 ∷ 0 ∷ 0 ∷ 0 ∷ 0 ∷ 0 ∷ 0 ∷ []) old new
+writes_the_body : (old new : List State) → LogTickCalls (pen (Some (shrink Body)) None) ticks.Step old new
+    → Writes 56 (3 ∷ 8 ∷ 0 ∷ 0 ∷ 0 ∷ 1 ∷ 0 ∷ 0 ∷ 0 ∷ 0 ∷ 0 ∷ 0 ∷ 0 ∷ 0 ∷ []) old new
 writes_the_body old new is = is
 
 syncs_the_body : (old new : List State) → LogTickCalls (pen (Some (shrink BodySync)) None) ticks.Step old new → Settles old new
@@ -144,7 +158,8 @@ not_behind_their_sync may = elim may [
 
 -- ---- what ticks make of a fold
 
-one_write_less : (old new : PenOf (Unit {0})) → HomesCalled (a_fold 1 (Home 2)) old new → (fold_stage old.fold ≡ Home 2) × (fold_stage new.fold ≡ Home 1)
+one_write_less : (old new : PenOf (Unit {0})) → HomesCalled (a_fold 1 (Home 2)) old new
+    → (fold_stage old.fold ≡ Home 2) × (fold_stage new.fold ≡ Home 1)
 one_write_less old new is = (ap fold_stage is.fold_was, ap fold_stage is.fold_is)
 
 the_last_write : (old new : PenOf (Unit {0})) → HomesCalled (a_fold 1 (Home 1)) old new → new.fold ≡ Some (record { count = 1; left = []; stage = Sync })
@@ -170,9 +185,15 @@ stays_beside_others : (old new : PenOf (Unit {0})) (n : ℕ) → CountsDone (Shr
 stays_beside_others old new n is = is.fold_is
 
 -- the frame of one record has 22 bytes
-one_record_more : (old new : PenOf (Unit {0})) → old.shape ≡ shape → CountsDone (Group (1 ∷ []) zeros) old new → (new.gate ≡ old.gate + 22) × (new.tally.size ≡ old.tally.size + 1)
-one_record_more old new at is = (is.gate_is ∙ ap (λ s. old.gate + length (frame_text s.format (Group (1 ∷ []) zeros))) at, ap (λ t. t.size) is.tally_is ∙ omega arith)
+one_record_more : (old new : PenOf (Unit {0})) → old.shape ≡ shape → CountsDone (Group (1 ∷ []) zeros) old new
+    → (new.gate ≡ old.gate + 22) × (new.tally.size ≡ old.tally.size + 1)
+one_record_more old new at is =
+    (is.gate_is ∙ ap (λ s. old.gate + length (frame_text s.format (Group (1 ∷ []) zeros))) at,
+        ap (λ t. t.size) is.tally_is ∙ omega arith)
 
 -- one frame more, which counts as the pen counts it
-one_frame_more : (old new : PenOf (Unit {0})) (frame : Frame) → FileGains frame old new → (length new.frames ≡ length old.frames + 1) × (tally_of new.frames ≡ after (tally_of old.frames) frame)
-one_frame_more old new frame is = (ap length is.frames_more ∙ length-append old.frames (blanked frame ∷ []), ap tally_of is.frames_more ∙ tally_with old.frames frame)
+one_frame_more : (old new : PenOf (Unit {0})) (frame : Frame) → FileGains frame old new
+    → (length new.frames ≡ length old.frames + 1) × (tally_of new.frames ≡ after (tally_of old.frames) frame)
+one_frame_more old new frame is =
+    (ap length is.frames_more ∙ length-append old.frames (blanked frame ∷ []),
+        ap tally_of is.frames_more ∙ tally_with old.frames frame)

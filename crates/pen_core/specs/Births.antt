@@ -39,7 +39,9 @@ IsUnbornOrEmpty shape image = (header_fault shape.width image ≡ Some Unborn) �
 -- From the first sync on, where it succeeded and there was no file, each image is no file yet, or the empty one. The
 -- next call, of the length, tells that it succeeded.
 abbrev pub StaysUnbornOrEmpty : Shape → List State → List State → Type 0
-StaysUnbornOrEmpty shape old new = (IsExisting (bytes_of old) → ⊥) → clock old + 1 < clock new → (image : List ℕ) → LeftSince new (clock old + 1) image → IsUnbornOrEmpty shape image
+StaysUnbornOrEmpty shape old new =
+    (IsExisting (bytes_of old) → ⊥) → clock old + 1 < clock new → (image : List ℕ) → LeftSince new (clock old + 1) image
+      → IsUnbornOrEmpty shape image
 
 -- Where there was a file nothing is written: a crash leaves what it might have left before.
 pub record WritesNothing (old new : List State) : Type 0 where

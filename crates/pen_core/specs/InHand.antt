@@ -110,7 +110,16 @@ abbrev pub called : FoldOf → FoldOf
 called fold = record { count = fold.count; left = left_after fold.stage fold.left; stage = stage_after fold.stage }
 
 abbrev pub advanced : Fold → Fold
-advanced fold = record { stage = stage_after fold.stage; count = fold.count; runs = fold.runs; writes = fold.writes; done = done_after fold.stage fold.done; bytes = fold.bytes; frame = fold.frame }
+advanced fold =
+    record {
+      stage = stage_after fold.stage;
+      count = fold.count;
+      runs = fold.runs;
+      writes = fold.writes;
+      done = done_after fold.stage fold.done;
+      bytes = fold.bytes;
+      frame = fold.frame;
+    }
 
 -- so many home writes are left
 abbrev pub writes_left : FoldStage → ℕ
@@ -170,7 +179,8 @@ IsAtStage shape gate tally bytes step fold stages.None = Unit {0}
 IsAtStage shape gate tally bytes step fold (Home n) = IsUnfiled shape gate tally bytes step fold × (fold.done + n ≡ length fold.writes.items) × (0 < n)
 IsAtStage shape gate tally bytes step fold Sync = IsUnfiled shape gate tally bytes step fold × (fold.done ≡ length fold.writes.items)
 IsAtStage shape gate tally bytes step fold Ready = IsUnfiled shape gate tally bytes step fold × (fold.done ≡ length fold.writes.items)
-IsAtStage shape gate tally bytes step fold Filed = (frame_in_hand shape bytes step ≡ Some (frames.Fold fold.count)) × (fold.done ≡ length fold.writes.items)
+IsAtStage shape gate tally bytes step fold Filed =
+    (frame_in_hand shape bytes step ≡ Some (frames.Fold fold.count)) × (fold.done ≡ length fold.writes.items)
 
 -- ---- and of its disk
 
@@ -181,10 +191,13 @@ HomesAt shape fs vector fold s Sync = IsFolding shape fold.count fs vector (left
 HomesAt shape fs vector fold s Ready = IsFolding shape fold.count fs vector (left_of fold) s
 HomesAt shape fs vector fold s Filed = Unit {0}
 
-pub record IsFold (keeps : Type 0) (states : List State) (shape : Shape) (gate : ℕ) (tally : Tally) (bytes : List ℕ) (step : Option Step) (broken : Bool) (fold : Fold) : Type 0 where
+pub record IsFold (keeps : Type 0) (states : List State) (shape : Shape) (gate : ℕ) (tally : Tally) (bytes : List ℕ)
+    (step : Option Step) (broken : Bool) (fold : Fold) : Type 0 where
   pub counts : IsAtStage shape gate tally bytes step fold fold.stage
   -- until a call fails
-  pub homes : keeps → broken ≡ false → HomesAt shape (blanked_before shape gate (bytes_of states)) (vector_before shape gate (bytes_of states)) fold (now states) fold.stage
+  pub homes : keeps → broken ≡ false
+      → HomesAt shape (blanked_before shape gate (bytes_of states)) (vector_before shape gate (bytes_of states)) fold
+        (now states) fold.stage
 
 -- ---- the end of a fold, where its frame was the job
 

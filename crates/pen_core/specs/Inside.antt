@@ -23,7 +23,8 @@ job_of shape bytes None = None
 job_of shape bytes (Some step) = Some (record { frame = frame_at shape bytes; step = step })
 
 -- The frames and the vector are those that a read gives, cut at the gate.
-abbrev pub pen_of : {D : Type 0} → List State → D → Shape → ℕ → Tally → List ℕ → ℕ → Option Step → Bool → ℕ → Option FoldOf → PenOf D
+abbrev pub pen_of : {D : Type 0} → List State → D → Shape → ℕ → Tally → List ℕ → ℕ → Option Step → Bool → ℕ → Option FoldOf
+    → PenOf D
 pen_of states disk shape gate tally bytes room step broken places fold = record {
   disk = disk;
   shape = shape;
@@ -67,7 +68,8 @@ abbrev pub IsAtStep : Shape → ℕ → ℕ → List Frame → List Frame → Li
 IsAtStep shape count gate frames next after bytes Body s = IsShut gate s × IsBodyOf shape count gate frames next after (body_of bytes) s
 IsAtStep shape count gate frames next after bytes BodySync s = IsShut gate s × IsWritten shape count frames next after s
 IsAtStep shape count gate frames next after bytes Gate s = IsShut gate s × IsWritten shape count frames next after s × IsOnDisk shape frames next s
-IsAtStep shape count gate frames next after bytes GateSync s = IsWritten shape count frames next after s × IsOnDisk shape frames next s × (slice_index s.seen gate ≡ 1)
+IsAtStep shape count gate frames next after bytes GateSync s =
+    IsWritten shape count frames next after s × IsOnDisk shape frames next s × (slice_index s.seen gate ≡ 1)
 
 abbrev pub Stands : Shape → ℕ → ℕ → List Frame → List (List ℕ) → List ℕ → Option Step → State → Type 0
 Stands shape count gate frames vector bytes None s = IsShut gate s
@@ -76,7 +78,8 @@ Stands shape count gate frames vector bytes (Some step) s =
     IsAtStep shape count gate frames (frames_with frames frame) (after_frame shape.width vector frame) bytes step s
 
 -- What a pen knows of its disk. The count is that of a fold whose homes may be pending, 0 where there is none.
-pub record Knows (count : ℕ) (shape : Shape) (gate : ℕ) (tally : Tally) (frames : List Frame) (vector : List (List ℕ)) (bytes : List ℕ) (step : Option Step) (broken : Bool) (s : State) : Type 0 where
+pub record Knows (count : ℕ) (shape : Shape) (gate : ℕ) (tally : Tally) (frames : List Frame) (vector : List (List ℕ))
+    (bytes : List ℕ) (step : Option Step) (broken : Bool) (s : State) : Type 0 where
   pub gate_is : gate ≡ gate_of shape frames
   pub tally_is : tally ≡ tally_of frames
   pub file : IsFileOf shape count frames vector s
@@ -86,11 +89,14 @@ pub record Knows (count : ℕ) (shape : Shape) (gate : ℕ) (tally : Tally) (fra
   pub stands : broken ≡ false → Stands shape count gate frames vector bytes step s
 
 -- The invariant.
-pub record IsPen (count : ℕ) (keeps : Type 0) (states : List State) (shape : Shape) (gate : ℕ) (tally next : Tally) (bytes : List ℕ) (step : Option Step) (broken : Bool) : Type 0 where
+pub record IsPen (count : ℕ) (keeps : Type 0) (states : List State) (shape : Shape) (gate : ℕ) (tally next : Tally)
+    (bytes : List ℕ) (step : Option Step) (broken : Bool) : Type 0 where
   pub wide : (1 ≤ shape.width) × (shape.width < 2 ^ 16)
   pub gate_fits : gate < 2 ^ 64
   pub size_fits : tally.size ≤ 2 ^ 32
   pub changes_fit : tally.changes ≤ gate
   pub folded_counted : tally.folded ≤ tally.changes
   pub job : IsMaybeJob shape gate tally next bytes step
-  pub knows : keeps → Knows count shape gate tally (blanked_before shape gate (bytes_of states)) (vector_before shape gate (bytes_of states)) bytes step broken (now states)
+  pub knows : keeps
+      → Knows count shape gate tally (blanked_before shape gate (bytes_of states))
+        (vector_before shape gate (bytes_of states)) bytes step broken (now states)

@@ -10,6 +10,7 @@ pub mod Inside
 pub mod Folds
 pub mod InHand
 pub mod Listed
+pub mod Fields
 pub mod Births
 pub mod Covered
 pub mod HomeRuns

@@ -56,13 +56,14 @@ pub record Lists (shape : Shape) (frames : List Frame) (ahead : Option Frame) (h
 
 -- What the lists of a pen are, whatever its disk: there are frames which it has committed, and of which they tell.
 -- Where the disk keeps the model, the file has these frames.
-pub record IsListed (keeps : Type 0) (states : List State) (shape : Shape) (gate : ℕ) (tally : Tally) (bytes : List ℕ) (step : Option Step) (homes : Homes) (live : ℕ) (fold : Fold) : Type 0 where
+pub record IsListed (keeps : Type 0) (states : List State) (shape : Shape) (gate : ℕ) (tally : Tally) (bytes : List ℕ)
+    (step : Option Step) (homes : Homes) (live : ℕ) (fold : Fold) : Type 0 where
   pub frames : List Frame
   pub legal : AreLegal shape frames
   pub gate_is : gate ≡ gate_of shape frames
   pub tally_is : tally ≡ tally_of frames
   pub lists : Lists shape frames (frame_in_hand shape bytes step) homes live
-  -- a Fold is the job of a fold in hand alone
+  -- the frame of a fold is the job of a fold in hand alone
   pub filed : (count : ℕ) → frame_in_hand shape bytes step ≡ Some (kinds.Fold count) → (fold.stage ≡ Filed) × (count ≡ fold.count)
   pub runs_are : IsInHand fold.stage → fold.runs ≡ length (flat_map pairs_of (take (fold.count - tally.folded) (live_of shape frames)))
   pub same : keeps → blanked_before shape gate (bytes_of states) ≡ all_blanked frames

@@ -1,5 +1,5 @@
 -- A file that is opened.
-use Rattle.std.specs.Prelude.{◌≡◌, ◌⊎◌, ℕ, ◌+◌, ◌*◌, ◌/◌, ◌≤◌, ◌<◌, ◌^◌, ◌++◌, List, length, take, None, false}
+use Rattle.std.specs.Prelude.{◌≡◌, ◌⊎◌, ℕ, ◌+◌, ◌-◌, ◌*◌, ◌/◌, ◌≤◌, ◌<◌, ◌^◌, ◌++◌, List, length, take, None, false}
 use Rattle.record_core.specs.Bytes.{Encoding, IsBytes}
 use Rattle.disk_core.specs.State.{State, now, settled, IsImage}
 use Rattle.disk_core.specs.Calls.{bytes_of}
@@ -78,6 +78,14 @@ pub record HasRead {R : Type 0} (form : Encoding R) (keeps : Type 0) (bytes : Li
   pub fed_all : (more : List ℕ) → length image + length more ≡ len → IsFed form (image ++ more) scanner
   pub is : keeps → image ≡ take (length image) bytes
 
+-- The scanner has taken in what stands on a disk. Where that keeps the model, these are the bytes, and all of them are
+-- on the disk.
+pub record HasReadDisk {R : Type 0} (form : Encoding R) (keeps : Type 0) (bytes : List ℕ) (states : List State) (scanner : Scanner R) : Type 0 where
+  pub len : ℕ
+  pub read : HasRead form keeps bytes len scanner
+  pub long : keeps → len ≡ length bytes
+  pub on_disk : keeps → now states ≡ settled bytes
+
 -- A scan of an image has found this: where the disk keeps the model, of the first of the bytes that are all on it.
 pub record IsFoundOn {R : Type 0} (form : Encoding R) (keeps : Type 0) (states : List State) (scanned : Scanned R) (homes : Homes) : Type 0 where
   pub image : List ℕ
@@ -101,18 +109,18 @@ failed_openings (Disk cause) = 1
 
 -- ---- the calls
 
--- the pieces of 4,096 bytes that are begun
-abbrev pub pieces_of : ℕ → ℕ
-pieces_of len = (len + 4095) / 4096
+-- how many reads take in so many bytes, each at most as many as a piece has
+abbrev pub reads_of : ℕ → ℕ → ℕ
+reads_of piece len = (len + (piece - 1)) / piece
 
--- the calls of the disk that opening makes at most: a sync, the length, and a read for each piece
-abbrev pub calls_of : ℕ → ℕ
-calls_of len = 2 + pieces_of len
+-- the calls of the disk that a scan makes at most: a sync, the length, and the reads
+abbrev pub calls_by : ℕ → ℕ → ℕ
+calls_by piece len = 2 + reads_of piece len
 
 -- so many it makes where the length is answered, and each read succeeds: the reads end where the bytes do, or sooner,
 -- where what follows can't change the answer
-abbrev pub AreCallsDone : ℕ → ℕ → Type 0
-AreCallsDone len n = (2 ≤ n) × (n ≤ calls_of len) × (len < 2 ^ 64)
+abbrev pub AreCallsDoneBy : ℕ → ℕ → ℕ → Type 0
+AreCallsDoneBy piece len n = (2 ≤ n) × (n ≤ calls_by piece len) × (len < 2 ^ 64)
 
 -- where it answers this at a read, or behind it
 abbrev pub IsReadFault : OpenFault → Type 0
@@ -124,25 +132,35 @@ IsReadFault (Disk causes.Write) = ⊥
 
 -- and how many it has made, the one that failed among them, where it answers this. The length was answered before a
 -- read.
+abbrev pub AreCallsMadeBy : ℕ → ℕ → OpenFault → ℕ → Type 0
+AreCallsMadeBy piece len (Scan fault) n = AreCallsDoneBy piece len n
+AreCallsMadeBy piece len (Disk causes.Sync) n = n ≡ 1
+AreCallsMadeBy piece len (Disk causes.Length) n = n ≡ 2
+AreCallsMadeBy piece len (Disk causes.Read) n = (2 < n) × (n ≤ calls_by piece len) × (len < 2 ^ 64)
+AreCallsMadeBy piece len (Disk causes.Write) n = ⊥
+
+-- opening a file reads 4,096 bytes at a time
+abbrev pub calls_of : ℕ → ℕ
+calls_of len = calls_by 4096 len
+
+abbrev pub AreCallsDone : ℕ → ℕ → Type 0
+AreCallsDone len n = AreCallsDoneBy 4096 len n
+
 abbrev pub AreCallsMade : ℕ → OpenFault → ℕ → Type 0
-AreCallsMade len (Scan fault) n = AreCallsDone len n
-AreCallsMade len (Disk causes.Sync) n = n ≡ 1
-AreCallsMade len (Disk causes.Length) n = n ≡ 2
-AreCallsMade len (Disk causes.Read) n = (2 < n) × (n ≤ calls_of len) × (len < 2 ^ 64)
-AreCallsMade len (Disk causes.Write) n = ⊥
+AreCallsMade len fault n = AreCallsMadeBy 4096 len fault n
 
 -- ---- what is read
 
 -- the bytes of the first n pieces
-abbrev pub pieces_front : ℕ → List ℕ → List ℕ
-pieces_front n bytes = take (4096 * n) bytes
+abbrev pub pieces_front : ℕ → ℕ → List ℕ → List ℕ
+pieces_front piece n bytes = take (piece * n) bytes
 
 -- So many pieces are read: all, or as many as tell the answer, whatever follows; and none before them told it.
-pub record AreNeeded {R : Type 0} (form : Encoding R) (bytes : List ℕ) (n : ℕ) : Type 0 where
-  pub enough : (n ≡ pieces_of (length bytes)) ⊎ IsDecided form (pieces_front n bytes)
-  pub needed : (k : ℕ) → k < n → IsCutShort form (pieces_front k bytes)
+pub record AreNeeded {R : Type 0} (piece : ℕ) (form : Encoding R) (bytes : List ℕ) (n : ℕ) : Type 0 where
+  pub enough : (n ≡ reads_of piece (length bytes)) ⊎ IsDecided form (pieces_front piece n bytes)
+  pub needed : (k : ℕ) → k < n → IsCutShort form (pieces_front piece k bytes)
 
 -- how many reads were made where this is answered, the one that failed among them
-abbrev pub AreReadsMade : {R : Type 0} → Encoding R → List ℕ → OpenFault → ℕ → Type 0
-AreReadsMade form bytes (Scan fault) n = (fault ≡ Memory) ⊎ AreNeeded form bytes n
-AreReadsMade form bytes (Disk cause) n = (k : ℕ) → k + 1 < n → IsCutShort form (pieces_front k bytes)
+abbrev pub AreReadsMade : {R : Type 0} → ℕ → Encoding R → List ℕ → OpenFault → ℕ → Type 0
+AreReadsMade piece form bytes (Scan fault) n = (fault ≡ Memory) ⊎ AreNeeded piece form bytes n
+AreReadsMade piece form bytes (Disk cause) n = (k : ℕ) → k + 1 < n → IsCutShort form (pieces_front piece k bytes)

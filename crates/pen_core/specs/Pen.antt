@@ -31,7 +31,8 @@ use Rattle.pen_core.specs.InHand.{due, has_call, called, home_fault}
 -- what an image may open to while this job is in hand
 abbrev pub OpensWith : Shape → List Frame → List (List ℕ) → Option JobOf → List ℕ → Type 0
 OpensWith shape frames vector None image = Opens shape frames vector image
-OpensWith shape frames vector (Some job) image = IsBeforeOrAfter shape frames (frames_with frames job.frame) vector (after_frame shape.width vector job.frame) image
+OpensWith shape frames vector (Some job) image =
+    IsBeforeOrAfter shape frames (frames_with frames job.frame) vector (after_frame shape.width vector job.frame) image
 
 -- The image opens to the pen's vector, or to that with its job.
 abbrev pub MayOpen : {D : Type 0} → PenOf D → List ℕ → Type 0
@@ -95,7 +96,7 @@ pub record CountsDone {D : Type 0} (frame : Frame) (old new : PenOf D) : Type 0 
   pub fold_is : new.fold ≡ fold_behind frame old.fold
   pub tally_is : new.tally ≡ after old.tally frame
   pub gate_is : new.gate ≡ old.gate + length (frame_text old.shape.format frame)
-  -- a Fold gives back memory
+  -- the frame of a fold gives back memory
   pub room_same : ((count : ℕ) → frame ≡ Fold count → ⊥) → new.room ≡ old.room
   pub places_same : ((count : ℕ) → frame ≡ Fold count → ⊥) → new.places ≡ old.places
   pub job_done : new.job ≡ None
@@ -234,7 +235,8 @@ HomeTickFails false fold old new = IfSome (due fold) (λ call. Fails call old ne
 abbrev pub IsHomeFault : {D : Type 0} → PenOf D → PenOf D → PenFault → Type 0
 IsHomeFault old new fault =
     ((fault ≡ faults.Broken) × (old.broken ≡ true) × (new ≡ old))
-    ⊎ ((fold : FoldOf) × (old.broken ≡ false) × (old.fold ≡ Some fold) × (has_call fold.stage ≡ true) × (fault ≡ faults.Disk (home_fault fold.stage)) × IsBrokenBy old new)
+    ⊎ ((fold : FoldOf) × (old.broken ≡ false) × (old.fold ≡ Some fold) × (has_call fold.stage ≡ true)
+          × (fault ≡ faults.Disk (home_fault fold.stage)) × IsBrokenBy old new)
 
 -- how many calls of the device a tick makes
 abbrev pub home_calls_due : Bool → Option FoldOf → ℕ
@@ -263,7 +265,8 @@ abbrev pub IsFoldBarred : {D : Type 0} → PenOf D → PenFault → Type 0
 IsFoldBarred pen fault =
     ((fault ≡ faults.Broken) × (pen.broken ≡ true))
     ⊎ (((fault ≡ faults.Busy) × (pen.broken ≡ false) × (is_some pen.fold ≡ true))
-    ⊎ ((fault ≡ faults.FileFull) × (pen.broken ≡ false) × (pen.fold ≡ None) × (pen.tally.folded < pen.tally.changes) × (2 ^ 48 ≤ gate_behind_fold pen)))
+    ⊎ ((fault ≡ faults.FileFull) × (pen.broken ≡ false) × (pen.fold ≡ None) × (pen.tally.folded < pen.tally.changes)
+            × (2 ^ 48 ≤ gate_behind_fold pen)))
 
 -- A fold of all changes in the file is in hand, and nothing else has changed.
 pub record BeginsFold {D : Type 0} (old new : PenOf D) : Type 0 where

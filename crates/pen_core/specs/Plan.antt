@@ -10,7 +10,8 @@ use Rattle.pen_core.specs.Values.{writes_for}
 
 -- the records at the positions that the live runs cover, just these, by writes into adjacent home bytes in ascending
 -- order
-pub record IsPlan {R : Type 0} (form : Encoding R) (records : List R) (width size : ℕ) (live : List (ℕ × ℕ)) (homes : List Home) (fold : Fold) : Type 0 where
+pub record IsPlan {R : Type 0} (form : Encoding R) (records : List R) (width size : ℕ) (live : List (ℕ × ℕ))
+    (homes : List Home) (fold : Fold) : Type 0 where
   pub cover : List (ℕ × ℕ)
   pub runs : List Home
   pub covered : IsCover live cover

@@ -8,14 +8,11 @@ ghost use Rattle.pen_core.specs.Refusals as refusals;
 ghost use Rattle.pen_core.specs.Refusals.{first_refusal, IsRefusal, ready_lines, shrink_lines};
 
 use crate::fault::PenFault;
-use crate::frame_bytes::{HEAD_LEN, put_shrink};
+use crate::frame_bytes::put_shrink;
 use crate::pen::Pen;
 use crate::step::Step;
 use disk_core::Disk;
-use segment_core::{SHRINK_PAYLOAD_LEN, Tally};
-
-/// Gates stand below this place.
-pub(crate) const GATE_LIMIT: u64 = 1 << 48;
+use segment_core::{FRAME_HEAD_LEN, GATE_LIMIT, SHRINK_PAYLOAD_LEN, Tally};
 
 impl<D: Disk> Pen<D> {
     /// Refused: `Broken`, where a call of the disk has failed.
@@ -55,10 +52,10 @@ impl<D: Disk> Pen<D> {
         ensures { result ≡ refusals.is_full self.now payload }
     {
         self.gate >= GATE_LIMIT
-            || self.gate + (HEAD_LEN + payload) as u64 + self.fold.frame_len() >= GATE_LIMIT
+            || self.gate + (FRAME_HEAD_LEN + payload) as u64 + self.fold.frame_len() >= GATE_LIMIT
     }
 
-    /// BeginsFrame to shrink the vector to its first `n` records.
+    /// Begins to shrink the vector to its first `n` records.
     ///
     /// Refused, in this order: `Broken`; `Busy`; `OutOfRange`, where it has fewer; `Unfolded`, while a change is live;
     /// `FileFull`; `Memory`.

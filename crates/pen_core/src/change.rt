@@ -137,7 +137,7 @@ impl<D: Disk> Pen<D> {
         self.ready_runs(&[(start, count)])
     }
 
-    /// BeginsFrame to change the records of runs of positions, by start and count, to those that the pieces lend, in order,
+    /// Begins to change the records of runs of positions, by start and count, to those that the pieces lend, in order,
     /// each piece as one slice. At least one run; the pieces have as many records as the runs.
     ///
     /// Refused as `ready_runs` is, in the same order. Directly after that of the same runs it isn't refused.
@@ -174,7 +174,7 @@ impl<D: Disk> Pen<D> {
         Ok(())
     }
 
-    /// BeginsFrame to change the records of runs. `begin_runs_from` says more.
+    /// Begins to change the records of runs. `begin_runs_from` says more.
     pub fn begin_runs<R: Record>(
         &mut self,
         runs: &[(u64, u64)],
@@ -195,7 +195,7 @@ impl<D: Disk> Pen<D> {
         self.begin_runs_from::<R, &[&[R]]>(runs, &pieces)
     }
 
-    /// BeginsFrame to change the records from `start` on to those of the pieces, at least one. Directly after `ready_change`
+    /// Begins to change the records from `start` on to those of the pieces, at least one. Directly after `ready_change`
     /// of the same start and count it isn't refused. `begin_runs_from` says more.
     pub fn begin_change<R: Record>(&mut self, start: u64, pieces: &[&[R]]) -> Result<(), PenFault>
         requires width { R.form.width ≡ self.old.shape.width }

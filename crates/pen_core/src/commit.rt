@@ -12,9 +12,7 @@ use crate::pen::Pen;
 use crate::stage::Ticked;
 use crate::step::Step;
 use disk_core::{Disk, DiskFault};
-
-/// An open gate.
-const OPEN: u8 = 1;
+use segment_core::OPEN_GATE;
 
 /// The device call of this step.
 fn call<D: Disk>(disk: &mut D, step: Step, gate: u64, bytes: &[u8]) -> Result<(), DiskFault>
@@ -31,7 +29,7 @@ fn call<D: Disk>(disk: &mut D, step: Step, gate: u64, bytes: &[u8]) -> Result<()
     match step {
         Step::Body => disk.write_at(gate + 1, &bytes[1..]),
         Step::BodySync => disk.sync(),
-        Step::Gate => disk.write_at(gate, &[OPEN]),
+        Step::Gate => disk.write_at(gate, &[OPEN_GATE]),
         Step::GateSync => disk.sync(),
     }
 }

@@ -13,8 +13,10 @@ use crate::fault::PenFault;
 use crate::fold::Fold;
 use crate::pen::Pen;
 use disk_core::{Disk, DiskFault};
-use segment_core::{Format, Homes, Shape, Tally};
-use std::alloc::{AllocError, Global};
+use segment_core::{
+    CLOSED_GATE, EMPTY_FILE_LEN, Format, HEADER_LEN, Homes, OPEN_GATE, Shape, Tally, empty_file,
+};
+use std::alloc::Global;
 
 /// What a disk holds before a file is made on it.
 #[derive(Clone, Copy, Debug, PartialEq, Eq)]
@@ -26,18 +28,6 @@ pub(crate) enum Contents {
     /// A first byte that is closed, and no more than an empty file.
     Closed,
 }
-
-/// The bytes of an empty file.
-const EMPTY_LEN: u64 = 12;
-
-/// The place of the first gate behind the header.
-const FIRST_GATE: u64 = 11;
-
-/// An open gate.
-const OPEN: u8 = 1;
-
-/// The gate as it is written closed.
-const CLOSED: u8 = 0;
 
 /// What the disk holds.
 fn look<D: Disk>(disk: &mut D) -> Result<Contents, DiskFault>
@@ -56,7 +46,7 @@ fn look<D: Disk>(disk: &mut D) -> Result<Contents, DiskFault>
     ensures model { D.keeps disk.new → D.keeps disk.old }
 {
     let len = disk.len()?;
-    if len > EMPTY_LEN {
+    if len > EMPTY_FILE_LEN as u64 {
         return Ok(Contents::File);
     }
     if len < 2 {
@@ -64,7 +54,7 @@ fn look<D: Disk>(disk: &mut D) -> Result<Contents, DiskFault>
     }
     let mut first = [0];
     disk.read_at(0, &mut first)?;
-    if first[0] == OPEN {
+    if first[0] == OPEN_GATE {
         return Ok(Contents::File);
     }
     Ok(Contents::Closed)
@@ -118,7 +108,7 @@ fn close_first<D: Disk>(disk: &mut D) -> Result<(), PenFault>
     match contents {
         Contents::File => Err(PenFault::Exists),
         Contents::Closed => Ok(()),
-        Contents::Blank => match write_synced(disk, 0, &[CLOSED]) {
+        Contents::Blank => match write_synced(disk, 0, &[CLOSED_GATE]) {
             Ok(()) => Ok(()),
             Err(fault) => Err(PenFault::Disk(fault)),
         },
@@ -142,7 +132,7 @@ fn write_header<D: Disk>(disk: &mut D, shape: Shape, bytes: &[u8]) -> Result<(),
     ensures model { D.keeps disk.new → D.keeps disk.old }
 {
     write_synced(disk, 1, &bytes[1..])?;
-    write_synced(disk, 0, &[OPEN])
+    write_synced(disk, 0, &[OPEN_GATE])
 }
 
 /// Makes an empty file, unless there is a file.
@@ -172,19 +162,6 @@ fn make<D: Disk>(disk: &mut D, shape: Shape, bytes: &[u8]) -> Result<(), PenFaul
         return Err(PenFault::Disk(fault));
     }
     Ok(())
-}
-
-/// The bytes of an empty file.
-fn empty_file(alloc: Global, width: u16, format: Format) -> Result<Vec<u8>, AllocError>
-    ensures { IfOk result (λ bytes. bytes.items ≡ header (record { format = format; width = width }) ++ 0 ∷ []) }
-{
-    let mut bytes = Vec::with_capacity(alloc, EMPTY_LEN as usize)?;
-    bytes.push(OPEN)?;
-    bytes.extend_from_slice(b"CVECSEG")?;
-    bytes.push(format.version())?;
-    bytes.extend_from_slice(&width.to_le_bytes())?;
-    bytes.push(CLOSED)?;
-    Ok(bytes)
 }
 
 impl<D: Disk> Pen<D> {
@@ -228,7 +205,7 @@ impl<D: Disk> Pen<D> {
         ensures model { MatchResult result (λ pen. D.keeps pen.disk → D.keeps disk) (λ r. D.keeps r.0 → D.keeps disk) }
     {
         let mut disk = disk;
-        let Ok(bytes) = empty_file(alloc, width, format) else {
+        let Ok(bytes) = Vec::from_slice(alloc, &empty_file(format, width)) else {
             return Err((disk, PenFault::Memory));
         };
         let shape = Shape {
@@ -246,7 +223,7 @@ impl<D: Disk> Pen<D> {
         Ok(Pen {
             disk,
             shape,
-            gate: FIRST_GATE,
+            gate: HEADER_LEN as u64,
             tally,
             next: tally,
             bytes,

@@ -17,12 +17,12 @@ use crate::stage::FoldStage;
 use crate::values::home_writes;
 use disk_core::{Disk, DiskFault};
 use record_core::Record;
-use segment_core::{GrowthList, Home};
+use segment_core::{FOLD_PAYLOAD_LEN, FRAME_HEAD_LEN, GrowthList, Home};
 use std::alloc::{AllocError, Global};
 use std::mem::swap;
 
 /// The bytes of a fold's frame.
-pub(crate) const FRAME_LEN: u64 = 14;
+pub(crate) const FRAME_LEN: u64 = (FRAME_HEAD_LEN + FOLD_PAYLOAD_LEN) as u64;
 
 /// A write of home bytes.
 #[derive(Clone, Copy, Debug, PartialEq, Eq)]

@@ -10,17 +10,11 @@ ghost use Rattle.segment_core.specs.Runs.{runs_given, change_len, change_frame};
 ghost use Rattle.pen_core.specs.Refusals.{room_for};
 
 use record_core::Record;
-use segment_core::{Format, GrowthList, SHRINK_PAYLOAD_LEN, append_change, append_shrink};
+use segment_core::{
+    CLOSED_GATE, FRAME_HEAD_LEN, Format, GrowthList, SHRINK_PAYLOAD_LEN, append_change,
+    append_fold, append_shrink,
+};
 use std::alloc::AllocError;
-
-/// The bytes of a frame before its payload.
-pub(crate) const HEAD_LEN: usize = 6;
-
-/// The gate as it is written closed.
-const CLOSED: u8 = 0;
-
-/// What a fold's frame has before its count: an open gate, the kind, and the length of the count.
-const FOLD_HEAD: [u8; 6] = [1, 4, 8, 0, 0, 0];
 
 /// Takes the memory of a frame with this payload, and of the gate behind it.
 pub(crate) fn take_room(payload: usize, bytes: &mut Vec<u8>) -> Result<(), AllocError>
@@ -30,7 +24,7 @@ pub(crate) fn take_room(payload: usize, bytes: &mut Vec<u8>) -> Result<(), Alloc
     ensures sure { room_for payload ≤ vec_capacity bytes.old → IsOk result }
 {
     bytes.clear();
-    bytes.reserve(HEAD_LEN + payload + 1)
+    bytes.reserve(FRAME_HEAD_LEN + payload + 1)
 }
 
 /// The frame of a change whose payload has this length, and the next gate.
@@ -50,7 +44,7 @@ pub(crate) fn put_change<R: Record, G: GrowthList<R>>(
 {
     take_room(payload, bytes)?;
     append_change::<R, G>(format, runs, pieces, payload, bytes)?;
-    bytes.push(CLOSED)?;
+    bytes.push(CLOSED_GATE)?;
     Ok(())
 }
 
@@ -60,7 +54,7 @@ pub(crate) fn put_shrink(n: u64, bytes: &mut Vec<u8>) -> Result<(), AllocError>
 {
     take_room(SHRINK_PAYLOAD_LEN, bytes)?;
     append_shrink(n, bytes)?;
-    bytes.push(CLOSED)?;
+    bytes.push(CLOSED_GATE)?;
     Ok(())
 }
 
@@ -69,8 +63,7 @@ pub(crate) fn put_fold(count: u64, bytes: &mut Vec<u8>) -> Result<(), AllocError
     ensures text { OnOk result ((format : Format) → bytes.new.items ≡ frame_text format (Fold count) ++ 0 ∷ []) }
 {
     bytes.clear();
-    bytes.extend_from_slice(&FOLD_HEAD)?;
-    bytes.extend_from_slice(&count.to_le_bytes())?;
-    bytes.push(CLOSED)?;
+    append_fold(count, bytes)?;
+    bytes.push(CLOSED_GATE)?;
     Ok(())
 }

@@ -8,15 +8,11 @@ ghost use Rattle.pen_core.specs.Pen.{BeginsFrame, IsKept, IsUnchanged, vector_af
 ghost use Rattle.pen_core.specs.Refusals.{first_refusal, IsRefusal, group_lines};
 
 use crate::fault::PenFault;
-use crate::frame_bytes::HEAD_LEN;
 use crate::pen::Pen;
 use crate::step::Step;
 use disk_core::Disk;
-use record_core::{Record, width_of};
-use segment_core::{GrowthList, Home, RECORD_LIMIT, Tally, append_group};
-
-/// The bytes that stand in a frame before the records of its one growth: the count of growths, and one length.
-const ONE_GROWTH_LEN: u64 = 8;
+use record_core::{GROWTH_HEAD_LEN, RECORD_LIMIT, Record, width_of};
+use segment_core::{COUNT_LEN, FRAME_HEAD_LEN, GrowthList, Home, Tally, append_group};
 
 /// How many records the growths have, if no vector is too short for them.
 pub(crate) fn count_records<R, G: GrowthList<R>>(growths: &G) -> Option<u64>
@@ -47,7 +43,7 @@ impl<D: Disk> Pen<D> {
         if records > RECORD_LIMIT - self.tally.size {
             return Err(PenFault::OutOfRange);
         }
-        let payload = ONE_GROWTH_LEN + records * width_of::<R>() as u64;
+        let payload = GROWTH_HEAD_LEN as u64 + records * width_of::<R>() as u64;
         if payload > self.shape.format.payload_limit() as u64 {
             return Err(PenFault::TooLarge);
         }
@@ -57,7 +53,7 @@ impl<D: Disk> Pen<D> {
         Ok(())
     }
 
-    /// BeginsFrame to commit growths as one group, of which each lends its records as one slice.
+    /// Begins to commit growths as one group, of which each lends its records as one slice.
     ///
     /// Refused, in this order: `Broken`; `Busy`; `OutOfRange`, where the vector would have more than 2^32 records;
     /// `TooLarge`, past the limit of the format's payloads; `FileFull`; `Memory`.
@@ -103,7 +99,7 @@ impl<D: Disk> Pen<D> {
         }
         self.homes.homes.push_reserved(Home {
             position: self.tally.size,
-            place: self.gate + (HEAD_LEN + 4 + growths.count() * 4) as u64,
+            place: self.gate + (FRAME_HEAD_LEN + COUNT_LEN + growths.count() * COUNT_LEN) as u64,
             count: records,
         });
         self.next = Tally {
@@ -114,7 +110,7 @@ impl<D: Disk> Pen<D> {
         Ok(())
     }
 
-    /// BeginsFrame to commit growths as one group: at least one, and none empty. `begin_growths` says more.
+    /// Begins to commit growths as one group: at least one, and none empty. `begin_growths` says more.
     pub fn begin_group<R: Record>(&mut self, growths: &[&[R]]) -> Result<(), PenFault>
         requires width { R.form.width ≡ self.old.shape.width }
         requires some { 0 < length growths.now }

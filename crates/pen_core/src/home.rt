@@ -7,7 +7,6 @@ ghost use Rattle.pen_core.specs.Folds.{IsWholeFold};
 ghost use Rattle.pen_core.specs.InHand.{gate_then};
 ghost use Rattle.pen_core.specs.Pen.{MayOpen, IsKept, FileSame, IsHomeTicked, HomeTickCalls, HomeTickFails, IsHomeFault, home_calls_due, failed_calls, IsUnchanged, IsReadyToFold, IsFoldBarred, IsFoldAnswer, IsFoldRefusal};
 
-use crate::begin::GATE_LIMIT;
 use crate::fault::PenFault;
 use crate::fold::FRAME_LEN;
 use crate::frame_bytes::put_fold;
@@ -16,7 +15,7 @@ use crate::stage::{FoldStage, HomeTicked};
 use crate::step::Step;
 use disk_core::Disk;
 use record_core::Record;
-use segment_core::{GrowthList, Tally};
+use segment_core::{GATE_LIMIT, GrowthList, Tally};
 use std::mem::swap;
 
 /// Where the gate will stand behind the job in hand.

@@ -14,6 +14,7 @@ mod home;
 mod home_runs;
 mod open;
 mod pen;
+mod scanning;
 mod settle;
 mod stage;
 mod step;
@@ -21,4 +22,5 @@ mod values;
 
 pub use fault::{OpenFault, PenFault};
 pub use pen::Pen;
+pub use scanning::{scan_disk, scan_front};
 pub use stage::{FoldStage, HomeTicked, Stage, Ticked};

@@ -39,21 +39,15 @@ pub struct Pen<D: Disk> {
 }
 
 impl<D: Disk> Model for Pen<D> {
-    ghost use Rattle.std.specs.Prelude.{◌-◌, vec_len, vec_capacity};
     ghost use Rattle.pen_core.specs.PenOf.{PenOf};
-    ghost use Rattle.pen_core.specs.Pen.{open_count};
-    ghost use Rattle.pen_core.specs.Inside.{pen_of, IsPen};
-    ghost use Rattle.pen_core.specs.InHand.{fold_of, IsFold};
-    ghost use Rattle.pen_core.specs.Listed.{IsListed};
 
     ghost Value = { PenOf D };
 
-    ghost view = { λ p. pen_of (D.states p.disk) p.disk p.shape p.gate p.tally p.bytes.items (vec_capacity p.bytes) p.step p.broken
-        (vec_capacity p.homes.live - vec_len p.homes.live) (fold_of p.fold) };
+    ghost use Rattle.pen_core.specs.Fields.{seen_as, IsSound};
 
-    ghost invariant = { λ p. IsPen (open_count p.fold.stage p.fold.count) (D.keeps p.disk) (D.states p.disk) p.shape p.gate p.tally p.next p.bytes.items p.step p.broken
-        × IsListed (D.keeps p.disk) (D.states p.disk) p.shape p.gate p.tally p.bytes.items p.step p.homes p.live p.fold
-        × IsFold (D.keeps p.disk) (D.states p.disk) p.shape p.gate p.tally p.bytes.items p.step p.broken p.fold };
+    ghost view = { λ pen. seen_as D.states pen };
+
+    ghost invariant = { λ pen. IsSound D.keeps D.states pen };
 }
 
 impl<D: Disk> Pen<D> {

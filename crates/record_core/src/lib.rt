@@ -14,6 +14,6 @@ mod records;
 
 pub use key_flag::Flagged;
 pub use key_value::Pair;
-pub use limit::{PAYLOAD_LIMIT, RECORD_LIMIT};
+pub use limit::{GROWTH_HEAD_LEN, PAYLOAD_LIMIT, RECORD_LIMIT};
 pub use record::{Record, width_of};
 pub use records::{RecordsFault, append_records, read_records};

@@ -1,5 +1,5 @@
 -- A change as it is written: its runs one by one, and its frame.
-use Rattle.std.proofs.Common.{◌≡◌, ℕ, ◌+◌, ◌*◌, ◌<◌, ◌≤◌, List, [], ◌∷◌, ◌++◌, length, take, get_or, zero, suc, sym, ap, ◌∙◌, arith}
+use Rattle.std.proofs.Common.{◌≡◌, ℕ, ◌+◌, ◌*◌, ◌<◌, ◌≤◌, List, [], ◌∷◌, ◌++◌, length, take, get_or, zero, suc, sym, ap, ◌∙◌, append_assoc, arith}
 use Rattle.std.specs.List.{flat_map}
 use Rattle.std.specs.Int.{w32, to_le_bytes}
 use Rattle.std.proofs.lemmas.List.{length-append, length-map, length-take-le, map_more, flat_map_more}
@@ -13,7 +13,6 @@ use Rattle.segment_core.specs.Runs.{runs_given, change_len, change_frame}
 use Rattle.segment_core.proofs.RunRows.{length-number_text, length-run_texts}
 use Rattle.segment_core.proofs.FrameParts.{records_of_runs-cons}
 use Rattle.segment_core.proofs.Payload.{length-change_payload}
-use Rattle.segment_core.proofs.Written.{regroup}
 
 -- ---- runs that are given
 
@@ -50,6 +49,9 @@ pub length-change_frame : {R : Type 0} (format : Format) (form : Encoding R) (ru
 length-change_frame format form runs pieces size_of filled =
     length-change_payload format runs (flat_map form.bytes_of (joined pieces))
     ∙ ap (λ n. runs_len format (length runs) + n) (length-flat_map_bytes form (joined pieces) size_of ∙ ap (λ n. n * form.width) filled)
+
+regroup : (file head text bytes : List ℕ) → ((file ++ head) ++ text) ++ bytes ≡ file ++ (head ++ (text ++ bytes))
+regroup file head text bytes = simp append_assoc
 
 -- a frame that was appended piece by piece
 pub change_appended : {R : Type 0} (format : Format) (form : Encoding R) (runs : List Run) (pieces : List (List R)) (len : ℕ) (file headed written done : List ℕ) → ((r : R) → length (form.bytes_of r) ≡ form.width) → length (joined pieces) ≡ records_of_runs runs

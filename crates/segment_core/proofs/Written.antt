@@ -111,23 +111,30 @@ AreReadAgain-append form (r ∷ a) b each more = (each.0, AreReadAgain-append fo
 
 -- ---- text
 
-pub regroup : (file head lengths bytes : List ℕ) → ((file ++ head) ++ lengths) ++ bytes ≡ file ++ (head ++ (lengths ++ bytes))
-regroup file head lengths bytes = simp append_assoc
-
--- a frame that was appended piece by piece
-pub group_appended : {R : Type 0} (format : Format) (form : Encoding R) (growths : List (List R)) (len n : ℕ) (file headed counted done : List ℕ) → ((r : R) → length (form.bytes_of r) ≡ form.width) → len ≡ payload_len form.width growths → n ≡ length growths
-    → headed ≡ file ++ ((1 ∷ 1 ∷ to_le_bytes w32 len) ++ to_le_bytes w32 n) → counted ≡ headed ++ flat_map (to_le_bytes w32) (map length growths) → done ≡ counted ++ flat_map form.bytes_of (joined growths) → done ≡ file ++ frame_text format (group_frame form growths)
-group_appended format form growths len n file headed counted done wide size count a b c =
-    let payload_is : len ≡ length (payload_of format (group_frame form growths)) = size ∙ sym (length-group_frame format form growths wide) in
+-- a frame that was appended piece by piece: its head, the count of its growths, their lengths, and their records
+pub group_appended : {R : Type 0} (format : Format) (form : Encoding R) (growths : List (List R)) (len n : ℕ)
+    (file headed counted listed done : List ℕ)
+    → ((r : R) → length (form.bytes_of r) ≡ form.width) → len ≡ payload_len form.width growths → n ≡ length growths
+    → headed ≡ file ++ 1 ∷ 1 ∷ to_le_bytes w32 len
+    → counted ≡ headed ++ to_le_bytes w32 n
+    → listed ≡ counted ++ flat_map (to_le_bytes w32) (map length growths)
+    → done ≡ listed ++ flat_map form.bytes_of (joined growths)
+    → done ≡ file ++ frame_text format (group_frame form growths)
+group_appended format form growths len n file headed counted listed done wide size count a b c d =
+    let payload : List ℕ = payload_of format (group_frame form growths) in
+    let len_is : len ≡ length payload = size ∙ sym (length-group_frame format form growths wide) in
     let count_is : n ≡ length (map length growths) = count ∙ sym (length-map growths length) in
-    let lengths : List ℕ = flat_map (to_le_bytes w32) (map length growths) in
+    let head : List ℕ = 1 ∷ 1 ∷ to_le_bytes w32 len in
+    let numbers : List ℕ = flat_map (to_le_bytes w32) (map length growths) in
     let bytes : List ℕ = flat_map form.bytes_of (joined growths) in
-    let head : List ℕ = (1 ∷ 1 ∷ to_le_bytes w32 len) ++ to_le_bytes w32 n in
-    c ∙ ap (λ (bs : List ℕ). bs ++ bytes) (b ∙ ap (λ (bs : List ℕ). bs ++ lengths) a)
-    ∙ regroup file head lengths bytes
-    ∙ ap (λ (bs : List ℕ). file ++ bs) (append_assoc (1 ∷ 1 ∷ to_le_bytes w32 len) (to_le_bytes w32 n) (lengths ++ bytes))
-    ∙ ap (λ k. file ++ ((1 ∷ 1 ∷ to_le_bytes w32 k) ++ (to_le_bytes w32 n ++ (lengths ++ bytes)))) payload_is
-    ∙ ap (λ k. file ++ ((1 ∷ 1 ∷ to_le_bytes w32 (length (payload_of format (group_frame form growths)))) ++ (to_le_bytes w32 k ++ (lengths ++ bytes)))) count_is
+    d ∙ ap (λ (bs : List ℕ). bs ++ bytes) (c ∙ ap (λ (bs : List ℕ). bs ++ numbers) (b ∙ ap (λ (bs : List ℕ). bs ++ to_le_bytes w32 n) a))
+    ∙ regroup file head (to_le_bytes w32 n) numbers bytes
+    ∙ ap (λ k. file ++ (head ++ (to_le_bytes w32 k ++ (numbers ++ bytes)))) count_is
+    ∙ ap (λ k. file ++ ((1 ∷ 1 ∷ to_le_bytes w32 k) ++ payload)) len_is
+  where
+    regroup : (file head count numbers bytes : List ℕ)
+        → (((file ++ head) ++ count) ++ numbers) ++ bytes ≡ file ++ (head ++ (count ++ (numbers ++ bytes)))
+    regroup file head count numbers bytes = simp append_assoc
 
 -- ---- one group more
 

@@ -1,32 +1,19 @@
-//! The frames of a change and of a shrink.
+//! The frames of a change, of a shrink and of a fold.
 
-ghost use Rattle.std.specs.Prelude.{◌≡◌, ◌≤◌, ◌<◌, ◌+◌, ◌^◌, ◌++◌, ◌∷◌, length, vec_len, vec_capacity, OnOk, IsOk};
-ghost use Rattle.std.specs.Int.{w32, to_le_bytes};
+ghost use Rattle.std.specs.Prelude.{◌≡◌, ◌≤◌, ◌<◌, ◌+◌, ◌^◌, ◌++◌, length, vec_len, vec_capacity, OnOk, IsOk};
 ghost use Rattle.record_core.specs.Cells.{AreReadAgain};
-ghost use Rattle.segment_core.specs.Kind.{kind_byte};
 ghost use Rattle.segment_core.specs.Shape.{shape_of};
-ghost use Rattle.segment_core.specs.Frame.{Shrink, frame_head_len, open_gate, number_text, number_len, run_text, runs_text, records_of_runs, frame_text};
+ghost use Rattle.segment_core.specs.Frame.{Shrink, Fold, frame_head_len, number_text, number_len, run_text, runs_text, records_of_runs, frame_text};
 ghost use Rattle.segment_core.specs.Frame as frames;
 ghost use Rattle.segment_core.specs.Written.{joined};
 ghost use Rattle.segment_core.specs.Runs.{runs_given, change_len, change_frame};
 
-use crate::format::{Format, FrameKind, OPEN_GATE, SHRINK_PAYLOAD_LEN};
+use crate::format::{FOLD_PAYLOAD_LEN, Format, FrameKind, SHRINK_PAYLOAD_LEN};
+use crate::frame_head::append_head;
 use crate::group::append_growths;
 use crate::growth_list::GrowthList;
 use record_core::Record;
 use std::alloc::AllocError;
-
-/// Appends the head of a frame: an open gate, the kind and the payload's length.
-fn append_head(kind: FrameKind, payload_len: usize, file: &mut Vec<u8>) -> Result<(), AllocError>
-    requires { payload_len < 2 ^ 32 }
-    ensures text { OnOk result (file.new.items ≡ file.old.items ++ open_gate ∷ kind_byte kind ∷ to_le_bytes w32 payload_len) }
-    ensures capacity { vec_capacity file.old ≤ vec_capacity file.new }
-    ensures room { vec_len file.old + frame_head_len ≤ vec_capacity file.old → IsOk result }
-{
-    file.push(OPEN_GATE)?;
-    file.push(kind as u8)?;
-    file.extend_from_slice(&(payload_len as u32).to_le_bytes())
-}
 
 /// Appends a number that version 1 leaves out.
 fn append_number(format: Format, number: u32, file: &mut Vec<u8>) -> Result<(), AllocError>
@@ -98,4 +85,15 @@ pub fn append_shrink(n: u64, file: &mut Vec<u8>) -> Result<(), AllocError>
 {
     append_head(FrameKind::Shrink, SHRINK_PAYLOAD_LEN, file)?;
     file.extend_from_slice(&n.to_le_bytes())
+}
+
+/// Appends the frame of a fold of so many changes, behind an open gate. It is the same in each format. Where there is
+/// room for it no memory is taken, and the call succeeds.
+pub fn append_fold(count: u64, file: &mut Vec<u8>) -> Result<(), AllocError>
+    ensures text { OnOk result ((format : Format) → file.new.items ≡ file.old.items ++ frame_text format (Fold count)) }
+    ensures capacity { vec_capacity file.old ≤ vec_capacity file.new }
+    ensures room { vec_len file.old + (frame_head_len + 8) ≤ vec_capacity file.old → IsOk result }
+{
+    append_head(FrameKind::Fold, FOLD_PAYLOAD_LEN, file)?;
+    file.extend_from_slice(&count.to_le_bytes())
 }

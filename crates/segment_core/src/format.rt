@@ -88,23 +88,28 @@ pub const CLOSED_GATE: u8 = 0x00;
 pub(crate) const MAGIC: &[u8; 7] = b"CVECSEG";
 
 /// The bytes of the header: a gate, the magic, the version and the width.
-pub(crate) const HEADER_LEN: usize = 11;
+pub const HEADER_LEN: usize = 11;
+
+/// The bytes of an empty file: the header, and a closed gate.
+pub const EMPTY_FILE_LEN: usize = 12;
+
+/// Gates stand below this place.
+pub const GATE_LIMIT: u64 = 1 << 48;
 
 /// The bytes of a frame before its payload: the gate, the kind and the payload's length.
-pub(crate) const FRAME_HEAD_LEN: usize = 6;
+pub const FRAME_HEAD_LEN: usize = 6;
 
 /// The bytes of the first position of a run.
-pub(crate) const START_LEN: usize = 8;
+pub const START_LEN: usize = 8;
 
 /// The bytes of a number of growths, of runs, or of records.
-pub(crate) const COUNT_LEN: usize = 4;
+pub const COUNT_LEN: usize = 4;
 
 /// The bytes of a shrink's payload.
 pub const SHRINK_PAYLOAD_LEN: usize = 8;
 
-/// The bytes of a group's payload before its records, where it has one growth: the number of growths, and the
-/// growth's length.
-pub(crate) const GROWTH_HEAD_LEN: usize = 2 * COUNT_LEN;
+/// The bytes of a fold's payload.
+pub const FOLD_PAYLOAD_LEN: usize = 8;
 
 /// What a frame is.
 #[derive(Clone, Copy, Debug, PartialEq, Eq)]

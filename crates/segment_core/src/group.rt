@@ -5,11 +5,12 @@ ghost use Rattle.std.specs.List.{flat_map};
 ghost use Rattle.std.specs.Int.{w32, to_le_bytes};
 ghost use Rattle.record_core.specs.Cells.{AreReadAgain};
 ghost use Rattle.segment_core.specs.declared.format.Format.{Format};
-ghost use Rattle.segment_core.specs.Frame.{open_gate, frame_text};
+ghost use Rattle.segment_core.specs.Frame.{frame_text};
 ghost use Rattle.segment_core.specs.Written.{group_frame, joined, payload_len, IsGroupRefused};
 
 use crate::fault::GroupFault;
-use crate::format::{COUNT_LEN, FrameKind, OPEN_GATE};
+use crate::format::{COUNT_LEN, FrameKind};
+use crate::frame_head::append_head;
 use crate::growth_list::GrowthList;
 use record_core::{Record, append_records, width_of};
 use std::alloc::AllocError;
@@ -36,18 +37,6 @@ pub(crate) fn payload_size<R: Record, G: GrowthList<R>>(group: &G, limit: usize)
         }
     }
     Some(len)
-}
-
-/// Appends the head of a group's frame: an open gate, the kind, the payload's length and the number of growths.
-fn append_head(payload_len: usize, growths: usize, file: &mut Vec<u8>) -> Result<(), AllocError>
-    requires payload { payload_len < 2 ^ 32 }
-    requires growths { growths < 2 ^ 32 }
-    ensures { OnOk result (file.new.items ≡ file.old.items ++ ((open_gate ∷ 1 ∷ to_le_bytes w32 payload_len) ++ to_le_bytes w32 growths)) }
-{
-    file.push(OPEN_GATE)?;
-    file.push(FrameKind::Group as u8)?;
-    file.extend_from_slice(&(payload_len as u32).to_le_bytes())?;
-    file.extend_from_slice(&(growths as u32).to_le_bytes())
 }
 
 /// Appends the lengths of the growths.
@@ -92,7 +81,8 @@ fn append_frame<R: Record, G: GrowthList<R>>(
     ensures text { OnOk result ((format : Format) → file.new.items ≡ file.old.items ++ frame_text format (group_frame R.form (G.growths group.now))) }
     ensures read_again { OnOk result (AreReadAgain R.form (joined (G.growths group.now))) }
 {
-    append_head(len, group.count(), file)?;
+    append_head(FrameKind::Group, len, file)?;
+    file.extend_from_slice(&(group.count() as u32).to_le_bytes())?;
     append_lengths::<R, G>(group, file)?;
     append_growths::<R, G>(group, file)
 }

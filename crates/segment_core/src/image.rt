@@ -10,7 +10,9 @@ ghost use Rattle.segment_core.specs.Vector.{HasVector};
 ghost use Rattle.segment_core.specs.Written.{AreFilled, AllFit, groups_of, group_frame, file_of, all_records, IsImageRefused};
 
 use crate::fault::ImageFault;
-use crate::format::{CLOSED_GATE, FRAME_HEAD_LEN, Format, HEADER_LEN, MAGIC, OPEN_GATE};
+use crate::format::{
+    CLOSED_GATE, EMPTY_FILE_LEN, FRAME_HEAD_LEN, Format, HEADER_LEN, MAGIC, OPEN_GATE,
+};
 use crate::group::{append_group, payload_size};
 use record_core::{PAYLOAD_LIMIT, Record, width_of};
 use std::alloc::{AllocError, Global};
@@ -44,7 +46,7 @@ fn image_len<R: Record>(groups: &[Vec<Vec<R>>]) -> Result<usize, ImageFault>
         (λ _. AllFit R.form.width (groups_of groups.now))
         (IsImageRefused R.form.width (groups_of groups.now)) }
 {
-    let mut size = HEADER_LEN + 1;
+    let mut size = EMPTY_FILE_LEN;
     for (k, group) in groups.iter().enumerate() {
         let Some(len) = payload_size::<R, &[Vec<R>]>(&group.as_slice(), PAYLOAD_LIMIT) else {
             return Err(ImageFault::TooLarge(k));
@@ -54,14 +56,31 @@ fn image_len<R: Record>(groups: &[Vec<Vec<R>>]) -> Result<usize, ImageFault>
     Ok(size)
 }
 
+/// The header of a file of this format, whose records have this width in bytes.
+fn header_bytes(format: Format, width: u16) -> [u8; HEADER_LEN]
+    ensures { result ≡ header (record { format = format; width = width }) }
+{
+    let mut bytes = [OPEN_GATE; HEADER_LEN];
+    bytes[1..8].copy_from_slice(MAGIC);
+    bytes[8] = format.version();
+    bytes[9..].copy_from_slice(&width.to_le_bytes());
+    bytes
+}
+
+/// An empty file of this format, whose records have this width in bytes: its header, and a closed gate.
+pub fn empty_file(format: Format, width: u16) -> [u8; EMPTY_FILE_LEN]
+    ensures { result ≡ header (record { format = format; width = width }) ++ closed_gate ∷ [] }
+{
+    let mut bytes = [CLOSED_GATE; EMPTY_FILE_LEN];
+    bytes[..HEADER_LEN].copy_from_slice(&header_bytes(format, width));
+    bytes
+}
+
 /// Appends the header of a file of this format, of records of this type.
 pub fn append_header<R: Record>(format: Format, file: &mut Vec<u8>) -> Result<(), AllocError>
     ensures { OnOk result (file.new.items ≡ file.old.items ++ header (shape_of format R.form)) }
 {
-    file.push(OPEN_GATE)?;
-    file.extend_from_slice(MAGIC)?;
-    file.push(format.version())?;
-    file.extend_from_slice(&(width_of::<R>() as u16).to_le_bytes())
+    file.extend_from_slice(&header_bytes(format, width_of::<R>() as u16))
 }
 
 /// Appends the closed gate behind the last frame.

@@ -10,13 +10,13 @@ ghost use Rattle.segment_core.specs.Scanned.{IsScanOf};
 ghost use Rattle.segment_core.specs.Scanner.{len_told, GoesOn, HasEnded, IsOn, IsRefusedFor, IsFedAt, IsFed, IsLost, IsDecided, IsCutShort, CanHold};
 
 use crate::fault::{Cause, ScanFault};
-use crate::format::{FRAME_HEAD_LEN, Format, GROWTH_HEAD_LEN, HEADER_LEN, MAGIC, OPEN_GATE, Shape};
+use crate::format::{FRAME_HEAD_LEN, Format, HEADER_LEN, MAGIC, OPEN_GATE, Shape};
 use crate::found::Homes;
 use crate::frame::damaged;
 use crate::frame::payload::u32_at;
 use crate::vector::Scanned;
 use crate::walk::{Tail, Walk};
-use record_core::{RECORD_LIMIT, Record, width_of};
+use record_core::{GROWTH_HEAD_LEN, RECORD_LIMIT, Record, width_of};
 use std::alloc::Global;
 
 /// How far an image has been read.

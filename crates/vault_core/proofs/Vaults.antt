@@ -8,7 +8,7 @@ use Rattle.pen_core.specs.Pen.{vector_after}
 use Rattle.pen_core.specs.Typed.{OpensTo}
 use Rattle.block_core.specs.Growth.{Growth}
 use Rattle.directory_core.specs.Chain.{joined, total}
-use Rattle.directory_core.specs.Limits.{record_limit}
+use Rattle.record_core.specs.Limits.{record_limit}
 use Rattle.book_core.specs.Lists.{Phase, opening_of, joined_pieces}
 use Rattle.book_core.proofs.Owns.{length-list}
 use Rattle.flush_core.specs.Flusher.{FlusherOf, IsFlusherOf, FlusherLearns, list_to, tally_with, read_as}

@@ -2,7 +2,7 @@
 use Rattle.std.specs.Prelude.{◌≡◌, ℕ, zero, suc, ◌+◌, ◌<◌, ◌≤◌, ◌⊎◌, max, List, [], ◌++◌, length, map, take, get_or, slice_get, All, Option, Some, None, IfSome, false}
 use Rattle.std.specs.Global.{Vec}
 use Rattle.record_core.specs.Bytes.{Encoding}
-use Rattle.record_core.specs.Limits.{payload_limit}
+use Rattle.record_core.specs.Limits.{payload_limit, record_limit}
 use Rattle.disk_core.specs.State.{State, IsImage, now}
 use Rattle.disk_core.specs.Moments.{LeavesOnly}
 use Rattle.pen_core.specs.Typed.{OpensTo}
@@ -11,7 +11,6 @@ use Rattle.block_core.specs.Length.{payload_len}
 use Rattle.block_core.specs.declared.fault.FreshFault.{FreshFault}
 use Rattle.block_core.specs.declared.fault.FreshFault.TheVariants as fresh
 use Rattle.directory_core.specs.Chain.{joined, IsChained}
-use Rattle.directory_core.specs.Limits.{record_limit}
 use Rattle.book_core.specs.declared.fault.GrowFault.{GrowFault}
 use Rattle.book_core.specs.declared.fault.GrowFault.TheVariants.{Closed, Full, TooLong, Strayed, Memory, Empty, TooLarge}
 use Rattle.book_core.specs.declared.seat.Receipt.{Receipt}

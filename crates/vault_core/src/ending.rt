@@ -5,7 +5,7 @@ ghost use Rattle.std.specs.List.{AllWithin};
 ghost use Rattle.disk_core.specs.State.{now, IsImage};
 ghost use Rattle.pen_core.specs.Typed.{OpensTo};
 ghost use Rattle.directory_core.specs.Chain.{joined, total, IsPrefix, IsChained};
-ghost use Rattle.directory_core.specs.Limits.{record_limit};
+ghost use Rattle.record_core.specs.Limits.{record_limit};
 ghost use Rattle.book_core.specs.Lists.{records_of, joined_pieces, opening_of, StandInList};
 ghost use Rattle.flush_core.specs.Flusher.{IsFlusherOf, FlusherLearns};
 ghost use Rattle.vault_core.specs.Vault.{list_of};

@@ -18,13 +18,10 @@ use crate::fault::VaultFault;
 use crate::vault::Vault;
 use disk_core::Disk;
 use pen_core::{OpenFault, Pen, PenFault};
-use record_core::{Record, width_of};
+use record_core::{GROWTH_HEAD_LEN, Record, width_of};
 use segment_core::Format;
 use std::alloc::Global;
 use thiserror::Error;
-
-/// The bytes that stand in a frame's payload before the records of its one growth.
-const ONE_GROWTH_LEN: u64 = 8;
 
 /// Why a file wasn't upgraded, in the order in which it is tested.
 #[derive(Clone, Copy, Debug, PartialEq, Eq, Error)]
@@ -44,7 +41,7 @@ pub enum UpgradeFault {
 pub fn greatest_piece<R: Record>() -> u64
     ensures { (piece : ℕ) → (piece ≤ result) ↔ (8 + piece * R.form.width ≤ limit_of Two) }
 {
-    (Format::Two.payload_limit() as u64 - ONE_GROWTH_LEN) / width_of::<R>() as u64
+    (Format::Two.payload_limit() - GROWTH_HEAD_LEN) as u64 / width_of::<R>() as u64
 }
 
 /// Commits the records as growths of `piece` records each, the last one maybe shorter, on a pen over an empty file.

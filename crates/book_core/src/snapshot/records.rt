@@ -3,7 +3,7 @@
 ghost use Rattle.std.specs.Prelude.{◌≡◌, ◌≤◌, map, length, Some, IfSome};
 ghost use Rattle.std.specs.Iterator.{UpTo, YieldsFirstRef, at_most, item_count};
 ghost use Rattle.std.specs.Iterator.SizeHint.{IsWithinCount};
-ghost use Rattle.directory_core.specs.Limits.{record_limit};
+ghost use Rattle.record_core.specs.Limits.{record_limit};
 ghost use Rattle.book_core.specs.Lists.{joined_pieces};
 ghost use Rattle.book_core.specs.Snapshots.{AreFull};
 
@@ -24,7 +24,7 @@ pub struct Records<'s, 'a, R: Record> {
 impl<'s, 'a, R: Record> Model for Records<'s, 'a, R> {
     ghost use Rattle.std.specs.Prelude.{◌≡◌, ◌≤◌, ◌+◌, List, ◌++◌, length, map};
     ghost use Rattle.std.specs.Slice.Iter.{iter_rest};
-    ghost use Rattle.directory_core.specs.Limits.{record_limit};
+    ghost use Rattle.record_core.specs.Limits.{record_limit};
     ghost use Rattle.book_core.specs.Lists.{joined_pieces};
     ghost use Rattle.book_core.specs.Snapshots.{AreFull};
 

@@ -1,7 +1,7 @@
 //! Slices of records one behind another, each found by position.
 
 ghost use Rattle.std.specs.Prelude.{◌≡◌, ◌+◌, ◌<◌, ◌≤◌, [], ◌∷◌, ◌++◌, length, map, slice_get, Some, MatchOption, IfOk, IfSome, OnOk};
-ghost use Rattle.directory_core.specs.Limits.{record_limit};
+ghost use Rattle.record_core.specs.Limits.{record_limit};
 ghost use Rattle.directory_core.specs.Finding.{IsPieceAt};
 ghost use Rattle.book_core.specs.Lists.{records_of, joined_pieces, IsPlaceIn, IsRestOfPiece};
 ghost use Rattle.book_core.specs.Snapshots.{HasRoomFor, AreFull, IsStepWith, full_of};

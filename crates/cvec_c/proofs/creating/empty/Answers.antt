@@ -6,7 +6,7 @@ use Rattle.cvec_c.proofs.Creates.{creates}
 use Rattle.cvec_c.proofs.creating.empty.Goals as goal
 
 pub copy_from_slice-requires : goal.copy_from_slice-requires
-copy_from_slice-requires g c = length-take-le 12 c.args.out.now c.if-out-lt-EMPTY_LEN.false ∙ sym (ap length c.empty_file.ensures)
+copy_from_slice-requires g c = length-take-le 12 c.args.out.now c.if-out-lt-EMPTY_FILE_LEN.false ∙ sym (ap length c.empty_file.ensures)
 
 pub returns-clause-done : goal.returns-clause-done
 returns-clause-done g c = λ _. (

@@ -46,4 +46,7 @@ pub push_reserved-requires-2 : goal.push_reserved-requires-2
 push_reserved-requires-2 c = omega (arith, c.loop-k.invariant.swept.fewer, c.loop-k.invariant.room, c.loop-k.invariant.most)
 
 pub returns : goal.returns
-returns c = rw c.push_reserved-2.ensures.items (swept-all c.args.runs.now c.loop-k.k c.loop-k.start c.loop-k.end c.loop-k.cover.items (omega arith) c.loop-k.invariant.swept)
+returns c =
+    rw c.push_reserved-2.ensures.items
+      (swept-all c.args.runs.now c.loop-k.k c.loop-k.start c.loop-k.end c.loop-k.cover.items (omega arith)
+          c.loop-k.invariant.swept)

@@ -23,14 +23,16 @@ pub returns-in-Ok-write_synced-clause-born : goal.returns-in-Ok-write_synced-cla
 returns-in-Ok-write_synced-clause-born g c = λ model none shape.
     let old = g.D.Disk.states c.args.disk.now in
     let m = c.write_synced.ensures.model model in
-    born_first shape old (g.D.Disk.states c.look.new.disk) (g.D.Disk.states c.write_synced.new.disk) (bytes_of old) (c.requires.settled (c.look.ensures.model m)) (c.look.ensures.same m) none
+    born_first shape old (g.D.Disk.states c.look.new.disk) (g.D.Disk.states c.write_synced.new.disk) (bytes_of old)
+    (c.requires.settled (c.look.ensures.model m)) (c.look.ensures.same m) none
     (subst (AreContents (bytes_of old)) c.in-Blank.is (c.in-Ok.ensures.found m)) (c.look.ensures.images m) (c.write_synced.ensures.images model)
 
 pub returns-in-Err-write_synced-clause-born : goal.returns-in-Err-write_synced-clause-born
 returns-in-Err-write_synced-clause-born g c = λ model none shape.
     let old = g.D.Disk.states c.args.disk.now in
     let m = c.write_synced.ensures.model model in
-    born_first shape old (g.D.Disk.states c.look.new.disk) (g.D.Disk.states c.write_synced.new.disk) (bytes_of old) (c.requires.settled (c.look.ensures.model m)) (c.look.ensures.same m) none
+    born_first shape old (g.D.Disk.states c.look.new.disk) (g.D.Disk.states c.write_synced.new.disk) (bytes_of old)
+    (c.requires.settled (c.look.ensures.model m)) (c.look.ensures.same m) none
     (subst (AreContents (bytes_of old)) c.in-Blank.is (c.in-Ok.ensures.found m)) (c.look.ensures.images m) (c.write_synced.ensures.images model)
 
 pub returns-in-File-clause-calls : goal.returns-in-File-clause-calls
@@ -67,4 +69,5 @@ returns-in-Err-write_synced-clause-calls g c = λ model.
     let ends = c.in-Err-write_synced.ensures.calls in
     let some : 0 < clock new - clock mid = ends.0 in
     subst (λ cs. EndsAt cs c.in-Err-write_synced.fault (clock new - clock old)) (sym (first_blank (bytes_of old) short))
-    (ends_behind (Length ∷ []) write_calls (clock new - clock mid) (clock new - clock old) c.in-Err-write_synced.fault (omega (arith, one, some, c.look.ensures.later)) ends)
+    (ends_behind (Length ∷ []) write_calls (clock new - clock mid) (clock new - clock old) c.in-Err-write_synced.fault
+      (omega (arith, one, some, c.look.ensures.later)) ends)

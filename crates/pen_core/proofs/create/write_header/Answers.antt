@@ -15,7 +15,9 @@ returns-in_err-write_synced-clause-born g c = λ model.
     let old = g.D.Disk.states c.args.disk.now in
     let mid = g.D.Disk.states c.write_synced.new.disk in
     born_header c.args.shape old mid (c.requires.clear (c.write_synced.ensures.model model))
-    (subst (λ bs. LeavesOnly old mid (IsImage (touched (now old) 1 (length (take (length bs - 1) (drop 1 bs))) (bytes_of old)))) c.requires.spelled (c.write_synced.ensures.images model))
+    (subst
+      (λ bs. LeavesOnly old mid (IsImage (touched (now old) 1 (length (take (length bs - 1) (drop 1 bs))) (bytes_of old))))
+      c.requires.spelled (c.write_synced.ensures.images model))
 
 pub returns-clause-born : goal.returns-clause-born
 returns-clause-born g c = λ model.
@@ -23,7 +25,9 @@ returns-clause-born g c = λ model.
     let mid = g.D.Disk.states c.write_synced.new.disk in
     let m = c.write_synced-2.ensures.model model in
     born_opened c.args.shape old mid (g.D.Disk.states c.write_synced-2.new.disk) (c.requires.clear (c.write_synced.ensures.model m))
-    (subst (λ bs. LeavesOnly old mid (IsImage (touched (now old) 1 (length (take (length bs - 1) (drop 1 bs))) (bytes_of old)))) c.requires.spelled (c.write_synced.ensures.images m))
+    (subst
+      (λ bs. LeavesOnly old mid (IsImage (touched (now old) 1 (length (take (length bs - 1) (drop 1 bs))) (bytes_of old))))
+      c.requires.spelled (c.write_synced.ensures.images m))
     (subst (λ bs. now mid ≡ settled (overlay (bytes_of old) 1 (take (length bs - 1) (drop 1 bs)))) c.requires.spelled (c.in_ok-write_synced.ensures.done m))
     (c.write_synced-2.ensures.images model)
 
@@ -47,5 +51,9 @@ returns-clause-done g c = λ model.
     let old = g.D.Disk.states c.args.disk.now in
     let mid = g.D.Disk.states c.write_synced.new.disk in
     let m = c.write_synced-2.ensures.model model in
-    let first = subst (λ bs. now mid ≡ settled (overlay (bytes_of old) 1 (take (length bs - 1) (drop 1 bs)))) c.requires.spelled (c.in_ok-write_synced.ensures.done m) in
-    on_ok_weaker c.write_synced-2.result (λ done. done ∙ opened_file c.args.shape old mid (c.requires.clear (c.write_synced.ensures.model m)) first) (c.write_synced-2.ensures.done model)
+    let first =
+        subst (λ bs. now mid ≡ settled (overlay (bytes_of old) 1 (take (length bs - 1) (drop 1 bs)))) c.requires.spelled
+          (c.in_ok-write_synced.ensures.done m) in
+    on_ok_weaker c.write_synced-2.result
+        (λ done. done ∙ opened_file c.args.shape old mid (c.requires.clear (c.write_synced.ensures.model m)) first)
+        (c.write_synced-2.ensures.done model)

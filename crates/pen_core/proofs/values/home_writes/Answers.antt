@@ -14,7 +14,8 @@ blank = record { position = 0; place = 0; count = 0 }
 
 -- the next run begins behind those before it, and ends inside
 next_run : (end all : ℕ) (runs : List Home) (k : ℕ) → k < length runs → AreAscending end all (drop k runs)
-    → (end ≤ (get_or runs k blank).position) × ((get_or runs k blank).position + (get_or runs k blank).count ≤ all) × AreAscending ((get_or runs k blank).position + (get_or runs k blank).count) all (drop (k + 1) runs)
+    → (end ≤ (get_or runs k blank).position) × ((get_or runs k blank).position + (get_or runs k blank).count ≤ all)
+    × AreAscending ((get_or runs k blank).position + (get_or runs k blank).count) all (drop (k + 1) runs)
 next_run end all runs k lt ascend =
     let here = subst (AreAscending end all) (drop_more runs k blank lt) ascend in
     (here.0, ascending-inside ((get_or runs k blank).position + (get_or runs k blank).count) all (drop (k + 1) runs) here.1, here.1)
@@ -82,12 +83,24 @@ loop-k-preserved g c =
       left = next.2;
       so_far = writes_more form records runs k blank c.loop-k.bytes.items c.loop-k.writes.items c.loop-k-test.true l.so_far l.within;
       within = within_more c.loop-k.bytes.items (bytes_at form records run.position run.count) c.loop-k.writes.items run.place l.within;
-      many = omega (arith, l.many, length-append c.loop-k.writes.items (record { place = run.place; from = length c.loop-k.bytes.items; to = length (c.loop-k.bytes.items ++ bytes_at form records run.position run.count) } ∷ []));
+      many =
+          omega
+            (arith, l.many,
+                length-append c.loop-k.writes.items
+                    (record
+                          {
+                            place = run.place;
+                            from = length c.loop-k.bytes.items;
+                            to = length (c.loop-k.bytes.items ++ bytes_at form records run.position run.count);
+                          } ∷ []));
       room = omega (arith, l.room, c.push_reserved.ensures.capacity);
     }
 
 pub returns-clause-writes : goal.returns-clause-writes
-returns-clause-writes g c = c.loop-k.invariant.so_far ∙ ap (writes_for g.R.Record.form (joined (g.G.GrowthList.growths c.args.pieces.now))) (take_all c.loop-k.k c.args.runs.now c.loop-k-test.false)
+returns-clause-writes g c =
+    c.loop-k.invariant.so_far
+      ∙ ap (writes_for g.R.Record.form (joined (g.G.GrowthList.growths c.args.pieces.now)))
+        (take_all c.loop-k.k c.args.runs.now c.loop-k-test.false)
 
 pub returns-clause-inside : goal.returns-clause-inside
 returns-clause-inside g c = c.loop-k.invariant.within

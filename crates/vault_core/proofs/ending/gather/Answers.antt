@@ -2,7 +2,7 @@ use Rattle.std.proofs.Common.{◌≡◌, ℕ, ◌+◌, ◌≤◌, List, ◌++◌
 use Rattle.disk_core.specs.State.{now, IsImage}
 use Rattle.pen_core.specs.PenOf.{PenOf}
 use Rattle.directory_core.specs.Chain.{IsPrefix, joined, total}
-use Rattle.directory_core.specs.Limits.{record_limit}
+use Rattle.record_core.specs.Limits.{record_limit}
 use Rattle.book_core.specs.Lists.{Seated, StandInList, records_of, joined_pieces, opening_of}
 use Rattle.flush_core.specs.Flusher.{FlusherOf, FlusherLearns, read_as}
 use Rattle.vault_core.specs.Vault.{VaultOf}

@@ -14,6 +14,7 @@ use Rattle.pen_core.proofs.KeptPen.{kept_folding, kept_unchanged}
 use Rattle.pen_core.proofs.FoldListed.{some_live, small_live, live_inside, inside_cover}
 use Rattle.pen_core.proofs.HomesTo.{AreHomesTo-pen}
 use Rattle.pen_core.proofs.Taken.{plan_for, taken, some_left, whole_taken, length_left}
+use Rattle.pen_core.proofs.AtRest.{sound}
 use Rattle.pen_core.proofs.pen.Pen.begin_fold_from.Goals as goal
 
 on_ok : {A E P : Type 0} (r : Result A E) → is_err r ≡ false → OnOk r P → P
@@ -23,62 +24,109 @@ on_ok (Err error) is p = absurd cc
 pub slice_bounds-live-end : goal.slice_bounds-live-end
 slice_bounds-live-end g c =
     let s = c.self.inside in
-    let inside = live_inside (g.D.Disk.keeps s.disk) (g.D.Disk.states s.disk) s.shape s.gate s.tally s.bytes.items s.step s.homes s.live c.self.invariant.1 in
+    let inside =
+        live_inside (g.D.Disk.keeps s.disk) (g.D.Disk.states s.disk) s.shape s.gate s.tally s.bytes.items s.step s.homes
+          s.live c.self.invariant.lists in
     sym (length-take-le s.live c.deref.result.now (omega (arith, inside, ap length c.deref.ensures.value)))
 
 pub plan-requires-clause-some : goal.plan-requires-clause-some
 plan-requires-clause-some g c κs within =
     let s = c.self.inside in
-    subst (λ runs. All (λ run. 0 < run.1) (take s.live runs)) (sym c.deref.ensures.value) (some_live (g.D.Disk.keeps s.disk) (g.D.Disk.states s.disk) s.shape s.gate s.tally s.bytes.items s.step s.homes s.live c.self.invariant.1)
+    subst (λ runs. All (λ run. 0 < run.1) (take s.live runs)) (sym c.deref.ensures.value)
+        (some_live (g.D.Disk.keeps s.disk) (g.D.Disk.states s.disk) s.shape s.gate s.tally s.bytes.items s.step s.homes
+            s.live c.self.invariant.lists)
 
 pub plan-requires-clause-small : goal.plan-requires-clause-small
 plan-requires-clause-small g c κs within =
     let s = c.self.inside in
-    subst (λ runs. All (λ run. run.0 + run.1 ≤ 2 ^ 32) (take s.live runs)) (sym c.deref.ensures.value) (small_live (g.D.Disk.keeps s.disk) (g.D.Disk.states s.disk) s.shape s.gate s.tally s.bytes.items s.step s.homes s.live c.self.invariant.1)
+    subst (λ runs. All (λ run. run.0 + run.1 ≤ 2 ^ 32) (take s.live runs)) (sym c.deref.ensures.value)
+        (small_live (g.D.Disk.keeps s.disk) (g.D.Disk.states s.disk) s.shape s.gate s.tally s.bytes.items s.step s.homes
+            s.live c.self.invariant.lists)
 
 pub plan-requires-clause-inside : goal.plan-requires-clause-inside
 plan-requires-clause-inside g c κs within =
     let s = c.self.inside in
-    λ cover is. inside_cover (g.D.Disk.keeps s.disk) (g.D.Disk.states s.disk) s.shape s.gate s.tally s.bytes.items s.step s.homes s.live c.self.invariant.1 cover (subst (λ runs. IsCover (take s.live runs) cover) c.deref.ensures.value is)
+    λ cover is.
+        inside_cover (g.D.Disk.keeps s.disk) (g.D.Disk.states s.disk) s.shape s.gate s.tally s.bytes.items s.step s.homes
+          s.live c.self.invariant.lists cover (subst (λ runs. IsCover (take s.live runs) cover) c.deref.ensures.value is)
 
 pub plan-requires-clause-homes : goal.plan-requires-clause-homes
 plan-requires-clause-homes g c κs within =
     let s = c.self.inside in
-    let ready = subst (λ v. IsReadyToFold v true) (sym c.self.view_is) (subst (IsReadyToFold c.args.self.now) c.if-not-branch.false c.in_ok-ready_fold.ensures.ready) in
+    let ready =
+        subst (λ v. IsReadyToFold v true) (sym c.self.view_is)
+          (subst (IsReadyToFold c.args.self.now) c.if-not-branch.false c.in_ok-ready_fold.ensures.ready) in
     subst (AreHomesTo s.shape.width s.tally.size) (sym c.deref-2.ensures.value)
-    (AreHomesTo-pen (g.D.Disk.keeps s.disk) (g.D.Disk.states s.disk) s.shape s.gate s.tally s.next s.bytes.items s.step s.homes s.live (omega (arith, ready.3)) c.self.invariant.0.job c.self.invariant.1)
+    (AreHomesTo-pen (g.D.Disk.keeps s.disk) (g.D.Disk.states s.disk) s.shape s.gate s.tally s.next s.bytes.items s.step
+      s.homes s.live (omega (arith, ready.3)) c.self.invariant.job.job c.self.invariant.lists)
 
 -- ---- where memory is refused
 
 pub invariant_of-self : goal.invariant_of-self
 invariant_of-self g c =
     let s = c.self.inside in
-    let none = (subst (λ v. IsReadyToFold v true) (sym c.self.view_is) (subst (IsReadyToFold c.args.self.now) c.if-not-branch.false c.in_ok-ready_fold.ensures.ready)).1 in
-    unfolded_rest s.fold c.plan.new.self none c.plan.ensures.same.0 (g.D.Disk.keeps s.disk) (g.D.Disk.states s.disk) s.shape s.gate s.tally s.next s.bytes.items s.step s.broken s.homes s.live c.self.invariant.0 c.self.invariant.1
+    let none =
+        (subst (λ v. IsReadyToFold v true) (sym c.self.view_is)
+            (subst (IsReadyToFold c.args.self.now) c.if-not-branch.false c.in_ok-ready_fold.ensures.ready)).1 in
+    sound
+        (unfolded_rest s.fold c.plan.new.self none c.plan.ensures.same.0 (g.D.Disk.keeps s.disk) (g.D.Disk.states s.disk)
+            s.shape s.gate s.tally s.next s.bytes.items s.step s.broken s.homes s.live c.self.invariant.job
+            c.self.invariant.lists)
 
 pub returns-then-is_err-clause-unchanged : goal.returns-then-is_err-clause-unchanged
 returns-then-is_err-clause-unchanged g c = rw (← c.self.view_is) (
     let s = c.self.inside in
-    let none = (subst (λ v. IsReadyToFold v true) (sym c.self.view_is) (subst (IsReadyToFold c.args.self.now) c.if-not-branch.false c.in_ok-ready_fold.ensures.ready)).1 in
-    record { disk_same = refl; file_same = record { frames_same = refl; vector_same = refl }; job_same = refl; broken_same = refl; shape_same = refl; fold_same = unfolded_seen s.fold c.plan.new.self none c.plan.ensures.same.0; tally_same = refl; gate_same = refl })
+    let none =
+        (subst (λ v. IsReadyToFold v true) (sym c.self.view_is)
+            (subst (IsReadyToFold c.args.self.now) c.if-not-branch.false c.in_ok-ready_fold.ensures.ready)).1 in
+    record {
+      disk_same = refl;
+      file_same = record { frames_same = refl; vector_same = refl };
+      job_same = refl;
+      broken_same = refl;
+      shape_same = refl;
+      fold_same = unfolded_seen s.fold c.plan.new.self none c.plan.ensures.same.0;
+      tally_same = refl;
+      gate_same = refl;
+    })
 
 pub returns-then-is_err-clause-kept : goal.returns-then-is_err-clause-kept
-returns-then-is_err-clause-kept g c = kept_unchanged g.D.Disk.keeps g.D.Disk.states c.args.self.now _ c.ready_fold.ensures.kept (returns-then-is_err-clause-unchanged g c)
+returns-then-is_err-clause-kept g c =
+    kept_unchanged g.D.Disk.keeps g.D.Disk.states c.args.self.now _ c.ready_fold.ensures.kept
+      (returns-then-is_err-clause-unchanged g c)
 
 pub invariant_of-self-then-is_err-2 : goal.invariant_of-self-then-is_err-2
 invariant_of-self-then-is_err-2 g c =
     let s = c.self.inside in
-    let none = (subst (λ v. IsReadyToFold v true) (sym c.self.view_is) (subst (IsReadyToFold c.args.self.now) c.if-not-branch.false c.in_ok-ready_fold.ensures.ready)).1 in
-    unfolded_rest s.fold (record c.plan.new.self { frame = c.put_fold.new.bytes }) none c.plan.ensures.same.0 (g.D.Disk.keeps s.disk) (g.D.Disk.states s.disk) s.shape s.gate s.tally s.next s.bytes.items s.step s.broken s.homes s.live c.self.invariant.0 c.self.invariant.1
+    let none =
+        (subst (λ v. IsReadyToFold v true) (sym c.self.view_is)
+            (subst (IsReadyToFold c.args.self.now) c.if-not-branch.false c.in_ok-ready_fold.ensures.ready)).1 in
+    sound
+        (unfolded_rest s.fold (record c.plan.new.self { frame = c.put_fold.new.bytes }) none c.plan.ensures.same.0
+            (g.D.Disk.keeps s.disk) (g.D.Disk.states s.disk) s.shape s.gate s.tally s.next s.bytes.items s.step s.broken
+            s.homes s.live c.self.invariant.job c.self.invariant.lists)
 
 pub returns-then-is_err-2-clause-unchanged : goal.returns-then-is_err-2-clause-unchanged
 returns-then-is_err-2-clause-unchanged g c = rw (← c.self.view_is) (
     let s = c.self.inside in
-    let none = (subst (λ v. IsReadyToFold v true) (sym c.self.view_is) (subst (IsReadyToFold c.args.self.now) c.if-not-branch.false c.in_ok-ready_fold.ensures.ready)).1 in
-    record { disk_same = refl; file_same = record { frames_same = refl; vector_same = refl }; job_same = refl; broken_same = refl; shape_same = refl; fold_same = unfolded_seen s.fold (record c.plan.new.self { frame = c.put_fold.new.bytes }) none c.plan.ensures.same.0; tally_same = refl; gate_same = refl })
+    let none =
+        (subst (λ v. IsReadyToFold v true) (sym c.self.view_is)
+            (subst (IsReadyToFold c.args.self.now) c.if-not-branch.false c.in_ok-ready_fold.ensures.ready)).1 in
+    record {
+      disk_same = refl;
+      file_same = record { frames_same = refl; vector_same = refl };
+      job_same = refl;
+      broken_same = refl;
+      shape_same = refl;
+      fold_same = unfolded_seen s.fold (record c.plan.new.self { frame = c.put_fold.new.bytes }) none c.plan.ensures.same.0;
+      tally_same = refl;
+      gate_same = refl;
+    })
 
 pub returns-then-is_err-2-clause-kept : goal.returns-then-is_err-2-clause-kept
-returns-then-is_err-2-clause-kept g c = kept_unchanged g.D.Disk.keeps g.D.Disk.states c.args.self.now _ c.ready_fold.ensures.kept (returns-then-is_err-2-clause-unchanged g c)
+returns-then-is_err-2-clause-kept g c =
+    kept_unchanged g.D.Disk.keeps g.D.Disk.states c.args.self.now _ c.ready_fold.ensures.kept
+      (returns-then-is_err-2-clause-unchanged g c)
 
 -- ---- a fold is begun
 
@@ -88,18 +136,43 @@ invariant_of-self-2 g c =
     let form = g.R.Record.form in
     let laws = g.met.R.Record g.world.𝓛 g.world.𝓜 g.world.𝓡 ((λ s x. x), (λ x. x), (λ x. x), λ x. x) in
     let width : form.width ≡ s.shape.width = c.requires.width ∙ sym (ap (λ v. v.shape.width) c.self.view_is) in
-    let size : s.tally.size ≤ length (joined (g.G.GrowthList.growths c.args.pieces.now)) = subst (λ v. v.tally.size ≤ length (joined (g.G.GrowthList.growths c.args.pieces.now))) (sym c.self.view_is) c.requires.all in
+    let size : s.tally.size ≤ length (joined (g.G.GrowthList.growths c.args.pieces.now)) =
+        subst (λ v. v.tally.size ≤ length (joined (g.G.GrowthList.growths c.args.pieces.now))) (sym c.self.view_is)
+          c.requires.all in
     let records = take s.tally.size (joined (g.G.GrowthList.growths c.args.pieces.now)) in
-    let ready = subst (λ v. IsReadyToFold v true) (sym c.self.view_is) (subst (IsReadyToFold c.args.self.now) c.if-not-branch.false c.in_ok-ready_fold.ensures.ready) in
+    let ready =
+        subst (λ v. IsReadyToFold v true) (sym c.self.view_is)
+          (subst (IsReadyToFold c.args.self.now) c.if-not-branch.false c.in_ok-ready_fold.ensures.ready) in
     let made = sym c.is_err.ensures.value ∙ c.if-is_err.false in
     let done = on_ok c.plan.result made c.plan.ensures.from_first in
     let spelled = on_ok c.put_fold.result (sym c.is_err-2.ensures.value ∙ c.if-is_err-2.false) c.put_fold.ensures.text s.shape.format in
-    let values = subst (λ v. g.D.Disk.keeps v.disk → v.vector ≡ map form.bytes_of (take v.tally.size (joined (g.G.GrowthList.growths c.args.pieces.now)))) (sym c.self.view_is) c.requires.values in
-    let planned = subst (λ runs. IsPlan form records s.shape.width s.tally.size (take s.live runs) s.homes.homes.items c.plan.new.self) c.deref.ensures.value (subst (λ hs. IsPlan form records s.shape.width s.tally.size (take s.live c.deref.result.now) hs c.plan.new.self) c.deref-2.ensures.value (on_ok c.plan.result made c.plan.ensures.planned)) in
-    let begun : Fold = record { stage = Home c.len.result; count = s.tally.changes; runs = s.live; writes = c.plan.new.self.writes; done = c.plan.new.self.done; bytes = c.plan.new.self.bytes; frame = c.put_fold.new.bytes } in
-    taken form records (g.D.Disk.keeps s.disk) (g.D.Disk.states s.disk) s.shape s.gate s.tally s.next s.bytes.items s.step s.broken s.homes s.live s.fold begun c.self.invariant.0 c.self.invariant.1 ready
+    let values =
+        subst
+          (λ v. g.D.Disk.keeps v.disk
+              → v.vector ≡ map form.bytes_of (take v.tally.size (joined (g.G.GrowthList.growths c.args.pieces.now))))
+          (sym c.self.view_is) c.requires.values in
+    let planned =
+        subst (λ runs. IsPlan form records s.shape.width s.tally.size (take s.live runs) s.homes.homes.items c.plan.new.self)
+          c.deref.ensures.value
+          (subst (λ hs. IsPlan form records s.shape.width s.tally.size (take s.live c.deref.result.now) hs c.plan.new.self)
+              c.deref-2.ensures.value (on_ok c.plan.result made c.plan.ensures.planned)) in
+    let begun : Fold =
+        record {
+          stage = Home c.len.result;
+          count = s.tally.changes;
+          runs = s.live;
+          writes = c.plan.new.self.writes;
+          done = c.plan.new.self.done;
+          bytes = c.plan.new.self.bytes;
+          frame = c.put_fold.new.bytes;
+        } in
+    sound
+    (taken form records (g.D.Disk.keeps s.disk) (g.D.Disk.states s.disk) s.shape s.gate s.tally s.next s.bytes.items s.step
+      s.broken s.homes s.live s.fold begun c.self.invariant.job c.self.invariant.lists ready
     (plan_for form records s.shape.width s.tally.size (take s.live s.homes.live.items) s.homes.homes.items c.plan.new.self begun refl refl planned)
-    (λ r. laws.width_of_bytes r ∙ width) (length-take-le s.tally.size (joined (g.G.GrowthList.growths c.args.pieces.now)) size) values spelled (ap (λ n. Home n) (c.len.ensures ∙ c.plan.new.self.writes.ok.0)) refl refl done
+    (λ r. laws.width_of_bytes r ∙ width)
+      (length-take-le s.tally.size (joined (g.G.GrowthList.growths c.args.pieces.now)) size) values spelled
+      (ap (λ n. Home n) (c.len.ensures ∙ c.plan.new.self.writes.ok.0)) refl refl done)
 
 pub returns-clause-begun : goal.returns-clause-begun
 returns-clause-begun g c = rw (← c.self.view_is) (
@@ -107,22 +180,49 @@ returns-clause-begun g c = rw (← c.self.view_is) (
     let form = g.R.Record.form in
     let laws = g.met.R.Record g.world.𝓛 g.world.𝓜 g.world.𝓡 ((λ s x. x), (λ x. x), (λ x. x), λ x. x) in
     let width : form.width ≡ s.shape.width = c.requires.width ∙ sym (ap (λ v. v.shape.width) c.self.view_is) in
-    let size : s.tally.size ≤ length (joined (g.G.GrowthList.growths c.args.pieces.now)) = subst (λ v. v.tally.size ≤ length (joined (g.G.GrowthList.growths c.args.pieces.now))) (sym c.self.view_is) c.requires.all in
+    let size : s.tally.size ≤ length (joined (g.G.GrowthList.growths c.args.pieces.now)) =
+        subst (λ v. v.tally.size ≤ length (joined (g.G.GrowthList.growths c.args.pieces.now))) (sym c.self.view_is)
+          c.requires.all in
     let records = take s.tally.size (joined (g.G.GrowthList.growths c.args.pieces.now)) in
-    let ready = subst (λ v. IsReadyToFold v true) (sym c.self.view_is) (subst (IsReadyToFold c.args.self.now) c.if-not-branch.false c.in_ok-ready_fold.ensures.ready) in
+    let ready =
+        subst (λ v. IsReadyToFold v true) (sym c.self.view_is)
+          (subst (IsReadyToFold c.args.self.now) c.if-not-branch.false c.in_ok-ready_fold.ensures.ready) in
     let made = sym c.is_err.ensures.value ∙ c.if-is_err.false in
     let done = on_ok c.plan.result made c.plan.ensures.from_first in
     let spelled = on_ok c.put_fold.result (sym c.is_err-2.ensures.value ∙ c.if-is_err-2.false) c.put_fold.ensures.text s.shape.format in
-    let values = subst (λ v. g.D.Disk.keeps v.disk → v.vector ≡ map form.bytes_of (take v.tally.size (joined (g.G.GrowthList.growths c.args.pieces.now)))) (sym c.self.view_is) c.requires.values in
-    let planned = subst (λ runs. IsPlan form records s.shape.width s.tally.size (take s.live runs) s.homes.homes.items c.plan.new.self) c.deref.ensures.value (subst (λ hs. IsPlan form records s.shape.width s.tally.size (take s.live c.deref.result.now) hs c.plan.new.self) c.deref-2.ensures.value (on_ok c.plan.result made c.plan.ensures.planned)) in
-    let begun : Fold = record { stage = Home c.len.result; count = s.tally.changes; runs = s.live; writes = c.plan.new.self.writes; done = c.plan.new.self.done; bytes = c.plan.new.self.bytes; frame = c.put_fold.new.bytes } in
+    let values =
+        subst
+          (λ v. g.D.Disk.keeps v.disk
+              → v.vector ≡ map form.bytes_of (take v.tally.size (joined (g.G.GrowthList.growths c.args.pieces.now))))
+          (sym c.self.view_is) c.requires.values in
+    let planned =
+        subst (λ runs. IsPlan form records s.shape.width s.tally.size (take s.live runs) s.homes.homes.items c.plan.new.self)
+          c.deref.ensures.value
+          (subst (λ hs. IsPlan form records s.shape.width s.tally.size (take s.live c.deref.result.now) hs c.plan.new.self)
+              c.deref-2.ensures.value (on_ok c.plan.result made c.plan.ensures.planned)) in
+    let begun : Fold =
+        record {
+          stage = Home c.len.result;
+          count = s.tally.changes;
+          runs = s.live;
+          writes = c.plan.new.self.writes;
+          done = c.plan.new.self.done;
+          bytes = c.plan.new.self.bytes;
+          frame = c.put_fold.new.bytes;
+        } in
     record {
       ready = ready;
       left = left_of begun;
-      some = some_left form records (g.D.Disk.keeps s.disk) (g.D.Disk.states s.disk) s.shape s.gate s.tally s.next s.bytes.items s.step s.broken s.homes s.live s.fold begun c.self.invariant.0 c.self.invariant.1 ready
+      some =
+          some_left form records (g.D.Disk.keeps s.disk) (g.D.Disk.states s.disk) s.shape s.gate s.tally s.next s.bytes.items
+            s.step s.broken s.homes s.live s.fold begun c.self.invariant.job c.self.invariant.lists ready
           (plan_for form records s.shape.width s.tally.size (take s.live s.homes.live.items) s.homes.homes.items c.plan.new.self begun refl refl planned)
-          (λ r. laws.width_of_bytes r ∙ width) (length-take-le s.tally.size (joined (g.G.GrowthList.growths c.args.pieces.now)) size) values spelled (ap (λ n. Home n) (c.len.ensures ∙ c.plan.new.self.writes.ok.0)) refl refl done;
-      fold_is = ap (λ n. Some (record { count = s.tally.changes; left = left_of begun; stage = Home n })) (c.len.ensures ∙ c.plan.new.self.writes.ok.0 ∙ sym (length_left begun done));
+          (λ r. laws.width_of_bytes r ∙ width)
+          (length-take-le s.tally.size (joined (g.G.GrowthList.growths c.args.pieces.now)) size) values spelled
+          (ap (λ n. Home n) (c.len.ensures ∙ c.plan.new.self.writes.ok.0)) refl refl done;
+      fold_is =
+          ap (λ n. Some (record { count = s.tally.changes; left = left_of begun; stage = Home n }))
+            (c.len.ensures ∙ c.plan.new.self.writes.ok.0 ∙ sym (length_left begun done));
       disk_same = refl;
       file_same = record { frames_same = refl; vector_same = refl };
       job_same = refl;
@@ -140,18 +240,42 @@ returns-clause-plans g c = rw (← c.self.view_is) (
     let form = g.R.Record.form in
     let laws = g.met.R.Record g.world.𝓛 g.world.𝓜 g.world.𝓡 ((λ s x. x), (λ x. x), (λ x. x), λ x. x) in
     let width : form.width ≡ s.shape.width = c.requires.width ∙ sym (ap (λ v. v.shape.width) c.self.view_is) in
-    let size : s.tally.size ≤ length (joined (g.G.GrowthList.growths c.args.pieces.now)) = subst (λ v. v.tally.size ≤ length (joined (g.G.GrowthList.growths c.args.pieces.now))) (sym c.self.view_is) c.requires.all in
+    let size : s.tally.size ≤ length (joined (g.G.GrowthList.growths c.args.pieces.now)) =
+        subst (λ v. v.tally.size ≤ length (joined (g.G.GrowthList.growths c.args.pieces.now))) (sym c.self.view_is)
+          c.requires.all in
     let records = take s.tally.size (joined (g.G.GrowthList.growths c.args.pieces.now)) in
-    let ready = subst (λ v. IsReadyToFold v true) (sym c.self.view_is) (subst (IsReadyToFold c.args.self.now) c.if-not-branch.false c.in_ok-ready_fold.ensures.ready) in
+    let ready =
+        subst (λ v. IsReadyToFold v true) (sym c.self.view_is)
+          (subst (IsReadyToFold c.args.self.now) c.if-not-branch.false c.in_ok-ready_fold.ensures.ready) in
     let made = sym c.is_err.ensures.value ∙ c.if-is_err.false in
     let done = on_ok c.plan.result made c.plan.ensures.from_first in
     let spelled = on_ok c.put_fold.result (sym c.is_err-2.ensures.value ∙ c.if-is_err-2.false) c.put_fold.ensures.text s.shape.format in
-    let values = subst (λ v. g.D.Disk.keeps v.disk → v.vector ≡ map form.bytes_of (take v.tally.size (joined (g.G.GrowthList.growths c.args.pieces.now)))) (sym c.self.view_is) c.requires.values in
-    let planned = subst (λ runs. IsPlan form records s.shape.width s.tally.size (take s.live runs) s.homes.homes.items c.plan.new.self) c.deref.ensures.value (subst (λ hs. IsPlan form records s.shape.width s.tally.size (take s.live c.deref.result.now) hs c.plan.new.self) c.deref-2.ensures.value (on_ok c.plan.result made c.plan.ensures.planned)) in
-    let begun : Fold = record { stage = Home c.len.result; count = s.tally.changes; runs = s.live; writes = c.plan.new.self.writes; done = c.plan.new.self.done; bytes = c.plan.new.self.bytes; frame = c.put_fold.new.bytes } in
-    whole_taken form records (g.D.Disk.keeps s.disk) (g.D.Disk.states s.disk) s.shape s.gate s.tally s.next s.bytes.items s.step s.broken s.homes s.live s.fold begun c.self.invariant.0 c.self.invariant.1 ready
+    let values =
+        subst
+          (λ v. g.D.Disk.keeps v.disk
+              → v.vector ≡ map form.bytes_of (take v.tally.size (joined (g.G.GrowthList.growths c.args.pieces.now))))
+          (sym c.self.view_is) c.requires.values in
+    let planned =
+        subst (λ runs. IsPlan form records s.shape.width s.tally.size (take s.live runs) s.homes.homes.items c.plan.new.self)
+          c.deref.ensures.value
+          (subst (λ hs. IsPlan form records s.shape.width s.tally.size (take s.live c.deref.result.now) hs c.plan.new.self)
+              c.deref-2.ensures.value (on_ok c.plan.result made c.plan.ensures.planned)) in
+    let begun : Fold =
+        record {
+          stage = Home c.len.result;
+          count = s.tally.changes;
+          runs = s.live;
+          writes = c.plan.new.self.writes;
+          done = c.plan.new.self.done;
+          bytes = c.plan.new.self.bytes;
+          frame = c.put_fold.new.bytes;
+        } in
+    whole_taken form records (g.D.Disk.keeps s.disk) (g.D.Disk.states s.disk) s.shape s.gate s.tally s.next s.bytes.items
+    s.step s.broken s.homes s.live s.fold begun c.self.invariant.job c.self.invariant.lists ready
     (plan_for form records s.shape.width s.tally.size (take s.live s.homes.live.items) s.homes.homes.items c.plan.new.self begun refl refl planned)
-    (λ r. laws.width_of_bytes r ∙ width) (length-take-le s.tally.size (joined (g.G.GrowthList.growths c.args.pieces.now)) size) values spelled (ap (λ n. Home n) (c.len.ensures ∙ c.plan.new.self.writes.ok.0)) refl refl done)
+    (λ r. laws.width_of_bytes r ∙ width)
+      (length-take-le s.tally.size (joined (g.G.GrowthList.growths c.args.pieces.now)) size) values spelled
+      (ap (λ n. Home n) (c.len.ensures ∙ c.plan.new.self.writes.ok.0)) refl refl done)
 
 pub returns-clause-kept : goal.returns-clause-kept
 returns-clause-kept g c = kept_folding g.D.Disk.keeps g.D.Disk.states c.args.self.now _ c.ready_fold.ensures.kept (returns-clause-begun g c)

@@ -18,6 +18,8 @@ use Rattle.pen_core.proofs.Begins.{no_step, no_job_same}
 use Rattle.pen_core.proofs.RunsBegun.{Allows, allowed_space, allows, ChangeBegun, change_begun}
 use Rattle.pen_core.proofs.pen.Pen.begin_runs_from.Given.{Over}
 use Rattle.pen_core.proofs.pen.Pen.begin_runs_from.Goals.{Else-is_err-2}
+use Rattle.pen_core.proofs.AtRest.{sound}
+use Rattle.pen_core.proofs.Whole.{sound_kept}
 use Rattle.pen_core.proofs.pen.Pen.begin_runs_from.Goals as goal
 
 on_ok : {A E P : Type 0} (r : Result A E) → is_err r ≡ false → OnOk r P → P
@@ -34,33 +36,58 @@ refused (Err error) is old new = refl
 
 -- what stands once memory was taken
 begins : (g : Over) (c : Else-is_err-2 g)
-    → ChangeBegun (open_count c.self.inside.fold.stage c.self.inside.fold.count) (g.D.Disk.keeps c.self.inside.disk) (g.D.Disk.states c.self.inside.disk) c.self.inside.shape c.self.inside.gate c.self.inside.tally c.put_change.new.bytes.items c.self.inside.broken
-    (record { homes = c.self.inside.homes.homes; live = c.extend_from_slice.new.self }) c.self.inside.live c.self.inside.fold g.R.Record.form (runs_given c.args.runs.now) (g.G.GrowthList.growths c.args.pieces.now)
+    → ChangeBegun (open_count c.self.inside.fold.stage c.self.inside.fold.count) (g.D.Disk.keeps c.self.inside.disk)
+    (g.D.Disk.states c.self.inside.disk) c.self.inside.shape c.self.inside.gate c.self.inside.tally
+    c.put_change.new.bytes.items c.self.inside.broken
+    (record { homes = c.self.inside.homes.homes; live = c.extend_from_slice.new.self }) c.self.inside.live c.self.inside.fold
+    g.R.Record.form (runs_given c.args.runs.now) (g.G.GrowthList.growths c.args.pieces.now)
 begins g c =
     let s = c.self.inside in
     let runs = c.args.runs.now in
     let laws = g.met.R.Record g.world.𝓛 g.world.𝓜 g.world.𝓡 ((λ s x. x), (λ x. x), (λ x. x), λ x. x) in
     let wrote = sym c.is_err.ensures.value ∙ c.if-is_err.false in
-    let space = subst (λ v. v.gate + (6 + change_len v.shape (runs_given runs)) + fold_len v.fold < 2 ^ 48) (sym c.self.view_is) (allowed_space c.args.self.now (runs_given runs) c.in_ok-payload.ensures.allowed) in
-    let allowed = subst (λ v. Allows v.broken (is_some v.job) v.shape v.gate v.tally (runs_given runs)) (sym c.self.view_is) (allows c.args.self.now (runs_given runs) c.in_ok-payload.ensures.allowed) in
-    change_begun (g.D.Disk.keeps s.disk) (g.D.Disk.states s.disk) s.shape s.gate s.tally s.next s.bytes.items c.put_change.new.bytes.items s.step s.broken s.homes (record { homes = s.homes.homes; live = c.extend_from_slice.new.self }) s.live g.R.Record.form runs (g.G.GrowthList.growths c.args.pieces.now)
-    c.self.invariant.0 c.self.invariant.1 c.self.invariant.2 space allowed (g.met.D.Disk.reads_an_image s.disk) (on_ok c.put_change.result wrote c.put_change.ensures.text) (c.requires.width ∙ sym (ap (λ v. v.shape.width) c.self.view_is)) laws.width_of_bytes c.requires.some c.requires.filled
-    (on_ok c.put_change.result wrote c.put_change.ensures.read_again) refl (c.extend_from_slice.ensures.items ∙ appended c.extend_from_slice.result (sym c.is_err-2.ensures.value ∙ c.if-is_err-2.false) s.homes.live.items (s.homes.live.items ++ runs))
+    let space =
+        subst (λ v. v.gate + (6 + change_len v.shape (runs_given runs)) + fold_len v.fold < 2 ^ 48) (sym c.self.view_is)
+          (allowed_space c.args.self.now (runs_given runs) c.in_ok-payload.ensures.allowed) in
+    let allowed =
+        subst (λ v. Allows v.broken (is_some v.job) v.shape v.gate v.tally (runs_given runs)) (sym c.self.view_is)
+          (allows c.args.self.now (runs_given runs) c.in_ok-payload.ensures.allowed) in
+    change_begun (g.D.Disk.keeps s.disk) (g.D.Disk.states s.disk) s.shape s.gate s.tally s.next s.bytes.items
+        c.put_change.new.bytes.items s.step s.broken s.homes
+        (record { homes = s.homes.homes; live = c.extend_from_slice.new.self }) s.live g.R.Record.form runs
+        (g.G.GrowthList.growths c.args.pieces.now)
+    c.self.invariant.job c.self.invariant.lists c.self.invariant.fold space allowed (g.met.D.Disk.reads_an_image s.disk)
+    (on_ok c.put_change.result wrote c.put_change.ensures.text)
+    (c.requires.width ∙ sym (ap (λ v. v.shape.width) c.self.view_is)) laws.width_of_bytes c.requires.some c.requires.filled
+    (on_ok c.put_change.result wrote c.put_change.ensures.read_again) refl
+    (c.extend_from_slice.ensures.items
+      ∙ appended c.extend_from_slice.result (sym c.is_err-2.ensures.value ∙ c.if-is_err-2.false) s.homes.live.items
+          (s.homes.live.items ++ runs))
 
 pub invariant_of-self : goal.invariant_of-self
 invariant_of-self g c =
     let s = c.self.inside in
-    at_rest (g.D.Disk.keeps s.disk) (g.D.Disk.states s.disk) s.shape s.gate s.tally s.next s.bytes.items c.put_change.new.bytes.items s.step s.broken s.homes s.homes s.live s.fold c.self.invariant.0 c.self.invariant.1 c.self.invariant.2
-    (no_step s.shape s.bytes.items s.step (subst (λ v. is_some v.job ≡ false) (sym c.self.view_is) c.in_ok-payload.ensures.idle)) refl refl
+    sound
+        (at_rest c.self.invariant c.put_change.new.bytes.items s.homes
+            (no_step s.shape s.bytes.items s.step
+                (subst (λ v. is_some v.job ≡ false) (sym c.self.view_is) c.in_ok-payload.ensures.idle))
+            refl refl)
 
 pub invariant_of-self-then-is_err-2 : goal.invariant_of-self-then-is_err-2
 invariant_of-self-then-is_err-2 g c =
     let s = c.self.inside in
-    at_rest (g.D.Disk.keeps s.disk) (g.D.Disk.states s.disk) s.shape s.gate s.tally s.next s.bytes.items c.put_change.new.bytes.items s.step s.broken s.homes (record { homes = s.homes.homes; live = c.extend_from_slice.new.self }) s.live s.fold c.self.invariant.0 c.self.invariant.1 c.self.invariant.2
-    (no_step s.shape s.bytes.items s.step (subst (λ v. is_some v.job ≡ false) (sym c.self.view_is) c.in_ok-payload.ensures.idle)) refl (c.extend_from_slice.ensures.items ∙ refused c.extend_from_slice.result (sym c.is_err-2.ensures.value ∙ c.if-is_err-2.true) s.homes.live.items (s.homes.live.items ++ c.args.runs.now))
+    sound
+        (at_rest c.self.invariant c.put_change.new.bytes.items
+            (record { homes = s.homes.homes; live = c.extend_from_slice.new.self })
+            (no_step s.shape s.bytes.items s.step
+                (subst (λ v. is_some v.job ≡ false) (sym c.self.view_is) c.in_ok-payload.ensures.idle))
+            refl
+            (c.extend_from_slice.ensures.items
+                  ∙ refused c.extend_from_slice.result (sym c.is_err-2.ensures.value ∙ c.if-is_err-2.true) s.homes.live.items
+                        (s.homes.live.items ++ c.args.runs.now)))
 
 pub invariant_of-self-2 : goal.invariant_of-self-2
-invariant_of-self-2 g c = let b = begins g (goal.at.invariant_of-self-2 g c).Else-is_err-2 in (b.pen, b.listed, b.held)
+invariant_of-self-2 g c = let b = begins g (goal.at.invariant_of-self-2 g c).Else-is_err-2 in sound (b.pen, b.listed, b.held)
 
 pub returns-clause-begun : goal.returns-clause-begun
 returns-clause-begun g c = rw (← c.self.view_is) (record {
@@ -75,42 +102,72 @@ returns-clause-begun g c = rw (← c.self.view_is) (record {
 })
 
 pub returns-clause-next : goal.returns-clause-next
-returns-clause-next g c = rw (← c.self.view_is) (λ records are. (begins g (goal.at.returns-clause-next g c).Else-is_err-2).tells (vector_before c.self.inside.shape c.self.inside.gate (bytes_of (g.D.Disk.states c.self.inside.disk))) records are)
+returns-clause-next g c =
+    rw (← c.self.view_is)
+      (λ records are.
+          (begins g (goal.at.returns-clause-next g c).Else-is_err-2).tells
+              (vector_before c.self.inside.shape c.self.inside.gate (bytes_of (g.D.Disk.states c.self.inside.disk))) records
+              are)
 
 pub returns-then-is_err-clause-kept : goal.returns-then-is_err-clause-kept
-returns-then-is_err-clause-kept g c =
-    let s = c.self.inside in
-    λ model. pen_kept s.fold (g.D.Disk.keeps s.disk) (g.D.Disk.states s.disk) s.shape s.gate s.tally s.next c.put_change.new.bytes.items s.step s.broken (invariant_of-self g c).0 model s.disk (vec_capacity c.put_change.new.bytes)
+returns-then-is_err-clause-kept g c = sound_kept (invariant_of-self g c)
 
 pub returns-then-is_err-2-clause-kept : goal.returns-then-is_err-2-clause-kept
-returns-then-is_err-2-clause-kept g c =
-    let s = c.self.inside in
-    λ model. pen_kept s.fold (g.D.Disk.keeps s.disk) (g.D.Disk.states s.disk) s.shape s.gate s.tally s.next c.put_change.new.bytes.items s.step s.broken (invariant_of-self-then-is_err-2 g c).0 model s.disk (vec_capacity c.put_change.new.bytes)
+returns-then-is_err-2-clause-kept g c = sound_kept (invariant_of-self-then-is_err-2 g c)
 
 pub returns-clause-kept : goal.returns-clause-kept
-returns-clause-kept g c = kept_begun g.D.Disk.keeps g.D.Disk.states c.args.self.now _ c.change_size.ensures.kept (change_frame g.R.Record.form (runs_given c.args.runs.now) (g.G.GrowthList.growths c.args.pieces.now)) (none_job c.args.self.now c.in_ok-payload.ensures.idle) (returns-clause-begun g c)
+returns-clause-kept g c =
+    kept_begun g.D.Disk.keeps g.D.Disk.states c.args.self.now _ c.change_size.ensures.kept
+      (change_frame g.R.Record.form (runs_given c.args.runs.now) (g.G.GrowthList.growths c.args.pieces.now))
+      (none_job c.args.self.now c.in_ok-payload.ensures.idle) (returns-clause-begun g c)
 
 pub returns-then-is_err-clause-unchanged : goal.returns-then-is_err-clause-unchanged
 returns-then-is_err-clause-unchanged g c = rw (← c.self.view_is) (
     let s = c.self.inside in
     let idle = no_step s.shape s.bytes.items s.step (subst (λ v. is_some v.job ≡ false) (sym c.self.view_is) c.in_ok-payload.ensures.idle) in
-    record { disk_same = refl; file_same = record { frames_same = refl; vector_same = refl }; job_same = no_job_same s.shape s.bytes.items c.put_change.new.bytes.items s.step idle; broken_same = refl; shape_same = refl; fold_same = refl; tally_same = refl; gate_same = refl })
+    record {
+      disk_same = refl;
+      file_same = record { frames_same = refl; vector_same = refl };
+      job_same = no_job_same s.shape s.bytes.items c.put_change.new.bytes.items s.step idle;
+      broken_same = refl;
+      shape_same = refl;
+      fold_same = refl;
+      tally_same = refl;
+      gate_same = refl;
+    })
 
 pub returns-then-is_err-2-clause-unchanged : goal.returns-then-is_err-2-clause-unchanged
 returns-then-is_err-2-clause-unchanged g c = rw (← c.self.view_is) (
     let s = c.self.inside in
     let idle = no_step s.shape s.bytes.items s.step (subst (λ v. is_some v.job ≡ false) (sym c.self.view_is) c.in_ok-payload.ensures.idle) in
-    record { disk_same = refl; file_same = record { frames_same = refl; vector_same = refl }; job_same = no_job_same s.shape s.bytes.items c.put_change.new.bytes.items s.step idle; broken_same = refl; shape_same = refl; fold_same = refl; tally_same = refl; gate_same = refl })
+    record {
+      disk_same = refl;
+      file_same = record { frames_same = refl; vector_same = refl };
+      job_same = no_job_same s.shape s.bytes.items c.put_change.new.bytes.items s.step idle;
+      broken_same = refl;
+      shape_same = refl;
+      fold_same = refl;
+      tally_same = refl;
+      gate_same = refl;
+    })
 
 pub returns-then-is_err-2-clause-sure : goal.returns-then-is_err-2-clause-sure
 returns-then-is_err-2-clause-sure g c = λ readied.
     let s = c.self.inside in
     let runs = runs_given c.args.runs.now in
-    let places : length runs ≤ vec_capacity s.homes.live - vec_len s.homes.live = subst (λ v. length runs ≤ v.places) (sym c.self.view_is) readied.places in
-    let room = c.extend_from_slice.ensures.succeeds (omega (arith, places, c.requires.some, length-map {B = Run} c.args.runs.now (λ run. record { start = run.0; count = run.1 }))) in
+    let places : length runs ≤ vec_capacity s.homes.live - vec_len s.homes.live =
+        subst (λ v. length runs ≤ v.places) (sym c.self.view_is) readied.places in
+    let room =
+        c.extend_from_slice.ensures.succeeds
+          (omega
+              (arith, places, c.requires.some,
+                    length-map {B = Run} c.args.runs.now (λ run. record { start = run.0; count = run.1 }))) in
     sym c.if-is_err-2.ensures.negation ∙ room
 
 pub overflow_add-self : goal.overflow_add-self
 overflow_add-self g c =
-    let space = subst (λ v. v.gate + (6 + change_len v.shape (runs_given c.args.runs.now)) + fold_len v.fold < 2 ^ 48) (sym c.self.view_is) (allowed_space c.args.self.now (runs_given c.args.runs.now) c.in_ok-payload.ensures.allowed) in
-    omega (arith, space, c.self.invariant.0.changes_fit)
+    let space =
+        subst (λ v. v.gate + (6 + change_len v.shape (runs_given c.args.runs.now)) + fold_len v.fold < 2 ^ 48)
+          (sym c.self.view_is)
+          (allowed_space c.args.self.now (runs_given c.args.runs.now) c.in_ok-payload.ensures.allowed) in
+    omega (arith, space, c.self.invariant.job.changes_fit)

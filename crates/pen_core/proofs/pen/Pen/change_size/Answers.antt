@@ -25,7 +25,9 @@ not_old g c =
     ]
 
 -- the payload
-size : (g : Over) (c : After-runs_len g) → c.runs_len.result + c.count_positions-records.result * c.self.inside.shape.width ≡ change_len c.args.self.now.shape (runs_given c.args.runs.now)
+size : (g : Over) (c : After-runs_len g)
+    → c.runs_len.result + c.count_positions-records.result * c.self.inside.shape.width ≡ change_len c.args.self.now.shape
+      (runs_given c.args.runs.now)
 size g c =
     let s = c.self.inside in
     let count = length-map {B = Run} c.args.runs.now (λ run. record { start = run.0; count = run.1 }) in
@@ -35,38 +37,49 @@ size g c =
 
 pub returns-then-not-runs_ascend-clause-refused : goal.returns-then-not-runs_ascend-clause-refused
 returns-then-not-runs_ascend-clause-refused g c =
-    refused_disordered c.args.self.now (runs_given c.args.runs.now) c.in_ok-ready.ensures.whole c.in_ok-ready.ensures.idle (not_old g (goal.at.returns-then-not-runs_ascend-clause-refused g c).After-runs_ascend)
+    refused_disordered c.args.self.now (runs_given c.args.runs.now) c.in_ok-ready.ensures.whole c.in_ok-ready.ensures.idle
+    (not_old g (goal.at.returns-then-not-runs_ascend-clause-refused g c).After-runs_ascend)
     (sym c.runs_ascend.ensures ∙ c.if-not-runs_ascend.true)
 
 pub returns-then-not-runs_inside-clause-refused : goal.returns-then-not-runs_inside-clause-refused
 returns-then-not-runs_inside-clause-refused g c =
-    refused_outside c.args.self.now (runs_given c.args.runs.now) c.in_ok-ready.ensures.whole c.in_ok-ready.ensures.idle (not_old g (goal.at.returns-then-not-runs_inside-clause-refused g c).After-runs_ascend)
+    refused_outside c.args.self.now (runs_given c.args.runs.now) c.in_ok-ready.ensures.whole c.in_ok-ready.ensures.idle
+    (not_old g (goal.at.returns-then-not-runs_inside-clause-refused g c).After-runs_ascend)
     (sym c.runs_ascend.ensures ∙ c.if-not-runs_ascend.false)
     (ap (λ v. are_inside v.tally.size (runs_given c.args.runs.now)) (sym c.self.view_is) ∙ sym c.runs_inside.ensures ∙ c.if-not-runs_inside.true)
 
 pub returns-then-payload-limit-clause-refused : goal.returns-then-payload-limit-clause-refused
 returns-then-payload-limit-clause-refused g c =
     let step = goal.at.returns-then-payload-limit-clause-refused g c in
-    let limit : c.payload_limit-limit.result ≡ limit_of c.args.self.now.shape.format = c.payload_limit-limit.ensures.is ∙ ap (λ v. limit_of v.shape.format) c.self.view_is in
+    let limit : c.payload_limit-limit.result ≡ limit_of c.args.self.now.shape.format =
+        c.payload_limit-limit.ensures.is ∙ ap (λ v. limit_of v.shape.format) c.self.view_is in
     refused_long c.args.self.now (runs_given c.args.runs.now) c.in_ok-ready.ensures.whole c.in_ok-ready.ensures.idle (not_old g step.After-runs_ascend)
-    (sym c.runs_ascend.ensures ∙ c.if-not-runs_ascend.false) (ap (λ v. are_inside v.tally.size (runs_given c.args.runs.now)) (sym c.self.view_is) ∙ sym c.runs_inside.ensures ∙ c.if-not-runs_inside.false)
+    (sym c.runs_ascend.ensures ∙ c.if-not-runs_ascend.false)
+    (ap (λ v. are_inside v.tally.size (runs_given c.args.runs.now)) (sym c.self.view_is) ∙ sym c.runs_inside.ensures
+      ∙ c.if-not-runs_inside.false)
     (omega (arith, limit, size g step.After-runs_len, c.if-payload-limit.true))
 
 pub returns-then-is_full-clause-refused : goal.returns-then-is_full-clause-refused
 returns-then-is_full-clause-refused g c =
     let step = goal.at.returns-then-is_full-clause-refused g c in
-    let limit : c.payload_limit-limit.result ≡ limit_of c.args.self.now.shape.format = c.payload_limit-limit.ensures.is ∙ ap (λ v. limit_of v.shape.format) c.self.view_is in
+    let limit : c.payload_limit-limit.result ≡ limit_of c.args.self.now.shape.format =
+        c.payload_limit-limit.ensures.is ∙ ap (λ v. limit_of v.shape.format) c.self.view_is in
     refused_full c.args.self.now (runs_given c.args.runs.now) c.in_ok-ready.ensures.whole c.in_ok-ready.ensures.idle (not_old g step.After-runs_ascend)
-    (sym c.runs_ascend.ensures ∙ c.if-not-runs_ascend.false) (ap (λ v. are_inside v.tally.size (runs_given c.args.runs.now)) (sym c.self.view_is) ∙ sym c.runs_inside.ensures ∙ c.if-not-runs_inside.false)
+    (sym c.runs_ascend.ensures ∙ c.if-not-runs_ascend.false)
+    (ap (λ v. are_inside v.tally.size (runs_given c.args.runs.now)) (sym c.self.view_is) ∙ sym c.runs_inside.ensures
+      ∙ c.if-not-runs_inside.false)
     (omega (arith, limit, size g step.After-runs_len, c.if-payload-limit.false))
     (sym (ap (is_full c.args.self.now) (size g step.After-runs_len)) ∙ sym c.is_full.ensures ∙ c.if-is_full.true)
 
 pub returns-clause-allowed : goal.returns-clause-allowed
 returns-clause-allowed g c =
     let step = goal.at.returns-clause-allowed g c in
-    let limit : c.payload_limit-limit.result ≡ limit_of c.args.self.now.shape.format = c.payload_limit-limit.ensures.is ∙ ap (λ v. limit_of v.shape.format) c.self.view_is in
+    let limit : c.payload_limit-limit.result ≡ limit_of c.args.self.now.shape.format =
+        c.payload_limit-limit.ensures.is ∙ ap (λ v. limit_of v.shape.format) c.self.view_is in
     refused_none c.args.self.now (runs_given c.args.runs.now) c.in_ok-ready.ensures.whole c.in_ok-ready.ensures.idle (not_old g step.After-runs_ascend)
-    (sym c.runs_ascend.ensures ∙ c.if-not-runs_ascend.false) (ap (λ v. are_inside v.tally.size (runs_given c.args.runs.now)) (sym c.self.view_is) ∙ sym c.runs_inside.ensures ∙ c.if-not-runs_inside.false)
+    (sym c.runs_ascend.ensures ∙ c.if-not-runs_ascend.false)
+    (ap (λ v. are_inside v.tally.size (runs_given c.args.runs.now)) (sym c.self.view_is) ∙ sym c.runs_inside.ensures
+      ∙ c.if-not-runs_inside.false)
     (omega (arith, limit, size g step.After-runs_len, c.if-payload-limit.false))
     (sym (ap (is_full c.args.self.now) (size g step.After-runs_len)) ∙ sym c.is_full.ensures ∙ c.if-is_full.false)
 
@@ -79,15 +92,19 @@ returns-then-runs-gt1-clause-refused g c =
     let runs = runs_given c.args.runs.now in
     let count = length-map {B = Run} c.args.runs.now (λ run. record { start = run.0; count = run.1 }) in
     refused_old pen runs c.in_ok-ready.ensures.whole c.in_ok-ready.ensures.idle (elim c.match-matches.branch [
-      | goal.in-One m ↦ old_runs pen runs pen.shape.format (sym (ap (λ v. v.shape.format) c.self.view_is) ∙ m.in-One.is) (omega (arith, count, c.if-runs-gt1.true))
+      | goal.in-One m ↦ old_runs pen runs pen.shape.format (sym (ap (λ v. v.shape.format) c.self.view_is) ∙ m.in-One.is)
+          (omega (arith, count, c.if-runs-gt1.true))
       | goal.in_default m ↦ (let clash = sym m.matches-is ∙ c.if-matches.true in absurd cc)
     ])
 
 pub returns-then-runs-limit-clause-refused : goal.returns-then-runs-limit-clause-refused
 returns-then-runs-limit-clause-refused g c =
     let step = goal.at.returns-then-runs-limit-clause-refused g c in
-    let limit : c.payload_limit-limit.result ≡ limit_of c.args.self.now.shape.format = c.payload_limit-limit.ensures.is ∙ ap (λ v. limit_of v.shape.format) c.self.view_is in
+    let limit : c.payload_limit-limit.result ≡ limit_of c.args.self.now.shape.format =
+        c.payload_limit-limit.ensures.is ∙ ap (λ v. limit_of v.shape.format) c.self.view_is in
     let count = length-map {B = Run} c.args.runs.now (λ run. record { start = run.0; count = run.1 }) in
     refused_long c.args.self.now (runs_given c.args.runs.now) c.in_ok-ready.ensures.whole c.in_ok-ready.ensures.idle (not_old g step.After-runs_ascend)
-    (sym c.runs_ascend.ensures ∙ c.if-not-runs_ascend.false) (ap (λ v. are_inside v.tally.size (runs_given c.args.runs.now)) (sym c.self.view_is) ∙ sym c.runs_inside.ensures ∙ c.if-not-runs_inside.false)
+    (sym c.runs_ascend.ensures ∙ c.if-not-runs_ascend.false)
+    (ap (λ v. are_inside v.tally.size (runs_given c.args.runs.now)) (sym c.self.view_is) ∙ sym c.runs_inside.ensures
+      ∙ c.if-not-runs_inside.false)
     (omega (arith, limit, count, change_len-least c.args.self.now.shape (runs_given c.args.runs.now), c.if-runs-limit.true))

@@ -10,6 +10,8 @@ use Rattle.pen_core.proofs.AtRest.{at_rest}
 use Rattle.pen_core.proofs.Whole.{pen_kept}
 use Rattle.pen_core.proofs.Begins.{no_step, no_job_same}
 use Rattle.pen_core.proofs.Worked.{unchanged_pen}
+use Rattle.pen_core.proofs.AtRest.{sound}
+use Rattle.pen_core.proofs.Whole.{sound_kept}
 use Rattle.pen_core.proofs.pen.Pen.ready_runs.Goals as goal
 
 on_ok : {A E P : Type 0} (r : Result A E) → is_err r ≡ false → OnOk r P → P
@@ -19,62 +21,95 @@ on_ok (Err error) is p = absurd cc
 pub invariant_of-self : goal.invariant_of-self
 invariant_of-self g c =
     let s = c.self.inside in
-    at_rest (g.D.Disk.keeps s.disk) (g.D.Disk.states s.disk) s.shape s.gate s.tally s.next s.bytes.items c.take_room.new.bytes.items s.step s.broken s.homes s.homes s.live s.fold c.self.invariant.0 c.self.invariant.1 c.self.invariant.2
-    (no_step s.shape s.bytes.items s.step (subst (λ v. is_some v.job ≡ false) (sym c.self.view_is) c.in_ok-payload.ensures.idle)) refl refl
+    sound
+        (at_rest c.self.invariant c.take_room.new.bytes.items s.homes
+            (no_step s.shape s.bytes.items s.step
+                (subst (λ v. is_some v.job ≡ false) (sym c.self.view_is) c.in_ok-payload.ensures.idle))
+            refl refl)
 
 pub invariant_of-self-then-is_err-2 : goal.invariant_of-self-then-is_err-2
 invariant_of-self-then-is_err-2 g c =
     let s = c.self.inside in
-    at_rest (g.D.Disk.keeps s.disk) (g.D.Disk.states s.disk) s.shape s.gate s.tally s.next s.bytes.items c.take_room.new.bytes.items s.step s.broken s.homes (record { homes = s.homes.homes; live = c.reserve.new.self }) s.live s.fold c.self.invariant.0 c.self.invariant.1 c.self.invariant.2
-    (no_step s.shape s.bytes.items s.step (subst (λ v. is_some v.job ≡ false) (sym c.self.view_is) c.in_ok-payload.ensures.idle)) refl c.reserve.ensures.items
+    sound
+        (at_rest c.self.invariant c.take_room.new.bytes.items (record { homes = s.homes.homes; live = c.reserve.new.self })
+            (no_step s.shape s.bytes.items s.step
+                (subst (λ v. is_some v.job ≡ false) (sym c.self.view_is) c.in_ok-payload.ensures.idle))
+            refl c.reserve.ensures.items)
 
 pub invariant_of-self-2 : goal.invariant_of-self-2
 invariant_of-self-2 g c =
     let s = c.self.inside in
-    at_rest (g.D.Disk.keeps s.disk) (g.D.Disk.states s.disk) s.shape s.gate s.tally s.next s.bytes.items c.take_room.new.bytes.items s.step s.broken s.homes (record { homes = s.homes.homes; live = c.reserve.new.self }) s.live s.fold c.self.invariant.0 c.self.invariant.1 c.self.invariant.2
-    (no_step s.shape s.bytes.items s.step (subst (λ v. is_some v.job ≡ false) (sym c.self.view_is) c.in_ok-payload.ensures.idle)) refl c.reserve.ensures.items
+    sound
+        (at_rest c.self.invariant c.take_room.new.bytes.items (record { homes = s.homes.homes; live = c.reserve.new.self })
+            (no_step s.shape s.bytes.items s.step
+                (subst (λ v. is_some v.job ≡ false) (sym c.self.view_is) c.in_ok-payload.ensures.idle))
+            refl c.reserve.ensures.items)
 
 pub returns-then-is_err-clause-kept : goal.returns-then-is_err-clause-kept
-returns-then-is_err-clause-kept g c =
-    let s = c.self.inside in
-    λ model. pen_kept s.fold (g.D.Disk.keeps s.disk) (g.D.Disk.states s.disk) s.shape s.gate s.tally s.next c.take_room.new.bytes.items s.step s.broken (invariant_of-self g c).0 model s.disk (vec_capacity c.take_room.new.bytes)
+returns-then-is_err-clause-kept g c = sound_kept (invariant_of-self g c)
 
 pub returns-then-is_err-2-clause-kept : goal.returns-then-is_err-2-clause-kept
-returns-then-is_err-2-clause-kept g c =
-    let s = c.self.inside in
-    λ model. pen_kept s.fold (g.D.Disk.keeps s.disk) (g.D.Disk.states s.disk) s.shape s.gate s.tally s.next c.take_room.new.bytes.items s.step s.broken (invariant_of-self-then-is_err-2 g c).0 model s.disk (vec_capacity c.take_room.new.bytes)
+returns-then-is_err-2-clause-kept g c = sound_kept (invariant_of-self-then-is_err-2 g c)
 
 pub returns-clause-kept : goal.returns-clause-kept
-returns-clause-kept g c =
-    let s = c.self.inside in
-    λ model. pen_kept s.fold (g.D.Disk.keeps s.disk) (g.D.Disk.states s.disk) s.shape s.gate s.tally s.next c.take_room.new.bytes.items s.step s.broken (invariant_of-self-2 g c).0 model s.disk (vec_capacity c.take_room.new.bytes)
+returns-clause-kept g c = sound_kept (invariant_of-self-2 g c)
 
 pub returns-then-is_err-clause-unchanged : goal.returns-then-is_err-clause-unchanged
 returns-then-is_err-clause-unchanged g c = rw (← c.self.view_is) (
     let s = c.self.inside in
     let idle = no_step s.shape s.bytes.items s.step (subst (λ v. is_some v.job ≡ false) (sym c.self.view_is) c.in_ok-payload.ensures.idle) in
-    record { disk_same = refl; file_same = record { frames_same = refl; vector_same = refl }; job_same = no_job_same s.shape s.bytes.items c.take_room.new.bytes.items s.step idle; broken_same = refl; shape_same = refl; fold_same = refl; tally_same = refl; gate_same = refl })
+    record {
+      disk_same = refl;
+      file_same = record { frames_same = refl; vector_same = refl };
+      job_same = no_job_same s.shape s.bytes.items c.take_room.new.bytes.items s.step idle;
+      broken_same = refl;
+      shape_same = refl;
+      fold_same = refl;
+      tally_same = refl;
+      gate_same = refl;
+    })
 
 pub returns-then-is_err-2-clause-unchanged : goal.returns-then-is_err-2-clause-unchanged
 returns-then-is_err-2-clause-unchanged g c = rw (← c.self.view_is) (
     let s = c.self.inside in
     let idle = no_step s.shape s.bytes.items s.step (subst (λ v. is_some v.job ≡ false) (sym c.self.view_is) c.in_ok-payload.ensures.idle) in
-    record { disk_same = refl; file_same = record { frames_same = refl; vector_same = refl }; job_same = no_job_same s.shape s.bytes.items c.take_room.new.bytes.items s.step idle; broken_same = refl; shape_same = refl; fold_same = refl; tally_same = refl; gate_same = refl })
+    record {
+      disk_same = refl;
+      file_same = record { frames_same = refl; vector_same = refl };
+      job_same = no_job_same s.shape s.bytes.items c.take_room.new.bytes.items s.step idle;
+      broken_same = refl;
+      shape_same = refl;
+      fold_same = refl;
+      tally_same = refl;
+      gate_same = refl;
+    })
 
 pub returns-clause-unchanged : goal.returns-clause-unchanged
 returns-clause-unchanged g c = rw (← c.self.view_is) (
     let s = c.self.inside in
     let idle = no_step s.shape s.bytes.items s.step (subst (λ v. is_some v.job ≡ false) (sym c.self.view_is) c.in_ok-payload.ensures.idle) in
-    record { disk_same = refl; file_same = record { frames_same = refl; vector_same = refl }; job_same = no_job_same s.shape s.bytes.items c.take_room.new.bytes.items s.step idle; broken_same = refl; shape_same = refl; fold_same = refl; tally_same = refl; gate_same = refl })
+    record {
+      disk_same = refl;
+      file_same = record { frames_same = refl; vector_same = refl };
+      job_same = no_job_same s.shape s.bytes.items c.take_room.new.bytes.items s.step idle;
+      broken_same = refl;
+      shape_same = refl;
+      fold_same = refl;
+      tally_same = refl;
+      gate_same = refl;
+    })
 
 pub returns-clause-ready : goal.returns-clause-ready
 returns-clause-ready g c =
     let runs = runs_given c.args.runs.now in
-    let size : c.in_ok-payload.payload ≡ change_len c.self.inside.shape runs = c.in_ok-payload.ensures.size ∙ ap (λ v. change_len v.shape runs) (sym c.self.view_is) in
+    let size : c.in_ok-payload.payload ≡ change_len c.self.inside.shape runs =
+        c.in_ok-payload.ensures.size ∙ ap (λ v. change_len v.shape runs) (sym c.self.view_is) in
     let room = on_ok c.take_room.result (sym c.is_err.ensures.value ∙ c.if-is_err.false) c.take_room.ensures.room in
     let places = on_ok c.reserve.result (sym c.is_err-2.ensures.value ∙ c.if-is_err-2.false) c.reserve.ensures.ok in
     record {
-      allowed = subst (λ v. first_refusal (change_lines v runs) ≡ None) (sym (unchanged_pen c.args.self.now _ (returns-clause-unchanged g c))) c.in_ok-payload.ensures.allowed;
+      allowed =
+          subst (λ v. first_refusal (change_lines v runs) ≡ None)
+            (sym (unchanged_pen c.args.self.now _ (returns-clause-unchanged g c))) c.in_ok-payload.ensures.allowed;
       room = omega (arith, size, room);
       places = omega (arith, places, length-map {B = Run} c.args.runs.now (λ run. record { start = run.0; count = run.1 }));
     }

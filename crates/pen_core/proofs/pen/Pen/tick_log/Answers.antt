@@ -1,111 +1,99 @@
--- Each answer is one lemma on the pen's fields.
-use Rattle.std.proofs.Common.{◌+◌, ◌-◌, true, Some, None, inr, refl, sym, ap, ◌∙◌}
+-- Each exit that makes a call builds what its tick knows, and cites one lemma for each clause.
+use Rattle.std.proofs.Common.{◌≡◌, ◌+◌, ◌-◌, length, inr, refl, sym, ap, ◌∙◌}
 use Rattle.std.specs.Prelude.{vec_len, vec_capacity}
 use Rattle.pen_core.specs.declared.fault.PenFault.TheVariants.{Disk}
 use Rattle.pen_core.specs.Vectors.{frame_at}
 use Rattle.pen_core.specs.Inside.{job_of}
-use Rattle.pen_core.specs.InHand.{frame_in_hand, live_after}
-use Rattle.pen_core.proofs.Whole.{pen_kept, whole_idle, last_step, whole_counts, whole_leaves, whole_broken, whole_same, whole_next, whole_stays, legal_now, bytes_alike, gate_moved, more_frames, vector_then}
-use Rattle.pen_core.proofs.InHand.{fold_stays, fold_broken}
-use Rattle.pen_core.proofs.LastTick.{pen_last, listed_last, fold_last, fold_seen, other_unfiled}
-use Rattle.pen_core.proofs.Listed.{listed_stays, homes_in_turn}
+use Rattle.pen_core.specs.InHand.{live_after}
+use Rattle.pen_core.proofs.Whole.{sound_kept, sound_idle, last_step}
+use Rattle.pen_core.proofs.Listed.{homes_in_turn}
+use Rattle.pen_core.proofs.LogCall.{log_call, log_leaves, log_broken, broken_file, log_next, next_file, counts_after, gate_moved, more_frames, vector_then}
+use Rattle.pen_core.proofs.LastTick.{LastCall, log_last, fold_seen, other_unfiled}
 use Rattle.pen_core.proofs.pen.Pen.tick_log.Goals as goal
 
+-- ---- no call
+
 pub returns-then-self-clause-images : goal.returns-then-self-clause-images
-returns-then-self-clause-images g c = rw (← c.self.view_is) (
-    let s = c.self.inside in
-    λ model. whole_idle (g.D.Disk.keeps s.disk) (g.D.Disk.states s.disk) s.shape s.gate s.tally s.next s.bytes.items s.step s.broken c.self.invariant.0 model)
+returns-then-self-clause-images g c = rw (← c.self.view_is) (sound_idle c.self.invariant)
 
 pub returns-then-self-clause-kept : goal.returns-then-self-clause-kept
-returns-then-self-clause-kept g c = rw (← c.self.view_is) (
-    let s = c.self.inside in
-    λ model. pen_kept s.fold (g.D.Disk.keeps s.disk) (g.D.Disk.states s.disk) s.shape s.gate s.tally s.next s.bytes.items s.step s.broken c.self.invariant.0 model s.disk (vec_capacity s.bytes))
+returns-then-self-clause-kept g c = rw (← c.self.view_is) (sound_kept c.self.invariant)
 
 pub returns-in_default-clause-images : goal.returns-in_default-clause-images
-returns-in_default-clause-images g c = rw (← c.self.view_is) (
-    let s = c.self.inside in
-    λ model. whole_idle (g.D.Disk.keeps s.disk) (g.D.Disk.states s.disk) s.shape s.gate s.tally s.next s.bytes.items s.step s.broken c.self.invariant.0 model)
+returns-in_default-clause-images g c = rw (← c.self.view_is) (sound_idle c.self.invariant)
 
 pub returns-in_default-clause-kept : goal.returns-in_default-clause-kept
-returns-in_default-clause-kept g c = rw (← c.self.view_is) (
-    let s = c.self.inside in
-    λ model. pen_kept s.fold (g.D.Disk.keeps s.disk) (g.D.Disk.states s.disk) s.shape s.gate s.tally s.next s.bytes.items s.step s.broken c.self.invariant.0 model s.disk (vec_capacity s.bytes))
+returns-in_default-clause-kept g c = rw (← c.self.view_is) (sound_kept c.self.invariant)
+
+-- ---- a call that failed
 
 pub invariant_of-self : goal.invariant_of-self
 invariant_of-self g c =
-    let s = c.self.inside in
-    let new = c.call.new.disk in (
-      whole_broken (g.D.Disk.keeps s.disk) (g.D.Disk.keeps new) (g.D.Disk.states s.disk) (g.D.Disk.states new) s.shape s.gate s.tally s.next s.bytes.items c.deref.result.now s.step s.broken c.in-Some.step c.self.invariant.0
-          c.if-self.false c.in-Some.is c.deref.ensures.value c.call.ensures.model (g.met.D.Disk.reads_an_image s.disk) (g.met.D.Disk.reads_an_image new) c.in-Err.ensures.failed,
-      listed_stays (g.D.Disk.keeps s.disk) (g.D.Disk.states s.disk) s.shape s.gate s.tally s.bytes.items s.step s.homes s.live c.self.invariant.1
-          (g.D.Disk.keeps new) (g.D.Disk.states new) s.step refl c.call.ensures.model (λ model. whole_same (g.D.Disk.keeps s.disk) (g.D.Disk.keeps new) (g.D.Disk.states s.disk) (g.D.Disk.states new) s.shape s.gate s.tally s.next s.bytes.items c.deref.result.now s.step s.broken c.in-Some.step c.self.invariant.0
-          c.if-self.false c.in-Some.is c.deref.ensures.value c.call.ensures.model (g.met.D.Disk.reads_an_image s.disk) (g.met.D.Disk.reads_an_image new) model (c.in-Err.ensures.failed model)),
-      fold_broken (g.D.Disk.keeps s.disk) (g.D.Disk.keeps new) (g.D.Disk.states s.disk) (g.D.Disk.states new) s.shape s.gate s.tally s.bytes.items s.step s.broken s.fold c.self.invariant.2 c.call.ensures.model,
-    )
+    let tick =
+    log_call c.self.invariant c.if-self.false c.in-Some.is c.deref.ensures.value c.call.ensures.model g.met.D.Disk.reads_an_image in
+    log_broken tick c.in-Err.ensures.failed
 
 pub returns-in-Err-clause-images : goal.returns-in-Err-clause-images
-returns-in-Err-clause-images g c = rw (← c.self.view_is) (
-    let s = c.self.inside in
-    let new = c.call.new.disk in
-    whole_leaves (g.D.Disk.keeps s.disk) (g.D.Disk.keeps new) (g.D.Disk.states s.disk) (g.D.Disk.states new) s.shape s.gate s.tally s.next s.bytes.items c.deref.result.now s.step s.broken c.in-Some.step c.self.invariant.0
-    c.if-self.false c.in-Some.is c.deref.ensures.value c.call.ensures.model (g.met.D.Disk.reads_an_image s.disk) (g.met.D.Disk.reads_an_image new) c.call.result c.call.ensures.done c.call.ensures.failed)
+returns-in-Err-clause-images g c =
+    let tick =
+    log_call c.self.invariant c.if-self.false c.in-Some.is c.deref.ensures.value c.call.ensures.model g.met.D.Disk.reads_an_image in
+    rw (← c.self.view_is) (log_leaves tick c.call.result c.call.ensures.done c.call.ensures.failed)
 
 pub returns-in-Err-clause-kept : goal.returns-in-Err-clause-kept
 returns-in-Err-clause-kept g c =
-    let s = c.self.inside in
-    let new = c.call.new.disk in
-    λ model. pen_kept s.fold (g.D.Disk.keeps new) (g.D.Disk.states new) s.shape s.gate s.tally s.next s.bytes.items s.step true
-    (whole_broken (g.D.Disk.keeps s.disk) (g.D.Disk.keeps new) (g.D.Disk.states s.disk) (g.D.Disk.states new) s.shape s.gate s.tally s.next s.bytes.items c.deref.result.now s.step s.broken c.in-Some.step c.self.invariant.0
-    c.if-self.false c.in-Some.is c.deref.ensures.value c.call.ensures.model (g.met.D.Disk.reads_an_image s.disk) (g.met.D.Disk.reads_an_image new) c.in-Err.ensures.failed) model new (vec_capacity s.bytes)
+    let tick =
+    log_call c.self.invariant c.if-self.false c.in-Some.is c.deref.ensures.value c.call.ensures.model g.met.D.Disk.reads_an_image in
+    sound_kept (log_broken tick c.in-Err.ensures.failed)
 
 pub returns-in-Err-clause-refused : goal.returns-in-Err-clause-refused
 returns-in-Err-clause-refused g c = rw (← c.self.view_is) (
     let s = c.self.inside in
-    let new = c.call.new.disk in
     inr (
       record { frame = frame_at s.shape s.bytes.items; step = c.in-Some.step },
       c.if-self.false,
       ap (job_of s.shape s.bytes.items) c.in-Some.is,
       ap (λ fault. Disk fault) c.in-Err.ensures.cause.0,
-      record { broken = refl; job_same = refl; counts_same = record { shape_same = refl; fold_same = refl; tally_same = refl; gate_same = refl; room_same = refl; places_same = refl } },
+      record {
+        broken = refl;
+        job_same = refl;
+        counts_same = record {
+          shape_same = refl;
+          fold_same = refl;
+          tally_same = refl;
+          gate_same = refl;
+          room_same = refl;
+          places_same = refl;
+        };
+      },
     ))
 
 pub returns-in-Err-clause-file_stays : goal.returns-in-Err-clause-file_stays
-returns-in-Err-clause-file_stays g c = rw (← c.self.view_is) (
-    let s = c.self.inside in
-    let new = c.call.new.disk in
-    λ model. let same = whole_same (g.D.Disk.keeps s.disk) (g.D.Disk.keeps new) (g.D.Disk.states s.disk) (g.D.Disk.states new) s.shape s.gate s.tally s.next s.bytes.items c.deref.result.now s.step s.broken c.in-Some.step c.self.invariant.0
-    c.if-self.false c.in-Some.is c.deref.ensures.value c.call.ensures.model (g.met.D.Disk.reads_an_image s.disk) (g.met.D.Disk.reads_an_image new) model (c.in-Err.ensures.failed model) in record { frames_same = same.frames_same; vector_same = same.vector_same })
+returns-in-Err-clause-file_stays g c =
+    let tick =
+    log_call c.self.invariant c.if-self.false c.in-Some.is c.deref.ensures.value c.call.ensures.model g.met.D.Disk.reads_an_image in
+    rw (← c.self.view_is) (λ model.
+    let same = broken_file tick c.in-Err.ensures.failed model in
+    record { frames_same = same.frames_same; vector_same = same.vector_same })
+
+-- ---- one that succeeded, and another comes behind it
 
 pub invariant_of-self-in-Some-next : goal.invariant_of-self-in-Some-next
 invariant_of-self-in-Some-next g c =
-    let s = c.self.inside in
-    let new = c.call.new.disk in (
-      whole_next (g.D.Disk.keeps s.disk) (g.D.Disk.keeps new) (g.D.Disk.states s.disk) (g.D.Disk.states new) s.shape s.gate s.tally s.next s.bytes.items c.deref.result.now s.step s.broken c.in-Some.step c.self.invariant.0
-          c.if-self.false c.in-Some.is c.deref.ensures.value c.call.ensures.model (g.met.D.Disk.reads_an_image s.disk) (g.met.D.Disk.reads_an_image new) c.in_default-call.ensures.done c.in-Some-next.behind (sym c.next.ensures ∙ c.in-Some-next.is),
-      listed_stays (g.D.Disk.keeps s.disk) (g.D.Disk.states s.disk) s.shape s.gate s.tally s.bytes.items s.step s.homes s.live c.self.invariant.1
-          (g.D.Disk.keeps new) (g.D.Disk.states new) (Some c.in-Some-next.behind) (sym (ap (frame_in_hand s.shape s.bytes.items) c.in-Some.is)) c.call.ensures.model
-          (whole_stays (g.D.Disk.keeps s.disk) (g.D.Disk.keeps new) (g.D.Disk.states s.disk) (g.D.Disk.states new) s.shape s.gate s.tally s.next s.bytes.items c.deref.result.now s.step s.broken c.in-Some.step c.self.invariant.0
-          c.if-self.false c.in-Some.is c.deref.ensures.value c.call.ensures.model (g.met.D.Disk.reads_an_image s.disk) (g.met.D.Disk.reads_an_image new) c.in_default-call.ensures.done c.in-Some-next.behind (sym c.next.ensures ∙ c.in-Some-next.is)),
-      fold_stays (g.D.Disk.keeps s.disk) (g.D.Disk.keeps new) (g.D.Disk.states s.disk) (g.D.Disk.states new) s.shape s.gate s.tally s.bytes.items s.step s.broken s.fold c.self.invariant.2 c.call.ensures.model c.in-Some.step c.in-Some-next.behind c.in-Some.is
-          (λ model. legal_now (g.D.Disk.keeps s.disk) (g.D.Disk.keeps new) (g.D.Disk.states s.disk) (g.D.Disk.states new) s.shape s.gate s.tally s.next s.bytes.items c.deref.result.now s.step s.broken c.in-Some.step c.self.invariant.0 c.if-self.false c.in-Some.is c.deref.ensures.value c.call.ensures.model (g.met.D.Disk.reads_an_image s.disk) (g.met.D.Disk.reads_an_image new) (c.call.ensures.model model)) (λ model. bytes_alike (g.D.Disk.keeps s.disk) (g.D.Disk.keeps new) (g.D.Disk.states s.disk) (g.D.Disk.states new) s.shape s.gate s.tally s.next s.bytes.items c.deref.result.now s.step s.broken c.in-Some.step c.self.invariant.0 c.if-self.false c.in-Some.is c.deref.ensures.value c.call.ensures.model (g.met.D.Disk.reads_an_image s.disk) (g.met.D.Disk.reads_an_image new) c.in_default-call.ensures.done model)
-          (λ model. (whole_stays (g.D.Disk.keeps s.disk) (g.D.Disk.keeps new) (g.D.Disk.states s.disk) (g.D.Disk.states new) s.shape s.gate s.tally s.next s.bytes.items c.deref.result.now s.step s.broken c.in-Some.step c.self.invariant.0 c.if-self.false c.in-Some.is c.deref.ensures.value c.call.ensures.model (g.met.D.Disk.reads_an_image s.disk) (g.met.D.Disk.reads_an_image new) c.in_default-call.ensures.done c.in-Some-next.behind (sym c.next.ensures ∙ c.in-Some-next.is) model).frames_same) (λ model. (whole_stays (g.D.Disk.keeps s.disk) (g.D.Disk.keeps new) (g.D.Disk.states s.disk) (g.D.Disk.states new) s.shape s.gate s.tally s.next s.bytes.items c.deref.result.now s.step s.broken c.in-Some.step c.self.invariant.0 c.if-self.false c.in-Some.is c.deref.ensures.value c.call.ensures.model (g.met.D.Disk.reads_an_image s.disk) (g.met.D.Disk.reads_an_image new) c.in_default-call.ensures.done c.in-Some-next.behind (sym c.next.ensures ∙ c.in-Some-next.is) model).vector_same),
-    )
+    let tick =
+    log_call c.self.invariant c.if-self.false c.in-Some.is c.deref.ensures.value c.call.ensures.model g.met.D.Disk.reads_an_image in
+    log_next tick c.in_default-call.ensures.done c.in-Some-next.behind (sym c.next.ensures ∙ c.in-Some-next.is)
 
 pub returns-in-Some-next-clause-images : goal.returns-in-Some-next-clause-images
-returns-in-Some-next-clause-images g c = rw (← c.self.view_is) (
-    let s = c.self.inside in
-    let new = c.call.new.disk in
-    whole_leaves (g.D.Disk.keeps s.disk) (g.D.Disk.keeps new) (g.D.Disk.states s.disk) (g.D.Disk.states new) s.shape s.gate s.tally s.next s.bytes.items c.deref.result.now s.step s.broken c.in-Some.step c.self.invariant.0
-    c.if-self.false c.in-Some.is c.deref.ensures.value c.call.ensures.model (g.met.D.Disk.reads_an_image s.disk) (g.met.D.Disk.reads_an_image new) c.call.result c.call.ensures.done c.call.ensures.failed)
+returns-in-Some-next-clause-images g c =
+    let tick =
+    log_call c.self.invariant c.if-self.false c.in-Some.is c.deref.ensures.value c.call.ensures.model g.met.D.Disk.reads_an_image in
+    rw (← c.self.view_is) (log_leaves tick c.call.result c.call.ensures.done c.call.ensures.failed)
 
 pub returns-in-Some-next-clause-kept : goal.returns-in-Some-next-clause-kept
 returns-in-Some-next-clause-kept g c =
-    let s = c.self.inside in
-    let new = c.call.new.disk in
-    λ model. pen_kept s.fold (g.D.Disk.keeps new) (g.D.Disk.states new) s.shape s.gate s.tally s.next s.bytes.items (Some c.in-Some-next.behind) s.broken
-    (whole_next (g.D.Disk.keeps s.disk) (g.D.Disk.keeps new) (g.D.Disk.states s.disk) (g.D.Disk.states new) s.shape s.gate s.tally s.next s.bytes.items c.deref.result.now s.step s.broken c.in-Some.step c.self.invariant.0
-    c.if-self.false c.in-Some.is c.deref.ensures.value c.call.ensures.model (g.met.D.Disk.reads_an_image s.disk) (g.met.D.Disk.reads_an_image new) c.in_default-call.ensures.done c.in-Some-next.behind (sym c.next.ensures ∙ c.in-Some-next.is)) model new (vec_capacity s.bytes)
+    let tick =
+    log_call c.self.invariant c.if-self.false c.in-Some.is c.deref.ensures.value c.call.ensures.model g.met.D.Disk.reads_an_image in
+    sound_kept (log_next tick c.in_default-call.ensures.done c.in-Some-next.behind (sym c.next.ensures ∙ c.in-Some-next.is))
 
 pub returns-in-Some-next-clause-ticked : goal.returns-in-Some-next-clause-ticked
 returns-in-Some-next-clause-ticked g c = rw (← c.self.view_is) (
@@ -117,67 +105,102 @@ returns-in-Some-next-clause-ticked g c = rw (← c.self.view_is) (
     ))
 
 pub returns-in-Some-next-clause-file : goal.returns-in-Some-next-clause-file
-returns-in-Some-next-clause-file g c = rw (← c.self.view_is) (
-    let s = c.self.inside in
-    let new = c.call.new.disk in
-    λ model. let same = whole_stays (g.D.Disk.keeps s.disk) (g.D.Disk.keeps new) (g.D.Disk.states s.disk) (g.D.Disk.states new) s.shape s.gate s.tally s.next s.bytes.items c.deref.result.now s.step s.broken c.in-Some.step c.self.invariant.0
-    c.if-self.false c.in-Some.is c.deref.ensures.value c.call.ensures.model (g.met.D.Disk.reads_an_image s.disk) (g.met.D.Disk.reads_an_image new) c.in_default-call.ensures.done c.in-Some-next.behind (sym c.next.ensures ∙ c.in-Some-next.is) model in record { frames_same = same.frames_same; vector_same = same.vector_same })
+returns-in-Some-next-clause-file g c =
+    let tick =
+    log_call c.self.invariant c.if-self.false c.in-Some.is c.deref.ensures.value c.call.ensures.model g.met.D.Disk.reads_an_image in
+    rw (← c.self.view_is) (λ model.
+    let same = next_file tick c.in_default-call.ensures.done c.in-Some-next.behind (sym c.next.ensures ∙ c.in-Some-next.is) model in
+    record { frames_same = same.frames_same; vector_same = same.vector_same })
+
+-- ---- the last one
 
 pub cut-requires : goal.cut-requires
 cut-requires g c =
     let s = c.self.inside in
-    homes_in_turn (g.D.Disk.keeps s.disk) (g.D.Disk.states s.disk) s.shape s.gate s.tally s.bytes.items s.step s.homes s.live c.self.invariant.1 c.in-Some.step c.in-Some.is s.next c.self.invariant.0.job
+    homes_in_turn c.self.invariant.lists c.in-Some.step c.in-Some.is s.next c.self.invariant.job.job
 
 pub invariant_of-self-in-None : goal.invariant_of-self-in-None
 invariant_of-self-in-None g c =
     let s = c.self.inside in
-    let new = c.call.new.disk in (
-      pen_last (g.D.Disk.keeps s.disk) (g.D.Disk.keeps new) (g.D.Disk.states s.disk) (g.D.Disk.states new) s.shape s.gate s.tally s.next s.bytes.items c.deref.result.now c.end.new.bytes.items s.step s.broken c.in-Some.step s.homes (record { homes = c.cut.new.self.homes; live = c.end.new.live }) s.live c.len-self-inside.result s.fold c.end.new.self c.self.invariant.0 c.self.invariant.1 c.self.invariant.2 c.if-self.false c.in-Some.is c.deref.ensures.value c.call.ensures.model (g.met.D.Disk.reads_an_image s.disk) (g.met.D.Disk.reads_an_image new) c.in_default-call.ensures.done (s.gate + (c.len.result - 1)) (ap (λ n. s.gate + (n - 1)) (c.len.ensures ∙ sym c.deref.ensures.len)) (sym c.next.ensures ∙ c.in-None.is) c.cut.ensures.in_turn c.cut.ensures.each (c.len-self-inside.ensures ∙ c.end.new.live.ok.0) c.end.ensures.stage (c.end.ensures.live ∙ ap (λ live. live_after s.fold.stage s.fold.runs live.items) c.cut.ensures.live) (λ unfiled. (c.end.ensures.same unfiled).0),
-      listed_last (g.D.Disk.keeps s.disk) (g.D.Disk.keeps new) (g.D.Disk.states s.disk) (g.D.Disk.states new) s.shape s.gate s.tally s.next s.bytes.items c.deref.result.now c.end.new.bytes.items s.step s.broken c.in-Some.step s.homes (record { homes = c.cut.new.self.homes; live = c.end.new.live }) s.live c.len-self-inside.result s.fold c.end.new.self c.self.invariant.0 c.self.invariant.1 c.self.invariant.2 c.if-self.false c.in-Some.is c.deref.ensures.value c.call.ensures.model (g.met.D.Disk.reads_an_image s.disk) (g.met.D.Disk.reads_an_image new) c.in_default-call.ensures.done (s.gate + (c.len.result - 1)) (ap (λ n. s.gate + (n - 1)) (c.len.ensures ∙ sym c.deref.ensures.len)) (sym c.next.ensures ∙ c.in-None.is) c.cut.ensures.in_turn c.cut.ensures.each (c.len-self-inside.ensures ∙ c.end.new.live.ok.0) c.end.ensures.stage (c.end.ensures.live ∙ ap (λ live. live_after s.fold.stage s.fold.runs live.items) c.cut.ensures.live) (λ unfiled. (c.end.ensures.same unfiled).0),
-      fold_last (g.D.Disk.keeps s.disk) (g.D.Disk.keeps new) (g.D.Disk.states s.disk) (g.D.Disk.states new) s.shape s.gate s.tally s.next s.bytes.items c.deref.result.now c.end.new.bytes.items s.step s.broken c.in-Some.step s.homes (record { homes = c.cut.new.self.homes; live = c.end.new.live }) s.live c.len-self-inside.result s.fold c.end.new.self c.self.invariant.0 c.self.invariant.1 c.self.invariant.2 c.if-self.false c.in-Some.is c.deref.ensures.value c.call.ensures.model (g.met.D.Disk.reads_an_image s.disk) (g.met.D.Disk.reads_an_image new) c.in_default-call.ensures.done (s.gate + (c.len.result - 1)) (ap (λ n. s.gate + (n - 1)) (c.len.ensures ∙ sym c.deref.ensures.len)) (sym c.next.ensures ∙ c.in-None.is) c.cut.ensures.in_turn c.cut.ensures.each (c.len-self-inside.ensures ∙ c.end.new.live.ok.0) c.end.ensures.stage (c.end.ensures.live ∙ ap (λ live. live_after s.fold.stage s.fold.runs live.items) c.cut.ensures.live) (λ unfiled. (c.end.ensures.same unfiled).0),
-    )
+    let tick =
+    log_call c.self.invariant c.if-self.false c.in-Some.is c.deref.ensures.value c.call.ensures.model g.met.D.Disk.reads_an_image in
+    let end : LastCall tick (record s {
+      disk = c.call.new.disk;
+      gate = s.gate + (c.len.result - 1);
+      bytes = c.end.new.bytes;
+      homes = record { homes = c.cut.new.self.homes; live = c.end.new.live };
+      live = c.len-self-inside.result;
+      fold = c.end.new.self;
+    }) = record {
+      call = c.in_default-call.ensures.done;
+      moved = ap (λ n. s.gate + (n - 1)) (c.len.ensures ∙ sym c.deref.ensures.len);
+      last = sym c.next.ensures ∙ c.in-None.is;
+      turn = c.cut.ensures.in_turn;
+      each = c.cut.ensures.each;
+      all = c.len-self-inside.ensures ∙ c.end.new.live.ok.0;
+      ended = c.end.ensures.stage;
+      left = c.end.ensures.live ∙ ap (λ live. live_after s.fold.stage s.fold.runs live.items) c.cut.ensures.live;
+      same = λ unfiled. (c.end.ensures.same unfiled).0;
+    } in
+    log_last end
 
 pub returns-in-None-clause-images : goal.returns-in-None-clause-images
-returns-in-None-clause-images g c = rw (← c.self.view_is) (
-    let s = c.self.inside in
-    let new = c.call.new.disk in
-    whole_leaves (g.D.Disk.keeps s.disk) (g.D.Disk.keeps new) (g.D.Disk.states s.disk) (g.D.Disk.states new) s.shape s.gate s.tally s.next s.bytes.items c.deref.result.now s.step s.broken c.in-Some.step c.self.invariant.0
-    c.if-self.false c.in-Some.is c.deref.ensures.value c.call.ensures.model (g.met.D.Disk.reads_an_image s.disk) (g.met.D.Disk.reads_an_image new) c.call.result c.call.ensures.done c.call.ensures.failed)
+returns-in-None-clause-images g c =
+    let tick =
+    log_call c.self.invariant c.if-self.false c.in-Some.is c.deref.ensures.value c.call.ensures.model g.met.D.Disk.reads_an_image in
+    rw (← c.self.view_is) (log_leaves tick c.call.result c.call.ensures.done c.call.ensures.failed)
 
 pub returns-in-None-clause-kept : goal.returns-in-None-clause-kept
-returns-in-None-clause-kept g c =
-    let s = c.self.inside in
-    let new = c.call.new.disk in
-    λ model. pen_kept c.end.new.self (g.D.Disk.keeps new) (g.D.Disk.states new) s.shape (s.gate + (c.len.result - 1)) s.next s.next c.end.new.bytes.items None s.broken
-    (pen_last (g.D.Disk.keeps s.disk) (g.D.Disk.keeps new) (g.D.Disk.states s.disk) (g.D.Disk.states new) s.shape s.gate s.tally s.next s.bytes.items c.deref.result.now c.end.new.bytes.items s.step s.broken c.in-Some.step s.homes (record { homes = c.cut.new.self.homes; live = c.end.new.live }) s.live c.len-self-inside.result s.fold c.end.new.self c.self.invariant.0 c.self.invariant.1 c.self.invariant.2 c.if-self.false c.in-Some.is c.deref.ensures.value c.call.ensures.model (g.met.D.Disk.reads_an_image s.disk) (g.met.D.Disk.reads_an_image new) c.in_default-call.ensures.done (s.gate + (c.len.result - 1)) (ap (λ n. s.gate + (n - 1)) (c.len.ensures ∙ sym c.deref.ensures.len)) (sym c.next.ensures ∙ c.in-None.is) c.cut.ensures.in_turn c.cut.ensures.each (c.len-self-inside.ensures ∙ c.end.new.live.ok.0) c.end.ensures.stage (c.end.ensures.live ∙ ap (λ live. live_after s.fold.stage s.fold.runs live.items) c.cut.ensures.live) (λ unfiled. (c.end.ensures.same unfiled).0)) model new (vec_capacity c.end.new.bytes)
+returns-in-None-clause-kept g c = sound_kept (invariant_of-self-in-None g c)
 
 pub returns-in-None-clause-ticked : goal.returns-in-None-clause-ticked
 returns-in-None-clause-ticked g c = rw (← c.self.view_is) (
     let s = c.self.inside in
-    let new = c.call.new.disk in (
+    let tick =
+    log_call c.self.invariant c.if-self.false c.in-Some.is c.deref.ensures.value c.call.ensures.model g.met.D.Disk.reads_an_image in
+    let end : LastCall tick (record s {
+      disk = c.call.new.disk;
+      gate = s.gate + (c.len.result - 1);
+      bytes = c.end.new.bytes;
+      homes = record { homes = c.cut.new.self.homes; live = c.end.new.live };
+      live = c.len-self-inside.result;
+      fold = c.end.new.self;
+    }) = record {
+      call = c.in_default-call.ensures.done;
+      moved = ap (λ n. s.gate + (n - 1)) (c.len.ensures ∙ sym c.deref.ensures.len);
+      last = sym c.next.ensures ∙ c.in-None.is;
+      turn = c.cut.ensures.in_turn;
+      each = c.cut.ensures.each;
+      all = c.len-self-inside.ensures ∙ c.end.new.live.ok.0;
+      ended = c.end.ensures.stage;
+      left = c.end.ensures.live ∙ ap (λ live. live_after s.fold.stage s.fold.runs live.items) c.cut.ensures.live;
+      same = λ unfiled. (c.end.ensures.same unfiled).0;
+    } in (
       record { frame = frame_at s.shape s.bytes.items; step = c.in-Some.step },
       ap (job_of s.shape s.bytes.items) c.in-Some.is,
-      last_step c.in-Some.step (sym c.next.ensures ∙ c.in-None.is),
+      last_step c.in-Some.step end.last,
       record {
         shape_same = refl;
-        fold_is = fold_seen (g.D.Disk.keeps s.disk) (g.D.Disk.keeps new) (g.D.Disk.states s.disk) (g.D.Disk.states new) s.shape s.gate s.tally s.next s.bytes.items c.deref.result.now c.end.new.bytes.items s.step s.broken c.in-Some.step s.homes (record { homes = c.cut.new.self.homes; live = c.end.new.live }) s.live c.len-self-inside.result s.fold c.end.new.self c.self.invariant.0 c.self.invariant.1 c.self.invariant.2 c.if-self.false c.in-Some.is c.deref.ensures.value c.call.ensures.model (g.met.D.Disk.reads_an_image s.disk) (g.met.D.Disk.reads_an_image new) c.in_default-call.ensures.done (s.gate + (c.len.result - 1)) (ap (λ n. s.gate + (n - 1)) (c.len.ensures ∙ sym c.deref.ensures.len)) (sym c.next.ensures ∙ c.in-None.is) c.cut.ensures.in_turn c.cut.ensures.each (c.len-self-inside.ensures ∙ c.end.new.live.ok.0) c.end.ensures.stage (c.end.ensures.live ∙ ap (λ live. live_after s.fold.stage s.fold.runs live.items) c.cut.ensures.live) (λ unfiled. (c.end.ensures.same unfiled).0);
-        tally_is = whole_counts (g.D.Disk.keeps s.disk) (g.D.Disk.keeps new) (g.D.Disk.states s.disk) (g.D.Disk.states new) s.shape s.gate s.tally s.next s.bytes.items c.deref.result.now s.step s.broken c.in-Some.step c.self.invariant.0
-            c.if-self.false c.in-Some.is c.deref.ensures.value c.call.ensures.model (g.met.D.Disk.reads_an_image s.disk) (g.met.D.Disk.reads_an_image new);
-        gate_is = gate_moved (g.D.Disk.keeps s.disk) (g.D.Disk.keeps new) (g.D.Disk.states s.disk) (g.D.Disk.states new) s.shape s.gate s.tally s.next s.bytes.items c.deref.result.now s.step s.broken c.in-Some.step c.self.invariant.0
-            c.if-self.false c.in-Some.is c.deref.ensures.value c.call.ensures.model (g.met.D.Disk.reads_an_image s.disk) (g.met.D.Disk.reads_an_image new) c.in_default-call.ensures.done (s.gate + (c.len.result - 1)) (ap (λ n. s.gate + (n - 1)) (c.len.ensures ∙ sym c.deref.ensures.len)) (sym c.next.ensures ∙ c.in-None.is);
-        room_same = λ other. ap (λ bytes. vec_capacity bytes) (c.end.ensures.same (other_unfiled (g.D.Disk.keeps s.disk) (g.D.Disk.keeps new) (g.D.Disk.states s.disk) (g.D.Disk.states new) s.shape s.gate s.tally s.next s.bytes.items c.deref.result.now c.end.new.bytes.items s.step s.broken c.in-Some.step s.homes (record { homes = c.cut.new.self.homes; live = c.end.new.live }) s.live c.len-self-inside.result s.fold c.end.new.self c.self.invariant.0 c.self.invariant.1 c.self.invariant.2 c.if-self.false c.in-Some.is c.deref.ensures.value c.call.ensures.model (g.met.D.Disk.reads_an_image s.disk) (g.met.D.Disk.reads_an_image new) c.in_default-call.ensures.done (s.gate + (c.len.result - 1)) (ap (λ n. s.gate + (n - 1)) (c.len.ensures ∙ sym c.deref.ensures.len)) (sym c.next.ensures ∙ c.in-None.is) c.cut.ensures.in_turn c.cut.ensures.each (c.len-self-inside.ensures ∙ c.end.new.live.ok.0) c.end.ensures.stage (c.end.ensures.live ∙ ap (λ live. live_after s.fold.stage s.fold.runs live.items) c.cut.ensures.live) (λ unfiled. (c.end.ensures.same unfiled).0) other)).2;
-        places_same = λ other. ap (λ live. vec_capacity live - vec_len live) ((c.end.ensures.same (other_unfiled (g.D.Disk.keeps s.disk) (g.D.Disk.keeps new) (g.D.Disk.states s.disk) (g.D.Disk.states new) s.shape s.gate s.tally s.next s.bytes.items c.deref.result.now c.end.new.bytes.items s.step s.broken c.in-Some.step s.homes (record { homes = c.cut.new.self.homes; live = c.end.new.live }) s.live c.len-self-inside.result s.fold c.end.new.self c.self.invariant.0 c.self.invariant.1 c.self.invariant.2 c.if-self.false c.in-Some.is c.deref.ensures.value c.call.ensures.model (g.met.D.Disk.reads_an_image s.disk) (g.met.D.Disk.reads_an_image new) c.in_default-call.ensures.done (s.gate + (c.len.result - 1)) (ap (λ n. s.gate + (n - 1)) (c.len.ensures ∙ sym c.deref.ensures.len)) (sym c.next.ensures ∙ c.in-None.is) c.cut.ensures.in_turn c.cut.ensures.each (c.len-self-inside.ensures ∙ c.end.new.live.ok.0) c.end.ensures.stage (c.end.ensures.live ∙ ap (λ live. live_after s.fold.stage s.fold.runs live.items) c.cut.ensures.live) (λ unfiled. (c.end.ensures.same unfiled).0) other)).1 ∙ c.cut.ensures.live);
+        fold_is = fold_seen end;
+        tally_is = counts_after tick;
+        gate_is = gate_moved tick end.call (s.gate + (c.len.result - 1)) end.moved end.last;
+        room_same = λ other. ap (λ bytes. vec_capacity bytes) (c.end.ensures.same (other_unfiled end other)).2;
+        places_same = λ other.
+            ap (λ live. vec_capacity live - vec_len live)
+            ((c.end.ensures.same (other_unfiled end other)).1 ∙ c.cut.ensures.live);
         job_done = refl;
       },
     ))
 
 pub returns-in-None-clause-file : goal.returns-in-None-clause-file
-returns-in-None-clause-file g c = rw (← c.self.view_is) (
+returns-in-None-clause-file g c =
     let s = c.self.inside in
-    let new = c.call.new.disk in
-    rw c.in-Some.is (λ model. record {
-      frames_more = more_frames (g.D.Disk.keeps s.disk) (g.D.Disk.keeps new) (g.D.Disk.states s.disk) (g.D.Disk.states new) s.shape s.gate s.tally s.next s.bytes.items c.deref.result.now s.step s.broken c.in-Some.step c.self.invariant.0
-          c.if-self.false c.in-Some.is c.deref.ensures.value c.call.ensures.model (g.met.D.Disk.reads_an_image s.disk) (g.met.D.Disk.reads_an_image new) c.in_default-call.ensures.done (s.gate + (c.len.result - 1)) (ap (λ n. s.gate + (n - 1)) (c.len.ensures ∙ sym c.deref.ensures.len)) (sym c.next.ensures ∙ c.in-None.is) model;
-      vector_is = vector_then (g.D.Disk.keeps s.disk) (g.D.Disk.keeps new) (g.D.Disk.states s.disk) (g.D.Disk.states new) s.shape s.gate s.tally s.next s.bytes.items c.deref.result.now s.step s.broken c.in-Some.step c.self.invariant.0
-          c.if-self.false c.in-Some.is c.deref.ensures.value c.call.ensures.model (g.met.D.Disk.reads_an_image s.disk) (g.met.D.Disk.reads_an_image new) c.in_default-call.ensures.done (s.gate + (c.len.result - 1)) (ap (λ n. s.gate + (n - 1)) (c.len.ensures ∙ sym c.deref.ensures.len)) (sym c.next.ensures ∙ c.in-None.is) model;
+    let tick =
+    log_call c.self.invariant c.if-self.false c.in-Some.is c.deref.ensures.value c.call.ensures.model g.met.D.Disk.reads_an_image in
+    let gate = s.gate + (c.len.result - 1) in
+    let moved : gate ≡ s.gate + (length c.deref.result.now - 1) = ap (λ n. s.gate + (n - 1)) (c.len.ensures ∙ sym c.deref.ensures.len) in
+    let last = sym c.next.ensures ∙ c.in-None.is in
+    rw (← c.self.view_is) (rw c.in-Some.is (λ model. record {
+      frames_more = more_frames tick c.in_default-call.ensures.done gate moved last model;
+      vector_is = vector_then tick c.in_default-call.ensures.done gate moved last model;
     }))
