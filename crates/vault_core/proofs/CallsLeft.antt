@@ -76,7 +76,8 @@ lane_calls-few lanes.Log pen = omega (arith, calls_due-few pen.broken pen.job)
 lane_calls-few lanes.Home pen = omega (arith, home_calls_due-few pen.broken pen.fold)
 
 -- and one that succeeds leaves as many less as it makes
-pub lane_calls-ticked : {D : Type 0} (lane : Lane) (old new : PenOf D) (tick : Tick) → old.broken ≡ false → IsLaneTicked lane old new tick → lane_calls lane old + calls_left new ≤ calls_left old
+pub lane_calls-ticked : {D : Type 0} (lane : Lane) (old new : PenOf D) (tick : Tick) → old.broken ≡ false → IsLaneTicked lane old new tick
+    → lane_calls lane old + calls_left new ≤ calls_left old
 lane_calls-ticked lanes.Log old new ticks.Idle whole ticked =
     let due : calls_due old.broken old.job ≡ 0 = ap (λ b. calls_due b old.job) whole ∙ ap (calls_due false) ticked.0 in
     omega (arith, due, ap calls_left ticked.1)
@@ -100,7 +101,8 @@ lane_calls-ticked lanes.Home old new ticks.Idle whole ticked =
 lane_calls-ticked lanes.Home old new ticks.Step whole ticked =
     let fold = ticked.0 in
     let called : HomesCalled fold old new = ticked.2 in
-    let due : home_calls_due old.broken old.fold ≡ 1 = ap (λ b. home_calls_due b old.fold) whole ∙ ap (home_calls_due false) called.fold_was ∙ ap {B = ℕ} (λ b. if b then 1 else 0) ticked.1 in
+    let due : home_calls_due old.broken old.fold ≡ 1 = ap (λ b. home_calls_due b old.fold) whole ∙ ap (home_calls_due false) called.fold_was
+    ∙ ap {B = ℕ} (λ b. if b then 1 else 0) ticked.1 in
     let was = ap (λ f. fold_calls (fold_stage f)) called.fold_was in
     let is = ap (λ f. fold_calls (fold_stage f)) called.fold_is in
     omega (arith, due, was, is, fold_calls-after fold.stage ticked.1, ap log_left called.job_same)

@@ -66,14 +66,16 @@ module _ {D : Type 0} where
   module _ (old new : PenOf D) where
     -- the file counts and holds what these are with what is in hand
     module _ {X : Type 0} (more : X → Frame → X) (before behind : X) where
-      then-step : (job : JobOf) → old.job ≡ Some job → next_job job new.job → new.fold ≡ old.fold → behind ≡ before → with_fold more new.fold (with_job more new.job behind) ≡ with_fold more old.fold (with_job more old.job before)
+      then-step : (job : JobOf) → old.job ≡ Some job → next_job job new.job → new.fold ≡ old.fold → behind ≡ before
+          → with_fold more new.fold (with_job more new.job behind) ≡ with_fold more old.fold (with_job more old.job before)
       then-step job was next fold same =
           ap (λ (f : Option FoldOf). with_fold more f (with_job more new.job behind)) fold
           ∙ (ap (λ (j : Option JobOf). with_fold more old.fold (with_job more j behind)) next.2
           ∙ (ap (λ (t : X). with_fold more old.fold (more t job.frame)) same
           ∙ sym (ap (λ (j : Option JobOf). with_fold more old.fold (with_job more j before)) was)))
 
-      then-done : (job : JobOf) → old.job ≡ Some job → new.fold ≡ fold_behind job.frame old.fold → new.job ≡ None → behind ≡ more before job.frame → IsOrderly old → with_fold more new.fold (with_job more new.job behind) ≡ with_fold more old.fold (with_job more old.job before)
+      then-done : (job : JobOf) → old.job ≡ Some job → new.fold ≡ fold_behind job.frame old.fold → new.job ≡ None → behind ≡ more before job.frame
+          → IsOrderly old → with_fold more new.fold (with_job more new.job behind) ≡ with_fold more old.fold (with_job more old.job before)
       then-done job was fold none is o =
           ap (λ (f : Option FoldOf). with_fold more f (with_job more new.job behind)) fold
           ∙ (ap (λ (j : Option JobOf). with_fold more (fold_behind job.frame old.fold) (with_job more j behind)) none
@@ -81,7 +83,8 @@ module _ {D : Type 0} where
           ∙ (with_fold-behind more job.frame old.fold before (subst (λ (j : Option JobOf). IfSome j (λ k. IsFiledBy k.frame old.fold)) was o)
           ∙ sym (ap (λ (j : Option JobOf). with_fold more old.fold (with_job more j before)) was))))
 
-      then-called : (fold : FoldOf) → has_call fold.stage ≡ true → HomesCalled fold old new → behind ≡ before → with_fold more new.fold (with_job more new.job behind) ≡ with_fold more old.fold (with_job more old.job before)
+      then-called : (fold : FoldOf) → has_call fold.stage ≡ true → HomesCalled fold old new → behind ≡ before
+          → with_fold more new.fold (with_job more new.job behind) ≡ with_fold more old.fold (with_job more old.job before)
       then-called fold has homes same =
           ap (λ (f : Option FoldOf). with_fold more f (with_job more new.job behind)) homes.fold_is
           ∙ (ap (λ (j : Option JobOf). with_fold more (Some (called fold)) (with_job more j behind)) homes.job_same

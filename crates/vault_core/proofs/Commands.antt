@@ -1,6 +1,6 @@
 -- What every command promises.
 use Rattle.std.proofs.Common.{◌≡◌, ℕ, ◌+◌, ◌-◌, ◌*◌, List, Bool, true, false, [], ◌∷◌, length, Option, Some, None, inl, inr, refl, sym, ap, subst, ◌∙◌, arith}
-use Rattle.std.specs.Prelude.{Ok, Err, MatchOption, ◌≤◌}
+use Rattle.std.specs.Prelude.{Result, Ok, Err, IfErr, MatchOption, MatchResult, ◌≤◌}
 use Rattle.std.specs.Option.{is_some}
 use Rattle.std.specs.List.{AllByRecursion}
 use Rattle.std.proofs.lemmas.Option.{same_Some}
@@ -18,14 +18,15 @@ use Rattle.pen_core.specs.declared.step.Step.{Step}
 use Rattle.pen_core.specs.declared.step.Step.TheVariants.{Body, BodySync, Gate, GateSync}
 use Rattle.pen_core.specs.Step.{steps_left}
 use Rattle.pen_core.specs.PenOf.{PenOf}
-use Rattle.pen_core.specs.Pen.{MayOpen, FileSame, FileGains, BeginsFrame, IsUnchanged, vector_after, vector_with, log_left, failed_calls}
+use Rattle.pen_core.specs.Pen.{MayOpen, FileSame, FileGains, IsUnchanged, vector_after, vector_with, log_left, failed_calls}
 use Rattle.pen_core.specs.Refusals.{first_refusal, IsRefusal}
 use Rattle.vault_core.specs.declared.fault.VaultFault.TheVariants.{Pen}
-use Rattle.vault_core.specs.Vault.{VaultOf, IsVault, OpensToEither, list_of}
+use Rattle.vault_core.specs.declared.fault.VaultFault.{VaultFault}
+use Rattle.vault_core.specs.Vault.{VaultOf, IsVault, OpensToEither, list_of, vault_of}
 use Rattle.pen_core.specs.Settled.{IsLogSettled, IsLogFault, frames_after, frames_and}
 use Rattle.pen_core.specs.Vectors.{frames_with}
-use Rattle.vault_core.specs.Commands.{IsCommand, IsCommandFault, Stands, StandsBehind, calls_made, calls_if}
-use Rattle.vault_core.proofs.Kept.{vault_of, done_kept, done_sure, done_pen, failed_kept, failed_sure, failed_pen, failed_stands, stopped, command_images, sure_same}
+use Rattle.vault_core.specs.Commands.{IsBegun, IsCommand, IsStopFault, Stands, calls_if}
+use Rattle.vault_core.proofs.Kept.{before, done_sure, done_pen, failed_sure, failed_pen, failed_stands, stopped, command_images, sure_same}
 
 -- ---- tests
 
@@ -33,7 +34,8 @@ use Rattle.vault_core.proofs.Kept.{vault_of, done_kept, done_sure, done_pen, fai
 abbrev pub AreQuiet : List (Bool × PenFault) → Type 0
 AreQuiet lines = AllByRecursion (λ line. failed_calls line.1 ≡ 0) lines
 
-quiet_first : (lines : List (Bool × PenFault)) → AreQuiet lines → (o : Option PenFault) → first_refusal lines ≡ o → (fault : PenFault) → MatchOption o (fault ≡ faults.Memory) (λ first. fault ≡ first) → failed_calls fault ≡ 0
+quiet_first : (lines : List (Bool × PenFault)) → AreQuiet lines → (o : Option PenFault) → first_refusal lines ≡ o → (fault : PenFault)
+    → MatchOption o (fault ≡ faults.Memory) (λ first. fault ≡ first) → failed_calls fault ≡ 0
 quiet_first [] quiet None is fault why = ap failed_calls why
 quiet_first [] quiet (Some f) is fault why = absurd cc
 quiet_first ((true, first) ∷ lines) quiet None is fault why = absurd cc
@@ -79,7 +81,8 @@ steps_left-most BodySync = omega arith
 steps_left-most Gate = omega arith
 steps_left-most GateSync = omega arith
 
-module _ {R D : Type 0} (form : Encoding R) (keeps : D → Type 0) (states : D → List State) (faults_of : D → ℕ) (v : VaultOf R D) (is : IsVault (keeps v.pen.disk) form v) (frame : Frame) (lines : List (Bool × PenFault)) where
+module _ {R D : Type 0} (form : Encoding R) (keeps : D → Type 0) (states : D → List State) (faults_of : D → ℕ) (v : VaultOf R D)
+    (is : IsVault (keeps v.pen.disk) form v) (frame : Frame) (lines : List (Bool × PenFault)) where
   -- ---- refused
 
   pub refused_command : (pen : PenOf D) (fault : PenFault) → IsUnchanged v.pen pen → AreQuiet lines → IsRefusal lines fault
@@ -99,74 +102,80 @@ module _ {R D : Type 0} (form : Encoding R) (keeps : D → Type 0) (states : D �
         goes_on = λ _. tt;
       }
 
-  -- ---- begun
+pub stop_fault : {D : Type 0} (mid new : PenOf D) (fault : PenFault) → mid.broken ≡ false → IsLogFault mid new fault → IsStopFault (Pen fault)
+stop_fault mid new fault whole why = elim why [
+  | inl barred ↦ (let it = barred.1 in absurd cc)
+  | inr at ↦ (at.1, ap Pen at.4)
+]
 
-  module _ (whole : v.pen.broken ≡ false) (mid : PenOf D) (begun : BeginsFrame frame v.pen mid) (blocks : List (List R))
-      (size : (after v.pen.tally frame).size ≡ length (joined blocks)) (next : keeps v.pen.disk → AreCellsOf form (vector_after mid) (joined blocks)) (new : PenOf D)
-      (images : keeps new.disk → LeavesOnly (states mid.disk) (states new.disk) (MayOpen mid)) (model : keeps new.disk → keeps mid.disk) where
-    was : keeps mid.disk → keeps v.pen.disk
-    was = subst keeps begun.disk_same
+-- what a commit that stopped has made stands
+pub stands_made : (made was : Type 0) (result : Result (Unit {0}) VaultFault) → IfErr result IsStopFault → made → MatchResult result (λ _. made) (Stands made was)
+stands_made made was (Ok done) stops it = it
+stands_made made was (Err fault) stops it = subst (Stands made was) (sym stops.1) it
 
-    back : keeps new.disk → keeps v.pen.disk
-    back now = was (model now)
+-- ---- begun
 
-    left : log_left mid.job ≡ 4
-    left = ap log_left begun.job_is
+module _ {R D : Type 0} {form : Encoding R} {keeps : D → Type 0} (states : D → List State) (faults_of : D → ℕ) {v : VaultOf R D} {frame : Frame} {mid : PenOf D} {blocks : List (List R)}
+    (b : IsBegun form keeps v frame mid blocks) (lines : List (Bool × PenFault)) (allowed : first_refusal lines ≡ None)
+    (new : PenOf D) (model : keeps new.disk → keeps mid.disk) (images : keeps new.disk → LeavesOnly (states mid.disk) (states new.disk) (MayOpen mid)) where
+  back : keeps new.disk → keeps v.pen.disk
+  back now = before b (model now)
 
-    leaves : keeps new.disk → LeavesOnly (states v.pen.disk) (states new.disk) (OpensToEither form v.sure (joined blocks))
-    leaves now =
-        command_images form (keeps v.pen.disk) v is whole frame mid begun blocks size next (states new.disk) (states v.pen.disk) (back now)
-        (subst (λ (d : D). LeavesOnly (states d) (states new.disk) (MayOpen mid)) begun.disk_same (images now))
+  left : log_left mid.job ≡ 4
+  left = ap log_left b.begins.job_is
 
-    module _ (settled : IsLogSettled mid new) (still : new.broken ≡ false) (file : keeps new.disk → new.vector ≡ vector_after mid) where
-      pub committed_kept : IsVault (keeps new.disk) form (vault_of form new blocks)
-      committed_kept = done_kept form (keeps v.pen.disk) v is whole frame mid begun blocks size next new (keeps new.disk) settled still back file
+  leaves : keeps new.disk → LeavesOnly (states v.pen.disk) (states new.disk) (OpensToEither form v.sure (joined blocks))
+  leaves now =
+      command_images b (states new.disk) (states v.pen.disk) (back now)
+      (subst (λ (d : D). LeavesOnly (states d) (states new.disk) (MayOpen mid)) b.begins.disk_same (images now))
 
-      gained : keeps new.disk → new.frames ≡ frames_after mid → FileGains frame v.pen new
-      gained now frames = record {
-        frames_more = frames ∙ ap (frames_and mid.frames) begun.job_is ∙ ap (λ fs. frames_with fs frame) begun.file_same.frames_same;
-        vector_is = file now ∙ ap (vector_with mid.shape mid.vector) begun.job_is ∙ ap (λ (s : Shape). after_frame s.width mid.vector frame) begun.shape_same ∙ ap (λ cells. after_frame v.pen.shape.width cells frame) begun.file_same.vector_same;
-      }
+  module _ (settled : IsLogSettled mid new) (still : new.broken ≡ false) (file : keeps new.disk → new.vector ≡ vector_after mid) where
+    gained : keeps new.disk → new.frames ≡ frames_after mid → FileGains frame v.pen new
+    gained now frames = record {
+      frames_more = frames ∙ ap (frames_and mid.frames) b.begins.job_is ∙ ap (λ fs. frames_with fs frame) b.begins.file_same.frames_same;
+      vector_is =
+          file now ∙ ap (vector_with mid.shape mid.vector) b.begins.job_is ∙ ap (λ (s : Shape). after_frame s.width mid.vector frame) b.begins.shape_same
+          ∙ ap (λ cells. after_frame v.pen.shape.width cells frame) b.begins.file_same.vector_same;
+    }
 
-      pub committed_command : first_refusal lines ≡ None → clock (states new.disk) ≡ clock (states mid.disk) + log_left mid.job → faults_of new.disk ≡ faults_of mid.disk → (keeps mid.disk → keeps new.disk) → (keeps new.disk → new.frames ≡ frames_after mid)
-          → IsCommand form keeps states faults_of frame lines v (vault_of form new blocks) (Ok tt)
-      committed_command allowed time calls goes_on frames = record {
-        pen = done_pen form (keeps v.pen.disk) v is whole frame mid begun blocks size next new (keeps new.disk) settled still back file;
-        allowed = allowed;
-        file = λ now. gained now (frames now);
-        sure = done_sure form (keeps v.pen.disk) v is whole frame mid begun blocks size next new (keeps new.disk) settled still back file;
-        images = leaves;
-        time = time ∙ ap (λ n. clock (states mid.disk) + n) left ∙ ap (λ d. clock (states d) + 4) begun.disk_same;
-        failed_calls = calls ∙ ap faults_of begun.disk_same;
-        model = back;
-        goes_on = λ now. goes_on (subst keeps (sym begun.disk_same) now);
-      }
+    pub committed_command : clock (states new.disk) ≡ clock (states mid.disk) + log_left mid.job → faults_of new.disk ≡ faults_of mid.disk
+        → (keeps mid.disk → keeps new.disk) → (keeps new.disk → new.frames ≡ frames_after mid)
+        → IsCommand form keeps states faults_of frame lines v (vault_of form new blocks) (Ok tt)
+    committed_command time calls goes_on frames = record {
+      pen = done_pen b new model settled still file;
+      allowed = allowed;
+      file = λ now. gained now (frames now);
+      sure = done_sure b new model settled still file;
+      images = leaves;
+      time = time ∙ ap (λ n. clock (states mid.disk) + n) left ∙ ap (λ d. clock (states d) + 4) b.begins.disk_same;
+      failed_calls = calls ∙ ap faults_of b.begins.disk_same;
+      model = back;
+      goes_on = λ now. goes_on (subst keeps (sym b.begins.disk_same) now);
+    }
 
-    module _ (fault : PenFault) (why : IsLogFault mid new fault) (file : keeps new.disk → FileSame mid new) where
-      pub stopped_kept : IsVault (keeps new.disk) form (vault_of form new blocks)
-      stopped_kept = failed_kept form (keeps v.pen.disk) v is whole frame mid begun blocks size next new (keeps new.disk) fault why back file
-
-      pub stopped_stands : (made was : Type 0) → made → Stands made was (Pen fault)
-      stopped_stands made was it = failed_stands form (keeps v.pen.disk) v is whole frame mid begun blocks size next new (keeps new.disk) fault why back file made was it
-
-      pub stopped_command : first_refusal lines ≡ None → clock (states new.disk) + log_left new.job ≡ clock (states mid.disk) + log_left mid.job + failed_calls fault → faults_of new.disk ≡ faults_of mid.disk + failed_calls fault
-          → IsCommand form keeps states faults_of frame lines v (vault_of form new blocks) (Err (Pen fault))
-      stopped_command allowed time calls =
-          let at = stopped form (keeps v.pen.disk) v is whole frame mid begun blocks size next new (keeps new.disk) fault why back file in
-          let one : failed_calls fault ≡ 1 = ap failed_calls at.1 in
-          let here : log_left new.job ≡ steps_left at.0 = ap log_left at.2.job_is in
-          let most = steps_left-most at.0 in
-          record {
-            pen = failed_pen form (keeps v.pen.disk) v is whole frame mid begun blocks size next new (keeps new.disk) fault why back file lines allowed;
-            allowed = tt;
-            file = λ now. record { frames_same = (file now).frames_same ∙ begun.file_same.frames_same; vector_same = (file now).vector_same ∙ begun.file_same.vector_same };
-            sure = failed_sure form (keeps v.pen.disk) v is whole frame mid begun blocks size next new (keeps new.disk) fault why back file;
-            images = λ now. stopped_stands _ (new.disk ≡ v.pen.disk) (leaves now);
-            time =
-                let all : calls_if (failed_calls fault) (5 - log_left new.job) ≡ 5 - log_left new.job = ap (λ n. calls_if n (5 - log_left new.job)) one in
-                let disk : clock (states mid.disk) ≡ clock (states v.pen.disk) = ap (λ d. clock (states d)) begun.disk_same in
-                omega (arith, all, time, left, one, here, most);
-            failed_calls = calls ∙ ap (λ d. faults_of d + failed_calls fault) begun.disk_same;
-            model = back;
-            goes_on = λ _. tt;
-          }
+  module _ (fault : PenFault) (why : IsLogFault mid new fault) (file : keeps new.disk → FileSame mid new) where
+    pub stopped_command : clock (states new.disk) + log_left new.job ≡ clock (states mid.disk) + log_left mid.job + failed_calls fault
+        → faults_of new.disk ≡ faults_of mid.disk + failed_calls fault
+        → IsCommand form keeps states faults_of frame lines v (vault_of form new blocks) (Err (Pen fault))
+    stopped_command time calls =
+        let at = stopped b new model fault why file in
+        let one : failed_calls fault ≡ 1 = ap failed_calls at.1 in
+        let here : log_left new.job ≡ steps_left at.0 = ap log_left at.2.job_is in
+        let most = steps_left-most at.0 in
+        record {
+          pen = failed_pen b new model fault why file lines allowed;
+          allowed = tt;
+          file = λ now. record {
+            frames_same = (file now).frames_same ∙ b.begins.file_same.frames_same;
+            vector_same = (file now).vector_same ∙ b.begins.file_same.vector_same;
+          };
+          sure = failed_sure b new model fault why file;
+          images = λ now. failed_stands b new model fault why file _ (new.disk ≡ v.pen.disk) (leaves now);
+          time =
+              let all : calls_if (failed_calls fault) (5 - log_left new.job) ≡ 5 - log_left new.job = ap (λ n. calls_if n (5 - log_left new.job)) one in
+              let disk : clock (states mid.disk) ≡ clock (states v.pen.disk) = ap (λ d. clock (states d)) b.begins.disk_same in
+              omega (arith, all, time, left, one, here, most);
+          failed_calls = calls ∙ ap (λ d. faults_of d + failed_calls fault) b.begins.disk_same;
+          model = back;
+          goes_on = λ _. tt;
+        }

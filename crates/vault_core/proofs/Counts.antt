@@ -29,7 +29,9 @@ few_counts p slices = omega (arith, counts p slices, count_by-le-length p (recor
 
 pub take-append-past : {X : Type 0} (xs ys : List X) (n : ℕ) → take (length xs + n) (xs ++ ys) ≡ xs ++ take n ys
 take-append-past [] ys n = let same : 0 + n ≡ n = omega arith in ap (λ k. take k ys) same
-take-append-past (x ∷ xs) ys n = let same : suc (length xs) + n ≡ suc (length xs + n) = omega arith in ap (λ k. take k (x ∷ (xs ++ ys))) same ∙ ap (λ (zs : List _). x ∷ zs) (take-append-past xs ys n)
+take-append-past (x ∷ xs) ys n =
+    let same : suc (length xs) + n ≡ suc (length xs + n) = omega arith in
+    ap (λ k. take k (x ∷ (xs ++ ys))) same ∙ ap (λ (zs : List _). x ∷ zs) (take-append-past xs ys n)
 
 pub Yields-push : {S A : Type 0} (steps : S → Option A → S → Type 0) (s t u : S) (xs : List A) (x : A) → Yields steps s xs t → steps t (Some x) u → Yields steps s (xs ++ x ∷ []) u
 Yields-push steps s t u [] x same step = (u, subst (λ v. steps v (Some x) u) (sym same) step, refl)
@@ -41,7 +43,8 @@ records_push {R} slices s =
     ∙ flat_map-append (λ (rs : List R). rs) (map (λ (t : Bor (List R)). t.now) slices) (s.now ∷ [])
     ∙ ap (λ (rs : List R). records_in slices ++ rs) (append-nil s.now)
 
-module _ {I R : Type 0} (steps : I → Option (Bor (List R)) → I → Type 0) (p : R → Bool) (start here next : I) (items : List (Bor (List R))) (piece : Bor (List R)) (few : LendsFew steps start) (so_far : Yields steps start items here) (step : steps here (Some piece) next) where
+module _ {I R : Type 0} (steps : I → Option (Bor (List R)) → I → Type 0) (p : R → Bool) (start here next : I) (items : List (Bor (List R)))
+    (piece : Bor (List R)) (few : LendsFew steps start) (so_far : Yields steps start items here) (step : steps here (Some piece) next) where
   pub lent : Yields steps start (items ++ piece ∷ []) next
   lent = Yields-push steps start here next items piece so_far step
 
@@ -52,7 +55,8 @@ module _ {I R : Type 0} (steps : I → Option (Bor (List R)) → I → Type 0) (
   lent_counted = ap (count_by p) (records_push items piece) ∙ sum_by-append (λ x. cond (p x) 1 0) (records_in items) piece.now
 
   -- the first one that is picked is in this piece
-  pub found_first : (before place : ℕ) → before ≡ length (records_in items) → count_by p (records_in items) ≡ 0 → place < length piece.now → count_by p (take place piece.now) ≡ 0 → IsSomeAnd (slice_get piece.now place) (λ r. p r ≡ true)
+  pub found_first : (before place : ℕ) → before ≡ length (records_in items) → count_by p (records_in items) ≡ 0 → place < length piece.now
+      → count_by p (take place piece.now) ≡ 0 → IsSomeAnd (slice_get piece.now place) (λ r. p r ≡ true)
       → (count_by p (take (before + place) (records_in (items ++ piece ∷ []))) ≡ 0) × IsSomeAnd (slice_get (records_in (items ++ piece ∷ [])) (before + place)) (λ r. p r ≡ true)
   found_first before place at none lt rest here =
       let front : List R = records_in items in
@@ -63,7 +67,8 @@ module _ {I R : Type 0} (steps : I → Option (Bor (List R)) → I → Type 0) (
             ∙ ap (count_by p) (take-append-past front piece.now place)
             ∙ sum_by-append (λ x. cond (p x) 1 0) front (take place piece.now) ∙ ap (λ n. n + count_by p (take place piece.now)) none ∙ (omega (arith, rest)),
         subst (λ (o : Option R). IsSomeAnd o (λ r. p r ≡ true))
-            (sym (ap (λ (rs : List R). slice_get rs (before + place)) (records_push items piece) ∙ slice_get-append_right front piece.now (before + place) (omega arith) ∙ ap (slice_get piece.now) less)) here,
+            (sym (ap (λ (rs : List R). slice_get rs (before + place)) (records_push items piece)
+            ∙ slice_get-append_right front piece.now (before + place) (omega arith) ∙ ap (slice_get piece.now) less)) here,
       )
 
 pub found_within : {R : Type 0} (p : R → Bool) (records : List R) (place : ℕ) → IsSomeAnd (slice_get records place) (λ r. p r ≡ true) → place < length records
@@ -72,6 +77,7 @@ found_within p (r ∷ records) zero here = omega arith
 found_within p (r ∷ records) (suc place) here = let rest = found_within p records place here in omega arith
 
 -- what it has lent so far, and no more where that was all
-pub lent_until : {I R : Type 0} (steps : I → Option (Bor (List R)) → I → Type 0) (start here : I) (items : List (Bor (List R))) (found : Option ℕ) → LendsAll steps start items → Yields steps start items here → LendsUntil steps start items found
+pub lent_until : {I R : Type 0} (steps : I → Option (Bor (List R)) → I → Type 0) (start here : I) (items : List (Bor (List R))) (found : Option ℕ)
+    → LendsAll steps start items → Yields steps start items here → LendsUntil steps start items found
 lent_until steps start here items None all so_far = all
 lent_until steps start here items (Some i) all so_far = (here, so_far)

@@ -15,14 +15,16 @@ use Rattle.vault_core.proofs.Counts.{take-append-past, found_within}
 -- ---- slices
 
 -- the records of slices stand before, in and behind each of them
-pub at_slice : {R : Type 0} (slices : List (Bor (List R))) (k : ℕ) (d : Bor (List R)) → k < length slices → records_in slices ≡ records_in (take k slices) ++ ((get_or slices k d).now ++ records_in (drop (suc k) slices))
+pub at_slice : {R : Type 0} (slices : List (Bor (List R))) (k : ℕ) (d : Bor (List R)) → k < length slices
+    → records_in slices ≡ records_in (take k slices) ++ ((get_or slices k d).now ++ records_in (drop (suc k) slices))
 at_slice [] k d lt = absurd (omega arith)
 at_slice (s ∷ slices) zero d lt = refl
 at_slice {R} (s ∷ slices) (suc k) d lt =
     ap (λ (rs : List R). s.now ++ rs) (at_slice slices k d (omega arith))
     ∙ sym (append_assoc s.now (records_in (take k slices)) ((get_or slices k d).now ++ records_in (drop (suc k) slices)))
 
-pub at_slice_len : {R : Type 0} (slices : List (Bor (List R))) (k : ℕ) (d : Bor (List R)) → k < length slices → length (records_in (take k slices)) + length (get_or slices k d).now ≤ length (records_in slices)
+pub at_slice_len : {R : Type 0} (slices : List (Bor (List R))) (k : ℕ) (d : Bor (List R)) → k < length slices
+    → length (records_in (take k slices)) + length (get_or slices k d).now ≤ length (records_in slices)
 at_slice_len slices k d lt =
     let front = records_in (take k slices) in
     let back = records_in (drop (suc k) slices) in
@@ -68,7 +70,9 @@ module _ {R : Type 0} (p : R → Bool) where
       )
 
   -- the first of the first slice with one that is picked
-  pub first_of_slices : (slices : List (Bor (List R))) (k : ℕ) (d : Bor (List R)) (place : ℕ) → k < length slices → count_by p (records_in (take k slices)) ≡ 0 → IsFirst p (get_or slices k d).now (Some place) → IsFirst p (records_in slices) (Some (length (records_in (take k slices)) + place))
+  pub first_of_slices : (slices : List (Bor (List R))) (k : ℕ) (d : Bor (List R)) (place : ℕ) → k < length slices
+      → count_by p (records_in (take k slices)) ≡ 0 → IsFirst p (get_or slices k d).now (Some place)
+      → IsFirst p (records_in slices) (Some (length (records_in (take k slices)) + place))
   first_of_slices slices k d place lt none first =
       subst (λ (rs : List R). IsFirst p rs (Some (length (records_in (take k slices)) + place))) (sym (at_slice slices k d lt))
       (first_behind (records_in (take k slices)) ((get_or slices k d).now ++ records_in (drop (suc k) slices)) place none
@@ -85,7 +89,8 @@ module _ {R : Type 0} (p : R → Bool) where
       omega (arith, ap length passed.1, length-append passed.0 left)
 
   -- more were let go of those that were left
-  pub passes_on : (start before then : ℕ) (records left rest later front back : List R) → PassesOver p start records before (left ++ rest) → PassesOver p before left then later → rest ≡ front ++ back → PassesOver p start records then ((later ++ front) ++ back)
+  pub passes_on : (start before then : ℕ) (records left rest later front back : List R) → PassesOver p start records before (left ++ rest)
+      → PassesOver p before left then later → rest ≡ front ++ back → PassesOver p start records then ((later ++ front) ++ back)
   passes_on start before then records left rest later front back passed more cut =
       let at₁ = passed.3 in
       let at₂ = more.3 in
@@ -94,13 +99,15 @@ module _ {R : Type 0} (p : R → Bool) where
         passed.0 ++ more.0,
         passed.1
             ∙ ap (λ (rs : List R). passed.0 ++ (rs ++ rest)) more.1
-            ∙ ap (λ (rs : List R). passed.0 ++ rs) (append_assoc more.0 later rest ∙ ap (λ (rs : List R). more.0 ++ (later ++ rs)) cut ∙ ap (λ (rs : List R). more.0 ++ rs) (sym (append_assoc later front back)))
+            ∙ ap (λ (rs : List R). passed.0 ++ rs) (append_assoc more.0 later rest ∙ ap (λ (rs : List R). more.0 ++ (later ++ rs)) cut
+            ∙ ap (λ (rs : List R). more.0 ++ rs) (sym (append_assoc later front back)))
             ∙ sym (append_assoc passed.0 more.0 ((later ++ front) ++ back)),
         counts-append passed.0 more.0 ∙ omega (arith, none₁, none₂),
         omega (arith, length-append passed.0 more.0),
       )
 
-  pub passes_more : (start before then : ℕ) (records left more later : List R) → PassesOver p start records before left → PassesOver p before (left ++ more) then later → PassesOver p start (records ++ more) then later
+  pub passes_more : (start before then : ℕ) (records left more later : List R) → PassesOver p start records before left
+      → PassesOver p before (left ++ more) then later → PassesOver p start (records ++ more) then later
   passes_more start before then records left more later passed next =
       let at₁ = passed.3 in
       let at₂ = next.3 in
@@ -114,7 +121,8 @@ module _ {R : Type 0} (p : R → Bool) where
       )
 
   -- the first of those that are left, counted from the start
-  pub passes_found : (start before i : ℕ) (records left : List R) → PassesOver p start records before left → before ≤ i → IsFirst p left (Some (i - before)) → (start ≤ i) × IsFirst p records (Some (i - start))
+  pub passes_found : (start before i : ℕ) (records left : List R) → PassesOver p start records before left → before ≤ i
+      → IsFirst p left (Some (i - before)) → (start ≤ i) × IsFirst p records (Some (i - start))
   passes_found start before i records left passed le first =
       let at = passed.3 in
       let same : length passed.0 + (i - before) ≡ i - start = omega arith in (
@@ -124,7 +132,9 @@ module _ {R : Type 0} (p : R → Bool) where
       )
 
   -- the first of all, once the last ones were searched
-  pub passes_end : (before then : ℕ) (records left later : List R) (found : Option ℕ) → PassesOver p 0 records before left → MatchOption found (PassesOver p before left then later) (λ i. (before ≤ i) × IsFirst p left (Some (i - before))) → later ≡ [] → IsFirst p records found
+  pub passes_end : (before then : ℕ) (records left later : List R) (found : Option ℕ) → PassesOver p 0 records before left
+      → MatchOption found (PassesOver p before left then later) (λ i. (before ≤ i) × IsFirst p left (Some (i - before))) → later ≡ []
+      → IsFirst p records found
   passes_end before then records left later None passed rest none =
       let gone = passed.2 in
       let more = rest.2 in
@@ -144,7 +154,8 @@ module _ {R : Type 0} (p : R → Bool) where
 
   -- ---- slices that are asked at once
 
-  none_behind : (s : Bor (List R)) (slices : List (Bor (List R))) (o : Option ℕ) → count_by p s.now ≡ 0 → length slices + 1 < 2 ^ 64 → IsFirstSlice p slices o → IsFirstSlice p (s ∷ slices) (option_map (λ k. min (k + 1) (2 ^ 64 - 1)) o)
+  none_behind : (s : Bor (List R)) (slices : List (Bor (List R))) (o : Option ℕ) → count_by p s.now ≡ 0 → length slices + 1 < 2 ^ 64
+      → IsFirstSlice p slices o → IsFirstSlice p (s ∷ slices) (option_map (λ k. min (k + 1) (2 ^ 64 - 1)) o)
   none_behind s slices None none few first = counts-append s.now (records_in slices) ∙ omega (arith, none, first)
   none_behind s slices (Some k) none few first =
       let lt = (at_some (λ (t : Bor (List R)). 0 < count_by p t.now) slices k s first.1).0 in
@@ -154,10 +165,13 @@ module _ {R : Type 0} (p : R → Bool) where
         first.1,
       )
 
-  first_cons : (s : Bor (List R)) (slices : List (Bor (List R))) (b : Bool) (bs : List Bool) → nat_lt 0 (count_by p s.now) ≡ b → length slices + 1 < 2 ^ 64 → IsFirstSlice p slices (first_true bs) → IsFirstSlice p (s ∷ slices) (first_true (b ∷ bs))
+  first_cons : (s : Bor (List R)) (slices : List (Bor (List R))) (b : Bool) (bs : List Bool) → nat_lt 0 (count_by p s.now) ≡ b
+      → length slices + 1 < 2 ^ 64 → IsFirstSlice p slices (first_true bs) → IsFirstSlice p (s ∷ slices) (first_true (b ∷ bs))
   first_cons s slices true bs has few first = (refl, grind (arith, nat_tests))
   first_cons s slices false bs has few first = none_behind s slices (first_true bs) (grind (arith, nat_tests)) few first
 
   pub first_answers : (slices : List (Bor (List R))) → length slices < 2 ^ 64 → IsFirstSlice p slices (first_true (map (λ (s : Bor (List R)). nat_lt 0 (count_by p s.now)) slices))
   first_answers [] few = refl
-  first_answers (s ∷ slices) few = first_cons s slices (nat_lt 0 (count_by p s.now)) (map (λ (t : Bor (List R)). nat_lt 0 (count_by p t.now)) slices) refl (omega arith) (first_answers slices (omega arith))
+  first_answers (s ∷ slices) few =
+      first_cons s slices (nat_lt 0 (count_by p s.now)) (map (λ (t : Bor (List R)). nat_lt 0 (count_by p t.now)) slices) refl (omega arith)
+      (first_answers slices (omega arith))

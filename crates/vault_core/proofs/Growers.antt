@@ -29,7 +29,8 @@ module _ {R : Type 0} (width : ℕ) (live : Phase R) (count : ℕ) (block : ℕ 
 
   module _ (old : Seated R) (receipts : List Receipt) (grown : HasGrown width live count block id old receipts None) where
     -- it stops
-    pub stopped : (new : Seated R) (fault : GrowFault) → IsSeatOf live new → new.id ≡ old.id → new.made ≡ old.made → IsStop width live count block new fault → HasGrown width live count block id new receipts (Some fault)
+    pub stopped : (new : Seated R) (fault : GrowFault) → IsSeatOf live new → new.id ≡ old.id → new.made ≡ old.made
+        → IsStop width live count block new fault → HasGrown width live count block id new receipts (Some fault)
     stopped new fault of same made stop = record {
       of = of;
       id_is = same ∙ grown.id_is;
@@ -99,9 +100,18 @@ module _ {R : Type 0} (width : ℕ) (live : Phase R) (count : ℕ) (block : ℕ 
       made-more receipt made = ap length made.made ∙ length_push old.made (growth_of old made.before records)
 
 -- a grower of a new seat is ready to be sent out
-pub ready : {R : Type 0} (width : ℕ) (live : Phase R) (count : ℕ → ℕ) (block : ℕ → ℕ → List R) (n id growers : ℕ) (seat seat' : Seated R) (its : List Receipt) (fault : Option GrowFault)
+pub ready : {R : Type 0} (width : ℕ) (live : Phase R) (count : ℕ → ℕ) (block : ℕ → ℕ → List R) (n id growers : ℕ) (seat seat' : Seated R)
+    (its : List Receipt) (fault : Option GrowFault)
     → IsNewSeat live.directory live.mark n seat → n < growers → id ≡ seat.id → seat' ≡ seat → its ≡ [] → fault ≡ None
     → (seat'.id ≡ id) × (id < growers) × (seat'.made ≡ []) × (fault ≡ None) × HasGrown width live (count id) (block id) id seat' its None
 ready {R} width live count block n id growers seat seat' its fault new lt is same none no_fault =
-    let at : IsNewSeat live.directory live.mark id seat' = subst (λ (s : Seated R). IsNewSeat live.directory live.mark id s) (sym same) (subst (λ (k : ℕ). IsNewSeat live.directory live.mark k seat) (sym (is ∙ new.id_is)) new) in
-    (at.id_is, subst (λ (k : ℕ). k < growers) (sym (is ∙ new.id_is)) lt, at.made, no_fault, subst (λ (rs : List Receipt). HasGrown width live (count id) (block id) id seat' rs None) (sym none) (begun width live (count id) (block id) id seat' at))
+    let at : IsNewSeat live.directory live.mark id seat' =
+    subst (λ (s : Seated R). IsNewSeat live.directory live.mark id s) (sym same)
+    (subst (λ (k : ℕ). IsNewSeat live.directory live.mark k seat) (sym (is ∙ new.id_is)) new) in (
+      at.id_is,
+      subst (λ (k : ℕ). k < growers) (sym (is ∙ new.id_is)) lt,
+      at.made,
+      no_fault,
+      subst (λ (rs : List Receipt). HasGrown width live (count id) (block id) id seat' rs None) (sym none)
+          (begun width live (count id) (block id) id seat' at),
+    )

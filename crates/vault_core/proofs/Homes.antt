@@ -1,5 +1,6 @@
 -- Growers that come home, one after the other, and what comes of a crew.
-use Rattle.std.proofs.Common.{◌≡◌, ℕ, zero, suc, ◌+◌, ◌<◌, ◌≤◌, inl, inr, ◌⊎◌, Bool, List, [], ◌∷◌, ◌++◌, length, map, get_or, slice_get, Some, None, Option, IfSome, All, refl, sym, ap, subst, ◌∙◌, eq-or-lt_of_le, arith}
+use Rattle.std.proofs.Common.{◌≡◌, ℕ, zero, suc, ◌+◌, ◌<◌, ◌≤◌, inl, inr, ◌⊎◌, Bool, List, [], ◌∷◌, ◌++◌, length}
+use Rattle.std.proofs.Common.{map, get_or, slice_get, Some, None, Option, IfSome, All, refl, sym, ap, subst, ◌∙◌, eq-or-lt_of_le, arith}
 use Rattle.std.specs.Prelude.{cond, ◌==◌, drop, take}
 use Rattle.std.proofs.lemmas.Bool.{eq-eqb}
 use Rattle.std.proofs.lemmas.List.{length_push, length-append, take-append-drop, get_or-map, length-map}
@@ -70,7 +71,8 @@ module _ {R : Type 0} (width : ℕ) (live : Phase R) (count : ℕ → ℕ) (bloc
       each = λ k lt. at k (eq-or-lt_of_le (omega arith));
     }
       where
-        before : (k : ℕ) → IsHome width live count block may_stop seats receipts faults k → IsHome width live count block may_stop (seats ++ seat ∷ []) (receipts ++ its ∷ []) (faults ++ fault ∷ []) k
+        before : (k : ℕ) → IsHome width live count block may_stop seats receipts faults k
+            → IsHome width live count block may_stop (seats ++ seat ∷ []) (receipts ++ its ∷ []) (faults ++ fault ∷ []) k
         before k there = record {
           seat = there.seat;
           seat_is = get-push seats seat k there.seat there.seat_is;
@@ -167,7 +169,8 @@ module _ {R : Type 0} (width : ℕ) (live : Phase R) (count : ℕ → ℕ) (bloc
       reason k lt TooLarge (inl starved) = absurd (let is = starved.0 in cc)
       reason k lt TooLarge (inr why) = why
 
-      reason-at : (k : ℕ) (lt : k < n) (fault : GrowFault) → slice_get faults k ≡ Some (Some fault) → IsReason width (crew_room count n) (length (list_of new)) (count k) (block k) k f.pass.entries (length (own_of k f.pass.entries)) fault
+      reason-at : (k : ℕ) (lt : k < n) (fault : GrowFault) → slice_get faults k ≡ Some (Some fault)
+          → IsReason width (crew_room count n) (length (list_of new)) (count k) (block k) k f.pass.entries (length (own_of k f.pass.entries)) fault
       reason-at k lt fault is =
           let there = home.each k lt in
           let same : there.fault ≡ Some fault = some_is there.fault (Some fault) (sym there.fault_is ∙ is) in
@@ -216,8 +219,10 @@ module _ {R S G : Type 0} (live : Phase R) (source : S) (gate : G) (n : ℕ) (se
       ]
 
 -- one that comes home has grown in the phase and by the source that it was sent for, and has asked that gate
-pub at_home : {R S G : Type 0} (width : ℕ) (live : Phase R) (count : S → ℕ → ℕ) (block : S → ℕ → ℕ → List R) (may_stop : G → ℕ → ℕ → Type 0) (source : S) (gate : G) (n : ℕ) (s : SentOf R S G) → s.live ≡ live → s.source ≡ source → s.gate ≡ gate → s.grower ≡ n
-    → (seat : Seated R) (its : List Receipt) (fault : Option GrowFault) → HasCome width s.live (count s.source s.grower) (block s.source s.grower) (may_stop s.gate s.grower) s.grower seat its fault
+pub at_home : {R S G : Type 0} (width : ℕ) (live : Phase R) (count : S → ℕ → ℕ) (block : S → ℕ → ℕ → List R) (may_stop : G → ℕ → ℕ → Type 0)
+    (source : S) (gate : G) (n : ℕ) (s : SentOf R S G) → s.live ≡ live → s.source ≡ source → s.gate ≡ gate → s.grower ≡ n
+    → (seat : Seated R) (its : List Receipt) (fault : Option GrowFault) → HasCome width s.live (count s.source s.grower) (block s.source s.grower)
+    (may_stop s.gate s.grower) s.grower seat its fault
     → HasCome width live (count source n) (block source n) (may_stop gate n) n seat its fault
 at_home {R} {S} {G} width live count block may_stop source gate n s same_live same_source same_gate number seat its fault come =
     let P : Phase R → S → G → ℕ → Type 0 = λ l o h k. HasCome width l (count o k) (block o k) (may_stop h k) k seat its fault in
@@ -227,7 +232,8 @@ at_home {R} {S} {G} width live count block may_stop source gate n s same_live sa
 
 -- ---- the seats of those that are home
 
-module _ {R : Type 0} (width : ℕ) (live : Phase R) (count : ℕ → ℕ) (block : ℕ → ℕ → List R) (may_stop : ℕ → ℕ → Type 0) (n : ℕ) (seats : List (Seated R)) (receipts : List (List Receipt)) (faults : List (Option GrowFault)) where
+module _ {R : Type 0} (width : ℕ) (live : Phase R) (count : ℕ → ℕ) (block : ℕ → ℕ → List R) (may_stop : ℕ → ℕ → Type 0) (n : ℕ)
+    (seats : List (Seated R)) (receipts : List (List Receipt)) (faults : List (Option GrowFault)) where
   pub all-of : AreHome width live count block may_stop n seats receipts faults → All (lists.IsSeatOf live) seats
   all-of home k d lt =
       let there = home.each k (let long = home.as_many_seats in omega arith) in

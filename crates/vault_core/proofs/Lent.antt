@@ -12,7 +12,8 @@ abbrev steps : {R : Type 0} → List (List R) → Option (Bor (List R)) → List
 steps {R} = YieldsFirstRef {A = List R} (λ (pieces : List (List R)). pieces)
 
 -- the pieces are those that it lent, and those that are left
-lent_pieces : {R : Type 0} (pieces : List (List R)) (items : List (Bor (List R))) (rest : List (List R)) → Yields steps pieces items rest → pieces ≡ map (λ (t : Bor (List R)). t.now) items ++ rest
+lent_pieces : {R : Type 0} (pieces : List (List R)) (items : List (Bor (List R))) (rest : List (List R)) → Yields steps pieces items rest
+    → pieces ≡ map (λ (t : Bor (List R)). t.now) items ++ rest
 lent_pieces pieces [] rest same = same
 lent_pieces {R} pieces (item ∷ items) rest lent = lent.1 ∙ ap (λ (ps : List (List R)). item.now ∷ ps) (lent_pieces lent.0 items rest lent.2)
 
@@ -31,7 +32,8 @@ lends_all {R} pieces items all =
     sym (lent_records pieces items last.0 last.1 ∙ ap (λ (ps : List (List R)). records_in items ++ joined ps) last.2.0 ∙ append-nil (records_in items))
 
 -- and so the first of what it lent is the first of all
-pub lends_first : {R : Type 0} (p : R → Bool) (pieces : List (List R)) (items : List (Bor (List R))) (found : Option ℕ) → LendsUntil (steps {R = R}) pieces items found → IsFirst p (records_in items) found → IsFirst p (joined pieces) found
+pub lends_first : {R : Type 0} (p : R → Bool) (pieces : List (List R)) (items : List (Bor (List R))) (found : Option ℕ)
+    → LendsUntil (steps {R = R}) pieces items found → IsFirst p (records_in items) found → IsFirst p (joined pieces) found
 lends_first p pieces items None all first = ap (count_by p) (sym (lends_all pieces items all)) ∙ first
 lends_first {R} p pieces items (Some i) some first =
     subst (λ (rs : List R). IsFirst p rs (Some i)) (sym (lent_records pieces items some.0 some.1)) (first_before p (records_in items) (joined some.0) i first)

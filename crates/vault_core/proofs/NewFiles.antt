@@ -25,15 +25,18 @@ use Rattle.book_core.specs.Lists.{records_of}
 use Rattle.flush_core.specs.Flusher.{tally_with}
 use Rattle.flush_core.proofs.Kept.{read_as-cells}
 use Rattle.vault_core.specs.Upgrading.{HasWritten, IsCopied, IsCopyStop, IsUnbornOrCopied, OpensToCopied, StaysUnbornOrCopied, copied, growth_count}
-use Rattle.vault_core.specs.Vault.{IsVault}
-use Rattle.vault_core.proofs.Kept.{vault_of}
+use Rattle.vault_core.specs.Vault.{IsVault, vault_of}
 
 module _ {R : Type 0} (form : Encoding R) (piece : ℕ) (records : List R) where
   -- no growth yet
   empty_copied : (image : List ℕ) → IsUnbornOrEmpty (shape_of Two form) image → IsUnbornOrCopied form piece records image
   empty_copied image is = elim is [
     | inl unborn ↦ inl unborn
-    | inr opens ↦ inr (0, Opens_typed form (shape_of Two form) [] [] image (copied piece records 0) refl (subst (λ n. AreCellsOf form [] (take n records)) zero_is (record { written = refl; read_again = tt })) opens)
+    | inr opens ↦ inr (
+      0,
+      Opens_typed form (shape_of Two form) [] [] image (copied piece records 0) refl
+          (subst (λ n. AreCellsOf form [] (take n records)) zero_is (record { written = refl; read_again = tt })) opens,
+    )
   ]
     where
       zero_is : 0 ≡ 0 * piece
@@ -44,7 +47,8 @@ module _ {R : Type 0} (form : Encoding R) (piece : ℕ) (records : List R) where
     born_stays none past image left = empty_copied image (born none past image left)
 
     -- with what was written behind it
-    pub copied_stays : (new : List State) → clock mid ≡ clock old + length (calls_of_creation (bytes_of old)) → LeavesOnly mid new (OpensToCopied form piece records) → StaysUnbornOrCopied form piece records old new
+    pub copied_stays : (new : List State) → clock mid ≡ clock old + length (calls_of_creation (bytes_of old))
+        → LeavesOnly mid new (OpensToCopied form piece records) → StaysUnbornOrCopied form piece records old new
     copied_stays new calls leaves none past image left =
         elim (LeavesOnly-before mid new (OpensToCopied form piece records) leaves (clock old + 1) image (omega (arith, calls)) left) [
           | inl earlier ↦ empty_copied image (born none (omega (arith, calls)) image earlier)
@@ -71,7 +75,8 @@ module _ {R D : Type 0} (form : Encoding R) (keeps : Type 0) (piece growths : �
       size = ap (λ t. t.size) written.tally_is ∙ ap length (all ∙ sym list)
 
 -- the one block has all records
-pub only_block : {R : Type 0} (vecs : List (Vec R)) (block : Vec R) (blocks : List (List R)) (records : List R) → records_of vecs ≡ blocks → length blocks ≡ 1 → joined blocks ≡ records → block ≡ get_or vecs 0 block → block.items ≡ records
+pub only_block : {R : Type 0} (vecs : List (Vec R)) (block : Vec R) (blocks : List (List R)) (records : List R) → records_of vecs ≡ blocks
+    → length blocks ≡ 1 → joined blocks ≡ records → block ≡ get_or vecs 0 block → block.items ≡ records
 only_block {R} vecs block blocks records lists_are one all is =
     at vecs (ap (λ (bs : List (List R)). length bs) lists_are ∙ one) (ap joined lists_are ∙ all) is
   where
@@ -87,7 +92,8 @@ steps_left-least Gate = omega arith
 steps_left-least GateSync = omega arith
 
 -- no more calls than all growths take
-stop_calls : {R : Type 0} (form : Encoding R) (keeps : Type 0) (left : State) (piece : ℕ) (records : List R) (calls : ℕ) (fault : PenFault) → IsCopyStop form keeps left piece records calls fault → calls ≤ growth_count piece (length records) * 4
+stop_calls : {R : Type 0} (form : Encoding R) (keeps : Type 0) (left : State) (piece : ℕ) (records : List R) (calls : ℕ) (fault : PenFault)
+    → IsCopyStop form keeps left piece records calls fault → calls ≤ growth_count piece (length records) * 4
 stop_calls form keeps left piece records calls fault stop =
     let before = stop.before in
     elim stop.why [
@@ -99,7 +105,8 @@ stop_calls form keeps left piece records calls fault stop =
     ]
 
 -- a commit finds no file
-not_existing : {R : Type 0} (form : Encoding R) (keeps : Type 0) (left : State) (piece : ℕ) (records : List R) (calls : ℕ) (fault : PenFault) → IsCopyStop form keeps left piece records calls fault → fault ≡ faults.Exists → ⊥
+not_existing : {R : Type 0} (form : Encoding R) (keeps : Type 0) (left : State) (piece : ℕ) (records : List R) (calls : ℕ) (fault : PenFault)
+    → IsCopyStop form keeps left piece records calls fault → fault ≡ faults.Exists → ⊥
 not_existing form keeps left piece records calls fault stop exists = elim stop.why [
   | inl full ↦ (let is = full.0 in absurd cc)
   | inr free ↦ elim free.1 [
@@ -108,13 +115,15 @@ not_existing form keeps left piece records calls fault stop exists = elim stop.w
   ]
 ]
 
-module _ {R D : Type 0} (form : Encoding R) (keeps : D → Type 0) (states : D → List State) (failures : D → ℕ) (piece : ℕ) (records : List R) (fits : 8 + piece * form.width ≤ limit_of Two) (disk mid new : D)
+module _ {R D : Type 0} (form : Encoding R) (keeps : D → Type 0) (states : D → List State) (failures : D → ℕ) (piece : ℕ) (records : List R)
+    (fits : 8 + piece * form.width ≤ limit_of Two) (disk mid new : D)
     (born : keeps mid → StaysUnbornOrEmpty (shape_of Two form) (states disk) (states mid)) (none : keeps mid → IsExisting (bytes_of (states disk)) → ⊥)
     (time : clock (states mid) ≤ clock (states disk) + 8) (calls : keeps mid → clock (states mid) ≡ clock (states disk) + length (calls_of_creation (bytes_of (states disk))))
     (quiet : failures mid ≡ failures disk) (was : keeps mid → keeps disk)
     (leaves : keeps new → LeavesOnly (states mid) (states new) (OpensToCopied form piece records)) (model : keeps new → keeps mid) where
   -- a commit was refused
-  pub stopped_copied : (fault : PenFault) → IsCopyStop form (keeps new) (now (states new)) piece records (clock (states new) - clock (states mid)) fault → failures new ≡ failures mid + failed_calls fault
+  pub stopped_copied : (fault : PenFault) → IsCopyStop form (keeps new) (now (states new)) piece records (clock (states new) - clock (states mid))
+      fault → failures new ≡ failures mid + failed_calls fault
       → IsCopied form keeps states failures piece records disk (Err (new, fault))
   stopped_copied fault stop failed = record {
     list = tt;
@@ -144,7 +153,8 @@ module _ {R D : Type 0} (form : Encoding R) (keeps : D → Type 0) (states : D �
   }
 
 -- all growths stand in the file
-module _ {R D : Type 0} (form : Encoding R) (keeps : D → Type 0) (states : D → List State) (failures : D → ℕ) (piece : ℕ) (records : List R) (some : 1 ≤ piece) (fits : 8 + piece * form.width ≤ limit_of Two) (disk mid : D) (pen : PenOf D) (blocks : List (List R))
+module _ {R D : Type 0} (form : Encoding R) (keeps : D → Type 0) (states : D → List State) (failures : D → ℕ) (piece : ℕ) (records : List R)
+    (some : 1 ≤ piece) (fits : 8 + piece * form.width ≤ limit_of Two) (disk mid : D) (pen : PenOf D) (blocks : List (List R))
     (born : keeps mid → StaysUnbornOrEmpty (shape_of Two form) (states disk) (states mid)) (none : keeps mid → IsExisting (bytes_of (states disk)) → ⊥)
     (time : clock (states mid) ≤ clock (states disk) + 8) (calls : keeps mid → clock (states mid) ≡ clock (states disk) + length (calls_of_creation (bytes_of (states disk))))
     (quiet : failures mid ≡ failures disk) (was : keeps mid → keeps disk)

@@ -40,13 +40,17 @@ module _ {R D : Type 0} (form : Encoding R) (keeps : D → Type 0) (states : D �
     | inr after ↦ inr (subst (λ records. OpensTo form image records) (ap joined same) after)
   ]
 
-  join_images : (old mid new : VaultOf R D) → Settles form keeps states faults old mid → keeps mid.pen.disk → LeavesOnly (states mid.pen.disk) (states new.pen.disk) (MayHold form mid) → LeavesOnly (states old.pen.disk) (states new.pen.disk) (MayHold form old)
+  join_images : (old mid new : VaultOf R D) → Settles form keeps states faults old mid → keeps mid.pen.disk
+      → LeavesOnly (states mid.pen.disk) (states new.pen.disk) (MayHold form mid)
+      → LeavesOnly (states old.pen.disk) (states new.pen.disk) (MayHold form old)
   join_images old mid new goes model images =
       LeavesOnly-join (states old.pen.disk) (states mid.pen.disk) (states new.pen.disk) (MayHold form old) (goes.images model)
       (LeavesOnly-weaker (states mid.pen.disk) (states new.pen.disk) (MayHold form mid) (MayHold form old) (holds_list old mid goes.blocks_same (goes.sure model)) images)
 
   module _ (old mid new : VaultOf R D) (so_far : (mid ≡ old) ⊎ Settles form keeps states faults old mid) where
-    pub settles_images : (keeps new.pen.disk → keeps mid.pen.disk) → (keeps new.pen.disk → LeavesOnly (states mid.pen.disk) (states new.pen.disk) (MayHold form mid)) → keeps new.pen.disk → LeavesOnly (states old.pen.disk) (states new.pen.disk) (MayHold form old)
+    pub settles_images : (keeps new.pen.disk → keeps mid.pen.disk)
+        → (keeps new.pen.disk → LeavesOnly (states mid.pen.disk) (states new.pen.disk) (MayHold form mid)) → keeps new.pen.disk
+        → LeavesOnly (states old.pen.disk) (states new.pen.disk) (MayHold form old)
     settles_images model images now = elim so_far [
       | inl same ↦ subst (λ (v : VaultOf R D). LeavesOnly (states v.pen.disk) (states new.pen.disk) (MayHold form v)) same (images now)
       | inr first ↦ join_images old mid new first (model now) (images now)
@@ -86,14 +90,19 @@ module _ {R D : Type 0} (form : Encoding R) (keeps : D → Type 0) (states : D �
     ]
 
     -- so many calls are behind it, and so many are left
-    pub settles_time : (n : ℕ) → clock (states new.pen.disk) + n ≤ clock (states mid.pen.disk) + calls_left mid.pen → clock (states new.pen.disk) + n ≤ clock (states old.pen.disk) + calls_left old.pen
+    pub settles_time : (n : ℕ) → clock (states new.pen.disk) + n ≤ clock (states mid.pen.disk) + calls_left mid.pen
+        → clock (states new.pen.disk) + n ≤ clock (states old.pen.disk) + calls_left old.pen
     settles_time n le = elim so_far [
       | inl same ↦ subst (λ (v : VaultOf R D). clock (states new.pen.disk) + n ≤ clock (states v.pen.disk) + calls_left v.pen) same le
       | inr first ↦ (let before = first.time in omega (arith, le, before))
     ]
 
     -- one more
-    pub settles_more : (keeps new.pen.disk → LeavesOnly (states mid.pen.disk) (states new.pen.disk) (MayHold form mid)) → CarriesOn (keeps new.pen.disk) mid.pen new.pen → new.blocks ≡ mid.blocks → (keeps new.pen.disk → new.sure ≡ list_of new) → (mid.pen.broken ≡ false) × (new.pen.broken ≡ false) → clock (states new.pen.disk) + calls_left new.pen ≤ clock (states mid.pen.disk) + calls_left mid.pen → faults new.pen.disk ≡ faults mid.pen.disk
+    pub settles_more : (keeps new.pen.disk → LeavesOnly (states mid.pen.disk) (states new.pen.disk) (MayHold form mid))
+        → CarriesOn (keeps new.pen.disk) mid.pen new.pen → new.blocks ≡ mid.blocks → (keeps new.pen.disk → new.sure ≡ list_of new)
+        → (mid.pen.broken ≡ false) × (new.pen.broken ≡ false)
+        → clock (states new.pen.disk) + calls_left new.pen ≤ clock (states mid.pen.disk) + calls_left mid.pen
+        → faults new.pen.disk ≡ faults mid.pen.disk
         → (keeps new.pen.disk → keeps mid.pen.disk) → (keeps mid.pen.disk → keeps new.pen.disk) → Settles form keeps states faults old new
     settles_more images carries blocks sure whole time calls model goes_on = record {
       images = settles_images model images;

@@ -13,8 +13,7 @@ use Rattle.book_core.specs.Lists.{Phase, opening_of, joined_pieces}
 use Rattle.book_core.proofs.Owns.{length-list}
 use Rattle.flush_core.specs.Flusher.{FlusherOf, IsFlusherOf, FlusherLearns, list_to, tally_with, read_as}
 use Rattle.flush_core.proofs.Kept.{read_as-cells}
-use Rattle.vault_core.specs.Vault.{VaultOf, IsVault, MayHold, list_of}
-use Rattle.vault_core.proofs.Kept.{vault_of}
+use Rattle.vault_core.specs.Vault.{VaultOf, IsVault, MayHold, list_of, vault_of}
 use Rattle.vault_core.proofs.Handed.{IsFlusherOf-learns}
 
 module _ {R D : Type 0} (keeps : D → Type 0) (form : Encoding R) (live : Phase R) (old f : FlusherOf R D) (blocks : List (List R)) (pen : PenOf D)
@@ -61,7 +60,9 @@ module _ {R D : Type 0} (keeps : D → Type 0) (form : Encoding R) (live : Phase
   gathered_kept = subst (λ (p : PenOf D). IsVault (keeps p.disk) form (vault_of form p blocks)) (sym pen_is) is_vault
 
 -- no more records than a vector may have
-pub gathered_few : {R D : Type 0} (keeps : Type 0) (live : Phase R) (old : FlusherOf R D) (blocks : List (List R)) → IsFlusherOf keeps live old → old.before + total old.pass.entries ≤ record_limit → joined_pieces blocks ≡ opening_of live ++ joined old.pass.entries → length (joined_pieces blocks) ≤ record_limit
+pub gathered_few : {R D : Type 0} (keeps : Type 0) (live : Phase R) (old : FlusherOf R D) (blocks : List (List R)) → IsFlusherOf keeps live old
+    → old.before + total old.pass.entries ≤ record_limit → joined_pieces blocks ≡ opening_of live ++ joined old.pass.entries
+    → length (joined_pieces blocks) ≤ record_limit
 gathered_few keeps live old blocks of limit list = let long = ap length list ∙ length-list (opening_of live) old.pass.entries in let before = of.before in omega arith
 
 -- what a vault that is sure of its list may hold opens to that

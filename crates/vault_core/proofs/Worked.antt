@@ -46,7 +46,8 @@ taken = refl
 abbrev raised : ℕ → ℕ → ℕ
 raised at r = r + at * 10
 
-touched : (new : List ℕ) → IsTouched raised (run 1 2 ∷ []) (1 ∷ 2 ∷ 3 ∷ 4 ∷ []) new → (slice_get new 0 ≡ Some 1) × (slice_get new 1 ≡ Some 12) × (slice_get new 2 ≡ Some 23) × (slice_get new 3 ≡ Some 4) × (length new ≡ 4)
+touched : (new : List ℕ) → IsTouched raised (run 1 2 ∷ []) (1 ∷ 2 ∷ 3 ∷ 4 ∷ []) new → (slice_get new 0 ≡ Some 1) × (slice_get new 1 ≡ Some 12)
+    × (slice_get new 2 ≡ Some 23) × (slice_get new 3 ≡ Some 4) × (length new ≡ 4)
 touched new is = (is.outside 0 refl, is.inside 1 refl, is.inside 2 refl, is.outside 3 refl, is.same_length)
 
 untouched : (old : List ℕ) → IsTouched raised [] old old
@@ -58,7 +59,8 @@ ticks_of_a_fold : (fold_ticks stages.None ≡ 0) × (fold_ticks (stages.Home 2) 
 ticks_of_a_fold = (refl, refl, refl, refl, refl)
 
 -- two home writes, their sync and the four calls of the frame; with no home write left the next call is one of them
-calls_of_a_fold : (fold_calls stages.None ≡ 0) × (fold_calls (stages.Home 2) ≡ 7) × (fold_calls (stages.Home 0) ≡ 6) × (fold_calls stages.Sync ≡ 5) × (fold_calls stages.Ready ≡ 4) × (fold_calls stages.Filed ≡ 0)
+calls_of_a_fold : (fold_calls stages.None ≡ 0) × (fold_calls (stages.Home 2) ≡ 7) × (fold_calls (stages.Home 0) ≡ 6) × (fold_calls stages.Sync ≡ 5)
+    × (fold_calls stages.Ready ≡ 4) × (fold_calls stages.Filed ≡ 0)
 calls_of_a_fold = (refl, refl, refl, refl, refl, refl)
 
 module _ {D : Type 0} (pen : PenOf D) where

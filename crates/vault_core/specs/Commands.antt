@@ -6,14 +6,16 @@ use Rattle.record_core.specs.Bytes.{Encoding}
 use Rattle.disk_core.specs.State.{State}
 use Rattle.disk_core.specs.Moments.{LeavesOnly, clock}
 use Rattle.segment_core.specs.Frame.{Run, Frame, Change, frame_text}
+use Rattle.segment_core.specs.Raw.{AreCellsOf}
 use Rattle.segment_core.specs.Tally.{after}
+use Rattle.segment_core.specs.Written.{joined}
 use Rattle.pen_core.specs.declared.step.Step.{Step}
 use Rattle.pen_core.specs.Step.{fault_of}
 use Rattle.pen_core.specs.declared.fault.PenFault.{PenFault}
 use Rattle.pen_core.specs.declared.fault.PenFault.TheVariants as faults
 use Rattle.pen_core.specs.PenOf.{PenOf, JobOf}
-use Rattle.pen_core.specs.Pen.{CountsSame, CountsDone, FileSame, FileGains, FileTicked, MayOpen, IsUnchanged, fold_behind, log_left, failed_calls, IsTickFault, IsHomeFault, IsFoldRefusal}
-use Rattle.pen_core.specs.Refusals.{IsRefusal, first_refusal, shrink_lines, group_lines}
+use Rattle.pen_core.specs.Pen.{BeginsFrame, FileSame, FileGains, FileTicked, IsUnchanged, fold_behind, log_left, failed_calls, vector_after, IsTickFault, IsHomeFault, IsFoldRefusal}
+use Rattle.pen_core.specs.Refusals.{IsRefusal, first_refusal}
 use Rattle.vault_core.specs.declared.fault.VaultFault.{VaultFault}
 use Rattle.vault_core.specs.declared.fault.VaultFault.TheVariants.{Pen, Unsettled, WrongPhase}
 use Rattle.flush_core.specs.declared.lane.Lane.{Lane}
@@ -22,9 +24,18 @@ use Rattle.flush_core.specs.declared.lane.Tick.{Tick}
 use Rattle.flush_core.specs.declared.lane.Tick.TheVariants as ticks
 use Rattle.pen_core.specs.declared.stage.Ticked.TheVariants as log_ticks
 use Rattle.vault_core.specs.Touched.{taken_at}
-use Rattle.vault_core.specs.Vault.{VaultOf, OpensToEither, list_of}
+use Rattle.vault_core.specs.Vault.{VaultOf, IsVault, OpensToEither, list_of}
 
 -- ---- commands
+
+-- A command with this frame has begun over a vault that was whole: the frame is its pen's job, and these blocks are what the
+-- file has once the frame stands in it.
+pub record IsBegun {R D : Type 0} (form : Encoding R) (keeps : D → Type 0) (v : VaultOf R D) (frame : Frame) (pen : PenOf D) (blocks : List (List R)) : Type 0 where
+  pub kept : IsVault (keeps v.pen.disk) form v
+  pub whole : v.pen.broken ≡ false
+  pub begins : BeginsFrame frame v.pen pen
+  pub size_is : (after v.pen.tally frame).size ≡ length (joined blocks)
+  pub next_is : keeps v.pen.disk → AreCellsOf form (vector_after pen) (joined blocks)
 
 -- the command's frame stands in the file
 pub record IsCommitted {D : Type 0} (frame : Frame) (old new : PenOf D) : Type 0 where
@@ -43,6 +54,10 @@ pub record IsStopped {D : Type 0} (frame : Frame) (step : Step) (old new : PenOf
   pub fold_same : new.fold ≡ old.fold
   pub tally_same : new.tally ≡ old.tally
   pub gate_same : new.gate ≡ old.gate
+
+-- a commit stopped where a device call failed
+abbrev pub IsStopFault : VaultFault → Type 0
+IsStopFault fault = (step : Step) × (fault ≡ Pen (faults.Disk (fault_of step)))
 
 -- Why a command isn't settled: one of these tests refused it, or memory was refused, and nothing has changed; or none
 -- did, and its commit stopped.
@@ -132,7 +147,8 @@ FileLaneTicked Home old new tick = FileSame old new
 -- A command with this frame, which these tests may refuse: what it makes of the pen, whatever the disk; that none of the
 -- tests holds where it is settled; that the file gains just this frame then, and else nothing; what is sure behind it; and
 -- that each image that a crash may leave meanwhile opens to the list that was sure, or to the one behind it.
-pub record IsCommand {R D : Type 0} (form : Encoding R) (keeps : D → Type 0) (states : D → List State) (faults : D → ℕ) (frame : Frame) (lines : List (Bool × PenFault)) (old new : VaultOf R D) (result : Result (Unit {0}) VaultFault) : Type 0 where
+pub record IsCommand {R D : Type 0} (form : Encoding R) (keeps : D → Type 0) (states : D → List State) (faults : D → ℕ) (frame : Frame)
+    (lines : List (Bool × PenFault)) (old new : VaultOf R D) (result : Result (Unit {0}) VaultFault) : Type 0 where
   pub pen : MatchResult result (λ _. IsCommitted frame old.pen new.pen) (λ fault. IsCommandFault frame lines old.pen new.pen fault)
   pub allowed : OnOk result (first_refusal lines ≡ None)
   pub file : keeps new.pen.disk → MatchResult result (λ _. FileGains frame old.pen new.pen) (λ _. FileSame old.pen new.pen)

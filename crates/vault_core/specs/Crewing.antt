@@ -78,7 +78,9 @@ MayStarve count m = (m < count) ⊎ (m ≡ 0)
 -- why a grower stopped: memory was refused, that of its thread among it; or the growth of the block that comes next wasn't
 -- made
 abbrev pub IsStop : {R : Type 0} → ℕ → Phase R → ℕ → (ℕ → List R) → Seated R → GrowFault → Type 0
-IsStop width live count block seat fault = ((fault ≡ Memory) × MayStarve count (length seat.made)) ⊎ ((length seat.made < count) × IsGrowerFault width live seat (length (block (length seat.made))) fault)
+IsStop width live count block seat fault =
+    ((fault ≡ Memory) × MayStarve count (length seat.made))
+    ⊎ ((length seat.made < count) × IsGrowerFault width live seat (length (block (length seat.made))) fault)
 
 -- The grower of that id has made growths of the first blocks that are named for it, in order, has their receipts, and, where
 -- it stopped by a fault, that.
@@ -91,7 +93,8 @@ pub record HasGrown {R : Type 0} (width : ℕ) (live : Phase R) (count : ℕ) (b
   pub fault_is : IfSome fault (IsStop width live count block seat)
 
 -- It has come home: all of its growths are made, unless it stopped by a fault, or its gate might stop it before the next one.
-pub record HasCome {R : Type 0} (width : ℕ) (live : Phase R) (count : ℕ) (block : ℕ → List R) (may_stop : ℕ → Type 0) (id : ℕ) (seat : Seated R) (receipts : List Receipt) (fault : Option GrowFault) : Type 0 where
+pub record HasCome {R : Type 0} (width : ℕ) (live : Phase R) (count : ℕ) (block : ℕ → List R) (may_stop : ℕ → Type 0) (id : ℕ) (seat : Seated R)
+    (receipts : List Receipt) (fault : Option GrowFault) : Type 0 where
   pub grown : HasGrown width live count block id seat receipts fault
   pub all_made : fault ≡ None → (length seat.made ≡ count) ⊎ may_stop (length seat.made)
 
@@ -106,10 +109,12 @@ pub record SentOf (R S G : Type 0) : Type 0 where
 
 -- Growers that were sent out, the last of n first: that at place k is grower n - 1 - k.
 abbrev pub AreSent : {R S G : Type 0} → Phase R → S → G → ℕ → List (SentOf R S G) → Type 0
-AreSent {R} {S} {G} live source gate n sent = (k : ℕ) (s : SentOf R S G) → slice_get sent k ≡ Some s → (s.live ≡ live) × (s.source ≡ source) × (s.gate ≡ gate) × (s.grower + k + 1 ≡ n)
+AreSent {R} {S} {G} live source gate n sent = (k : ℕ) (s : SentOf R S G) → slice_get sent k ≡ Some s → (s.live ≡ live) × (s.source ≡ source)
+    × (s.gate ≡ gate) × (s.grower + k + 1 ≡ n)
 
 -- the growers from 0 up to n have come home, each with its seat, its receipts and its fault
-pub record IsHome {R : Type 0} (width : ℕ) (live : Phase R) (count : ℕ → ℕ) (block : ℕ → ℕ → List R) (may_stop : ℕ → ℕ → Type 0) (seats : List (Seated R)) (receipts : List (List Receipt)) (faults : List (Option GrowFault)) (k : ℕ) : Type 0 where
+pub record IsHome {R : Type 0} (width : ℕ) (live : Phase R) (count : ℕ → ℕ) (block : ℕ → ℕ → List R) (may_stop : ℕ → ℕ → Type 0)
+    (seats : List (Seated R)) (receipts : List (List Receipt)) (faults : List (Option GrowFault)) (k : ℕ) : Type 0 where
   pub seat : Seated R
   pub seat_is : slice_get seats k ≡ Some seat
   pub its : List Receipt
@@ -118,7 +123,8 @@ pub record IsHome {R : Type 0} (width : ℕ) (live : Phase R) (count : ℕ → �
   pub fault_is : slice_get faults k ≡ Some fault
   pub come : HasCome width live (count k) (block k) (may_stop k) k seat its fault
 
-pub record AreHome {R : Type 0} (width : ℕ) (live : Phase R) (count : ℕ → ℕ) (block : ℕ → ℕ → List R) (may_stop : ℕ → ℕ → Type 0) (n : ℕ) (seats : List (Seated R)) (receipts : List (List Receipt)) (faults : List (Option GrowFault)) : Type 0 where
+pub record AreHome {R : Type 0} (width : ℕ) (live : Phase R) (count : ℕ → ℕ) (block : ℕ → ℕ → List R) (may_stop : ℕ → ℕ → Type 0) (n : ℕ)
+    (seats : List (Seated R)) (receipts : List (List Receipt)) (faults : List (Option GrowFault)) : Type 0 where
   pub as_many_seats : length seats ≡ n
   pub as_many_receipts : length receipts ≡ n
   pub as_many_faults : length faults ≡ n
@@ -152,7 +158,8 @@ IsReason width room size count block id growths m TooLarge = (m < count) × (pay
 -- the other; each was made by one of the growers. Those of a grower have the first of the blocks that are named for it, in
 -- order, and its receipts are theirs: so each growth has one receipt, and stands where that says. A grower without a fault made
 -- all of its growths, unless its gate might stop it before the next one.
-pub record IsCrewed {R D : Type 0} (width : ℕ) (count : ℕ → ℕ) (block : ℕ → ℕ → List R) (may_stop : ℕ → ℕ → Type 0) (n : ℕ) (old new : VaultOf R D) (receipts : List (List Receipt)) (faults : List (Option GrowFault)) (growths : List (Growth R)) : Type 0 where
+pub record IsCrewed {R D : Type 0} (width : ℕ) (count : ℕ → ℕ) (block : ℕ → ℕ → List R) (may_stop : ℕ → ℕ → Type 0) (n : ℕ) (old new : VaultOf R D)
+    (receipts : List (List Receipt)) (faults : List (Option GrowFault)) (growths : List (Growth R)) : Type 0 where
   pub list_is : list_of new ≡ list_of old ++ joined growths
   pub chained : IsChained growths
   pub by_growers : All (λ growth. growth.seat < n) growths
@@ -161,7 +168,8 @@ pub record IsCrewed {R D : Type 0} (width : ℕ) (count : ℕ → ℕ) (block : 
   pub blocks_are : (k j : ℕ) (growth : Growth R) → k < n → slice_get (own_of k growths) j ≡ Some growth → growth.records ≡ block k j
   pub receipts_are : (k : ℕ) → k < n → slice_get receipts k ≡ Some (map (receipt_of (length (list_of old))) (own_of k growths))
   pub all_made : (k : ℕ) → k < n → slice_get faults k ≡ Some None → (length (own_of k growths) ≡ count k) ⊎ may_stop k (length (own_of k growths))
-  pub faults_are : (k : ℕ) (fault : GrowFault) → k < n → slice_get faults k ≡ Some (Some fault) → IsReason width (crew_room count n) (length (list_of new)) (count k) (block k) k growths (length (own_of k growths)) fault
+  pub faults_are : (k : ℕ) (fault : GrowFault) → k < n → slice_get faults k ≡ Some (Some fault)
+      → IsReason width (crew_room count n) (length (list_of new)) (count k) (block k) k growths (length (own_of k growths)) fault
 
 -- the image opens to these records and those of the first of the growths
 pub record OpensToGrown {R : Type 0} (form : Encoding R) (before : List R) (growths : List (Growth R)) (image : List ℕ) : Type 0 where
@@ -178,7 +186,8 @@ pub record IsBack {R D : Type 0} (form : Encoding R) (keeps : D → Type 0) (sta
 
 -- Some growths come of a crew, all of them settled, and whatever a crash may have left meanwhile opens to the old list and the
 -- first of them, each whole.
-abbrev pub HasCrewed : {R D : Type 0} → Encoding R → (D → Type 0) → (D → List State) → (ℕ → ℕ) → (ℕ → ℕ → List R) → (ℕ → ℕ → Type 0) → ℕ → VaultOf R D → VaultOf R D → List (List Receipt) → List (Option GrowFault) → Type 0
+abbrev pub HasCrewed : {R D : Type 0} → Encoding R → (D → Type 0) → (D → List State) → (ℕ → ℕ) → (ℕ → ℕ → List R) → (ℕ → ℕ → Type 0) → ℕ → VaultOf R D
+    → VaultOf R D → List (List Receipt) → List (Option GrowFault) → Type 0
 HasCrewed {R} form keeps states count block may_stop n old new receipts faults =
     (growths : List (Growth R)) × IsCrewed form.width count block may_stop n old new receipts faults growths
     × IsBack form keeps states old new

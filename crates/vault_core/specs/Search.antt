@@ -27,7 +27,9 @@ IsFirst picks records found = MatchOption found (count_by picks records ≡ 0) (
 
 -- no record of the slices is picked, or this is the number of the first slice with one that is
 abbrev pub IsFirstSlice : {R : Type 0} → (R → Bool) → List (Bor (List R)) → Option ℕ → Type 0
-IsFirstSlice picks slices found = MatchOption found (count_by picks (records_in slices) ≡ 0) (λ k. (count_by picks (records_in (take k slices)) ≡ 0) × IsSomeAnd (slice_get slices k) (λ s. 0 < count_by picks s.now))
+IsFirstSlice picks slices found =
+    MatchOption found (count_by picks (records_in slices) ≡ 0)
+    (λ k. (count_by picks (records_in (take k slices)) ≡ 0) × IsSomeAnd (slice_get slices k) (λ s. 0 < count_by picks s.now))
 
 -- Of records behind so many others the first ones were let go, of which none is picked, and these are left.
 abbrev pub PassesOver : {R : Type 0} → (R → Bool) → ℕ → List R → ℕ → List R → Type 0

@@ -67,7 +67,9 @@ IsUnbornOrCopied form piece records image = (header_fault form.width image ≡ S
 -- From the first sync on, where it succeeded and there was no file, each image is such. The next call, of the length,
 -- tells that it succeeded.
 abbrev pub StaysUnbornOrCopied : {R : Type 0} → Encoding R → ℕ → List R → List State → List State → Type 0
-StaysUnbornOrCopied form piece records old new = (IsExisting (bytes_of old) → ⊥) → clock old + 1 < clock new → (image : List ℕ) → LeftSince new (clock old + 1) image → IsUnbornOrCopied form piece records image
+StaysUnbornOrCopied form piece records old new =
+    (IsExisting (bytes_of old) → ⊥) → clock old + 1 < clock new → (image : List ℕ) → LeftSince new (clock old + 1) image
+    → IsUnbornOrCopied form piece records image
 
 -- ---- refusals
 
@@ -95,13 +97,15 @@ IsCopyRefusal form keeps states piece records disk left fault =
     ⊎ ((8 + piece * form.width ≤ limit_of Two)
     × (((fault ≡ faults.Memory) × (left ≡ disk))
     ⊎ ((IsCreateFault fault × (keeps left → AreCallsUntil (bytes_of (states disk)) (calls_of_creation (bytes_of (states disk))) fault (clock (states left) - clock (states disk))))
-    ⊎ ((calls : ℕ) × (keeps left → clock (states left) ≡ clock (states disk) + length (calls_of_creation (bytes_of (states disk))) + calls) × IsCopyStop form (keeps left) (now (states left)) piece records calls fault))))
+    ⊎ ((calls : ℕ) × (keeps left → clock (states left) ≡ clock (states disk) + length (calls_of_creation (bytes_of (states disk))) + calls)
+    × IsCopyStop form (keeps left) (now (states left)) piece records calls fault))))
 
 -- ---- the new file
 
 -- What comes of copying these records into a new file on a disk: a vault with them, all settled; or the disk back, and
 -- why. Where there was a file nothing is written.
-pub record IsCopied {R D : Type 0} (form : Encoding R) (keeps : D → Type 0) (states : D → List State) (failures : D → ℕ) (piece : ℕ) (records : List R) (disk : D) (result : Result (VaultOf R D) (D × PenFault)) : Type 0 where
+pub record IsCopied {R D : Type 0} (form : Encoding R) (keeps : D → Type 0) (states : D → List State) (failures : D → ℕ) (piece : ℕ)
+    (records : List R) (disk : D) (result : Result (VaultOf R D) (D × PenFault)) : Type 0 where
   pub list : IfOk result (λ v. list_of v ≡ records)
   pub written : IfOk result (λ v. HasWritten form piece records (growth_count piece (length records)) v.pen)
   pub fits : IfOk result (λ _. 8 + piece * form.width ≤ limit_of Two)
@@ -127,7 +131,8 @@ pub record IsCopied {R D : Type 0} (form : Encoding R) (keeps : D → Type 0) (s
 abbrev pub IsUpgradeFault : {R E : Type 0} → Encoding R → Type 0 → List ℕ → (E → Type 0) → (E → List State) → (E → ℕ) → ℕ → E → E → UpgradeFault → Type 0
 IsUpgradeFault form known bytes keeps states failures piece new left (Old fault) = (known → IsOpenRefusal form bytes fault) × (left ≡ new)
 IsUpgradeFault {R} form known bytes keeps states failures piece new left NotOld = (known → (records : List R) × IsFileOf Two form bytes records) × (left ≡ new)
-IsUpgradeFault {R} form known bytes keeps states failures piece new left (New (Pen fault)) = (records : List R) × (known → IsFileOf One form bytes records) × IsCopied form keeps states failures piece records new (Err (left, fault))
+IsUpgradeFault {R} form known bytes keeps states failures piece new left (New (Pen fault)) =
+    (records : List R) × (known → IsFileOf One form bytes records) × IsCopied form keeps states failures piece records new (Err (left, fault))
 IsUpgradeFault form known bytes keeps states failures piece new left (New (Unsettled number)) = ⊥
 IsUpgradeFault form known bytes keeps states failures piece new left (New WrongPhase) = ⊥
 

@@ -9,6 +9,7 @@
 mod batch;
 mod blocks;
 mod change;
+mod committing;
 mod compact;
 mod crewing;
 mod ending;

@@ -7,6 +7,7 @@ ghost use Rattle.pen_core.specs.Refusals.{first_refusal, group_lines, shrink_lin
 ghost use Rattle.vault_core.specs.Commands.{IsCommand, IsNothingFault, Stands, resized};
 ghost use Rattle.vault_core.specs.Vault.{list_of};
 
+use crate::committing::commit;
 use crate::fault::VaultFault;
 use crate::vault::Vault;
 use disk_core::Disk;
@@ -46,10 +47,7 @@ impl<R: Record, D: Disk> Vault<R, D> {
             self.blocks.pop();
             return Err(VaultFault::Pen(fault));
         }
-        if let Err(fault) = self.pen.settle_log() {
-            return Err(VaultFault::Pen(fault));
-        }
-        Ok(())
+        commit(&mut self.pen, &self.blocks)
     }
 
     /// Takes the records from position `n` on away.
@@ -63,10 +61,7 @@ impl<R: Record, D: Disk> Vault<R, D> {
             return Err(VaultFault::Pen(fault));
         }
         self.blocks.truncate(n);
-        if let Err(fault) = self.pen.settle_log() {
-            return Err(VaultFault::Pen(fault));
-        }
-        Ok(())
+        commit(&mut self.pen, &self.blocks)
     }
 
     /// Makes its length `n`: takes away the records from position `n` on, or appends copies of `v` as one growth. Where it

@@ -21,7 +21,9 @@ returns-in-Some-take_in g c =
     let i = c.loop-piece.invariant in
     let piece = c.in-Some.piece in
     let e = c.in-Some-take_in.ensures.found in
-    let more = passes_more p 0 c.loop-piece.finder.before c.loop-piece.finder.before (records_in i.items) c.loop-piece.finder.batch.1 piece.now (c.loop-piece.finder.batch.1 ++ piece.now) i.passed (passes_none p c.loop-piece.finder.before (c.loop-piece.finder.batch.1 ++ piece.now)) in
+    let more =
+    passes_more p 0 c.loop-piece.finder.before c.loop-piece.finder.before (records_in i.items) c.loop-piece.finder.batch.1 piece.now
+    (c.loop-piece.finder.batch.1 ++ piece.now) i.passed (passes_none p c.loop-piece.finder.before (c.loop-piece.finder.batch.1 ++ piece.now)) in
     let found = passes_found p 0 c.loop-piece.finder.before c.in-Some-take_in.found (records_in i.items ++ piece.now) (c.loop-piece.finder.batch.1 ++ piece.now) more e.0 e.1 in
     let same : c.in-Some-take_in.found - 0 ≡ c.in-Some-take_in.found = omega arith in (
       i.items ++ piece ∷ [],
@@ -39,7 +41,8 @@ loop-piece-preserved g c =
       items = i.items ++ piece ∷ [];
       so_far = lent g.I.Iterator.next_gives p c.args.pieces c.loop-piece.pieces c.next.new.self i.items piece c.requires.few i.so_far c.in-Some.ensures.steps;
       passed = subst (λ rs. PassesOver p 0 rs c.take_in.new.self.before c.take_in.new.self.batch.1) (sym (records_push i.items piece))
-          (passes_more p 0 c.loop-piece.finder.before c.take_in.new.self.before (records_in i.items) c.loop-piece.finder.batch.1 piece.now c.take_in.new.self.batch.1 i.passed c.in_default-take_in.ensures.found);
+          (passes_more p 0 c.loop-piece.finder.before c.take_in.new.self.before (records_in i.items) c.loop-piece.finder.batch.1 piece.now
+          c.take_in.new.self.batch.1 i.passed c.in_default-take_in.ensures.found);
       can = on.0;
       finite = on.1;
     }
@@ -51,5 +54,6 @@ returns g c =
     let e = c.take_first.ensures in (
       i.items,
       lent_until g.I.Iterator.next_gives c.args.pieces c.loop-piece.pieces i.items c.take_first.result (search rules) i.so_far,
-      passes_end p c.loop-piece.finder.before c.take_first.new.self.before (records_in i.items) c.loop-piece.finder.batch.1 c.take_first.new.self.batch.1 c.take_first.result i.passed e.found (ap (λ q. q.1) e.none),
+      passes_end p c.loop-piece.finder.before c.take_first.new.self.before (records_in i.items) c.loop-piece.finder.batch.1
+          c.take_first.new.self.batch.1 c.take_first.result i.passed e.found (ap (λ q. q.1) e.none),
     )

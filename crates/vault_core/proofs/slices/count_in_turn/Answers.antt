@@ -34,4 +34,11 @@ loop-k-preserved g c =
     let s = c.index-slices-k.result in
     let k = c.loop-k.k in
     let more = ap records_in (take_more c.args.slices.now k s c.loop-k-test.true) ∙ records_push (take k c.args.slices.now) (get_or c.args.slices.now k s) in
-    omega (arith, c.loop-k.invariant, c.count_in-count.ensures, ap (count_by p) more, counts-append p (records_in (take k c.args.slices.now)) (get_or c.args.slices.now k s).now, ap (λ t. count_by p t.now) c.index-slices-k.is)
+    omega (
+      arith,
+      c.loop-k.invariant,
+      c.count_in-count.ensures,
+      ap (count_by p) more,
+      counts-append p (records_in (take k c.args.slices.now)) (get_or c.args.slices.now k s).now,
+      ap (λ t. count_by p t.now) c.index-slices-k.is,
+    )

@@ -35,7 +35,15 @@ overflow_add-result g c =
     let first = c.in_ok-number.ensures in
     let lt = (at_some (λ t. 0 < count_by p t.now) c.args.slices.now c.in_ok-number.number s first.1).0 in
     let within = found_within p s.now c.in_ok-place.place c.in_ok-place.ensures.1 in
-    let all : c.len_before.result + c.in_ok-place.place ≤ 2 ^ 32 = omega (arith, at_slice_len c.args.slices.now c.in_ok-number.number s lt, ap (λ t. length t.now) c.index-slices-number.is, within, c.len_before.ensures, c.requires.few) in
+    let all : c.len_before.result + c.in_ok-place.place ≤ 2 ^ 32 =
+    omega (
+      arith,
+      at_slice_len c.args.slices.now c.in_ok-number.number s lt,
+      ap (λ t. length t.now) c.index-slices-number.is,
+      within,
+      c.len_before.ensures,
+      c.requires.few,
+    ) in
     search rules
 
 pub returns : goal.returns
@@ -46,4 +54,5 @@ returns g c =
     let first = c.in_ok-number.ensures in
     let lt = (at_some (λ t. 0 < count_by p t.now) c.args.slices.now number s first.1).0 in
     let here = subst (λ t. IsFirst p t.now (Some c.in_ok-place.place)) c.index-slices-number.is c.in_ok-place.ensures in
-    subst (λ n. IsFirst p (records_in c.args.slices.now) (Some (n + c.in_ok-place.place))) (sym c.len_before.ensures) (first_of_slices p c.args.slices.now number s c.in_ok-place.place lt first.0 here)
+    subst (λ n. IsFirst p (records_in c.args.slices.now) (Some (n + c.in_ok-place.place))) (sym c.len_before.ensures)
+    (first_of_slices p c.args.slices.now number s c.in_ok-place.place lt first.0 here)

@@ -31,4 +31,11 @@ loop-k-preserved g c =
     let none = c.if-has_any.false in
     let here : count_by p s.now ≡ 0 = grind (arith, nat_tests) in
     let more = ap records_in (take_more c.args.slices.now k s c.loop-k-test.true) ∙ records_push (take k c.args.slices.now) (get_or c.args.slices.now k s) in
-    omega (arith, c.loop-k.invariant, here, ap (count_by p) more, counts-append p (records_in (take k c.args.slices.now)) (get_or c.args.slices.now k s).now, ap (λ t. count_by p t.now) c.index-slices-k.is)
+    omega (
+      arith,
+      c.loop-k.invariant,
+      here,
+      ap (count_by p) more,
+      counts-append p (records_in (take k c.args.slices.now)) (get_or c.args.slices.now k s).now,
+      ap (λ t. count_by p t.now) c.index-slices-k.is,
+    )

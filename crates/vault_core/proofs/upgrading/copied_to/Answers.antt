@@ -6,8 +6,8 @@ use Rattle.segment_core.specs.Shape.{limit_of}
 use Rattle.pen_core.specs.Births.{StaysUnbornOrEmpty}
 use Rattle.pen_core.specs.Pen.{IsKept}
 use Rattle.vault_core.specs.Upgrading.{IsCopied}
-use Rattle.vault_core.proofs.Kept.{vault_of}
 use Rattle.vault_core.proofs.NewFiles.{born_stays, only_block, stopped_copied, all_kept, all_copied}
+use Rattle.vault_core.specs.Vault.{vault_of}
 use Rattle.vault_core.proofs.upgrading.copied_to.Goals as goal
 
 pub returns-in_err-pen : goal.returns-in_err-pen
@@ -43,7 +43,9 @@ returns-in-Err g c =
     let rs = c.as_slice-2.result.now in
     let disk = c.args.disk in
     let fits : 8 + c.args.piece * form.width ≤ limit_of Two = (c.greatest_piece.ensures c.args.piece).0 c.if-piece-greatest_piece.false in
-    let same : rs ≡ c.args.records.items = c.as_slice-2.ensures.value ∙ only_block c.as_slice.result.now c.index-as_slice-0.result c.in-Ok.blocks c.args.records.items c.as_slice.ensures c.in-Ok.ensures.one c.in-Ok.ensures.whole c.index-as_slice-0.is in
+    let same : rs ≡ c.args.records.items =
+    c.as_slice-2.ensures.value ∙ only_block c.as_slice.result.now c.index-as_slice-0.result c.in-Ok.blocks c.args.records.items c.as_slice.ensures
+    c.in-Ok.ensures.one c.in-Ok.ensures.whole c.index-as_slice-0.is in
     let shape : ℕ → Shape = λ v. record { format = Two; width = v } in
     rw c.into_disk.ensures.disk (
     subst (λ (list : List g.row.R.Denot). IsCopied form g.D.Disk.keeps g.D.Disk.states g.D.Disk.faults c.args.piece list disk (Err (c.write_growths.new.pen.disk, c.in-Err.fault))) same
@@ -60,7 +62,9 @@ invariant_of-result g c =
     let disk = c.args.disk in
     let pen = c.write_growths.new.pen in
     let fits : 8 + c.args.piece * form.width ≤ limit_of Two = (c.greatest_piece.ensures c.args.piece).0 c.if-piece-greatest_piece.false in
-    let same : rs ≡ c.args.records.items = c.as_slice-2.ensures.value ∙ only_block c.as_slice.result.now c.index-as_slice-0.result c.in-Ok.blocks c.args.records.items c.as_slice.ensures c.in-Ok.ensures.one c.in-Ok.ensures.whole c.index-as_slice-0.is in
+    let same : rs ≡ c.args.records.items =
+    c.as_slice-2.ensures.value ∙ only_block c.as_slice.result.now c.index-as_slice-0.result c.in-Ok.blocks c.args.records.items c.as_slice.ensures
+    c.in-Ok.ensures.one c.in-Ok.ensures.whole c.index-as_slice-0.is in
     let shape : ℕ → Shape = λ v. record { format = Two; width = v } in
     all_kept form g.D.Disk.keeps g.D.Disk.states g.D.Disk.faults c.args.piece rs c.requires.some fits disk c.in_ok-pen.pen.disk pen c.in-Ok.blocks
     (λ kept. subst (λ v. StaysUnbornOrEmpty (shape v) (g.D.Disk.states disk) (g.D.Disk.states c.in_ok-pen.pen.disk)) c.width_of.ensures.is (e.born kept))
@@ -75,8 +79,13 @@ returns g c =
     let disk = c.args.disk in
     let pen = c.write_growths.new.pen in
     let fits : 8 + c.args.piece * form.width ≤ limit_of Two = (c.greatest_piece.ensures c.args.piece).0 c.if-piece-greatest_piece.false in
-    let same : rs ≡ c.args.records.items = c.as_slice-2.ensures.value ∙ only_block c.as_slice.result.now c.index-as_slice-0.result c.in-Ok.blocks c.args.records.items c.as_slice.ensures c.in-Ok.ensures.one c.in-Ok.ensures.whole c.index-as_slice-0.is in
+    let same : rs ≡ c.args.records.items =
+    c.as_slice-2.ensures.value ∙ only_block c.as_slice.result.now c.index-as_slice-0.result c.in-Ok.blocks c.args.records.items c.as_slice.ensures
+    c.in-Ok.ensures.one c.in-Ok.ensures.whole c.index-as_slice-0.is in
     let shape : ℕ → Shape = λ v. record { format = Two; width = v } in
-    subst (λ (list : List g.row.R.Denot). IsCopied form g.D.Disk.keeps g.D.Disk.states g.D.Disk.faults c.args.piece list disk (Ok (vault_of form pen c.in-Ok.blocks))) same (all_copied form g.D.Disk.keeps g.D.Disk.states g.D.Disk.faults c.args.piece rs c.requires.some fits disk c.in_ok-pen.pen.disk pen c.in-Ok.blocks
+    subst (λ (list : List g.row.R.Denot). IsCopied form g.D.Disk.keeps g.D.Disk.states g.D.Disk.faults c.args.piece list disk
+    (Ok (vault_of form pen c.in-Ok.blocks))) same
+    (all_copied form g.D.Disk.keeps g.D.Disk.states g.D.Disk.faults c.args.piece rs c.requires.some fits disk c.in_ok-pen.pen.disk pen c.in-Ok.blocks
     (λ kept. subst (λ v. StaysUnbornOrEmpty (shape v) (g.D.Disk.states disk) (g.D.Disk.states c.in_ok-pen.pen.disk)) c.width_of.ensures.is (e.born kept))
-    e.none_existed e.time e.calls e.faults e.model w.images w.model w.written w.cells (c.in-Ok.ensures.whole ∙ sym same) w.time w.faults (subst (λ (d : g.row.D.Denot). g.D.Disk.keeps d → IsKept (g.D.Disk.states d) pen) c.disk-disk.ensures.disk c.disk-disk.ensures.kept))
+    e.none_existed e.time e.calls e.faults e.model w.images w.model w.written w.cells (c.in-Ok.ensures.whole ∙ sym same) w.time w.faults
+    (subst (λ (d : g.row.D.Denot). g.D.Disk.keeps d → IsKept (g.D.Disk.states d) pen) c.disk-disk.ensures.disk c.disk-disk.ensures.kept))

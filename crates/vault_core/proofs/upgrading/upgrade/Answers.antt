@@ -21,7 +21,8 @@ returns-in-Ok-copied_to-clause-upgraded g c =
       (λ kept.
           let o = c.in-Ok.ensures.opened (subst g.D.Disk.keeps c.into_disk-in-Ok-copied_to.ensures.disk kept) in
           let format : o.format ≡ One = ap (λ s. s.format) (sym o.shape_is) ∙ sym c.format.ensures ∙ is_one c.format.result c.if-eq.ensures in
-          let records : HasVector o.format form bytes o.found (list_of c.in-Ok-copied_to.vault) = subst (λ (rs : List g.row.R.Denot). HasVector o.format form bytes o.found rs) (sym e.list) o.vector in
+          let records : HasVector o.format form bytes o.found (list_of c.in-Ok-copied_to.vault) =
+          subst (λ (rs : List g.row.R.Denot). HasVector o.format form bytes o.found rs) (sym e.list) o.vector in
           (o.found, subst (λ (f : Format). HasVector f form bytes o.found (list_of c.in-Ok-copied_to.vault)) format records)),
       subst (λ (records : List g.row.R.Denot). IsCopied form g.E.Disk.keeps g.E.Disk.states g.E.Disk.faults c.args.piece records c.args.new (Ok c.in-Ok-copied_to.vault)) (sym e.list) e,
     )

@@ -21,7 +21,11 @@ loop-rest-preserved g c =
     let seen = c.in_default.ensures.seen in
     let so_far = i.seen in
     record {
-      passed = subst (λ rs. PassesOver p c.args.self.now.before (c.args.self.now.batch.1 ++ c.args.piece.now) c.make_room.new.self.before (rs ++ c.split_at.result.1.now)) (sym (ap (λ q. q.1) c.push.ensures))
-          (passes_on p c.args.self.now.before c.loop-rest.self.before c.make_room.new.self.before (c.args.self.now.batch.1 ++ c.args.piece.now) c.loop-rest.self.batch.1 c.loop-rest.rest.now c.make_room.new.self.batch.1 c.split_at.result.0.now c.split_at.result.1.now i.passed c.in_default.ensures.found cut);
+      passed = subst
+          (λ rs. PassesOver p c.args.self.now.before (c.args.self.now.batch.1 ++ c.args.piece.now) c.make_room.new.self.before
+          (rs ++ c.split_at.result.1.now)) (sym (ap (λ q. q.1) c.push.ensures))
+          (passes_on p c.args.self.now.before c.loop-rest.self.before c.make_room.new.self.before (c.args.self.now.batch.1 ++ c.args.piece.now)
+          c.loop-rest.self.batch.1 c.loop-rest.rest.now c.make_room.new.self.batch.1 c.split_at.result.0.now c.split_at.result.1.now i.passed
+          c.in_default.ensures.found cut);
       seen = omega (arith, seen, so_far, ap length cut, length-append c.split_at.result.0.now c.split_at.result.1.now);
     }

@@ -15,5 +15,7 @@ returns-clause-images g c =
     let few = lane_calls-ticked Log old.pen mid.pen c.in_ok-tick.tick e.whole.0 e.ticked in
     let time = t.time in
     settles_images form g.D.Disk.keeps g.D.Disk.states g.D.Disk.faults old mid c.tick-2.new.self
-    (inr (settles_more form g.D.Disk.keeps g.D.Disk.states g.D.Disk.faults old old mid (inl refl) t.images (carries-tick old.pen mid.pen (g.D.Disk.keeps mid.pen.disk) Log c.in_ok-tick.tick e.ticked e.file) t.list e.sure e.whole (omega (arith, few, time)) e.faults t.model e.goes_on))
+    (inr (settles_more form g.D.Disk.keeps g.D.Disk.states g.D.Disk.faults old old mid (inl refl) t.images
+    (carries-tick old.pen mid.pen (g.D.Disk.keeps mid.pen.disk) Log c.in_ok-tick.tick e.ticked e.file) t.list e.sure e.whole
+    (omega (arith, few, time)) e.faults t.model e.goes_on))
     c.tick-2.ensures.model c.tick-2.ensures.images

@@ -20,7 +20,8 @@ spawn_with-started-requires-clause-runs g c κs within =
     let ok = c.take_last-seat.new.self.ok in
     let lt : length rest < g.S.Source.growers_of source = omega arith in
     let made = c.new-grower.ensures in (
-      ready g.R.Record.form.width live (g.S.Source.count_of source) (g.S.Source.block_of source) (length rest) c.id-id.result (g.S.Source.growers_of source) seat c.new-grower.result.seat c.new-grower.result.receipts.items c.new-grower.result.fault
+      ready g.R.Record.form.width live (g.S.Source.count_of source) (g.S.Source.block_of source) (length rest) c.id-id.result
+          (g.S.Source.growers_of source) seat c.new-grower.result.seat c.new-grower.result.receipts.items c.new-grower.result.fault
           new lt c.id-id.ensures made.0 made.1 made.2,
       search rules,
     )
@@ -39,7 +40,9 @@ spawn_with-grower-requires-after_bounds g c κs within =
     let ok = c.take_last-seat.new.self.ok in
     let lt : length rest < g.S.Source.growers_of source = omega arith in
     let made = c.new-grower.ensures in
-    rw c.in-Err.ensures.err (ready g.R.Record.form.width live (g.S.Source.count_of source) (g.S.Source.block_of source) (length rest) c.id-id.result (g.S.Source.growers_of source) seat c.new-grower.result.seat c.new-grower.result.receipts.items c.new-grower.result.fault
+    rw c.in-Err.ensures.err
+    (ready g.R.Record.form.width live (g.S.Source.count_of source) (g.S.Source.block_of source) (length rest) c.id-id.result
+    (g.S.Source.growers_of source) seat c.new-grower.result.seat c.new-grower.result.receipts.items c.new-grower.result.fault
     new lt c.id-id.ensures made.0 made.1 made.2)
 
 pub loop-preserved : goal.loop-preserved
@@ -62,7 +65,8 @@ loop-preserved g c =
     let id : c.id-id.result ≡ length rest = c.id-id.ensures ∙ pop.1.id_is in
     let number : c.id-id.result + length c.loop.sent.items + 1 ≡ n = omega arith in
     let more : (s : SentOf _ _ _) → s ≡ record { live = live; source = source; gate = gate; grower = c.id-id.result } → AreSent live source gate n (c.loop.sent.items ++ s ∷ []) =
-    λ s is. sent_more live source gate n c.loop.sent.items s i.sent (ap (λ (t : SentOf _ _ _). t.live) is) (ap (λ (t : SentOf _ _ _). t.source) is) (ap (λ (t : SentOf _ _ _). t.gate) is) (let same = ap (λ (t : SentOf _ _ _). t.grower) is in omega arith) in
+    λ s is. sent_more live source gate n c.loop.sent.items s i.sent (ap (λ (t : SentOf _ _ _). t.live) is) (ap (λ (t : SentOf _ _ _). t.source) is)
+    (ap (λ (t : SentOf _ _ _). t.gate) is) (let same = ap (λ (t : SentOf _ _ _). t.grower) is in omega arith) in
     elim c.match-started.branch [
       | in-Ok w ↦ rw w.sent-is (record {
         left = omega arith;
