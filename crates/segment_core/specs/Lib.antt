@@ -14,6 +14,7 @@ pub mod CommandFrame
 pub mod Raw
 pub mod Parsed
 pub mod Fault
+pub mod Names
 pub mod Notes
 pub mod Found
 pub mod Walk
