@@ -18,3 +18,4 @@ pub mod Values
 pub mod Plan
 pub mod Typed
 pub mod Settled
+pub mod Names
