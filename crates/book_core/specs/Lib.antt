@@ -6,3 +6,4 @@ pub mod Appending
 pub mod Beginning
 pub mod Snapshots
 pub mod Pieces
+pub mod Names

@@ -6,3 +6,4 @@ pub mod Known
 pub mod Notes
 pub mod Finding
 pub mod Fault
+pub mod Names

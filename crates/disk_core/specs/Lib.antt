@@ -2,6 +2,7 @@ pub mod State
 pub mod Calls
 pub mod Moments
 pub mod Fault
+pub mod Names
 pub mod History
 pub mod Contents
 pub mod Choice

@@ -19,3 +19,4 @@ pub mod Values
 pub mod Plan
 pub mod Typed
 pub mod Settled
+pub mod Names

@@ -15,6 +15,7 @@ pub mod Raw
 pub mod Parsed
 pub mod Fault
 pub mod FrameHead
+pub mod Names
 pub mod Notes
 pub mod Found
 pub mod Walk
