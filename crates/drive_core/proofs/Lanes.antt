@@ -1,200 +1,184 @@
 -- The two lanes of device calls, from what a flusher's ticks promise.
-use Rattle.std.proofs.Common.{◌≡◌, inl, inr, ℕ, ◌+◌, ◌≤◌, false, List, length, None, refl, sym, ap, subst, ◌∙◌, arith}
-use Rattle.record_core.specs.Bytes.{Encoding}
-use Rattle.disk_core.specs.State.{State, IsImage, now}
+use Rattle.std.proofs.Common.{◌≡◌, inl, inr, ℕ, ◌+◌, ◌≤◌, false, List, None, refl, sym, ap, subst, ◌∙◌, arith}
+use Rattle.disk_core.specs.State.{IsImage, now}
 use Rattle.disk_core.specs.Moments.{LeavesOnly, clock}
 use Rattle.disk_core.proofs.JoinedMoments.{LeavesOnly-weaker}
 use Rattle.pen_core.specs.PenOf.{PenOf}
-use Rattle.pen_core.specs.Pen.{calls_due, home_calls_due}
 use Rattle.flush_core.specs.declared.lane.Tick.{Tick}
 use Rattle.flush_core.specs.declared.lane.Tick.TheVariants as ticks
 use Rattle.flush_core.specs.declared.lane.Lane.TheVariants as lanes
 use Rattle.flush_core.specs.Flusher.{FlusherOf, SameGrowths, IsFlusherOf, OpensToSettled, OpensToJob}
-use Rattle.flush_core.specs.Refusals.{IsLaneTicked, IsLaneFault, settled_behind, failed}
+use Rattle.flush_core.specs.Refusals.{IsLaneTicked, IsLaneFault, lane_calls, settled_behind, failed}
 use Rattle.flush_core.specs.declared.fault.FlushFault.{FlushFault}
 use Rattle.flush_core.specs.declared.fault.FlushFault.TheVariants as flush
-use Rattle.drive_core.specs.declared.fault.Fault.TheVariants.{Vault}
-use Rattle.vault_core.specs.declared.fault.VaultFault.TheVariants as vault
-use Rattle.directory_core.specs.Chain.{IsPrefix}
 use Rattle.drive_core.specs.Line.{of_flush}
+use Rattle.drive_core.specs.Medium.{Medium}
 use Rattle.drive_core.specs.Step.{Step, Answer}
 use Rattle.drive_core.specs.Step as step
-use Rattle.drive_core.specs.World.{World, Growth, DiskOf, hand_of}
+use Rattle.drive_core.specs.World.{World, Growth, Growing, DiskOf, hand_of}
 use Rattle.drive_core.specs.Outcome.{stray_in}
-use Rattle.drive_core.specs.Run.{LaneCalls, HasCalls}
+use Rattle.drive_core.specs.Run.{HasCalls}
 use Rattle.book_core.specs.Lists as book
-use Rattle.drive_core.specs.Headline.{Inner}
-use Rattle.drive_core.specs.Ties.{GrowingOf, IsGrowing, IsBehind, Steps, growths_in_hand, disk_of}
-use Rattle.drive_core.specs.Rows.{GrowthRow, PhaseRow, StrayRow, IsStep}
-use Rattle.drive_core.proofs.Ties.{flusher_leaves, flusher_rests}
-use Rattle.drive_core.proofs.PenLanes.{behind_call, brought, IsLaneEvent, log_answered, log_refused, home_answered, home_refused}
+use Rattle.drive_core.specs.Ties.{GrowingOf, IsGrowing, growths_in_hand, disk_of}
+use Rattle.drive_core.specs.GrowthTies.{GrowthStep}
+use Rattle.drive_core.specs.Rows.{GrowthRow}
+use Rattle.drive_core.proofs.PenLanes.{behind_call, brought, log_answered, log_refused, home_answered, home_refused, due_few, home_few}
+use Rattle.drive_core.proofs.Steps.{at_phase, answered}
+use Rattle.drive_core.proofs.Ties.{flusher_leaves, flusher_rests, other_flusher, flushes_on, behind_of}
 
--- ---- a call of the flusher that changes its pen and what is settled
+-- What a flusher promises of a tick, whatever it answers.
+pub record IsTick {R D : Type 0} (m : Medium R D) (live : book.Phase R) (old new : FlusherOf R D) : Type 0 where
+  pub is : IsFlusherOf (m.keeps old.pen.disk) live old
+  pub same : SameGrowths old new
+  pub opening : m.keeps new.pen.disk → new.opening ≡ old.opening
+  pub model : m.keeps new.pen.disk → m.keeps old.pen.disk
+  pub images : m.keeps new.pen.disk → LeavesOnly (m.states old.pen.disk) (m.states new.pen.disk) (OpensToJob m.form old)
+  pub rests : m.keeps new.pen.disk → (image : List ℕ) → IsImage (now (m.states new.pen.disk)) image → OpensToSettled m.form new image
 
-module _ {R D : Type 0} (states : D → List State) (faults : D → ℕ) (w : World R) (phase : Growth) (g : GrowingOf R D) (tie : IsGrowing states faults w phase g) (new : FlusherOf R D) where
+module _ {R D : Type 0} {m : Medium R D} {w : World R} {phase : Growth} {g : GrowingOf R D} (tie : IsGrowing m w phase g) {new : FlusherOf R D} (tick : IsTick m g.live g.flusher new) where
   -- the world behind it
-  abbrev pub behind : World R
-  behind = behind_call w (phase.before + new.settled) (hand_of new.pen) (disk_of states faults new.pen.disk)
+  abbrev behind : World R
+  behind = behind_call w (phase.before + new.settled) (hand_of new.pen) (disk_of m.states m.faults new.pen.disk)
 
-  -- what is in hand then
-  abbrev pub with_flusher : GrowingOf R D
-  with_flusher = record g { flusher = new }
+  -- ---- what the job in hand brings then
 
-  pub still_growing : SameGrowths g.flusher new → new.taken ≡ new.settled + growths_in_hand new.pen.job → IsGrowing states faults behind phase with_flusher
-  still_growing same brings = record {
-    phase_is = tie.phase_is;
-    calm = tie.calm;
-    first = tie.first;
-    entries = tie.entries;
-    history_is = tie.history_is;
-    before_is = tie.before_is;
-    opening_is = tie.opening_is;
-    puts_is = tie.puts_is;
-    room_is = tie.room_is;
-    closed_is = tie.closed_is;
-    mark_is = tie.mark_is;
-    known_are = tie.known_are;
-    made_are = tie.made_are;
-    told_are = tie.told_are;
-    seats_are = tie.seats_are;
-    made_sum = tie.made_sum;
-    each = tie.each;
-    last_knows = tie.last_knows;
-    flusher_knows = subst (λ (p : _). IsPrefix p.entries tie.entries) (sym same.pass_same) tie.flusher_knows;
-    flusher_is = tie.flusher_is ∙ ap (λ (p : _). length p.entries) (sym same.pass_same);
-    taken_is = tie.taken_is ∙ sym same.taken_same;
-    taken_within = tie.taken_within;
-    job_brings = brings;
-    settled_is = refl;
-    hand_is = refl;
-    disk_is = refl;
-  }
+  abbrev Brings : Type 0
+  Brings = new.taken ≡ new.settled + growths_in_hand new.pen.job
 
-  pub behind_it : SameGrowths g.flusher new → new.taken ≡ new.settled + growths_in_hand new.pen.job → IsBehind states faults behind with_flusher
-  behind_it same brings = record { disk_is = refl; goes_on = λ calm. (phase, still_growing same brings) }
-
-  pub log_brings : (tick : Tick) → IsLaneTicked lanes.Log g.flusher.pen new.pen tick → new.settled ≡ settled_behind g.flusher tick → new.taken ≡ g.flusher.taken → new.taken ≡ new.settled + growths_in_hand new.pen.job
+  log_brings : (tick : Tick) → IsLaneTicked lanes.Log g.flusher.pen new.pen tick → new.settled ≡ settled_behind g.flusher tick → new.taken ≡ g.flusher.taken → Brings
   log_brings ticks.Idle ticked settled taken =
-      let was = tie.job_brings in let job = ap (λ (p : PenOf D). growths_in_hand p.job) ticked.1 in omega (arith, was, job, settled, taken)
+      let was = tie.flusher.job_brings in
+      let job = ap (λ (p : PenOf D). growths_in_hand p.job) ticked.1 in
+      omega (arith, was, job, settled, taken)
   log_brings ticks.Step ticked settled taken =
-      let was = tie.job_brings in let job : growths_in_hand new.pen.job ≡ growths_in_hand g.flusher.pen.job = ap growths_in_hand ticked.2.2 ∙ ap growths_in_hand (sym ticked.1) in omega (arith, was, job, settled, taken)
+      let was = tie.flusher.job_brings in
+      let job : growths_in_hand new.pen.job ≡ growths_in_hand g.flusher.pen.job = ap growths_in_hand ticked.2.2 ∙ ap growths_in_hand (sym ticked.1) in
+      omega (arith, was, job, settled, taken)
   log_brings ticks.Done ticked settled taken = let none : growths_in_hand new.pen.job ≡ 0 = ap growths_in_hand ticked.3.job_done in omega (arith, none, settled, taken)
   log_brings ticks.Filed ticked settled taken = absurd ticked
   log_brings ticks.Waiting ticked settled taken = absurd ticked
 
-  pub home_brings : (tick : Tick) → IsLaneTicked lanes.Home g.flusher.pen new.pen tick → new.settled ≡ g.flusher.settled → new.taken ≡ g.flusher.taken → new.taken ≡ new.settled + growths_in_hand new.pen.job
-  home_brings ticks.Idle ticked settled taken = let was = tie.job_brings in let job = ap (λ (p : PenOf D). growths_in_hand p.job) ticked.1 in omega (arith, was, job, settled, taken)
-  home_brings ticks.Step ticked settled taken = let was = tie.job_brings in let job = ap growths_in_hand ticked.2.job_same in omega (arith, was, job, settled, taken)
+  home_brings : (tick : Tick) → IsLaneTicked lanes.Home g.flusher.pen new.pen tick → new.settled ≡ g.flusher.settled → new.taken ≡ g.flusher.taken → Brings
+  home_brings ticks.Idle ticked settled taken =
+      let was = tie.flusher.job_brings in
+      let job = ap (λ (p : PenOf D). growths_in_hand p.job) ticked.1 in
+      omega (arith, was, job, settled, taken)
+  home_brings ticks.Step ticked settled taken = let was = tie.flusher.job_brings in let job = ap growths_in_hand ticked.2.job_same in omega (arith, was, job, settled, taken)
   home_brings ticks.Done ticked settled taken = absurd ticked
   home_brings ticks.Filed ticked settled taken =
-      let was = tie.job_brings in let none : growths_in_hand g.flusher.pen.job ≡ 0 = ap growths_in_hand ticked.1.idle in let job : growths_in_hand new.pen.job ≡ 0 = ap growths_in_hand ticked.1.job_is in omega (arith, was, none, job, settled, taken)
-  home_brings ticks.Waiting ticked settled taken = let was = tie.job_brings in let job = ap (λ (p : PenOf D). growths_in_hand p.job) ticked.1.same in omega (arith, was, job, settled, taken)
+      let was = tie.flusher.job_brings in
+      let none : growths_in_hand g.flusher.pen.job ≡ 0 = ap growths_in_hand ticked.1.idle in
+      let job : growths_in_hand new.pen.job ≡ 0 = ap growths_in_hand ticked.1.job_is in
+      omega (arith, was, none, job, settled, taken)
+  home_brings ticks.Waiting ticked settled taken =
+      let was = tie.flusher.job_brings in
+      let job = ap (λ (p : PenOf D). growths_in_hand p.job) ticked.1.same in
+      omega (arith, was, job, settled, taken)
 
-  -- ---- what stands behind each event of a lane
+  -- a tick that is refused settles nothing, and leaves the job
+  job_left : growths_in_hand new.pen.job ≡ growths_in_hand g.flusher.pen.job → new.settled ≡ g.flusher.settled → Brings
+  job_left job settled = let was = tie.flusher.job_brings in let taken = tick.same.taken_same in omega (arith, was, job, settled, taken)
 
-  module _ (form : Encoding R) (keeps : D → Type 0) (is : IsFlusherOf (keeps g.flusher.pen.disk) g.live g.flusher) (is' : IsFlusherOf (keeps new.pen.disk) g.live new) (model : keeps new.pen.disk → keeps g.flusher.pen.disk)
-      (leaves : keeps new.pen.disk → LeavesOnly (states g.flusher.pen.disk) (states new.pen.disk) (OpensToSettled form g.flusher))
-      (rests : keeps new.pen.disk → (image : List ℕ) → IsImage (now (states new.pen.disk)) image → OpensToSettled form new image)
-      (same : SameGrowths g.flusher new) (brings : new.taken ≡ new.settled + growths_in_hand new.pen.job)
-      (n : ℕ) (time : clock (states new.pen.disk) ≡ clock (states g.flusher.pen.disk) + n) (few : n ≤ 1) where
-    lane_inner : (asked : Step R) (answer : Answer R) → keeps new.pen.disk → Inner form w (record { asked = asked; answer = answer; calls = n; after = behind })
-    lane_inner asked answer kept = record {
-      within = λ some has. flusher_leaves states faults w phase g tie form (keeps g.flusher.pen.disk) behind new.pen.disk (model kept) is refl refl refl (leaves kept);
-      behind = λ some has. flusher_rests states faults behind phase with_flusher (still_growing same brings) form (keeps new.pen.disk) kept is' (rests kept);
-    }
+  -- ---- from the pen's event
 
-    lane_time : clock behind.disk.states ≡ clock w.disk.states + n
-    lane_time = time ∙ ap (λ (d : DiskOf). clock d.states + n) (sym tie.disk_is)
+  by_event : {asked : Step R} {answer same : Answer R} {n : ℕ} → answer ≡ same → Brings → clock (m.states new.pen.disk) ≡ clock (m.states g.flusher.pen.disk) + n → n ≤ 1
+      → GrowthRow m.form (m.keeps new.pen.disk) w phase asked same behind → HasCalls w asked same n → (n ≡ 0 → behind.disk ≡ w.disk) → stray_in same ≡ None
+      → GrowthStep m w (record g { flusher = new }) asked answer n
+  by_event {asked} {same = same} {n = n} told brings time few row calls still calm = answered told (record {
+    after = behind;
+    is_event = record {
+      row = at_phase m.form (m.keeps new.pen.disk) w (Growing phase) asked same behind tie.calm tie.phase_is row;
+      called = calls;
+      time = time ∙ ap (λ (d : DiskOf). clock d.states + n) (sym tie.disk_is);
+      still = still;
+    };
+    inner = λ kept. record {
+      within = λ some has. flusher_leaves tie (tick.model kept) tick.is (phase.before + new.settled) (hand_of new.pen) new.pen.disk
+          (LeavesOnly-weaker (m.states g.flusher.pen.disk) (m.states new.pen.disk) (OpensToJob m.form g.flusher) (OpensToSettled m.form g.flusher) (λ image opens. opens.kept) (tick.images kept));
+      behind = λ some has. flusher_rests behind_tie kept is_new (tick.rests kept);
+    };
+    stray_is = tie.calm ∙ sym calm;
+    few = omega (arith, few);
+    tied = behind_of behind_tie;
+  })
+    where
+      behind_tie : IsGrowing m behind phase (record g { flusher = new })
+      behind_tie = other_flusher tie w.phase phase.flusher phase.taken (phase.before + new.settled) (hand_of new.pen) (disk_of m.states m.faults new.pen.disk) new tie.phase_is
+          (flushes_on tie tick.same.pass_same tick.same.taken_same brings refl) refl refl
 
-    in_phase : (asked : Step R) (answer : Answer R) → GrowthRow form (keeps new.pen.disk) w phase asked answer behind → IsStep form (keeps new.pen.disk) w asked answer behind
-    in_phase asked answer row =
-        subst (λ s. StrayRow form (keeps new.pen.disk) w s asked answer behind) (sym tie.calm)
-        (subst (λ p. PhaseRow form (keeps new.pen.disk) w p asked answer behind) (sym tie.phase_is) row)
+      is_new : IsFlusherOf (m.keeps new.pen.disk) g.live new
+      is_new = record {
+        directory = ap (λ (p : _). p.of) tick.same.pass_same ∙ tick.is.directory;
+        mark = ap (λ (m : _). m.of) tick.same.mark_same ∙ tick.is.mark;
+        before = tick.same.before_same ∙ tick.is.before;
+        opening = λ kept. tick.opening kept ∙ tick.is.opening (tick.model kept);
+      }
 
-    lane_steps : (asked : Step R) (answer : Answer R) → GrowthRow form (keeps new.pen.disk) w phase asked answer behind → HasCalls w asked answer n → (n ≡ 0 → disk_of states faults new.pen.disk ≡ w.disk) → stray_in answer ≡ None
-        → Steps form (keeps new.pen.disk) (λ w'. IsBehind states faults w' with_flusher) w asked answer n
-    lane_steps asked answer row calls still calm = record {
-      after = behind;
-      is_event = record { row = in_phase asked answer row; called = calls; time = lane_time; still = still };
-      inner = lane_inner asked answer;
-      stray_is = tie.calm ∙ sym calm;
-      few = omega (arith, few);
-      tied = behind_it same brings;
-    }
+  -- ---- the log
 
-    -- from the pen's event
-    by_event : (asked : Step R) (answer same_answer : Answer R) → same_answer ≡ answer → {Row : Type 0} → IsLaneEvent states faults w g.flusher.pen new.pen tie.hand_is tie.disk_is (phase.before + new.settled) Row answer n → (Row → GrowthRow form (keeps new.pen.disk) w phase asked answer behind) → (LaneCalls answer n → HasCalls w asked answer n) → stray_in answer ≡ None
-        → Steps form (keeps new.pen.disk) (λ w'. IsBehind states faults w' with_flusher) w asked same_answer n
-    by_event asked answer same_answer is event row calls calm = subst (λ a. Steps form (keeps new.pen.disk) (λ w'. IsBehind states faults w' with_flusher) w asked a n) (sym is) (lane_steps asked answer (row event.0) (calls event.1) event.2 calm)
+  abbrev log_calls : ℕ
+  log_calls = lane_calls lanes.Log g.flusher.pen
 
-    -- what is settled by a tick of the log
-    settled_more : (tick : Tick) → IsLaneTicked lanes.Log g.flusher.pen new.pen tick → new.settled ≡ settled_behind g.flusher tick → phase.before + new.settled ≡ w.settled + brought g.flusher.pen.job tick
-    settled_more ticks.Idle ticked settled = let before = tie.settled_is in omega (arith, settled, before)
-    settled_more ticks.Step ticked settled = let before = tie.settled_is in omega (arith, settled, before)
-    settled_more ticks.Done ticked settled = let before = tie.settled_is in let brings = tie.job_brings in omega (arith, settled, before, brings)
-    settled_more ticks.Filed ticked settled = absurd ticked
-    settled_more ticks.Waiting ticked settled = absurd ticked
+  -- what is settled by a tick
+  settled_more : (tick : Tick) → IsLaneTicked lanes.Log g.flusher.pen new.pen tick → new.settled ≡ settled_behind g.flusher tick → phase.before + new.settled ≡ w.settled + brought g.flusher.pen.job tick
+  settled_more ticks.Idle ticked settled = let before = tie.flusher.settled_is in omega (arith, settled, before)
+  settled_more ticks.Step ticked settled = let before = tie.flusher.settled_is in omega (arith, settled, before)
+  settled_more ticks.Done ticked settled = let before = tie.flusher.settled_is in let brings = tie.flusher.job_brings in omega (arith, settled, before, brings)
+  settled_more ticks.Filed ticked settled = absurd ticked
+  settled_more ticks.Waiting ticked settled = absurd ticked
 
-    settled_same : new.settled ≡ g.flusher.settled → phase.before + new.settled ≡ w.settled
-    settled_same is = let before = tie.settled_is in omega (arith, is, before)
+  settled_same : new.settled ≡ g.flusher.settled → phase.before + new.settled ≡ w.settled
+  settled_same is = let before = tie.flusher.settled_is in omega (arith, is, before)
 
-    -- ---- a tick of either lane, as its function answers
+  pub log_answers : {answer : Answer R} (tick : Tick) → answer ≡ step.Ticked tick → clock (m.states new.pen.disk) ≡ clock (m.states g.flusher.pen.disk) + log_calls
+      → IsLaneTicked lanes.Log g.flusher.pen new.pen tick → g.flusher.pen.broken ≡ false → new.pen.broken ≡ false → new.settled ≡ settled_behind g.flusher tick
+      → GrowthStep m w (record g { flusher = new }) step.Log answer log_calls
+  log_answers ticked_as is time ticked whole whole' settled =
+      let event = log_answered m w g.flusher.pen new.pen tie.hand_is tie.disk_is (phase.before + new.settled) ticked_as ticked whole whole' (settled_more ticked_as ticked settled) in
+      by_event is (log_brings ticked_as ticked settled tick.same.taken_same) time (due_few g.flusher.pen.broken g.flusher.pen.job) event.0 event.1 event.2 refl
 
-    pub log_answers : (tick : Tick) (answer : Answer R) → answer ≡ step.Ticked tick → IsLaneTicked lanes.Log g.flusher.pen new.pen tick → g.flusher.pen.broken ≡ false → new.pen.broken ≡ false → new.settled ≡ settled_behind g.flusher tick → n ≡ calls_due g.flusher.pen.broken g.flusher.pen.job
-        → Steps form (keeps new.pen.disk) (λ w'. IsBehind states faults w' with_flusher) w step.Log answer n
-    log_answers tick answer is ticked whole whole' settled calls =
-        by_event step.Log (step.Ticked tick) answer is (log_answered states faults w g.flusher.pen new.pen tie.hand_is tie.disk_is (phase.before + new.settled) tick ticked whole whole' (settled_more tick ticked settled) n calls) (λ row. row) (λ called. called) refl
+  pub log_refuses : {answer : Answer R} (fault : FlushFault) → answer ≡ step.Refused (of_flush fault) → clock (m.states new.pen.disk) ≡ clock (m.states g.flusher.pen.disk) + log_calls
+      → IsLaneFault lanes.Log g.flusher.pen new.pen fault → new.settled ≡ g.flusher.settled → m.faults new.pen.disk ≡ m.faults g.flusher.pen.disk + failed fault
+      → GrowthStep m w (record g { flusher = new }) step.Log answer log_calls
+  log_refuses (flush.Strayed number) is time why settled counted = absurd why
+  log_refuses (flush.Pen fault) is time why settled counted =
+      let event = log_refused m w g.flusher.pen new.pen tie.hand_is tie.disk_is (phase.before + new.settled) fault why (settled_same settled) counted in
+      let job : growths_in_hand new.pen.job ≡ growths_in_hand g.flusher.pen.job = elim why [ inl was ↦ ap (λ (p : PenOf D). growths_in_hand p.job) was.2 | inr by ↦ ap growths_in_hand by.4.job_same ] in
+      by_event is (job_left job settled) time (due_few g.flusher.pen.broken g.flusher.pen.job) event.0 event.1 event.2 refl
 
-    pub log_refuses : (fault : FlushFault) (answer : Answer R) → answer ≡ step.Refused (of_flush fault) → IsLaneFault lanes.Log g.flusher.pen new.pen fault → new.settled ≡ g.flusher.settled → faults new.pen.disk ≡ faults g.flusher.pen.disk + failed fault → n ≡ calls_due g.flusher.pen.broken g.flusher.pen.job
-        → Steps form (keeps new.pen.disk) (λ w'. IsBehind states faults w' with_flusher) w step.Log answer n
-    log_refuses (flush.Strayed number) answer is why settled counted calls = absurd why
-    log_refuses (flush.Pen fault) answer is why settled counted calls =
-        by_event step.Log (step.Refused (Vault (vault.Pen fault))) answer is (log_refused states faults w g.flusher.pen new.pen tie.hand_is tie.disk_is (phase.before + new.settled) fault why (settled_same settled) counted n calls) (λ row. row) (λ called. called) refl
+  -- ---- the homes
 
-    pub home_answers : (tick : Tick) (answer : Answer R) → answer ≡ step.Ticked tick → IsLaneTicked lanes.Home g.flusher.pen new.pen tick → g.flusher.pen.broken ≡ false → new.pen.broken ≡ false → new.settled ≡ g.flusher.settled → n ≡ home_calls_due g.flusher.pen.broken g.flusher.pen.fold
-        → Steps form (keeps new.pen.disk) (λ w'. IsBehind states faults w' with_flusher) w step.Home answer n
-    home_answers tick answer is ticked whole whole' settled calls =
-        by_event step.Home (step.Ticked tick) answer is (home_answered states faults w g.flusher.pen new.pen tie.hand_is tie.disk_is (phase.before + new.settled) tick ticked whole whole' (settled_same settled) n calls) (λ row. row) (λ called. called) refl
+  abbrev home_calls : ℕ
+  home_calls = lane_calls lanes.Home g.flusher.pen
 
-    pub home_refuses : (fault : FlushFault) (answer : Answer R) → answer ≡ step.Refused (of_flush fault) → IsLaneFault lanes.Home g.flusher.pen new.pen fault → new.settled ≡ g.flusher.settled → faults new.pen.disk ≡ faults g.flusher.pen.disk + failed fault → n ≡ home_calls_due g.flusher.pen.broken g.flusher.pen.fold
-        → Steps form (keeps new.pen.disk) (λ w'. IsBehind states faults w' with_flusher) w step.Home answer n
-    home_refuses (flush.Strayed number) answer is why settled counted calls = absurd why
-    home_refuses (flush.Pen fault) answer is why settled counted calls =
-        by_event step.Home (step.Refused (Vault (vault.Pen fault))) answer is (home_refused states faults w g.flusher.pen new.pen tie.hand_is tie.disk_is (phase.before + new.settled) fault why (settled_same settled) counted n calls) (λ row. row) (λ called. called) refl
+  -- a tick of the homes settles nothing
+  settled_home : (tick : Tick) → IsLaneTicked lanes.Home g.flusher.pen new.pen tick → new.settled ≡ settled_behind g.flusher tick → new.settled ≡ g.flusher.settled
+  settled_home ticks.Idle ticked is = is
+  settled_home ticks.Step ticked is = is
+  settled_home ticks.Done ticked is = absurd ticked
+  settled_home ticks.Filed ticked is = is
+  settled_home ticks.Waiting ticked is = is
+
+  pub home_answers : {answer : Answer R} (tick : Tick) → answer ≡ step.Ticked tick → clock (m.states new.pen.disk) ≡ clock (m.states g.flusher.pen.disk) + home_calls
+      → IsLaneTicked lanes.Home g.flusher.pen new.pen tick → g.flusher.pen.broken ≡ false → new.pen.broken ≡ false → new.settled ≡ settled_behind g.flusher tick
+      → GrowthStep m w (record g { flusher = new }) step.Home answer home_calls
+  home_answers ticked_as is time ticked whole whole' told =
+      let settled = settled_home ticked_as ticked told in
+      let event = home_answered m w g.flusher.pen new.pen tie.hand_is tie.disk_is (phase.before + new.settled) ticked_as ticked whole whole' (settled_same settled) in
+      by_event is (home_brings ticked_as ticked settled tick.same.taken_same) time (home_few g.flusher.pen.broken g.flusher.pen.fold) event.0 event.1 event.2 refl
+
+  pub home_refuses : {answer : Answer R} (fault : FlushFault) → answer ≡ step.Refused (of_flush fault) → clock (m.states new.pen.disk) ≡ clock (m.states g.flusher.pen.disk) + home_calls
+      → IsLaneFault lanes.Home g.flusher.pen new.pen fault → new.settled ≡ g.flusher.settled → m.faults new.pen.disk ≡ m.faults g.flusher.pen.disk + failed fault
+      → GrowthStep m w (record g { flusher = new }) step.Home answer home_calls
+  home_refuses (flush.Strayed number) is time why settled counted = absurd why
+  home_refuses (flush.Pen fault) is time why settled counted =
+      let event = home_refused m w g.flusher.pen new.pen tie.hand_is tie.disk_is (phase.before + new.settled) fault why (settled_same settled) counted in
+      let job : growths_in_hand new.pen.job ≡ growths_in_hand g.flusher.pen.job = elim why [ inl was ↦ ap (λ (p : PenOf D). growths_in_hand p.job) was.2 | inr by ↦ ap growths_in_hand by.5.job_same ] in
+      by_event is (job_left job settled) time (home_few g.flusher.pen.broken g.flusher.pen.fold) event.0 event.1 event.2 refl
 
 -- what a crash may leave of the disk as it is lent
-pub rests-lent : {R D : Type 0} (form : Encoding R) (keeps : D → Type 0) (states : D → List State) (new : FlusherOf R D) (lent : D) → lent ≡ new.pen.disk → (keeps lent → (image : List ℕ) → IsImage (now (states lent)) image → OpensToJob form new image)
-    → keeps new.pen.disk → (image : List ℕ) → IsImage (now (states new.pen.disk)) image → OpensToSettled form new image
-rests-lent {D = D} form keeps states new lent is images kept image left = (subst (λ (d : D). keeps d → (image : List ℕ) → IsImage (now (states d)) image → OpensToJob form new image) is images kept image left).kept
-
--- and within a tick
-pub leaves-kept : {R D : Type 0} (form : Encoding R) (f : FlusherOf R D) (old new : List State) → LeavesOnly old new (OpensToJob form f) → LeavesOnly old new (OpensToSettled form f)
-leaves-kept form f old new leaves = LeavesOnly-weaker old new (OpensToJob form f) (OpensToSettled form f) (λ image kept. kept.kept) leaves
-
--- what is of a phase stays of it
-pub IsFlusherOf-ticked : {R D : Type 0} (keeps : D → Type 0) (live : book.Phase R) (old new : FlusherOf R D) → SameGrowths old new → (keeps new.pen.disk → new.opening ≡ old.opening) → (keeps new.pen.disk → keeps old.pen.disk) → IsFlusherOf (keeps old.pen.disk) live old → IsFlusherOf (keeps new.pen.disk) live new
-IsFlusherOf-ticked keeps live old new same opening model is = record {
-  directory = ap (λ (p : _). p.of) same.pass_same ∙ is.directory;
-  mark = ap (λ (m : _). m.of) same.mark_same ∙ is.mark;
-  before = same.before_same ∙ is.before;
-  opening = λ kept. opening kept ∙ is.opening (model kept);
-}
-
-pub log_brings_too : {R D : Type 0} (old new : FlusherOf R D) (fault : FlushFault) → IsLaneFault lanes.Log old.pen new.pen fault → new.settled ≡ old.settled → new.taken ≡ old.taken → old.taken ≡ old.settled + growths_in_hand old.pen.job → new.taken ≡ new.settled + growths_in_hand new.pen.job
-log_brings_too old new (flush.Strayed number) why settled taken was = absurd why
-log_brings_too {D = D} old new (flush.Pen fault) why settled taken was =
-    let job : growths_in_hand new.pen.job ≡ growths_in_hand old.pen.job = elim why [ inl was ↦ ap (λ (p : PenOf D). growths_in_hand p.job) was.2 | inr by ↦ ap growths_in_hand by.4.job_same ] in
-    omega (arith, was, job, settled, taken)
-
-pub home_brings_too : {R D : Type 0} (old new : FlusherOf R D) (fault : FlushFault) → IsLaneFault lanes.Home old.pen new.pen fault → new.settled ≡ old.settled → new.taken ≡ old.taken → old.taken ≡ old.settled + growths_in_hand old.pen.job → new.taken ≡ new.settled + growths_in_hand new.pen.job
-home_brings_too old new (flush.Strayed number) why settled taken was = absurd why
-home_brings_too {D = D} old new (flush.Pen fault) why settled taken was =
-    let job : growths_in_hand new.pen.job ≡ growths_in_hand old.pen.job = elim why [ inl was ↦ ap (λ (p : PenOf D). growths_in_hand p.job) was.2 | inr by ↦ ap growths_in_hand by.5.job_same ] in
-    omega (arith, was, job, settled, taken)
-
-pub settled_home : {R D : Type 0} (old new : FlusherOf R D) (tick : Tick) → IsLaneTicked lanes.Home old.pen new.pen tick → new.settled ≡ settled_behind old tick → new.settled ≡ old.settled
-settled_home old new ticks.Idle ticked is = is
-settled_home old new ticks.Step ticked is = is
-settled_home old new ticks.Done ticked is = absurd ticked
-settled_home old new ticks.Filed ticked is = is
-settled_home old new ticks.Waiting ticked is = is
+pub rests-lent : {R D : Type 0} (m : Medium R D) (new : FlusherOf R D) {lent : D} → lent ≡ new.pen.disk
+    → (m.keeps lent → (image : List ℕ) → IsImage (now (m.states lent)) image → OpensToJob m.form new image)
+    → m.keeps new.pen.disk → (image : List ℕ) → IsImage (now (m.states new.pen.disk)) image → OpensToSettled m.form new image
+rests-lent {D = D} m new is images kept image left =
+    (subst (λ (d : D). m.keeps d → (image : List ℕ) → IsImage (now (m.states d)) image → OpensToJob m.form new image) is images kept image left).kept

@@ -1,7 +1,6 @@
 -- The loop over steps.
 use Rattle.std.proofs.Common.{◌≤◌, ◌≡◌, ℕ, ◌+◌, List, [], ◌∷◌, ◌++◌, map, length, take, slice_get, ◌-◌, Option, Some, None, refl, sym, ap, subst, ◌∙◌, arith}
 use Rattle.record_core.specs.Bytes.{Encoding}
-use Rattle.disk_core.specs.State.{State}
 use Rattle.disk_core.specs.Moments.{clock}
 use Rattle.book_core.specs.declared.fault.GrowFault.TheVariants as grow
 use Rattle.drive_core.specs.declared.fault.Fault.TheVariants.{Grow}
@@ -10,6 +9,7 @@ use Rattle.drive_core.specs.declared.step.Answer as told
 use Rattle.drive_core.specs.Asked.{step_of, answer_of}
 use Rattle.segment_core.proofs.Written.{take_more}
 use Rattle.std.proofs.lemmas.List.{take_all}
+use Rattle.drive_core.specs.Medium.{Medium}
 use Rattle.drive_core.specs.Step.{Step, Answer}
 use Rattle.drive_core.specs.Step as step
 use Rattle.drive_core.specs.World.{World, DiskOf}
@@ -20,11 +20,11 @@ use Rattle.segment_core.specs.Command.{Command}
 use Rattle.drive_core.specs.declared.phase.Phase as phases
 use Rattle.drive_core.specs.World.{vector, changed, changed_runs, resized, cleared}
 use Rattle.drive_core.specs.Run.{CommandCalls}
-use Rattle.drive_core.specs.Driving.{IsDriver, HasRun}
-use Rattle.drive_core.specs.Phases.{disk_in, IsInHand, IsLeft}
+use Rattle.drive_core.specs.Driving.{IsDriver, DriverStep, HasRun}
+use Rattle.drive_core.specs.Phases.{disk_in, IsInHand, PhaseStep}
 use Rattle.drive_core.specs.Ties.{Steps}
 use Rattle.drive_core.specs.VaultTies.{calls_between}
-use Rattle.drive_core.proofs.PhaseEvents.{still}
+use Rattle.drive_core.proofs.Steps.{answered, counted, still}
 use Rattle.drive_core.proofs.Loop.{last-more, Run-more, Run-weaker, AllInner-more}
 
 stray_command : {R : Type 0} (command : Option (Command R)) (number : ℕ) → CommandCalls command (step.Refused (Grow (grow.Strayed number))) 0
@@ -42,27 +42,19 @@ stray_calls w step.Log number = refl
 stray_calls w step.Home number = refl
 stray_calls w other number = refl
 
-module _ {R D : Type 0} (form : Encoding R) (states : D → List State) (faults : D → ℕ) (keeps : D → Type 0) (w : World R) where
+module _ {R D : Type 0} {m : Medium R D} {w : World R} where
   -- a step behind one that strayed
-  stray_at : (phase : phases.Phase R D) (number : ℕ) (asked : Step R) → HasCalls w asked (step.Refused (Grow (grow.Strayed number))) 0 → IsDriver states faults keeps w phase (Some number)
-      → Steps form (keeps (disk_in phase)) (λ w'. IsDriver states faults keeps w' phase (Some number)) w asked (step.Refused (Grow (grow.Strayed number))) (calls_between (states (disk_in phase)) (states (disk_in phase)))
-  stray_at phase number asked calls tie =
-      still form states faults keeps w (keeps (disk_in phase)) (disk_in phase) (disk_in phase) (λ w'. IsDriver states faults keeps w' phase (Some number)) w asked (step.Refused (Grow (grow.Strayed number))) (step.Refused (Grow (grow.Strayed number))) refl
-      (subst (λ s. StrayRow form (keeps (disk_in phase)) w s asked (step.Refused (Grow (grow.Strayed number))) w) (sym tie.strayed_is) (refl, refl))
-      calls refl refl tie.strayed_is tie
-
-  pub stray_steps : (phase : phases.Phase R D) (strayed : Option ℕ) (number : ℕ) (asked : Step R) (answer : Answer R) → strayed ≡ Some number → answer ≡ step.Refused (Grow (grow.Strayed number)) → IsDriver states faults keeps w phase strayed
-      → Steps form (keeps (disk_in phase)) (λ w'. IsDriver states faults keeps w' phase strayed) w asked answer (calls_between (states (disk_in phase)) (states (disk_in phase)))
-  stray_steps phase strayed number asked answer some is tie =
-      subst (λ s. Steps form (keeps (disk_in phase)) (λ w'. IsDriver states faults keeps w' phase s) w asked answer (calls_between (states (disk_in phase)) (states (disk_in phase)))) (sym some)
-      (subst (λ a. Steps form (keeps (disk_in phase)) (λ w'. IsDriver states faults keeps w' phase (Some number)) w asked a (calls_between (states (disk_in phase)) (states (disk_in phase)))) (sym is)
-      (stray_at phase number asked (stray_calls w asked number) (subst (IsDriver states faults keeps w phase) some tie)))
+  pub stray_steps : {phase : phases.Phase R D} {strayed : Option ℕ} {number : ℕ} {answer : Answer R} (asked : Step R) → IsDriver m w phase strayed → strayed ≡ Some number → answer ≡ step.Refused (Grow (grow.Strayed number))
+      → DriverStep m w (disk_in phase) phase strayed asked answer
+  stray_steps {phase} {number = number} asked tie some is =
+      let none : 0 ≡ calls_between (m.states (disk_in phase)) (m.states (disk_in phase)) = omega arith in
+      let row = subst (λ s. StrayRow m.form (m.keeps (disk_in phase)) w s asked (step.Refused (Grow (grow.Strayed number))) w) (sym (tie.strayed_is ∙ some)) (refl, refl) in
+      answered is (counted none (still w row (stray_calls w asked number) refl (tie.strayed_is ∙ some) tie))
 
   -- as the driver's step answers
-  pub driver_steps : (phase new : phases.Phase R D) (asked : Step R) (answer : Answer R) (strayed strayed' : Option ℕ) → strayed ≡ None → strayed' ≡ stray_in answer → IsDriver states faults keeps w phase strayed
-      → (IsInHand states faults keeps w phase → Steps form (keeps (disk_in new)) (λ w'. IsLeft states faults keeps w' new) w asked answer (calls_between (states (disk_in phase)) (states (disk_in new))))
-      → Steps form (keeps (disk_in new)) (λ w'. IsDriver states faults keeps w' new strayed') w asked answer (calls_between (states (disk_in phase)) (states (disk_in new)))
-  driver_steps phase new asked answer strayed strayed' none told tie steps =
+  pub driver_steps : {phase new : phases.Phase R D} {asked : Step R} {answer : Answer R} {strayed strayed' : Option ℕ} → IsDriver m w phase strayed → strayed ≡ None → strayed' ≡ stray_in answer
+      → (IsInHand m w phase → PhaseStep m w (disk_in phase) new asked answer) → DriverStep m w (disk_in phase) new strayed' asked answer
+  driver_steps tie none told steps =
       let s = steps (tie.goes_on none) in
       record {
         after = s.after;
@@ -74,9 +66,9 @@ module _ {R D : Type 0} (form : Encoding R) (states : D → List State) (faults 
       }
 
   -- the clock goes on by the calls of a step
-  pub clock_goes : (phase new : phases.Phase R D) (strayed strayed' : Option ℕ) (asked : Step R) (answer : Answer R) (n : ℕ) → IsDriver states faults keeps w phase strayed → Steps form (keeps (disk_in new)) (λ w'. IsDriver states faults keeps w' new strayed') w asked answer n
-      → clock (states (disk_in new)) ≡ clock (states (disk_in phase)) + n
-  clock_goes phase new strayed strayed' asked answer n tie s =
+  pub clock_goes : {phase new : phases.Phase R D} {strayed strayed' : Option ℕ} {asked : Step R} {answer : Answer R} → IsDriver m w phase strayed → (s : DriverStep m w (disk_in phase) new strayed' asked answer)
+      → clock (m.states (disk_in new)) ≡ clock (m.states (disk_in phase)) + calls_between (m.states (disk_in phase)) (m.states (disk_in new))
+  clock_goes tie s =
       let before = ap (λ (d : DiskOf). clock d.states) tie.disk_is in
       let after = ap (λ (d : DiskOf). clock d.states) s.tied.disk_is in
       let time = s.is_event.time in

@@ -1,11 +1,10 @@
 -- The begin of a fold, from what a pen's begin promises.
-use Rattle.std.proofs.Common.{◌≡◌, inl, inr, ℕ, ◌≤◌, ◌<◌, ◌^◌, Bool, true, false, nat_lt, nat_le, List, length, Option, Some, None, refl, sym, ap, subst, arith, is_some, lt-ltb, le-leb, leb-true, ltb-true}
+use Rattle.std.proofs.Common.{◌≡◌, inl, inr, ℕ, ◌≤◌, ◌<◌, ◌^◌, Bool, true, false, nat_lt, nat_le, List, Option, Some, None, refl, sym, ap, subst, arith, is_some, lt-ltb, le-leb, leb-true, ltb-true}
 use Rattle.std.specs.Prelude.{IfSome}
 use Rattle.disk_core.specs.State.{IsImage, now}
 use Rattle.pen_core.specs.PenOf.{PenOf, FoldOf}
 use Rattle.pen_core.specs.Folds.{IsWholeFold}
-use Rattle.pen_core.specs.Pen.{MayOpen, IsFoldAnswer, IsFoldRefusal, IsFoldBarred, IsReadyToFold, BeginsFold, IsUnchanged, gate_behind_fold}
-use Rattle.pen_core.specs.declared.stage.FoldStage.TheVariants as stages
+use Rattle.pen_core.specs.Pen.{MayOpen, IsFoldAnswer, IsFoldRefusal, IsFoldBarred, IsReadyToFold, BeginsFold, gate_behind_fold}
 use Rattle.pen_core.specs.declared.fault.PenFault.{PenFault}
 use Rattle.pen_core.specs.declared.fault.PenFault.TheVariants as pen
 use Rattle.drive_core.specs.declared.fault.Fault.TheVariants.{Vault}
@@ -16,10 +15,11 @@ use Rattle.drive_core.specs.Step as step
 use Rattle.drive_core.specs.World.{World, hand_of, is_live}
 use Rattle.drive_core.specs.Outcome.{Outcome}
 use Rattle.drive_core.specs.LaneRows.{fold_lines, FoldsFile, IsFold, HasBegun}
+use Rattle.drive_core.proofs.Hands.{hand_begun}
 use Rattle.drive_core.proofs.Tables.{passes, stops}
 
 -- a test that doesn't hold
-not_le : (a b : ℕ) → b < a → nat_le a b ≡ false
+pub not_le : (a b : ℕ) → b < a → nat_le a b ≡ false
 not_le a b less = at (nat_le a b) refl
   where
     at : (c : Bool) → nat_le a b ≡ c → c ≡ false
@@ -34,23 +34,6 @@ not_lt a b le = at (nat_lt a b) refl
     at false is = refl
 
 module _ {D : Type 0} where
-  -- the same pen
-  pub hand_unchanged : (old new : PenOf D) → IsUnchanged old new → hand_of new ≡ hand_of old
-  hand_unchanged old new same i = record {
-    file = record { shape = same.shape_same i; gate = same.gate_same i; changes = (same.tally_same i).changes; folded = (same.tally_same i).folded };
-    job = same.job_same i;
-    fold = same.fold_same i;
-    broken = same.broken_same i;
-  }
-
-  hand_begun : (old new : PenOf D) (by : BeginsFold old new) → hand_of new ≡ record (hand_of old) { fold = Some (record { count = old.tally.changes; left = by.left; stage = stages.Home (length by.left) }) }
-  hand_begun old new by i = record {
-    file = record { shape = by.shape_same i; gate = by.gate_same i; changes = (by.tally_same i).changes; folded = (by.tally_same i).folded };
-    job = by.job_same i;
-    fold = by.fold_is i;
-    broken = by.broken_same i;
-  }
-
   -- whether a change is live
   live_of : (p : PenOf D) (ready : Bool) → IsReadyToFold p ready → is_live (hand_of p).file ≡ ready
   live_of p true ready = lt-ltb p.tally.folded p.tally.changes ready.2

@@ -1,28 +1,28 @@
 -- A resize and a clear, as the command that they are.
-use Rattle.std.proofs.Common.{if◌then◌else◌, ◌≡◌, ◌⊎◌, inl, inr, ℕ, ◌+◌, ◌-◌, ◌*◌, ◌<◌, Bool, true, false, nat_lt, List, [], ◌∷◌, ◌++◌, length, take, Option, Some, None, refl, sym, ap, subst, ◌∙◌, arith, lt-ltb, ltb-true, ltb-false}
+use Rattle.std.proofs.Common.{if◌then◌else◌, ◌≡◌, ◌⊎◌, inl, inr, ℕ, ◌+◌, ◌-◌, ◌*◌, ◌<◌, ◌≤◌, Bool, true, false, nat_lt, List, [], ◌∷◌, ◌++◌, length, take, Option, Some, None, refl, sym, ap, subst, ◌∙◌, arith, lt-ltb, ltb-true, ltb-false}
 use Rattle.std.specs.Prelude.{replicate, Ok, Err}
 use Rattle.std.proofs.lemmas.List.{append-nil, take_all, length-replicate}
-use Rattle.record_core.specs.Bytes.{Encoding}
-use Rattle.disk_core.specs.State.{State, IsImage, now}
-use Rattle.segment_core.specs.Command.{Command, Grow, Shrink, after_command}
+use Rattle.std.specs.declared.result.Result.{Result}
+use Rattle.segment_core.specs.Command.{Command, Grow, Shrink}
 use Rattle.segment_core.specs.Frame as frames
+use Rattle.segment_core.specs.Frame.{Frame}
+use Rattle.pen_core.specs.declared.fault.PenFault.{PenFault}
 use Rattle.segment_core.specs.Written.{group_frame, payload_len}
 use Rattle.pen_core.specs.Refusals.{group_lines, shrink_lines}
 use Rattle.vault_core.specs.declared.fault.VaultFault.{VaultFault}
-use Rattle.vault_core.specs.Vault.{VaultOf, list_of, MayHold}
+use Rattle.vault_core.specs.Vault.{VaultOf, list_of}
 use Rattle.vault_core.specs.Commands as commands
 use Rattle.vault_core.specs.Commands.{Stands}
 use Rattle.drive_core.specs.declared.fault.Fault.TheVariants.{Vault}
+use Rattle.drive_core.specs.Medium.{Medium}
 use Rattle.drive_core.specs.Step.{Step, Answer}
 use Rattle.drive_core.specs.Step as step
-use Rattle.drive_core.specs.World.{World, vector, resized, cleared}
-use Rattle.drive_core.specs.ExclusiveRows.{IsCommand}
-use Rattle.drive_core.specs.Rows.{ExclusiveRow}
-use Rattle.drive_core.specs.Run.{HasCalls, CommandCalls}
-use Rattle.drive_core.specs.Ties.{Steps}
-use Rattle.drive_core.specs.VaultTies.{IsExclusive, calls_between}
+use Rattle.drive_core.specs.World.{World, resized, cleared}
+use Rattle.drive_core.specs.VaultTies.{IsExclusive, VaultStep}
 use Rattle.drive_core.proofs.PenFolds.{not_lt}
-use Rattle.drive_core.proofs.VaultEvents.{pen_tests, committed_steps, failed_steps, nothing_steps, nothing_refused}
+use Rattle.drive_core.proofs.PenTests.{pen_tests}
+use Rattle.drive_core.proofs.VaultEvents.{Holds, Asks, nothing_steps, nothing_refused}
+use Rattle.drive_core.proofs.VaultCommands.{IsWritten, committed_steps, failed_steps}
 
 -- the length asked for is more, less, or the one that is there
 pub compared : (n size : ℕ) → (size < n) ⊎ ((n < size) ⊎ (n ≡ size))
@@ -34,33 +34,29 @@ compared n size = at (nat_lt size n) (nat_lt n size) refl refl
     at false false more less = let a = ltb-false size n more in let b = ltb-false n size less in inr (inr (omega (arith, a, b)))
 
 module _ {R : Type 0} (r : R) where
+  abbrev shrunk : ℕ → ℕ → Option (Command R)
+  shrunk size n = if nat_lt n size then Some (Shrink n) else None
+
   resized_up : (size n : ℕ) → size < n → resized size n r ≡ Some (Grow (replicate (n - size) r))
-  resized_up size n more = ap (λ (b : Bool). if b then Some (Grow (replicate (n - size) r)) else if nat_lt n size then Some (Shrink n) else None) (lt-ltb size n more)
+  resized_up size n more = ap (λ (b : Bool). if b then Some (Grow (replicate (n - size) r)) else shrunk size n) (lt-ltb size n more)
+
+  not_up : (size n : ℕ) → n ≤ size → resized size n r ≡ shrunk size n
+  not_up size n le = ap (λ (b : Bool). if b then Some (Grow (replicate (n - size) r)) else shrunk size n) (not_lt size n le)
 
   resized_down : (size n : ℕ) → n < size → resized size n r ≡ Some (Shrink n)
-  resized_down size n less = ap (λ (b : Bool). if b then Some (Grow (replicate (n - size) r)) else if nat_lt n size then Some (Shrink n) else None) (not_lt size n (omega (arith, less)))
-      ∙ ap (λ (b : Bool). if b then Some (Shrink n) else None) (lt-ltb n size less)
+  resized_down size n less = not_up size n (omega (arith, less)) ∙ ap (λ (b : Bool). if b then Some (Shrink n) else None) (lt-ltb n size less)
 
   resized_same : (size n : ℕ) → n ≡ size → resized size n r ≡ None
-  resized_same size n same = ap (λ (b : Bool). if b then Some (Grow (replicate (n - size) r)) else if nat_lt n size then Some (Shrink n) else None) (not_lt size n (omega (arith, same)))
-      ∙ ap (λ (b : Bool). if b then Some (Shrink n) else None) (not_lt n size (omega (arith, same)))
+  resized_same size n same = not_up size n (omega (arith, same)) ∙ ap (λ (b : Bool). if b then Some (Shrink n) else None) (not_lt n size (omega (arith, same)))
 
 cleared_some : {R : Type 0} (size : ℕ) → 0 < size → cleared {R = R} size ≡ Some (Shrink 0)
 cleared_some {R} size some = let none_left : Command R = Shrink 0 in ap (λ (b : Bool). if b then Some none_left else None) (lt-ltb 0 size some)
 
-module _ {R D : Type 0} (form : Encoding R) (states : D → List State) (faults : D → ℕ) (keeps : D → Type 0) (w : World R) (v : VaultOf R D) (tie : IsExclusive states faults keeps w v) (new : VaultOf R D)
-    (size : v.pen.broken ≡ false → v.pen.tally.size ≡ length (list_of v)) (rests : keeps new.pen.disk → (image : List ℕ) → IsImage (now (states new.pen.disk)) image → MayHold form new image) where
-  abbrev pub Done : Step R → Answer R → Type 0
-  Done asked answer = Steps form (keeps new.pen.disk) (λ w'. IsExclusive states faults keeps w' new) w asked answer (calls_between (states v.pen.disk) (states new.pen.disk))
-
-  -- what is asked is this command
-  asks_command : (asked : Step R) (which : Option (Command R)) (command : Command R) → which ≡ Some command → ((answer : Answer R) (w' : World R) → IsCommand form w which answer w' → ExclusiveRow form (keeps new.pen.disk) w asked answer w') → ((answer : Answer R) (n : ℕ) → CommandCalls which answer n → HasCalls w asked answer n)
-      → (answer : Answer R) (w' : World R) (n : ℕ) → IsCommand form w (Some command) answer w' → CommandCalls (Some command) answer n → ExclusiveRow form (keeps new.pen.disk) w asked answer w' × HasCalls w asked answer n
-  asks_command asked which command is row calls answer w' n r k = (row answer w' (subst (λ c. IsCommand form w c answer w') (sym is) r), calls answer n (subst (λ c. CommandCalls c answer n) (sym is) k))
-
-  asks_nothing : (asked : Step R) (which : Option (Command R)) → which ≡ None → ((answer : Answer R) (w' : World R) → IsCommand form w which answer w' → ExclusiveRow form (keeps new.pen.disk) w asked answer w') → ((answer : Answer R) (n : ℕ) → CommandCalls which answer n → HasCalls w asked answer n)
-      → (answer : Answer R) (w' : World R) → IsCommand form w None answer w' → ExclusiveRow form (keeps new.pen.disk) w asked answer w' × HasCalls w asked answer 0
-  asks_nothing asked which is row calls answer w' r = (row answer w' (subst (λ c. IsCommand form w c answer w') (sym is) r), calls answer 0 (subst (λ c. CommandCalls c answer 0) (sym is) refl))
+module _ {R D : Type 0} {m : Medium R D} {w : World R} {v : VaultOf R D} (tie : IsExclusive m w v) (new : VaultOf R D)
+    (size : v.pen.broken ≡ false → v.pen.tally.size ≡ length (list_of v)) (rests : Holds m new new.pen.disk) where
+  -- what the vault promises of a frame and its tests
+  abbrev Says : Frame → List (Bool × PenFault) → Result (Unit {0}) VaultFault → Type 0
+  Says frame lines result = commands.IsCommand m.form m.keeps m.states m.faults frame lines v new result
 
   -- ---- a resize
 
@@ -68,102 +64,96 @@ module _ {R D : Type 0} (form : Encoding R) (states : D → List State) (faults 
     abbrev len : ℕ
     len = length (list_of v)
 
-    same_size : resized (length (vector w)) n r ≡ resized len n r
-    same_size = ap (λ l. resized (length l) n r) tie.list_is
-
     abbrev IsResized : Type 0
     IsResized = list_of new ≡ commands.resized n r (list_of v)
 
-    resize_row : (answer : Answer R) (w' : World R) → IsCommand form w (resized (length (vector w)) n r) answer w' → ExclusiveRow form (keeps new.pen.disk) w (step.Resize n r) answer w'
-    resize_row answer w' row = row
+    abbrev copies : List R
+    copies = replicate (n - len) r
 
-    resize_calls : (answer : Answer R) (k : ℕ) → CommandCalls (resized (length (vector w)) n r) answer k → HasCalls w (step.Resize n r) answer k
-    resize_calls answer k calls = calls
+    abbrev up_lines : List (Bool × PenFault)
+    up_lines = group_lines v.pen (n - len) (8 + (n - len) * m.form.width)
 
-    up_lines : len < n → group_lines v.pen (n - len) (8 + (n - len) * form.width) ≡ pen_tests form v.pen (Grow (replicate (n - len) r))
-    up_lines more =
-        let long : length (replicate (n - len) r) ≡ n - len = length-replicate (n - len) r in
-        let all : payload_len form.width (replicate (n - len) r ∷ []) ≡ 8 + (n - len) * form.width = ap (λ k. 8 + k * form.width) (ap length (append-nil (replicate (n - len) r)) ∙ long) in
-        ap (λ k. group_lines v.pen k (8 + (n - len) * form.width)) (sym long) ∙ ap (λ p. group_lines v.pen (length (replicate (n - len) r)) p) (sym all)
+    asks : (command : Option (Command R)) → resized len n r ≡ command → Asks m w new (step.Resize n r) command
+    asks command is = subst (Asks m w new (step.Resize n r)) (ap (λ l. resized (length l) n r) tie.list_is ∙ is) (λ answer w' k row calls. (row, calls))
 
-    up_is : len < n → IsResized → list_of new ≡ after_command (list_of v) (Grow (replicate (n - len) r))
-    up_is more is = is ∙ ap (λ l. l ++ replicate (n - len) r) (take_all n (list_of v) (omega (arith, more)))
+    up_lines_are : up_lines ≡ pen_tests m.form v.pen (Grow copies)
+    up_lines_are =
+        let long : length copies ≡ n - len = length-replicate (n - len) r in
+        let all : payload_len m.form.width (copies ∷ []) ≡ 8 + (n - len) * m.form.width = ap (λ k. 8 + k * m.form.width) (ap length (append-nil copies) ∙ long) in
+        ap (λ k. group_lines v.pen k (8 + (n - len) * m.form.width)) (sym long) ∙ ap (λ p. group_lines v.pen (length copies) p) (sym all)
 
-    down_is : n < len → IsResized → list_of new ≡ after_command (list_of v) (Shrink n)
-    down_is less is = is ∙ ap (λ k. take n (list_of v) ++ replicate k r) (let none : n - len ≡ 0 = omega (arith, less) in none) ∙ append-nil (take n (list_of v))
+    up : len < n → IsWritten m w v new (step.Resize n r) (Grow copies) (group_frame m.form (copies ∷ [])) up_lines IsResized
+    up more = record {
+      asks = asks (Some (Grow copies)) (resized_up r len n more);
+      size = size;
+      rests = rests;
+      lines_are = up_lines_are;
+      made_is = λ allowed is. (is ∙ ap (λ l. l ++ copies) (take_all n (list_of v) (omega (arith, more))), refl);
+    }
 
-    pub resize_answers : (answer : Answer R) → answer ≡ step.Fine → IsResized
-        → (len < n → commands.IsCommand form keeps states faults (group_frame form (replicate (n - len) r ∷ [])) (group_lines v.pen (n - len) (8 + (n - len) * form.width)) v new (Ok tt))
-        → (n < len → commands.IsCommand form keeps states faults (frames.Shrink n) (shrink_lines v.pen n) v new (Ok tt))
-        → (n ≡ len → (new ≡ v) × (v.pen.broken ≡ false)) → Done (step.Resize n r) answer
-    resize_answers answer is list up down nothing = elim (compared n len) [
-      | inl more ↦ committed_steps form states faults keeps w v tie new (Grow (replicate (n - len) r)) size (step.Resize n r)
-          (asks_command (step.Resize n r) (resized (length (vector w)) n r) (Grow (replicate (n - len) r)) (same_size ∙ resized_up r len n more) resize_row resize_calls) rests
-          (group_frame form (replicate (n - len) r ∷ [])) _ (up_lines more) IsResized (λ allowed made. (up_is more made, refl)) (up more) list answer is
+    down : n < len → IsWritten m w v new (step.Resize n r) (Shrink n) (frames.Shrink n) (shrink_lines v.pen n) IsResized
+    down less = record {
+      asks = asks (Some (Shrink n)) (resized_down r len n less);
+      size = size;
+      rests = rests;
+      lines_are = refl;
+      made_is = λ allowed is. (is ∙ ap (λ k. take n (list_of v) ++ replicate k r) (let none : n - len ≡ 0 = omega (arith, less) in none) ∙ append-nil (take n (list_of v)), refl);
+    }
+
+    pub resize_answers : {answer : Answer R} → answer ≡ step.Fine → IsResized
+        → (len < n → Says (group_frame m.form (copies ∷ [])) up_lines (Ok tt)) → (n < len → Says (frames.Shrink n) (shrink_lines v.pen n) (Ok tt))
+        → (n ≡ len → (new ≡ v) × (v.pen.broken ≡ false)) → VaultStep m w v new (step.Resize n r) answer
+    resize_answers is list says_up says_down nothing = elim (compared n len) [
+      | inl more ↦ committed_steps tie (up more) (says_up more) list is
       | inr other ↦ elim other [
-        | inl less ↦ committed_steps form states faults keeps w v tie new (Shrink n) size (step.Resize n r)
-            (asks_command (step.Resize n r) (resized (length (vector w)) n r) (Shrink n) (same_size ∙ resized_down r len n less) resize_row resize_calls) rests
-            (frames.Shrink n) _ refl IsResized (λ allowed made. (down_is less made, refl)) (down less) list answer is
-        | inr same ↦ nothing_steps form states faults keeps w v tie new (step.Resize n r)
-            (asks_nothing (step.Resize n r) (resized (length (vector w)) n r) (same_size ∙ resized_same r len n same) resize_row resize_calls) (nothing same).0 (nothing same).1 answer is
+        | inl less ↦ committed_steps tie (down less) (says_down less) list is
+        | inr same ↦ nothing_steps tie (nothing same).0 (asks None (resized_same r len n same)) (nothing same).1 is
       ]
     ]
 
-    pub resize_refuses : (fault : VaultFault) (answer : Answer R) → answer ≡ step.Refused (Vault fault) → Stands IsResized (new.blocks ≡ v.blocks) fault
-        → (len < n → commands.IsCommand form keeps states faults (group_frame form (replicate (n - len) r ∷ [])) (group_lines v.pen (n - len) (8 + (n - len) * form.width)) v new (Err fault))
-        → (n < len → commands.IsCommand form keeps states faults (frames.Shrink n) (shrink_lines v.pen n) v new (Err fault))
-        → (n ≡ len → (new ≡ v) × commands.IsNothingFault v.pen fault) → Done (step.Resize n r) answer
-    resize_refuses fault answer is list up down nothing = elim (compared n len) [
-      | inl more ↦ failed_steps form states faults keeps w v tie new (Grow (replicate (n - len) r)) size (step.Resize n r)
-          (asks_command (step.Resize n r) (resized (length (vector w)) n r) (Grow (replicate (n - len) r)) (same_size ∙ resized_up r len n more) resize_row resize_calls) rests
-          (group_frame form (replicate (n - len) r ∷ [])) _ (up_lines more) IsResized (λ allowed made. (up_is more made, refl)) fault (up more) list answer is
+    pub resize_refuses : {answer : Answer R} (fault : VaultFault) → answer ≡ step.Refused (Vault fault) → Stands IsResized (new.blocks ≡ v.blocks) fault
+        → (len < n → Says (group_frame m.form (copies ∷ [])) up_lines (Err fault)) → (n < len → Says (frames.Shrink n) (shrink_lines v.pen n) (Err fault))
+        → (n ≡ len → (new ≡ v) × commands.IsNothingFault v.pen fault) → VaultStep m w v new (step.Resize n r) answer
+    resize_refuses fault is list says_up says_down nothing = elim (compared n len) [
+      | inl more ↦ failed_steps tie (up more) fault (says_up more) list is
       | inr other ↦ elim other [
-        | inl less ↦ failed_steps form states faults keeps w v tie new (Shrink n) size (step.Resize n r)
-            (asks_command (step.Resize n r) (resized (length (vector w)) n r) (Shrink n) (same_size ∙ resized_down r len n less) resize_row resize_calls) rests
-            (frames.Shrink n) _ refl IsResized (λ allowed made. (down_is less made, refl)) fault (down less) list answer is
-        | inr same ↦ nothing_refused form states faults keeps w v tie new (step.Resize n r)
-            (asks_nothing (step.Resize n r) (resized (length (vector w)) n r) (same_size ∙ resized_same r len n same) resize_row resize_calls) (nothing same).0 fault (nothing same).1 answer is
+        | inl less ↦ failed_steps tie (down less) fault (says_down less) list is
+        | inr same ↦ nothing_refused tie (nothing same).0 (asks None (resized_same r len n same)) (nothing same).1 is
       ]
     ]
 
   -- ---- a clear
 
-  clear_size : cleared {R = R} (length (vector w)) ≡ cleared {R = R} (length (list_of v))
-  clear_size = ap (λ l. cleared {R = R} (length l)) tie.list_is
+  clears : (command : Option (Command R)) → cleared {R = R} (length (list_of v)) ≡ command → Asks m w new step.Clear command
+  clears command is = subst (Asks m w new step.Clear) (ap (λ l. cleared {R = R} (length l)) tie.list_is ∙ is) (λ answer w' k row calls. (row, calls))
 
-  none_there : length (list_of v) ≡ 0 → list_of v ≡ []
-  none_there none = at (list_of v) none
-    where
-      at : (l : List R) → length l ≡ 0 → l ≡ []
-      at [] none = refl
-      at (x ∷ l) none = absurd (omega (arith, none))
+  to_none : 0 < length (list_of v) → IsWritten m w v new step.Clear (Shrink 0) (frames.Shrink 0) (shrink_lines v.pen 0) (list_of new ≡ [])
+  to_none some = record {
+    asks = clears (Some (Shrink 0)) (cleared_some (length (list_of v)) some);
+    size = size;
+    rests = rests;
+    lines_are = refl;
+    made_is = λ allowed made. (made, refl);
+  }
 
-  pub clear_answers : (answer : Answer R) → answer ≡ step.Fine → list_of new ≡ [] → (0 < length (list_of v) → commands.IsCommand form keeps states faults (frames.Shrink 0) (shrink_lines v.pen 0) v new (Ok tt))
-      → (list_of v ≡ [] → (new ≡ v) × (v.pen.broken ≡ false)) → Done step.Clear answer
-  clear_answers answer is list some none = elim (compared 0 (length (list_of v))) [
-    | inl never ↦ absurd (omega (arith, never))
-    | inr other ↦ elim other [
-      | inl there ↦ committed_steps form states faults keeps w v tie new (Shrink 0) size step.Clear
-          (asks_command step.Clear (cleared (length (vector w))) (Shrink 0) (clear_size ∙ cleared_some (length (list_of v)) there) (λ answer w' row. row) (λ answer k calls. calls)) rests
-          (frames.Shrink 0) _ refl (list_of new ≡ []) (λ allowed made. (made, refl)) (some there) list answer is
-      | inr empty ↦
-          let no_list = none_there (sym empty) in
-          nothing_steps form states faults keeps w v tie new step.Clear
-          (asks_nothing step.Clear (cleared (length (vector w))) (clear_size ∙ ap (λ n. cleared {R = R} n) (sym empty)) (λ answer w' row. row) (λ answer k calls. calls)) (none no_list).0 (none no_list).1 answer is
-    ]
+  asks_none : list_of v ≡ [] → Asks m w new step.Clear None
+  asks_none none = clears None (ap (λ l. cleared {R = R} (length l)) none)
+
+  some_or_none : (l : List R) → (0 < length l) ⊎ (l ≡ [])
+  some_or_none [] = inr refl
+  some_or_none (x ∷ l) = inl (omega arith)
+
+  pub clear_answers : {answer : Answer R} → answer ≡ step.Fine → list_of new ≡ [] → (0 < length (list_of v) → Says (frames.Shrink 0) (shrink_lines v.pen 0) (Ok tt))
+      → (list_of v ≡ [] → (new ≡ v) × (v.pen.broken ≡ false)) → VaultStep m w v new step.Clear answer
+  clear_answers is list says nothing = elim (some_or_none (list_of v)) [
+    | inl some ↦ committed_steps tie (to_none some) (says some) list is
+    | inr none ↦ nothing_steps tie (nothing none).0 (asks_none none) (nothing none).1 is
   ]
 
-  pub clear_refuses : (fault : VaultFault) (answer : Answer R) → answer ≡ step.Refused (Vault fault) → Stands (list_of new ≡ []) (new.blocks ≡ v.blocks) fault
-      → (0 < length (list_of v) → commands.IsCommand form keeps states faults (frames.Shrink 0) (shrink_lines v.pen 0) v new (Err fault)) → (list_of v ≡ [] → (new ≡ v) × commands.IsNothingFault v.pen fault) → Done step.Clear answer
-  clear_refuses fault answer is list some none = elim (compared 0 (length (list_of v))) [
-    | inl never ↦ absurd (omega (arith, never))
-    | inr other ↦ elim other [
-      | inl there ↦ failed_steps form states faults keeps w v tie new (Shrink 0) size step.Clear
-          (asks_command step.Clear (cleared (length (vector w))) (Shrink 0) (clear_size ∙ cleared_some (length (list_of v)) there) (λ answer w' row. row) (λ answer k calls. calls)) rests
-          (frames.Shrink 0) _ refl (list_of new ≡ []) (λ allowed made. (made, refl)) fault (some there) list answer is
-      | inr empty ↦
-          let no_list = none_there (sym empty) in
-          nothing_refused form states faults keeps w v tie new step.Clear
-          (asks_nothing step.Clear (cleared (length (vector w))) (clear_size ∙ ap (λ n. cleared {R = R} n) (sym empty)) (λ answer w' row. row) (λ answer k calls. calls)) (none no_list).0 fault (none no_list).1 answer is
-    ]
+  pub clear_refuses : {answer : Answer R} (fault : VaultFault) → answer ≡ step.Refused (Vault fault) → Stands (list_of new ≡ []) (new.blocks ≡ v.blocks) fault
+      → (0 < length (list_of v) → Says (frames.Shrink 0) (shrink_lines v.pen 0) (Err fault))
+      → (list_of v ≡ [] → (new ≡ v) × commands.IsNothingFault v.pen fault) → VaultStep m w v new step.Clear answer
+  clear_refuses fault is list says nothing = elim (some_or_none (list_of v)) [
+    | inl some ↦ failed_steps tie (to_none some) fault (says some) list is
+    | inr none ↦ nothing_refused tie (nothing none).0 (asks_none none) (nothing none).1 is
   ]

@@ -11,6 +11,7 @@ pub mod Run
 pub mod Headline
 pub mod Drive
 pub mod Asked
+pub mod Medium
 pub mod Ties
 pub mod Counted
 pub mod Driving

@@ -4,6 +4,7 @@ use Rattle.record_core.specs.Bytes.{Encoding}
 use Rattle.disk_core.specs.State.{State}
 use Rattle.drive_core.specs.declared.phase.Phase as code
 use Rattle.drive_core.specs.declared.phase.Phase.TheVariants.{Shut, Exclusive, Growth}
+use Rattle.drive_core.specs.Medium.{Medium, medium}
 use Rattle.drive_core.specs.Step.{Step, Answer}
 use Rattle.drive_core.specs.World.{World}
 use Rattle.drive_core.specs.World as worlds
@@ -16,24 +17,28 @@ disk_in (Exclusive vault) = vault.pen.disk
 disk_in (Growth growing) = growing.flusher.pen.disk
 
 -- no file is open
-pub record IsShut {R D : Type 0} (states : D → List State) (faults : D → ℕ) (w : World R) (disk : D) : Type 0 where
+pub record IsShut {R D : Type 0} (m : Medium R D) (w : World R) (disk : D) : Type 0 where
   pub phase_is : w.phase ≡ worlds.Shut
   pub calm : w.strayed ≡ None
-  pub disk_is : w.disk ≡ disk_of states faults disk
+  pub disk_is : w.disk ≡ disk_of m.states m.faults disk
 
 -- the world's phase is what is in hand
-abbrev pub IsInHand : {R D : Type 0} → (D → List State) → (D → ℕ) → (D → Type 0) → World R → code.Phase R D → Type 0
-IsInHand states faults keeps w (Shut disk) = IsShut states faults w disk
-IsInHand states faults keeps w (Exclusive vault) = IsExclusive states faults keeps w vault
-IsInHand states faults keeps w (Growth growing) = (phase : worlds.Growth) × IsGrowing states faults w phase growing
+abbrev pub IsInHand : {R D : Type 0} → Medium R D → World R → code.Phase R D → Type 0
+IsInHand m w (Shut disk) = IsShut m w disk
+IsInHand m w (Exclusive vault) = IsExclusive m w vault
+IsInHand m w (Growth growing) = (phase : worlds.Growth) × IsGrowing m w phase growing
 
 -- Behind a step: the disk is the world's, and the rest too, unless something strayed.
-pub record IsLeft {R D : Type 0} (states : D → List State) (faults : D → ℕ) (keeps : D → Type 0) (w : World R) (phase : code.Phase R D) : Type 0 where
-  pub disk_is : w.disk ≡ disk_of states faults (disk_in phase)
-  pub goes_on : w.strayed ≡ None → IsInHand states faults keeps w phase
+pub record IsLeft {R D : Type 0} (m : Medium R D) (w : World R) (phase : code.Phase R D) : Type 0 where
+  pub disk_is : w.disk ≡ disk_of m.states m.faults (disk_in phase)
+  pub goes_on : w.strayed ≡ None → IsInHand m w phase
 
--- From each world that is tied to what was in hand, this step and answer lead to one that is tied to what is left.
+-- From this world this step and answer lead to one that is tied to what is left.
+abbrev pub PhaseStep : {R D : Type 0} → Medium R D → World R → D → code.Phase R D → Step R → Answer R → Type 0
+PhaseStep m w old new asked answer =
+    Steps m.form (m.keeps (disk_in new)) (λ w'. IsLeft m w' new) w asked answer (calls_between (m.states old) (m.states (disk_in new)))
+
+-- so from each world that is tied to what was in hand
 abbrev pub PhaseSteps : {R D : Type 0} → Encoding R → (D → List State) → (D → ℕ) → (D → Type 0) → code.Phase R D → code.Phase R D → Step R → Answer R → Type 0
 PhaseSteps {R} form states faults keeps old new asked answer =
-    (w : World R) → IsInHand states faults keeps w old
-    → Steps form (keeps (disk_in new)) (λ w'. IsLeft states faults keeps w' new) w asked answer (calls_between (states (disk_in old)) (states (disk_in new)))
+    (w : World R) → IsInHand (medium form states faults keeps) w old → PhaseStep (medium form states faults keeps) w (disk_in old) new asked answer

@@ -10,6 +10,7 @@ use Rattle.book_core.specs.Lists as book
 use Rattle.book_core.specs.Lists.{Seated, opening_of}
 use Rattle.book_core.specs.Growing.{SeatLearns}
 use Rattle.flush_core.specs.Flusher.{FlusherOf}
+use Rattle.drive_core.specs.Medium.{Medium}
 use Rattle.drive_core.specs.Step.{Step, Answer}
 use Rattle.drive_core.specs.World.{World, Growth, Growing, DiskOf, growths_in, hand_of}
 use Rattle.drive_core.specs.Outcome.{stray_in}
@@ -53,42 +54,51 @@ pub record IsSeat {R : Type 0} (entries : List (block.Growth R)) (k : ℕ) (seat
   pub id_is : seat.id ≡ k
   pub knows : IsPrefix seat.pass.entries entries
 
-pub record IsGrowing {R D : Type 0} (states : D → List State) (faults : D → ℕ) (w : World R) (phase : Growth) (g : GrowingOf R D) : Type 0 where
+-- The history is the commands from before the phase, and its growths.
+pub record HasGrowths {R : Type 0} (base opening : List R) (history : List (Command R)) (before : ℕ) (entries : List (block.Growth R)) : Type 0 where
+  pub first : List (Command R)
+  pub history_is : history ≡ first ++ map grow_of entries
+  pub before_is : before ≡ length first
+  pub opening_is : content base first ≡ opening
+
+-- How much each seat knows, has made and was told. Each knows the first growths, and one knows all.
+pub record AreSeated {R : Type 0} (known made told : List ℕ) (seats : List (Seated R)) (count last : ℕ) (entries : List (block.Growth R)) : Type 0 where
+  pub known_are : known ≡ map (λ seat. length seat.pass.entries) seats
+  pub made_are : made ≡ map (λ seat. length seat.made) seats
+  pub told_are : told ≡ map (λ seat. seat.mark.told.count) seats
+  -- as many seats as the book counts, which made all growths
+  pub seats_are : length made ≡ count
+  pub made_sum : sum made ≡ length entries
+  pub each : (k : ℕ) (seat : Seated R) → slice_get seats k ≡ Some seat → IsSeat entries k seat
+  pub last_knows : 0 < length entries → (seat : Seated R) × (slice_get seats last ≡ Some seat) × (seat.pass.entries ≡ entries)
+
+-- How much the flusher knows and has taken, and what its job in hand brings.
+pub record IsFlushing {R D : Type 0} (known taken before settled : ℕ) (entries : List (block.Growth R)) (flusher : FlusherOf R D) : Type 0 where
+  pub knows : IsPrefix flusher.pass.entries entries
+  pub known_is : known ≡ length flusher.pass.entries
+  pub taken_is : taken ≡ flusher.taken
+  pub taken_within : taken ≤ length entries
+  pub job_brings : flusher.taken ≡ flusher.settled + growths_in_hand flusher.pen.job
+  pub settled_is : settled ≡ before + flusher.settled
+
+pub record IsGrowing {R D : Type 0} (m : Medium R D) (w : World R) (phase : Growth) (g : GrowingOf R D) : Type 0 where
   pub phase_is : w.phase ≡ Growing phase
   pub calm : w.strayed ≡ None
-  -- the commands from before the phase, and its growths
-  pub first : List (Command R)
   pub entries : List (block.Growth R)
-  pub history_is : w.history ≡ first ++ map grow_of entries
-  pub before_is : phase.before ≡ length first
-  pub opening_is : content w.base first ≡ opening_of g.live
+  pub growths : HasGrowths w.base (opening_of g.live) w.history phase.before entries
   pub puts_is : g.puts ≡ length entries
   pub room_is : g.live.directory.room ≡ phase.room
   pub closed_is : g.closed ≡ phase.closed
   pub mark_is : g.mark ≡ phase.mark
-  -- the seats, each of which knows the first of them; and one that knows all
-  pub known_are : phase.known ≡ map (λ seat. length seat.pass.entries) g.seats
-  pub made_are : phase.made ≡ map (λ seat. length seat.made) g.seats
-  pub told_are : phase.told ≡ map (λ seat. seat.mark.told.count) g.seats
-  -- as many seats as the book counts, which made all growths
-  pub seats_are : length phase.made ≡ g.live.seat_count
-  pub made_sum : sum phase.made ≡ length entries
-  pub each : (k : ℕ) (seat : Seated R) → slice_get g.seats k ≡ Some seat → IsSeat entries k seat
-  pub last_knows : 0 < length entries → (seat : Seated R) × (slice_get g.seats g.last ≡ Some seat) × (seat.pass.entries ≡ entries)
-  -- the flusher, and what the job in hand brings
-  pub flusher_knows : IsPrefix g.flusher.pass.entries entries
-  pub flusher_is : phase.flusher ≡ length g.flusher.pass.entries
-  pub taken_is : phase.taken ≡ g.flusher.taken
-  pub taken_within : phase.taken ≤ length entries
-  pub job_brings : g.flusher.taken ≡ g.flusher.settled + growths_in_hand g.flusher.pen.job
-  pub settled_is : w.settled ≡ phase.before + g.flusher.settled
+  pub seats : AreSeated phase.known phase.made phase.told g.seats g.live.seat_count g.last entries
+  pub flusher : IsFlushing phase.flusher phase.taken phase.before w.settled entries g.flusher
   pub hand_is : w.hand ≡ hand_of g.flusher.pen
-  pub disk_is : w.disk ≡ disk_of states faults g.flusher.pen.disk
+  pub disk_is : w.disk ≡ disk_of m.states m.faults g.flusher.pen.disk
 
 -- Behind a step: the disk is the world's, and the rest too, unless something strayed.
-pub record IsBehind {R D : Type 0} (states : D → List State) (faults : D → ℕ) (w : World R) (g : GrowingOf R D) : Type 0 where
-  pub disk_is : w.disk ≡ disk_of states faults g.flusher.pen.disk
-  pub goes_on : w.strayed ≡ None → (phase : Growth) × IsGrowing states faults w phase g
+pub record IsBehind {R D : Type 0} (m : Medium R D) (w : World R) (g : GrowingOf R D) : Type 0 where
+  pub disk_is : w.disk ≡ disk_of m.states m.faults g.flusher.pen.disk
+  pub goes_on : w.strayed ≡ None → (phase : Growth) × IsGrowing m w phase g
 
 -- What a step's function promises: from each world that what was in hand is tied to, an event leads to one that what is
 -- in hand is tied to.

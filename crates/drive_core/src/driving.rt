@@ -5,12 +5,10 @@ ghost use Rattle.disk_core.specs.Moments.{clock};
 ghost use Rattle.drive_core.specs.Asked.{answer_of, step_of};
 ghost use Rattle.drive_core.specs.Counted.{below};
 ghost use Rattle.drive_core.specs.Drive.{IsDriven};
-ghost use Rattle.drive_core.specs.Driving.{IsDriver};
+ghost use Rattle.drive_core.specs.Driving.{DriverSteps};
 ghost use Rattle.drive_core.specs.Outcome.{stray_in};
 ghost use Rattle.drive_core.specs.Phases.{disk_in};
-ghost use Rattle.drive_core.specs.Ties.{Steps, disk_of};
-ghost use Rattle.drive_core.specs.VaultTies.{calls_between};
-ghost use Rattle.drive_core.specs.World.{World};
+ghost use Rattle.drive_core.specs.Ties.{disk_of};
 
 use crate::counted::{Began, Counted, between};
 use crate::fault::Fault;
@@ -49,8 +47,7 @@ impl<R: Record, D: Disk> Driver<R, D> {
         rt: &E,
         asked: &Step<R>,
     ) -> (Driver<R, D>, Answer<R>)
-        ensures steps { (w : World R) → IsDriver D.states D.faults D.keeps w self.phase self.strayed
-            → Steps R.form (D.keeps (disk_in result.0.phase)) (λ w'. IsDriver D.states D.faults D.keeps w' result.0.phase result.0.strayed) w (step_of asked.now) (answer_of result.1) (calls_between (D.states (disk_in self.phase)) (D.states (disk_in result.0.phase))) }
+        ensures steps { DriverSteps R.form D.states D.faults D.keeps self.phase self.strayed result.0.phase result.0.strayed (step_of asked.now) (answer_of result.1) }
         ensures model { D.keeps (disk_in result.0.phase) → D.keeps (disk_in self.phase) }
     {
         if let Some(number) = self.strayed {

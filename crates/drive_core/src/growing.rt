@@ -7,8 +7,8 @@ ghost use Rattle.flush_core.specs.Refusals.{lane_calls};
 ghost use Rattle.drive_core.specs.Asked.{answer_of};
 ghost use Rattle.drive_core.specs.Line.{of_flush, of_block, put_fault_of, look_fault_of};
 ghost use Rattle.drive_core.specs.Step as step;
-ghost use Rattle.drive_core.specs.World.{World, Growth};
-ghost use Rattle.drive_core.specs.Ties.{GrowingOf, IsGrowing, IsBehind, Steps};
+ghost use Rattle.drive_core.specs.GrowthTies.{GrowthStepsOf};
+ghost use Rattle.drive_core.specs.Ties.{GrowingOf};
 
 use crate::copying::copy_view;
 use crate::fault::Fault;
@@ -178,8 +178,7 @@ impl<R: Record, D: Disk> Growing<R, D> {
 
     /// The next device call of the log job.
     pub fn log(&mut self) -> Answer<R>
-        ensures steps { (w : World R) (phase : Growth) → IsGrowing D.states D.faults w phase self.old
-            → Steps R.form (D.keeps self.new.flusher.pen.disk) (λ w'. IsBehind D.states D.faults w' self.new) w step.Log (answer_of result) (lane_calls Lane.Log self.old.flusher.pen) }
+        ensures steps { GrowthStepsOf R.form D.states D.faults D.keeps self.old self.new step.Log (answer_of result) (lane_calls Lane.Log self.old.flusher.pen) }
         ensures model { D.keeps self.new.flusher.pen.disk → D.keeps self.old.flusher.pen.disk }
     {
         let ticked = self.flusher.tick(Lane::Log);
@@ -192,8 +191,7 @@ impl<R: Record, D: Disk> Growing<R, D> {
 
     /// The next device call of the fold in hand, or its filing.
     pub fn home(&mut self) -> Answer<R>
-        ensures steps { (w : World R) (phase : Growth) → IsGrowing D.states D.faults w phase self.old
-            → Steps R.form (D.keeps self.new.flusher.pen.disk) (λ w'. IsBehind D.states D.faults w' self.new) w step.Home (answer_of result) (lane_calls Lane.Home self.old.flusher.pen) }
+        ensures steps { GrowthStepsOf R.form D.states D.faults D.keeps self.old self.new step.Home (answer_of result) (lane_calls Lane.Home self.old.flusher.pen) }
         ensures model { D.keeps self.new.flusher.pen.disk → D.keeps self.old.flusher.pen.disk }
     {
         let ticked = self.flusher.tick(Lane::Home);
@@ -206,8 +204,7 @@ impl<R: Record, D: Disk> Growing<R, D> {
 
     /// The mark tells from now on what is settled.
     pub fn raise(&mut self) -> Answer<R>
-        ensures steps { (w : World R) (phase : Growth) → IsGrowing D.states D.faults w phase self.old
-            → Steps R.form (D.keeps self.new.flusher.pen.disk) (λ w'. IsBehind D.states D.faults w' self.new) w step.Raise (answer_of result) 0 }
+        ensures steps { GrowthStepsOf R.form D.states D.faults D.keeps self.old self.new step.Raise (answer_of result) 0 }
         ensures model { D.keeps self.new.flusher.pen.disk → D.keeps self.old.flusher.pen.disk }
     {
         self.mark = self.flusher.raise(&self.live);
@@ -217,8 +214,7 @@ impl<R: Record, D: Disk> Growing<R, D> {
     /// What a seat is told by the mark.
     pub fn settled(&mut self, seat: usize) -> Answer<R>
         requires { seat < length self.old.seats }
-        ensures steps { (w : World R) (phase : Growth) → IsGrowing D.states D.faults w phase self.old
-            → Steps R.form (D.keeps self.new.flusher.pen.disk) (λ w'. IsBehind D.states D.faults w' self.new) w (step.Settled seat) (answer_of result) 0 }
+        ensures steps { GrowthStepsOf R.form D.states D.faults D.keeps self.old self.new (step.Settled seat) (answer_of result) 0 }
         ensures model { D.keeps self.new.flusher.pen.disk → D.keeps self.old.flusher.pen.disk }
     {
         let (count, state) = self.live.settled(&mut self.seats[seat]);
@@ -232,8 +228,7 @@ impl<R: Record, D: Disk> Growing<R, D> {
 
     /// Begins a group.
     pub fn take(&mut self) -> Answer<R>
-        ensures steps { (w : World R) (phase : Growth) → IsGrowing D.states D.faults w phase self.old
-            → Steps R.form (D.keeps self.new.flusher.pen.disk) (λ w'. IsBehind D.states D.faults w' self.new) w step.Take (answer_of result) 0 }
+        ensures steps { GrowthStepsOf R.form D.states D.faults D.keeps self.old self.new step.Take (answer_of result) 0 }
         ensures model { D.keeps self.new.flusher.pen.disk → D.keeps self.old.flusher.pen.disk }
     {
         match self.flusher.take_group(&self.live) {
@@ -244,8 +239,7 @@ impl<R: Record, D: Disk> Growing<R, D> {
 
     /// From now on the book refuses each growth, and the driver each put.
     pub fn close<E: Wait>(&mut self, rt: &E) -> Answer<R>
-        ensures steps { (w : World R) (phase : Growth) → IsGrowing D.states D.faults w phase self.old
-            → Steps R.form (D.keeps self.new.flusher.pen.disk) (λ w'. IsBehind D.states D.faults w' self.new) w step.Close (answer_of result) 0 }
+        ensures steps { GrowthStepsOf R.form D.states D.faults D.keeps self.old self.new step.Close (answer_of result) 0 }
         ensures model { D.keeps self.new.flusher.pen.disk → D.keeps self.old.flusher.pen.disk }
     {
         self.live.close(rt);
@@ -258,8 +252,7 @@ impl<R: Record, D: Disk> Growing<R, D> {
         requires inside { seat < length self.old.seats }
         requires not_closed { self.old.closed ≡ false }
         requires block { IsBlockLength R.form.width (length fresh) }
-        ensures steps { (w : World R) (phase : Growth) → IsGrowing D.states D.faults w phase self.old
-            → Steps R.form (D.keeps self.new.flusher.pen.disk) (λ w'. IsBehind D.states D.faults w' self.new) w (step.Put seat fresh) (answer_of result) 0 }
+        ensures steps { GrowthStepsOf R.form D.states D.faults D.keeps self.old self.new (step.Put seat fresh) (answer_of result) 0 }
         ensures model { D.keeps self.new.flusher.pen.disk → D.keeps self.old.flusher.pen.disk }
     {
         let grown = self.live.grow(rt, &mut self.seats[seat], fresh);
@@ -285,8 +278,7 @@ impl<R: Record, D: Disk> Growing<R, D> {
     /// A growth of these records by a seat.
     pub fn put<E: Wait>(&mut self, rt: &E, seat: usize, records: &Vec<R>) -> Answer<R>
         requires inside { seat < length self.old.seats }
-        ensures steps { (w : World R) (phase : Growth) → IsGrowing D.states D.faults w phase self.old
-            → Steps R.form (D.keeps self.new.flusher.pen.disk) (λ w'. IsBehind D.states D.faults w' self.new) w (step.Put seat records.now.items) (answer_of result) 0 }
+        ensures steps { GrowthStepsOf R.form D.states D.faults D.keeps self.old self.new (step.Put seat records.now.items) (answer_of result) 0 }
         ensures model { D.keeps self.new.flusher.pen.disk → D.keeps self.old.flusher.pen.disk }
     {
         let fresh = match Fresh::from_slice(self.alloc, records.as_slice()) {
@@ -301,8 +293,7 @@ impl<R: Record, D: Disk> Growing<R, D> {
 
     /// What the flusher finds. Who knows all compares then; the flusher learns nothing of it.
     pub fn look_flusher(&mut self) -> Answer<R>
-        ensures steps { (w : World R) (phase : Growth) → IsGrowing D.states D.faults w phase self.old
-            → Steps R.form (D.keeps self.new.flusher.pen.disk) (λ w'. IsBehind D.states D.faults w' self.new) w (step.Look None) (answer_of result) 0 }
+        ensures steps { GrowthStepsOf R.form D.states D.faults D.keeps self.old self.new (step.Look None) (answer_of result) 0 }
         ensures model { D.keeps self.new.flusher.pen.disk → D.keeps self.old.flusher.pen.disk }
     {
         let looked = self.flusher.look(&self.live);
@@ -320,8 +311,7 @@ impl<R: Record, D: Disk> Growing<R, D> {
     /// What a seat finds. Who knows all compares then; the seat learns nothing of it.
     pub fn look(&mut self, seat: usize) -> Answer<R>
         requires inside { seat < length self.old.seats }
-        ensures steps { (w : World R) (phase : Growth) → IsGrowing D.states D.faults w phase self.old
-            → Steps R.form (D.keeps self.new.flusher.pen.disk) (λ w'. IsBehind D.states D.faults w' self.new) w (step.Look (Some seat)) (answer_of result) 0 }
+        ensures steps { GrowthStepsOf R.form D.states D.faults D.keeps self.old self.new (step.Look (Some seat)) (answer_of result) 0 }
         ensures model { D.keeps self.new.flusher.pen.disk → D.keeps self.old.flusher.pen.disk }
     {
         let looked = self.live.look(&mut self.seats[seat]);
@@ -339,8 +329,7 @@ impl<R: Record, D: Disk> Growing<R, D> {
     /// The list as a seat knows it.
     pub fn view(&mut self, seat: usize) -> Answer<R>
         requires inside { seat < length self.old.seats }
-        ensures steps { (w : World R) (phase : Growth) → IsGrowing D.states D.faults w phase self.old
-            → Steps R.form (D.keeps self.new.flusher.pen.disk) (λ w'. IsBehind D.states D.faults w' self.new) w (step.View seat) (answer_of result) 0 }
+        ensures steps { GrowthStepsOf R.form D.states D.faults D.keeps self.old self.new (step.View seat) (answer_of result) 0 }
         ensures model { D.keeps self.new.flusher.pen.disk → D.keeps self.old.flusher.pen.disk }
     {
         match copy_view(self.alloc, &self.live, &mut self.seats[seat]) {
@@ -351,8 +340,7 @@ impl<R: Record, D: Disk> Growing<R, D> {
 
     /// Begins a fold.
     pub fn fold(&mut self) -> Answer<R>
-        ensures steps { (w : World R) (phase : Growth) → IsGrowing D.states D.faults w phase self.old
-            → Steps R.form (D.keeps self.new.flusher.pen.disk) (λ w'. IsBehind D.states D.faults w' self.new) w step.Fold (answer_of result) 0 }
+        ensures steps { GrowthStepsOf R.form D.states D.faults D.keeps self.old self.new step.Fold (answer_of result) 0 }
         ensures model { D.keeps self.new.flusher.pen.disk → D.keeps self.old.flusher.pen.disk }
     {
         let _ = self.flusher.disk();

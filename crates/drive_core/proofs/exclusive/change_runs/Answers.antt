@@ -9,19 +9,16 @@ pub returns-in-Ok-result-clause-steps : goal.returns-in-Ok-result-clause-steps
 returns-in-Ok-result-clause-steps g c = λ w tie.
     let new = c.change_runs-result.new.self in
     let e = c.in-Ok-result.ensures in
-    runs_answers g.R.Record.form g.D.Disk.states g.D.Disk.faults g.D.Disk.keeps w c.args.vault.now tie new (λ whole. c.len.ensures.counted whole ∙ c.len.ensures.is)
-    (rests_lent g.R.Record.form g.D.Disk.keeps g.D.Disk.states new c.disk.result.now c.disk.ensures.disk c.disk.ensures.images) (pieces_of c.args.runs.now) c.as_slice.result.now
-    (ap run_lists.runs_given c.as_slice.ensures.value ∙ c.in-Ok.ensures.list) _ refl e.list e.command e.nothing
+    runs_answers tie new (λ whole. c.len.ensures.counted whole ∙ c.len.ensures.is) (rests_lent tie new c.disk.ensures.disk c.disk.ensures.images)
+    (pieces_of c.args.runs.now) c.as_slice.result.now (ap run_lists.runs_given c.as_slice.ensures.value ∙ c.in-Ok.ensures.list) refl e.list e.command e.nothing
 
 pub returns-clause-steps : goal.returns-clause-steps
 returns-clause-steps g c = λ w tie.
     let new = c.change_runs-result.new.self in
     let e = c.in-Err.ensures in
-    runs_refuses g.R.Record.form g.D.Disk.states g.D.Disk.faults g.D.Disk.keeps w c.args.vault.now tie new (λ whole. c.len.ensures.counted whole ∙ c.len.ensures.is)
-    (rests_lent g.R.Record.form g.D.Disk.keeps g.D.Disk.states new c.disk.result.now c.disk.ensures.disk c.disk.ensures.images) (pieces_of c.args.runs.now) c.as_slice.result.now
-    (ap run_lists.runs_given c.as_slice.ensures.value ∙ c.in-Ok.ensures.list) c.in-Err.fault _ refl e.list e.command e.nothing
+    runs_refuses tie new (λ whole. c.len.ensures.counted whole ∙ c.len.ensures.is) (rests_lent tie new c.disk.ensures.disk c.disk.ensures.images)
+    (pieces_of c.args.runs.now) c.as_slice.result.now (ap run_lists.runs_given c.as_slice.ensures.value ∙ c.in-Ok.ensures.list) c.in-Err.fault refl e.list e.command e.nothing
 
 pub returns-in_default-clause-steps : goal.returns-in_default-clause-steps
 returns-in_default-clause-steps g c = λ w tie.
-    no_list g.R.Record.form g.D.Disk.states g.D.Disk.faults g.D.Disk.keeps w c.args.vault.now tie c.args.vault.now refl (pieces_of c.args.runs.now)
-    (let long = pieces_long c.args.runs.now in omega (arith, long, c.in_default.ensures.some)) _ refl
+    no_list tie (pieces_of c.args.runs.now) (let long = pieces_long c.args.runs.now in omega (arith, long, c.in_default.ensures.some)) refl

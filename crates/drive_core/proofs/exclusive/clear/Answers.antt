@@ -7,12 +7,12 @@ pub returns-in-Ok-clause-steps : goal.returns-in-Ok-clause-steps
 returns-in-Ok-clause-steps g c = λ w tie.
     let new = c.clear-result.new.self in
     let e = c.in-Ok.ensures in
-    clear_answers g.R.Record.form g.D.Disk.states g.D.Disk.faults g.D.Disk.keeps w c.args.vault.now tie new (λ whole. c.len.ensures.counted whole ∙ c.len.ensures.is)
-    (rests_lent g.R.Record.form g.D.Disk.keeps g.D.Disk.states new c.disk.result.now c.disk.ensures.disk c.disk.ensures.images) _ refl e.list e.command e.nothing
+    clear_answers tie new (λ whole. c.len.ensures.counted whole ∙ c.len.ensures.is) (rests_lent tie new c.disk.ensures.disk c.disk.ensures.images)
+    refl e.list e.command e.nothing
 
 pub returns-in-Err-clause-steps : goal.returns-in-Err-clause-steps
 returns-in-Err-clause-steps g c = λ w tie.
     let new = c.clear-result.new.self in
     let e = c.in-Err.ensures in
-    clear_refuses g.R.Record.form g.D.Disk.states g.D.Disk.faults g.D.Disk.keeps w c.args.vault.now tie new (λ whole. c.len.ensures.counted whole ∙ c.len.ensures.is)
-    (rests_lent g.R.Record.form g.D.Disk.keeps g.D.Disk.states new c.disk.result.now c.disk.ensures.disk c.disk.ensures.images) c.in-Err.fault _ refl e.list e.command e.nothing
+    clear_refuses tie new (λ whole. c.len.ensures.counted whole ∙ c.len.ensures.is) (rests_lent tie new c.disk.ensures.disk c.disk.ensures.images)
+    c.in-Err.fault refl e.list e.command e.nothing

@@ -5,16 +5,12 @@ use Rattle.drive_core.proofs.exclusive.log.Goals as goal
 
 pub returns-in-Ok-clause-steps : goal.returns-in-Ok-clause-steps
 returns-in-Ok-clause-steps g c = λ w tie.
-    let new = c.tick-ticked.new.self in
     let e = c.in-Ok.ensures in
-    log_answers g.R.Record.form g.D.Disk.states g.D.Disk.faults g.D.Disk.keeps w c.args.vault.now tie new e.list e.images e.model
-    (rests_lent g.R.Record.form g.D.Disk.keeps g.D.Disk.states new c.disk.result.now c.disk.ensures.disk c.disk.ensures.images)
-    e.whole.0 e.sure c.in-Ok.tick _ refl e.ticked e.whole.1 e.time
+    let rests = rests_lent tie c.tick-ticked.new.self c.disk.ensures.disk c.disk.ensures.images in
+    log_answers tie (record { blocks = e.list; images = e.images; model = e.model; rests = rests }) e.whole.0 e.sure c.in-Ok.tick refl e.ticked e.whole.1 e.time
 
 pub returns-in-Err-clause-steps : goal.returns-in-Err-clause-steps
 returns-in-Err-clause-steps g c = λ w tie.
-    let new = c.tick-ticked.new.self in
     let e = c.in-Err.ensures in
-    log_refuses g.R.Record.form g.D.Disk.states g.D.Disk.faults g.D.Disk.keeps w c.args.vault.now tie new e.list e.images e.model
-    (rests_lent g.R.Record.form g.D.Disk.keeps g.D.Disk.states new c.disk.result.now c.disk.ensures.disk c.disk.ensures.images)
-    e.sure c.in-Err.fault _ refl e.refused e.time e.faults
+    let rests = rests_lent tie c.tick-ticked.new.self c.disk.ensures.disk c.disk.ensures.images in
+    log_refuses tie (record { blocks = e.list; images = e.images; model = e.model; rests = rests }) e.sure c.in-Err.fault refl e.refused e.time e.faults

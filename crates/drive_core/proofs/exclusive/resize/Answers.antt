@@ -7,12 +7,12 @@ pub returns-in-Ok-clause-steps : goal.returns-in-Ok-clause-steps
 returns-in-Ok-clause-steps g c = λ w tie.
     let new = c.resize-result.new.self in
     let e = c.in-Ok.ensures in
-    resize_answers g.R.Record.form g.D.Disk.states g.D.Disk.faults g.D.Disk.keeps w c.args.vault.now tie new (λ whole. c.len.ensures.counted whole ∙ c.len.ensures.is)
-    (rests_lent g.R.Record.form g.D.Disk.keeps g.D.Disk.states new c.disk.result.now c.disk.ensures.disk c.disk.ensures.images) c.args.n c.args.v _ refl e.list e.up e.down e.nothing
+    resize_answers tie new (λ whole. c.len.ensures.counted whole ∙ c.len.ensures.is) (rests_lent tie new c.disk.ensures.disk c.disk.ensures.images)
+    c.args.n c.args.v refl e.list e.up e.down e.nothing
 
 pub returns-in-Err-clause-steps : goal.returns-in-Err-clause-steps
 returns-in-Err-clause-steps g c = λ w tie.
     let new = c.resize-result.new.self in
     let e = c.in-Err.ensures in
-    resize_refuses g.R.Record.form g.D.Disk.states g.D.Disk.faults g.D.Disk.keeps w c.args.vault.now tie new (λ whole. c.len.ensures.counted whole ∙ c.len.ensures.is)
-    (rests_lent g.R.Record.form g.D.Disk.keeps g.D.Disk.states new c.disk.result.now c.disk.ensures.disk c.disk.ensures.images) c.args.n c.args.v c.in-Err.fault _ refl e.list e.up e.down e.nothing
+    resize_refuses tie new (λ whole. c.len.ensures.counted whole ∙ c.len.ensures.is) (rests_lent tie new c.disk.ensures.disk c.disk.ensures.images)
+    c.args.n c.args.v c.in-Err.fault refl e.list e.up e.down e.nothing

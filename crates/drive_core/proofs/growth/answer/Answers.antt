@@ -2,31 +2,31 @@ use Rattle.drive_core.proofs.GrowthEvents.{asked_steps}
 use Rattle.drive_core.proofs.growth.answer.Goals as goal
 
 pub returns-in-Take-clause-steps : goal.returns-in-Take-clause-steps
-returns-in-Take-clause-steps g c = λ w phase tie. asked_steps g.R.Record.form g.D.Disk.states g.D.Disk.faults _ w phase c.args.growing.now tie c.args.asked.now _ c.take.new.self _ _ c.in-Take.is (c.take.ensures.steps w phase tie)
+returns-in-Take-clause-steps g c = λ w phase tie. asked_steps tie c.in-Take.is (c.take.ensures.steps w phase tie)
 
 pub returns-in-Raise-clause-steps : goal.returns-in-Raise-clause-steps
-returns-in-Raise-clause-steps g c = λ w phase tie. asked_steps g.R.Record.form g.D.Disk.states g.D.Disk.faults _ w phase c.args.growing.now tie c.args.asked.now _ c.raise.new.self _ _ c.in-Raise.is (c.raise.ensures.steps w phase tie)
+returns-in-Raise-clause-steps g c = λ w phase tie. asked_steps tie c.in-Raise.is (c.raise.ensures.steps w phase tie)
 
 pub returns-in-Close-clause-steps : goal.returns-in-Close-clause-steps
-returns-in-Close-clause-steps g c = λ w phase tie. asked_steps g.R.Record.form g.D.Disk.states g.D.Disk.faults _ w phase c.args.growing.now tie c.args.asked.now _ c.close.new.self _ _ c.in-Close.is (c.close.ensures.steps w phase tie)
+returns-in-Close-clause-steps g c = λ w phase tie. asked_steps tie c.in-Close.is (c.close.ensures.steps w phase tie)
 
 pub returns-in-Fold-clause-steps : goal.returns-in-Fold-clause-steps
-returns-in-Fold-clause-steps g c = λ w phase tie. asked_steps g.R.Record.form g.D.Disk.states g.D.Disk.faults _ w phase c.args.growing.now tie c.args.asked.now _ c.fold.new.self _ _ c.in-Fold.is (c.fold.ensures.steps w phase tie)
+returns-in-Fold-clause-steps g c = λ w phase tie. asked_steps tie c.in-Fold.is (c.fold.ensures.steps w phase tie)
 
 pub returns-in-Log-clause-steps : goal.returns-in-Log-clause-steps
-returns-in-Log-clause-steps g c = λ w phase tie. asked_steps g.R.Record.form g.D.Disk.states g.D.Disk.faults _ w phase c.args.growing.now tie c.args.asked.now _ c.log.new.self _ _ c.in-Log.is (c.log.ensures.steps w phase tie)
+returns-in-Log-clause-steps g c = λ w phase tie. asked_steps tie c.in-Log.is (c.log.ensures.steps w phase tie)
 
 pub returns-in-Home-clause-steps : goal.returns-in-Home-clause-steps
-returns-in-Home-clause-steps g c = λ w phase tie. asked_steps g.R.Record.form g.D.Disk.states g.D.Disk.faults _ w phase c.args.growing.now tie c.args.asked.now _ c.home.new.self _ _ c.in-Home.is (c.home.ensures.steps w phase tie)
+returns-in-Home-clause-steps g c = λ w phase tie. asked_steps tie c.in-Home.is (c.home.ensures.steps w phase tie)
 
 pub returns-in-Put-clause-steps : goal.returns-in-Put-clause-steps
-returns-in-Put-clause-steps g c = λ w phase tie. asked_steps g.R.Record.form g.D.Disk.states g.D.Disk.faults _ w phase c.args.growing.now tie c.args.asked.now _ c.put.new.growing _ _ c.in-Put.is (c.put.ensures.steps w phase tie)
+returns-in-Put-clause-steps g c = λ w phase tie. asked_steps tie c.in-Put.is (c.put.ensures.steps w phase tie)
 
 pub returns-in-Look-clause-steps : goal.returns-in-Look-clause-steps
-returns-in-Look-clause-steps g c = λ w phase tie. asked_steps g.R.Record.form g.D.Disk.states g.D.Disk.faults _ w phase c.args.growing.now tie c.args.asked.now _ c.look.new.growing _ _ c.in-Look.is (c.look.ensures.steps w phase tie)
+returns-in-Look-clause-steps g c = λ w phase tie. asked_steps tie c.in-Look.is (c.look.ensures.steps w phase tie)
 
 pub returns-in-View-clause-steps : goal.returns-in-View-clause-steps
-returns-in-View-clause-steps g c = λ w phase tie. asked_steps g.R.Record.form g.D.Disk.states g.D.Disk.faults _ w phase c.args.growing.now tie c.args.asked.now _ c.view.new.growing _ _ c.in-View.is (c.view.ensures.steps w phase tie)
+returns-in-View-clause-steps g c = λ w phase tie. asked_steps tie c.in-View.is (c.view.ensures.steps w phase tie)
 
 pub returns-in-Settled-clause-steps : goal.returns-in-Settled-clause-steps
-returns-in-Settled-clause-steps g c = λ w phase tie. asked_steps g.R.Record.form g.D.Disk.states g.D.Disk.faults _ w phase c.args.growing.now tie c.args.asked.now _ c.settled.new.growing _ _ c.in-Settled.is (c.settled.ensures.steps w phase tie)
+returns-in-Settled-clause-steps g c = λ w phase tie. asked_steps tie c.in-Settled.is (c.settled.ensures.steps w phase tie)

@@ -1,5 +1,6 @@
-use Rattle.drive_core.proofs.PhaseEvents.{steps_left, left_growth}
+use Rattle.drive_core.proofs.PhaseEvents.{left_growth}
+use Rattle.drive_core.proofs.Steps.{tied_to}
 use Rattle.drive_core.proofs.phase.growth_step.Goals as goal
 
 pub returns-clause-steps : goal.returns-clause-steps
-returns-clause-steps g c = λ w tie. steps_left g.R.Record.form g.D.Disk.states g.D.Disk.faults g.D.Disk.keeps w _ _ _ _ _ _ (λ w' tied. left_growth g.R.Record.form g.D.Disk.states g.D.Disk.faults g.D.Disk.keeps w w' _ tied) (c.answer-answer.ensures.steps w tie.0 tie.1)
+returns-clause-steps g c = λ w tie. tied_to (λ w' tied. left_growth tied) (c.answer-answer.ensures.steps w tie.0 tie.1)

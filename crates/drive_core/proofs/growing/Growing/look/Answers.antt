@@ -4,46 +4,40 @@ use Rattle.drive_core.specs.Line.{look_fault_of}
 use Rattle.drive_core.specs.Step as step
 use Rattle.drive_core.specs.declared.fault.Fault.TheVariants as told
 use Rattle.drive_core.proofs.Seats.{of_replaced, lent_at, length_set, there_is, get_set_same}
-use Rattle.drive_core.proofs.Put.{lent_new}
+use Rattle.drive_core.proofs.PutRow.{lent_new}
 use Rattle.drive_core.proofs.LookedSeat.{seat_answers, seat_strays, look_inside}
 use Rattle.drive_core.proofs.growing.Growing.look.Goals as goal
 use Rattle.drive_core.proofs.growing.Growing.look.Goals.{in-Ok, in-Err}
 
 pub meet_in-requires-clause-of : goal.meet_in-requires-clause-of
-meet_in-requires-clause-of g c κs within = of_replaced c.self.inside.seats.items c.args.seat c.look-looked.new.seat c.self.inside.live c.self.invariant.1 c.look-looked.ensures.of
+meet_in-requires-clause-of g c κs within =
+    of_replaced c.self.inside.seats.items c.args.seat c.look-looked.new.seat c.self.inside.live c.self.invariant.1 c.look-looked.ensures.of
 
 pub invariant_of-self : goal.invariant_of-self
 invariant_of-self g c =
     let s = c.self.inside in
-    let seats = s.seats.items in
-    let k = c.args.seat in
-    let m0 = c.index_mut.result.now in
-    let m1 = c.look-looked.new.seat in
-    let inside = subst (λ (v : _). k < length v.seats) (sym c.self.view_is) c.requires.inside in
-    let at0 = lent_at seats k m0 inside c.index_mut.ensures.value in
-    (c.self.invariant.0, c.meet_in.ensures.of, look_inside seats c.meet_in.new.seats.items k s.last m0 m1 inside at0 c.self.invariant.2 c.meet_in.ensures.meets)
+    let inside = subst (λ (v : _). c.args.seat < length v.seats) (sym c.self.view_is) c.requires.inside in
+    let at0 = lent_at s.seats.items c.args.seat c.index_mut.result.now inside c.index_mut.ensures.value in (
+      c.self.invariant.0,
+      c.meet_in.ensures.of,
+      look_inside s.seats.items c.meet_in.new.seats.items c.args.seat s.last c.index_mut.result.now c.look-looked.new.seat inside at0 c.self.invariant.2 c.meet_in.ensures.meets,
+    )
 
 pub invariant_of-self-2 : goal.invariant_of-self-2
 invariant_of-self-2 g c =
     let s = c.self.inside in
-    let seats = s.seats.items in
-    let k = c.args.seat in
-    let m0 = c.index_mut.result.now in
-    let m1 = c.look-looked.new.seat in
-    let inside = subst (λ (v : _). k < length v.seats) (sym c.self.view_is) c.requires.inside in
-    let at0 = lent_at seats k m0 inside c.index_mut.ensures.value in
-    (c.self.invariant.0, c.meet_in.ensures.of, look_inside seats c.meet_in.new.seats.items k s.last m0 m1 inside at0 c.self.invariant.2 c.meet_in.ensures.meets)
+    let inside = subst (λ (v : _). c.args.seat < length v.seats) (sym c.self.view_is) c.requires.inside in
+    let at0 = lent_at s.seats.items c.args.seat c.index_mut.result.now inside c.index_mut.ensures.value in (
+      c.self.invariant.0,
+      c.meet_in.ensures.of,
+      look_inside s.seats.items c.meet_in.new.seats.items c.args.seat s.last c.index_mut.result.now c.look-looked.new.seat inside at0 c.self.invariant.2 c.meet_in.ensures.meets,
+    )
 
 pub returns-then-known-self-clause-steps : goal.returns-then-known-self-clause-steps
 returns-then-known-self-clause-steps g c = rw (← c.self.view_is) (λ w phase tie.
-    let s = c.self.inside in
-    let seats = s.seats.items in
-    let k = c.args.seat in
-    let m0 = c.index_mut.result.now in
-    let m1 = c.look-looked.new.seat in
-    let inside = subst (λ (v : _). k < length v.seats) (sym c.self.view_is) c.requires.inside in
-    let at0 = lent_at seats k m0 inside c.index_mut.ensures.value in
-    seat_strays g.R.Record.form g.D.Disk.states g.D.Disk.faults _ w phase _ tie k m0 m1 m1 c.meet_in.new.seats.items inside at0 s.puts _ refl)
+    let inside = subst (λ (v : _). c.args.seat < length v.seats) (sym c.self.view_is) c.requires.inside in
+    let at0 = lent_at c.self.inside.seats.items c.args.seat c.index_mut.result.now inside c.index_mut.ensures.value in
+    seat_strays tie inside at0 c.meet_in.new.seats.items c.self.inside.puts refl)
 
 pub returns-clause-steps : goal.returns-clause-steps
 returns-clause-steps g c = rw (← c.self.view_is) (
@@ -63,8 +57,7 @@ returns-clause-steps g c = rw (← c.self.view_is) (
     let few = c.if-known-self.false in
     elim c.match-looked.branch [
       | in-Ok b ↦ λ w phase tie.
-          seat_answers g.R.Record.form g.D.Disk.states g.D.Disk.faults _ w phase _ tie k m0 m1 t.0 c.meet_in.new.seats.items inside at0 c.look-looked.ensures.learns (omega (arith, known, few)) t.1 met
-          b.in-Ok.size _ (ap answer_of b.result-is) b.in-Ok.ensures.size.0
+          seat_answers tie inside at0 c.meet_in.new.seats.items m1 t.0 c.look-looked.ensures.learns (omega (arith, known, few)) t.1 met b.in-Ok.size (ap answer_of b.result-is) b.in-Ok.ensures.size.0
       | in-Err b ↦ λ w phase tie.
-          seat_strays g.R.Record.form g.D.Disk.states g.D.Disk.faults _ w phase _ tie k m0 m1 m1 c.meet_in.new.seats.items inside at0 (look_fault_of b.in-Err.fault s.puts) _ (ap answer_of b.result-is ∙ ap (λ f. step.Refused (told.Grow f)) b.look_fault.ensures)
+          seat_strays tie inside at0 c.meet_in.new.seats.items (look_fault_of b.in-Err.fault s.puts) (ap answer_of b.result-is ∙ ap (λ f. step.Refused (told.Grow f)) b.look_fault.ensures)
     ])

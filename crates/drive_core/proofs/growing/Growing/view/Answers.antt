@@ -9,7 +9,8 @@ pub returns-clause-steps : goal.returns-clause-steps
 returns-clause-steps g c = rw (← c.self.view_is) (
     let inside = subst (λ (v : _). c.args.seat < length v.seats) (sym c.self.view_is) c.requires.inside in
     let at = lent_at c.self.inside.seats.items c.args.seat c.index_mut.result.now inside c.index_mut.ensures.value in
+    let same = c.copy_view.ensures.same in
     elim c.match-copy_view.branch [
-      | in-Ok b ↦ λ w phase tie. view_answers g.R.Record.form g.D.Disk.states g.D.Disk.faults _ w phase _ tie c.args.seat c.index_mut.result.now inside at c.copy_view.new.seat c.copy_view.ensures.same b.in-Ok.records.items _ (ap answer_of b.result-is) b.in-Ok.ensures.list
-      | in-Err b ↦ λ w phase tie. view_refuses g.R.Record.form g.D.Disk.states g.D.Disk.faults _ w phase _ tie c.args.seat c.index_mut.result.now inside at c.copy_view.new.seat c.copy_view.ensures.same _ (ap answer_of b.result-is)
+      | in-Ok b ↦ λ w phase tie. view_answers tie inside at same b.in-Ok.records.items (ap answer_of b.result-is) b.in-Ok.ensures.list
+      | in-Err b ↦ λ w phase tie. view_refuses tie inside at same (ap answer_of b.result-is)
     ])
