@@ -3,7 +3,7 @@ use Rattle.std.proofs.Common.{◌≡◌, ◌⊎◌, inl, inr, ℕ, suc, ◌+◌,
 use Rattle.std.proofs.lemmas.List.{take_all}
 use Rattle.std.proofs.lemmas.Option.{same_Some}
 use Rattle.pen_core.specs.PenOf.{PenOf}
-use Rattle.directory_core.specs.Chain.{IsPrefix, Agree, Meets, total}
+use Rattle.directory_core.specs.Chain.{IsPrefix, Agree, IsLongerOf, total}
 use Rattle.book_core.specs.Lists.{Seated, opening_of}
 use Rattle.book_core.specs.Growing as growing
 use Rattle.book_core.specs.declared.fault.GrowFault.TheVariants as grow
@@ -51,7 +51,7 @@ module _ {R D : Type 0} {m : Medium R D} {w : World R} {phase : Growth} {g : Gro
 
   module _ {t t' : Seated R} (at : slice_get g.seats g.last ≡ Some t) (row_is : row ≡ slice_set g.seats g.last t')
       (learns : FlusherLearns g.flusher new) (few : length new.pass.entries ≤ g.puts) (learnt : growing.SeatLearns t t')
-      (agree : Agree t.pass.entries new.pass.entries) (meets : Meets t.pass.entries new.pass.entries t'.pass.entries) where
+      (agree : Agree t.pass.entries new.pass.entries) (meets : IsLongerOf t.pass.entries new.pass.entries t'.pass.entries) where
     within_all : length new.pass.entries ≤ length tie.entries
     within_all = let puts = tie.puts_is in omega (arith, few, puts)
 

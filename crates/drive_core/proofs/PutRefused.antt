@@ -2,7 +2,7 @@
 use Rattle.std.proofs.Common.{◌≡◌, inl, inr, ℕ, ◌+◌, ◌<◌, Bool, true, false, nat_le, List, [], length, Some, None, refl, sym, ap, subst, ◌∙◌, arith, le-leb, lt-ltb, slice_index, slice_set}
 use Rattle.std.proofs.lemmas.List.{append-nil}
 use Rattle.std.proofs.Math.Seq.{take-length}
-use Rattle.directory_core.specs.Limits.{record_limit}
+use Rattle.record_core.specs.Limits.{record_limit}
 use Rattle.block_core.specs.Length.{IsBlockLength}
 use Rattle.directory_core.specs.Chain.{IsPrefix, total}
 use Rattle.book_core.specs.declared.fault.GrowFault.{GrowFault}

@@ -1,7 +1,7 @@
 -- The table of a put's refusals.
 use Rattle.std.proofs.Common.{◌≡◌, inl, inr, ℕ, ◌+◌, ◌*◌, false, nat_lt, nat_le, ◌==◌, List, [], ◌∷◌, length, Option, Some, refl, arith, ne_eqb}
 use Rattle.record_core.specs.Limits.{payload_limit}
-use Rattle.directory_core.specs.Limits.{record_limit}
+use Rattle.record_core.specs.Limits.{record_limit}
 use Rattle.block_core.specs.Length.{IsBlockLength}
 use Rattle.book_core.specs.declared.fault.GrowFault.TheVariants as grow
 use Rattle.drive_core.specs.declared.fault.Fault.{Fault}

@@ -3,7 +3,7 @@ use Rattle.std.proofs.Common.{◌≡◌, ◌⊎◌, inl, inr, ℕ, zero, suc, �
 use Rattle.std.proofs.lemmas.Option.{same_Some}
 use Rattle.std.proofs.Math.Seq.{take-append_seam, take-length}
 use Rattle.block_core.specs.Growth as block
-use Rattle.directory_core.specs.Chain.{IsPrefix, Agree, Meets}
+use Rattle.directory_core.specs.Chain.{IsPrefix, Agree, IsLongerOf}
 use Rattle.book_core.specs.Lists as book
 use Rattle.book_core.specs.Lists.{Seated}
 use Rattle.book_core.specs.Growing.{SeatLearns}
@@ -144,7 +144,7 @@ module _ {R : Type 0} (items front back : List (Seated R)) (n k : ℕ) (items_ar
       (let all = length-append (slice_set front k f) (slice_set back 0 b) in let one = length_set front k f in let two = length_set back 0 b in let parts = ap length items_are ∙ length-append front back in omega (arith, all, one, two, parts, long))
 
   -- the first stands in front
-  pub meets_front : (mine theirs mine' theirs' m t : Seated R) → slice_get front k ≡ Some mine → slice_get back 0 ≡ Some theirs → theirs' ≡ theirs → SeatLearns mine mine' → Agree mine.pass.entries theirs.pass.entries → Meets mine.pass.entries theirs.pass.entries mine'.pass.entries
+  pub meets_front : (mine theirs mine' theirs' m t : Seated R) → slice_get front k ≡ Some mine → slice_get back 0 ≡ Some theirs → theirs' ≡ theirs → SeatLearns mine mine' → Agree mine.pass.entries theirs.pass.entries → IsLongerOf mine.pass.entries theirs.pass.entries mine'.pass.entries
       → slice_get items k ≡ Some m → slice_get items (length front) ≡ Some t
       → MeetsIn items (take n ((slice_set front k mine' ++ slice_set back 0 theirs') ++ drop (length (slice_set front k mine' ++ slice_set back 0 theirs')) items)) k m t
   meets_front mine theirs mine' theirs' m t at_mine at_theirs same learns agree meets at_m at_t =
@@ -159,7 +159,7 @@ module _ {R : Type 0} (items front back : List (Seated R)) (n k : ℕ) (items_ar
       }))
 
   -- or behind
-  pub meets_back : (mine theirs mine' theirs' m t : Seated R) → slice_get back 0 ≡ Some mine → slice_get front k ≡ Some theirs → theirs' ≡ theirs → SeatLearns mine mine' → Agree mine.pass.entries theirs.pass.entries → Meets mine.pass.entries theirs.pass.entries mine'.pass.entries
+  pub meets_back : (mine theirs mine' theirs' m t : Seated R) → slice_get back 0 ≡ Some mine → slice_get front k ≡ Some theirs → theirs' ≡ theirs → SeatLearns mine mine' → Agree mine.pass.entries theirs.pass.entries → IsLongerOf mine.pass.entries theirs.pass.entries mine'.pass.entries
       → slice_get items (length front) ≡ Some m → slice_get items k ≡ Some t
       → MeetsIn items (take n ((slice_set front k theirs' ++ slice_set back 0 mine') ++ drop (length (slice_set front k theirs' ++ slice_set back 0 mine')) items)) (length front) m t
   meets_back mine theirs mine' theirs' m t at_mine at_theirs same learns agree meets at_m at_t =
@@ -173,7 +173,7 @@ module _ {R : Type 0} (items front back : List (Seated R)) (n k : ℕ) (items_ar
         meets = meets;
       }))
 
-  pub meets_back_at : (j : ℕ) (mine theirs mine' theirs' m t : Seated R) → length front ≡ j → slice_get back 0 ≡ Some mine → slice_get front k ≡ Some theirs → theirs' ≡ theirs → SeatLearns mine mine' → Agree mine.pass.entries theirs.pass.entries → Meets mine.pass.entries theirs.pass.entries mine'.pass.entries
+  pub meets_back_at : (j : ℕ) (mine theirs mine' theirs' m t : Seated R) → length front ≡ j → slice_get back 0 ≡ Some mine → slice_get front k ≡ Some theirs → theirs' ≡ theirs → SeatLearns mine mine' → Agree mine.pass.entries theirs.pass.entries → IsLongerOf mine.pass.entries theirs.pass.entries mine'.pass.entries
       → slice_get items j ≡ Some m → slice_get items k ≡ Some t
       → MeetsIn items (take n ((slice_set front k theirs' ++ slice_set back 0 mine') ++ drop (length (slice_set front k theirs' ++ slice_set back 0 mine')) items)) j m t
   meets_back_at j mine theirs mine' theirs' m t at at_mine at_theirs same learns agree meets at_m at_t =

@@ -5,7 +5,7 @@ use Rattle.disk_core.specs.State.{State}
 use Rattle.segment_core.specs.Command.{Command, Grow, content}
 use Rattle.pen_core.specs.PenOf.{JobOf}
 use Rattle.block_core.specs.Growth as block
-use Rattle.directory_core.specs.Chain.{IsPrefix, Agree, Meets}
+use Rattle.directory_core.specs.Chain.{IsPrefix, Agree, IsLongerOf}
 use Rattle.book_core.specs.Lists as book
 use Rattle.book_core.specs.Lists.{Seated, opening_of}
 use Rattle.book_core.specs.Growing.{SeatLearns}
@@ -37,7 +37,7 @@ pub record MeetsIn {R : Type 0} (old new : List (Seated R)) (k : ℕ) (mine thei
   pub row_is : new ≡ slice_set old k met
   pub learns : SeatLearns mine met
   pub agree : Agree mine.pass.entries theirs.pass.entries
-  pub meets : Meets mine.pass.entries theirs.pass.entries met.pass.entries
+  pub meets : IsLongerOf mine.pass.entries theirs.pass.entries met.pass.entries
 
 abbrev pub grow_of : {R : Type 0} → block.Growth R → Command R
 grow_of e = Grow e.records

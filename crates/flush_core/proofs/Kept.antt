@@ -16,7 +16,7 @@ use Rattle.pen_core.proofs.Typed.{vector_after-none, MayOpen_typed}
 use Rattle.directory_core.specs.Chain.{total, joined}
 use Rattle.directory_core.specs.Known.{Known}
 use Rattle.record_core.specs.Limits.{record_limit}
-use Rattle.book_core.specs.Marks.{MarkEnd, nothing}
+use Rattle.book_core.specs.Marks.{MarkEnd, nothing_told}
 use Rattle.flush_core.specs.Flusher.{FlusherOf, IsFlusher, OpensToJob, list_to, read_as, tally_with}
 
 -- what contracts see of a flusher that has these
@@ -52,7 +52,7 @@ module _ {R : Type 0} (form : Encoding R) where
         let same = AreCellsOf_same form pen.vector records there.0 are there.1 in
         read_as-whole before pen.vector records (ap length same ∙ there.2) are
 
-    pub begins : (pass : Known R) (mark : MarkEnd) → form.width ≡ pen.shape.width → pen.job ≡ None → pen.tally.size ≡ before → before + pass.of.limit ≤ record_limit → mark.told ≡ nothing
+    pub begins : (pass : Known R) (mark : MarkEnd) → form.width ≡ pen.shape.width → pen.job ≡ None → pen.tally.size ≡ before → before + pass.of.limit ≤ record_limit → mark.told ≡ nothing_told
         → IsFlusher keeps form (flusher_of form pen pass mark before 0 0)
     begins pass mark width idle size limit told = record {
       one_width = width;

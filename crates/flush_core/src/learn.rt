@@ -1,7 +1,7 @@
 //! What a flusher learns of the growers, and what it tells them.
 
 ghost use Rattle.std.specs.Prelude.{◌≡◌, ◌≤◌, ◌+◌, length, IfOk, IfErr, MatchResult};
-ghost use Rattle.directory_core.specs.Chain.{Agree, Meets, total};
+ghost use Rattle.directory_core.specs.Chain.{Agree, IsLongerOf, total};
 ghost use Rattle.book_core.specs.Lists as lists;
 ghost use Rattle.book_core.specs.Growing as growing;
 ghost use Rattle.book_core.specs.Marks.{Rises};
@@ -37,7 +37,7 @@ impl<R: Record, D: Disk> Flusher<R, D> {
         ensures learns { FlusherLearns self.old self.new }
         ensures same { seat.new ≡ seat.old }
         ensures agree { Agree self.old.pass.entries seat.old.pass.entries }
-        ensures meets { Meets self.old.pass.entries seat.old.pass.entries self.new.pass.entries }
+        ensures meets { IsLongerOf self.old.pass.entries seat.old.pass.entries self.new.pass.entries }
     {
         live.meet_by(&mut self.pass, seat);
     }
@@ -49,7 +49,7 @@ impl<R: Record, D: Disk> Flusher<R, D> {
         ensures of { lists.IsSeatOf live.now seat.new }
         ensures learns { growing.SeatLearns seat.old seat.new }
         ensures agree { Agree seat.old.pass.entries self.old.pass.entries }
-        ensures meets { Meets seat.old.pass.entries self.old.pass.entries seat.new.pass.entries }
+        ensures meets { IsLongerOf seat.old.pass.entries self.old.pass.entries seat.new.pass.entries }
     {
         live.tell_by(seat, &mut self.pass);
     }
@@ -74,7 +74,7 @@ impl<R: Record, D: Disk> Flusher<R, D> {
         requires of { IsFlusherOf (D.keeps self.old.pen.disk) live.now self.old × lists.IsSeatOf live.now seat }
         ensures learns { FlusherLearns self.old self.new }
         ensures agree { Agree self.old.pass.entries seat.pass.entries }
-        ensures meets { Meets self.old.pass.entries seat.pass.entries self.new.pass.entries }
+        ensures meets { IsLongerOf self.old.pass.entries seat.pass.entries self.new.pass.entries }
         ensures told { seat.mark.told.count ≤ self.new.settled }
     {
         live.take_in(&mut self.pass, &mut self.mark, seat);

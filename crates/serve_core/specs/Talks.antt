@@ -10,7 +10,7 @@ use Rattle.book_core.specs.declared.fault.GrowFault.TheVariants as faults
 use Rattle.book_core.specs.declared.mark.MarkState.{MarkState}
 use Rattle.book_core.specs.declared.mark.MarkState.TheVariants as states
 use Rattle.book_core.specs.declared.seat.Receipt.{Receipt}
-use Rattle.book_core.specs.Lists.{Phase, Seated, HasJustItsOwn, IsRestOfPiece, list_of, pieces_of}
+use Rattle.book_core.specs.Lists.{Phase, Seated, HasJustItsOwn, IsRestOfPiece, list_of, seat_pieces}
 use Rattle.book_core.specs.Growing.{Grown, SeatLearns, SeatIsTold, IsBookRefusal, IsStray, size_of}
 use Rattle.serve_core.specs.declared.refusal.Refusal.{Refusal}
 use Rattle.serve_core.specs.declared.refusal.Refusal.TheVariants as refusals
@@ -128,7 +128,7 @@ IsOfLooking live old new other = ⊥
 abbrev pub IsOfReading : {R : Type 0} → Encoding R → Phase R → ℕ → ℕ → Seated R → Seated R → Answer → List R → Type 0
 IsOfReading {R} form live start count old new (answers.Piece at) records =
     (at ≡ start) × (new ≡ old) × IsBlockLength form.width count
-    × (((length (list_of live old) ≤ start) × (records ≡ [])) ⊎ ((rest : List R) × IsRestOfPiece (pieces_of live old) start rest × (records ≡ take count rest)))
+    × (((length (list_of live old) ≤ start) × (records ≡ [])) ⊎ ((rest : List R) × IsRestOfPiece (seat_pieces live old) start rest × (records ≡ take count rest)))
 IsOfReading form live start count old new (answers.Refused refusal) records = (new ≡ old) × (records ≡ []) × IsCountRefusal form.width count refusal
 IsOfReading form live start count old new other records = ⊥
 
