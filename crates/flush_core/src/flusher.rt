@@ -8,7 +8,7 @@ ghost use Rattle.pen_core.specs.Refusals.{first_refusal, ready_lines};
 ghost use Rattle.directory_core.specs.Limits.{growth_limit};
 ghost use Rattle.record_core.specs.Limits.{record_limit};
 ghost use Rattle.directory_core.specs.Chain.{total, IsChained, AreBlocks};
-ghost use Rattle.book_core.specs.Marks.{nothing};
+ghost use Rattle.book_core.specs.Marks.{nothing_told};
 ghost use Rattle.flush_core.specs.Flusher.{OpensToJob, list_to, tally_with};
 
 use book_core::{Live, Writer};
@@ -77,7 +77,7 @@ impl<R: Record, D: Disk> Flusher<R, D> {
         requires size { pen.tally.size ≡ before }
         requires knows { pass.entries ≡ [] }
         requires in_limit { before + pass.of.limit ≤ record_limit }
-        requires told { mark.told ≡ nothing }
+        requires told { mark.told ≡ nothing_told }
         requires list { D.keeps pen.disk → (records : List R) × AreCellsOf R.form pen.vector records × (length records ≡ before) }
         ensures parts { (result.pen ≡ pen) × (result.pass ≡ pass) × (result.mark ≡ mark) }
         ensures counts { (result.before ≡ before) × (result.taken ≡ 0) × (result.settled ≡ 0) }

@@ -1,7 +1,7 @@
 //! What a flusher learns of the growers, and what it tells them.
 
 ghost use Rattle.std.specs.Prelude.{◌≡◌, ◌≤◌, ◌+◌, length, IfOk, IfErr, MatchResult};
-ghost use Rattle.directory_core.specs.Chain.{Agree, Meets, total};
+ghost use Rattle.directory_core.specs.Chain.{Agree, IsLongerOf, total};
 ghost use Rattle.book_core.specs.Lists as lists;
 ghost use Rattle.book_core.specs.Growing as growing;
 ghost use Rattle.book_core.specs.Marks.{Rises};
@@ -15,8 +15,9 @@ use disk_core::Disk;
 use record_core::Record;
 
 impl<R: Record, D: Disk> Flusher<R, D> {
-    /// FlusherLearns what growers have published, and answers how many records it then knows, those from before the phase among
-    /// them. `Strayed` names the growth that doesn't follow those before it; what stands before that one is known then.
+    /// Learns what growers have published, and answers how many records it then knows, those from before the phase
+    /// among them. `Strayed` names the growth that doesn't follow those before it; what stands before that one is known
+    /// then.
     pub fn look(&mut self, live: &Live<R>) -> Result<u64, FlushFault>
         requires of { IsFlusherOf (D.keeps self.old.pen.disk) live.now self.old }
         ensures learns { FlusherLearns self.old self.new }
@@ -31,13 +32,13 @@ impl<R: Record, D: Disk> Flusher<R, D> {
         }
     }
 
-    /// FlusherLearns what a seat knows, which finds no growth that the other doesn't have in the same place.
+    /// Learns what a seat knows. Each growth that both know stands in the same place for both.
     pub fn meet(&mut self, live: &Live<R>, seat: &mut Seat<R>)
         requires of { IsFlusherOf (D.keeps self.old.pen.disk) live.now self.old × lists.IsSeatOf live.now seat.old }
         ensures learns { FlusherLearns self.old self.new }
         ensures same { seat.new ≡ seat.old }
         ensures agree { Agree self.old.pass.entries seat.old.pass.entries }
-        ensures meets { Meets self.old.pass.entries seat.old.pass.entries self.new.pass.entries }
+        ensures meets { IsLongerOf self.old.pass.entries seat.old.pass.entries self.new.pass.entries }
     {
         live.meet_by(&mut self.pass, seat);
     }
@@ -49,7 +50,7 @@ impl<R: Record, D: Disk> Flusher<R, D> {
         ensures of { lists.IsSeatOf live.now seat.new }
         ensures learns { growing.SeatLearns seat.old seat.new }
         ensures agree { Agree seat.old.pass.entries self.old.pass.entries }
-        ensures meets { Meets seat.old.pass.entries self.old.pass.entries seat.new.pass.entries }
+        ensures meets { IsLongerOf seat.old.pass.entries self.old.pass.entries seat.new.pass.entries }
     {
         live.tell_by(seat, &mut self.pass);
     }
@@ -74,7 +75,7 @@ impl<R: Record, D: Disk> Flusher<R, D> {
         requires of { IsFlusherOf (D.keeps self.old.pen.disk) live.now self.old × lists.IsSeatOf live.now seat }
         ensures learns { FlusherLearns self.old self.new }
         ensures agree { Agree self.old.pass.entries seat.pass.entries }
-        ensures meets { Meets self.old.pass.entries seat.pass.entries self.new.pass.entries }
+        ensures meets { IsLongerOf self.old.pass.entries seat.pass.entries self.new.pass.entries }
         ensures told { seat.mark.told.count ≤ self.new.settled }
     {
         live.take_in(&mut self.pass, &mut self.mark, seat);
