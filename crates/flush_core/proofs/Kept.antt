@@ -11,7 +11,7 @@ use Rattle.record_core.specs.Cells.{AreReadAgain}
 use Rattle.segment_core.specs.Raw.{AreCellsOf}
 use Rattle.segment_core.proofs.ReadAs.{AreCellsOf-take, AreCellsOf_same}
 use Rattle.pen_core.specs.PenOf.{PenOf}
-use Rattle.pen_core.specs.Pen.{MayOpen, vector_after, vector_with}
+use Rattle.pen_core.specs.Pen.{MayOpen, vector_after}
 use Rattle.pen_core.proofs.Typed.{vector_after-none, MayOpen_typed}
 use Rattle.directory_core.specs.Chain.{total, joined}
 use Rattle.directory_core.specs.Known.{Known}
@@ -35,7 +35,8 @@ module _ {R : Type 0} (form : Encoding R) where
   read_as-cells cells records are = ap (read_as form) are.written ∙ read_as-bytes records are.read_again
 
   -- the first of them as the first records
-  pub read_as-take : (before : ℕ) (cells : List (List ℕ)) (records more : List R) → length records ≡ before → AreCellsOf form cells (records ++ more) → read_as form (take before cells) ≡ records
+  pub read_as-take : (before : ℕ) (cells : List (List ℕ)) (records more : List R) → length records ≡ before → AreCellsOf form cells (records ++ more)
+      → read_as form (take before cells) ≡ records
   read_as-take before cells records more many are =
       read_as-cells (take before cells) (take before (records ++ more)) (AreCellsOf-take form before cells (records ++ more) are)
       ∙ ap (λ n. take n (records ++ more)) (sym many) ∙ take-append_seam records more
@@ -52,7 +53,8 @@ module _ {R : Type 0} (form : Encoding R) where
         let same = AreCellsOf_same form pen.vector records there.0 are there.1 in
         read_as-whole before pen.vector records (ap length same ∙ there.2) are
 
-    pub begins : (pass : Known R) (mark : MarkEnd) → form.width ≡ pen.shape.width → pen.job ≡ None → pen.tally.size ≡ before → before + pass.of.limit ≤ record_limit → mark.told ≡ nothing_told
+    pub begins : (pass : Known R) (mark : MarkEnd) → form.width ≡ pen.shape.width → pen.job ≡ None → pen.tally.size ≡ before
+        → before + pass.of.limit ≤ record_limit → mark.told ≡ nothing_told
         → IsFlusher keeps form (flusher_of form pen pass mark before 0 0)
     begins pass mark width idle size limit told = record {
       one_width = width;
@@ -74,66 +76,55 @@ module _ {R : Type 0} (form : Encoding R) where
         file : keeps → AreCellsOf form pen.vector (read_as form (take before pen.vector) ++ [])
         file model = let there = list model in subst (AreCellsOf form pen.vector) (sym (begun_opening there.0 model there.1) ∙ sym (append-nil (read_as form (take before pen.vector)))) there.1
 
-  -- ---- what stays of one
+-- ---- what stays of one
 
-  module _ {D : Type 0} (keeps : Type 0) (f : FlusherOf R D) (is : IsFlusher keeps form f) where
-    -- another pen whose file has the records from before the phase
-    pub opening_kept : (pen : PenOf D) (settled : ℕ) → keeps → AreCellsOf form pen.vector (list_to f settled) → read_as form (take f.before pen.vector) ≡ f.opening
-    opening_kept pen settled model are = read_as-take f.before pen.vector f.opening (joined (take settled f.pass.entries)) (is.opening_whole model) are
+module _ {R D : Type 0} {form : Encoding R} {keeps : Type 0} {f : FlusherOf R D} (is : IsFlusher keeps form f) where
+  -- another pen whose file has the records from before the phase
+  opening_kept : (pen : PenOf D) (settled : ℕ) → keeps → AreCellsOf form pen.vector (list_to f settled) → read_as form (take f.before pen.vector) ≡ f.opening
+  opening_kept pen settled model are =
+      read_as-take form f.before pen.vector f.opening (joined (take settled f.pass.entries)) (is.opening_whole model) are
 
-    -- another pen that has the growths settled in its file, and those taken once its job is done
-    pub kept : (pen : PenOf D) (taken settled : ℕ) (keeps' : Type 0) → pen.shape ≡ f.pen.shape → f.mark.told.count ≤ settled → settled ≤ taken → taken ≤ length f.pass.entries → (pen.job ≡ None → taken ≡ settled)
-        → pen.tally.size ≡ f.before + total (take settled f.pass.entries) → (tally_with pen.tally pen.job).size ≡ f.before + total (take taken f.pass.entries) → (keeps' → keeps)
-        → (keeps' → AreCellsOf form pen.vector (list_to f settled)) → (keeps' → AreCellsOf form (vector_after pen) (list_to f taken))
-        → IsFlusher keeps' form (flusher_of form pen f.pass f.mark f.before taken settled)
-    kept pen taken settled keeps' shape told order known idle size then back file job = record {
-      one_width = is.one_width ∙ ap (λ (s : _). s.width) (sym shape);
-      told_settled = told;
-      settled_taken = order;
-      taken_known = known;
-      idle_settled = idle;
-      in_limit = is.in_limit;
-      size_is = size;
-      size_then = then;
-      opening_whole = λ model. ap length (opening model) ∙ is.opening_whole (back model);
-      file_is = λ model. subst (λ (rs : List R). AreCellsOf form pen.vector (rs ++ joined (take settled f.pass.entries))) (sym (opening model)) (file model);
-      file_then = λ model. subst (λ (rs : List R). AreCellsOf form (vector_after pen) (rs ++ joined (take taken f.pass.entries))) (sym (opening model)) (job model);
-    }
-      where
-        opening : keeps' → read_as form (take f.before pen.vector) ≡ f.opening
-        opening model = opening_kept pen settled (back model) (file model)
+  -- another pen that has the growths settled in its file, and those taken once its job is done
+  pub kept : (pen : PenOf D) (taken settled : ℕ) (keeps' : Type 0) → pen.shape ≡ f.pen.shape → f.mark.told.count ≤ settled → settled ≤ taken
+      → taken ≤ length f.pass.entries → (pen.job ≡ None → taken ≡ settled)
+      → pen.tally.size ≡ f.before + total (take settled f.pass.entries)
+      → (tally_with pen.tally pen.job).size ≡ f.before + total (take taken f.pass.entries) → (keeps' → keeps)
+      → (keeps' → AreCellsOf form pen.vector (list_to f settled)) → (keeps' → AreCellsOf form (vector_after pen) (list_to f taken))
+      → IsFlusher keeps' form (flusher_of form pen f.pass f.mark f.before taken settled)
+  kept pen taken settled keeps' shape told order known idle size then back file job = record {
+    one_width = is.one_width ∙ ap (λ (s : _). s.width) (sym shape);
+    told_settled = told;
+    settled_taken = order;
+    taken_known = known;
+    idle_settled = idle;
+    in_limit = is.in_limit;
+    size_is = size;
+    size_then = then;
+    opening_whole = λ model. ap length (opening model) ∙ is.opening_whole (back model);
+    file_is = λ model. subst (λ (rs : List R). AreCellsOf form pen.vector (rs ++ joined (take settled f.pass.entries))) (sym (opening model)) (file model);
+    file_then = λ model. subst (λ (rs : List R). AreCellsOf form (vector_after pen) (rs ++ joined (take taken f.pass.entries))) (sym (opening model)) (job model);
+  }
+    where
+      opening : keeps' → read_as form (take f.before pen.vector) ≡ f.opening
+      opening model = opening_kept pen settled (back model) (file model)
 
-    -- another pen with the same file and the same job
-    pub kept_same : (pen : PenOf D) (keeps' : Type 0) → pen.shape ≡ f.pen.shape → pen.tally ≡ f.pen.tally → pen.job ≡ f.pen.job → (keeps' → keeps) → (keeps' → pen.vector ≡ f.pen.vector)
-        → IsFlusher keeps' form (flusher_of form pen f.pass f.mark f.before f.taken f.settled)
-    kept_same pen keeps' shape tally job back vector =
-        kept pen f.taken f.settled keeps' shape is.told_settled is.settled_taken is.taken_known (λ none. is.idle_settled (sym job ∙ none))
-        (ap (λ (t : _). t.size) tally ∙ is.size_is)
-        (ap (λ (t : _). (tally_with t pen.job).size) tally ∙ ap (λ (j : _). (tally_with f.pen.tally j).size) job ∙ is.size_then)
-        back
-        (λ model. subst (λ (cells : _). AreCellsOf form cells (list_to f f.settled)) (sym (vector model)) (is.file_is (back model)))
-        (λ model. subst (λ (cells : _). AreCellsOf form cells (list_to f f.taken)) (sym (after model)) (is.file_then (back model)))
-      where
-        after : keeps' → vector_after pen ≡ vector_after f.pen
-        after model = ap (λ (s : _). vector_with s pen.vector pen.job) shape ∙ ap (λ (v : _). vector_with f.pen.shape v pen.job) (vector model) ∙ ap (λ (j : _). vector_with f.pen.shape f.pen.vector j) job
+  -- what the disk may leave
+  pub keeps_job : keeps → (image : List ℕ) → MayOpen f.pen image → OpensToJob form f image
+  keeps_job model image opens =
+      let order = is.settled_taken in
+      let known = is.taken_known in
+      elim (MayOpen_typed form f.pen image (list_to f f.settled) (list_to f f.taken) is.one_width (is.file_is model) (is.file_then model) opens) [
+        | inl old ↦ record {
+          pen_opens = opens;
+          kept = record { count = f.settled; at_least = omega arith; known = omega (arith, order, known); opens = old };
+          just = inl refl;
+        }
+        | inr new ↦ record {
+          pen_opens = opens;
+          kept = record { count = f.taken; at_least = order; known = known; opens = new };
+          just = inr refl;
+        }
+      ]
 
-    -- what the disk may leave
-    pub keeps_job : keeps → (image : List ℕ) → MayOpen f.pen image → OpensToJob form f image
-    keeps_job model image opens =
-        let order = is.settled_taken in
-        let known = is.taken_known in
-        elim (MayOpen_typed form f.pen image (list_to f f.settled) (list_to f f.taken) is.one_width (is.file_is model) (is.file_then model) opens) [
-          | inl old ↦ record {
-            pen_opens = opens;
-            kept = record { count = f.settled; at_least = omega arith; known = omega (arith, order, known); opens = old };
-            just = inl refl;
-          }
-          | inr new ↦ record {
-            pen_opens = opens;
-            kept = record { count = f.taken; at_least = order; known = known; opens = new };
-            just = inr refl;
-          }
-        ]
-
-    pub leaves_job : (old new : List State) → keeps → LeavesOnly old new (MayOpen f.pen) → LeavesOnly old new (OpensToJob form f)
-    leaves_job old new model leaves = LeavesOnly-weaker old new (MayOpen f.pen) (OpensToJob form f) (keeps_job model) leaves
+  pub leaves_job : {old new : List State} → keeps → LeavesOnly old new (MayOpen f.pen) → LeavesOnly old new (OpensToJob form f)
+  leaves_job {old} {new} model leaves = LeavesOnly-weaker old new (MayOpen f.pen) (OpensToJob form f) (keeps_job model) leaves

@@ -5,7 +5,7 @@ use Rattle.std.specs.List.{AllByRecursion}
 use Rattle.std.proofs.lemmas.List.{map_push, take-map, length-append}
 use Rattle.std.proofs.lemmas.List.Concat.{flat_map-append}
 use Rattle.std.proofs.lemmas.List.Folds.{flat_map-map}
-use Rattle.std.proofs.lemmas.List.Elements.{All-map, All-take, All-drop, All-weaker, All-from_recursion, recursion_from_All}
+use Rattle.std.proofs.lemmas.List.Elements.{All-map, All-drop, All-weaker, recursion_from_All}
 use Rattle.std.proofs.lemmas.Option.{slice_get-map, slice_get_within}
 use Rattle.std.proofs.Math.Seq.{take-add}
 use Rattle.block_core.specs.Growth.{Growth}
@@ -31,7 +31,8 @@ module _ {R : Type 0} (entries : List (Growth R)) (from : ℕ) where
   slice_get-from_on k e is = slice_get-map (λ (f : Growth R). f.records) (drop from entries) k ∙ ap (option_map (λ (f : Growth R). f.records)) (at k e is)
 
   -- a row of the records of so many gets one slice more
-  pub row_more : (row : List (Bor (List R))) (before : List (List R)) (slice : Bor (List R)) (number : ℕ) (e : Growth R) → from ≤ number → slice_get entries number ≡ Some e → slice.now ≡ e.records
+  pub row_more : (row : List (Bor (List R))) (before : List (List R)) (slice : Bor (List R)) (number : ℕ) (e : Growth R) → from ≤ number
+      → slice_get entries number ≡ Some e → slice.now ≡ e.records
       → map (λ growth. growth.now) row ≡ before ++ map (λ f. f.records) (take (number - from) (drop from entries))
       → map (λ growth. growth.now) (row ++ slice ∷ []) ≡ before ++ map (λ f. f.records) (take (number + 1 - from) (drop from entries))
   row_more row before slice number e le is same are =
@@ -43,13 +44,18 @@ module _ {R : Type 0} (entries : List (Growth R)) (from : ℕ) where
       ∙ ap (λ (rs : List R). map (λ (b : Bor (List R)). b.now) row ++ rs ∷ []) same
       ∙ ap (λ (rows : List (List R)). rows ++ e.records ∷ []) are
       ∙ append_assoc before (map (λ (f : Growth R). f.records) (take k rest)) (e.records ∷ [])
-      ∙ ap (λ (rows : List (List R)). before ++ rows) (sym (map_push (λ (f : Growth R). f.records) (take k rest) e) ∙ ap (map (λ (f : Growth R). f.records)) (sym (take_more rest k e (at k e (ap (slice_get entries) here ∙ is))) ∙ ap (λ n. take n rest) (sym last)))
+      ∙ ap (λ (rows : List (List R)). before ++ rows)
+      (sym (map_push (λ (f : Growth R). f.records) (take k rest) e)
+      ∙ ap (map (λ (f : Growth R). f.records)) (sym (take_more rest k e (at k e (ap (slice_get entries) here ∙ is))) ∙ ap (λ n. take n rest) (sym last)))
 
   -- a row of the records of so many, as a slice
-  pub row_is : (known : List (Growth R)) (slice row : List (Bor (List R))) (n : ℕ) → known ≡ entries → slice ≡ row → map (λ growth. growth.now) row ≡ map (λ e. e.records) (take (from + n - from) (drop from known)) → map (λ growth. growth.now) slice ≡ take n (from_on from entries)
+  pub row_is : (known : List (Growth R)) (slice row : List (Bor (List R))) (n : ℕ) → known ≡ entries → slice ≡ row
+      → map (λ growth. growth.now) row ≡ map (λ e. e.records) (take (from + n - from) (drop from known))
+      → map (λ growth. growth.now) slice ≡ take n (from_on from entries)
   row_is known slice row n same value are =
       let many : from + n - from ≡ n = omega arith in
-      ap (map (λ (b : Bor (List R)). b.now)) value ∙ are ∙ ap (λ (es : List (Growth R)). map (λ (e : Growth R). e.records) (take (from + n - from) (drop from es))) same
+      ap (map (λ (b : Bor (List R)). b.now)) value ∙ are
+      ∙ ap (λ (es : List (Growth R)). map (λ (e : Growth R). e.records) (take (from + n - from) (drop from es))) same
       ∙ ap (λ k. map (λ (e : Growth R). e.records) (take k (drop from entries))) many ∙ sym (take-map (λ (e : Growth R). e.records) n (drop from entries))
 
   -- the records of the first ones, and of so many behind them
@@ -58,29 +64,29 @@ module _ {R : Type 0} (entries : List (Growth R)) (from : ℕ) where
       ap chains.joined (take-add from n entries)
       ∙ flat_map-append (λ (e : Growth R). e.records) (take from entries) (take n (drop from entries))
       ∙ ap (λ (rs : List R). chains.joined (take from entries) ++ rs)
-      (sym (flat_map-map (λ (rs : List R). rs) (λ (e : Growth R). e.records) (take n (drop from entries))) ∙ ap joined (sym (take-map (λ (e : Growth R). e.records) n (drop from entries))))
+      (sym (flat_map-map (λ (rs : List R). rs) (λ (e : Growth R). e.records) (take n (drop from entries)))
+      ∙ ap joined (sym (take-map (λ (e : Growth R). e.records) n (drop from entries))))
 
   pub total-take_on : (n : ℕ) → total (take (from + n) entries) ≡ total (take from entries) + length (joined (take n (from_on from entries)))
   total-take_on n =
-      sym (length-joined (take (from + n) entries)) ∙ ap length (joined-take_on n) ∙ length-append (chains.joined (take from entries)) (joined (take n (from_on from entries)))
+      sym (length-joined (take (from + n) entries)) ∙ ap length (joined-take_on n)
+      ∙ length-append (chains.joined (take from entries)) (joined (take n (from_on from entries)))
       ∙ ap (λ k. k + length (joined (take n (from_on from entries)))) (length-joined (take from entries))
 
 -- one more growth doesn't fit
-pub IsGreatest_full : {R : Type 0} (width limit : ℕ) (growths : List (List R)) (k : ℕ) (growth : List R) → slice_get growths k ≡ Some growth → payload_len width (take k growths) ≤ limit → limit < payload_len width (take k growths) + (4 + length growth * width) → IsGreatest width limit growths k
+pub IsGreatest_full : {R : Type 0} (width limit : ℕ) (growths : List (List R)) (k : ℕ) (growth : List R) → slice_get growths k ≡ Some growth
+    → payload_len width (take k growths) ≤ limit → limit < payload_len width (take k growths) + (4 + length growth * width)
+    → IsGreatest width limit growths k
 IsGreatest_full width limit growths k growth is fits large =
     let inside = slice_get_within growths k growth is in
     let more = payload_len_more width growths k growth is in
     record { there = omega arith; fits = fits; most = λ _. omega (arith, more) }
 
 -- blocks have records
-pub filled_from_on : {R : Type 0} (width : ℕ) (entries : List (Growth R)) (from : ℕ) → AreBlocks width entries → AllByRecursion (λ growth. 0 < length growth) (from_on from entries)
+pub filled_from_on : {R : Type 0} (width : ℕ) (entries : List (Growth R)) (from : ℕ) → AreBlocks width entries
+    → AllByRecursion (λ growth. 0 < length growth) (from_on from entries)
 filled_from_on {R} width entries from blocks =
     recursion_from_All (λ (growth : List R). 0 < length growth) (from_on from entries)
     (All-map (λ (growth : List R). 0 < length growth) (λ (e : Growth R). e.records) (drop from entries)
     (All-drop (λ (e : Growth R). 0 < length e.records) from entries
     (All-weaker (λ (e : Growth R). IsBlockLength width (length e.records)) (λ (e : Growth R). 0 < length e.records) (λ e block. block.some) entries blocks)))
-
-pub filled-take : {R : Type 0} (n : ℕ) (growths : List (List R)) → AllByRecursion (λ growth. 0 < length growth) growths → AllByRecursion (λ growth. 0 < length growth) (take n growths)
-filled-take {R} n growths filled =
-    recursion_from_All (λ (growth : List R). 0 < length growth) (take n growths)
-    (All-take (λ (growth : List R). 0 < length growth) n growths (All-from_recursion (λ (growth : List R). 0 < length growth) growths filled))

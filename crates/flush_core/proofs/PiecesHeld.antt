@@ -9,10 +9,12 @@ use Rattle.book_core.specs.Lists.{Phase, opening_of}
 use Rattle.book_core.proofs.PieceLists.{joined_pieces-growths}
 use Rattle.flush_core.specs.Flusher.{FlusherOf, IsFlusher, IsFlusherOf}
 
-module _ {R D : Type 0} (form : Encoding R) (keeps : Type 0) (f : FlusherOf R D) (is : IsFlusher keeps form f) (live : Phase R) (of : IsFlusherOf keeps live f)
-    (slice row : List (Bor (List R))) (value : slice ≡ row) (are : map (λ piece. piece.now) row ≡ live.blocks ++ map (λ e. e.records) (take f.settled f.pass.entries)) where
+module _ {R D : Type 0} {form : Encoding R} {keeps : Type 0} {f : FlusherOf R D} (is : IsFlusher keeps form f) {live : Phase R} (of : IsFlusherOf keeps live f)
+    {slice row : List (Bor (List R))} (value : slice ≡ row)
+    (are : map (λ piece. piece.now) row ≡ live.blocks ++ map (λ e. e.records) (take f.settled f.pass.entries)) where
   all_pieces : joined (map (λ piece. piece.now) slice) ≡ opening_of live ++ chains.joined (take f.settled f.pass.entries)
-  all_pieces = ap (λ (items : List (Bor (List R))). joined (map (λ (piece : Bor (List R)). piece.now) items)) value ∙ ap joined are ∙ joined_pieces-growths live.blocks (take f.settled f.pass.entries)
+  all_pieces = ap (λ (items : List (Bor (List R))). joined (map (λ (piece : Bor (List R)). piece.now) items)) value ∙ ap joined are
+      ∙ joined_pieces-growths live.blocks (take f.settled f.pass.entries)
 
   pub length-pieces : f.pen.tally.size ≡ length (joined (map (λ piece. piece.now) slice))
   length-pieces =

@@ -45,7 +45,9 @@ module _ {R D : Type 0} (width : ℕ) where
   fault_told old new mark (Pen faults.Unfolded) is = is
   fault_told old new mark (Pen faults.Exists) is = is
 
-  pub IsServeFault-told : {A : Type 0} (old mid new : FlusherOf R D) (mark : MarkEnd) (served : Result A FlushFault) → new ≡ record mid { mark = mark } → IfErr served (λ fault. IsServeFault width old mid fault) → IfErr served (λ fault. IsServeFault width old new fault)
+  pub IsServeFault-told : {A : Type 0} (old mid new : FlusherOf R D) (mark : MarkEnd) (served : Result A FlushFault)
+      → new ≡ record mid { mark = mark } → IfErr served (λ fault. IsServeFault width old mid fault)
+      → IfErr served (λ fault. IsServeFault width old new fault)
   IsServeFault-told old mid new mark (Ok done) same is = tt
   IsServeFault-told old mid new mark (Err fault) same is = subst (λ (f : FlusherOf R D). IsServeFault width old f fault) (sym same) (fault_told old mid mark fault is)
 

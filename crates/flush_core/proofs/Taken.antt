@@ -24,7 +24,8 @@ use Rattle.flush_core.proofs.Kept.{flusher_of, kept}
 
 -- ---- what it keeps
 
-module _ {R D : Type 0} (form : Encoding R) (keeps : Type 0) (f : FlusherOf R D) (is : IsFlusher keeps form f) (idle : f.pen.job ≡ None) (n : ℕ) (there : n ≤ length (untaken f)) where
+module _ {R D : Type 0} {form : Encoding R} {keeps : Type 0} {f : FlusherOf R D} (is : IsFlusher keeps form f) (idle : f.pen.job ≡ None)
+    (n : ℕ) (there : n ≤ length (untaken f)) where
   known : f.taken + n ≤ length f.pass.entries
   known =
       let some = length-map (drop f.taken f.pass.entries) (λ (e : Growth R). e.records) in
@@ -63,7 +64,7 @@ module _ {R D : Type 0} (form : Encoding R) (keeps : Type 0) (f : FlusherOf R D)
       let size = size_with in
       let same = ap (λ (t : _). t.size) begun.tally_same in
       let frame = size-group_frame form pen.tally (take n (untaken f)) in
-      kept form keeps f is pen (f.taken + n) f.settled keeps' begun.shape_same is.told_settled (omega arith) known
+      kept is pen (f.taken + n) f.settled keeps' begun.shape_same is.told_settled (omega arith) known
       (λ none. let job = sym none ∙ begun.job_is in absurd cc)
       (same ∙ is.size_is)
       (ap (λ (j : _). (tally_with pen.tally j).size) begun.job_is ∙ omega arith)
@@ -83,13 +84,16 @@ passed true first lines fault not refused = absurd cc
 passed false first lines fault not refused = refused
 
 -- a group that the file has room for is refused for want of memory alone
-pub only_memory : {D : Type 0} (pen : PenOf D) (records payload : ℕ) (fault : PenFault) → pen.broken ≡ false → is_some pen.job ≡ false → pen.tally.size + records ≤ 2 ^ 32 → payload ≤ limit_of pen.shape.format → is_full pen payload ≡ false
+pub only_memory : {D : Type 0} (pen : PenOf D) (records payload : ℕ) (fault : PenFault) → pen.broken ≡ false → is_some pen.job ≡ false
+    → pen.tally.size + records ≤ 2 ^ 32 → payload ≤ limit_of pen.shape.format → is_full pen payload ≡ false
     → IsRefusal (group_lines pen records payload) fault → fault ≡ Memory
 only_memory pen records payload fault whole idle short fits room refused =
     let full = passed (is_full pen payload) FileFull [] fault room in
-    let large = passed (nat_lt (limit_of pen.shape.format) payload) TooLarge ((is_full pen payload, FileFull) ∷ []) fault (le-ltb (limit_of pen.shape.format) payload fits) in
-    let range = passed (nat_lt (2 ^ 32) (pen.tally.size + records)) OutOfRange (room_lines pen payload) fault (le-ltb (2 ^ 32) (pen.tally.size + records) short) in
-    let rest : List (Bool × PenFault) = (nat_lt (2 ^ 32) (pen.tally.size + records), OutOfRange) ∷ room_lines pen payload in
+    let limit : ℕ = limit_of pen.shape.format in
+    let size : ℕ = pen.tally.size + records in
+    let large = passed (nat_lt limit payload) TooLarge ((is_full pen payload, FileFull) ∷ []) fault (le-ltb limit payload fits) in
+    let range = passed (nat_lt (2 ^ 32) size) OutOfRange (room_lines pen payload) fault (le-ltb (2 ^ 32) size short) in
+    let rest : List (Bool × PenFault) = (nat_lt (2 ^ 32) size, OutOfRange) ∷ room_lines pen payload in
     full (large (range (passed (is_some pen.job) Busy rest fault idle (passed pen.broken Broken ((is_some pen.job, Busy) ∷ rest) fault whole refused))))
 
 pub full_refused : (full : Bool) → full ≡ true → IsRefusal ((full, FileFull) ∷ []) FileFull

@@ -25,10 +25,10 @@ use Rattle.book_core.specs.declared.mark.MarkState.TheVariants.{Ended, Broken}
 use Rattle.flush_core.specs.declared.lane.Lane.TheVariants.{Log, Home}
 use Rattle.flush_core.specs.declared.lane.Tick.TheVariants as ticks
 use Rattle.flush_core.specs.declared.fault.FlushFault.TheVariants.{Pen, Strayed}
-use Rattle.flush_core.specs.Flusher.{FlusherOf, GoesOn, OpensToFirst, OpensToSettled, OpensToJob, list_to, read_as, tally_with, untaken}
+use Rattle.flush_core.specs.Flusher.{FlusherOf, FlusherGoesOn, OpensToFirst, OpensToSettled, OpensToJob, list_to, read_as, tally_with, untaken}
 use Rattle.flush_core.specs.Group.{IsGreatest}
 use Rattle.flush_core.specs.Refusals.{settled_behind, lane_calls}
-use Rattle.flush_core.specs.Serving.{Serves, HasEnded, HasBroken, IsServeFault, fold_with}
+use Rattle.flush_core.specs.Serving.{Serves, HasSettledAll, TellsBroken, IsServeFault, fold_with}
 
 -- ---- cells and frames
 
@@ -43,7 +43,9 @@ one_left_out = refl
 tally_behind_none : (tally : Tally) → tally_with tally None ≡ tally
 tally_behind_none tally = refl
 
-tally_behind_group : (step : Step) → (tally_with (record { size = 4; changes = 2; folded = 1 }) (Some (record { frame = Group (2 ∷ 3 ∷ []) []; step = step }))) ≡ record { size = 9; changes = 2; folded = 1 }
+tally_behind_group : (step : Step)
+    → tally_with (record { size = 4; changes = 2; folded = 1 }) (Some (record { frame = Group (2 ∷ 3 ∷ []) []; step = step }))
+    ≡ record { size = 9; changes = 2; folded = 1 }
 tally_behind_group step = refl
 
 tally_behind_fold : (step : Step) → (tally_with (record { size = 4; changes = 2; folded = 1 }) (Some (record { frame = Fold 2; step = step }))) ≡ record { size = 4; changes = 2; folded = 2 }
@@ -107,7 +109,8 @@ module _ {D : Type 0} (pen : PenOf D) (of : Identity) (held : Held) (mark : Mark
   behind_done : settled_behind one_of_three ticks.Done ≡ 3
   behind_done = refl
 
-  behind_others : (settled_behind one_of_three ticks.Idle ≡ 1) × (settled_behind one_of_three ticks.Step ≡ 1) × (settled_behind one_of_three ticks.Filed ≡ 1) × (settled_behind one_of_three ticks.Waiting ≡ 1)
+  behind_others : (settled_behind one_of_three ticks.Idle ≡ 1) × (settled_behind one_of_three ticks.Step ≡ 1)
+      × (settled_behind one_of_three ticks.Filed ≡ 1) × (settled_behind one_of_three ticks.Waiting ≡ 1)
   behind_others = (refl, refl, refl, refl)
 
   -- ---- what an image opens to
@@ -127,7 +130,8 @@ module _ {D : Type 0} (pen : PenOf D) (of : Identity) (held : Held) (mark : Mark
     one_to_three (suc (suc (suc zero))) least most = inr (inr refl)
     one_to_three (suc (suc (suc (suc n)))) least most = absurd (omega arith)
 
-    opens_to : (n : ℕ) (records : List ℕ) → (count : ℕ) → OpensTo form image (list_to one_of_three count) → count ≡ n → list_to one_of_three n ≡ records → OpensTo form image records
+    opens_to : (n : ℕ) (records : List ℕ) → (count : ℕ) → OpensTo form image (list_to one_of_three count) → count ≡ n
+        → list_to one_of_three n ≡ records → OpensTo form image records
     opens_to n records count opens is same = subst (λ rs. OpensTo form image rs) (ap (list_to one_of_three) is ∙ same) opens
 
     -- from two settled ones on: to two growths or to all three
@@ -164,23 +168,23 @@ module _ {D : Type 0} (pen : PenOf D) (of : Identity) (held : Held) (mark : Mark
   -- ---- how serving ends
 
   -- one of three isn't all
-  not_ended : HasEnded one_of_three → ⊥
+  not_ended : HasSettledAll one_of_three → ⊥
   not_ended ended = let all = ended.all in absurd (omega arith)
 
 module _ {R D : Type 0} (f : FlusherOf R D) where
-  ended_idle : (job : JobOf) → f.pen.job ≡ Some job → HasEnded f → ⊥
+  ended_idle : (job : JobOf) → f.pen.job ≡ Some job → HasSettledAll f → ⊥
   ended_idle job busy ended = let none = sym busy ∙ ended.idle in absurd cc
 
-  ended_tells : HasEnded f → (f.mark.told.count ≡ length f.pass.entries) × (f.mark.told.state ≡ Ended)
+  ended_tells : HasSettledAll f → (f.mark.told.count ≡ length f.pass.entries) × (f.mark.told.state ≡ Ended)
   ended_tells ended = (ap (λ r. r.count) ended.told ∙ ended.all, ap (λ r. r.state) ended.told)
 
-  ended_when : f.settled ≡ length f.pass.entries → f.pen.job ≡ None → f.mark.told ≡ record { count = f.settled; state = Ended } → HasEnded f
+  ended_when : f.settled ≡ length f.pass.entries → f.pen.job ≡ None → f.mark.told ≡ record { count = f.settled; state = Ended } → HasSettledAll f
   ended_when all idle told = record { all = all; idle = idle; told = told }
 
-  broken_tells : HasBroken f → (f.mark.told.count ≡ f.settled) × (f.mark.told.state ≡ Broken)
+  broken_tells : TellsBroken f → (f.mark.told.count ≡ f.settled) × (f.mark.told.state ≡ Broken)
   broken_tells broken = (ap (λ r. r.count) broken, ap (λ r. r.state) broken)
 
-  broken_when : f.mark.told ≡ record { count = f.settled; state = Broken } → HasBroken f
+  broken_when : f.mark.told ≡ record { count = f.settled; state = Broken } → TellsBroken f
   broken_when told = told
 
 -- ---- why it ends too early
@@ -198,7 +202,8 @@ module _ {R D : Type 0} (width : ℕ) (old new : FlusherOf R D) where
 
   -- the next group is too much for the file, and no job is in hand
   abbrev NextIs : Bool → Type 0
-  NextIs full = (new.pen.job ≡ None) × (n : ℕ) × (0 < n) × IsGreatest width (limit_of new.pen.shape.format) (untaken new) n × (is_full new.pen (payload_len width (take n (untaken new))) ≡ full)
+  NextIs full = (new.pen.job ≡ None) × (n : ℕ) × (0 < n) × IsGreatest width (limit_of new.pen.shape.format) (untaken new) n
+      × (is_full new.pen (payload_len width (take n (untaken new))) ≡ full)
 
   full_alone : (full : Bool) → MatchOption (first_refusal ((full, faults.FileFull) ∷ [])) (faults.FileFull ≡ faults.Memory) (λ first. faults.FileFull ≡ first) → full ≡ true
   full_alone true is = refl
@@ -215,7 +220,8 @@ module _ {R D : Type 0} (width : ℕ) (old new : FlusherOf R D) where
   no_memory is = (is.0, is.1.count, is.1.some, is.1.greatest, room_alone _ is.1.why)
 
   -- the other refusals of a pen never come
-  never : (IsServeFault width old new (Pen faults.Busy) → ⊥) × (IsServeFault width old new (Pen faults.OldFormat) → ⊥) × (IsServeFault width old new (Pen faults.Runs) → ⊥) × (IsServeFault width old new (Pen faults.OutOfRange) → ⊥)
+  never : (IsServeFault width old new (Pen faults.Busy) → ⊥) × (IsServeFault width old new (Pen faults.OldFormat) → ⊥)
+      × (IsServeFault width old new (Pen faults.Runs) → ⊥) × (IsServeFault width old new (Pen faults.OutOfRange) → ⊥)
       × (IsServeFault width old new (Pen faults.TooLarge) → ⊥) × (IsServeFault width old new (Pen faults.Unfolded) → ⊥) × (IsServeFault width old new (Pen faults.Exists) → ⊥)
   never = (λ is. is, λ is. is, λ is. is, λ is. is, λ is. is, λ is. is, λ is. is)
 
@@ -223,22 +229,23 @@ module _ {R D : Type 0} (width : ℕ) (old new : FlusherOf R D) where
 
 module _ {R D : Type 0} (keeps : Type 0) (old new : FlusherOf R D) where
   -- it forgets no growth, and takes no settled one back
-  no_forgetting : (e : Growth R) → old.pass.entries ≡ e ∷ [] → new.pass.entries ≡ [] → GoesOn keeps old new → ⊥
+  no_forgetting : (e : Growth R) → old.pass.entries ≡ e ∷ [] → new.pass.entries ≡ [] → FlusherGoesOn keeps old new → ⊥
   no_forgetting e knew none goes = let begins = goes.begins in grind (arith, ap length knew, ap length none, begins)
 
-  no_unsettling : old.settled ≡ 1 → new.settled ≡ 0 → GoesOn keeps old new → ⊥
+  no_unsettling : old.settled ≡ 1 → new.settled ≡ 0 → FlusherGoesOn keeps old new → ⊥
   no_unsettling was is goes = let up = goes.no_less_settled in absurd (omega arith)
 
-  no_giving_back : old.taken ≡ 1 → new.taken ≡ 0 → GoesOn keeps old new → ⊥
+  no_giving_back : old.taken ≡ 1 → new.taken ≡ 0 → FlusherGoesOn keeps old new → ⊥
   no_giving_back was is goes = let up = goes.no_less_taken in absurd (omega arith)
 
   -- it stays of its phase
-  one_phase : GoesOn keeps old new → (new.pass.of ≡ old.pass.of) × (new.mark.of ≡ old.mark.of) × (new.before ≡ old.before) × (keeps → new.opening ≡ old.opening)
+  one_phase : FlusherGoesOn keeps old new → (new.pass.of ≡ old.pass.of) × (new.mark.of ≡ old.mark.of) × (new.before ≡ old.before) × (keeps → new.opening ≡ old.opening)
   one_phase goes = (goes.of_same, goes.mark_of_same, goes.before_same, goes.opening_same)
 
 -- it may have settled what it had taken, and told so
 goes_on : {R D : Type 0} (keeps : Type 0) (pen pen' : PenOf D) (pass : Known R) (mark mark' : MarkEnd) (opening : List R) → mark'.of ≡ mark.of
-    → GoesOn keeps (record { pen = pen; pass = pass; mark = mark; opening = opening; before = 1; taken = 3; settled = 1 }) (record { pen = pen'; pass = pass; mark = mark'; opening = opening; before = 1; taken = 3; settled = 3 })
+    → FlusherGoesOn keeps (record { pen = pen; pass = pass; mark = mark; opening = opening; before = 1; taken = 3; settled = 1 })
+    (record { pen = pen'; pass = pass; mark = mark'; opening = opening; before = 1; taken = 3; settled = 3 })
 goes_on keeps pen pen' pass mark mark' opening of = record {
   begins = take-length pass.entries;
   of_same = refl;
@@ -264,5 +271,5 @@ module _ {R D : Type 0} (form : Encoding R) (keeps : D → Type 0) (states : D �
   same_model : keeps new.pen.disk → keeps old.pen.disk
   same_model now = served.model now
 
-  later : GoesOn (keeps new.pen.disk) old new
+  later : FlusherGoesOn (keeps new.pen.disk) old new
   later = served.goes_on

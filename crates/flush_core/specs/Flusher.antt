@@ -109,7 +109,7 @@ pub record FlusherLearns {R D : Type 0} (old new : FlusherOf R D) : Type 0 where
   pub settled_same : new.settled ≡ old.settled
 
 -- From one to the other: of the same phase, it knows no less and has settled no less.
-pub record GoesOn {R D : Type 0} (keeps : Type 0) (old new : FlusherOf R D) : Type 0 where
+pub record FlusherGoesOn {R D : Type 0} (keeps : Type 0) (old new : FlusherOf R D) : Type 0 where
   pub begins : chains.IsPrefix old.pass.entries new.pass.entries
   pub of_same : new.pass.of ≡ old.pass.of
   pub mark_of_same : new.mark.of ≡ old.mark.of

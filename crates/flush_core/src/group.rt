@@ -80,7 +80,7 @@ fn next_growths<'a, R: Record>(
 }
 
 impl<R: Record, D: Disk> Flusher<R, D> {
-    /// BeginsFrame to commit the next growths that it knows and hasn't taken as one group: in order, as many as one payload of
+    /// Begins to commit the next growths that it knows and hasn't taken as one group: in order, as many as one payload of
     /// the file holds. Answers how many; 0, and nothing is begun, where it knows none. It looks for none: `look` does.
     ///
     /// Refused, in this order: `Pen(Broken)`; `Pen(Busy)`, while a log job is in hand; then, where there is one to take,

@@ -15,8 +15,9 @@ use disk_core::Disk;
 use record_core::Record;
 
 impl<R: Record, D: Disk> Flusher<R, D> {
-    /// FlusherLearns what growers have published, and answers how many records it then knows, those from before the phase among
-    /// them. `Strayed` names the growth that doesn't follow those before it; what stands before that one is known then.
+    /// Learns what growers have published, and answers how many records it then knows, those from before the phase
+    /// among them. `Strayed` names the growth that doesn't follow those before it; what stands before that one is known
+    /// then.
     pub fn look(&mut self, live: &Live<R>) -> Result<u64, FlushFault>
         requires of { IsFlusherOf (D.keeps self.old.pen.disk) live.now self.old }
         ensures learns { FlusherLearns self.old self.new }
@@ -31,7 +32,7 @@ impl<R: Record, D: Disk> Flusher<R, D> {
         }
     }
 
-    /// FlusherLearns what a seat knows, which finds no growth that the other doesn't have in the same place.
+    /// Learns what a seat knows. Each growth that both know stands in the same place for both.
     pub fn meet(&mut self, live: &Live<R>, seat: &mut Seat<R>)
         requires of { IsFlusherOf (D.keeps self.old.pen.disk) live.now self.old × lists.IsSeatOf live.now seat.old }
         ensures learns { FlusherLearns self.old self.new }

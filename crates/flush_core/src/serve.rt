@@ -1,10 +1,11 @@
 //! Serving growers: what they put is committed, group by group, until the book is closed.
 
-ghost use Rattle.std.specs.Prelude.{◌≡◌, ◌+◌, length, None, OnOk, OnErr, IfErr, MatchResult};
+ghost use Rattle.std.specs.Prelude.{◌≡◌, length, None, OnOk, OnErr, IfErr};
+ghost use Rattle.disk_core.specs.Fault.{CountsFailures};
 ghost use Rattle.disk_core.specs.Moments.{LeavesOnly};
-ghost use Rattle.flush_core.specs.Flusher.{IsFlusherOf, GoesOn, OpensToFirst};
+ghost use Rattle.flush_core.specs.Flusher.{IsFlusherOf, FlusherGoesOn, OpensToFirst};
 ghost use Rattle.flush_core.specs.Refusals.{failed};
-ghost use Rattle.flush_core.specs.Serving.{Serves, HasEnded, HasBroken, IsServeFault, fold_with};
+ghost use Rattle.flush_core.specs.Serving.{Serves, HasSettledAll, TellsBroken, IsServeFault, fold_with};
 
 use crate::fault::FlushFault;
 use crate::flusher::Flusher;
@@ -21,9 +22,7 @@ impl<R: Record, D: Disk> Flusher<R, D> {
         ensures idle { OnOk result (self.new.pen.job ≡ None) }
         ensures whole { OnOk result (self.new.pen.broken ≡ self.old.pen.broken) }
         ensures refused { IfErr result (λ fault. IsServeFault R.form.width self.old self.new fault) }
-        ensures faults { MatchResult result
-            (λ _. D.faults self.new.pen.disk ≡ D.faults self.old.pen.disk)
-            (λ fault. D.faults self.new.pen.disk ≡ D.faults self.old.pen.disk + failed fault) }
+        ensures faults { CountsFailures failed (D.faults self.old.pen.disk) (D.faults self.new.pen.disk) result }
     {
         while self.tick(Lane::Log)? == Tick::Step {}
         Ok(())
@@ -33,7 +32,7 @@ impl<R: Record, D: Disk> Flusher<R, D> {
     fn begin_next(&mut self, live: &Live<R>) -> Result<(), FlushFault>
         requires of { IsFlusherOf (D.keeps self.old.pen.disk) live.now self.old }
         requires idle { self.old.pen.job ≡ None }
-        ensures goes_on { GoesOn (D.keeps self.new.pen.disk) self.old self.new }
+        ensures goes_on { FlusherGoesOn (D.keeps self.new.pen.disk) self.old self.new }
         ensures disk { self.new.pen.disk ≡ self.old.pen.disk }
         ensures whole { self.new.pen.broken ≡ self.old.pen.broken }
         ensures fold { fold_with self.new.pen.job self.new.pen.fold ≡ fold_with self.old.pen.job self.old.pen.fold }
@@ -51,16 +50,14 @@ impl<R: Record, D: Disk> Flusher<R, D> {
         ensures all { OnOk result (self.new.settled ≡ length self.new.pass.entries) }
         ensures idle { OnOk result (self.new.pen.job ≡ None) }
         ensures refused { IfErr result (λ fault. IsServeFault R.form.width self.old self.new fault) }
-        ensures faults { MatchResult result
-            (λ _. D.faults self.new.pen.disk ≡ D.faults self.old.pen.disk)
-            (λ fault. D.faults self.new.pen.disk ≡ D.faults self.old.pen.disk + failed fault) }
+        ensures faults { CountsFailures failed (D.faults self.old.pen.disk) (D.faults self.new.pen.disk) result }
     {
         // A group may be in hand, or the frame of a fold.
         self.settle_job()?;
         for _ in rt.forever() {
             self.raise(live);
             let woken = live.wake_settled();
-            live.gather(rt, woken);
+            live.await_waiters(rt, woken);
             let closed = live.await_more(rt, self.settled);
             self.begin_next(live)?;
             self.settle_job()?;
@@ -74,23 +71,21 @@ impl<R: Record, D: Disk> Flusher<R, D> {
     /// Commits what growers put, group by group, and tells by the mark what is settled and wakes those that wait for it,
     /// until the book is closed and every growth that it knows is settled; then the mark says Ended. Behind a commit it waits
     /// for those that it woke to wait again, for 100 microseconds at most: what they grow by in between is then in the next
-    /// group. While there is nothing to commit it sleeps. It makes no call of a fold: one that is in hand stays as it is, but where its own frame is the
-    /// job in hand, which ends it.
+    /// group. While there is nothing to commit it sleeps. It makes no call of a fold: one that is in hand stays as it is,
+    /// but where its own frame is the job in hand, which ends it.
     ///
     /// On a refusal the mark says Broken. Refused: `Strayed`; `Pen(Broken)`, where the pen was; `Pen(FileFull)`, where the file
     /// has no room for the next group; `Pen(Memory)`; `Pen(Disk)`. None of them but `Pen(Broken)` and `Pen(Disk)` leaves a log
     /// job in hand.
     pub fn serve<E: Wait>(&mut self, rt: &E, live: &Live<R>) -> Result<(), FlushFault>
         requires of { IsFlusherOf (D.keeps self.old.pen.disk) live.now self.old }
-        ensures ended { OnOk result (HasEnded self.new) }
-        ensures broken { OnErr result (HasBroken self.new) }
+        ensures ended { OnOk result (HasSettledAll self.new) }
+        ensures broken { OnErr result (TellsBroken self.new) }
         ensures refused { IfErr result (λ fault. IsServeFault R.form.width self.old self.new fault) }
-        ensures goes_on { GoesOn (D.keeps self.new.pen.disk) self.old self.new }
+        ensures goes_on { FlusherGoesOn (D.keeps self.new.pen.disk) self.old self.new }
         ensures images { D.keeps self.new.pen.disk → LeavesOnly (D.states self.old.pen.disk) (D.states self.new.pen.disk) (OpensToFirst R.form self.old.settled self.new) }
         ensures fold { fold_with self.new.pen.job self.new.pen.fold ≡ fold_with self.old.pen.job self.old.pen.fold }
-        ensures faults { MatchResult result
-            (λ _. D.faults self.new.pen.disk ≡ D.faults self.old.pen.disk)
-            (λ fault. D.faults self.new.pen.disk ≡ D.faults self.old.pen.disk + failed fault) }
+        ensures faults { CountsFailures failed (D.faults self.old.pen.disk) (D.faults self.new.pen.disk) result }
         ensures model { D.keeps self.new.pen.disk → D.keeps self.old.pen.disk }
     {
         let served = self.serve_all(rt, live);

@@ -1,6 +1,7 @@
 //! The ticks of a flusher's two lanes.
 
-ghost use Rattle.std.specs.Prelude.{◌≡◌, ◌+◌, ◌≤◌, false, IfOk, IfErr, OnOk, OnErr, MatchResult};
+ghost use Rattle.std.specs.Prelude.{◌≡◌, ◌+◌, ◌≤◌, false, IfOk, IfErr, OnOk, OnErr};
+ghost use Rattle.disk_core.specs.Fault.{CountsFailures};
 ghost use Rattle.disk_core.specs.Moments.{LeavesOnly, clock};
 ghost use Rattle.pen_core.specs.Pen.{IsKept};
 ghost use Rattle.flush_core.specs.Flusher.{OpensToJob, SameGrowths};
@@ -32,9 +33,7 @@ impl<R: Record, D: Disk> Flusher<R, D> {
         ensures same { SameGrowths self.old self.new }
         ensures opening { D.keeps self.new.pen.disk → self.new.opening ≡ self.old.opening }
         ensures time { clock (D.states self.new.pen.disk) ≡ clock (D.states self.old.pen.disk) + lane_calls lane self.old.pen }
-        ensures faults { MatchResult result
-            (λ _. D.faults self.new.pen.disk ≡ D.faults self.old.pen.disk)
-            (λ fault. D.faults self.new.pen.disk ≡ D.faults self.old.pen.disk + failed fault) }
+        ensures faults { CountsFailures failed (D.faults self.old.pen.disk) (D.faults self.new.pen.disk) result }
         ensures model { D.keeps self.new.pen.disk → D.keeps self.old.pen.disk }
         ensures goes_on { D.keeps self.old.pen.disk → OnOk result (D.keeps self.new.pen.disk) }
     {

@@ -9,7 +9,8 @@ returns-then-len-limit-clause-greatest g c =
     let entries = c.args.pass.now.entries in
     let e = c.in-Some.entry.now in
     let here = slice_get-from_on entries c.args.from c.loop-number.group.count e (rw (← i.at, ← i.same) c.in-Some.ensures.value) in
-    let len : length c.records.result.now * c.width_of.result ≡ length e.records * g.R.Record.form.width = ap (λ rs. length rs * c.width_of.result) c.records.ensures.value ∙ ap (λ w. length e.records * w) c.width_of.ensures.is in
+    let len : length c.records.result.now * c.width_of.result ≡ length e.records * g.R.Record.form.width =
+    ap (λ rs. length rs * c.width_of.result) c.records.ensures.value ∙ ap (λ w. length e.records * w) c.width_of.ensures.is in
     let payload = i.payload in
     let fits = i.fits in
     let large = c.if-len-limit.true in
@@ -24,7 +25,8 @@ loop-number-preserved g c =
     let entries = c.args.pass.now.entries in
     let e = c.in-Some.entry.now in
     let here = slice_get-from_on entries c.args.from c.loop-number.group.count e (rw (← i.at, ← i.same) c.in-Some.ensures.value) in
-    let len : length c.records.result.now * c.width_of.result ≡ length e.records * g.R.Record.form.width = ap (λ rs. length rs * c.width_of.result) c.records.ensures.value ∙ ap (λ w. length e.records * w) c.width_of.ensures.is in
+    let len : length c.records.result.now * c.width_of.result ≡ length e.records * g.R.Record.form.width =
+    ap (λ rs. length rs * c.width_of.result) c.records.ensures.value ∙ ap (λ w. length e.records * w) c.width_of.ensures.is in
     let more = payload_len_more g.R.Record.form.width (from_on c.args.from entries) c.loop-number.group.count e.records here in
     let payload = i.payload in
     let fits = i.fits in

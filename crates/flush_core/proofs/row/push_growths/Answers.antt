@@ -9,5 +9,8 @@ loop-number-preserved g c =
     record {
       same = c.entry.ensures.same ∙ i.same;
       room = let len = c.push_reserved.ensures.len in let capacity = c.push_reserved.ensures.capacity in let room = i.room in omega arith;
-      pushed = rw c.push_reserved.ensures.items (row_more entries c.args.from c.loop-number.row.items (map (λ growth. growth.now) c.args.row.now.items) c.records.result c.loop-number.number c.in-Some.entry.now (omega arith) (rw (← i.same) c.in-Some.ensures.value) c.records.ensures.value i.pushed);
+      pushed = rw c.push_reserved.ensures.items
+          (row_more entries c.args.from c.loop-number.row.items
+          (map (λ growth. growth.now) c.args.row.now.items) c.records.result c.loop-number.number c.in-Some.entry.now (omega arith)
+          (rw (← i.same) c.in-Some.ensures.value) c.records.ensures.value i.pushed);
     }

@@ -4,6 +4,5 @@ use Rattle.flush_core.proofs.flusher.Flusher.into_parts.Goals as goal
 
 pub returns-clause-images : goal.returns-clause-images
 returns-clause-images g c = rw (← c.self.view_is) (λ model image is.
-    let s = c.self.inside in
     let kept = c.into_disk.ensures.kept model in
-    keeps_job g.R.Record.form (g.D.Disk.keeps s.pen.disk) _ c.self.invariant (subst g.D.Disk.keeps c.into_disk.ensures.disk model) image (kept.images_open image is))
+    keeps_job c.self.invariant (subst g.D.Disk.keeps c.into_disk.ensures.disk model) image (kept.images_open image is))

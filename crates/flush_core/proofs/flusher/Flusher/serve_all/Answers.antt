@@ -1,7 +1,7 @@
 use Rattle.std.proofs.Common.{refl, ap, ◌∙◌, arith}
 use Rattle.std.proofs.lemmas.Result.{err_from_is_err_and}
 use Rattle.pen_core.specs.PenOf.{PenOf}
-use Rattle.flush_core.proofs.Goes.{Serves-begun, Serves-join, Serves-told, IsFlusherOf-served, pen-told}
+use Rattle.flush_core.proofs.Goes.{Serves-join, Serves-then, Serves-told, IsFlusherOf-served, pen-told}
 use Rattle.flush_core.proofs.ServeFaults.{IsServeFault-since}
 use Rattle.flush_core.proofs.flusher.Flusher.serve_all.Goals.{in-None, in-Some+in_ok-begin_next+in_ok-settle_job-2+then-closed+then-self-known}
 use Rattle.flush_core.proofs.flusher.Flusher.serve_all.Goals as goal
@@ -12,12 +12,11 @@ loop-init g c =
     record { serves = e.serves; idle = e.idle; whole = e.whole; faults = e.faults }
 
 pub raise-requires-clause-of : goal.raise-requires-clause-of
-raise-requires-clause-of g c κs within = IsFlusherOf-served g.R.Record.form g.D.Disk.keeps g.D.Disk.states c.args.live.now c.args.self.now c.loop.self c.loop.invariant.serves c.requires.of
+raise-requires-clause-of g c κs within = IsFlusherOf-served c.loop.invariant.serves c.requires.of
 
 pub begin_next-requires-clause-of : goal.begin_next-requires-clause-of
 begin_next-requires-clause-of g c κs within =
-    IsFlusherOf-served g.R.Record.form g.D.Disk.keeps g.D.Disk.states c.args.live.now c.args.self.now c.raise.new.self
-    (Serves-told g.R.Record.form g.D.Disk.keeps g.D.Disk.states c.args.self.now c.loop.self c.raise.new.self _ c.loop.invariant.serves refl c.raise.ensures.raised) c.requires.of
+    IsFlusherOf-served (Serves-told _ c.loop.invariant.serves refl c.raise.ensures.raised) c.requires.of
 
 pub begin_next-requires-clause-idle : goal.begin_next-requires-clause-idle
 begin_next-requires-clause-idle g c κs within = ap (λ (p : PenOf _). p.job) (pen-told c.loop.self c.raise.new.self _ c.raise.ensures.raised) ∙ c.loop.invariant.idle
@@ -25,13 +24,14 @@ begin_next-requires-clause-idle g c κs within = ap (λ (p : PenOf _). p.job) (p
 pub returns-in_err-begin_next-clause-serves : goal.returns-in_err-begin_next-clause-serves
 returns-in_err-begin_next-clause-serves g c =
     let b = c.begin_next.ensures in
-    Serves-begun g.R.Record.form g.D.Disk.keeps g.D.Disk.states c.args.self.now c.loop.self c.raise.new.self c.begin_next.new.self _ c.loop.invariant.serves refl c.raise.ensures.raised b.goes_on b.disk b.fold
+    Serves-then (Serves-told _ c.loop.invariant.serves refl c.raise.ensures.raised) b.goes_on b.disk b.fold
 
 pub returns-in_err-begin_next-clause-refused : goal.returns-in_err-begin_next-clause-refused
 returns-in_err-begin_next-clause-refused g c =
     let p = err_from_is_err_and c.from_residual-in_err-begin_next.result c.from_residual-in_err-begin_next.ensures.1 in
     let pen = pen-told c.loop.self c.raise.new.self _ c.raise.ensures.raised in
-    rw (p.1, p.2) (IsServeFault-since g.R.Record.form.width c.args.self.now c.raise.new.self c.begin_next.new.self c.in_err-begin_next.field-0.0 (ap (λ (p : PenOf _). p.broken) pen ∙ c.loop.invariant.whole) c.in_err-begin_next.ensures.refused.0)
+    rw (p.1, p.2) (IsServeFault-since g.R.Record.form.width c.args.self.now c.raise.new.self c.begin_next.new.self c.in_err-begin_next.field-0.0
+    (ap (λ (p : PenOf _). p.broken) pen ∙ c.loop.invariant.whole) c.in_err-begin_next.ensures.refused.0)
 
 pub returns-in_err-begin_next-clause-faults : goal.returns-in_err-begin_next-clause-faults
 returns-in_err-begin_next-clause-faults g c =
@@ -43,8 +43,8 @@ returns-in_err-begin_next-clause-faults g c =
 pub returns-in_err-settle_job-2-clause-serves : goal.returns-in_err-settle_job-2-clause-serves
 returns-in_err-settle_job-2-clause-serves g c =
     let b = c.begin_next.ensures in
-    Serves-join g.R.Record.form g.D.Disk.keeps g.D.Disk.states c.args.self.now c.begin_next.new.self c.settle_job-in-loop.new.self
-    (Serves-begun g.R.Record.form g.D.Disk.keeps g.D.Disk.states c.args.self.now c.loop.self c.raise.new.self c.begin_next.new.self _ c.loop.invariant.serves refl c.raise.ensures.raised b.goes_on b.disk b.fold) c.settle_job-in-loop.ensures.serves
+    Serves-join (Serves-then (Serves-told _ c.loop.invariant.serves refl c.raise.ensures.raised) b.goes_on b.disk b.fold)
+    c.settle_job-in-loop.ensures.serves
 
 pub returns-in_err-settle_job-2-clause-refused : goal.returns-in_err-settle_job-2-clause-refused
 returns-in_err-settle_job-2-clause-refused g c =
@@ -66,8 +66,7 @@ loop-preserved g c =
     let e = c.in_ok-settle_job-2.ensures in
     let pen = pen-told c.loop.self c.raise.new.self _ c.raise.ensures.raised in
     record {
-      serves = Serves-join g.R.Record.form g.D.Disk.keeps g.D.Disk.states c.args.self.now c.begin_next.new.self c.settle_job-in-loop.new.self
-          (Serves-begun g.R.Record.form g.D.Disk.keeps g.D.Disk.states c.args.self.now c.loop.self c.raise.new.self c.begin_next.new.self _ c.loop.invariant.serves refl c.raise.ensures.raised b.goes_on b.disk b.fold) e.serves;
+      serves = Serves-join (Serves-then (Serves-told _ c.loop.invariant.serves refl c.raise.ensures.raised) b.goes_on b.disk b.fold) e.serves;
       idle = e.idle;
       whole = e.whole ∙ b.whole ∙ ap (λ (p : PenOf _). p.broken) pen ∙ c.loop.invariant.whole;
       faults = e.faults ∙ ap g.D.Disk.faults (b.disk ∙ ap (λ (p : PenOf _). p.disk) pen) ∙ c.loop.invariant.faults;
@@ -78,8 +77,8 @@ returns-clause-serves g c = elim c.match-next.branch [
   | in-None w ↦ rw w.self-is c.loop.invariant.serves
   | in-Some+in_ok-begin_next+in_ok-settle_job-2+then-closed+then-self-known w ↦
       let b = w.begin_next.ensures in
-      rw w.self-is (Serves-join g.R.Record.form g.D.Disk.keeps g.D.Disk.states c.args.self.now w.begin_next.new.self w.settle_job-in-loop.new.self
-      (Serves-begun g.R.Record.form g.D.Disk.keeps g.D.Disk.states c.args.self.now c.loop.self w.raise.new.self w.begin_next.new.self _ c.loop.invariant.serves refl w.raise.ensures.raised b.goes_on b.disk b.fold) w.settle_job-in-loop.ensures.serves)
+      rw w.self-is (Serves-join (Serves-then (Serves-told _ c.loop.invariant.serves refl w.raise.ensures.raised) b.goes_on b.disk b.fold)
+      w.settle_job-in-loop.ensures.serves)
 ]
 
 pub returns-clause-faults : goal.returns-clause-faults

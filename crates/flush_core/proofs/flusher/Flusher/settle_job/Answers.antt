@@ -14,8 +14,7 @@ loop-init g c = record { so_far = inl refl; whole = refl; faults = refl }
 pub returns-in_err-tick-clause-serves : goal.returns-in_err-tick-clause-serves
 returns-in_err-tick-clause-serves g c =
     let e = c.tick.ensures in
-    Serves-first g.R.Record.form g.D.Disk.keeps g.D.Disk.states c.args.self.now c.loop.self c.tick.new.self c.loop.invariant.so_far
-    (Serves-tick g.R.Record.form g.D.Disk.keeps g.D.Disk.states c.loop.self c.tick.new.self e.same e.no_less e.opening e.images e.model
+    Serves-first c.loop.invariant.so_far (Serves-tick e.same e.no_less e.opening e.images e.model
     (fold_unticked c.loop.self.pen c.tick.new.self.pen c.in_err-tick.field-0.0 c.in_err-tick.ensures.refused))
 
 pub returns-in_err-tick-clause-refused : goal.returns-in_err-tick-clause-refused
@@ -39,8 +38,7 @@ loop-preserved g c =
     let e = c.tick.ensures in
     let whole = c.in_ok-tick.ensures.whole in
     record {
-      so_far = inr (Serves-first g.R.Record.form g.D.Disk.keeps g.D.Disk.states c.args.self.now c.loop.self c.tick.new.self c.loop.invariant.so_far
-          (Serves-tick g.R.Record.form g.D.Disk.keeps g.D.Disk.states c.loop.self c.tick.new.self e.same e.no_less e.opening e.images e.model
+      so_far = inr (Serves-first c.loop.invariant.so_far (Serves-tick e.same e.no_less e.opening e.images e.model
           (fold_ticked c.loop.self.pen c.tick.new.self.pen c.in_ok-tick.field-0 c.in_ok-tick.ensures.ticked)));
       whole = whole.1 ∙ sym whole.0 ∙ c.loop.invariant.whole;
       faults = c.in_ok-tick.ensures.faults ∙ c.loop.invariant.faults;
@@ -49,8 +47,7 @@ loop-preserved g c =
 pub returns-clause-serves : goal.returns-clause-serves
 returns-clause-serves g c =
     let e = c.tick.ensures in
-    Serves-first g.R.Record.form g.D.Disk.keeps g.D.Disk.states c.args.self.now c.loop.self c.tick.new.self c.loop.invariant.so_far
-    (Serves-tick g.R.Record.form g.D.Disk.keeps g.D.Disk.states c.loop.self c.tick.new.self e.same e.no_less e.opening e.images e.model
+    Serves-first c.loop.invariant.so_far (Serves-tick e.same e.no_less e.opening e.images e.model
     (fold_ticked c.loop.self.pen c.tick.new.self.pen c.in_ok-tick.field-0 c.in_ok-tick.ensures.ticked))
 
 pub returns-clause-whole : goal.returns-clause-whole

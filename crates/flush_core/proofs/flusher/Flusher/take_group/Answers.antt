@@ -1,6 +1,7 @@
 use Rattle.std.proofs.Common.{◌+◌, ◌<◌, ◌++◌, length, take, inr, refl, sym, ap, subst, ◌∙◌, arith}
 use Rattle.std.specs.List.{AllByRecursion}
 use Rattle.std.proofs.lemmas.List.{length-map, length-take-le}
+use Rattle.record_core.proofs.Lists.{AllByRecursion-take}
 use Rattle.segment_core.specs.Raw.{AreCellsOf}
 use Rattle.segment_core.specs.Shape.{limit_of}
 use Rattle.segment_core.specs.Written.{joined, group_frame, payload_len}
@@ -8,7 +9,7 @@ use Rattle.pen_core.specs.Pen.{BeginsFrame, vector_after}
 use Rattle.pen_core.specs.Refusals.{IsRefusal, group_lines, is_full}
 use Rattle.flush_core.specs.Flusher.{IsFlusher}
 use Rattle.flush_core.specs.Group.{IsGreatest}
-use Rattle.flush_core.proofs.Next.{from_on, row_is, filled-take}
+use Rattle.flush_core.proofs.Next.{from_on, row_is}
 use Rattle.flush_core.proofs.Kept.{flusher_of}
 use Rattle.flush_core.proofs.Taken.{idle_is, size_in_limit, taken_kept, only_memory, full_refused, memory_refused}
 use Rattle.flush_core.proofs.flusher.Flusher.take_group.Goals as goal
@@ -24,7 +25,8 @@ returns-then-is_full-clause-refused g c = rw (← c.self.view_is) (
       greatest = subst (λ l. IsGreatest g.R.Record.form.width l growths n) limit c.next_group-group.ensures.greatest;
       some = let not_none = c.if-group-eq0.false in omega arith;
       ready = c.in_default.ensures.allowed;
-      why = full_refused (is_full s.pen (payload_len g.R.Record.form.width (take n growths))) (ap (is_full s.pen) (sym c.next_group-group.ensures.payload) ∙ sym c.is_full.ensures ∙ c.if-is_full.true);
+      why = full_refused (is_full s.pen (payload_len g.R.Record.form.width (take n growths)))
+          (ap (is_full s.pen) (sym c.next_group-group.ensures.payload) ∙ sym c.is_full.ensures ∙ c.if-is_full.true);
     }))
 
 pub returns-in_default-next_growths-clause-refused : goal.returns-in_default-next_growths-clause-refused
@@ -38,7 +40,8 @@ returns-in_default-next_growths-clause-refused g c = rw (← c.self.view_is) (
       greatest = subst (λ l. IsGreatest g.R.Record.form.width l growths n) limit c.next_group-group.ensures.greatest;
       some = let not_none = c.if-group-eq0.false in omega arith;
       ready = c.in_default.ensures.allowed;
-      why = memory_refused (is_full s.pen (payload_len g.R.Record.form.width (take n growths))) _ (ap (is_full s.pen) (sym c.next_group-group.ensures.payload) ∙ sym c.is_full.ensures ∙ c.if-is_full.false) refl;
+      why = memory_refused (is_full s.pen (payload_len g.R.Record.form.width (take n growths))) _
+          (ap (is_full s.pen) (sym c.next_group-group.ensures.payload) ∙ sym c.is_full.ensures ∙ c.if-is_full.false) refl;
     }))
 
 pub begin_group-requires-clause-some : goal.begin_group-requires-clause-some
@@ -46,7 +49,8 @@ begin_group-requires-clause-some g c κs within =
     let s = c.self.inside in
     let n = c.next_group-group.result.count in
     let growths = from_on s.taken s.pass.entries in
-    let row = row_is s.pass.entries s.taken c.next_group-group.new.pass.entries c.as_slice.result.now c.in-Ok.row.items n (ap (λ p. p.entries) c.next_group-group.ensures.same) c.as_slice.ensures.value c.in-Ok.ensures.growths in
+    let row = row_is s.pass.entries s.taken c.next_group-group.new.pass.entries c.as_slice.result.now c.in-Ok.row.items n
+    (ap (λ p. p.entries) c.next_group-group.ensures.same) c.as_slice.ensures.value c.in-Ok.ensures.growths in
     let many = ap length row in
     let all = length-map c.as_slice.result.now (λ growth. growth.now) in
     let first = length-take-le n growths c.next_group-group.ensures.greatest.there in
@@ -57,8 +61,10 @@ pub begin_group-requires-clause-each : goal.begin_group-requires-clause-each
 begin_group-requires-clause-each g c κs within =
     let s = c.self.inside in
     let n = c.next_group-group.result.count in
-    let row = row_is s.pass.entries s.taken c.next_group-group.new.pass.entries c.as_slice.result.now c.in-Ok.row.items n (ap (λ p. p.entries) c.next_group-group.ensures.same) c.as_slice.ensures.value c.in-Ok.ensures.growths in
-    subst (AllByRecursion (λ growth. 0 < length growth)) (sym row) (filled-take n (from_on s.taken s.pass.entries) c.next_group-group.ensures.filled)
+    let row = row_is s.pass.entries s.taken c.next_group-group.new.pass.entries c.as_slice.result.now c.in-Ok.row.items n
+    (ap (λ p. p.entries) c.next_group-group.ensures.same) c.as_slice.ensures.value c.in-Ok.ensures.growths in
+    subst (AllByRecursion (λ growth. 0 < length growth)) (sym row)
+    (AllByRecursion-take (λ growth. 0 < length growth) n (from_on s.taken s.pass.entries) c.next_group-group.ensures.filled)
 
 pub returns-in-Err-begin_group-clause-refused : goal.returns-in-Err-begin_group-clause-refused
 returns-in-Err-begin_group-clause-refused g c = rw (← c.self.view_is) (
@@ -68,17 +74,21 @@ returns-in-Err-begin_group-clause-refused g c = rw (← c.self.view_is) (
     let width = g.R.Record.form.width in
     let limit = c.payload_limit-limit.ensures.is ∙ ap limit_of c.format.ensures in
     let greatest = subst (λ l. IsGreatest width l growths n) limit c.next_group-group.ensures.greatest in
-    let row = row_is s.pass.entries s.taken c.next_group-group.new.pass.entries c.as_slice.result.now c.in-Ok.row.items n (ap (λ p. p.entries) c.next_group-group.ensures.same) c.as_slice.ensures.value c.in-Ok.ensures.growths in
+    let row = row_is s.pass.entries s.taken c.next_group-group.new.pass.entries c.as_slice.result.now c.in-Ok.row.items n
+    (ap (λ p. p.entries) c.next_group-group.ensures.same) c.as_slice.ensures.value c.in-Ok.ensures.growths in
     let room = ap (is_full s.pen) (sym c.next_group-group.ensures.payload) ∙ sym c.is_full.ensures ∙ c.if-is_full.false in
-    let short = size_in_limit g.R.Record.form (g.D.Disk.keeps s.pen.disk) _ c.self.invariant (idle_is s.pen.job c.in_default.ensures.idle) n greatest.there c.next_group-group.ensures.bounds.1 in
-    let refused = subst (λ gs. IsRefusal (group_lines s.pen (length (joined gs)) (payload_len width gs)) c.in-Err-begin_group.fault) row c.in-Err-begin_group.ensures.refused in
+    let idle = idle_is s.pen.job c.in_default.ensures.idle in
+    let short = size_in_limit c.self.invariant idle n greatest.there c.next_group-group.ensures.bounds.1 in
+    let fault = c.in-Err-begin_group.fault in
+    let refused = subst (λ gs. IsRefusal (group_lines s.pen (length (joined gs)) (payload_len width gs)) fault) row c.in-Err-begin_group.ensures.refused in
     inr (record {
       count = n;
       greatest = greatest;
       some = let not_none = c.if-group-eq0.false in omega arith;
       ready = c.in_default.ensures.allowed;
-      why = memory_refused (is_full s.pen (payload_len width (take n growths))) c.in-Err-begin_group.fault room
-          (only_memory s.pen (length (joined (take n growths))) (payload_len width (take n growths)) c.in-Err-begin_group.fault c.in_default.ensures.whole c.in_default.ensures.idle short greatest.fits room refused);
+      why = memory_refused (is_full s.pen (payload_len width (take n growths))) fault room
+          (only_memory s.pen (length (joined (take n growths))) (payload_len width (take n growths)) fault
+          c.in_default.ensures.whole c.in_default.ensures.idle short greatest.fits room refused);
     }))
 
 pub invariant_of-self-2 : goal.invariant_of-self-2
@@ -88,15 +98,19 @@ invariant_of-self-2 g c =
     let form = g.R.Record.form in
     let growths = from_on s.taken s.pass.entries in
     let pen = c.begin_group.new.self in
-    let row = row_is s.pass.entries s.taken c.next_group-group.new.pass.entries c.as_slice.result.now c.in-Ok.row.items n (ap (λ p. p.entries) c.next_group-group.ensures.same) c.as_slice.ensures.value c.in-Ok.ensures.growths in
+    let row = row_is s.pass.entries s.taken c.next_group-group.new.pass.entries c.as_slice.result.now c.in-Ok.row.items n
+    (ap (λ p. p.entries) c.next_group-group.ensures.same) c.as_slice.ensures.value c.in-Ok.ensures.growths in
     let begun = subst (λ gs. BeginsFrame (group_frame form gs) s.pen pen) row c.in_default-begin_group.ensures.begun in
-    subst (λ pass. IsFlusher (g.D.Disk.keeps pen.disk) form (flusher_of form pen pass s.mark s.before (s.taken + n) s.settled)) (sym (c.in-Ok.ensures.same ∙ c.next_group-group.ensures.same))
-    (taken_kept form (g.D.Disk.keeps s.pen.disk) _ c.self.invariant (idle_is s.pen.job c.in_default.ensures.idle) n c.next_group-group.ensures.greatest.there pen (g.D.Disk.keeps pen.disk) begun (subst g.D.Disk.keeps begun.disk_same)
+    subst (λ pass. IsFlusher (g.D.Disk.keeps pen.disk) form (flusher_of form pen pass s.mark s.before (s.taken + n) s.settled))
+    (sym (c.in-Ok.ensures.same ∙ c.next_group-group.ensures.same))
+    (taken_kept c.self.invariant (idle_is s.pen.job c.in_default.ensures.idle) n c.next_group-group.ensures.greatest.there
+    pen (g.D.Disk.keeps pen.disk) begun (subst g.D.Disk.keeps begun.disk_same)
     (λ records are. subst (λ gs. AreCellsOf form (vector_after pen) (records ++ joined gs)) row (c.in_default-begin_group.ensures.next records are)))
 
 pub returns-clause-begun : goal.returns-clause-begun
 returns-clause-begun g c = rw (← c.self.view_is) (λ some.
     let s = c.self.inside in
     let n = c.next_group-group.result.count in
-    let row = row_is s.pass.entries s.taken c.next_group-group.new.pass.entries c.as_slice.result.now c.in-Ok.row.items n (ap (λ p. p.entries) c.next_group-group.ensures.same) c.as_slice.ensures.value c.in-Ok.ensures.growths in
+    let row = row_is s.pass.entries s.taken c.next_group-group.new.pass.entries c.as_slice.result.now c.in-Ok.row.items n
+    (ap (λ p. p.entries) c.next_group-group.ensures.same) c.as_slice.ensures.value c.in-Ok.ensures.growths in
     subst (λ gs. BeginsFrame (group_frame g.R.Record.form gs) s.pen c.begin_group.new.self) row c.in_default-begin_group.ensures.begun)
