@@ -9,7 +9,7 @@ use Rattle.pen_core.specs.Inside.{job_of}
 use Rattle.pen_core.proofs.Filed.{Files, filed_frame, pen_filed}
 use Rattle.pen_core.proofs.FoldSeen.{seen, fold_is_seen, calls_held, ready_or_filed, ready_at, none_at, job_some, called_seen}
 use Rattle.pen_core.proofs.HomeCall.{HomeCall, home_call, may_call, home_leaves, home_broken, broken_stays, home_called, called_stays}
-use Rattle.pen_core.proofs.Whole.{sound_kept, sound_idle}
+use Rattle.pen_core.proofs.Whole.{broken_seen, sound_kept, sound_idle}
 use Rattle.pen_core.proofs.pen.Pen.tick_home.Given.{Over}
 use Rattle.pen_core.proofs.pen.Pen.tick_home.Goals.{After-call, After-swap}
 use Rattle.pen_core.proofs.pen.Pen.tick_home.Goals as goal
@@ -67,18 +67,7 @@ returns-in-Err-clause-refused g c = rw (← c.self.view_is) (
       fold_is_seen s.fold (calls_held s.fold.stage calls),
       calls,
       ap (λ fault. Disk fault) c.in-Err.ensures.cause.0,
-      record {
-        broken = refl;
-        job_same = refl;
-        counts_same = record {
-          shape_same = refl;
-          fold_same = refl;
-          tally_same = refl;
-          gate_same = refl;
-          room_same = refl;
-          places_same = refl;
-        };
-      },
+      broken_seen g.D.Disk.states s c.call.new.disk,
     ))
 
 pub returns-in-Err-clause-file : goal.returns-in-Err-clause-file

@@ -5,7 +5,7 @@ use Rattle.pen_core.specs.declared.fault.PenFault.TheVariants.{Disk}
 use Rattle.pen_core.specs.Vectors.{frame_at}
 use Rattle.pen_core.specs.Inside.{job_of}
 use Rattle.pen_core.specs.InHand.{live_after}
-use Rattle.pen_core.proofs.Whole.{sound_kept, sound_idle, last_step}
+use Rattle.pen_core.proofs.Whole.{broken_seen, sound_kept, sound_idle, last_step}
 use Rattle.pen_core.proofs.Listed.{homes_in_turn}
 use Rattle.pen_core.proofs.LogCall.{LogCall, log_call, log_leaves, log_broken, broken_file, log_next, next_file, counts_after, gate_moved, more_frames, vector_then}
 use Rattle.pen_core.proofs.LastTick.{LastCall, log_last, fold_seen, other_unfiled}
@@ -59,18 +59,7 @@ returns-in-Err-clause-refused g c = rw (← c.self.view_is) (
       c.if-self.false,
       ap (job_of s.shape s.bytes.items) c.in-Some.is,
       ap (λ fault. Disk fault) c.in-Err.ensures.cause.0,
-      record {
-        broken = refl;
-        job_same = refl;
-        counts_same = record {
-          shape_same = refl;
-          fold_same = refl;
-          tally_same = refl;
-          gate_same = refl;
-          room_same = refl;
-          places_same = refl;
-        };
-      },
+      broken_seen g.D.Disk.states s c.call.new.disk,
     ))
 
 pub returns-in-Err-clause-file_stays : goal.returns-in-Err-clause-file_stays
