@@ -6,7 +6,7 @@ use Rattle.segment_core.specs.declared.found.Homes.{Homes}
 use Rattle.segment_core.specs.declared.tally.Tally.{Tally}
 use Rattle.pen_core.specs.declared.fold.Fold.{Fold}
 use Rattle.pen_core.specs.declared.pen.Pen.TheInside.{Inside}
-use Rattle.pen_core.specs.Fields.{count_open, IsSound}
+use Rattle.pen_core.specs.Fields.{count_open, seen_as, IsSound}
 use Rattle.pen_core.specs.declared.stage.FoldStage.{FoldStage}
 use Rattle.pen_core.specs.declared.stage.FoldStage.TheVariants as stages
 use Rattle.pen_core.specs.declared.step.Step.{Step}
@@ -14,7 +14,7 @@ use Rattle.pen_core.specs.PenOf.{FoldOf}
 use Rattle.pen_core.specs.InHand.{IsFold, IsInHand, fold_of, in_stage}
 use Rattle.pen_core.specs.Inside.{IsPen}
 use Rattle.pen_core.specs.Listed.{IsListed}
-use Rattle.pen_core.specs.Pen.{open_count}
+use Rattle.pen_core.specs.Pen.{open_count, IsUnchanged}
 use Rattle.pen_core.proofs.InHand.{fold_same, no_fold_at, no_fold_seen, pen_unfolded}
 use Rattle.pen_core.proofs.Listed.{listed_same}
 
@@ -77,34 +77,40 @@ unfolded fold none = at fold.stage _ none
     at stages.Ready f none = absurd cc
     at stages.Filed f none = absurd cc
 
-module _ (fold fold' : Fold) (none : fold_of fold ≡ None) (same : fold'.stage ≡ fold.stage) where
-  none' : fold'.stage ≡ stages.None
-  none' = same ∙ unfolded fold none
+module _ {D : Type 0} {keeps : D → Type 0} {states : D → List State} {pen : Inside D} (sound : IsSound keeps states pen) (fold : Fold)
+    (none : fold_of pen.fold ≡ None) (same : fold.stage ≡ pen.fold.stage) where
+  still : fold.stage ≡ stages.None
+  still = same ∙ unfolded pen.fold none
 
-  pub unfolded_seen : fold_of fold' ≡ fold_of fold
-  unfolded_seen = no_fold_seen fold' none' ∙ sym none
+  -- the memory for a fold holds others
+  pub pen_unbegun : IsSound keeps states (record pen { fold = fold })
+  pen_unbegun =
+      let lists = sound.lists in
+      record {
+        job = pen_unfolded (keeps pen.disk) (states pen.disk) pen.shape pen.gate pen.tally pen.next pen.bytes.items pen.step pen.broken fold still
+            (subst (λ stage. IsPen (open_count stage pen.fold.count) (keeps pen.disk) (states pen.disk) pen.shape pen.gate pen.tally pen.next pen.bytes.items pen.step pen.broken)
+            (unfolded pen.fold none) sound.job);
+        lists = record {
+          frames = lists.frames;
+          legal = lists.legal;
+          gate_is = lists.gate_is;
+          tally_is = lists.tally_is;
+          lists = lists.lists;
+          filed = λ count is. (let clash = sym (unfolded pen.fold none) ∙ (lists.filed count is).0 in absurd cc);
+          runs_are = λ held. absurd (subst IsInHand still held);
+          same = lists.same;
+        };
+        fold = no_fold_at (keeps pen.disk) (states pen.disk) pen.shape pen.gate pen.tally pen.bytes.items pen.step pen.broken fold still;
+      }
 
-  -- the invariant
-  pub unfolded_rest : (keeps : Type 0) (states : List State) (shape : Shape) (gate : ℕ) (tally next : Tally) (bytes : List ℕ)
-      (o : Option Step) (broken : Bool) (homes : Homes) (live : ℕ)
-      → IsPen (open_count fold.stage fold.count) keeps states shape gate tally next bytes o broken
-      → IsListed keeps states shape gate tally bytes o homes live fold
-      → IsPen (open_count fold'.stage fold'.count) keeps states shape gate tally next bytes o broken
-      × IsListed keeps states shape gate tally bytes o homes live fold'
-      × IsFold keeps states shape gate tally bytes o broken fold'
-  unfolded_rest keeps states shape gate tally next bytes o broken homes live pen listed = (
-    pen_unfolded keeps states shape gate tally next bytes o broken fold' none'
-        (subst (λ stage. IsPen (open_count stage fold.count) keeps states shape gate tally next bytes o broken)
-            (unfolded fold none) pen),
-    record {
-      frames = listed.frames;
-      legal = listed.legal;
-      gate_is = listed.gate_is;
-      tally_is = listed.tally_is;
-      lists = listed.lists;
-      filed = λ count is. (let clash = sym (unfolded fold none) ∙ (listed.filed count is).0 in absurd cc);
-      runs_are = λ held. absurd (subst IsInHand none' held);
-      same = listed.same;
-    },
-    no_fold_at keeps states shape gate tally bytes o broken fold' none',
-  )
+  pub unbegun_seen : IsUnchanged (seen_as states pen) (seen_as states (record pen { fold = fold }))
+  unbegun_seen = record {
+    disk_same = refl;
+    file_same = record { frames_same = refl; vector_same = refl };
+    job_same = refl;
+    broken_same = refl;
+    shape_same = refl;
+    fold_same = no_fold_seen fold still ∙ sym none;
+    tally_same = refl;
+    gate_same = refl;
+  }

@@ -31,8 +31,8 @@ use Rattle.pen_core.proofs.LiveRuns.{HasSome, EndsBy, live_runs_some, live_runs_
 use Rattle.pen_core.proofs.RunPositions.{covers-home_runs}
 use Rattle.pen_core.proofs.WritesFor.{Within}
 
-module _ (keeps : Type 0) (states : List State) (shape : Shape) (gate : ℕ) (tally : Tally) (bytes : List ℕ)
-    (step : Option Step) (homes : Homes) (live : ℕ) {fold : Fold}
+module _ {keeps : Type 0} {states : List State} {shape : Shape} {gate : ℕ} {tally : Tally} {bytes : List ℕ}
+    {step : Option Step} {homes : Homes} {live : ℕ} {fold : Fold}
     (listed : IsListed keeps states shape gate tally bytes step homes live fold) where
   abbrev frames : List Frame
   frames = listed.frames

@@ -23,6 +23,8 @@ use Rattle.disk_core.specs.State.{State}
 use Rattle.pen_core.specs.HomeRuns.{AreHomesTo}
 use Rattle.pen_core.specs.Inside.{IsMaybeJob}
 use Rattle.pen_core.specs.InHand.{frame_in_hand}
+use Rattle.pen_core.specs.declared.pen.Pen.TheInside.{Inside}
+use Rattle.pen_core.specs.Fields.{IsSound}
 use Rattle.pen_core.specs.Listed.{homes_ahead, Lists, IsListed}
 use Rattle.pen_core.specs.Vectors.{frame_at}
 use Rattle.pen_core.specs.declared.fold.Fold as folds
@@ -133,13 +135,11 @@ may_come shape frames gate tally next bytes (Some step) gate_is tally_is job f i
               fits = omega arith;
             })
 
-pub AreHomesTo-pen : (keeps : Type 0) (states : List State) (shape : Shape) (gate : ℕ) (tally next : Tally) (bytes : List ℕ)
-    (step : Option Step) (homes : Homes) (live : ℕ) {fold : folds.Fold}
-    → gate ≤ 2 ^ 48 → IsMaybeJob shape gate tally next bytes step
-    → IsListed keeps states shape gate tally bytes step homes live fold
-    → AreHomesTo shape.width tally.size homes.homes.items
-AreHomesTo-pen keeps states shape gate tally next bytes step homes live fits job listed =
+pub AreHomesTo-pen : {D : Type 0} {keeps : D → Type 0} {states : D → List State} {pen : Inside D} → IsSound keeps states pen → pen.gate ≤ 2 ^ 48
+    → AreHomesTo pen.shape.width pen.tally.size pen.homes.homes.items
+AreHomesTo-pen {pen = pen} sound fits =
+    let listed = sound.lists in
     let below = listed.gate_is in
-    subst (λ t. AreHomesTo shape.width t.size homes.homes.items) (sym listed.tally_is)
-    (AreHomesTo-listed shape listed.frames (frame_in_hand shape bytes step) homes live listed.legal (omega arith)
-      (may_come shape listed.frames gate tally next bytes step listed.gate_is listed.tally_is job) listed.lists)
+    subst (λ t. AreHomesTo pen.shape.width t.size pen.homes.homes.items) (sym listed.tally_is)
+    (AreHomesTo-listed pen.shape listed.frames (frame_in_hand pen.shape pen.bytes.items pen.step) pen.homes pen.live listed.legal (omega arith)
+      (may_come pen.shape listed.frames pen.gate pen.tally pen.next pen.bytes.items pen.step listed.gate_is listed.tally_is sound.job.job) listed.lists)

@@ -1,5 +1,5 @@
 -- A fold is begun, on a pen's fields.
-use Rattle.std.proofs.Common.{◌≡◌, ℕ, ◌+◌, ◌-◌, ◌^◌, ◌≤◌, ◌<◌, Bool, false, List, [], ◌∷◌, ◌++◌, length, map, take, drop, All, Option, Some, None, refl, sym, ap, subst, ◌∙◌, arith}
+use Rattle.std.proofs.Common.{◌≡◌, ℕ, ◌+◌, ◌-◌, ◌^◌, ◌≤◌, ◌<◌, Bool, true, false, List, [], ◌∷◌, ◌++◌, length, map, take, drop, All, Option, Some, None, refl, sym, ap, subst, ◌∙◌, arith}
 use Rattle.std.specs.List.{flat_map}
 use Rattle.std.proofs.lemmas.List.{length-append, length-map, take-append-le, append-nil}
 use Rattle.disk_core.specs.State.{State, now}
@@ -15,6 +15,8 @@ use Rattle.segment_core.specs.Reading.{Seen}
 use Rattle.segment_core.specs.Found.{pairs_of, live_of}
 use Rattle.segment_core.specs.Raw.{after_frame}
 use Rattle.segment_core.specs.Parsed.{vector_before}
+use Rattle.pen_core.specs.declared.pen.Pen.TheInside.{Inside}
+use Rattle.pen_core.specs.Fields.{seen_as, vector_read, IsSound}
 use Rattle.pen_core.specs.declared.fold.Fold.{Fold}
 use Rattle.pen_core.specs.declared.step.Step.{Step}
 use Rattle.pen_core.specs.declared.step.Step.TheVariants.{Body, BodySync, Gate, GateSync}
@@ -30,7 +32,7 @@ use Rattle.pen_core.specs.InHand.{write_of, left_of, in_stage, fold_of, gate_the
 use Rattle.pen_core.specs.Inside.{job_of, IsMaybeJob, IsAtStep, Stands, IsPen}
 use Rattle.pen_core.specs.Listed.{IsListed}
 use Rattle.pen_core.specs.PenOf.{FoldOf}
-use Rattle.pen_core.specs.Pen.{open_count, job_len}
+use Rattle.pen_core.specs.Pen.{open_count, job_len, IsReadyToFold}
 use Rattle.pen_core.proofs.Begun.{nothing_folded}
 use Rattle.pen_core.proofs.FoldListed.{some_runs, planned_pen, folding_pen, whole_pen}
 use Rattle.pen_core.proofs.FoldSeen.{left_long}
@@ -157,64 +159,70 @@ length_left fold first = let long = left_long fold in omega arith
 
 -- ---- it is begun
 
-module _ {R : Type 0} (form : Encoding R) (records : List R) (keeps : Type 0) (states : List State) (shape : Shape)
-    (gate : ℕ) (tally next : Tally) (bytes : List ℕ) (o : Option Step) (broken : Bool) (homes : Homes) (live : ℕ)
-    (fold fold' : Fold)
-    (pen : IsPen (open_count fold.stage fold.count) keeps states shape gate tally next bytes o broken)
-    (listed : IsListed keeps states shape gate tally bytes o homes live fold)
-    (ready : (broken ≡ false) × (fold_of fold ≡ None) × (tally.folded < tally.changes)
-      × (gate + job_len shape (job_of shape bytes o) + 14 < 2 ^ 48))
-    (plan : IsPlan form records shape.width tally.size (take live homes.live.items) homes.homes.items fold')
-    (size_of : (r : R) → length (form.bytes_of r) ≡ shape.width) (all : length records ≡ tally.size)
-    (values : keeps → vector_before shape gate (bytes_of states) ≡ map form.bytes_of records)
-    (spelled : fold'.frame.items ≡ frame_text shape.format (kinds.Fold tally.changes) ++ 0 ∷ [])
-    (at : fold'.stage ≡ Home (length fold'.writes.items)) (count_is : fold'.count ≡ tally.changes)
-    (runs_is : fold'.runs ≡ live) (first : fold'.done ≡ 0) where
-  none : fold.stage ≡ stages.None
-  none = unseen_at fold.stage (record { count = fold.count; left = left_of fold; stage = fold.stage }) ready.1
+-- What a fold is begun from.
+pub record Takes {R D : Type 0} (form : Encoding R) (records : List R) (keeps : D → Type 0) (states : D → List State) (pen : Inside D) (fold : Fold) : Type 0 where
+  pub sound : IsSound keeps states pen
+  pub ready : IsReadyToFold (seen_as states pen) true
+  pub plan : IsPlan form records pen.shape.width pen.tally.size (take pen.live pen.homes.live.items) pen.homes.homes.items fold
+  pub size_of : (r : R) → length (form.bytes_of r) ≡ pen.shape.width
+  pub all : length records ≡ pen.tally.size
+  pub values : keeps pen.disk → vector_read states pen ≡ map form.bytes_of records
+  pub spelled : fold.frame.items ≡ frame_text pen.shape.format (kinds.Fold pen.tally.changes) ++ 0 ∷ []
+  pub at : fold.stage ≡ Home (length fold.writes.items)
+  pub count_is : fold.count ≡ pen.tally.changes
+  pub runs_is : fold.runs ≡ pen.live
+  pub first : fold.done ≡ 0
 
-  closed : IsPen 0 keeps states shape gate tally next bytes o broken
-  closed = subst (λ st. IsPen (open_count st fold.count) keeps states shape gate tally next bytes o broken) none pen
+module _ {R D : Type 0} {form : Encoding R} {records : List R} {keeps : D → Type 0} {states : D → List State} {pen : Inside D} {fold : Fold}
+    (takes : Takes form records keeps states pen fold) where
+  abbrev old : List State
+  old = states pen.disk
 
-  pen_taken : IsPen (open_count fold'.stage fold'.count) keeps states shape gate tally next bytes o broken
-  pen_taken = pen_more (open_count fold'.stage fold'.count) keeps states shape gate tally next bytes o broken closed
+  none : pen.fold.stage ≡ stages.None
+  none = unseen_at pen.fold.stage (record { count = pen.fold.count; left = left_of pen.fold; stage = pen.fold.stage }) takes.ready.1
 
-  listed_taken : IsListed keeps states shape gate tally bytes o homes live fold'
+  closed : IsPen 0 (keeps pen.disk) old pen.shape pen.gate pen.tally pen.next pen.bytes.items pen.step pen.broken
+  closed = subst (λ st. IsPen (open_count st pen.fold.count) (keeps pen.disk) old pen.shape pen.gate pen.tally pen.next pen.bytes.items pen.step pen.broken) none takes.sound.job
+
+  pen_taken : IsPen (open_count fold.stage fold.count) (keeps pen.disk) old pen.shape pen.gate pen.tally pen.next pen.bytes.items pen.step pen.broken
+  pen_taken = pen_more (open_count fold.stage fold.count) (keeps pen.disk) old pen.shape pen.gate pen.tally pen.next pen.bytes.items pen.step pen.broken closed
+
+  listed_taken : IsListed (keeps pen.disk) old pen.shape pen.gate pen.tally pen.bytes.items pen.step pen.homes pen.live fold
   listed_taken =
-      let counted = live_counted shape listed.frames in
-      let lived : List Seen = live_of shape listed.frames in
-      let every : take (fold'.count - tally.folded) lived ≡ lived =
-          take_whole lived (fold'.count - tally.folded)
-            (ap (λ n. n - tally.folded) count_is ∙ ap (λ t. t.changes - t.folded) listed.tally_is ∙ sym counted) in
+      let counted = live_counted pen.shape takes.sound.lists.frames in
+      let lived : List Seen = live_of pen.shape takes.sound.lists.frames in
+      let every : take (fold.count - pen.tally.folded) lived ≡ lived =
+          take_whole lived (fold.count - pen.tally.folded)
+            (ap (λ n. n - pen.tally.folded) takes.count_is ∙ ap (λ t. t.changes - t.folded) takes.sound.lists.tally_is ∙ sym counted) in
       record {
-        frames = listed.frames;
-        legal = listed.legal;
-        gate_is = listed.gate_is;
-        tally_is = listed.tally_is;
-        lists = listed.lists;
-        filed = λ count is. (let clash : stages.None ≡ Filed = sym none ∙ (listed.filed count is).0 in absurd cc);
-        runs_are = λ held. runs_is ∙ listed.lists.counted ∙ sym (ap (λ cs. length (flat_map pairs_of cs)) every);
-        same = listed.same;
+        frames = takes.sound.lists.frames;
+        legal = takes.sound.lists.legal;
+        gate_is = takes.sound.lists.gate_is;
+        tally_is = takes.sound.lists.tally_is;
+        lists = takes.sound.lists.lists;
+        filed = λ count is. (let clash : stages.None ≡ Filed = sym none ∙ (takes.sound.lists.filed count is).0 in absurd cc);
+        runs_are = λ held. takes.runs_is ∙ takes.sound.lists.lists.counted ∙ sym (ap (λ cs. length (flat_map pairs_of cs)) every);
+        same = takes.sound.lists.same;
       }
 
-  some_writes : 0 < length fold'.writes.items
+  some_writes : 0 < length fold.writes.items
   some_writes =
-      let runs = some_runs keeps states shape gate tally bytes o homes live listed plan.cover plan.covered plan.runs plan.at_home ready.2 in
-      let same = ap length plan.writes_are in
-      omega (arith, length-map fold'.writes.items (write_of fold'.bytes.items), length-map plan.runs (write_for form records))
+      let runs = some_runs takes.sound.lists takes.plan.cover takes.plan.covered takes.plan.runs takes.plan.at_home takes.ready.2 in
+      let same = ap length takes.plan.writes_are in
+      omega (arith, length-map fold.writes.items (write_of fold.bytes.items), length-map takes.plan.runs (write_for form records))
 
-  fold_taken : IsFold keeps states shape gate tally bytes o broken fold'
+  fold_taken : IsFold (keeps pen.disk) old pen.shape pen.gate pen.tally pen.bytes.items pen.step pen.broken fold
   fold_taken = record {
-    counts = subst (IsAtStage shape gate tally bytes o fold') (sym at) (
+    counts = subst (IsAtStage pen.shape pen.gate pen.tally pen.bytes.items pen.step fold) (sym takes.at) (
       record {
-        live = omega (arith, ready.2);
+        live = omega (arith, takes.ready.2);
         upto = omega arith;
         planned =
-            planned_pen keeps states shape gate tally bytes o homes live listed plan.cover plan.covered plan.runs
-              plan.at_home form records fold'.bytes.items fold'.writes.items (omega (arith, pen.wide.0)) plan.writes_are
-              size_of all plan.inside;
-        spelled = spelled ∙ ap (λ n. frame_text shape.format (kinds.Fold n) ++ 0 ∷ []) (sym count_is);
-        room = omega (arith, ready.3, gate_seen shape gate tally next bytes o pen.job);
+            planned_pen takes.sound.lists takes.plan.cover takes.plan.covered takes.plan.runs
+              takes.plan.at_home form records fold.bytes.items fold.writes.items (omega (arith, takes.sound.job.wide.0)) takes.plan.writes_are
+              takes.size_of takes.all takes.plan.inside;
+        spelled = takes.spelled ∙ ap (λ n. frame_text pen.shape.format (kinds.Fold n) ++ 0 ∷ []) (sym takes.count_is);
+        room = omega (arith, takes.ready.3, gate_seen pen.shape pen.gate pen.tally pen.next pen.bytes.items pen.step takes.sound.job.job);
       },
       omega arith,
       some_writes,
@@ -222,48 +230,46 @@ module _ {R : Type 0} (form : Encoding R) (records : List R) (keeps : Type 0) (s
     homes =
         λ model whole.
           subst
-            (HomesAt shape (blanked_before shape gate (bytes_of states)) (vector_before shape gate (bytes_of states)) fold'
-                (now states))
-            (sym at)
+            (HomesAt pen.shape (blanked_before pen.shape pen.gate (bytes_of old)) (vector_before pen.shape pen.gate (bytes_of old)) fold
+                (now old))
+            (sym takes.at)
         (folding_now model);
   }
     where
-      folding_now : (model : keeps)
-          → HomesAt shape (blanked_before shape gate (bytes_of states)) (vector_before shape gate (bytes_of states)) fold'
-            (now states) (Home (length fold'.writes.items))
+      folding_now : (model : keeps pen.disk)
+          → HomesAt pen.shape (blanked_before pen.shape pen.gate (bytes_of old)) (vector_before pen.shape pen.gate (bytes_of old)) fold
+            (now old) (Home (length fold.writes.items))
       folding_now model =
           let made =
-              folding_pen keeps states shape gate tally bytes o homes live listed plan.cover plan.covered plan.runs
-                plan.at_home form records fold'.bytes.items fold'.writes.items (omega (arith, pen.wide.0)) plan.writes_are
-                model (closed.knows model).file.holds (values model) in
+              folding_pen takes.sound.lists takes.plan.cover takes.plan.covered takes.plan.runs
+                takes.plan.at_home form records fold.bytes.items fold.writes.items (omega (arith, takes.sound.job.wide.0)) takes.plan.writes_are
+                model (closed.knows model).file.holds (takes.values model) in
           subst
           (λ n.
-            IsFolding shape n (blanked_before shape gate (bytes_of states)) (vector_before shape gate (bytes_of states))
-                (left_of fold') (now states))
-          (sym count_is)
+            IsFolding pen.shape n (blanked_before pen.shape pen.gate (bytes_of old)) (vector_before pen.shape pen.gate (bytes_of old))
+                (left_of fold) (now old))
+          (sym takes.count_is)
           (subst
             (λ d.
-                IsFolding shape tally.changes (blanked_before shape gate (bytes_of states))
-                    (vector_before shape gate (bytes_of states))
-                    (map (write_of fold'.bytes.items) (drop d fold'.writes.items)) (now states))
-            (sym first) made)
+                IsFolding pen.shape pen.tally.changes (blanked_before pen.shape pen.gate (bytes_of old))
+                    (vector_before pen.shape pen.gate (bytes_of old))
+                    (map (write_of fold.bytes.items) (drop d fold.writes.items)) (now old))
+            (sym takes.first) made)
 
-  pub some_left : 0 < length (left_of fold')
-  some_left = let some = some_writes in omega (arith, length_left fold' first)
+  pub some_left : 0 < length (left_of fold)
+  some_left = let some = some_writes in omega (arith, length_left fold takes.first)
 
-  pub taken : IsPen (open_count fold'.stage fold'.count) keeps states shape gate tally next bytes o broken
-      × IsListed keeps states shape gate tally bytes o homes live fold'
-      × IsFold keeps states shape gate tally bytes o broken fold'
-  taken = (pen_taken, listed_taken, fold_taken)
+  pub pen_takes : IsSound keeps states (record pen { fold = fold })
+  pen_takes = record { job = pen_taken; lists = listed_taken; fold = fold_taken }
 
   -- where the disk keeps the model
-  pub whole_taken : keeps → IsWholeFold shape (blanked_before shape gate (bytes_of states)) (vector_before shape gate (bytes_of states)) (left_of fold')
+  pub whole_taken : keeps pen.disk → IsWholeFold pen.shape (blanked_before pen.shape pen.gate (bytes_of old)) (vector_before pen.shape pen.gate (bytes_of old)) (left_of fold)
   whole_taken model =
       subst
       (λ d.
-        IsWholeFold shape (blanked_before shape gate (bytes_of states)) (vector_before shape gate (bytes_of states))
-            (map (write_of fold'.bytes.items) (drop d fold'.writes.items)))
-      (sym first)
-      (whole_pen keeps states shape gate tally bytes o homes live listed plan.cover plan.covered plan.runs plan.at_home form
-        records fold'.bytes.items fold'.writes.items (omega (arith, pen.wide.0)) plan.writes_are model
-        (closed.knows model).file.holds (values model))
+        IsWholeFold pen.shape (blanked_before pen.shape pen.gate (bytes_of old)) (vector_before pen.shape pen.gate (bytes_of old))
+            (map (write_of fold.bytes.items) (drop d fold.writes.items)))
+      (sym takes.first)
+      (whole_pen takes.sound.lists takes.plan.cover takes.plan.covered takes.plan.runs takes.plan.at_home form
+        records fold.bytes.items fold.writes.items (omega (arith, takes.sound.job.wide.0)) takes.plan.writes_are model
+        (closed.knows model).file.holds (takes.values model))

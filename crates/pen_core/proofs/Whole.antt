@@ -31,7 +31,7 @@ use Rattle.pen_core.specs.PenOf.{FoldOf}
 use Rattle.pen_core.specs.InHand.{in_stage, fold_of, left_of}
 use Rattle.pen_core.specs.Fields.{seen_as, IsSound}
 use Rattle.pen_core.specs.declared.pen.Pen.TheInside.{Inside}
-use Rattle.pen_core.specs.Pen.{MayOpen, MayBeOpening, open_count, fold_count, IsKept}
+use Rattle.pen_core.specs.Pen.{MayOpen, MayBeOpening, IsBrokenBy, open_count, fold_count, IsKept}
 use Rattle.pen_core.specs.Inside.{job_of, pen_of, IsPen}
 use Rattle.pen_core.proofs.Folds.{LaidAlike}
 use Rattle.pen_core.proofs.Pens.{held_size, told_pending}
@@ -82,6 +82,22 @@ module _ {D : Type 0} {keeps : D → Type 0} {states : D → List State} {pen : 
   -- where no call is made
   pub sound_idle : LeavesOnly (states pen.disk) (states pen.disk) (MayOpen (seen_as states pen))
   sound_idle = LeavesOnly-start (states pen.disk) _ (sound.job.knows model).images_open
+
+-- a call has failed
+pub broken_seen : {D : Type 0} (states : D → List State) (pen : Inside D) (new : D)
+    → IsBrokenBy (seen_as states pen) (seen_as states (record pen { disk = new; broken = true }))
+broken_seen states pen new = record {
+  broken = refl;
+  job_same = refl;
+  counts_same = record {
+    shape_same = refl;
+    fold_same = refl;
+    tally_same = refl;
+    gate_same = refl;
+    room_same = refl;
+    places_same = refl;
+  };
+}
 
 -- ---- the counts behind a frame
 

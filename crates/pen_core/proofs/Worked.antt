@@ -57,206 +57,56 @@ module _ {D : Type 0} (pen : PenOf D) (image : List ℕ) (may : MayOpen pen imag
 -- all but the memory
 pub unchanged_pen : {D : Type 0} (old new : PenOf D) → IsUnchanged old new → new ≡ record old { room = new.room; places = new.places }
 unchanged_pen old new is =
-    ap (λ x. record new { disk = x }) is.disk_same
-    ∙ ap (λ x. record new { disk = old.disk; shape = x }) is.shape_same
-    ∙ ap (λ x. record new { disk = old.disk; shape = old.shape; frames = x }) is.file_same.frames_same
-    ∙ ap (λ x. record new { disk = old.disk; shape = old.shape; frames = old.frames; vector = x }) is.file_same.vector_same
-    ∙ ap (λ x. record new { disk = old.disk; shape = old.shape; frames = old.frames; vector = old.vector; job = x }) is.job_same
-    ∙ ap (λ x. record new { disk = old.disk; shape = old.shape; frames = old.frames; vector = old.vector; job = old.job; fold = x }) is.fold_same
-    ∙ ap
-    (λ x.
-      record new
-          {
-            disk = old.disk;
-            shape = old.shape;
-            frames = old.frames;
-            vector = old.vector;
-            job = old.job;
-            fold = old.fold;
-            broken = x;
-          })
-    is.broken_same
-    ∙ ap
-    (λ x.
-      record new
-          {
-            disk = old.disk;
-            shape = old.shape;
-            frames = old.frames;
-            vector = old.vector;
-            job = old.job;
-            fold = old.fold;
-            broken = old.broken;
-            tally = x;
-          })
-    is.tally_same
-    ∙ ap
-    (λ x.
-      record new
-          {
-            disk = old.disk;
-            shape = old.shape;
-            frames = old.frames;
-            vector = old.vector;
-            job = old.job;
-            fold = old.fold;
-            broken = old.broken;
-            tally = old.tally;
-            gate = x;
-          })
-    is.gate_same
+    λ i. record {
+      disk = is.disk_same i;
+      shape = is.shape_same i;
+      frames = is.file_same.frames_same i;
+      vector = is.file_same.vector_same i;
+      job = is.job_same i;
+      fold = is.fold_same i;
+      broken = is.broken_same i;
+      tally = is.tally_same i;
+      gate = is.gate_same i;
+      room = new.room;
+      places = new.places;
+    }
 
 -- all but the memory and the job
 pub begun_pen : {D : Type 0} (frame : Frame) (old new : PenOf D) → BeginsFrame frame old new
     → new ≡ record old { job = Some (record { frame = frame; step = steps.Body }); room = new.room; places = new.places }
 begun_pen frame old new is =
-    ap (λ x. record new { disk = x }) is.disk_same
-    ∙ ap (λ x. record new { disk = old.disk; shape = x }) is.shape_same
-    ∙ ap (λ x. record new { disk = old.disk; shape = old.shape; frames = x }) is.file_same.frames_same
-    ∙ ap (λ x. record new { disk = old.disk; shape = old.shape; frames = old.frames; vector = x }) is.file_same.vector_same
-    ∙ ap (λ x. record new { disk = old.disk; shape = old.shape; frames = old.frames; vector = old.vector; job = x }) is.job_is
-    ∙ ap
-    (λ x.
-      record new
-          {
-            disk = old.disk;
-            shape = old.shape;
-            frames = old.frames;
-            vector = old.vector;
-            job = (Some (record { frame = frame; step = steps.Body }));
-            fold = x;
-          })
-    is.fold_same
-    ∙ ap
-    (λ x.
-      record new
-          {
-            disk = old.disk;
-            shape = old.shape;
-            frames = old.frames;
-            vector = old.vector;
-            job = (Some (record { frame = frame; step = steps.Body }));
-            fold = old.fold;
-            broken = x;
-          })
-    is.broken_same
-    ∙ ap
-    (λ x.
-      record new
-          {
-            disk = old.disk;
-            shape = old.shape;
-            frames = old.frames;
-            vector = old.vector;
-            job = (Some (record { frame = frame; step = steps.Body }));
-            fold = old.fold;
-            broken = old.broken;
-            tally = x;
-          })
-    is.tally_same
-    ∙ ap
-    (λ x.
-      record new
-          {
-            disk = old.disk;
-            shape = old.shape;
-            frames = old.frames;
-            vector = old.vector;
-            job = (Some (record { frame = frame; step = steps.Body }));
-            fold = old.fold;
-            broken = old.broken;
-            tally = old.tally;
-            gate = x;
-          })
-    is.gate_same
+    λ i. record {
+      disk = is.disk_same i;
+      shape = is.shape_same i;
+      frames = is.file_same.frames_same i;
+      vector = is.file_same.vector_same i;
+      job = is.job_is i;
+      fold = is.fold_same i;
+      broken = is.broken_same i;
+      tally = is.tally_same i;
+      gate = is.gate_same i;
+      room = new.room;
+      places = new.places;
+    }
 
 -- all but the fold
 pub folding_pen : {D : Type 0} (old new : PenOf D) (is : BeginsFold old new)
     → new ≡ record old
       { fold = Some (record { count = old.tally.changes; left = is.left; stage = folds.Home (length is.left) }) }
 folding_pen old new is =
-    let fold = Some (record { count = old.tally.changes; left = is.left; stage = folds.Home (length is.left) }) in
-    ap (λ x. record new { disk = x }) is.disk_same
-    ∙ ap (λ x. record new { disk = old.disk; shape = x }) is.shape_same
-    ∙ ap (λ x. record new { disk = old.disk; shape = old.shape; frames = x }) is.file_same.frames_same
-    ∙ ap (λ x. record new { disk = old.disk; shape = old.shape; frames = old.frames; vector = x }) is.file_same.vector_same
-    ∙ ap (λ x. record new { disk = old.disk; shape = old.shape; frames = old.frames; vector = old.vector; job = x }) is.job_same
-    ∙ ap (λ x. record new { disk = old.disk; shape = old.shape; frames = old.frames; vector = old.vector; job = old.job; fold = x }) is.fold_is
-    ∙ ap
-    (λ x.
-      record new
-          {
-            disk = old.disk;
-            shape = old.shape;
-            frames = old.frames;
-            vector = old.vector;
-            job = old.job;
-            fold = fold;
-            broken = x;
-          })
-    is.broken_same
-    ∙ ap
-    (λ x.
-      record new
-          {
-            disk = old.disk;
-            shape = old.shape;
-            frames = old.frames;
-            vector = old.vector;
-            job = old.job;
-            fold = fold;
-            broken = old.broken;
-            tally = x;
-          })
-    is.tally_same
-    ∙ ap
-    (λ x.
-      record new
-          {
-            disk = old.disk;
-            shape = old.shape;
-            frames = old.frames;
-            vector = old.vector;
-            job = old.job;
-            fold = fold;
-            broken = old.broken;
-            tally = old.tally;
-            gate = x;
-          })
-    is.gate_same
-    ∙ ap
-    (λ x.
-      record new
-          {
-            disk = old.disk;
-            shape = old.shape;
-            frames = old.frames;
-            vector = old.vector;
-            job = old.job;
-            fold = fold;
-            broken = old.broken;
-            tally = old.tally;
-            gate = old.gate;
-            room = x;
-          })
-    is.room_same
-    ∙ ap
-    (λ x.
-      record new
-          {
-            disk = old.disk;
-            shape = old.shape;
-            frames = old.frames;
-            vector = old.vector;
-            job = old.job;
-            fold = fold;
-            broken = old.broken;
-            tally = old.tally;
-            gate = old.gate;
-            room = old.room;
-            places = x;
-          })
-    is.places_same
+    λ i. record {
+      disk = is.disk_same i;
+      shape = is.shape_same i;
+      frames = is.file_same.frames_same i;
+      vector = is.file_same.vector_same i;
+      job = is.job_same i;
+      fold = is.fold_is i;
+      broken = is.broken_same i;
+      tally = is.tally_same i;
+      gate = is.gate_same i;
+      room = is.room_same i;
+      places = is.places_same i;
+    }
 
 -- what the pen counts
 counts_stay : {D : Type 0} (old new : PenOf D) → CountsSame old new

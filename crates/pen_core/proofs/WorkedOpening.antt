@@ -111,14 +111,19 @@ made_pen : {D : Type 0} (shape : Shape) (pen : PenOf D) → IsNew shape pen → 
       places = pen.places;
     }
 made_pen shape pen is empty =
-    ap (λ x. record pen { shape = x }) is.shape_is
-    ∙ ap (λ x. record pen { shape = shape; frames = x }) empty.frames_are
-    ∙ ap (λ x. record pen { shape = shape; frames = []; vector = x }) empty.vector_is
-    ∙ ap (λ x. record pen { shape = shape; frames = []; vector = []; job = x }) is.no_job
-    ∙ ap (λ x. record pen { shape = shape; frames = []; vector = []; job = None; fold = x }) is.no_fold
-    ∙ ap (λ x. record pen { shape = shape; frames = []; vector = []; job = None; fold = None; broken = x }) is.whole
-    ∙ ap (λ x. record pen { shape = shape; frames = []; vector = []; job = None; fold = None; broken = false; tally = x }) is.tally_is
-    ∙ ap (λ x. record pen { shape = shape; frames = []; vector = []; job = None; fold = None; broken = false; tally = nothing; gate = x }) is.gate_is
+    λ i. record {
+      disk = pen.disk;
+      shape = is.shape_is i;
+      frames = empty.frames_are i;
+      vector = empty.vector_is i;
+      job = is.no_job i;
+      fold = is.no_fold i;
+      broken = is.whole i;
+      tally = is.tally_is i;
+      gate = is.gate_is i;
+      room = pen.room;
+      places = pen.places;
+    }
 
 -- a commit may be begun at once
 ready_pen : {D : Type 0} (width size : ℕ) (pen : PenOf D) → IsAtRest width size pen → first_refusal (ready_lines pen) ≡ None

@@ -1,5 +1,6 @@
 -- A file that is made.
-use Rattle.std.specs.Prelude.{◌≡◌, ◌≢◌, ◌⊎◌, ℕ, ◌+◌, ◌-◌, ◌≤◌, ◌<◌, List, [], ◌∷◌, ◌++◌, length, slice_index, slice_get, Some, None, false, nat_le, if◌then◌else◌}
+use Rattle.std.specs.Prelude.{◌≡◌, ◌≢◌, ◌⊎◌, ℕ, ◌+◌, ◌-◌, ◌≤◌, ◌<◌, List, [], ◌∷◌, ◌++◌, length, slice_index, slice_get, Some, None, false, nat_le, if◌then◌else◌, IfOk, IfErr, MatchResult}
+use Rattle.std.specs.declared.result.Result.{Result}
 use Rattle.disk_core.specs.State.{State, now, settled, IsImage}
 use Rattle.disk_core.specs.Calls.{bytes_of}
 use Rattle.disk_core.specs.Moments.{clock, LeftSince, LeavesOnly}
@@ -14,6 +15,7 @@ use Rattle.pen_core.specs.declared.fault.PenFault.{PenFault}
 use Rattle.disk_core.specs.declared.fault.DiskFault.TheVariants as causes
 use Rattle.pen_core.specs.declared.fault.PenFault.TheVariants.{Broken, Busy, OldFormat, Runs, OutOfRange, TooLarge, Unfolded, FileFull, Memory, Exists, Disk}
 use Rattle.pen_core.specs.Held.{Opens}
+use Rattle.pen_core.specs.Pen.{IsKept, failed_calls}
 use Rattle.pen_core.specs.PenOf.{PenOf}
 
 -- ---- creation
@@ -108,3 +110,33 @@ AreCallsUntil bytes calls OutOfRange n = ⊥
 AreCallsUntil bytes calls TooLarge n = ⊥
 AreCallsUntil bytes calls Unfolded n = ⊥
 AreCallsUntil bytes calls FileFull n = ⊥
+
+-- ---- what comes of a creation
+
+-- An empty file of that shape, and a pen over it; or the disk back, and why. From the first successful sync on each
+-- image is no file yet or the empty one, where there was none; over a file that exists nothing is written.
+pub record IsCreation {D : Type 0} (keeps : D → Type 0) (states : D → List State) (failures : D → ℕ) (shape : Shape) (disk : D)
+    (result : Result (PenOf D) (D × PenFault)) : Type 0 where
+  pub created : IfOk result (λ pen. IsNew shape pen)
+  pub file : IfOk result (λ pen. keeps pen.disk → IsEmpty pen)
+  pub kept : IfOk result (λ pen. keeps pen.disk → IsKept (states pen.disk) pen)
+  pub born : MatchResult result
+      (λ pen. keeps pen.disk → StaysUnbornOrEmpty shape (states disk) (states pen.disk))
+      (λ r. keeps r.0 → StaysUnbornOrEmpty shape (states disk) (states r.0))
+  pub none_existed : IfOk result (λ pen. keeps pen.disk → IsExisting (bytes_of (states disk)) → ⊥)
+  pub existed : IfErr result (λ r. keeps r.0 → IsExisting (bytes_of (states disk)) → (r.0 ≡ disk) ⊎ WritesNothing (states disk) (states r.0))
+  pub exists : IfErr result (λ r. keeps r.0 → r.1 ≡ Exists → IsExisting (bytes_of (states disk)))
+  pub refused : IfErr result (λ r. ((r.1 ≡ Memory) × (r.0 ≡ disk)) ⊎ IsCreateFault r.1)
+  pub time : MatchResult result
+      (λ pen. clock (states pen.disk) ≤ clock (states disk) + 8)
+      (λ r. clock (states r.0) ≤ clock (states disk) + 8)
+  pub later : MatchResult result
+      (λ pen. clock (states disk) < clock (states pen.disk))
+      (λ r. IsCreateFault r.1 → clock (states disk) < clock (states r.0))
+  pub calls : MatchResult result
+      (λ pen. keeps pen.disk → clock (states pen.disk) ≡ clock (states disk) + length (calls_of_creation (bytes_of (states disk))))
+      (λ r. keeps r.0 → AreCallsUntil (bytes_of (states disk)) (calls_of_creation (bytes_of (states disk))) r.1 (clock (states r.0) - clock (states disk)))
+  pub faults : MatchResult result
+      (λ pen. failures pen.disk ≡ failures disk)
+      (λ r. failures r.0 ≡ failures disk + failed_calls r.1)
+  pub model : MatchResult result (λ pen. keeps pen.disk → keeps disk) (λ r. keeps r.0 → keeps disk)

@@ -1,13 +1,13 @@
 //! A file is made: its header behind a closed first byte, a sync, that byte opened, a sync.
 
-ghost use Rattle.std.specs.Prelude.{◌≡◌, ◌⊎◌, ◌≤◌, ◌<◌, ◌+◌, ◌-◌, ◌^◌, ◌++◌, ◌∷◌, [], length, Ok, Err, OnOk, IfOk, IfErr, MatchResult};
+ghost use Rattle.std.specs.Prelude.{◌≡◌, ◌≤◌, ◌<◌, ◌+◌, ◌-◌, ◌^◌, ◌++◌, ◌∷◌, [], length, Ok, Err, OnOk, IfOk, IfErr, MatchResult};
 ghost use Rattle.disk_core.specs.State.{now, settled, touched, overlay, IsImage};
 ghost use Rattle.disk_core.specs.Calls.{bytes_of};
 ghost use Rattle.disk_core.specs.Moments.{LeavesOnly, clock};
 ghost use Rattle.segment_core.specs.declared.format.Format.TheVariants.{One};
 ghost use Rattle.segment_core.specs.Frame.{header};
-ghost use Rattle.pen_core.specs.Births.{AreLooks, AreCallsUntil, EndsAt, calls_of_creation, first_calls, write_calls, IsExisting, AreContents, IsClear, IsUnbornOrEmpty, StaysUnbornOrEmpty, WritesNothing, IsCreateFault, IsNew, IsEmpty};
-ghost use Rattle.pen_core.specs.Pen.{IsKept, failed_calls};
+ghost use Rattle.pen_core.specs.Births.{AreLooks, AreCallsUntil, EndsAt, calls_of_creation, first_calls, write_calls, IsExisting, AreContents, IsClear, IsUnbornOrEmpty, StaysUnbornOrEmpty, WritesNothing, IsCreateFault, IsCreation};
+ghost use Rattle.pen_core.specs.Pen.{failed_calls};
 
 use crate::fault::PenFault;
 use crate::fold::Fold;
@@ -180,29 +180,7 @@ impl<D: Disk> Pen<D> {
         format: Format,
     ) -> Result<Pen<D>, (D, PenFault)>
         requires { 1 ≤ width }
-        ensures created { IfOk result (λ pen. IsNew (record { format = format; width = width }) pen) }
-        ensures file { IfOk result (λ pen. D.keeps pen.disk → IsEmpty pen) }
-        ensures kept { IfOk result (λ pen. D.keeps pen.disk → IsKept (D.states pen.disk) pen) }
-        ensures born { MatchResult result
-            (λ pen. D.keeps pen.disk → StaysUnbornOrEmpty (record { format = format; width = width }) (D.states disk) (D.states pen.disk))
-            (λ r. D.keeps r.0 → StaysUnbornOrEmpty (record { format = format; width = width }) (D.states disk) (D.states r.0)) }
-        ensures none_existed { IfOk result (λ pen. D.keeps pen.disk → IsExisting (bytes_of (D.states disk)) → ⊥) }
-        ensures existed { IfErr result (λ r. D.keeps r.0 → IsExisting (bytes_of (D.states disk)) → (r.0 ≡ disk) ⊎ WritesNothing (D.states disk) (D.states r.0)) }
-        ensures exists { IfErr result (λ r. D.keeps r.0 → r.1 ≡ PenFault.Exists → IsExisting (bytes_of (D.states disk))) }
-        ensures refused { IfErr result (λ r. ((r.1 ≡ PenFault.Memory) × (r.0 ≡ disk)) ⊎ IsCreateFault r.1) }
-        ensures time { MatchResult result
-            (λ pen. clock (D.states pen.disk) ≤ clock (D.states disk) + 8)
-            (λ r. clock (D.states r.0) ≤ clock (D.states disk) + 8) }
-        ensures later { MatchResult result
-            (λ pen. clock (D.states disk) < clock (D.states pen.disk))
-            (λ r. IsCreateFault r.1 → clock (D.states disk) < clock (D.states r.0)) }
-        ensures calls { MatchResult result
-            (λ pen. D.keeps pen.disk → clock (D.states pen.disk) ≡ clock (D.states disk) + length (calls_of_creation (bytes_of (D.states disk))))
-            (λ r. D.keeps r.0 → AreCallsUntil (bytes_of (D.states disk)) (calls_of_creation (bytes_of (D.states disk))) r.1 (clock (D.states r.0) - clock (D.states disk))) }
-        ensures faults { MatchResult result
-            (λ pen. D.faults pen.disk ≡ D.faults disk)
-            (λ r. D.faults r.0 ≡ D.faults disk + failed_calls r.1) }
-        ensures model { MatchResult result (λ pen. D.keeps pen.disk → D.keeps disk) (λ r. D.keeps r.0 → D.keeps disk) }
+        ensures { IsCreation D.keeps D.states D.faults (record { format = format; width = width }) disk result }
     {
         let mut disk = disk;
         let Ok(bytes) = Vec::from_slice(alloc, &empty_file(format, width)) else {
@@ -238,29 +216,7 @@ impl<D: Disk> Pen<D> {
     /// Makes a file of version 1. `create_as` says more.
     pub fn create(alloc: Global, disk: D, width: u16) -> Result<Pen<D>, (D, PenFault)>
         requires { 1 ≤ width }
-        ensures created { IfOk result (λ pen. IsNew (record { format = One; width = width }) pen) }
-        ensures file { IfOk result (λ pen. D.keeps pen.disk → IsEmpty pen) }
-        ensures kept { IfOk result (λ pen. D.keeps pen.disk → IsKept (D.states pen.disk) pen) }
-        ensures born { MatchResult result
-            (λ pen. D.keeps pen.disk → StaysUnbornOrEmpty (record { format = One; width = width }) (D.states disk) (D.states pen.disk))
-            (λ r. D.keeps r.0 → StaysUnbornOrEmpty (record { format = One; width = width }) (D.states disk) (D.states r.0)) }
-        ensures none_existed { IfOk result (λ pen. D.keeps pen.disk → IsExisting (bytes_of (D.states disk)) → ⊥) }
-        ensures existed { IfErr result (λ r. D.keeps r.0 → IsExisting (bytes_of (D.states disk)) → (r.0 ≡ disk) ⊎ WritesNothing (D.states disk) (D.states r.0)) }
-        ensures exists { IfErr result (λ r. D.keeps r.0 → r.1 ≡ PenFault.Exists → IsExisting (bytes_of (D.states disk))) }
-        ensures refused { IfErr result (λ r. ((r.1 ≡ PenFault.Memory) × (r.0 ≡ disk)) ⊎ IsCreateFault r.1) }
-        ensures time { MatchResult result
-            (λ pen. clock (D.states pen.disk) ≤ clock (D.states disk) + 8)
-            (λ r. clock (D.states r.0) ≤ clock (D.states disk) + 8) }
-        ensures later { MatchResult result
-            (λ pen. clock (D.states disk) < clock (D.states pen.disk))
-            (λ r. IsCreateFault r.1 → clock (D.states disk) < clock (D.states r.0)) }
-        ensures calls { MatchResult result
-            (λ pen. D.keeps pen.disk → clock (D.states pen.disk) ≡ clock (D.states disk) + length (calls_of_creation (bytes_of (D.states disk))))
-            (λ r. D.keeps r.0 → AreCallsUntil (bytes_of (D.states disk)) (calls_of_creation (bytes_of (D.states disk))) r.1 (clock (D.states r.0) - clock (D.states disk))) }
-        ensures faults { MatchResult result
-            (λ pen. D.faults pen.disk ≡ D.faults disk)
-            (λ r. D.faults r.0 ≡ D.faults disk + failed_calls r.1) }
-        ensures model { MatchResult result (λ pen. D.keeps pen.disk → D.keeps disk) (λ r. D.keeps r.0 → D.keeps disk) }
+        ensures { IsCreation D.keeps D.states D.faults (record { format = One; width = width }) disk result }
     {
         Pen::create_as(alloc, disk, width, Format::One)
     }

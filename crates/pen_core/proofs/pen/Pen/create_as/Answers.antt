@@ -1,48 +1,101 @@
-use Rattle.std.proofs.Common.{None, false}
+use Rattle.std.proofs.Common.{Err, None, false, inl, inr, refl, ap, arith}
 use Rattle.std.specs.Prelude.{vec_capacity}
+use Rattle.segment_core.specs.declared.format.Shape.{Shape}
 use Rattle.segment_core.specs.Tally.{nothing}
 use Rattle.pen_core.proofs.NewPen.{new_frames, new_vector, new_pen}
-use Rattle.pen_core.proofs.InHand.{no_fold_at, pen_unfolded}
+use Rattle.pen_core.proofs.InHand.{no_fold_at, no_fold_seen, pen_unfolded}
 use Rattle.pen_core.proofs.Listed.{listed_new}
-use Rattle.pen_core.proofs.Whole.{pen_kept}
+use Rattle.pen_core.proofs.Whole.{sound_kept}
 use Rattle.pen_core.proofs.AtRest.{sound}
 use Rattle.pen_core.proofs.pen.Pen.create_as.Goals as goal
+
+-- memory was refused
+pub returns-in_default : goal.returns-in_default
+returns-in_default g c = record {
+  created = tt;
+  file = tt;
+  kept = tt;
+  born = λ model none later image left. absurd (omega (arith, later));
+  none_existed = tt;
+  existed = λ model there. inl refl;
+  exists = λ model is. absurd cc;
+  refused = inl (refl, refl);
+  time = omega arith;
+  later = λ fault. elim fault [
+    | inl is ↦ absurd cc
+    | inr is ↦ (let clash = is.1 in absurd cc)
+  ];
+  calls = λ model. omega arith;
+  faults = omega arith;
+  model = λ model. model;
+}
+
+-- a call failed, or there is a file
+pub returns-in-Err : goal.returns-in-Err
+returns-in-Err g c =
+    let made = c.in-Err.ensures in
+    record {
+      created = tt;
+      file = tt;
+      kept = tt;
+      born = made.born;
+      none_existed = tt;
+      existed = λ model there. inr (made.existed model there);
+      exists = λ model is. made.exists model (ap (λ f. Err f) is);
+      refused = inr made.refused;
+      time = made.time;
+      later = λ fault. made.later;
+      calls = made.calls;
+      faults = made.faults;
+      model = made.model;
+    }
 
 pub invariant_of-result : goal.invariant_of-result
 invariant_of-result g c =
     let new = c.make.new.disk in
+    let keeps = g.D.Disk.keeps new in
+    let states = g.D.Disk.states new in
+    let shape : Shape = record { format = c.args.format; width = c.args.width } in
+    let bytes = c.in-Ok.bytes.items in
+    let done = c.in_default-make.ensures.done in
     sound (
-      pen_unfolded (g.D.Disk.keeps new) (g.D.Disk.states new) (record { format = c.args.format; width = c.args.width }) 11
-          nothing nothing c.in-Ok.bytes.items None false c.none.result c.none.ensures
-          (new_pen (g.D.Disk.keeps new) (g.D.Disk.states new) (record { format = c.args.format; width = c.args.width })
-            nothing c.in-Ok.bytes.items c.in_default-make.ensures.done (c.requires, c.ranges.width.fits)),
-      listed_new (g.D.Disk.keeps new) (g.D.Disk.states new) (record { format = c.args.format; width = c.args.width })
-          c.in-Ok.bytes.items c.new.result c.none.result c.none.ensures c.new.ensures.homes c.new.ensures.live
-          (new_frames (g.D.Disk.keeps new) (g.D.Disk.states new) (record { format = c.args.format; width = c.args.width })
-            nothing c.in-Ok.bytes.items c.in_default-make.ensures.done),
-      no_fold_at (g.D.Disk.keeps new) (g.D.Disk.states new) (record { format = c.args.format; width = c.args.width }) 11
-          nothing c.in-Ok.bytes.items None false c.none.result c.none.ensures,
+      pen_unfolded keeps states shape 11 nothing nothing bytes None false c.none.result c.none.ensures
+          (new_pen keeps states shape nothing bytes done (c.requires, c.ranges.width.fits)),
+      listed_new keeps states shape bytes c.new.result c.none.result c.none.ensures c.new.ensures.homes c.new.ensures.live
+          (new_frames keeps states shape nothing bytes done),
+      no_fold_at keeps states shape 11 nothing bytes None false c.none.result c.none.ensures,
     )
 
-pub returns-clause-file : goal.returns-clause-file
-returns-clause-file g c = λ model.
+pub returns : goal.returns
+returns g c =
     let new = c.make.new.disk in
+    let keeps = g.D.Disk.keeps new in
+    let states = g.D.Disk.states new in
+    let shape : Shape = record { format = c.args.format; width = c.args.width } in
+    let bytes = c.in-Ok.bytes.items in
+    let made = c.in_default-make.ensures in
     record {
-      frames_are =
-          new_frames (g.D.Disk.keeps new) (g.D.Disk.states new) (record { format = c.args.format; width = c.args.width })
-            nothing c.in-Ok.bytes.items c.in_default-make.ensures.done model;
-      vector_is =
-          new_vector (g.D.Disk.keeps new) (g.D.Disk.states new) (record { format = c.args.format; width = c.args.width })
-            nothing c.in-Ok.bytes.items c.in_default-make.ensures.done model;
+      created = record {
+        shape_is = refl;
+        tally_is = refl;
+        gate_is = refl;
+        no_job = refl;
+        no_fold = no_fold_seen c.none.result c.none.ensures;
+        whole = refl;
+      };
+      file = λ model. record {
+        frames_are = new_frames keeps states shape nothing bytes made.done model;
+        vector_is = new_vector keeps states shape nothing bytes made.done model;
+      };
+      kept = sound_kept (invariant_of-result g c);
+      born = made.born;
+      none_existed = made.none_existed;
+      existed = tt;
+      exists = tt;
+      refused = tt;
+      time = made.time;
+      later = made.later;
+      calls = made.calls;
+      faults = made.faults;
+      model = made.model;
     }
-
-pub returns-clause-kept : goal.returns-clause-kept
-returns-clause-kept g c = λ model.
-    let new = c.make.new.disk in
-    pen_kept c.none.result (g.D.Disk.keeps new) (g.D.Disk.states new)
-    (record { format = c.args.format; width = c.args.width }) 11 nothing nothing c.in-Ok.bytes.items None false
-    (pen_unfolded (g.D.Disk.keeps new) (g.D.Disk.states new) (record { format = c.args.format; width = c.args.width }) 11
-      nothing nothing c.in-Ok.bytes.items None false c.none.result c.none.ensures
-      (new_pen (g.D.Disk.keeps new) (g.D.Disk.states new) (record { format = c.args.format; width = c.args.width }) nothing
-            c.in-Ok.bytes.items c.in_default-make.ensures.done (c.requires, c.ranges.width.fits)))
-    model new (vec_capacity c.in-Ok.bytes)

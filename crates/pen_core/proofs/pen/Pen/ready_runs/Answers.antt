@@ -12,6 +12,7 @@ use Rattle.pen_core.proofs.Begins.{no_step, no_job_same}
 use Rattle.pen_core.proofs.Worked.{unchanged_pen}
 use Rattle.pen_core.proofs.AtRest.{sound}
 use Rattle.pen_core.proofs.Whole.{sound_kept}
+use Rattle.pen_core.proofs.FrameBegun.{unchanged_seen}
 use Rattle.pen_core.proofs.pen.Pen.ready_runs.Goals as goal
 
 on_ok : {A E P : Type 0} (r : Result A E) → is_err r ≡ false → OnOk r P → P
@@ -57,32 +58,14 @@ returns-clause-kept g c = sound_kept (invariant_of-self-2 g c)
 pub returns-then-is_err-clause-unchanged : goal.returns-then-is_err-clause-unchanged
 returns-then-is_err-clause-unchanged g c = rw (← c.self.view_is) (
     let s = c.self.inside in
-    let idle = no_step s.shape s.bytes.items s.step (subst (λ v. is_some v.job ≡ false) (sym c.self.view_is) c.in_ok-payload.ensures.idle) in
-    record {
-      disk_same = refl;
-      file_same = record { frames_same = refl; vector_same = refl };
-      job_same = no_job_same s.shape s.bytes.items c.take_room.new.bytes.items s.step idle;
-      broken_same = refl;
-      shape_same = refl;
-      fold_same = refl;
-      tally_same = refl;
-      gate_same = refl;
-    })
+    unchanged_seen g.D.Disk.states s (record s { bytes = c.take_room.new.bytes })
+    (no_step s.shape s.bytes.items s.step (subst (λ v. is_some v.job ≡ false) (sym c.self.view_is) c.in_ok-payload.ensures.idle)))
 
 pub returns-then-is_err-2-clause-unchanged : goal.returns-then-is_err-2-clause-unchanged
 returns-then-is_err-2-clause-unchanged g c = rw (← c.self.view_is) (
     let s = c.self.inside in
-    let idle = no_step s.shape s.bytes.items s.step (subst (λ v. is_some v.job ≡ false) (sym c.self.view_is) c.in_ok-payload.ensures.idle) in
-    record {
-      disk_same = refl;
-      file_same = record { frames_same = refl; vector_same = refl };
-      job_same = no_job_same s.shape s.bytes.items c.take_room.new.bytes.items s.step idle;
-      broken_same = refl;
-      shape_same = refl;
-      fold_same = refl;
-      tally_same = refl;
-      gate_same = refl;
-    })
+    unchanged_seen g.D.Disk.states s (record s { bytes = c.take_room.new.bytes; homes = record { homes = s.homes.homes; live = c.reserve.new.self } })
+    (no_step s.shape s.bytes.items s.step (subst (λ v. is_some v.job ≡ false) (sym c.self.view_is) c.in_ok-payload.ensures.idle)))
 
 pub returns-clause-unchanged : goal.returns-clause-unchanged
 returns-clause-unchanged g c = rw (← c.self.view_is) (

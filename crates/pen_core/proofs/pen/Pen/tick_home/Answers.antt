@@ -9,9 +9,9 @@ use Rattle.pen_core.specs.Inside.{job_of}
 use Rattle.pen_core.proofs.Filed.{Files, filed_frame, pen_filed}
 use Rattle.pen_core.proofs.FoldSeen.{seen, fold_is_seen, calls_held, ready_or_filed, ready_at, none_at, job_some, called_seen}
 use Rattle.pen_core.proofs.HomeCall.{HomeCall, home_call, may_call, home_leaves, home_broken, broken_stays, home_called, called_stays}
-use Rattle.pen_core.proofs.Whole.{sound_kept, sound_idle}
+use Rattle.pen_core.proofs.Whole.{broken_seen, sound_kept, sound_idle}
 use Rattle.pen_core.proofs.pen.Pen.tick_home.Given.{Over}
-use Rattle.pen_core.proofs.pen.Pen.tick_home.Goals.{After-call}
+use Rattle.pen_core.proofs.pen.Pen.tick_home.Goals.{After-call, After-swap}
 use Rattle.pen_core.proofs.pen.Pen.tick_home.Goals as goal
 
 pub returns-then-self-clause-images : goal.returns-then-self-clause-images
@@ -67,18 +67,7 @@ returns-in-Err-clause-refused g c = rw (← c.self.view_is) (
       fold_is_seen s.fold (calls_held s.fold.stage calls),
       calls,
       ap (λ fault. Disk fault) c.in-Err.ensures.cause.0,
-      record {
-        broken = refl;
-        job_same = refl;
-        counts_same = record {
-          shape_same = refl;
-          fold_same = refl;
-          tally_same = refl;
-          gate_same = refl;
-          room_same = refl;
-          places_same = refl;
-        };
-      },
+      broken_seen g.D.Disk.states s c.call.new.disk,
     ))
 
 pub returns-in-Err-clause-file : goal.returns-in-Err-clause-file
@@ -158,14 +147,16 @@ returns-then-is_some-clause-ticked g c = rw (← c.self.view_is) (
 
 -- ---- the fold's frame is the job
 
-pub invariant_of-self-2 : goal.invariant_of-self-2
-invariant_of-self-2 g c =
+-- what the tick knows of the frame
+files : (g : Over) (c : After-swap g)
+    → Files g.D.Disk.keeps g.D.Disk.states c.self.inside (record c.self.inside {
+      bytes = c.swap.new.x;
+      fold = record c.self.inside.fold { stage = Filed; frame = c.swap.new.y };
+    })
+files g c =
     let s = c.self.inside in
     let idle = none_at s.step (sym c.is_some.ensures ∙ c.if-is_some.false) in
-    let files : Files g.D.Disk.keeps g.D.Disk.states s (record s {
-      bytes = c.swap.new.x;
-      fold = record s.fold { stage = Filed; frame = c.swap.new.y };
-    }) = record {
+    record {
       sound = c.self.invariant;
       going = c.if-self.false;
       idle = idle;
@@ -178,8 +169,10 @@ invariant_of-self-2 g c =
       runs_same = refl;
       writes_same = refl;
       done_same = refl;
-    } in
-    pen_filed files
+    }
+
+pub invariant_of-self-2 : goal.invariant_of-self-2
+invariant_of-self-2 g c = pen_filed (files g (goal.at.invariant_of-self-2 g c).After-swap)
 
 pub returns-clause-images : goal.returns-clause-images
 returns-clause-images g c = rw (← c.self.view_is) (sound_idle c.self.invariant)
@@ -190,31 +183,14 @@ returns-clause-kept g c = sound_kept (invariant_of-self-2 g c)
 pub returns-clause-ticked : goal.returns-clause-ticked
 returns-clause-ticked g c = rw (← c.self.view_is) (
     let s = c.self.inside in
-    let idle = none_at s.step (sym c.is_some.ensures ∙ c.if-is_some.false) in
-    let files : Files g.D.Disk.keeps g.D.Disk.states s (record s {
-      bytes = c.swap.new.x;
-      fold = record s.fold { stage = Filed; frame = c.swap.new.y };
-    }) = record {
-      sound = c.self.invariant;
-      going = c.if-self.false;
-      idle = idle;
-      ready = ready_at s.shape s.gate s.tally s.bytes.items s.step s.fold c.self.invariant.fold.counts
-          (sym c.has_call.ensures ∙ c.if-has_call.false) (sym c.is_none.ensures ∙ c.if-is_none.false) idle;
-      reads = g.met.D.Disk.reads_an_image;
-      swapped = ap (λ v. v.items) c.swap.ensures.x_after;
-      filed = refl;
-      count_same = refl;
-      runs_same = refl;
-      writes_same = refl;
-      done_same = refl;
-    } in (
+    let filed = files g (goal.at.returns-clause-ticked g c).After-swap in (
       seen s.fold,
       record {
         fold_was = fold_is_seen s.fold (sym c.is_none.ensures ∙ c.if-is_none.false);
-        ready = files.ready;
-        idle = ap (job_of s.shape s.bytes.items) idle;
+        ready = filed.ready;
+        idle = ap (job_of s.shape s.bytes.items) filed.idle;
         fold_is = refl;
-        job_is = ap (λ f. Some (record { frame = f; step = Body })) (filed_frame files);
+        job_is = ap (λ f. Some (record { frame = f; step = Body })) (filed_frame filed);
         disk_same = refl;
         shape_same = refl;
         tally_same = refl;

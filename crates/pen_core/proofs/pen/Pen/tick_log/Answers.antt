@@ -5,12 +5,12 @@ use Rattle.pen_core.specs.declared.fault.PenFault.TheVariants.{Disk}
 use Rattle.pen_core.specs.Vectors.{frame_at}
 use Rattle.pen_core.specs.Inside.{job_of}
 use Rattle.pen_core.specs.InHand.{live_after}
-use Rattle.pen_core.proofs.Whole.{sound_kept, sound_idle, last_step}
+use Rattle.pen_core.proofs.Whole.{broken_seen, sound_kept, sound_idle, last_step}
 use Rattle.pen_core.proofs.Listed.{homes_in_turn}
 use Rattle.pen_core.proofs.LogCall.{LogCall, log_call, log_leaves, log_broken, broken_file, log_next, next_file, counts_after, gate_moved, more_frames, vector_then}
 use Rattle.pen_core.proofs.LastTick.{LastCall, log_last, fold_seen, other_unfiled}
 use Rattle.pen_core.proofs.pen.Pen.tick_log.Given.{Over}
-use Rattle.pen_core.proofs.pen.Pen.tick_log.Goals.{After-call}
+use Rattle.pen_core.proofs.pen.Pen.tick_log.Goals.{After-call, After-len-self-inside}
 use Rattle.pen_core.proofs.pen.Pen.tick_log.Goals as goal
 
 -- ---- no call
@@ -59,18 +59,7 @@ returns-in-Err-clause-refused g c = rw (← c.self.view_is) (
       c.if-self.false,
       ap (job_of s.shape s.bytes.items) c.in-Some.is,
       ap (λ fault. Disk fault) c.in-Err.ensures.cause.0,
-      record {
-        broken = refl;
-        job_same = refl;
-        counts_same = record {
-          shape_same = refl;
-          fold_same = refl;
-          tally_same = refl;
-          gate_same = refl;
-          room_same = refl;
-          places_same = refl;
-        };
-      },
+      broken_seen g.D.Disk.states s c.call.new.disk,
     ))
 
 pub returns-in-Err-clause-file_stays : goal.returns-in-Err-clause-file_stays
@@ -120,18 +109,19 @@ cut-requires g c =
     let s = c.self.inside in
     homes_in_turn c.self.invariant.lists c.in-Some.step c.in-Some.is s.next c.self.invariant.job.job
 
-pub invariant_of-self-in-None : goal.invariant_of-self-in-None
-invariant_of-self-in-None g c =
-    let s = c.self.inside in
-    let tick = made g (goal.at.invariant_of-self-in-None g c).After-call in
-    let end : LastCall tick (record s {
+-- and of the last one
+ended : (g : Over) (c : After-len-self-inside g)
+    → LastCall (made g (goal.at.After-len-self-inside g c).After-call) (record c.self.inside {
       disk = c.call.new.disk;
-      gate = s.gate + (c.len.result - 1);
+      gate = c.self.inside.gate + (c.len.result - 1);
       bytes = c.end.new.bytes;
       homes = record { homes = c.cut.new.self.homes; live = c.end.new.live };
       live = c.len-self-inside.result;
       fold = c.end.new.self;
-    }) = record {
+    })
+ended g c =
+    let s = c.self.inside in
+    record {
       call = c.in_default-call.ensures.done;
       moved = ap (λ n. s.gate + (n - 1)) (c.len.ensures ∙ sym c.deref.ensures.len);
       last = sym c.next.ensures ∙ c.in-None.is;
@@ -141,8 +131,10 @@ invariant_of-self-in-None g c =
       ended = c.end.ensures.stage;
       left = c.end.ensures.live ∙ ap (λ live. live_after s.fold.stage s.fold.runs live.items) c.cut.ensures.live;
       same = λ unfiled. (c.end.ensures.same unfiled).0;
-    } in
-    log_last end
+    }
+
+pub invariant_of-self-in-None : goal.invariant_of-self-in-None
+invariant_of-self-in-None g c = log_last (ended g (goal.at.invariant_of-self-in-None g c).After-len-self-inside)
 
 pub returns-in-None-clause-images : goal.returns-in-None-clause-images
 returns-in-None-clause-images g c =
@@ -156,24 +148,7 @@ pub returns-in-None-clause-ticked : goal.returns-in-None-clause-ticked
 returns-in-None-clause-ticked g c = rw (← c.self.view_is) (
     let s = c.self.inside in
     let tick = made g (goal.at.returns-in-None-clause-ticked g c).After-call in
-    let end : LastCall tick (record s {
-      disk = c.call.new.disk;
-      gate = s.gate + (c.len.result - 1);
-      bytes = c.end.new.bytes;
-      homes = record { homes = c.cut.new.self.homes; live = c.end.new.live };
-      live = c.len-self-inside.result;
-      fold = c.end.new.self;
-    }) = record {
-      call = c.in_default-call.ensures.done;
-      moved = ap (λ n. s.gate + (n - 1)) (c.len.ensures ∙ sym c.deref.ensures.len);
-      last = sym c.next.ensures ∙ c.in-None.is;
-      turn = c.cut.ensures.in_turn;
-      each = c.cut.ensures.each;
-      all = c.len-self-inside.ensures ∙ c.end.new.live.ok.0;
-      ended = c.end.ensures.stage;
-      left = c.end.ensures.live ∙ ap (λ live. live_after s.fold.stage s.fold.runs live.items) c.cut.ensures.live;
-      same = λ unfiled. (c.end.ensures.same unfiled).0;
-    } in (
+    let end = ended g (goal.at.returns-in-None-clause-ticked g c).After-len-self-inside in (
       record { frame = frame_at s.shape s.bytes.items; step = c.in-Some.step },
       ap (job_of s.shape s.bytes.items) c.in-Some.is,
       last_step c.in-Some.step end.last,
