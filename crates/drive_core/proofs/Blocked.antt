@@ -36,7 +36,8 @@ module _ {R D : Type 0} {m : Medium R D} {w : World R} {phase : Growth} {g : Gro
       at : w.phase ≡ Growing (knowing phase (Some k) (slice_index phase.known k))
       at = tie.phase_is ∙ ap (λ ns. Growing (record phase { known = ns })) (sym (set-index phase.known k))
 
-  refused_with : {answer : Answer R} (fault : Fault) → answer ≡ step.Refused fault → stray_of fault ≡ None → Allows (put_lines m.form.width w phase records) (Some fault) → GrowthStep m w g (step.Put k records) answer 0
+  refused_with : {answer : Answer R} (fault : Fault) → answer ≡ step.Refused fault → stray_of fault ≡ None → Allows (put_lines m.form.width w phase records) (Some fault)
+      → GrowthStep m w g (step.Put k records) answer 0
   refused_with fault is calm allows =
       let seat = there_is g.seats k inside in
       let known = known_at tie.seats k seat.1 in
@@ -45,14 +46,16 @@ module _ {R D : Type 0} {m : Medium R D} {w : World R} {phase : Growth} {g : Gro
       answered is (quiet_steps tie w (seat_row tie inside w (step.Refused fault) (IsPut m.form.width w phase k records (step.Refused fault) w)
       (inr (fault, allows, refl, (slice_index phase.known k, (omega arith, omega (arith, known, few, count)), unchanged fault calm)))) refl refl (tie.calm ∙ sym calm) (behind_of tie))
 
-  pub closed_refuses : {answer : Answer R} → IsBlockLength m.form.width (length records) → answer ≡ step.Refused (told.Grow grow.Closed) → g.closed ≡ true → GrowthStep m w g (step.Put k records) answer 0
+  pub closed_refuses : {answer : Answer R} → IsBlockLength m.form.width (length records) → answer ≡ step.Refused (told.Grow grow.Closed) → g.closed ≡ true
+      → GrowthStep m w g (step.Put k records) answer 0
   closed_refuses block is closed = refused_with (told.Grow grow.Closed) is refl
       (passes _ (told.Grow grow.Empty) _ _ (not_empty block) (passes _ (told.Grow grow.TooLarge) _ _ (not_large block) (inr (stops phase.closed (told.Grow grow.Closed) _ (sym tie.closed_is ∙ closed)))))
 
   large : payload_limit < 8 + length records * m.form.width → (length records == 0) ≡ false
   large more = ne_eqb (length records) 0 (λ none. let nothing : length records * m.form.width ≡ 0 = ap (λ n. n * m.form.width) none ∙ grind arith in absurd (omega (arith, more, nothing)))
 
-  pub block_refuses : {answer : Answer R} (fault : FreshFault) → answer ≡ step.Refused (told.Grow (of_block fault)) → IsBlockRefusal m.form.width (length records) fault → GrowthStep m w g (step.Put k records) answer 0
+  pub block_refuses : {answer : Answer R} (fault : FreshFault) → answer ≡ step.Refused (told.Grow (of_block fault)) → IsBlockRefusal m.form.width (length records) fault
+      → GrowthStep m w g (step.Put k records) answer 0
   block_refuses fresh.Empty is why = refused_with (told.Grow grow.Empty) is refl (stops _ (told.Grow grow.Empty) _ (ap (λ n. n == 0) why))
   block_refuses fresh.TooLarge is why = refused_with (told.Grow grow.TooLarge) is refl
       (passes _ (told.Grow grow.Empty) _ _ (large why) (stops _ (told.Grow grow.TooLarge) _ (lt-ltb payload_limit (8 + length records * m.form.width) why)))

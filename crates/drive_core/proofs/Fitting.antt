@@ -22,7 +22,8 @@ module _ {R : Type 0} (width : ℕ) where
       let much : length (growth ++ joined growths) * width ≡ length growth * width + length (joined growths) * width = ap (λ n. n * width) long ∙ grind arith in
       omega (arith, rest, much)
 
-  fits : (room : ℕ) (growths : List (List R)) (n : ℕ) → n ≤ length growths → cost width (take n growths) ≤ room → (n < length growths → room < cost width (take (n + 1) growths)) → fitting width room growths ≡ n
+  fits : (room : ℕ) (growths : List (List R)) (n : ℕ) → n ≤ length growths → cost width (take n growths) ≤ room → (n < length growths → room < cost width (take (n + 1) growths))
+      → fitting width room growths ≡ n
   fits room [] n there le most = omega (arith, there)
   fits room (growth ∷ growths) zero there le most = at (nat_le (4 + length growth * width) room) refl
     where

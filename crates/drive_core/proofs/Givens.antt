@@ -48,14 +48,16 @@ module _ {R : Type 0} where
   -- inside its run, and past it
   at_inside : (start : ℕ) (records : List R) (j : ℕ) → record_at (start, records) (start + j) ≡ slice_get records j
   at_inside start records j =
-      ap (λ (b : Bool). if b then None else slice_get records (start + j - start)) (not_lt (start + j) start (omega arith)) ∙ ap (slice_get records) (let same : start + j - start ≡ j = omega arith in same)
+      ap (λ (b : Bool). if b then None else slice_get records (start + j - start)) (not_lt (start + j) start (omega arith))
+      ∙ ap (slice_get records) (let same : start + j - start ≡ j = omega arith in same)
 
   at_past : (start : ℕ) (records : List R) (i : ℕ) → start + length records ≤ i → record_at (start, records) i ≡ None
   at_past start records i le =
       ap (λ (b : Bool). if b then None else slice_get records (i - start)) (not_lt i start (omega (arith, le))) ∙ past_none records (i - start) (omega (arith, le))
 
   -- what stands in the runs is what was given
-  taken_given : (pieces : List (ℕ × List R)) (from : ℕ) (old new : List R) → are_ascending from (runs_of pieces) ≡ true → are_inside (length old) (runs_of pieces) ≡ true → length new ≡ length old
+  taken_given : (pieces : List (ℕ × List R)) (from : ℕ) (old new : List R) → are_ascending from (runs_of pieces) ≡ true → are_inside (length old) (runs_of pieces) ≡ true
+      → length new ≡ length old
       → ((i : ℕ) → cover (runs_of pieces) i ≡ true → slice_get new i ≡ option_map (given pieces i) (slice_get old i))
       → taken_at (runs_of pieces) new ≡ joined (map (λ piece. piece.1) pieces)
   taken_given [] from old new up inside long each = refl
@@ -99,19 +101,22 @@ module _ {R : Type 0} where
       passed i (Some r) later = ap (λ p. Some (or_else p (given pieces i r))) (at_past start records i later)
 
   -- a list that is touched so has its runs replaced by the records
-  pub given_replaces : (pieces : List (ℕ × List R)) (old new : List R) → are_ascending 0 (runs_of pieces) ≡ true → are_inside (length old) (runs_of pieces) ≡ true → IsTouched (given pieces) (runs_of pieces) old new
+  pub given_replaces : (pieces : List (ℕ × List R)) (old new : List R) → are_ascending 0 (runs_of pieces) ≡ true → are_inside (length old) (runs_of pieces) ≡ true
+      → IsTouched (given pieces) (runs_of pieces) old new
       → (taken_at (runs_of pieces) new ≡ joined (map (λ piece. piece.1) pieces)) × (new ≡ replaced old (runs_of pieces) (joined (map (λ piece. piece.1) pieces)))
   given_replaces pieces old new up inside touched =
       let taken = taken_given pieces 0 old new up inside touched.same_length touched.inside in
       (taken, sym (replaced_taken (runs_of pieces) old new touched.same_length inside touched.outside) ∙ ap (replaced old (runs_of pieces)) taken)
 
 -- the runs from one on, where that one has a record at the position, and where it has none
-pub given_some : {R : Type 0} (runs : List (ℕ × Vec R)) (k : ℕ) (run : ℕ × Vec R) (at : ℕ) (r found : R) → slice_get runs k ≡ Some run → record_at (run.0, run.1.items) at ≡ Some found → given (pieces_of (drop k runs)) at r ≡ found
+pub given_some : {R : Type 0} (runs : List (ℕ × Vec R)) (k : ℕ) (run : ℕ × Vec R) (at : ℕ) (r found : R) → slice_get runs k ≡ Some run
+    → record_at (run.0, run.1.items) at ≡ Some found → given (pieces_of (drop k runs)) at r ≡ found
 given_some [] k run at r found there here = absurd cc
 given_some (x ∷ runs) zero run at r found there here = ap (λ o. or_else o (given (pieces_of runs) at r)) (ap (λ y. record_at (y.0, y.1.items) at) (same_Some x run there) ∙ here)
 given_some (x ∷ runs) (suc k) run at r found there here = given_some runs k run at r found there here
 
-pub given_none : {R : Type 0} (runs : List (ℕ × Vec R)) (k : ℕ) (run : ℕ × Vec R) (at : ℕ) (r : R) → slice_get runs k ≡ Some run → record_at (run.0, run.1.items) at ≡ None → given (pieces_of (drop k runs)) at r ≡ given (pieces_of (drop (k + 1) runs)) at r
+pub given_none : {R : Type 0} (runs : List (ℕ × Vec R)) (k : ℕ) (run : ℕ × Vec R) (at : ℕ) (r : R) → slice_get runs k ≡ Some run → record_at (run.0, run.1.items) at ≡ None
+    → given (pieces_of (drop k runs)) at r ≡ given (pieces_of (drop (k + 1) runs)) at r
 given_none [] k run at r there here = absurd cc
 given_none (x ∷ runs) zero run at r there here = ap (λ o. or_else o (given (pieces_of runs) at r)) (ap (λ y. record_at (y.0, y.1.items) at) (same_Some x run there) ∙ here)
 given_none (x ∷ runs) (suc k) run at r there here =
@@ -119,12 +124,14 @@ given_none (x ∷ runs) (suc k) run at r there here =
     given_none runs k run at r there here ∙ ap (λ n. given (pieces_of (drop n (x ∷ runs))) at r) next
 
 -- the runs so far
-pub runs_more : {R : Type 0} (list : List (ℕ × ℕ)) (runs : List (ℕ × Vec R)) (k : ℕ) (run : ℕ × Vec R) → slice_get runs k ≡ Some run → runs_given list ≡ runs_of (pieces_of (take k runs)) → runs_given (list ++ (run.0, length run.1.items) ∷ []) ≡ runs_of (pieces_of (take (k + 1) runs))
+pub runs_more : {R : Type 0} (list : List (ℕ × ℕ)) (runs : List (ℕ × Vec R)) (k : ℕ) (run : ℕ × Vec R) → slice_get runs k ≡ Some run
+    → runs_given list ≡ runs_of (pieces_of (take k runs)) → runs_given (list ++ (run.0, length run.1.items) ∷ []) ≡ runs_of (pieces_of (take (k + 1) runs))
 runs_more list runs k run there is =
     map-append (λ (r : ℕ × ℕ). record { start = r.0; count = r.1 }) list ((run.0, length run.1.items) ∷ []) ∙ ap (λ rs. rs ++ record { start = run.0; count = length run.1.items } ∷ []) is
     ∙ sym (ap (λ rs. runs_of (pieces_of rs)) (take_more runs k run there) ∙ ap runs_of (map-append (λ (r : ℕ × Vec _). (r.0, r.1.items)) (take k runs) (run ∷ [])) ∙ map-append (λ (piece : ℕ × List _). record { start = piece.0; count = length piece.1 }) (pieces_of (take k runs)) ((run.0, run.1.items) ∷ []))
 
-pub runs_all : {R : Type 0} (list : List (ℕ × ℕ)) (runs : List (ℕ × Vec R)) (k : ℕ) → length runs ≤ k → runs_given list ≡ runs_of (pieces_of (take k runs)) → runs_given list ≡ runs_of (pieces_of runs)
+pub runs_all : {R : Type 0} (list : List (ℕ × ℕ)) (runs : List (ℕ × Vec R)) (k : ℕ) → length runs ≤ k → runs_given list ≡ runs_of (pieces_of (take k runs))
+    → runs_given list ≡ runs_of (pieces_of runs)
 runs_all list runs k le is = is ∙ ap (λ rs. runs_of (pieces_of rs)) (take_all k runs le)
 
 pub given_past : {R : Type 0} (runs : List (ℕ × Vec R)) (k : ℕ) (at : ℕ) (r : R) → length runs ≤ k → given (pieces_of (drop k runs)) at r ≡ r

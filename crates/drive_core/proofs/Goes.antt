@@ -48,14 +48,16 @@ module _ {R : Type 0} (w w' : World R) (n : ℕ) (there : HasFile w.phase) where
   stays is = to is refl refl refl there
 
   -- one command more
-  longer : {x : World R} → w' ≡ x → (command : Command R) → x.base ≡ w.base → x.history ≡ w.history ++ command ∷ [] → w.settled ≤ x.settled → HasFile x.phase → (n ≡ 0 → x.settled ≡ w.settled) → Goes w w' n
+  longer : {x : World R} → w' ≡ x → (command : Command R) → x.base ≡ w.base → x.history ≡ w.history ++ command ∷ [] → w.settled ≤ x.settled → HasFile x.phase
+      → (n ≡ 0 → x.settled ≡ w.settled) → Goes w w' n
   longer is command base history settled file quiet = subst (λ y. Goes w y n) (sym is) (record { base_same = base; added = command ∷ []; history_is = history; settled_le = settled; file_there = file; quiet = quiet })
 
   -- and none, but more of them settled
   settles : {x : World R} → w' ≡ x → x.base ≡ w.base → x.history ≡ w.history → w.settled ≤ x.settled → HasFile x.phase → (n ≡ 0 → x.settled ≡ w.settled) → Goes w w' n
   settles is base history settled file quiet = subst (λ y. Goes w y n) (sym is) (record { base_same = base; added = []; history_is = history ∙ sym (append-nil w.history); settled_le = settled; file_there = file; quiet = quiet })
 
-  by_outcome : {Fits Accepted : Type 0} {May By : Fault → Type 0} {answer : Answer R} → (Fits × Accepted) ⊎ ((fault : Fault) × May fault × (answer ≡ step.Refused fault) × By fault) → (Accepted → Goes w w' n) → ((fault : Fault) → By fault → Goes w w' n) → Goes w w' n
+  by_outcome : {Fits Accepted : Type 0} {May By : Fault → Type 0} {answer : Answer R} → (Fits × Accepted) ⊎ ((fault : Fault) × May fault × (answer ≡ step.Refused fault) × By fault)
+      → (Accepted → Goes w w' n) → ((fault : Fault) → By fault → Goes w w' n) → Goes w w' n
   by_outcome outcome ok not_ok = elim outcome [ inl accepted ↦ ok accepted.1 | inr refused ↦ not_ok refused.0 refused.3 ]
 
   refused_at : (due : Option DiskFault) (failed : World R) (fault : Fault) → (w' ≡ elsewhere failed w' → Goes w w' n) → RefusedAt w due failed w' fault → Goes w w' n
@@ -170,7 +172,8 @@ module _ {R : Type 0} (w w' : World R) (n : ℕ) (there : HasFile w.phase) where
     growth_goes keeps phase step.Clear answer calls row = stays row.1
     growth_goes keeps phase step.Listing answer calls row = stays row.1
 
-    phase_goes : (keeps : Type 0) (phase : Phase) → HasFile phase → (asked : Step R) (answer : Answer R) → HasCalls w asked answer n → PhaseRow form keeps w phase asked answer w' → Goes w w' n
+    phase_goes : (keeps : Type 0) (phase : Phase) → HasFile phase → (asked : Step R) (answer : Answer R) → HasCalls w asked answer n → PhaseRow form keeps w phase asked answer w'
+        → Goes w w' n
     phase_goes keeps Shut has asked answer calls row = absurd has
     phase_goes keeps Exclusive has asked answer calls row = exclusive_goes keeps asked answer calls row
     phase_goes keeps (Growing phase) has asked answer calls row = growth_goes keeps phase asked answer calls row

@@ -55,7 +55,8 @@ module _ {R D : Type 0} {m : Medium R D} {w : World R} {phase : Growth} {g : Gro
       counted is steps
 
   -- of a seat by its number, and of a step by another name
-  pub seat_steps : {g' : GrowingOf R D} {answer : Answer R} (asks : ℕ → Step R) {seat number : ℕ} → seat ≡ number → GrowthStep m w g' (asks seat) answer 0 → ByClock g' (asks number) answer
+  pub seat_steps : {g' : GrowingOf R D} {answer : Answer R} (asks : ℕ → Step R) {seat number : ℕ} → seat ≡ number → GrowthStep m w g' (asks seat) answer 0
+      → ByClock g' (asks number) answer
   seat_steps asks is steps = by_clock (asked_as (sym (ap asks is)) steps)
 
   pub asked_steps : {g' : GrowingOf R D} {answer : Answer R} {n : ℕ} {asked same : code.Step R} → asked ≡ same → GrowthStep m w g' (step_of same) answer n → ByClock g' (step_of asked) answer

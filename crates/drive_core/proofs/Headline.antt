@@ -64,7 +64,8 @@ module _ {R : Type 0} (form : Encoding R) where
     not_opened w w' (Grow fault) shut by = absurd by
     not_opened w w' (Scan fault) shut by = ap (λ x. x.phase) by.2 ∙ shut
 
-    shut_row : (w w' : World R) (n : ℕ) (asked : Step R) (answer : Answer R) → w.phase ≡ Shut → HasCalls w asked answer n → ShutRow form keeps w asked answer w' → (w'.phase ≡ Shut) ⊎ (0 < n)
+    shut_row : (w w' : World R) (n : ℕ) (asked : Step R) (answer : Answer R) → w.phase ≡ Shut → HasCalls w asked answer n → ShutRow form keeps w asked answer w'
+        → (w'.phase ≡ Shut) ⊎ (0 < n)
     shut_row w w' n (step.Create format) answer shut calls row = elim row [
       | inl made ↦ inr (let c = subst (λ a. CreateCalls a n) made.1.0 calls in omega (arith, c.0))
       | inr refused ↦ inl (not_created (shape_of format form) w w' refused.0 shut refused.3)
@@ -92,7 +93,8 @@ module _ {R : Type 0} (form : Encoding R) where
     shut_row w w' n step.Home answer shut calls row = inl (ap (λ x. x.phase) row.1 ∙ shut)
 
     -- what a step may make of a world in which no file is there
-    phase_row : (w w' : World R) (n : ℕ) (phase : Phase) → w.phase ≡ phase → (asked : Step R) (answer : Answer R) → HasCalls w asked answer n → PhaseRow form keeps w phase asked answer w' → HasFile phase ⊎ (w'.phase ≡ Shut) ⊎ (0 < n)
+    phase_row : (w w' : World R) (n : ℕ) (phase : Phase) → w.phase ≡ phase → (asked : Step R) (answer : Answer R) → HasCalls w asked answer n → PhaseRow form keeps w phase asked answer w'
+        → HasFile phase ⊎ (w'.phase ≡ Shut) ⊎ (0 < n)
     phase_row w w' n Shut at asked answer calls row = inr (shut_row w w' n asked answer at calls row)
     phase_row w w' n Exclusive at asked answer calls row = inl tt
     phase_row w w' n (Growing phase) at asked answer calls row = inl tt
@@ -102,7 +104,8 @@ module _ {R : Type 0} (form : Encoding R) where
     has_or_not Exclusive = inl tt
     has_or_not (Growing phase) = inl tt
 
-    stray_row : (w w' : World R) (n : ℕ) (stray : Option ℕ) (asked : Step R) (answer : Answer R) → HasCalls w asked answer n → StrayRow form keeps w stray asked answer w' → HasFile w.phase ⊎ (w'.phase ≡ Shut) ⊎ (0 < n)
+    stray_row : (w w' : World R) (n : ℕ) (stray : Option ℕ) (asked : Step R) (answer : Answer R) → HasCalls w asked answer n → StrayRow form keeps w stray asked answer w'
+        → HasFile w.phase ⊎ (w'.phase ≡ Shut) ⊎ (0 < n)
     stray_row w w' n None asked answer calls row = phase_row w w' n w.phase refl asked answer calls row
     stray_row w w' n (Some number) asked answer calls row = elim (has_or_not w.phase) [ inl has ↦ inl has | inr shut ↦ inr (inl (ap (λ x. x.phase) row.1 ∙ shut)) ]
 
@@ -178,6 +181,8 @@ module _ {R : Type 0} (form : Encoding R) where
         ((run_leaves w events there (rests there) run inner).each image (subst (λ m. LeftSince (last w events).disk.states m image) moment left))
     headline w [] rests run inner (suc j) before at has image left = absurd cc
     headline w (e ∷ events) rests run inner (suc j) before at has image left =
-        let first : sum (take (suc j) (e.calls ∷ map (λ (e : Event R). e.calls) events)) ≡ e.calls + sum (take j (map (λ (e : Event R). e.calls) events)) = sum_by-cons (λ x. x) e.calls (take j (map (λ (e : Event R). e.calls) events)) in
-        let moment : clock w.disk.states + sum (take (suc j) (e.calls ∷ map (λ (e : Event R). e.calls) events)) ≡ clock e.after.disk.states + sum (take j (map (λ (e : Event R). e.calls) events)) = omega (arith, first, run.0.time) in
+        let first : sum (take (suc j) (e.calls ∷ map (λ (e : Event R). e.calls) events)) ≡ e.calls + sum (take j (map (λ (e : Event R). e.calls) events))
+        = sum_by-cons (λ x. x) e.calls (take j (map (λ (e : Event R). e.calls) events)) in
+        let moment : clock w.disk.states + sum (take (suc j) (e.calls ∷ map (λ (e : Event R). e.calls) events)) ≡ clock e.after.disk.states + sum (take j (map (λ (e : Event R). e.calls) events))
+        = omega (arith, first, run.0.time) in
         headline e.after events (rests_after w e run.0 inner.0 rests) run.1 inner.1 j before at has image (subst (λ m. LeftSince (last e.after events).disk.states m image) moment left)

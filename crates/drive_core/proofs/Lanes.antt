@@ -120,7 +120,8 @@ module _ {R D : Type 0} {m : Medium R D} {w : World R} {phase : Growth} {g : Gro
   log_calls = lane_calls lanes.Log g.flusher.pen
 
   -- what is settled by a tick
-  settled_more : (tick : Tick) → IsLaneTicked lanes.Log g.flusher.pen new.pen tick → new.settled ≡ settled_behind g.flusher tick → phase.before + new.settled ≡ w.settled + brought g.flusher.pen.job tick
+  settled_more : (tick : Tick) → IsLaneTicked lanes.Log g.flusher.pen new.pen tick → new.settled ≡ settled_behind g.flusher tick
+      → phase.before + new.settled ≡ w.settled + brought g.flusher.pen.job tick
   settled_more ticks.Idle ticked settled = let before = tie.flusher.settled_is in omega (arith, settled, before)
   settled_more ticks.Step ticked settled = let before = tie.flusher.settled_is in omega (arith, settled, before)
   settled_more ticks.Done ticked settled = let before = tie.flusher.settled_is in let brings = tie.flusher.job_brings in omega (arith, settled, before, brings)
@@ -143,7 +144,8 @@ module _ {R D : Type 0} {m : Medium R D} {w : World R} {phase : Growth} {g : Gro
   log_refuses (flush.Strayed number) is time why settled counted = absurd why
   log_refuses (flush.Pen fault) is time why settled counted =
       let event = log_refused m w g.flusher.pen new.pen tie.hand_is tie.disk_is (phase.before + new.settled) fault why (settled_same settled) counted in
-      let job : growths_in_hand new.pen.job ≡ growths_in_hand g.flusher.pen.job = elim why [ inl was ↦ ap (λ (p : PenOf D). growths_in_hand p.job) was.2 | inr by ↦ ap growths_in_hand by.4.job_same ] in
+      let job : growths_in_hand new.pen.job ≡ growths_in_hand g.flusher.pen.job
+      = elim why [ inl was ↦ ap (λ (p : PenOf D). growths_in_hand p.job) was.2 | inr by ↦ ap growths_in_hand by.4.job_same ] in
       by_event is (job_left job settled) time (due_few g.flusher.pen.broken g.flusher.pen.job) event.0 event.1 event.2 refl
 
   -- ---- the homes
@@ -173,12 +175,20 @@ module _ {R D : Type 0} {m : Medium R D} {w : World R} {phase : Growth} {g : Gro
   home_refuses (flush.Strayed number) is time why settled counted = absurd why
   home_refuses (flush.Pen fault) is time why settled counted =
       let event = home_refused m w g.flusher.pen new.pen tie.hand_is tie.disk_is (phase.before + new.settled) fault why (settled_same settled) counted in
-      let job : growths_in_hand new.pen.job ≡ growths_in_hand g.flusher.pen.job = elim why [ inl was ↦ ap (λ (p : PenOf D). growths_in_hand p.job) was.2 | inr by ↦ ap growths_in_hand by.5.job_same ] in
+      let job : growths_in_hand new.pen.job ≡ growths_in_hand g.flusher.pen.job
+      = elim why [ inl was ↦ ap (λ (p : PenOf D). growths_in_hand p.job) was.2 | inr by ↦ ap growths_in_hand by.5.job_same ] in
       by_event is (job_left job settled) time (home_few g.flusher.pen.broken g.flusher.pen.fold) event.0 event.1 event.2 refl
 
--- what a crash may leave of the disk as it is lent
-pub rests-lent : {R D : Type 0} (m : Medium R D) (new : FlusherOf R D) {lent : D} → lent ≡ new.pen.disk
-    → (m.keeps lent → (image : List ℕ) → IsImage (now (m.states lent)) image → OpensToJob m.form new image)
-    → m.keeps new.pen.disk → (image : List ℕ) → IsImage (now (m.states new.pen.disk)) image → OpensToSettled m.form new image
-rests-lent {D = D} m new is images kept image left =
-    (subst (λ (d : D). m.keeps d → (image : List ℕ) → IsImage (now (m.states d)) image → OpensToJob m.form new image) is images kept image left).kept
+-- with what a crash may leave of the disk as it is lent
+pub lent_tick : {R D : Type 0} (m : Medium R D) (live : book.Phase R) {old new : FlusherOf R D} {lent : D} → IsFlusherOf (m.keeps old.pen.disk) live old → SameGrowths old new
+    → (m.keeps new.pen.disk → new.opening ≡ old.opening) → (m.keeps new.pen.disk → m.keeps old.pen.disk)
+    → (m.keeps new.pen.disk → LeavesOnly (m.states old.pen.disk) (m.states new.pen.disk) (OpensToJob m.form old))
+    → lent ≡ new.pen.disk → (m.keeps lent → (image : List ℕ) → IsImage (now (m.states lent)) image → OpensToJob m.form new image) → IsTick m live old new
+lent_tick {D = D} m live {new = new} is same opening model images lent_is rests = record {
+  is = is;
+  same = same;
+  opening = opening;
+  model = model;
+  images = images;
+  rests = λ kept image left. (subst (λ (d : D). m.keeps d → (image : List ℕ) → IsImage (now (m.states d)) image → OpensToJob m.form new image) lent_is rests kept image left).kept;
+}

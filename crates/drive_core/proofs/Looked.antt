@@ -13,16 +13,16 @@ use Rattle.drive_core.specs.declared.fault.Fault.TheVariants as told
 use Rattle.drive_core.specs.Medium.{Medium}
 use Rattle.drive_core.specs.Step.{Answer}
 use Rattle.drive_core.specs.Step as step
-use Rattle.drive_core.specs.World.{World, Growth, hand_of}
+use Rattle.drive_core.specs.World.{World, Growth, Growing, hand_of}
 use Rattle.drive_core.specs.Outcome.{struck}
 use Rattle.drive_core.specs.GrowthRows.{within}
-use Rattle.drive_core.specs.Ties.{GrowingOf, IsGrowing, growths_in_hand, disk_of}
+use Rattle.drive_core.specs.Ties.{GrowingOf, IsGrowing, AreSeated, IsFlushing, growths_in_hand, disk_of}
 use Rattle.drive_core.specs.GrowthTies.{GrowthStep}
 use Rattle.drive_core.proofs.Quiet.{quiet_steps}
 use Rattle.drive_core.proofs.Seated.{counts_kept, knows, hears, replaced}
 use Rattle.drive_core.proofs.Seats.{begins-le}
 use Rattle.drive_core.proofs.Steps.{answered}
-use Rattle.drive_core.proofs.Ties.{growths_count, known_long, behind_of, strayed_behind}
+use Rattle.drive_core.proofs.Ties.{growths_count, known_long, other_seats, other_flusher, behind_of, strayed_behind}
 
 module _ {X : Type 0} where
   -- a list that agrees with a longer one begins it
@@ -43,7 +43,8 @@ module _ {X : Type 0} where
 
 module _ {R D : Type 0} {m : Medium R D} {w : World R} {phase : Growth} {g : GrowingOf R D} (tie : IsGrowing m w phase g) (new : FlusherOf R D) (row : List (Seated R)) where
   -- something that no step made
-  pub look_strays : {answer : Answer R} (n : ℕ) → answer ≡ step.Refused (told.Grow (grow.Strayed n)) → new.pen ≡ g.flusher.pen → GrowthStep m w (record g { flusher = new; seats = row }) (step.Look None) answer 0
+  pub look_strays : {answer : Answer R} (n : ℕ) → answer ≡ step.Refused (told.Grow (grow.Strayed n)) → new.pen ≡ g.flusher.pen
+      → GrowthStep m w (record g { flusher = new; seats = row }) (step.Look None) answer 0
   look_strays n is pen =
       let w' : World R = struck w (told.Grow (grow.Strayed n)) in
       answered is (quiet_steps tie w' (inr (told.Grow (grow.Strayed n), inl (told.Grow (grow.Strayed n), refl, refl), refl, refl)) refl refl refl
@@ -77,36 +78,32 @@ module _ {R D : Type 0} {m : Medium R D} {w : World R} {phase : Growth} {g : Gro
     abbrev found_phase : Growth
     found_phase = record phase { flusher = length new.pass.entries }
 
-    look_tie : IsGrowing m (within w found_phase) found_phase (record g { flusher = new; seats = row })
-    look_tie = record {
-      phase_is = refl;
-      calm = tie.calm;
-      entries = tie.entries;
-      growths = tie.growths;
-      puts_is = tie.puts_is;
-      room_is = tie.room_is;
-      closed_is = tie.closed_is;
-      mark_is = tie.mark_is;
-      seats = replaced tie.seats g.last at t' row_is (counts_kept knows g.seats tie.seats.known_are g.last t' at (ap length t_same))
-          (counts_kept hears g.seats tie.seats.told_are g.last t' at (ap (λ (m : _). m.told.count) learnt.mark)) (ap length learnt.made)
-          (let was = tie.seats.each g.last t at in record { id_is = learnt.id ∙ was.id_is; knows = subst (λ xs. IsPrefix xs tie.entries) (sym t_same) was.knows })
-          (λ all. t_same ∙ all);
-      flusher = record {
-        knows = found;
-        known_is = refl;
-        taken_is = tie.flusher.taken_is ∙ sym learns.taken_same;
-        taken_within = tie.flusher.taken_within;
-        job_brings = (
-            let was = tie.flusher.job_brings in
-            let taken = learns.taken_same in
-            let settled = learns.settled_same in
-            let job = ap (λ (p : PenOf D). growths_in_hand p.job) learns.pen_same in
-            omega (arith, was, taken, settled, job));
-        settled_is = tie.flusher.settled_is ∙ ap (λ n. phase.before + n) (sym learns.settled_same);
-      };
-      hand_is = tie.hand_is ∙ ap hand_of (sym learns.pen_same);
-      disk_is = tie.disk_is ∙ ap (λ (p : PenOf D). disk_of m.states m.faults p.disk) (sym learns.pen_same);
+    met_row : AreSeated phase.known phase.made phase.told row g.live.seat_count g.last tie.entries
+    met_row = replaced tie.seats g.last at t' row_is
+        (counts_kept knows g.seats tie.seats.known_are g.last t' at (ap length t_same))
+        (counts_kept hears g.seats tie.seats.told_are g.last t' at (ap (λ (m : _). m.told.count) learnt.mark))
+        (ap length learnt.made)
+        (let was = tie.seats.each g.last t at in record { id_is = learnt.id ∙ was.id_is; knows = subst (λ xs. IsPrefix xs tie.entries) (sym t_same) was.knows })
+        (λ all. t_same ∙ all)
+
+    flushing : IsFlushing (length new.pass.entries) phase.taken phase.before w.settled tie.entries new
+    flushing = record {
+      knows = found;
+      known_is = refl;
+      taken_is = tie.flusher.taken_is ∙ sym learns.taken_same;
+      taken_within = tie.flusher.taken_within;
+      job_brings = (
+          let was = tie.flusher.job_brings in
+          let taken = learns.taken_same in
+          let settled = learns.settled_same in
+          let job = ap (λ (p : PenOf D). growths_in_hand p.job) learns.pen_same in
+          omega (arith, was, taken, settled, job));
+      settled_is = tie.flusher.settled_is ∙ ap (λ n. phase.before + n) (sym learns.settled_same);
     }
+
+    look_tie : IsGrowing m (within w found_phase) found_phase (record g { flusher = new; seats = row })
+    look_tie = other_flusher (other_seats tie phase.known phase.told met_row) (Growing found_phase) (length new.pass.entries) phase.taken w.settled w.hand w.disk new refl flushing
+        (tie.hand_is ∙ ap hand_of (sym learns.pen_same)) (tie.disk_is ∙ ap (λ (p : PenOf D). disk_of m.states m.faults p.disk) (sym learns.pen_same))
 
     pub look_answers : {answer : Answer R} (size : ℕ) → answer ≡ step.Size size → size ≡ length (opening_of g.live) + total new.pass.entries
         → GrowthStep m w (record g { flusher = new; seats = row }) (step.Look None) answer 0
@@ -119,7 +116,8 @@ module _ {R D : Type 0} {m : Medium R D} {w : World R} {phase : Growth} {g : Gro
         (inl (inr refl, (n, (omega (arith, longer, was), omega (arith, count, within_all)), ap step.Size (sized ∙ sym (known_long tie new.pass.entries found)), refl))) refl refl tie.calm (behind_of look_tie))
 
 -- what is of a phase stays of it
-pub IsFlusherOf-learns : {R D : Type 0} (keeps : D → Type 0) (live : book.Phase R) (old new : FlusherOf R D) → FlusherLearns old new → IsFlusherOf (keeps old.pen.disk) live old → IsFlusherOf (keeps new.pen.disk) live new
+pub IsFlusherOf-learns : {R D : Type 0} (keeps : D → Type 0) (live : book.Phase R) (old new : FlusherOf R D) → FlusherLearns old new → IsFlusherOf (keeps old.pen.disk) live old
+    → IsFlusherOf (keeps new.pen.disk) live new
 IsFlusherOf-learns {D = D} keeps live old new learns is = record {
   directory = learns.of_same ∙ is.directory;
   mark = ap (λ (m : _). m.of) learns.mark_same ∙ is.mark;

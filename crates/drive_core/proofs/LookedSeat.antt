@@ -19,7 +19,7 @@ use Rattle.drive_core.proofs.Quiet.{quiet_steps, seat_row}
 use Rattle.drive_core.proofs.Seated.{counts_set, counts_kept, knows, hears, known_at, replaced}
 use Rattle.drive_core.proofs.Seats.{same_or_not, get_set_same, get_set_other, begins-le, length_set, there_is}
 use Rattle.drive_core.proofs.Steps.{answered}
-use Rattle.drive_core.proofs.Ties.{growths_count, known_long, behind_of, strayed_behind}
+use Rattle.drive_core.proofs.Ties.{growths_count, known_long, other_seats, behind_of, strayed_behind}
 
 module _ {R D : Type 0} {m : Medium R D} {w : World R} {phase : Growth} {g : GrowingOf R D} (tie : IsGrowing m w phase g)
     {k : ℕ} {m0 : Seated R} (inside : k < length g.seats) (at0 : slice_get g.seats k ≡ Some m0) (row : List (Seated R)) where
@@ -79,7 +79,8 @@ module _ {R D : Type 0} {m : Medium R D} {w : World R} {phase : Growth} {g : Gro
 
     -- the seat has learnt, and then the last one has met it
     learnt_row : AreSeated (slice_set phase.known k (length m1.pass.entries)) phase.made phase.told (slice_set g.seats k m1) g.live.seat_count g.last tie.entries
-    learnt_row = replaced tie.seats k at0 m1 refl (counts_set knows g.seats tie.seats.known_are k m1 refl) (counts_kept hears g.seats tie.seats.told_are k m1 at0 (ap (λ (m : _). m.told.count) learns.mark))
+    learnt_row = replaced tie.seats k at0 m1 refl (counts_set knows g.seats tie.seats.known_are k m1 refl)
+        (counts_kept hears g.seats tie.seats.told_are k m1 at0 (ap (λ (m : _). m.told.count) learns.mark))
         (ap length learns.made) (record { id_is = learns.id ∙ (tie.seats.each k m0 at0).id_is; knows = found })
         (λ all. same-front tie.entries m1.pass.entries (subst (λ xs. IsPrefix xs m1.pass.entries) all learns.begins) within_all)
 
@@ -93,20 +94,7 @@ module _ {R D : Type 0} {m : Medium R D} {w : World R} {phase : Growth} {g : Gro
     found_phase = record phase { known = slice_set phase.known k (length m1.pass.entries) }
 
     look_tie : IsGrowing m (within w found_phase) found_phase (record g { seats = row })
-    look_tie = record {
-      phase_is = refl;
-      calm = tie.calm;
-      entries = tie.entries;
-      growths = tie.growths;
-      puts_is = tie.puts_is;
-      room_is = tie.room_is;
-      closed_is = tie.closed_is;
-      mark_is = tie.mark_is;
-      seats = met_row;
-      flusher = tie.flusher;
-      hand_is = tie.hand_is;
-      disk_is = tie.disk_is;
-    }
+    look_tie = other_seats tie (slice_set phase.known k (length m1.pass.entries)) phase.told met_row
 
     pub seat_answers : {answer : Answer R} (size : ℕ) → answer ≡ step.Size size → size ≡ size_of g.live m1 → GrowthStep m w (record g { seats = row }) (step.Look (Some k)) answer 0
     seat_answers size is sized =

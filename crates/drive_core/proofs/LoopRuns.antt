@@ -44,7 +44,8 @@ stray_calls w other number = refl
 
 module _ {R D : Type 0} {m : Medium R D} {w : World R} where
   -- a step behind one that strayed
-  pub stray_steps : {phase : phases.Phase R D} {strayed : Option ℕ} {number : ℕ} {answer : Answer R} (asked : Step R) → IsDriver m w phase strayed → strayed ≡ Some number → answer ≡ step.Refused (Grow (grow.Strayed number))
+  pub stray_steps : {phase : phases.Phase R D} {strayed : Option ℕ} {number : ℕ} {answer : Answer R} (asked : Step R) → IsDriver m w phase strayed → strayed ≡ Some number
+      → answer ≡ step.Refused (Grow (grow.Strayed number))
       → DriverStep m w (disk_in phase) phase strayed asked answer
   stray_steps {phase} {number = number} asked tie some is =
       let none : 0 ≡ calls_between (m.states (disk_in phase)) (m.states (disk_in phase)) = omega arith in
@@ -52,7 +53,8 @@ module _ {R D : Type 0} {m : Medium R D} {w : World R} where
       answered is (counted none (still w row (stray_calls w asked number) refl (tie.strayed_is ∙ some) tie))
 
   -- as the driver's step answers
-  pub driver_steps : {phase new : phases.Phase R D} {asked : Step R} {answer : Answer R} {strayed strayed' : Option ℕ} → IsDriver m w phase strayed → strayed ≡ None → strayed' ≡ stray_in answer
+  pub driver_steps : {phase new : phases.Phase R D} {asked : Step R} {answer : Answer R} {strayed strayed' : Option ℕ} → IsDriver m w phase strayed → strayed ≡ None
+      → strayed' ≡ stray_in answer
       → (IsInHand m w phase → PhaseStep m w (disk_in phase) new asked answer) → DriverStep m w (disk_in phase) new strayed' asked answer
   driver_steps tie none told steps =
       let s = steps (tie.goes_on none) in
@@ -66,7 +68,8 @@ module _ {R D : Type 0} {m : Medium R D} {w : World R} where
       }
 
   -- the clock goes on by the calls of a step
-  pub clock_goes : {phase new : phases.Phase R D} {strayed strayed' : Option ℕ} {asked : Step R} {answer : Answer R} → IsDriver m w phase strayed → (s : DriverStep m w (disk_in phase) new strayed' asked answer)
+  pub clock_goes : {phase new : phases.Phase R D} {strayed strayed' : Option ℕ} {asked : Step R} {answer : Answer R} → IsDriver m w phase strayed
+      → (s : DriverStep m w (disk_in phase) new strayed' asked answer)
       → clock (m.states (disk_in new)) ≡ clock (m.states (disk_in phase)) + calls_between (m.states (disk_in phase)) (m.states (disk_in new))
   clock_goes tie s =
       let before = ap (λ (d : DiskOf). clock d.states) tie.disk_is in
@@ -81,7 +84,8 @@ map-snoc f [] x = refl
 map-snoc f (y ∷ xs) x = ap (λ rest. f y ∷ rest) (map-snoc f xs x)
 
 module _ {R : Type 0} (form : Encoding R) where
-  pub run_more : (keeps keeps' : Type 0) → (keeps' → keeps) → (Tied Tied' : World R → Type 0) (w : World R) (steps : List (Step R)) (answers : List (Answer R)) (calls : List ℕ) (asked : Step R) (answer : Answer R) (n count : ℕ)
+  pub run_more : (keeps keeps' : Type 0) → (keeps' → keeps)
+      → (Tied Tied' : World R → Type 0) (w : World R) (steps : List (Step R)) (answers : List (Answer R)) (calls : List ℕ) (asked : Step R) (answer : Answer R) (n count : ℕ)
       → HasRun form keeps Tied w steps answers calls → ((w₁ : World R) → Tied w₁ → Steps form keeps' Tied' w₁ asked answer n) → ((w₁ : World R) → Tied w₁ → count ≡ n)
       → HasRun form keeps' Tied' w (steps ++ asked ∷ []) (answers ++ answer ∷ []) (calls ++ count ∷ [])
   run_more keeps keeps' back Tied Tied' w steps answers calls asked answer n count so_far goes counted =
@@ -103,14 +107,17 @@ module _ {R : Type 0} (form : Encoding R) where
   pub run_none : (keeps : Type 0) (Tied : World R → Type 0) (w : World R) → Tied w → HasRun form keeps Tied w [] [] []
   run_none keeps Tied w tied = record { events = []; are_of = record { steps_are = refl; answers_are = refl; calls_are = refl }; run = tt; inner = λ kept. tt; tied = tied }
 
-  pub run_pushed : (keeps : Type 0) (Tied : World R → Type 0) (w : World R) (steps steps' : List (Step R)) (answers answers' : List (Answer R)) (calls calls' : List ℕ) → steps' ≡ steps → answers' ≡ answers → calls' ≡ calls → HasRun form keeps Tied w steps answers calls → HasRun form keeps Tied w steps' answers' calls'
+  pub run_pushed : (keeps : Type 0) (Tied : World R → Type 0) (w : World R) (steps steps' : List (Step R)) (answers answers' : List (Answer R)) (calls calls' : List ℕ) → steps' ≡ steps
+      → answers' ≡ answers → calls' ≡ calls → HasRun form keeps Tied w steps answers calls → HasRun form keeps Tied w steps' answers' calls'
   run_pushed keeps Tied w steps steps' answers answers' calls calls' p q r has =
       subst (λ xs. HasRun form keeps Tied w xs answers' calls') (sym p) (subst (λ xs. HasRun form keeps Tied w steps xs calls') (sym q) (subst (λ xs. HasRun form keeps Tied w steps answers xs) (sym r) has))
 
-pub asked_more : {R : Type 0} (asks : List (code.Step R)) (k : ℕ) (asked : code.Step R) → slice_get asks k ≡ Some asked → map step_of (take (k + 1) asks) ≡ map step_of (take k asks) ++ step_of asked ∷ []
+pub asked_more : {R : Type 0} (asks : List (code.Step R)) (k : ℕ) (asked : code.Step R) → slice_get asks k ≡ Some asked
+    → map step_of (take (k + 1) asks) ≡ map step_of (take k asks) ++ step_of asked ∷ []
 asked_more asks k asked is = ap (map step_of) (take_more asks k asked is) ∙ map-snoc step_of (take k asks) asked
 
-pub told_more : {R : Type 0} (answers answers' : List (told.Answer R)) (answer : told.Answer R) → answers' ≡ answers ++ answer ∷ [] → map answer_of answers' ≡ map answer_of answers ++ answer_of answer ∷ []
+pub told_more : {R : Type 0} (answers answers' : List (told.Answer R)) (answer : told.Answer R) → answers' ≡ answers ++ answer ∷ []
+    → map answer_of answers' ≡ map answer_of answers ++ answer_of answer ∷ []
 told_more answers answers' answer is = ap (map answer_of) is ∙ map-snoc answer_of answers answer
 
 -- the difference of two readings of a counter

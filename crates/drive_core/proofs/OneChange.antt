@@ -58,7 +58,8 @@ module _ {R D : Type 0} {m : Medium R D} {w : World R} {v : VaultOf R D} (tie : 
 
   -- ---- of several
 
-  some : (piece : ℕ × List R) (pieces : List (ℕ × List R)) → IsWritten m w v new (step.Changes (piece ∷ pieces)) (Change (runs_of (piece ∷ pieces)) (joined (map (λ p. p.1) (piece ∷ pieces))))
+  some : (piece : ℕ × List R) (pieces : List (ℕ × List R))
+      → IsWritten m w v new (step.Changes (piece ∷ pieces)) (Change (runs_of (piece ∷ pieces)) (joined (map (λ p. p.1) (piece ∷ pieces))))
       (changed_frame m.form (runs_of (piece ∷ pieces)) (list_of new)) (change_lines v.pen (runs_of (piece ∷ pieces))) (IsGiven (piece ∷ pieces) (runs_of (piece ∷ pieces)))
   some piece pieces = changes tie new size rests (piece ∷ pieces) (joined (map (λ p. p.1) (piece ∷ pieces))) refl (step.Changes (piece ∷ pieces)) (λ answer w' n row calls. (inr row, calls))
 

@@ -197,7 +197,8 @@ module _ {R D : Type 0} {m : Medium R D} {w : World R} {disk : D} (tie : IsShut 
     abbrev NotOpen : Answer R → Type 0
     NotOpen answer = PhaseStep m w disk (hands.Shut new) step.Open answer
 
-    open_scans : (fault : ScanFault) → (m.keeps new → IsRefused m.form (bytes_of (m.states disk)) fault) → AreCallsMade len (openings.Scan fault) (calls_to new) → NotOpen (step.Refused (Scan fault))
+    open_scans : (fault : ScanFault) → (m.keeps new → IsRefused m.form (bytes_of (m.states disk)) fault) → AreCallsMade len (openings.Scan fault) (calls_to new)
+        → NotOpen (step.Refused (Scan fault))
     open_scans fault refused calls =
         let two = calls.0 in
         called (with_disk new) (inr (Scan fault, inr (inl (Scan fault, refl, refl)), refl, ((λ kept. subst (λ bytes. IsRefused m.form bytes fault) (sym bytes_are) (refused kept)), looked (Some (openings.Scan fault)) calls, refl)))
@@ -224,7 +225,8 @@ module _ {R D : Type 0} {m : Medium R D} {w : World R} {disk : D} (tie : IsShut 
   open_refuses (openings.Disk cause) is refused more syncs len all calls = answered is (open_fails syncs all cause more calls)
 
   pub open_answers : {v : VaultOf R D} {size : ℕ} {answer : Answer R} → answer ≡ step.Size size → size ≡ length (list_of v) → IsAtRest m.form.width (length (list_of v)) v.pen
-      → (m.keeps v.pen.disk → IsOpened m.form (bytes_of (m.states disk)) v.pen (list_of v)) → (m.keeps v.pen.disk → v.sure ≡ list_of v) → (m.keeps v.pen.disk → OnlySyncs (m.states disk) (m.states v.pen.disk))
+      → (m.keeps v.pen.disk → IsOpened m.form (bytes_of (m.states disk)) v.pen (list_of v)) → (m.keeps v.pen.disk → v.sure ≡ list_of v)
+      → (m.keeps v.pen.disk → OnlySyncs (m.states disk) (m.states v.pen.disk))
       → (len : ℕ) → (m.keeps v.pen.disk → len ≡ length (bytes_of (m.states disk))) → AreCallsDone len (calls_to v.pen.disk) → Holds m v v.pen.disk
       → PhaseStep m w disk (hands.Exclusive v) step.Open answer
   open_answers {v} is long rest read sure syncs len all calls rests =

@@ -47,7 +47,8 @@ module _ {D : Type 0} where
       passes p.broken (Vault (vault.Pen pen.Broken)) _ None ready.0 (passes _ (Vault (vault.Pen pen.Busy)) _ None (no_fold p ready.1) (passes _ (Vault (vault.Pen pen.FileFull)) _ None (not_le (2 ^ 48) (gate_behind_fold p) ready.3) (inr refl)))
   ready_lines p false ready = passes p.broken (Vault (vault.Pen pen.Broken)) _ None ready.0 (passes _ (Vault (vault.Pen pen.Busy)) _ None (no_fold p ready.1) refl)
 
-  full_lines : (p : PenOf D) (live : Bool) → live ≡ true → p.broken ≡ false → p.fold ≡ None → 2 ^ 48 ≤ gate_behind_fold p → Allows (fold_lines (hand_of p) live) (Some (Vault (vault.Pen pen.FileFull)))
+  full_lines : (p : PenOf D) (live : Bool) → live ≡ true → p.broken ≡ false → p.fold ≡ None → 2 ^ 48 ≤ gate_behind_fold p
+      → Allows (fold_lines (hand_of p) live) (Some (Vault (vault.Pen pen.FileFull)))
   full_lines p true is whole none full =
       passes p.broken (Vault (vault.Pen pen.Broken)) _ _ whole (passes _ (Vault (vault.Pen pen.Busy)) _ _ (no_fold p none) (stops _ (Vault (vault.Pen pen.FileFull)) _ (le-leb (2 ^ 48) (gate_behind_fold p) full)))
   full_lines p false is whole none full = absurd cc
@@ -100,7 +101,8 @@ module _ {R D : Type 0} (w : World R) (old new : PenOf D) (hand_is : w.hand ≡ 
   abbrev pub Opening : Type 0 → Type 0
   Opening keeps = keeps → (image : List ℕ) → IsImage (now w.disk.states) image → MayOpen old image
 
-  folds_file : (by : BeginsFold old new) → IfSome new.fold (λ fold. IsWholeFold old.shape old.frames old.vector fold.left) → ((image : List ℕ) → IsImage (now w.disk.states) image → MayOpen old image) → FoldsFile by_pen by.left
+  folds_file : (by : BeginsFold old new) → IfSome new.fold (λ fold. IsWholeFold old.shape old.frames old.vector fold.left)
+      → ((image : List ℕ) → IsImage (now w.disk.states) image → MayOpen old image) → FoldsFile by_pen by.left
   folds_file by planned opens = record {
     frames = old.frames;
     vector = old.vector;

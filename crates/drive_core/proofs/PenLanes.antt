@@ -163,7 +163,8 @@ module _ {R D : Type 0} (m : Medium R D) (w : World R) (old new : PenOf D) (hand
   log_row ticks.Filed ticked whole whole' more = absurd ticked
   log_row ticks.Waiting ticked whole whole' more = absurd ticked
 
-  log_calls : (tick : Tick) → IsLaneTicked lanes.Log old new tick → old.broken ≡ false → LaneCalls {R = R} (step.Ticked tick) log_due_calls × (log_due_calls ≡ 0 → behind_pen.disk ≡ w.disk)
+  log_calls : (tick : Tick) → IsLaneTicked lanes.Log old new tick → old.broken ≡ false
+      → LaneCalls {R = R} (step.Ticked tick) log_due_calls × (log_due_calls ≡ 0 → behind_pen.disk ≡ w.disk)
   log_calls ticks.Idle ticked whole = (calls_of_job whole ticked.0, λ none. same_disk (ap (λ (p : PenOf D). p.disk) ticked.1))
   log_calls ticks.Step ticked whole = one_call (step.Ticked ticks.Step) (calls_of_job whole ticked.1) (λ one. one)
   log_calls ticks.Done ticked whole = one_call (step.Ticked ticks.Done) (calls_of_job whole ticked.1) (λ one. one)
@@ -239,7 +240,8 @@ module _ {R D : Type 0} (m : Medium R D) (w : World R) (old new : PenOf D) (hand
       (subst (λ b. IsHomed w fold b (step.Ticked ticks.Waiting) behind_pen) (sym (waits ticked))
       (subst (λ j. IsFiled w fold j (step.Ticked ticks.Waiting) behind_pen) (sym (job_is ∙ busy.1)) (refl, same_world ticked.1.same same)))
 
-  home_calls_are : (tick : Tick) → IsLaneTicked lanes.Home old new tick → old.broken ≡ false → LaneCalls {R = R} (step.Ticked tick) home_due_calls × (home_due_calls ≡ 0 → behind_pen.disk ≡ w.disk)
+  home_calls_are : (tick : Tick) → IsLaneTicked lanes.Home old new tick → old.broken ≡ false
+      → LaneCalls {R = R} (step.Ticked tick) home_due_calls × (home_due_calls ≡ 0 → behind_pen.disk ≡ w.disk)
   home_calls_are ticks.Idle ticked whole =
       (ap (λ b. home_calls_due b old.fold) whole ∙ ap (home_calls_due false) ticked.0, λ none. same_disk (ap (λ (p : PenOf D). p.disk) ticked.1))
   home_calls_are ticks.Step ticked whole = one_call (step.Ticked ticks.Step) (calls_of_fold ticked.0 true whole ticked.2.fold_was ticked.1) (λ one. one)

@@ -31,7 +31,8 @@ module _ {R D : Type 0} {m : Medium R D} {w : World R} where
 -- ---- a step without a device call, by the clock
 
 pub still_left : {R D : Type 0} {m : Medium R D} {w : World R} {old : D} {new : code.Phase R D} {asked : Step R} {answer : Answer R} (phase : worlds.Phase) (w' : World R)
-    → w.strayed ≡ None → w.phase ≡ phase → PhaseRow m.form (m.keeps (disk_in new)) w phase asked answer w' → HasCalls w asked answer 0 → w'.disk ≡ w.disk → disk_in new ≡ old → w'.strayed ≡ stray_in answer → IsLeft m w' new
+    → w.strayed ≡ None → w.phase ≡ phase → PhaseRow m.form (m.keeps (disk_in new)) w phase asked answer w' → HasCalls w asked answer 0 → w'.disk ≡ w.disk → disk_in new ≡ old
+    → w'.strayed ≡ stray_in answer → IsLeft m w' new
     → PhaseStep m w old new asked answer
 still_left {m = m} {w = w} {old = old} {new = new} {asked = asked} {answer = answer} phase w' calm is row calls disk same stray left =
     let none : 0 ≡ calls_between (m.states old) (m.states (disk_in new)) = (let clocks = ap (λ d. clock (m.states d)) same in omega (arith, clocks)) in

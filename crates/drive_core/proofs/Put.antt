@@ -168,7 +168,8 @@ module _ {R D : Type 0} {m : Medium R D} {w : World R} {phase : Growth} {g : Gro
     disk_is = tie.disk_is;
   }
 
-  pub put_answers : {answer : Answer R} → answer ≡ step.Grown receipt → known ≤ g.live.directory.room → size_of g.live m1 ≤ record_limit → GrowthStep m w grown_hand (step.Put k records) answer 0
+  pub put_answers : {answer : Answer R} → answer ≡ step.Grown receipt → known ≤ g.live.directory.room → size_of g.live m1 ≤ record_limit
+      → GrowthStep m w grown_hand (step.Put k records) answer 0
   put_answers is in_room in_limit =
       let same = tie.room_is in
       let all = ap total entries_are ∙ total-push tie.entries entry in

@@ -26,7 +26,7 @@ use Rattle.drive_core.proofs.Quiet.{quiet_steps, seat_row}
 use Rattle.drive_core.proofs.Seated.{counts_set, counts_kept, knows, hears, known_at, knows_few, replaced}
 use Rattle.drive_core.proofs.Steps.{answered}
 use Rattle.drive_core.proofs.Tables.{passes, stops}
-use Rattle.drive_core.proofs.Ties.{growths_count, vector_is, opening_long, behind_of, strayed_behind}
+use Rattle.drive_core.proofs.Ties.{growths_count, vector_is, opening_long, other_seats, behind_of, strayed_behind}
 
 module _ {R D : Type 0} {m : Medium R D} {w : World R} {phase : Growth} {g : GrowingOf R D} (tie : IsGrowing m w phase g)
     {k : ℕ} {m0 m1 t : Seated R} {row : List (Seated R)} (has_met : HasMet g.seats g.last k m0 m1 t row)
@@ -35,7 +35,8 @@ module _ {R D : Type 0} {m : Medium R D} {w : World R} {phase : Growth} {g : Gro
   open_ = sym tie.closed_is ∙ not_closed
 
   -- something that no step made
-  pub put_strays : {answer : Answer R} (g' : GrowingOf R D) (n : ℕ) → answer ≡ step.Refused (told.Grow (grow.Strayed n)) → g'.flusher.pen.disk ≡ g.flusher.pen.disk → GrowthStep m w g' (step.Put k records) answer 0
+  pub put_strays : {answer : Answer R} (g' : GrowingOf R D) (n : ℕ) → answer ≡ step.Refused (told.Grow (grow.Strayed n)) → g'.flusher.pen.disk ≡ g.flusher.pen.disk
+      → GrowthStep m w g' (step.Put k records) answer 0
   put_strays g' n is disk =
       let refused : Answer R = step.Refused (told.Grow (grow.Strayed n)) in
       let w' : World R = struck (within w (knowing phase (Some k) (slice_index phase.known k))) (told.Grow (grow.Strayed n)) in
@@ -60,27 +61,15 @@ module _ {R D : Type 0} {m : Medium R D} {w : World R} {phase : Growth} {g : Gro
     kept_phase = record phase { known = slice_set phase.known k (length tie.entries) }
 
     kept_tie : IsGrowing m (within w kept_phase) kept_phase kept_hand
-    kept_tie = record {
-      phase_is = refl;
-      calm = tie.calm;
-      entries = tie.entries;
-      growths = tie.growths;
-      puts_is = tie.puts_is;
-      room_is = tie.room_is;
-      closed_is = tie.closed_is;
-      mark_is = tie.mark_is;
-      seats = replaced tie.seats k has_met.at (met tie.seats has_met) (row_is tie.seats has_met) (counts_set knows g.seats tie.seats.known_are k (met tie.seats has_met) (sym (ap length met_all)))
-          (counts_kept hears g.seats tie.seats.told_are k (met tie.seats has_met) has_met.at (ap (λ (m : _). m.told.count) (has_met.meets.learns.mark ∙ learns.mark)))
-          (ap length (has_met.meets.learns.made ∙ learns.made))
-          (record {
-            id_is = has_met.meets.learns.id ∙ learns.id ∙ (tie.seats.each k m0 has_met.at).id_is;
-            knows = subst (λ xs. IsPrefix xs tie.entries) (sym met_all) (take-length tie.entries);
-          })
-          (λ was. met_all);
-      flusher = tie.flusher;
-      hand_is = tie.hand_is;
-      disk_is = tie.disk_is;
-    }
+    kept_tie = other_seats tie (slice_set phase.known k (length tie.entries)) phase.told (replaced tie.seats k has_met.at (met tie.seats has_met) (row_is tie.seats has_met)
+        (counts_set knows g.seats tie.seats.known_are k (met tie.seats has_met) (sym (ap length met_all)))
+        (counts_kept hears g.seats tie.seats.told_are k (met tie.seats has_met) has_met.at (ap (λ (m : _). m.told.count) (has_met.meets.learns.mark ∙ learns.mark)))
+        (ap length (has_met.meets.learns.made ∙ learns.made))
+        (record {
+          id_is = has_met.meets.learns.id ∙ learns.id ∙ (tie.seats.each k m0 has_met.at).id_is;
+          knows = subst (λ xs. IsPrefix xs tie.entries) (sym met_all) (take-length tie.entries);
+        })
+        (λ was. met_all))
 
     -- refused by a rule, or for want of memory, where the seat knows all
     refused_by : {answer : Answer R} (fault : GrowFault) → answer ≡ step.Refused (told.Grow fault) → None ≡ stray_in {R = R} (step.Refused (told.Grow fault))
@@ -110,7 +99,8 @@ module _ {R D : Type 0} {m : Medium R D} {w : World R} {phase : Growth} {g : Gro
     has_room less = not_le phase.room (length (growths_of w phase)) (let room = tie.room_is in omega (arith, less, long, room))
 
     -- as the function answers: of a seat that knows all, or something strayed
-    put_told : {answer : Answer R} (fault : GrowFault) → answer ≡ step.Refused (told.Grow (put_fault_of fault true g.puts)) → IsBookRefusal g.live m1 (length records) fault → GrowthStep m w kept_hand (step.Put k records) answer 0
+    put_told : {answer : Answer R} (fault : GrowFault) → answer ≡ step.Refused (told.Grow (put_fault_of fault true g.puts)) → IsBookRefusal g.live m1 (length records) fault
+        → GrowthStep m w kept_hand (step.Put k records) answer 0
     put_told grow.Closed is why = put_strays kept_hand g.puts is refl
     put_told (grow.Strayed n) is why = put_strays kept_hand n is refl
     put_told grow.Full is why = refused_by grow.Full is refl (stops _ (told.Grow grow.Full) _ (le-leb phase.room (length (growths_of w phase)) (let le = why.1 in let room = tie.room_is in omega (arith, le, long, room)))) calm_same
@@ -129,7 +119,8 @@ module _ {R D : Type 0} {m : Medium R D} {w : World R} {phase : Growth} {g : Gro
   stray_fault other = (g.puts, refl)
 
   pub put_errs : {answer : Answer R} (fault : GrowFault) (all_known : Bool) {known : ℕ} → answer ≡ step.Refused (told.Grow (put_fault_of fault all_known g.puts)) → SeatLearns m0 m1
-      → IsBookRefusal g.live m1 (length records) fault → known ≡ length m1.pass.entries → (all_known ≡ true → known ≡ g.puts) → GrowthStep m w (record g { seats = row }) (step.Put k records) answer 0
+      → IsBookRefusal g.live m1 (length records) fault → known ≡ length m1.pass.entries → (all_known ≡ true → known ≡ g.puts)
+      → GrowthStep m w (record g { seats = row }) (step.Put k records) answer 0
   put_errs fault true is learns why known_is all = put_told learns known_is (all refl) fault is why
   put_errs fault false is learns why known_is all =
       let stray = stray_fault fault in

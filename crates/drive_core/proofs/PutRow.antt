@@ -97,12 +97,18 @@ lent_new seats k old new lent less at is =
     let long = length_set seats k new in
     same_Some lent new (sym (lent_at (slice_set seats k new) k lent (omega (arith, less, long)) is) ∙ get_set_same seats k old new at)
 
+-- the last of the row is some seat
+pub find_met : {R : Type 0} {seats row : List (Seated R)} {k last : ℕ} {old : Seated R} (new : Seated R) → k < length seats → slice_get seats k ≡ Some old → last < length seats
+    → ((mine theirs : Seated R) → slice_get (slice_set seats k new) k ≡ Some mine → slice_get (slice_set seats k new) last ≡ Some theirs → MeetsIn (slice_set seats k new) row k mine theirs)
+    → (other : Seated R) × HasMet seats last k old new other row
+find_met {seats = seats} {k = k} {last = last} {old = old} new inside at last_inside meets =
+    let long = length_set seats k new in
+    let other = there_is (slice_set seats k new) last (omega (arith, long, last_inside)) in
+    (other.0, record { inside = inside; at = at; at_last = other.1; meets = meets new other.0 (get_set_same seats k old new at) other.1 })
+
 -- the row keeps its length
-pub met_inside : {R : Type 0} (seats row : List (Seated R)) (k n last : ℕ) (m0 m1 : Seated R) → k < length seats → slice_get seats k ≡ Some m0 → n < length seats → last < length seats
-    → ((m t : Seated R) → slice_get (slice_set seats k m1) k ≡ Some m → slice_get (slice_set seats k m1) last ≡ Some t → MeetsIn (slice_set seats k m1) row k m t) → n < length row
-met_inside seats row k n last m0 m1 less at0 inside last_inside meets =
-    let long = length_set seats k m1 in
-    let t = there_is (slice_set seats k m1) last (omega (arith, long, last_inside)) in
-    let met = meets m1 t.0 (get_set_same seats k m0 m1 at0) t.1 in
-    let all = ap length met.row_is ∙ length_set (slice_set seats k m1) k met.met in
-    omega (arith, all, long, inside)
+pub met_inside : {R : Type 0} {seats row : List (Seated R)} {last k : ℕ} {old new other : Seated R} (n : ℕ) → HasMet seats last k old new other row → n < length seats → n < length row
+met_inside {seats = seats} {k = k} {new = new} n has_met less =
+    let one = length_set seats k new in
+    let all = ap length has_met.meets.row_is ∙ length_set (slice_set seats k new) k has_met.meets.met in
+    omega (arith, all, one, less)

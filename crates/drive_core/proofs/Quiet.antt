@@ -18,7 +18,7 @@ use Rattle.drive_core.specs.Ties.{GrowingOf, IsGrowing, IsBehind}
 use Rattle.drive_core.specs.GrowthTies.{GrowthStep}
 use Rattle.drive_core.proofs.Seated.{knows}
 use Rattle.drive_core.proofs.Steps.{at_phase, answered, still}
-use Rattle.drive_core.proofs.Ties.{behind_of}
+use Rattle.drive_core.proofs.Ties.{other_flusher, other_mark, flushes_on, behind_of}
 
 -- where a log job may be begun none is in hand
 pub idle_job : {D : Type 0} (p : PenOf D) → first_refusal (ready_lines p) ≡ None → p.job ≡ None
@@ -30,7 +30,8 @@ idle_job p is = at p.broken p.job is
     at false (Some job) is = absurd cc
 
 -- what is in hand by another name
-pub same_hand : {R D : Type 0} {m : Medium R D} {w : World R} {asked : Step R} {answer : Answer R} {g' h : GrowingOf R D} → g' ≡ h → GrowthStep m w h asked answer 0 → GrowthStep m w g' asked answer 0
+pub same_hand : {R D : Type 0} {m : Medium R D} {w : World R} {asked : Step R} {answer : Answer R} {g' h : GrowingOf R D} → g' ≡ h → GrowthStep m w h asked answer 0
+    → GrowthStep m w g' asked answer 0
 same_hand {m = m} {w = w} {asked = asked} {answer = answer} is = subst (λ x. GrowthStep m w x asked answer 0) (sym is)
 
 of_seat : {R : Type 0} (w w' : World R) (answer : Answer R) (b : Bool) (Row : Type 0) → b ≡ true → Row → OfSeat w answer w' b Row
@@ -57,56 +58,23 @@ module _ {R D : Type 0} {m : Medium R D} {w : World R} {phase : Growth} {g : Gro
   abbrev raised : Growth
   raised = record phase { mark = w.settled - phase.before }
 
-  raise_tie : (mark : MarkEnd) (count : ℕ) → count ≡ g.flusher.settled → IsGrowing m (within w raised) raised (record g { flusher = told_flusher mark; mark = count })
-  raise_tie mark count is = record {
-    phase_is = refl;
-    calm = tie.calm;
-    entries = tie.entries;
-    growths = tie.growths;
-    puts_is = tie.puts_is;
-    room_is = tie.room_is;
-    closed_is = tie.closed_is;
-    mark_is = (let settled = tie.flusher.settled_is in omega (arith, settled, is));
-    seats = tie.seats;
-    flusher = record {
-      knows = tie.flusher.knows;
-      known_is = tie.flusher.known_is;
-      taken_is = tie.flusher.taken_is;
-      taken_within = tie.flusher.taken_within;
-      job_brings = tie.flusher.job_brings;
-      settled_is = tie.flusher.settled_is;
-    };
-    hand_is = tie.hand_is;
-    disk_is = tie.disk_is;
-  }
+  raise_tie : (mark : MarkEnd) → IsGrowing m (within w raised) raised (record g { flusher = told_flusher mark; mark = w.settled - phase.before; closed = phase.closed })
+  raise_tie mark = other_flusher (other_mark tie (w.settled - phase.before) phase.closed) (Growing raised) phase.flusher phase.taken w.settled w.hand w.disk (told_flusher mark) refl
+      (flushes_on tie refl refl tie.flusher.job_brings tie.flusher.settled_is) tie.hand_is tie.disk_is
 
   pub raise_steps : {answer : Answer R} (mark : MarkEnd) (new : FlusherOf R D) (count : ℕ) → new ≡ told_flusher mark → count ≡ g.flusher.settled → answer ≡ step.Raised count
       → GrowthStep m w (record g { flusher = new; mark = count }) step.Raise answer 0
   raise_steps mark new count is counted told =
       let settled : count ≡ w.settled - phase.before = (let settled = tie.flusher.settled_is in omega (arith, settled, counted)) in
-      same_hand (λ i. record g { flusher = is i; mark = count })
-      (answered told (quiet_steps (within w raised) (ap step.Raised settled, refl) refl refl tie.calm (behind_of (raise_tie mark count counted))))
+      same_hand (λ i. record g { flusher = is i; mark = settled i; closed = tie.closed_is i })
+      (answered told (quiet_steps (within w raised) (ap step.Raised settled, refl) refl refl tie.calm (behind_of (raise_tie mark))))
 
   -- ---- the close
 
   abbrev closed : Growth
   closed = record phase { closed = true }
 
-  close_tie : IsGrowing m (within w closed) closed (record g { closed = true })
-  close_tie = record {
-    phase_is = refl;
-    calm = tie.calm;
-    entries = tie.entries;
-    growths = tie.growths;
-    puts_is = tie.puts_is;
-    room_is = tie.room_is;
-    closed_is = refl;
-    mark_is = tie.mark_is;
-    seats = tie.seats;
-    flusher = tie.flusher;
-    hand_is = tie.hand_is;
-    disk_is = tie.disk_is;
-  }
-
   pub close_steps : {answer : Answer R} → answer ≡ step.Fine → GrowthStep m w (record g { closed = true }) step.Close answer 0
-  close_steps is = answered is (quiet_steps (within w closed) (refl, refl) refl refl tie.calm (behind_of close_tie))
+  close_steps is =
+      same_hand (λ i. record g { closed = true; mark = tie.mark_is i })
+      (answered is (quiet_steps (within w closed) (refl, refl) refl refl tie.calm (behind_of (other_mark tie phase.mark true))))

@@ -37,7 +37,8 @@ module _ {R : Type 0} {known made told : List ℕ} {seats : List (Seated R)} {co
   knows_few = begins-le old.pass.entries entries (seated.each k old at).knows
 
   -- a seat that has made no growth more, in a row that counts so
-  pub replaced : {known' told' : List ℕ} {row : List (Seated R)} (new : Seated R) → row ≡ slice_set seats k new → known' ≡ map knows (slice_set seats k new) → told' ≡ map hears (slice_set seats k new)
+  pub replaced : {known' told' : List ℕ} {row : List (Seated R)} (new : Seated R) → row ≡ slice_set seats k new → known' ≡ map knows (slice_set seats k new)
+      → told' ≡ map hears (slice_set seats k new)
       → length new.made ≡ length old.made → IsSeat entries k new → (old.pass.entries ≡ entries → new.pass.entries ≡ entries) → AreSeated known' made told' row count last entries
   replaced {known'} {told'} new row_is known_is told_is made_same seat all = subst (λ row. AreSeated known' made told' row count last entries) (sym row_is) (record {
     known_are = known_is;

@@ -113,7 +113,8 @@ module _ {X : Type 0} where
       tail (z ∷ zs) = zs
 
 module _ {R : Type 0} (entries : List (block.Growth R)) (seats : List (Seated R)) (k : ℕ) (old new : Seated R) (at : slice_get seats k ≡ Some old) where
-  pub each_replaced : ((j : ℕ) (seat : Seated R) → slice_get seats j ≡ Some seat → IsSeat entries j seat) → IsSeat entries k new → (j : ℕ) (seat : Seated R) → slice_get (slice_set seats k new) j ≡ Some seat → IsSeat entries j seat
+  pub each_replaced : ((j : ℕ) (seat : Seated R) → slice_get seats j ≡ Some seat → IsSeat entries j seat) → IsSeat entries k new → (j : ℕ) (seat : Seated R)
+      → slice_get (slice_set seats k new) j ≡ Some seat → IsSeat entries j seat
   each_replaced each is j seat there = elim (get_set seats k j new seat there) [
     | inl here ↦ subst (λ (x : ℕ × Seated R). IsSeat entries x.0 x.1) (λ i. (sym here.0 i, here.1 i)) is
     | inr other ↦ each j seat other
@@ -127,7 +128,8 @@ module _ {R : Type 0} (entries : List (block.Growth R)) (seats : List (Seated R)
   ]
 
 -- seats of a book
-pub of_replaced : {R : Type 0} (seats : List (Seated R)) (k : ℕ) (new : Seated R) (live : book.Phase R) → AreSeatsOf live seats → book.IsSeatOf live new → AreSeatsOf live (slice_set seats k new)
+pub of_replaced : {R : Type 0} (seats : List (Seated R)) (k : ℕ) (new : Seated R) (live : book.Phase R) → AreSeatsOf live seats → book.IsSeatOf live new
+    → AreSeatsOf live (slice_set seats k new)
 of_replaced seats k new live are is j seat there = elim (get_set seats k j new seat there) [
   | inl here ↦ subst (book.IsSeatOf live) here.1 is
   | inr other ↦ are j seat other
@@ -144,7 +146,8 @@ module _ {R : Type 0} (items front back : List (Seated R)) (n k : ℕ) (items_ar
       (let all = length-append (slice_set front k f) (slice_set back 0 b) in let one = length_set front k f in let two = length_set back 0 b in let parts = ap length items_are ∙ length-append front back in omega (arith, all, one, two, parts, long))
 
   -- the first stands in front
-  pub meets_front : (mine theirs mine' theirs' m t : Seated R) → slice_get front k ≡ Some mine → slice_get back 0 ≡ Some theirs → theirs' ≡ theirs → SeatLearns mine mine' → Agree mine.pass.entries theirs.pass.entries → IsLongerOf mine.pass.entries theirs.pass.entries mine'.pass.entries
+  pub meets_front : (mine theirs mine' theirs' m t : Seated R) → slice_get front k ≡ Some mine → slice_get back 0 ≡ Some theirs → theirs' ≡ theirs → SeatLearns mine mine'
+      → Agree mine.pass.entries theirs.pass.entries → IsLongerOf mine.pass.entries theirs.pass.entries mine'.pass.entries
       → slice_get items k ≡ Some m → slice_get items (length front) ≡ Some t
       → MeetsIn items (take n ((slice_set front k mine' ++ slice_set back 0 theirs') ++ drop (length (slice_set front k mine' ++ slice_set back 0 theirs')) items)) k m t
   meets_front mine theirs mine' theirs' m t at_mine at_theirs same learns agree meets at_m at_t =
@@ -159,7 +162,8 @@ module _ {R : Type 0} (items front back : List (Seated R)) (n k : ℕ) (items_ar
       }))
 
   -- or behind
-  pub meets_back : (mine theirs mine' theirs' m t : Seated R) → slice_get back 0 ≡ Some mine → slice_get front k ≡ Some theirs → theirs' ≡ theirs → SeatLearns mine mine' → Agree mine.pass.entries theirs.pass.entries → IsLongerOf mine.pass.entries theirs.pass.entries mine'.pass.entries
+  pub meets_back : (mine theirs mine' theirs' m t : Seated R) → slice_get back 0 ≡ Some mine → slice_get front k ≡ Some theirs → theirs' ≡ theirs → SeatLearns mine mine'
+      → Agree mine.pass.entries theirs.pass.entries → IsLongerOf mine.pass.entries theirs.pass.entries mine'.pass.entries
       → slice_get items (length front) ≡ Some m → slice_get items k ≡ Some t
       → MeetsIn items (take n ((slice_set front k theirs' ++ slice_set back 0 mine') ++ drop (length (slice_set front k theirs' ++ slice_set back 0 mine')) items)) (length front) m t
   meets_back mine theirs mine' theirs' m t at_mine at_theirs same learns agree meets at_m at_t =
@@ -173,7 +177,8 @@ module _ {R : Type 0} (items front back : List (Seated R)) (n k : ℕ) (items_ar
         meets = meets;
       }))
 
-  pub meets_back_at : (j : ℕ) (mine theirs mine' theirs' m t : Seated R) → length front ≡ j → slice_get back 0 ≡ Some mine → slice_get front k ≡ Some theirs → theirs' ≡ theirs → SeatLearns mine mine' → Agree mine.pass.entries theirs.pass.entries → IsLongerOf mine.pass.entries theirs.pass.entries mine'.pass.entries
+  pub meets_back_at : (j : ℕ) (mine theirs mine' theirs' m t : Seated R) → length front ≡ j → slice_get back 0 ≡ Some mine → slice_get front k ≡ Some theirs → theirs' ≡ theirs
+      → SeatLearns mine mine' → Agree mine.pass.entries theirs.pass.entries → IsLongerOf mine.pass.entries theirs.pass.entries mine'.pass.entries
       → slice_get items j ≡ Some m → slice_get items k ≡ Some t
       → MeetsIn items (take n ((slice_set front k theirs' ++ slice_set back 0 mine') ++ drop (length (slice_set front k theirs' ++ slice_set back 0 mine')) items)) j m t
   meets_back_at j mine theirs mine' theirs' m t at at_mine at_theirs same learns agree meets at_m at_t =
@@ -194,5 +199,6 @@ pub of_learns : {R : Type 0} (live : book.Phase R) (old new : Seated R) → book
 of_learns live old new is learns = record { directory = learns.of ∙ is.directory; mark = ap (λ (m : _). m.of) learns.mark ∙ is.mark }
 
 -- a row of seats of a book stays one
-pub of_met : {R : Type 0} (live : book.Phase R) (items new : List (Seated R)) (k : ℕ) (m t : Seated R) → AreSeatsOf live items → slice_get items k ≡ Some m → MeetsIn items new k m t → AreSeatsOf live new
+pub of_met : {R : Type 0} (live : book.Phase R) (items new : List (Seated R)) (k : ℕ) (m t : Seated R) → AreSeatsOf live items → slice_get items k ≡ Some m → MeetsIn items new k m t
+    → AreSeatsOf live new
 of_met live items new k m t are at_m met = subst (AreSeatsOf live) (sym met.row_is) (of_replaced items k met.met live are (of_learns live m met.met (are k m at_m) met.learns))

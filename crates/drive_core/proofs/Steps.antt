@@ -27,7 +27,8 @@ module _ {R : Type 0} {form : Encoding R} {keeps : Type 0} {Tied : World R → T
   counted {asked} {answer} is steps = subst (λ k. Steps form keeps Tied w asked answer k) is steps
 
   -- what is tied to the world behind it, by more
-  pub tied_to : {Left : World R → Type 0} {asked : Step R} {answer : Answer R} {n : ℕ} → ((w' : World R) → Tied w' → Left w') → Steps form keeps Tied w asked answer n → Steps form keeps Left w asked answer n
+  pub tied_to : {Left : World R → Type 0} {asked : Step R} {answer : Answer R} {n : ℕ} → ((w' : World R) → Tied w' → Left w') → Steps form keeps Tied w asked answer n
+      → Steps form keeps Left w asked answer n
   tied_to to steps = record {
     after = steps.after;
     is_event = steps.is_event;
@@ -38,7 +39,8 @@ module _ {R : Type 0} {form : Encoding R} {keeps : Type 0} {Tied : World R → T
   }
 
   -- where no call is made nothing is left within the step
-  pub still : {asked : Step R} {answer : Answer R} (w' : World R) → IsStep form keeps w asked answer w' → HasCalls w asked answer 0 → w'.disk ≡ w.disk → w'.strayed ≡ stray_in answer → Tied w'
+  pub still : {asked : Step R} {answer : Answer R} (w' : World R) → IsStep form keeps w asked answer w' → HasCalls w asked answer 0 → w'.disk ≡ w.disk → w'.strayed ≡ stray_in answer
+      → Tied w'
       → Steps form keeps Tied w asked answer 0
   still w' row calls disk stray tied = record {
     after = w';

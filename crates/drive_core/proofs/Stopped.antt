@@ -74,7 +74,8 @@ module _ {R : Type 0} (w w' : World R) (n : ℕ) (there : HasFile w.phase) (brok
   misplaced asked answer calls row = refuses asked answer (Vault vault.WrongPhase) ((λ most n is. is), (λ n is. is)) row.0 calls row.1
 
   -- a table that begins with the broken pen: it is refused so
-  table : (asked : Step R) (answer : Answer R) (lines : List Line) {Accepted : Type 0} {By : Fault → Type 0} → HasCalls w asked answer n → ((given : Option Fault) → Allows lines given → given ≡ Some broken_fault) → (By broken_fault → w' ≡ w)
+  table : (asked : Step R) (answer : Answer R) (lines : List Line) {Accepted : Type 0} {By : Fault → Type 0} → HasCalls w asked answer n
+      → ((given : Option Fault) → Allows lines given → given ≡ Some broken_fault) → (By broken_fault → w' ≡ w)
       → (Allows lines None × Accepted) ⊎ ((fault : Fault) × Allows lines (Some fault) × (answer ≡ step.Refused fault) × By fault) → Stopped w' n
   table asked answer lines {By = By} calls first still row = elim row [
     | inl ok ↦ absurd (let is = first None ok.0 in cc)
@@ -181,7 +182,8 @@ module _ {R : Type 0} (form : Encoding R) (keeps : Type 0) where
       omega (arith, time, rest, more)
 
   -- from a world with a file whose pen is broken no step calls the device, and the pen stays broken
-  pub stopped_run : (w : World R) (events : List (Event R)) → HasFile w.phase → w.hand.broken ≡ true → Run form keeps w events → (sum (map (λ e. e.calls) events) ≡ 0) × ((last w events).hand.broken ≡ true)
+  pub stopped_run : (w : World R) (events : List (Event R)) → HasFile w.phase → w.hand.broken ≡ true → Run form keeps w events
+      → (sum (map (λ e. e.calls) events) ≡ 0) × ((last w events).hand.broken ≡ true)
   stopped_run w [] there broken run = (refl, broken)
   stopped_run w (e ∷ events) there broken run =
       let stopped = step_stops w e.after e.calls there broken form keeps e.asked e.answer run.0.called run.0.row in

@@ -41,9 +41,11 @@ pen_stops ((true, first) ∷ lines) behind fault is = sym (ap as_fault is)
 pen_stops ((false, first) ∷ lines) behind fault is = pen_stops lines behind fault is
 
 -- what the pen may answer in place of success is what its table allows
-pub pen_refuses : (lines : List (Bool × PenFault)) (more : List Line) (fault : PenFault) → IsRefusal lines fault → Allows (pen_table lines (Might is_vault_memory ∷ more)) (Some (Vault (vault.Pen fault)))
+pub pen_refuses : (lines : List (Bool × PenFault)) (more : List Line) (fault : PenFault) → IsRefusal lines fault
+    → Allows (pen_table lines (Might is_vault_memory ∷ more)) (Some (Vault (vault.Pen fault)))
 pen_refuses lines more fault is = at (first_refusal lines) refl is
   where
-    at : (o : Option PenFault) → first_refusal lines ≡ o → MatchOption o (fault ≡ pen.Memory) (λ first. fault ≡ first) → Allows (pen_table lines (Might is_vault_memory ∷ more)) (Some (Vault (vault.Pen fault)))
+    at : (o : Option PenFault) → first_refusal lines ≡ o → MatchOption o (fault ≡ pen.Memory) (λ first. fault ≡ first)
+        → Allows (pen_table lines (Might is_vault_memory ∷ more)) (Some (Vault (vault.Pen fault)))
     at None none memory = pen_passes lines (Might is_vault_memory ∷ more) (Some (Vault (vault.Pen fault))) none (inl (Vault (vault.Pen fault), refl, ap (λ f. is_vault_memory (Vault (vault.Pen f))) memory))
     at (Some first) some same = pen_stops lines (Might is_vault_memory ∷ more) fault (some ∙ ap Some (sym same))

@@ -138,7 +138,8 @@ module _ {R D : Type 0} {m : Medium R D} {w : World R} {phase : Growth} {g : Gro
         (flushes_on tie pass_same taken (let was = tie.flusher.job_brings in let job = ap growths_in_hand same.job_same in omega (arith, was, job, taken, settled_same)) settled_is)
         (tie.hand_is ∙ sym (hand_unchanged g.flusher.pen new.pen same)) (tie.disk_is ∙ ap (disk_of m.states m.faults) (sym same.disk_same)))
 
-    pub take_refuses : {answer : Answer R} (fault : FlushFault) → answer ≡ step.Refused (of_flush fault) → IsTakeFault m.form.width g.flusher fault → IsUnchanged g.flusher.pen new.pen → new.taken ≡ g.flusher.taken
+    pub take_refuses : {answer : Answer R} (fault : FlushFault) → answer ≡ step.Refused (of_flush fault) → IsTakeFault m.form.width g.flusher fault → IsUnchanged g.flusher.pen new.pen
+        → new.taken ≡ g.flusher.taken
         → GrowthStep m w (record g { flusher = new }) step.Take answer 0
     take_refuses (flush.Strayed number) is why same taken = absurd why
     take_refuses (flush.Pen fault) is why same taken = answered is (quiet_steps tie w (inr (Vault (vault.Pen fault), table, refl, refl)) refl refl tie.calm (none_tie same taken))

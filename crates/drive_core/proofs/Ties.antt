@@ -1,5 +1,5 @@
 -- What the tie of a growth phase says of its lists, and the tie behind a step.
-use Rattle.std.proofs.Common.{◌≡◌, ℕ, ◌+◌, List, [], ◌∷◌, ◌++◌, length, map, take, drop, Some, None, refl, sym, ap, subst, ◌∙◌, arith, append_assoc, append-nil, length-append}
+use Rattle.std.proofs.Common.{Bool, ◌≡◌, ℕ, ◌+◌, List, [], ◌∷◌, ◌++◌, length, map, take, drop, Some, None, refl, sym, ap, subst, ◌∙◌, arith, append_assoc, append-nil, length-append}
 use Rattle.std.proofs.lemmas.List.{length-map, take-map, take_all}
 use Rattle.std.proofs.Math.Seq.{take-append-add, take-length}
 use Rattle.disk_core.specs.State.{IsImage, now}
@@ -10,13 +10,14 @@ use Rattle.pen_core.specs.Typed.{OpensTo}
 use Rattle.block_core.specs.Growth as block
 use Rattle.directory_core.specs.Chain.{IsPrefix, joined, total}
 use Rattle.directory_core.proofs.Chains.{length-joined}
-use Rattle.book_core.specs.Lists.{opening_of}
+use Rattle.book_core.specs.Lists.{Seated, opening_of}
 use Rattle.book_core.proofs.Owns.{take-begins}
 use Rattle.flush_core.specs.Flusher.{FlusherOf, IsFlusherOf, OpensToSettled, list_to}
 use Rattle.drive_core.specs.Medium.{Medium}
 use Rattle.drive_core.specs.World.{World, Growth, Phase, Growing, Hand, DiskOf, hand_of, growths_of, vector, vector_at}
 use Rattle.drive_core.specs.Headline.{OpensToPrefix, Rests, Leaves}
-use Rattle.drive_core.specs.Ties.{GrowingOf, IsGrowing, IsFlushing, IsBehind, grow_of, growths_in_hand, disk_of}
+use Rattle.drive_core.specs.GrowthRows.{within}
+use Rattle.drive_core.specs.Ties.{GrowingOf, IsGrowing, AreSeated, IsFlushing, IsBehind, grow_of, growths_in_hand, disk_of}
 use Rattle.drive_core.proofs.Seats.{begins-le}
 
 drop-append : {X : Type 0} (xs ys : List X) → drop (length xs) (xs ++ ys) ≡ ys
@@ -105,8 +106,44 @@ module _ {R D : Type 0} {m : Medium R D} {w : World R} {phase : Growth} {g : Gro
     disk_is = disk_is;
   }
 
+  -- nothing but what seats know and were told
+  abbrev pub other_seats : (known told : List ℕ) {row : List (Seated R)} → AreSeated known phase.made told row g.live.seat_count g.last tie.entries
+      → IsGrowing m (within w (record phase { known = known; told = told })) (record phase { known = known; told = told }) (record g { seats = row })
+  other_seats known told seated = record {
+    phase_is = refl;
+    calm = tie.calm;
+    entries = tie.entries;
+    growths = tie.growths;
+    puts_is = tie.puts_is;
+    room_is = tie.room_is;
+    closed_is = tie.closed_is;
+    mark_is = tie.mark_is;
+    seats = seated;
+    flusher = tie.flusher;
+    hand_is = tie.hand_is;
+    disk_is = tie.disk_is;
+  }
+
+  -- nothing but the mark, and whether the book was closed
+  abbrev pub other_mark : (mark : ℕ) (closed : Bool) → IsGrowing m (within w (record phase { mark = mark; closed = closed })) (record phase { mark = mark; closed = closed }) (record g { mark = mark; closed = closed })
+  other_mark mark closed = record {
+    phase_is = refl;
+    calm = tie.calm;
+    entries = tie.entries;
+    growths = tie.growths;
+    puts_is = tie.puts_is;
+    room_is = tie.room_is;
+    closed_is = refl;
+    mark_is = refl;
+    seats = tie.seats;
+    flusher = tie.flusher;
+    hand_is = tie.hand_is;
+    disk_is = tie.disk_is;
+  }
+
   -- a flusher that knows what it knew and has taken what it had
-  pub flushes_on : {new : FlusherOf R D} {settled : ℕ} → new.pass ≡ g.flusher.pass → new.taken ≡ g.flusher.taken → new.taken ≡ new.settled + growths_in_hand new.pen.job → settled ≡ phase.before + new.settled
+  pub flushes_on : {new : FlusherOf R D} {settled : ℕ} → new.pass ≡ g.flusher.pass → new.taken ≡ g.flusher.taken → new.taken ≡ new.settled + growths_in_hand new.pen.job
+      → settled ≡ phase.before + new.settled
       → IsFlushing phase.flusher phase.taken phase.before settled tie.entries new
   flushes_on pass taken brings settled_is = record {
     knows = subst (λ (p : _). IsPrefix p.entries tie.entries) (sym pass) tie.flusher.knows;

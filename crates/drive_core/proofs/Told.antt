@@ -18,7 +18,7 @@ use Rattle.drive_core.specs.GrowthTies.{GrowthStep}
 use Rattle.drive_core.proofs.Quiet.{quiet_steps, seat_row}
 use Rattle.drive_core.proofs.Seated.{counts_set, counts_kept, knows, hears, told_at, replaced}
 use Rattle.drive_core.proofs.Steps.{answered}
-use Rattle.drive_core.proofs.Ties.{behind_of, strayed_behind}
+use Rattle.drive_core.proofs.Ties.{other_seats, behind_of, strayed_behind}
 
 module _ {R D : Type 0} {m : Medium R D} {w : World R} {phase : Growth} {g : GrowingOf R D} (tie : IsGrowing m w phase g)
     {k : ℕ} {old : Seated R} (inside : k < length g.seats) (at : slice_get g.seats k ≡ Some old) where
@@ -27,23 +27,12 @@ module _ {R D : Type 0} {m : Medium R D} {w : World R} {phase : Growth} {g : Gro
     hearing = record phase { told = slice_set phase.told k count }
 
     told_tie : IsGrowing m (within w hearing) hearing (record g { seats = slice_set g.seats k new })
-    told_tie = record {
-      phase_is = refl;
-      calm = tie.calm;
-      entries = tie.entries;
-      growths = tie.growths;
-      puts_is = tie.puts_is;
-      room_is = tie.room_is;
-      closed_is = tie.closed_is;
-      mark_is = tie.mark_is;
-      seats = replaced tie.seats k at new refl (counts_kept knows g.seats tie.seats.known_are k new at (ap (λ (p : _). length p.entries) told.same.2))
-          (counts_set hears g.seats tie.seats.told_are k new (sym (ap (λ (m : _). m.told.count) told.mark))) (ap length told.same.1)
-          (let was = tie.seats.each k old at in record { id_is = told.same.0 ∙ was.id_is; knows = subst (λ (p : _). IsPrefix p.entries tie.entries) (sym told.same.2) was.knows })
-          (λ all. ap (λ (p : _). p.entries) told.same.2 ∙ all);
-      flusher = tie.flusher;
-      hand_is = tie.hand_is;
-      disk_is = tie.disk_is;
-    }
+    told_tie = other_seats tie phase.known (slice_set phase.told k count) (replaced tie.seats k at new refl
+        (counts_kept knows g.seats tie.seats.known_are k new at (ap (λ (p : _). length p.entries) told.same.2))
+        (counts_set hears g.seats tie.seats.told_are k new (sym (ap (λ (m : _). m.told.count) told.mark)))
+        (ap length told.same.1)
+        (let was = tie.seats.each k old at in record { id_is = told.same.0 ∙ was.id_is; knows = subst (λ (p : _). IsPrefix p.entries tie.entries) (sym told.same.2) was.knows })
+        (λ all. ap (λ (p : _). p.entries) told.same.2 ∙ all))
 
     pub told_answers : {answer : Answer R} → answer ≡ step.Told count Running → count ≤ g.mark → GrowthStep m w (record g { seats = slice_set g.seats k new }) (step.Settled k) answer 0
     told_answers is most =

@@ -75,7 +75,8 @@ module _ {R D : Type 0} {m : Medium R D} {w : World R} {v : VaultOf R D} (tie : 
   module _ (new : VaultOf R D) where
     pub vault_steps : {asked : Step R} {answer : Answer R} (w' : World R) (n : ℕ)
         → ExclusiveRow m.form (m.keeps new.pen.disk) w asked answer w' → HasCalls w asked answer n → clock (m.states new.pen.disk) ≡ clock (m.states v.pen.disk) + n
-        → n < 2 ^ 64 → (n ≡ 0 → w'.disk ≡ w.disk) → stray_in answer ≡ None → (tied : IsExclusive m w' new) → (m.keeps new.pen.disk → Leaves m.form w w') → (m.keeps new.pen.disk → Rests m.form w')
+        → n < 2 ^ 64 → (n ≡ 0 → w'.disk ≡ w.disk) → stray_in answer ≡ None → (tied : IsExclusive m w' new) → (m.keeps new.pen.disk → Leaves m.form w w')
+        → (m.keeps new.pen.disk → Rests m.form w')
         → VaultStep m w v new asked answer
     vault_steps {asked} {answer} w' n row calls time few still calm tied leaves rests =
         let reading : n ≡ calls_between (m.states v.pen.disk) (m.states new.pen.disk) = omega (arith, time) in
@@ -125,5 +126,6 @@ module _ {R D : Type 0} {m : Medium R D} {w : World R} {v : VaultOf R D} (tie : 
 pub holds_lent : {R D : Type 0} (m : Medium R D) (v : VaultOf R D) {lent : D} → lent ≡ v.pen.disk → Holds m v lent → Holds m v v.pen.disk
 holds_lent m v is = subst (Holds m v) is
 
-pub rests_lent : {R D : Type 0} {m : Medium R D} {w : World R} {old : VaultOf R D} → IsExclusive m w old → (new : VaultOf R D) {lent : D} → lent ≡ new.pen.disk → Holds m new lent → Holds m new new.pen.disk
+pub rests_lent : {R D : Type 0} {m : Medium R D} {w : World R} {old : VaultOf R D} → IsExclusive m w old → (new : VaultOf R D) {lent : D} → lent ≡ new.pen.disk → Holds m new lent
+    → Holds m new new.pen.disk
 rests_lent {m = m} tie new is = holds_lent m new is

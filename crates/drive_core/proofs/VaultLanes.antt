@@ -45,7 +45,8 @@ module _ {R D : Type 0} {m : Medium R D} {w : World R} {v new : VaultOf R D} (ti
   abbrev behind : World R
   behind = behind_call w w.settled (hand_of new.pen) (disk_of m.states m.faults new.pen.disk)
 
-  ticked_tie : (m.keeps new.pen.disk → content w.base (take w.settled w.history) ≡ new.sure) → (new.pen.broken ≡ false → (w.settled ≡ length w.history) × (growths_in_hand new.pen.job ≡ 0))
+  ticked_tie : (m.keeps new.pen.disk → content w.base (take w.settled w.history) ≡ new.sure)
+      → (new.pen.broken ≡ false → (w.settled ≡ length w.history) × (growths_in_hand new.pen.job ≡ 0))
       → IsExclusive m behind new
   ticked_tie sure whole = record {
     phase_is = tie.phase_is;
@@ -162,16 +163,19 @@ module _ {R D : Type 0} {m : Medium R D} {w : World R} {v : VaultOf R D} (tie : 
     was_whole true by = by.ready.0
     was_whole false by = by.0.0
 
-    pub fold_answers : {answer : Answer R} → Plans w v.pen new.pen tie.hand_is (m.keeps v.pen.disk) → (m.keeps v.pen.disk → (image : List ℕ) → IsImage (now (m.states v.pen.disk)) image → MayOpen v.pen image)
+    pub fold_answers : {answer : Answer R} → Plans w v.pen new.pen tie.hand_is (m.keeps v.pen.disk)
+        → (m.keeps v.pen.disk → (image : List ℕ) → IsImage (now (m.states v.pen.disk)) image → MayOpen v.pen image)
         → (begun : Bool) → answer ≡ step.Begun begun → IsFoldAnswer v.pen new.pen begun → VaultStep m w v new step.Fold answer
     fold_answers plans opens begun is by =
         let disk = begun_disk w v.pen new.pen tie.hand_is begun by in
         let planned : Plans w v.pen new.pen tie.hand_is (m.keeps new.pen.disk) = λ kept. plans (subst m.keeps disk kept) in
-        let opening : Opening w v.pen new.pen tie.hand_is (m.keeps new.pen.disk) = λ kept image left. opens (subst m.keeps disk kept) image (subst (λ (d : DiskOf). IsImage (now d.states) image) tie.disk_is left) in
+        let opening : Opening w v.pen new.pen tie.hand_is (m.keeps new.pen.disk)
+        = λ kept image left. opens (subst m.keeps disk kept) image (subst (λ (d : DiskOf). IsImage (now d.states) image) tie.disk_is left) in
         answered is (still_steps tie new (record w { hand = hand_of new.pen }) (fold_answered w v.pen new.pen tie.hand_is (m.keeps new.pen.disk) planned opening begun by) refl disk refl
         (begun_tie disk (begun_job w v.pen new.pen tie.hand_is begun by) (λ on. was_whole begun by)))
 
-    pub fold_refuses : {answer : Answer R} (fault : VaultFault) → answer ≡ step.Refused (Vault fault) → commands.IsFoldFault v.pen fault → IsUnchanged v.pen new.pen → VaultStep m w v new step.Fold answer
+    pub fold_refuses : {answer : Answer R} (fault : VaultFault) → answer ≡ step.Refused (Vault fault) → commands.IsFoldFault v.pen fault → IsUnchanged v.pen new.pen
+        → VaultStep m w v new step.Fold answer
     fold_refuses (vault.Unsettled number) is why same = absurd why
     fold_refuses vault.WrongPhase is why same = absurd why
     fold_refuses (vault.Pen fault) is why same =

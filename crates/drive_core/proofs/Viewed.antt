@@ -34,7 +34,8 @@ module _ {R D : Type 0} {m : Medium R D} {w : World R} {phase : Growth} {g : Gro
       ap (λ es. opening_of g.live ++ joined es) (sym (tie.seats.each k seat at).knows) ∙ sym (list_at tie (length seat.pass.entries))
       ∙ ap (λ n. vector_at w phase n) (sym (known_at tie.seats k at))
 
-  pub view_answers : {answer : Answer R} (records : List R) → answer ≡ step.Listed records → records ≡ list_of g.live seat → GrowthStep m w (record g { seats = slice_set g.seats k new }) (step.View k) answer 0
+  pub view_answers : {answer : Answer R} (records : List R) → answer ≡ step.Listed records → records ≡ list_of g.live seat
+      → GrowthStep m w (record g { seats = slice_set g.seats k new }) (step.View k) answer 0
   view_answers records is list = same_hand same (answered is (quiet_steps tie w (seat_row tie inside w (step.Listed records) (IsView w phase k (step.Listed records) w)
       (inl (inr refl, (ap step.Listed (list ∙ viewed), refl)))) refl refl tie.calm (behind_of tie)))
 

@@ -13,7 +13,8 @@ use Rattle.drive_core.specs.Ties.{disk_of}
 use Rattle.drive_core.proofs.Headline.{headline}
 
 pub driven : {R : Type 0} (form : Encoding R) (keeps : Type 0) (old new : DiskOf) (steps : List (Step R)) (answers : List (Answer R)) (calls : List ℕ) (events : List (Event R))
-    → AreOf steps answers calls events → Run form keeps (start old) events → (last (start old) events).disk ≡ new → (keeps → AllInner form (start old) events) → IsDriven form keeps old steps answers calls new
+    → AreOf steps answers calls events → Run form keeps (start old) events → (last (start old) events).disk ≡ new → (keeps → AllInner form (start old) events)
+    → IsDriven form keeps old steps answers calls new
 driven form keeps old new steps answers calls events are run ends inner = record {
   events = events;
   are_of = are;
@@ -23,8 +24,10 @@ driven form keeps old new steps answers calls events are run ends inner = record
 }
 
 -- the run of all steps, on the disk that is handed back
-pub end_run : {R D : Type 0} (form : Encoding R) (states : D → List State) (faults : D → ℕ) (keeps : D → Type 0) (old mine new : D) → new ≡ mine → (Tied : World R → Type 0) (steps all : List (Step R)) (answers : List (Answer R)) (calls : List ℕ) → all ≡ steps
-    → HasRun form (keeps mine) Tied (start (disk_of states faults old)) steps answers calls → ((w : World R) → Tied w → w.disk ≡ disk_of states faults mine) → IsDriven form (keeps new) (disk_of states faults old) all answers calls (disk_of states faults new)
+pub end_run : {R D : Type 0} (form : Encoding R) (states : D → List State) (faults : D → ℕ) (keeps : D → Type 0) (old mine new : D) → new ≡ mine
+    → (Tied : World R → Type 0) (steps all : List (Step R)) (answers : List (Answer R)) (calls : List ℕ) → all ≡ steps
+    → HasRun form (keeps mine) Tied (start (disk_of states faults old)) steps answers calls → ((w : World R) → Tied w → w.disk ≡ disk_of states faults mine)
+    → IsDriven form (keeps new) (disk_of states faults old) all answers calls (disk_of states faults new)
 end_run {D = D} form states faults keeps old mine new is Tied steps all answers calls same r ends =
     subst (λ (d : D). IsDriven form (keeps d) (disk_of states faults old) all answers calls (disk_of states faults d)) (sym is)
     (subst (λ ss. IsDriven form (keeps mine) (disk_of states faults old) ss answers calls (disk_of states faults mine)) (sym same)

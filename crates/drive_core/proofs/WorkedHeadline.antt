@@ -12,10 +12,12 @@ module _ {R : Type 0} (form : Encoding R) (base : List R) (image : List ℕ) whe
   all_settled history prefix = subst (λ kept. OpensTo form image (content base kept)) (take_all prefix.kept history prefix.at_least) prefix.opens
 
   -- of two commands the first of which is settled, it opens to the vector after the first, or after both
-  pub first_settled : (one two : Command R) → OpensToPrefix form base (one ∷ two ∷ []) 1 image → OpensTo form image (content base (one ∷ [])) ⊎ OpensTo form image (content base (one ∷ two ∷ []))
+  pub first_settled : (one two : Command R) → OpensToPrefix form base (one ∷ two ∷ []) 1 image
+      → OpensTo form image (content base (one ∷ [])) ⊎ OpensTo form image (content base (one ∷ two ∷ []))
   first_settled one two prefix = of prefix.kept prefix.at_least prefix.at_most prefix.opens
     where
-      of : (kept : ℕ) → 1 ≤ kept → kept ≤ 2 → OpensTo form image (content base (take kept (one ∷ two ∷ []))) → OpensTo form image (content base (one ∷ [])) ⊎ OpensTo form image (content base (one ∷ two ∷ []))
+      of : (kept : ℕ) → 1 ≤ kept → kept ≤ 2 → OpensTo form image (content base (take kept (one ∷ two ∷ [])))
+          → OpensTo form image (content base (one ∷ [])) ⊎ OpensTo form image (content base (one ∷ two ∷ []))
       of zero least most opens = absurd (omega (arith, least))
       of (suc zero) least most opens = inl opens
       of (suc (suc zero)) least most opens = inr opens

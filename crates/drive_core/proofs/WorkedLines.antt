@@ -139,7 +139,8 @@ whole_calls hand whole = at hand.broken whole
 whole_refuses : (hand : Hand) (fault : Fault) → hand.broken ≡ false → Allows (device_lines hand true) (Some fault) → (cause : DiskFault) × (fault ≡ Vault (vault.Pen (pen.Disk cause)))
 whole_refuses hand fault whole allows = at hand.broken whole allows
   where
-    at : (broken : Bool) → broken ≡ false → Allows (When broken (Vault (vault.Pen pen.Broken)) ∷ Might is_disk ∷ []) (Some fault) → (cause : DiskFault) × (fault ≡ Vault (vault.Pen (pen.Disk cause)))
+    at : (broken : Bool) → broken ≡ false → Allows (When broken (Vault (vault.Pen pen.Broken)) ∷ Might is_disk ∷ []) (Some fault)
+        → (cause : DiskFault) × (fault ≡ Vault (vault.Pen (pen.Disk cause)))
     at true is allows = absurd cc
     at false is allows = elim allows [
       | inl might ↦ is_disk_alone fault (ap is_disk (same_Some fault might.0 might.1) ∙ might.2)

@@ -24,7 +24,8 @@ DriverStep m w old new strayed asked answer =
     Steps m.form (m.keeps (disk_in new)) (λ w'. IsDriver m w' new strayed) w asked answer (calls_between (m.states old) (m.states (disk_in new)))
 
 -- so from each world that is tied to what was in hand
-abbrev pub DriverSteps : {R D : Type 0} → Encoding R → (D → List State) → (D → ℕ) → (D → Type 0) → code.Phase R D → Option ℕ → code.Phase R D → Option ℕ → Step R → Answer R → Type 0
+abbrev pub DriverSteps : {R D : Type 0} → Encoding R → (D → List State) → (D → ℕ) → (D → Type 0) → code.Phase R D → Option ℕ → code.Phase R D → Option ℕ → Step R
+    → Answer R → Type 0
 DriverSteps {R} form states faults keeps old strayed_old new strayed_new asked answer =
     (w : World R) → IsDriver (medium form states faults keeps) w old strayed_old
     → DriverStep (medium form states faults keeps) w (disk_in old) new strayed_new asked answer

@@ -24,7 +24,12 @@ abbrev pub is_outside_limits : ℕ → ℕ → Bool
 is_outside_limits room seats = (room == 0 || nat_lt growth_limit room) || (seats == 0 || nat_lt seat_limit seats)
 
 abbrev pub share_lines : Hand → ℕ → ℕ → List Line
-share_lines hand room seats = When hand.broken (Vault (vault.Pen pen_fault.Broken)) ∷ When (is_some hand.job) (Vault (vault.Pen pen_fault.Busy)) ∷ When (is_outside_limits room seats) (Vault (vault.Pen pen_fault.TooLarge)) ∷ Might is_vault_memory ∷ []
+share_lines hand room seats =
+    When hand.broken (Vault (vault.Pen pen_fault.Broken))
+    ∷ When (is_some hand.job) (Vault (vault.Pen pen_fault.Busy))
+    ∷ When (is_outside_limits room seats) (Vault (vault.Pen pen_fault.TooLarge))
+    ∷ Might is_vault_memory
+    ∷ []
 
 module _ {R : Type 0} where
   abbrev pub first_growth : World R → ℕ → ℕ → Growth

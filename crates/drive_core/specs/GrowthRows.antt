@@ -119,6 +119,9 @@ module _ {R : Type 0} where
 
   abbrev pub IsGather : World R → Growth → Answer R → World R → Type 0
   IsGather w phase answer w' = Outcome
-      (When w.hand.broken (Vault (vault.Pen pen_fault.Broken)) ∷ When (nat_lt w.settled (length w.history)) (Vault (vault.Unsettled (w.settled - phase.before))) ∷ Might is_vault_memory ∷ []) answer
+      (When w.hand.broken (Vault (vault.Pen pen_fault.Broken))
+      ∷ When (nat_lt w.settled (length w.history)) (Vault (vault.Unsettled (w.settled - phase.before)))
+      ∷ Might is_vault_memory
+      ∷ []) answer
       ((answer ≡ step.Size (length (vector w))) × (w' ≡ record w { phase = Exclusive }))
       (λ fault. w' ≡ w)

@@ -23,7 +23,12 @@ use Rattle.drive_core.specs.World.{World, Hand, as_pen, is_live, file_with, grow
 use Rattle.drive_core.specs.Outcome.{Outcome, elsewhere, RefusedAt}
 
 abbrev pub fold_lines : Hand → Bool → List Line
-fold_lines hand true = When hand.broken (Vault (vault.Pen pen_fault.Broken)) ∷ When (is_some hand.fold) (Vault (vault.Pen pen_fault.Busy)) ∷ When (nat_le (2 ^ 48) (gate_behind_fold (as_pen hand 0))) (Vault (vault.Pen pen_fault.FileFull)) ∷ Might is_vault_memory ∷ []
+fold_lines hand true =
+    When hand.broken (Vault (vault.Pen pen_fault.Broken))
+    ∷ When (is_some hand.fold) (Vault (vault.Pen pen_fault.Busy))
+    ∷ When (nat_le (2 ^ 48) (gate_behind_fold (as_pen hand 0))) (Vault (vault.Pen pen_fault.FileFull))
+    ∷ Might is_vault_memory
+    ∷ []
 fold_lines hand false = When hand.broken (Vault (vault.Pen pen_fault.Broken)) ∷ When (is_some hand.fold) (Vault (vault.Pen pen_fault.Busy)) ∷ []
 
 abbrev pub device_lines : Hand → Bool → List Line

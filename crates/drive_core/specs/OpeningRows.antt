@@ -94,5 +94,6 @@ module _ {R : Type 0} (form : Encoding R) where
 
   abbrev pub IsOpen : Type 0 → World R → Answer R → World R → Type 0
   IsOpen keeps w answer w' = Outcome (Might is_disk ∷ Might is_scan ∷ []) answer
-      ((base : List R) × (file : File) × (answer ≡ step.Size (length base)) × (keeps → HasRead (bytes_of w.disk.states) base file) × HasTriedToOpen keeps None w w' × (w' ≡ elsewhere (opened w base file) w'))
+      ((base : List R) × (file : File) × (answer ≡ step.Size (length base)) × (keeps → HasRead (bytes_of w.disk.states) base file)
+      × HasTriedToOpen keeps None w w' × (w' ≡ elsewhere (opened w base file) w'))
       (NotOpened keeps w w')

@@ -2,7 +2,7 @@ use Rattle.std.proofs.Common.{ap, ◌∙◌}
 use Rattle.drive_core.specs.Medium.{medium}
 use Rattle.drive_core.specs.Step as step
 use Rattle.drive_core.specs.Asked.{answer_of}
-use Rattle.drive_core.proofs.Lanes.{IsTick, log_answers, log_refuses, rests-lent}
+use Rattle.drive_core.proofs.Lanes.{lent_tick, log_answers, log_refuses}
 use Rattle.drive_core.proofs.growing.Growing.log.Goals as goal
 use Rattle.drive_core.proofs.growing.Growing.log.Goals.{in-Ok, in-Err}
 
@@ -10,14 +10,7 @@ pub returns-clause-steps : goal.returns-clause-steps
 returns-clause-steps g c = rw (← c.self.view_is) (
     let m = medium g.R.Record.form g.D.Disk.states g.D.Disk.faults g.D.Disk.keeps in
     let e = c.tick-ticked.ensures in
-    let tick : IsTick m c.self.inside.live c.self.inside.flusher c.tick-ticked.new.self = record {
-      is = c.self.invariant.0;
-      same = e.same;
-      opening = e.opening;
-      model = e.model;
-      images = e.images;
-      rests = rests-lent m c.tick-ticked.new.self c.disk.ensures.disk c.disk.ensures.images;
-    } in
+    let tick = lent_tick m c.self.inside.live c.self.invariant.0 e.same e.opening e.model e.images c.disk.ensures.disk c.disk.ensures.images in
     elim c.match-ticked.branch [
       | in-Ok b ↦ λ w phase tie.
           let ok = b.in-Ok.ensures in

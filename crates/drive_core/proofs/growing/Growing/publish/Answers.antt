@@ -3,10 +3,10 @@ use Rattle.drive_core.specs.Asked.{answer_of}
 use Rattle.book_core.specs.Growing.{size_of}
 use Rattle.drive_core.specs.declared.fault.Fault.TheVariants as told
 use Rattle.drive_core.specs.Step as step
-use Rattle.drive_core.proofs.Seats.{of_replaced, lent_at, length_set, there_is, get_set_same}
+use Rattle.drive_core.proofs.Seats.{of_replaced, lent_at}
 use Rattle.drive_core.proofs.Put.{put_answers}
 use Rattle.drive_core.proofs.PutRefused.{put_errs, put_strays}
-use Rattle.drive_core.proofs.PutRow.{HasMet, met_inside, lent_new}
+use Rattle.drive_core.proofs.PutRow.{find_met, met_inside, lent_new}
 use Rattle.drive_core.proofs.Quiet.{same_hand}
 use Rattle.drive_core.proofs.growing.Growing.publish.Goals as goal
 use Rattle.drive_core.proofs.growing.Growing.publish.Goals.{in-Ok+else-receipt-self, in-Err}
@@ -19,48 +19,34 @@ pub invariant_of-self : goal.invariant_of-self
 invariant_of-self g c =
     let s = c.self.inside in
     let inside = subst (λ (v : _). c.args.seat < length v.seats) (sym c.self.view_is) c.requires.inside in
-    let at0 = lent_at s.seats.items c.args.seat c.index_mut.result.now inside c.index_mut.ensures.value in (
-      c.self.invariant.0,
-      c.meet_in.ensures.of,
-      met_inside s.seats.items c.meet_in.new.seats.items c.args.seat s.last s.last c.index_mut.result.now c.grow-grown.new.seat inside at0 c.self.invariant.2 c.self.invariant.2 c.meet_in.ensures.meets,
-    )
+    let at = lent_at s.seats.items c.args.seat c.index_mut.result.now inside c.index_mut.ensures.value in
+    let met = find_met c.grow-grown.new.seat inside at c.self.invariant.2 c.meet_in.ensures.meets in
+    (c.self.invariant.0, c.meet_in.ensures.of, met_inside s.last met.1 c.self.invariant.2)
 
 pub invariant_of-self-in-Ok : goal.invariant_of-self-in-Ok
 invariant_of-self-in-Ok g c =
     let s = c.self.inside in
     let inside = subst (λ (v : _). c.args.seat < length v.seats) (sym c.self.view_is) c.requires.inside in
-    let at0 = lent_at s.seats.items c.args.seat c.index_mut.result.now inside c.index_mut.ensures.value in (
-      c.self.invariant.0,
-      c.meet_in.ensures.of,
-      met_inside s.seats.items c.meet_in.new.seats.items c.args.seat c.args.seat s.last c.index_mut.result.now c.grow-grown.new.seat inside at0 inside c.self.invariant.2 c.meet_in.ensures.meets,
-    )
+    let at = lent_at s.seats.items c.args.seat c.index_mut.result.now inside c.index_mut.ensures.value in
+    let met = find_met c.grow-grown.new.seat inside at c.self.invariant.2 c.meet_in.ensures.meets in
+    (c.self.invariant.0, c.meet_in.ensures.of, met_inside c.args.seat met.1 inside)
 
 pub invariant_of-self-in-Err : goal.invariant_of-self-in-Err
 invariant_of-self-in-Err g c =
     let s = c.self.inside in
     let inside = subst (λ (v : _). c.args.seat < length v.seats) (sym c.self.view_is) c.requires.inside in
-    let at0 = lent_at s.seats.items c.args.seat c.index_mut.result.now inside c.index_mut.ensures.value in (
-      c.self.invariant.0,
-      c.meet_in.ensures.of,
-      met_inside s.seats.items c.meet_in.new.seats.items c.args.seat s.last s.last c.index_mut.result.now c.grow-grown.new.seat inside at0 c.self.invariant.2 c.self.invariant.2 c.meet_in.ensures.meets,
-    )
+    let at = lent_at s.seats.items c.args.seat c.index_mut.result.now inside c.index_mut.ensures.value in
+    let met = find_met c.grow-grown.new.seat inside at c.self.invariant.2 c.meet_in.ensures.meets in
+    (c.self.invariant.0, c.meet_in.ensures.of, met_inside s.last met.1 c.self.invariant.2)
 
 pub returns-then-receipt-self-clause-steps : goal.returns-then-receipt-self-clause-steps
 returns-then-receipt-self-clause-steps g c = rw (← c.self.view_is) (λ w phase tie.
     let s = c.self.inside in
-    let seats = s.seats.items in
-    let k = c.args.seat in
-    let m0 = c.index_mut.result.now in
-    let m1 = c.grow-grown.new.seat in
-    let inside = subst (λ (v : _). k < length v.seats) (sym c.self.view_is) c.requires.inside in
+    let inside = subst (λ (v : _). c.args.seat < length v.seats) (sym c.self.view_is) c.requires.inside in
     let not_closed = subst (λ (v : _). v.closed ≡ false) (sym c.self.view_is) c.requires.not_closed in
-    let at0 = lent_at seats k m0 inside c.index_mut.ensures.value in
-    let long = length_set seats k m1 in
-    let last = c.self.invariant.2 in
-    let t = there_is (slice_set seats k m1) s.last (omega (arith, long, last)) in
-    let has_met : HasMet seats s.last k m0 m1 t.0 c.meet_in.new.seats.items
-    = record { inside = inside; at = at0; at_last = t.1; meets = c.meet_in.ensures.meets m1 t.0 (get_set_same seats k m0 m1 at0) t.1 } in
-    put_strays tie has_met c.args.fresh not_closed c.requires.block _ s.puts refl refl)
+    let at = lent_at s.seats.items c.args.seat c.index_mut.result.now inside c.index_mut.ensures.value in
+    let met = find_met c.grow-grown.new.seat inside at c.self.invariant.2 c.meet_in.ensures.meets in
+    put_strays tie met.1 c.args.fresh not_closed c.requires.block _ s.puts refl refl)
 
 pub returns-clause-steps : goal.returns-clause-steps
 returns-clause-steps g c = rw (← c.self.view_is) (
@@ -71,26 +57,21 @@ returns-clause-steps g c = rw (← c.self.view_is) (
     let m1 = c.grow-grown.new.seat in
     let inside = subst (λ (v : _). k < length v.seats) (sym c.self.view_is) c.requires.inside in
     let not_closed = subst (λ (v : _). v.closed ≡ false) (sym c.self.view_is) c.requires.not_closed in
-    let at0 = lent_at seats k m0 inside c.index_mut.ensures.value in
-    let long = length_set seats k m1 in
-    let last = c.self.invariant.2 in
-    let t = there_is (slice_set seats k m1) s.last (omega (arith, long, last)) in
-    let has_met : HasMet seats s.last k m0 m1 t.0 c.meet_in.new.seats.items
-    = record { inside = inside; at = at0; at_last = t.1; meets = c.meet_in.ensures.meets m1 t.0 (get_set_same seats k m0 m1 at0) t.1 } in
-    let of1 = c.grow-grown.ensures.of in
-    let seen = lent_new seats k m0 m1 c.index.result.now inside at0 c.index.ensures in
-    let seen' = lent_new seats k m0 m1 c.index-2.result.now inside at0 c.index-2.ensures in
+    let at = lent_at seats k m0 inside c.index_mut.ensures.value in
+    let met = find_met m1 inside at c.self.invariant.2 c.meet_in.ensures.meets in
+    let seen = lent_new seats k m0 m1 c.index.result.now inside at c.index.ensures in
+    let seen' = lent_new seats k m0 m1 c.index-2.result.now inside at c.index-2.ensures in
     let known_is = c.known-known.ensures.count ∙ ap (λ (s : _). length s.pass.entries) seen in
     elim c.match-grown.branch [
       | in-Ok+else-receipt-self b ↦ λ w phase tie.
-          let room = ap (λ (s : _). s.pass.of.room) seen ∙ ap (λ (d : _). d.room) of1.directory in
+          let room = ap (λ (s : _). s.pass.of.room) seen ∙ ap (λ (d : _). d.room) c.grow-grown.ensures.of.directory in
           let in_room = c.known-known.ensures.in_room in
           let size = ap (size_of s.live) seen' in
           let sized = c.size.ensures.size in
           let in_limit = c.size.ensures.in_limit in
-          same_hand b.self-is (put_answers tie has_met not_closed c.requires.block b.in-Ok.ensures.list b.if-receipt-self.false known_is (ap answer_of b.result-is)
+          same_hand b.self-is (put_answers tie met.1 not_closed c.requires.block b.in-Ok.ensures.list b.if-receipt-self.false known_is (ap answer_of b.result-is)
           (omega (arith, in_room, room)) (omega (arith, size, sized, in_limit)))
       | in-Err b ↦ λ w phase tie.
-          same_hand b.self-is (put_errs tie has_met c.args.fresh not_closed c.requires.block b.in-Err.fault (c.known-known.result == s.puts)
+          same_hand b.self-is (put_errs tie met.1 c.args.fresh not_closed c.requires.block b.in-Err.fault (c.known-known.result == s.puts)
           (ap answer_of b.result-is ∙ ap (λ f. step.Refused (told.Grow f)) b.put_fault.ensures) b.in-Err.ensures.list.1 b.in-Err.ensures.fault known_is (eqb-true c.known-known.result s.puts))
     ])
