@@ -2,3 +2,4 @@ pub mod Group
 pub mod Flusher
 pub mod Refusals
 pub mod Serving
+pub mod Names

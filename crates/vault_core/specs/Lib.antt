@@ -10,3 +10,4 @@ pub mod Sharing
 pub mod Gathering
 pub mod Crewing
 pub mod Upgrading
+pub mod Names
