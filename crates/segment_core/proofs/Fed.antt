@@ -85,7 +85,7 @@ pub ended : {R : Type 0} (form : Encoding R) (image left : List ℕ) (scanner : 
 ended form image left scanner sound stands closed = record { sound = sound; frames = stands.frames; behind = stands.behind; framed = has_frames form image left scanner.walk stands closed }
 
 -- an image that ends inside a frame, or where a gate has to stand
-cut_fault : {R : Type 0} (form : Encoding R) (image left : List ℕ) (walk : Walk R) (fault : ScanFault)
+pub cut_fault : {R : Type 0} (form : Encoding R) (image left : List ℕ) (walk : Walk R) (fault : ScanFault)
     → IsSound form.width walk.shape.format image → StandsBefore form image left walk → is_closed left ≡ false
     → first_line (frame_lines walk.shape walk.at left) ≡ Some fault
     → IsRefused form image fault

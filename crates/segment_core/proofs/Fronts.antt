@@ -1,10 +1,11 @@
 -- What the first bytes of a frame show of the whole: its head, and the number that begins its payload.
-use Rattle.std.proofs.Common.{◌≡◌, ◌≤◌, ◌<◌, ℕ, ◌+◌, true, false, List, ◌++◌, length, take, drop, get_or, slice_index, Option, Some, Ok, Err, refl, sym, ap, subst, ◌∙◌, arith}
+use Rattle.std.proofs.Common.{◌≡◌, ◌≤◌, ◌<◌, ℕ, ◌+◌, true, false, List, [], ◌++◌, length, take, drop, get_or, slice_index, Option, Some, Ok, Err, refl, sym, ap, subst, ◌∙◌, arith}
 use Rattle.std.specs.Prelude.{min}
 use Rattle.std.specs.Int.{w32, w64, from_le_bytes}
 use Rattle.std.proofs.lemmas.Bool.{ne_eqb}
-use Rattle.std.proofs.lemmas.List.{length-drop, length-take-le, take-append-drop, take-append-le, drop-append-le, get_or_append_left}
+use Rattle.std.proofs.lemmas.List.{append-nil, length-drop, length-take-le, take-append-drop, take-append-le, drop-append-le, get_or_append_left}
 use Rattle.record_core.specs.Bytes.{IsBytes}
+use Rattle.segment_core.specs.declared.fault.ScanFault.{ScanFault}
 use Rattle.segment_core.specs.declared.format.FrameKind.{FrameKind}
 use Rattle.segment_core.specs.declared.format.FrameKind.TheVariants as kinds
 use Rattle.segment_core.specs.declared.format.Shape.{Shape}
@@ -13,8 +14,8 @@ use Rattle.segment_core.specs.declared.frame_head.Unread.{Unread}
 use Rattle.segment_core.specs.declared.frame_head.Unread.TheVariants.{Short, Fault}
 use Rattle.segment_core.specs.Kind.{kind_byte}
 use Rattle.segment_core.specs.Layout.{u32_at, u64_at, is_layout}
-use Rattle.segment_core.specs.Fault.{kind_in, payload_len_in, payload_in, is_kind}
-use Rattle.segment_core.specs.Reading.{IsNext}
+use Rattle.segment_core.specs.Fault.{first_line, frame_lines, is_closed, kind_in, payload_len_in, payload_in, is_kind}
+use Rattle.segment_core.specs.Reading.{IsNext, IsFaulty}
 use Rattle.segment_core.specs.FrameHead.{IsFrontOf, Shows, FitsNumber, IsHead, IsNextHead}
 use Rattle.segment_core.proofs.Numbers.{u32_at-drop}
 use Rattle.segment_core.proofs.RunRows.{u64_at-drop}
@@ -108,6 +109,15 @@ no_number shape kinds.Group payload none = no_group shape.width payload (λ p. n
 no_number shape kinds.Change payload none = no_change shape payload (λ p. none 0 (p.counted, omega arith))
 no_number shape kinds.Shrink payload none = ne_eqb (length payload) 8 (λ (is : length payload ≡ 8). none 0 is)
 no_number shape kinds.Fold payload none = ne_eqb (length payload) 8 (λ (is : length payload ≡ 8). none 0 is)
+
+-- ---- why no frame is read
+
+-- a fault that stays whatever follows is there where nothing does
+pub faulty_here : (shape : Shape) (p : ℕ) (bytes : List ℕ) (fault : ScanFault)
+    → IsFaulty shape p bytes fault
+    → (is_closed bytes ≡ false) × (first_line (frame_lines shape p bytes) ≡ Some fault)
+faulty_here shape p bytes fault faulty =
+    subst (λ (bs : List ℕ). (is_closed bs ≡ false) × (first_line (frame_lines shape p bs) ≡ Some fault)) (append-nil bytes) (faulty [])
 
 -- ---- a reader of the whole frame
 

@@ -29,6 +29,7 @@ pub mod Tallied
 pub mod FoundLaid
 pub mod FoundHomes
 pub mod FoundChanges
+pub mod FoundKept
 pub mod FoundSteps
 pub mod HomesPush
 pub mod FoundEnd

@@ -1,10 +1,12 @@
 //! The head of a frame: the gate, the kind and the payload's length; and the number that begins the payload.
 
-ghost use Rattle.std.specs.Prelude.{◌≡◌, ◌≤◌, ◌<◌, ◌+◌, ◌^◌, ◌++◌, ◌∷◌, ℕ, List, false, length, min, vec_len, vec_capacity, OnOk, IsOk, IfOk, IfSome, MatchOption};
+ghost use Rattle.std.specs.Prelude.{◌≡◌, ◌≤◌, ◌<◌, ◌+◌, ◌^◌, ◌++◌, ◌∷◌, ℕ, List, Some, Err, false, length, min, vec_len, vec_capacity, OnOk, IsOk, IfOk, IfSome, MatchOption};
 ghost use Rattle.std.specs.Int.{w32, to_le_bytes};
 ghost use Rattle.segment_core.specs.Kind.{kind_byte};
 ghost use Rattle.segment_core.specs.Frame.{frame_head_len, open_gate};
 ghost use Rattle.segment_core.specs.Layout.{u32_at, u64_at, is_layout};
+ghost use Rattle.segment_core.specs.declared.format.Shape.{Shape};
+ghost use Rattle.segment_core.specs.Fault.{is_closed, first_line, frame_lines};
 ghost use Rattle.segment_core.specs.FrameHead.{IsFrontOf, Shows, FitsNumber, FitsIn, first_number, IsNextHead};
 
 use crate::fault::{Cause, ScanFault, damaged};
@@ -31,6 +33,20 @@ pub enum Unread {
     Short,
     /// The first fault that the frame has by itself.
     Fault(ScanFault),
+}
+
+impl Unread {
+    /// The first fault of the frame whose gate is at `at`, of which so many bytes are there and no byte follows them.
+    pub fn fault(self, at: u64, left: u64) -> ScanFault
+        ensures { (shape : Shape) (bytes : List ℕ) → length bytes ≡ left → IsNextHead shape at bytes (Err self)
+            → (is_closed bytes ≡ false) × (first_line (frame_lines shape at bytes) ≡ Some result) }
+    {
+        match self {
+            Unread::Short if left == 0 => damaged(at, Cause::NoGate),
+            Unread::Short => damaged(at, Cause::ShortFrame),
+            Unread::Fault(fault) => fault,
+        }
+    }
 }
 
 /// The number whose four bytes begin at `at`.

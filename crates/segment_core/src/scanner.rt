@@ -9,10 +9,10 @@ ghost use Rattle.segment_core.specs.Found.{AreHomesOf};
 ghost use Rattle.segment_core.specs.Scanned.{IsScanOf};
 ghost use Rattle.segment_core.specs.Scanner.{len_told, GoesOn, HasEnded, IsOn, IsRefusedFor, IsFedAt, IsFed, IsLost, IsDecided, IsCutShort, CanHold};
 
-use crate::fault::{Cause, ScanFault, damaged};
+use crate::fault::ScanFault;
 use crate::format::{FRAME_HEAD_LEN, Format, HEADER_LEN, Shape};
 use crate::found::Homes;
-use crate::frame_head::u32_at;
+use crate::frame_head::{Unread, u32_at};
 use crate::vector::Scanned;
 use crate::walk::{Tail, Walk};
 use record_core::{GROWTH_HEAD_LEN, RECORD_LIMIT, Record, width_of};
@@ -349,14 +349,7 @@ impl<R: Record> Scanner<R> {
                 Ok(_) => Err(ScanFault::NotSegment),
                 Err(fault) => Err(fault),
             },
-            Stage::Open => {
-                let cause = if self.pending.is_empty() {
-                    Cause::NoGate
-                } else {
-                    Cause::ShortFrame
-                };
-                Err(damaged(self.walk.at as u64, cause))
-            }
+            Stage::Open => Err(Unread::Short.fault(self.walk.at as u64, self.pending.len() as u64)),
             Stage::Closed => Ok(()),
             Stage::Refused(fault) => Err(fault),
         }
