@@ -16,7 +16,7 @@ use Rattle.book_core.specs.Lists.{Phase}
 use Rattle.flush_core.specs.declared.fault.FlushFault.{FlushFault}
 use Rattle.flush_core.specs.declared.fault.FlushFault.TheVariants as flushes
 use Rattle.flush_core.specs.Flusher.{FlusherOf, IsFlusherOf, OpensToJob}
-use Rattle.flush_core.specs.Serving.{Serves, HasEnded, IsServeFault}
+use Rattle.flush_core.specs.Serving.{Serves, HasSettledAll, IsServeFault}
 use Rattle.flush_core.specs.Refusals.{IsNotBegun, failed}
 use Rattle.vault_core.specs.declared.fault.VaultFault.{VaultFault}
 use Rattle.vault_core.specs.declared.fault.VaultFault.TheVariants.{Pen}
@@ -96,7 +96,7 @@ CountsFailed count old new result = MatchResult result (λ _. new ≡ old) (λ f
 pub record HasFlushed {R D : Type 0} (form : Encoding R) (keeps : D → Type 0) (states : D → List State) (faults : D → ℕ) (live : Phase R) (old new : FlusherOf R D) {X : Type 0} (flushed : Result X FlushFault) : Type 0 where
   pub of : IsFlusherOf (keeps new.pen.disk) live new
   pub served : Serves form keeps states old new
-  pub ended : OnOk flushed (HasEnded new)
+  pub ended : OnOk flushed (HasSettledAll new)
   pub refused : IfErr flushed (IsServeFault form.width old new)
   pub counts : CountsFailed failed (faults old.pen.disk) (faults new.pen.disk) flushed
 
