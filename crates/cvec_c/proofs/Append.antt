@@ -71,14 +71,19 @@ joined_one new = append-nil new
 pub payload_one : {R : Type 0} (width : ℕ) (new : List R) → payload_len width (new ∷ []) ≡ 8 + length new * width
 payload_one width new = ap (λ n. 8 + n * width) (ap length (joined_one new))
 
-pub length-one : {R : Type 0} (format : Format) (form : Encoding R) (new : List R) → ((r : R) → length (form.bytes_of r) ≡ form.width) → length (frame_text format (group_frame form (new ∷ []))) ≡ 14 + length new * form.width
+pub length-one : {R : Type 0} (format : Format) (form : Encoding R) (new : List R)
+    → ((r : R) → length (form.bytes_of r) ≡ form.width)
+    → length (frame_text format (group_frame form (new ∷ []))) ≡ 14 + length new * form.width
 length-one format form new wide =
     let a = length-frame_text format (group_frame form (new ∷ [])) in
     let b = length-group_frame format form (new ∷ []) wide in
     let d = payload_one form.width new in
     omega arith
 
-pub length-bytes_of_one : {R : Type 0} (format : Format) (form : Encoding R) (new : List R) (bytes : List ℕ) → ((r : R) → length (form.bytes_of r) ≡ form.width) → bytes ≡ frame_text format (group_frame form (new ∷ [])) ++ 0 ∷ [] → length bytes ≡ append_len form.width (length new)
+pub length-bytes_of_one : {R : Type 0} (format : Format) (form : Encoding R) (new : List R) (bytes : List ℕ)
+    → ((r : R) → length (form.bytes_of r) ≡ form.width)
+    → bytes ≡ frame_text format (group_frame form (new ∷ [])) ++ 0 ∷ []
+    → length bytes ≡ append_len form.width (length new)
 length-bytes_of_one format form new bytes wide is =
     let whole = ap length is ∙ length-append (frame_text format (group_frame form (new ∷ []))) (0 ∷ []) in
     let one = length-one format form new wide in
@@ -143,8 +148,12 @@ module _ {R : Type 0} (form : Encoding R) (old : CvecStat) (image other : List �
     gate_is = stat.gate_is;
   }
 
-  module _ (new : List R) (bytes : List ℕ) (next : CvecStat) (wide : 1 ≤ form.width) (sized : (r : R) → length (form.bytes_of r) ≡ form.width) (some : 0 < length new) (spelled : (format : Format) → bytes ≡ frame_text format (group_frame form (new ∷ [])) ++ 0 ∷ [])
-      (again : AreReadAgain form new) (short : old.size + length new ≤ 2 ^ 32) (fits : 8 + length new * form.width ≤ limit_in old.version) (stands : take (length bytes) (drop old.gate other) ≡ bytes) where
+  module _ (new : List R) (bytes : List ℕ) (next : CvecStat) (wide : 1 ≤ form.width)
+      (sized : (r : R) → length (form.bytes_of r) ≡ form.width) (some : 0 < length new)
+      (spelled : (format : Format) → bytes ≡ frame_text format (group_frame form (new ∷ [])) ++ 0 ∷ [])
+      (again : AreReadAgain form new) (short : old.size + length new ≤ 2 ^ 32)
+      (fits : 8 + length new * form.width ≤ limit_in old.version)
+      (stands : take (length bytes) (drop old.gate other) ≡ bytes) where
     abbrev frame : Frame
     frame = group_frame form (new ∷ [])
 
@@ -152,7 +161,10 @@ module _ {R : Type 0} (form : Encoding R) (old : CvecStat) (image other : List �
     rest = drop (length bytes) (drop old.gate other)
 
     behind : drop old.gate other ≡ frame_text stat.format frame ++ (0 ∷ rest)
-    behind = sym (take-append-drop (length bytes) (drop old.gate other)) ∙ ap (λ (bs : List ℕ). bs ++ rest) (stands ∙ spelled stat.format) ∙ append_assoc (frame_text stat.format frame) (0 ∷ []) rest
+    behind =
+        sym (take-append-drop (length bytes) (drop old.gate other))
+        ∙ ap (λ (bs : List ℕ). bs ++ rest) (stands ∙ spelled stat.format)
+        ∙ append_assoc (frame_text stat.format frame) (0 ∷ []) rest
 
     whole : other ≡ text shape stat.frames ++ (frame_text stat.format frame ++ (0 ∷ rest))
     whole = there ∙ ap (λ (bs : List ℕ). text shape stat.frames ++ bs) behind
@@ -179,7 +191,11 @@ module _ {R : Type 0} (form : Encoding R) (old : CvecStat) (image other : List �
     closed : other ≡ text shape (stat.frames ++ frame ∷ []) ++ (0 ∷ rest)
     closed = whole ∙ sym (append_assoc (text shape stat.frames) (frame_text stat.format frame) (0 ∷ rest)) ∙ ap (λ (bs : List ℕ). bs ++ (0 ∷ rest)) (sym (text_push shape stat.frames frame))
 
-    pub has_grown : next.version ≡ old.version → next.width ≡ old.width → next.changes ≡ old.changes → next.folded ≡ old.folded → next.size ≡ old.size + length new → (old.frames < 2 ^ 48 → next.frames ≡ old.frames + 1) → old.gate < 2 ^ 48
+    pub has_grown :
+        next.version ≡ old.version
+        → next.width ≡ old.width → next.changes ≡ old.changes → next.folded ≡ old.folded
+        → next.size ≡ old.size + length new → (old.frames < 2 ^ 48 → next.frames ≡ old.frames + 1)
+        → old.gate < 2 ^ 48
         → next.gate + 1 ≡ old.gate + length bytes → HasStat form other (records ++ new) next
     has_grown version width changes folded size count placed gate_is = record {
       format = stat.format;
@@ -191,7 +207,11 @@ module _ {R : Type 0} (form : Encoding R) (old : CvecStat) (image other : List �
       version_is = version ∙ stat.version_is;
       width_is = width ∙ stat.width_is;
       size_is = let was = stat.size_is in let both = length-append records new in omega arith;
-      frames_are = (let was = stat.frames_are in let few = few_frames shape stat.frames in let at = stat.gate_is in let more = count (omega arith) in let both = length-append stat.frames (frame ∷ []) in omega arith);
+      frames_are =
+          (let was = stat.frames_are in
+          let few = few_frames shape stat.frames in
+          let at = stat.gate_is in
+          let more = count (omega arith) in let both = length-append stat.frames (frame ∷ []) in omega arith);
       changes_are = changes ∙ stat.changes_are ∙ sym (ap (λ t. t.changes) (tally_from_push nothing stat.frames frame));
       folded_is = folded ∙ stat.folded_is ∙ sym (ap (λ t. t.folded) (tally_from_push nothing stat.frames frame));
       gate_is = (

@@ -12,7 +12,9 @@ use Rattle.cvec_c.specs.declared.stat.CvecStat.{CvecStat}
 use Rattle.cvec_c.specs.Stat.{HasStat}
 use Rattle.cvec_c.specs.Empty.{Creates}
 
-module _ {R : Type 0} (format : Format) (form : Encoding R) (bytes : List ℕ) (version width : ℕ) (width_is : width ≡ form.width) (spelled : bytes ≡ header (record { format = format; width = width }) ++ 0 ∷ []) (version_is : version_of format ≡ version) where
+module _ {R : Type 0} (format : Format) (form : Encoding R) (bytes : List ℕ) (version width : ℕ)
+    (width_is : width ≡ form.width) (spelled : bytes ≡ header (record { format = format; width = width }) ++ 0 ∷ [])
+    (version_is : version_of format ≡ version) where
   abbrev shape : Shape
   shape = shape_of format form
 
@@ -23,7 +25,10 @@ module _ {R : Type 0} (format : Format) (form : Encoding R) (bytes : List ℕ) (
   is_empty other stands =
       let rest : List ℕ = drop (length bytes) other in
       let whole : other ≡ text shape [] ++ (0 ∷ rest) =
-      sym (take-append-drop (length bytes) other) ∙ ap (λ (bs : List ℕ). bs ++ rest) (stands ∙ spelled ∙ ap (λ w. header (record { format = format; width = w }) ++ 0 ∷ []) width_is) ∙ append_assoc (header shape) (0 ∷ []) rest ∙ ap (λ (bs : List ℕ). bs ++ (0 ∷ rest)) (sym (append-nil (header shape))) in
+      sym (take-append-drop (length bytes) other)
+      ∙ ap (λ (bs : List ℕ). bs ++ rest) (stands ∙ spelled ∙ ap (λ w. header (record { format = format; width = w }) ++ 0 ∷ []) width_is)
+      ∙ append_assoc (header shape) (0 ∷ []) rest
+      ∙ ap (λ (bs : List ℕ). bs ++ (0 ∷ rest)) (sym (append-nil (header shape))) in
       record {
         format = format;
         frames = [];

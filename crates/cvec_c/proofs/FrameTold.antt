@@ -9,7 +9,9 @@ use Rattle.segment_core.proofs.Payload.{length-frame_text}
 use Rattle.cvec_c.specs.declared.frame.CvecFrame.{CvecFrame}
 use Rattle.cvec_c.specs.Frame.{shape_in, IsFrameTold}
 
-pub frame_told : (image : List ℕ) (at version width : ℕ) (shape : Shape) (frame : Frame) (fields : CvecFrame) → version_of shape.format ≡ version → shape.width ≡ width → BeginsWith shape (drop at image) frame
+pub frame_told : (image : List ℕ) (at version width : ℕ) (shape : Shape) (frame : Frame) (fields : CvecFrame)
+    → version_of shape.format ≡ version → shape.width ≡ width
+    → BeginsWith shape (drop at image) frame
     → fields.kind ≡ kind_of frame → fields.payload_len ≡ length (payload_of shape.format frame) → fields.growths ≡ length (lengths_of frame) → fields.records ≡ record_count frame
     → fields.next ≡ at + 6 + length (payload_of shape.format frame) → fields.first_record ≡ fields.next - record_count frame * width → IsFrameTold image at version width fields
 frame_told image at version width shape frame fields version_is width_is begins kind payload growths records next first =

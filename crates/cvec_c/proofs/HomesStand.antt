@@ -17,7 +17,9 @@ use Rattle.cvec_c.specs.Stat.{stat_of}
 use Rattle.cvec_c.specs.declared.homes.CvecHome.{CvecHome}
 use Rattle.cvec_c.specs.Homes.{HasHomes, as_homes}
 
-pub has_homes : {R : Type 0} (form : Encoding R) (image : List ℕ) (scanned : Scanned R) (scan : IsScanOf form image scanned) (homes : List Home) → AreHomes (shape_of scan.format form) scan.frames homes
+pub has_homes : {R : Type 0} (form : Encoding R) (image : List ℕ) (scanned : Scanned R)
+    (scan : IsScanOf form image scanned) (homes : List Home)
+    → AreHomes (shape_of scan.format form) scan.frames homes
     → HasHomes form image scanned.records.items (stat_of scanned) homes
 has_homes form image scanned scan homes are = record {
   holds = record {
@@ -51,5 +53,6 @@ pub copied_more : (homes : List Home) (out : List CvecHome) (k : ℕ) (d : Home)
     → as_homes (take (k + 1) (slice_set out k (as_told (slice_index_or homes k d)))) ≡ take (k + 1) homes
 copied_more homes out k d inside room so_far =
     let home : Home = slice_index_or homes k d in
-    ap as_homes (take_more_set out k (as_told home) (omega arith)) ∙ map_push (λ (told : CvecHome). record { position = told.position; place = told.place; count = told.count }) (take k out) (as_told home)
+    ap as_homes (take_more_set out k (as_told home) (omega arith))
+    ∙ map_push (λ (told : CvecHome). record { position = told.position; place = told.place; count = told.count }) (take k out) (as_told home)
     ∙ ap (λ (hs : List Home). hs ++ home ∷ []) so_far ∙ sym (take_more homes k d inside)

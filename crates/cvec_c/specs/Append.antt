@@ -52,6 +52,8 @@ pub record AppendsTo {R : Type 0} (form : Encoding R) (old : CvecStat) (new : Li
   -- while the gate is shut the file is the one from before, whatever stands behind that
   pub before : (image other : List ℕ) (records : List R) → HasStat form image records old → IsSameTo old.gate image other → IsShutAt other old.gate → HasStat form other records old
   -- with the bytes there it has the new records too, whatever stands behind them
-  pub after : (image other : List ℕ) (records : List R) → HasStat form image records old → IsSameTo old.gate image other → StandsAt other old.gate bytes → HasStat form other (records ++ new) next
+  pub after : (image other : List ℕ) (records : List R)
+      → HasStat form image records old → IsSameTo old.gate image other → StandsAt other old.gate bytes
+      → HasStat form other (records ++ new) next
   -- the next gate is the last of the bytes
   pub next_gate : next.gate + 1 ≡ old.gate + length bytes

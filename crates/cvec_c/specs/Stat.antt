@@ -15,7 +15,15 @@ use Rattle.cvec_c.specs.Status.{code_of, status_of, told}
 
 -- what is told of what a scan found
 abbrev pub stat_of : {R : Type 0} → Scanned R → CvecStat
-stat_of scanned = record { size = length scanned.records.items; frames = scanned.frames; changes = scanned.changes; folded = scanned.folded; gate = scanned.gate; width = scanned.width; version = scanned.version }
+stat_of scanned = record {
+  size = length scanned.records.items;
+  frames = scanned.frames;
+  changes = scanned.changes;
+  folded = scanned.folded;
+  gate = scanned.gate;
+  width = scanned.width;
+  version = scanned.version;
+}
 
 -- the image has this vector, and the fields are its own
 pub record HasStat {R : Type 0} (form : Encoding R) (image : List ℕ) (records : List R) (stat : CvecStat) : Type 0 where

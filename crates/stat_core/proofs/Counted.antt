@@ -44,7 +44,9 @@ few_grown shape s (Fold count) wide few may =
 pub count_none : (shape : Shape) (image : List ℕ) (s : Summary) → s ≡ begun shape (length image) → Counts shape image s
 count_none shape image s is = record { outlines = []; stand = tt; are = is }
 
-pub count_more : (shape : Shape) (image : List ℕ) (s : Summary) (outline : Outline) → Counts shape image s → IsOutlined shape (drop s.gate image) outline → MayStand (tally_in s) outline → Counts shape image (grown shape s outline)
+pub count_more : (shape : Shape) (image : List ℕ) (s : Summary) (outline : Outline)
+    → Counts shape image s → IsOutlined shape (drop s.gate image) outline → MayStand (tally_in s) outline
+    → Counts shape image (grown shape s outline)
 count_more shape image s outline so_far outlined may = record {
   outlines = outline ∷ so_far.outlines;
   stand = (subst (λ t. IsOutlined shape (drop t.gate image) outline) so_far.are outlined, subst (λ t. MayStand (tally_in t) outline) so_far.are may, so_far.stand);
@@ -65,7 +67,8 @@ grown_bytes shape s (Shrink n) = refl
 grown_bytes shape s (Fold count) = refl
 
 -- one frame more is counted
-pub grown_frames : (shape : Shape) (s : Summary) (outline : Outline) → (grown shape s outline).groups + (grown shape s outline).changes + (grown shape s outline).shrinks + (grown shape s outline).folds ≡ s.groups + s.changes + s.shrinks + s.folds + 1
+pub grown_frames : (shape : Shape) (s : Summary) (outline : Outline)
+    → (grown shape s outline).groups + (grown shape s outline).changes + (grown shape s outline).shrinks + (grown shape s outline).folds ≡ s.groups + s.changes + s.shrinks + s.folds + 1
 grown_frames shape s (Group growths records) = omega arith
 grown_frames shape s (Change runs records) = omega arith
 grown_frames shape s (Shrink n) = omega arith

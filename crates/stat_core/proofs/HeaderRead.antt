@@ -6,9 +6,8 @@ use Rattle.std.proofs.lemmas.Bool.{ltb-true, ltb-false}
 use Rattle.std.proofs.lemmas.List.{take_all, take-append-le, take-append-drop, length-take, length-take-le}
 use Rattle.segment_core.specs.declared.fault.ScanFault.{ScanFault}
 use Rattle.segment_core.specs.declared.format.Format.{Format}
-use Rattle.segment_core.specs.Fault.{header_fault, IsSound}
+use Rattle.segment_core.specs.Fault.{header_fault, IsSound, IsHeaderFault}
 use Rattle.segment_core.proofs.Header.{header_of_none, header_fault-append, format_in-append}
-use Rattle.stat_core.specs.Header.{IsHeaderFault}
 
 -- a sound header has eleven bytes
 pub sound_long : (width : ℕ) (format : Format) (front : List ℕ) → IsSound width format front → 11 ≤ length front
@@ -20,7 +19,9 @@ sound_more width format image long sound = subst (IsSound width format) (take-ap
   names = format_in-append (take 11 image) (drop 11 image) (omega arith) ∙ sound.names;
 })
 
-pub sound_here : (width : ℕ) (format : Format) (image front : List ℕ) (n : ℕ) → n ≡ min 11 (length image) → front ≡ take n image → IsSound width format front → IsSound width format image
+pub sound_here : (width : ℕ) (format : Format) (image front : List ℕ) (n : ℕ)
+    → n ≡ min 11 (length image) → front ≡ take n image → IsSound width format front
+    → IsSound width format image
 sound_here width format image front n size is sound =
     let long = sound_long width format front sound in
     let len : length front ≡ min n (length image) = ap length is ∙ length-take n image in
@@ -40,7 +41,10 @@ fault_here image front n fault size is faulty width wide = by_length (nat_lt (le
         let eleven : n ≡ 11 = omega arith in
         let front_is : front ≡ take 11 image = is ∙ ap (λ k. take k image) eleven in
         let len = length-take 11 image in
-        ap (header_fault width) (sym (take-append-drop 11 image)) ∙ header_fault-append width (take 11 image) (drop 11 image) (omega arith) ∙ ap (header_fault width) (sym front_is) ∙ faulty width wide
+        ap (header_fault width) (sym (take-append-drop 11 image))
+        ∙ header_fault-append width (take 11 image) (drop 11 image) (omega arith)
+        ∙ ap (header_fault width) (sym front_is)
+        ∙ faulty width wide
 
 -- ---- the bytes as they are read into a buffer
 
@@ -48,7 +52,9 @@ fault_here image front n fault size is faulty width wide = by_length (nat_lt (le
 abbrev pub zeros : List ℕ
 zeros = 0 ∷ 0 ∷ 0 ∷ 0 ∷ 0 ∷ 0 ∷ 0 ∷ 0 ∷ 0 ∷ 0 ∷ 0 ∷ []
 
-pub header_bytes : (image out : List ℕ) (n bytes : ℕ) → n ≡ min 11 bytes → bytes ≡ length image → out ≡ slice_range image 0 (0 + length (take n zeros)) → take n (out ++ drop n zeros) ≡ take n image
+pub header_bytes : (image out : List ℕ) (n bytes : ℕ)
+    → n ≡ min 11 bytes → bytes ≡ length image → out ≡ slice_range image 0 (0 + length (take n zeros))
+    → take n (out ++ drop n zeros) ≡ take n image
 header_bytes image out n bytes small size is =
     let zeros_long : length (take n zeros) ≡ n = length-take-le n zeros (omega arith) in
     let all : n - 0 ≡ n = omega arith in

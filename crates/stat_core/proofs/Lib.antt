@@ -1,4 +1,3 @@
-pub mod Fronts
 pub mod Outlined
 pub mod OnlyRead
 pub mod Counted

@@ -17,5 +17,7 @@ reads_once old new stays = record {
 pub reads_on : (old mid new : List State) → OnlyReads old mid → OnlyReads mid new → OnlyReads old new
 reads_on old mid new first then = record {
   same = then.same ∙ first.same;
-  images = LeavesOnly-join old mid new (IsImage (now old)) first.images (LeavesOnly-weaker mid new (IsImage (now mid)) (IsImage (now old)) (λ image is. subst (λ s. IsImage s image) first.same is) then.images);
+  images =
+      LeavesOnly-join old mid new (IsImage (now old)) first.images
+      (LeavesOnly-weaker mid new (IsImage (now mid)) (IsImage (now old)) (λ image is. subst (λ s. IsImage s image) first.same is) then.images);
 }

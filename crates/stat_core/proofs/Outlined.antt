@@ -1,8 +1,7 @@
 -- The frame at a gate: its fault, or what is told of it.
-use Rattle.std.proofs.Common.{◌≡◌, ◌≤◌, ◌<◌, ℕ, ◌+◌, Bool, true, false, cond, List, [], ◌++◌, length, Some, None, refl, sym, ap, subst, ◌∙◌, arith}
+use Rattle.std.proofs.Common.{◌≡◌, ◌≤◌, ◌<◌, ℕ, ◌+◌, Bool, true, false, cond, List, ◌++◌, length, Some, None, refl, sym, ap, ◌∙◌, arith}
 use Rattle.std.specs.Prelude.{not, ◌==◌, ◌||◌}
 use Rattle.std.proofs.lemmas.Bool.{not_from_true, le-ltb, lt-ltb, eq-eqb, ne_eqb}
-use Rattle.std.proofs.lemmas.List.{append-nil}
 use Rattle.segment_core.specs.declared.fault.Cause.TheVariants.{Layout, Range, Unfolded, FoldCount}
 use Rattle.segment_core.specs.declared.fault.ScanFault.{ScanFault}
 use Rattle.segment_core.specs.declared.format.Shape.{Shape}
@@ -12,38 +11,41 @@ use Rattle.segment_core.specs.Frame as frames
 use Rattle.segment_core.specs.Kind.{kind_byte}
 use Rattle.segment_core.specs.Layout.{is_layout, frame_in}
 use Rattle.segment_core.specs.Fault.{first_line, frame_lines, order_lines, frame_fault, is_closed, is_kind, kind_in, payload_len_in, payload_in, damaged}
-use Rattle.segment_core.specs.Reading.{IsFaulty}
 use Rattle.segment_core.proofs.Numbers.{second_false}
 use Rattle.segment_core.proofs.Lines.{first_line-append, first_line_silent, frame_fault_from_lines}
-use Rattle.segment_core.proofs.Head.{IsOpen, finds_layout, is_kind-kind_byte}
+use Rattle.segment_core.proofs.Head.{IsOpen, finds_layout, is_kind-kind_byte, length-payload_in}
 use Rattle.segment_core.proofs.Tallied.{finds_range, finds_unfolded, finds_fold_count}
-use Rattle.stat_core.specs.declared.outline.Head.{Head}
 use Rattle.stat_core.specs.declared.outline.Outline.{Outline}
 use Rattle.stat_core.specs.declared.outline.Outline.TheVariants.{Group, Change, Shrink, Fold}
-use Rattle.stat_core.specs.Next.{IsHead, IsOrderFault, IsOutlineOf}
+use Rattle.segment_core.specs.declared.frame_head.FrameHead.{FrameHead}
+use Rattle.segment_core.specs.FrameHead.{IsHead}
+use Rattle.stat_core.specs.Next.{IsOrderFault, IsOutlineOf}
 use Rattle.stat_core.specs.Outline.{IsOutlined}
-use Rattle.stat_core.proofs.Fronts.{length-payload_in}
+use Rattle.segment_core.proofs.Fronts.{faulty_here}
 
--- a fault that stays whatever follows is there where nothing does
-pub faulty_here : (shape : Shape) (p : ℕ) (bytes : List ℕ) (fault : ScanFault) → IsFaulty shape p bytes fault → (is_closed bytes ≡ false) × (first_line (frame_lines shape p bytes) ≡ Some fault)
-faulty_here shape p bytes fault faulty = subst (λ (bs : List ℕ). (is_closed bs ≡ false) × (first_line (frame_lines shape p bs) ≡ Some fault)) (append-nil bytes) (faulty [])
-
-pub head_open : (shape : Shape) (bytes : List ℕ) (head : Head) → IsHead shape bytes head → IsOpen bytes
+pub head_open : (shape : Shape) (bytes : List ℕ) (head : FrameHead) → IsHead shape bytes head → IsOpen bytes
 head_open shape bytes head is = record { some = is.some; opened = is.opened }
 
-not_closed : (shape : Shape) (bytes : List ℕ) (head : Head) → IsHead shape bytes head → is_closed bytes ≡ false
+not_closed : (shape : Shape) (bytes : List ℕ) (head : FrameHead) → IsHead shape bytes head → is_closed bytes ≡ false
 not_closed shape bytes head is = second_false _ _ (ap (λ n. not (n == 1)) is.opened)
 
-known : (shape : Shape) (bytes : List ℕ) (head : Head) → IsHead shape bytes head → is_kind (kind_in bytes) ≡ true
+known : (shape : Shape) (bytes : List ℕ) (head : FrameHead) → IsHead shape bytes head → is_kind (kind_in bytes) ≡ true
 known shape bytes head is = ap is_kind (sym is.kind) ∙ is_kind-kind_byte head.kind
 
-pub formless : (shape : Shape) (p : ℕ) (tally : Tally) (bytes : List ℕ) (head : Head) → IsHead shape bytes head → is_layout shape (kind_byte head.kind) (payload_in bytes) ≡ false → frame_fault shape p tally bytes ≡ Some (damaged (p + 6) Layout)
+pub formless : (shape : Shape) (p : ℕ) (tally : Tally) (bytes : List ℕ) (head : FrameHead)
+    → IsHead shape bytes head → is_layout shape (kind_byte head.kind) (payload_in bytes) ≡ false
+    → frame_fault shape p tally bytes ≡ Some (damaged (p + 6) Layout)
 formless shape p tally bytes head is no_form =
     let whole = is.whole in
-    let found = faulty_here shape p bytes _ (finds_layout shape p bytes (head_open shape bytes head is) (omega arith) (known shape bytes head is) is.small is.whole (ap (λ k. is_layout shape k (payload_in bytes)) (sym is.kind) ∙ no_form)) in
+    let found =
+    faulty_here shape p bytes _
+    (finds_layout shape p bytes (head_open shape bytes head is) (omega arith) (known shape bytes head is)
+    is.small is.whole (ap (λ k. is_layout shape k (payload_in bytes)) (sym is.kind) ∙ no_form)) in
     frame_fault_from_lines shape p tally bytes _ found.0 found.1
 
-pub outlined : (shape : Shape) (bytes : List ℕ) (head : Head) (outline : Outline) → IsHead shape bytes head → IsOutlineOf shape (kind_byte head.kind) (payload_in bytes) outline → IsOutlined shape bytes outline
+pub outlined : (shape : Shape) (bytes : List ℕ) (head : FrameHead) (outline : Outline)
+    → IsHead shape bytes head → IsOutlineOf shape (kind_byte head.kind) (payload_in bytes) outline
+    → IsOutlined shape bytes outline
 outlined shape bytes head outline is of = record {
   opened = not_closed shape bytes head is;
   kind = sym is.kind ∙ sym of.kind_is;
@@ -54,7 +56,11 @@ outlined shape bytes head outline is of = record {
 }
 
 -- no test on the frame by itself holds, so the first on its order is the fault
-by_order : (shape : Shape) (p : ℕ) (tally : Tally) (bytes : List ℕ) (head : Head) (frame : frames.Frame) (fault : ScanFault) → IsHead shape bytes head → is_layout shape (kind_in bytes) (payload_in bytes) ≡ true → frame_in shape (kind_in bytes) (payload_in bytes) ≡ frame → first_line (order_lines p tally frame) ≡ Some fault → frame_fault shape p tally bytes ≡ Some fault
+by_order : (shape : Shape) (p : ℕ) (tally : Tally) (bytes : List ℕ) (head : FrameHead) (frame : frames.Frame)
+    (fault : ScanFault)
+    → IsHead shape bytes head → is_layout shape (kind_in bytes) (payload_in bytes) ≡ true
+    → frame_in shape (kind_in bytes) (payload_in bytes) ≡ frame → first_line (order_lines p tally frame) ≡ Some fault
+    → frame_fault shape p tally bytes ≡ Some fault
 unfolding frame_fault frame_lines
 by_order shape p tally bytes head frame fault is formed here some =
     let whole = is.whole in
@@ -80,7 +86,11 @@ by_order shape p tally bytes head frame fault is formed here some =
     ∙ first_line-append (frame_lines shape p bytes) (order_lines p tally (frame_in shape (kind_in bytes) (payload_in bytes))) silent
     ∙ ap (λ f. first_line (order_lines p tally f)) here ∙ some
 
-pub disordered : (shape : Shape) (p : ℕ) (tally : Tally) (bytes : List ℕ) (head : Head) (outline : Outline) (fault : ScanFault) → IsHead shape bytes head → IsOutlineOf shape (kind_byte head.kind) (payload_in bytes) outline → IsOrderFault p tally outline fault → frame_fault shape p tally bytes ≡ Some fault
+pub disordered : (shape : Shape) (p : ℕ) (tally : Tally) (bytes : List ℕ) (head : FrameHead) (outline : Outline)
+    (fault : ScanFault)
+    → IsHead shape bytes head → IsOutlineOf shape (kind_byte head.kind) (payload_in bytes) outline
+    → IsOrderFault p tally outline fault
+    → frame_fault shape p tally bytes ≡ Some fault
 disordered shape p tally bytes head (Group growths records) fault is of at_fault = absurd at_fault
 disordered shape p tally bytes head (Change runs records) fault is of at_fault = absurd at_fault
 disordered shape p tally bytes head (Shrink n) fault is of at_fault =

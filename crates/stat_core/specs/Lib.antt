@@ -1,6 +1,5 @@
 pub mod Outline
 pub mod Summary
-pub mod Header
 pub mod Next
 pub mod Walked
 pub mod Window

@@ -28,7 +28,13 @@ begun shape bytes = record {
 
 -- of one frame more
 abbrev pub grown : Shape → Summary → Outline → Summary
-grown shape s (Group growths records) = record s { groups = s.groups + 1; growths = s.growths + growths; records = s.records + records; size = s.size + records; gate = s.gate + frame_head_len + outline_len shape (Group growths records) }
+grown shape s (Group growths records) = record s {
+  groups = s.groups + 1;
+  growths = s.growths + growths;
+  records = s.records + records;
+  size = s.size + records;
+  gate = s.gate + frame_head_len + outline_len shape (Group growths records);
+}
 grown shape s (Change runs records) = record s { changes = s.changes + 1; gate = s.gate + frame_head_len + outline_len shape (Change runs records) }
 grown shape s (Shrink n) = record s { shrinks = s.shrinks + 1; size = n; gate = s.gate + frame_head_len + outline_len shape (Shrink n) }
 grown shape s (Fold count) = record s { folds = s.folds + 1; folded = count; gate = s.gate + frame_head_len + outline_len shape (Fold count) }

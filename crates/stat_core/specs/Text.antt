@@ -26,7 +26,9 @@ frames_text form s = field_text form (codes "groups") s.groups ++ field_text for
 
 -- what they leave
 unfoldable pub vector_text : Form → Summary → List ℕ
-vector_text form s = field_text form (codes "growths") s.growths ++ field_text form (codes "records") s.records ++ field_text form (codes "size") s.size ++ field_text form (codes "live") (s.changes - s.folded)
+vector_text form s =
+    field_text form (codes "growths") s.growths ++ field_text form (codes "records") s.records
+    ++ field_text form (codes "size") s.size ++ field_text form (codes "live") (s.changes - s.folded)
 
 -- where they end
 unfoldable pub end_text : Form → Summary → List ℕ

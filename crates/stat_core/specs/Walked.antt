@@ -4,12 +4,11 @@ use Rattle.segment_core.specs.declared.fault.ScanFault.{ScanFault}
 use Rattle.segment_core.specs.declared.format.Shape.{Shape}
 use Rattle.segment_core.specs.Frame.{Frame}
 use Rattle.segment_core.specs.Image.{HasFrames}
-use Rattle.segment_core.specs.Fault.{IsSound, frame_fault, is_closed}
+use Rattle.segment_core.specs.Fault.{IsSound, IsHeaderFault, frame_fault, is_closed}
 use Rattle.stat_core.specs.declared.fault.StatFault.{StatFault}
 use Rattle.stat_core.specs.declared.fault.StatFault.TheVariants.{Disk, Header, Frame as FrameFault}
 use Rattle.stat_core.specs.declared.outline.Outline.{Outline}
 use Rattle.stat_core.specs.declared.summary.Summary.{Summary}
-use Rattle.stat_core.specs.Header.{IsHeaderFault}
 use Rattle.stat_core.specs.Outline.{IsOutlined, MayStand}
 use Rattle.stat_core.specs.Summary.{summary_of, tally_in, summary_of_frames}
 

@@ -1,5 +1,5 @@
 -- The part of a file that is in memory, and what reading it leaves.
-use Rattle.std.specs.Prelude.{◌≡◌, ◌≤◌, ℕ, ◌+◌, ◌-◌, min, List, ◌++◌, length, take, drop}
+use Rattle.std.specs.Prelude.{◌≡◌, ◌≤◌, ℕ, ◌+◌, ◌-◌, min, List, take, drop}
 use Rattle.disk_core.specs.State.{State, now, IsImage}
 use Rattle.disk_core.specs.Moments.{LeavesOnly}
 use Rattle.stat_core.specs.declared.window.Window.{Window}
@@ -14,13 +14,6 @@ pub record IsWithin (room at bytes : ℕ) (window : Window) : Type 0 where
   pub starts : window.start ≤ at
   pub reaches : at + min 14 (bytes - at) ≤ window.start + window.len
   pub ends : window.start + window.len ≤ bytes
-
--- these are the first bytes of others, of which there are so many
-pub record IsFront (bytes front : List ℕ) (left : ℕ) : Type 0 where
-  pub size : length bytes ≡ left
-  pub enough : length front ≡ min 14 left
-  pub rest : List ℕ
-  pub is : bytes ≡ front ++ rest
 
 -- A read gives what it gave, and a crash leaves no more than it might have left.
 pub record OnlyReads (old new : List State) : Type 0 where

@@ -6,7 +6,6 @@
 #![tactic(auto)]
 
 mod fault;
-mod header;
 mod outline;
 mod summary;
 mod telling;

@@ -4,8 +4,8 @@ ghost use Rattle.std.specs.Prelude.{◌≡◌, ◌≤◌, ◌<◌, ◌+◌, ◌-
 ghost use Rattle.stat_core.specs.Outline.{outline_len};
 ghost use Rattle.stat_core.specs.Summary.{begun, grown, tally_in, AreFew};
 
-use crate::outline::{FRAME_HEAD_LEN, Outline};
-use segment_core::{Shape, Tally};
+use crate::outline::{HEAD_LEN, Outline};
+use segment_core::{HEADER_LEN, Shape, Tally};
 
 /// What a file has. Places and lengths are in bytes.
 #[derive(Clone, Copy, Debug, PartialEq, Eq)]
@@ -54,7 +54,7 @@ impl Summary {
             records: 0,
             size: 0,
             folded: 0,
-            gate: HEADER_LEN,
+            gate: HEADER_LEN as u64,
         }
     }
 
@@ -101,7 +101,7 @@ impl Summary {
         requires fits { self.gate + 6 + payload_len < 2 ^ 64 }
         ensures { result ≡ grown shape self outline }
     {
-        let gate = self.gate + FRAME_HEAD_LEN + payload_len;
+        let gate = self.gate + HEAD_LEN + payload_len;
         match outline {
             Outline::Group { growths, records } => Summary {
                 groups: self.groups + 1,
@@ -131,6 +131,3 @@ impl Summary {
         }
     }
 }
-
-/// The bytes of a file's header.
-pub(crate) const HEADER_LEN: u64 = 11;

@@ -11,12 +11,11 @@ ghost use Rattle.stat_core.specs.Walked.{IsSummaryOf, IsRefusal, TellsFrames};
 ghost use Rattle.stat_core.specs.Window.{Holds, IsWithin, OnlyReads};
 
 use crate::fault::StatFault;
-use crate::header::read_shape;
 use crate::outline::{Outline, read_outline};
-use crate::summary::{HEADER_LEN, Summary};
+use crate::summary::Summary;
 use crate::window::{WINDOW_LEN, Window, front_len, slide};
 use disk_core::Disk;
-use segment_core::{ScanFault, Shape};
+use segment_core::{HEADER_LEN, ScanFault, Shape};
 
 /// The frame at the gate of the summary so far, as the buffer shows it.
 fn next_outline(
@@ -90,12 +89,12 @@ fn read_header<D: Disk>(disk: &mut D, bytes: u64) -> Result<Shape, StatFault>
         (λ fault. D.faults disk.new ≡ D.faults disk.old + failed_in fault) }
     ensures model { D.keeps disk.new → D.keeps disk.old }
 {
-    let mut header = [0; HEADER_LEN as usize];
-    let len = HEADER_LEN.min(bytes) as usize;
+    let mut header = [0; HEADER_LEN];
+    let len = (HEADER_LEN as u64).min(bytes) as usize;
     if let Err(fault) = disk.read_at(0, &mut header[..len]) {
         return Err(StatFault::Disk(fault));
     }
-    match read_shape(&header[..len]) {
+    match Shape::read(&header[..len]) {
         Ok(shape) => Ok(shape),
         Err(fault) => Err(StatFault::Header(fault)),
     }

@@ -6,12 +6,10 @@ ghost use Rattle.disk_core.specs.Moments.{clock};
 ghost use Rattle.stat_core.specs.Window.{Holds, IsWithin, OnlyReads};
 
 use disk_core::{Disk, DiskFault};
+use segment_core::FRONT_LEN;
 
 /// The bytes of a read at most.
 pub(crate) const WINDOW_LEN: usize = 65_536;
-
-/// The bytes of a frame that are looked at: its gate, kind and length, and the first number of its payload.
-pub(crate) const FRONT_LEN: u64 = 14;
 
 /// Which part of the file a buffer holds.
 #[derive(Clone, Copy, Debug)]
@@ -26,7 +24,7 @@ pub(crate) struct Window {
 pub(crate) fn front_len(at: u64, bytes: u64) -> u64
     ensures { result ≡ min 14 (bytes - at) }
 {
-    FRONT_LEN.min(bytes.saturating_sub(at))
+    (FRONT_LEN as u64).min(bytes.saturating_sub(at))
 }
 
 /// Lets the buffer hold what stands at `at`, by one read where it doesn't yet.

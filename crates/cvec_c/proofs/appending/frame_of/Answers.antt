@@ -7,7 +7,8 @@ use Rattle.cvec_c.proofs.appending.frame_of.Goals as goal
 
 pub returns-clause-text : goal.returns-clause-text
 returns-clause-text g c = λ format. c.in_ok-push.ensures.items
-    ∙ ap (λ (bs : List ℕ). bs ++ 0 ∷ []) (c.in-Ok.ensures.text format ∙ ap (λ (bs : List ℕ). bs ++ frame_text format (group_frame g.R.Record.form (c.args.records.now ∷ []))) c.new-bytes.ensures.items)
+    ∙ ap (λ (bs : List ℕ). bs ++ 0 ∷ [])
+    (c.in-Ok.ensures.text format ∙ ap (λ (bs : List ℕ). bs ++ frame_text format (group_frame g.R.Record.form (c.args.records.now ∷ []))) c.new-bytes.ensures.items)
 
 pub returns-clause-len : goal.returns-clause-len
 returns-clause-len g c =

@@ -8,5 +8,9 @@ pub returns-in-Ok : goal.returns-in-Ok
 returns-in-Ok g c =
     let found = c.in-Ok.ensures.answer c.args.image.now (c.feed.ensures.fed [] c.of_length-scanner.ensures) in
     let records = c.in-Ok.scanned.records.items in
-    let homes = c.in-Ok.homes.homes in
-    (records, subst (λ (stat : CvecStat). HasHomes g.R.Record.form c.args.image.now records stat homes.items) (sym c.of.ensures) (has_homes g.R.Record.form c.args.image.now c.in-Ok.scanned found.0 homes.items found.1.homes_are))
+    let homes = c.in-Ok.homes.homes in (
+      records,
+      subst (λ (stat : CvecStat). HasHomes g.R.Record.form c.args.image.now records stat homes.items)
+          (sym c.of.ensures)
+          (has_homes g.R.Record.form c.args.image.now c.in-Ok.scanned found.0 homes.items found.1.homes_are),
+    )

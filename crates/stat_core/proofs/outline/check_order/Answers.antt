@@ -12,7 +12,8 @@ returns-in-Shrink c =
 pub returns-in-Shrink-2 : goal.returns-in-Shrink-2
 returns-in-Shrink-2 c =
     subst (λ o. IsOrderFault c.args.at c.args.tally o c.damaged-in-Shrink-2.result) (sym c.in-Shrink.is)
-    (subst (λ f. IsOrderFault c.args.at c.args.tally (Shrink c.in-Shrink.size) f) (sym c.damaged-in-Shrink-2.ensures) (shrinks_unfolded c.args.at c.args.tally c.in-Shrink.size c.if-tally-size.false c.if-tally.true))
+    (subst (λ f. IsOrderFault c.args.at c.args.tally (Shrink c.in-Shrink.size) f) (sym c.damaged-in-Shrink-2.ensures)
+    (shrinks_unfolded c.args.at c.args.tally c.in-Shrink.size c.if-tally-size.false c.if-tally.true))
 
 pub returns-in-Fold : goal.returns-in-Fold
 returns-in-Fold c =

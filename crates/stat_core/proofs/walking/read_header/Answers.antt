@@ -18,10 +18,10 @@ returns-in-Ok-clause-is g c model =
     sound_here c.in-Ok.shape.width c.in-Ok.shape.format image _ c.min-len.result (c.min-len.ensures ∙ ap (min 11) length_is)
     (header_bytes image c.read_at.new.out c.min-len.result c.args.bytes c.min-len.ensures length_is value) sound.2
 
-pub returns-in-Err-read_shape-clause-is : goal.returns-in-Err-read_shape-clause-is
-returns-in-Err-read_shape-clause-is g c model =
+pub returns-in-Err-read-clause-is : goal.returns-in-Err-read-clause-is
+returns-in-Err-read-clause-is g c model =
     let image = bytes_of (g.D.Disk.states c.args.disk.now) in
     let length_is = c.requires.length (c.read_at.ensures.model model) in
     let value = c.in_default.ensures.value model in
-    fault_here image _ c.min-len.result c.in-Err-read_shape.fault (c.min-len.ensures ∙ ap (min 11) length_is)
-    (header_bytes image c.read_at.new.out c.min-len.result c.args.bytes c.min-len.ensures length_is value) c.in-Err-read_shape.ensures.sound
+    fault_here image _ c.min-len.result c.in-Err-read.fault (c.min-len.ensures ∙ ap (min 11) length_is)
+    (header_bytes image c.read_at.new.out c.min-len.result c.args.bytes c.min-len.ensures length_is value) c.in-Err-read.ensures.sound

@@ -30,7 +30,8 @@ loop-window-init g c =
 
 pub returns-in-Err-clause-only_reads : goal.returns-in-Err-clause-only_reads
 returns-in-Err-clause-only_reads g c = λ model.
-    reads_on (g.D.Disk.states c.args.disk.now) (g.D.Disk.states c.loop-window.disk) (g.D.Disk.states c.slide.new.disk) (c.loop-window.invariant.reads (c.slide.ensures.model model)) (c.slide.ensures.only_reads model)
+    reads_on (g.D.Disk.states c.args.disk.now) (g.D.Disk.states c.loop-window.disk) (g.D.Disk.states c.slide.new.disk)
+    (c.loop-window.invariant.reads (c.slide.ensures.model model)) (c.slide.ensures.only_reads model)
 
 pub loop-window-preserved : goal.loop-window-preserved
 loop-window-preserved g c =
@@ -45,7 +46,11 @@ loop-window-preserved g c =
     let is = c.grown-summary.ensures in
     let frames = ap (λ t. t.groups + t.changes + t.shrinks + t.folds) is ∙ grown_frames c.args.shape s outline in
     let gate = ap (λ t. t.gate) is ∙ grown_gate c.args.shape s outline in
-    let holds = λ (model : g.D.Disk.keeps c.slide.new.disk). subst (λ (image : List ℕ). Holds image c.slide.new.buffer c.in-Ok.window) (ap (λ t. t.seen) (let reads = inv.reads (c.slide.ensures.model model) in reads.same)) (c.in-Ok.ensures.holds model) in
+    let holds =
+    λ (model : g.D.Disk.keeps c.slide.new.disk).
+    subst (λ (image : List ℕ). Holds image c.slide.new.buffer c.in-Ok.window)
+    (ap (λ t. t.seen) (let reads = inv.reads (c.slide.ensures.model model) in reads.same))
+    (c.in-Ok.ensures.holds model) in
     record {
       few = subst AreFew (sym is) (few_grown c.args.shape s outline c.requires.wide.0 inv.few sized.stands);
       bytes = ap (λ t. t.bytes) is ∙ grown_bytes c.args.shape s outline ∙ inv.bytes;
@@ -60,14 +65,19 @@ loop-window-preserved g c =
       faults = c.in-Ok.ensures.faults ∙ inv.faults;
       counts = λ model. (
           let size = sym (inv.bytes ∙ c.requires.length (inv.model (c.slide.ensures.model model))) in
-          let next = subst (λ (o : Option (Outline × ℕ)). IsNextOutline c.args.shape s.gate (tally_in s) (drop s.gate (bytes_of old)) (Ok o)) c.in-Ok-Some.field-0-is (c.in-Ok-Some.ensures.next (bytes_of old) size (holds model)) in
+          let next =
+          subst
+          (λ (o : Option (Outline × ℕ)). IsNextOutline c.args.shape s.gate (tally_in s) (drop s.gate (bytes_of old)) (Ok o))
+          c.in-Ok-Some.field-0-is (c.in-Ok-Some.ensures.next (bytes_of old) size (holds model)) in
           subst (Counts c.args.shape (bytes_of old)) (sym is) (count_more c.args.shape (bytes_of old) s outline (inv.counts (c.slide.ensures.model model)) next.0 next.1));
     }
 
 pub returns-in-Ok-None-clause-only_reads : goal.returns-in-Ok-None-clause-only_reads
 returns-in-Ok-None-clause-only_reads g c = λ model.
-    reads_on (g.D.Disk.states c.args.disk.now) (g.D.Disk.states c.loop-window.disk) (g.D.Disk.states c.slide.new.disk) (c.loop-window.invariant.reads (c.slide.ensures.model model)) (c.slide.ensures.only_reads model)
+    reads_on (g.D.Disk.states c.args.disk.now) (g.D.Disk.states c.loop-window.disk) (g.D.Disk.states c.slide.new.disk)
+    (c.loop-window.invariant.reads (c.slide.ensures.model model)) (c.slide.ensures.only_reads model)
 
 pub returns-in-Err-next_outline-clause-only_reads : goal.returns-in-Err-next_outline-clause-only_reads
 returns-in-Err-next_outline-clause-only_reads g c = λ model.
-    reads_on (g.D.Disk.states c.args.disk.now) (g.D.Disk.states c.loop-window.disk) (g.D.Disk.states c.slide.new.disk) (c.loop-window.invariant.reads (c.slide.ensures.model model)) (c.slide.ensures.only_reads model)
+    reads_on (g.D.Disk.states c.args.disk.now) (g.D.Disk.states c.loop-window.disk) (g.D.Disk.states c.slide.new.disk)
+    (c.loop-window.invariant.reads (c.slide.ensures.model model)) (c.slide.ensures.only_reads model)
