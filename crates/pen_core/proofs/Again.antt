@@ -51,7 +51,7 @@ last_from_more says more shape p tally (frame ∷ frames) x all is =
     elim (option_or_cases (last_from says shape.format q t frames) (says p tally frame) x is) [
       | inl
           later ↦ (let s = last_from_more says more shape q t frames x all later in
-            or_later (last_from more shape.format q t frames) (more p tally frame) s.value s.is)
+          or_later (last_from more shape.format q t frames) (more p tally frame) s.value s.is)
       | inr here ↦ or_now (last_from more shape.format q t frames) (more p tally frame) x (all p tally frame x here.1)
     ]
 
@@ -100,9 +100,12 @@ Holds-opens shape frames vector image has long closed =
       opened = record {
         framed = record {
           legal = has.begins.legal;
-          closed =
-              (get_or image p 0, drop (p + 1) image, λ opened. closed (ap (λ n. get_or image n 0) (sym gate) ∙ opened),
-                  b.1 ∙ ap (λ (bs : List ℕ). text shape has.found ++ bs) (sym rest ∙ drop_more image p 0 (omega arith)));
+          closed = (
+            get_or image p 0,
+            drop (p + 1) image,
+            λ opened. closed (ap (λ n. get_or image n 0) (sym gate) ∙ opened),
+            b.1 ∙ ap (λ (bs : List ℕ). text shape has.found ++ bs) (sym rest ∙ drop_more image p 0 (omega arith)),
+          );
         };
         read = has.read;
       };

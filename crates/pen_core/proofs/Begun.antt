@@ -1,11 +1,10 @@
 -- A frame that may follow is begun: with its body behind the gate, and the gate open, the file would be the next.
-use Rattle.std.proofs.Common.{◌≡◌, ℕ, ◌+◌, ◌-◌, ◌^◌, ◌<◌, Bool, false, cond, List, [], ◌∷◌, ◌++◌, length, take, drop, get_or, Option, Some, None, refl, sym, ap, subst, ◌∙◌, arith, append_assoc}
+use Rattle.std.proofs.Common.{◌≡◌, ℕ, ◌+◌, ◌-◌, ◌<◌, cond, List, [], ◌∷◌, ◌++◌, length, take, drop, get_or, Option, Some, None, refl, sym, ap, subst, ◌∙◌, arith, append_assoc}
 use Rattle.std.specs.Option.{option_or}
 use Rattle.std.specs.Int.{w32, to_le_bytes}
 use Rattle.std.proofs.lemmas.Bool.{le-ltb}
 use Rattle.std.proofs.lemmas.List.{length-append, length-take-le, take_at, drop_at, take-append-le, take-take, map_push, get_or_push, get_or_append_left}
-use Rattle.disk_core.specs.State.{State, now, overlay, IsImage}
-use Rattle.disk_core.specs.Calls.{bytes_of}
+use Rattle.disk_core.specs.State.{State, overlay}
 use Rattle.segment_core.specs.declared.format.Shape.{Shape}
 use Rattle.segment_core.specs.declared.tally.Tally.{Tally}
 use Rattle.segment_core.specs.Frame.{Frame, Fold, kind_of, payload_of, header, frame_text, text}
@@ -22,20 +21,15 @@ use Rattle.segment_core.proofs.HomesHold.{HomesHold_same, HomesHold_blanked}
 use Rattle.segment_core.proofs.OneMore.{IsVectorOf_begins}
 use Rattle.segment_core.proofs.Raw.{IsVectorOf_frame}
 use Rattle.segment_core.proofs.Payload.{length-frame_text}
-use Rattle.pen_core.specs.declared.step.Step.{Step}
-use Rattle.pen_core.specs.declared.step.Step.TheVariants.{Body}
 use Rattle.pen_core.specs.Step.{body_of}
 use Rattle.segment_core.specs.Raw.{raw}
 use Rattle.pen_core.specs.Held.{Holds, IsBeingFolded, early_in, gate_of}
-use Rattle.pen_core.specs.Vectors.{frame_at, blanked_before, frames_with}
+use Rattle.pen_core.specs.Vectors.{frames_with}
 use Rattle.segment_core.specs.Raw.{after_frame}
-use Rattle.segment_core.specs.Parsed.{vector_before}
-use Rattle.pen_core.specs.Inside.{IsBodyOf, IsAtStep, Knows, IsPen}
+use Rattle.pen_core.specs.Inside.{IsBodyOf}
 use Rattle.pen_core.specs.Known.{PendingIsFolded}
 use Rattle.pen_core.proofs.Again.{gate_behind, blank_again}
-use Rattle.pen_core.proofs.BeingFolded.{IsBeingFolded_push}
-use Rattle.pen_core.proofs.Parsed.{frame_at-text}
-use Rattle.pen_core.proofs.Pens.{gate_with, knows_at}
+use Rattle.pen_core.proofs.Pens.{gate_with}
 
 -- ---- no fold
 
@@ -52,8 +46,8 @@ never_said says shape p tally (f ∷ frames) never =
 pub nothing_folded : (shape : Shape) (frames : List Frame) (j : ℕ) → IsBeingFolded shape 0 frames j → ⊥
 nothing_folded shape frames j is =
     let none =
-        never_said (early_in shape (tally_of frames).folded 0 is.position) shape (length (header shape)) nothing frames
-          (λ q t f. never_early shape (tally_of frames).folded is.position q t f) in
+    never_said (early_in shape (tally_of frames).folded 0 is.position) shape (length (header shape)) nothing frames
+    (λ q t f. never_early shape (tally_of frames).folded is.position q t f) in
     let some = is.covered in
     absurd cc
 
@@ -67,7 +61,7 @@ held_legal shape frames vector bytes has = same_legal has.found frames (sym (bla
 -- with the body behind the gate, and the gate open, the bytes are those of one frame more
 opened_text : (front body r : List ℕ) (gate : ℕ) → length front ≡ gate → 0 < length r
     → overlay (overlay (front ++ r) (gate + 1) body) gate
-      (1 ∷ []) ≡ front ++ ((1 ∷ body) ++ drop (gate + 1 + length body) (front ++ r))
+    (1 ∷ []) ≡ front ++ ((1 ∷ body) ++ drop (gate + 1 + length body) (front ++ r))
 opened_text front body r gate is some =
     let seen : List ℕ = front ++ r in
     let size = length-append front r in
@@ -76,10 +70,10 @@ opened_text front body r gate is some =
     let long : length kept ≡ gate + 1 = length-take-le (gate + 1) seen (omega arith) in
     let start : take gate (kept ++ body ++ behind) ≡ front =
     take-append-le gate (kept ++ body) behind (omega (arith, length-append kept body))
-        ∙ take-append-le gate kept body (omega arith) ∙ take-take gate (gate + 1) seen (omega arith)
-        ∙ take_at front r gate is in
+    ∙ take-append-le gate kept body (omega arith) ∙ take-take gate (gate + 1) seen (omega arith)
+    ∙ take_at front r gate is in
     let rest : drop (gate + 1) (kept ++ body ++ behind) ≡ body ++ behind =
-        ap (drop (gate + 1)) (append_assoc kept body behind) ∙ drop_at kept (body ++ behind) (gate + 1) long in
+    ap (drop (gate + 1)) (append_assoc kept body behind) ∙ drop_at kept (body ++ behind) (gate + 1) long in
     ap (λ (bs : List ℕ). bs ++ 1 ∷ [] ++ drop (gate + 1) (kept ++ body ++ behind)) start
     ∙ ap (λ (bs : List ℕ). front ++ 1 ∷ [] ++ bs) rest
     ∙ append_assoc front (1 ∷ []) (body ++ behind)
@@ -114,8 +108,8 @@ module _ (count : ℕ) (shape : Shape) (frames : List Frame) (vector : List (Lis
       let g = gate_behind shape has.found frames has.alike in
       let size = ap length b.1 ∙ length-append (text shape has.found) b.0 in
       let opened =
-          ap (λ (bs : List ℕ). overlay (overlay bs (gate + 1) body) gate (1 ∷ [])) b.1
-            ∙ opened_text (text shape has.found) body b.0 gate g (omega arith) in
+      ap (λ (bs : List ℕ). overlay (overlay bs (gate + 1) body) gate (1 ∷ [])) b.1
+      ∙ opened_text (text shape has.found) body b.0 gate g (omega arith) in
       opened ∙ ap (λ (bs : List ℕ). text shape has.found ++ bs) (append_assoc (frame_text shape.format f) (0 ∷ []) tail)
 
   -- the homes of the frames are as they were
@@ -128,10 +122,10 @@ module _ (count : ℕ) (shape : Shape) (frames : List Frame) (vector : List (Lis
       let long' = ap length image_is ∙ length-append (text shape has.found) (frame_text shape.format f ++ 0 ∷ tail) in
       take_same shape.width place image s.seen (omega (arith, b.to)) (omega (arith, b.to)) (λ j from before.
       ap (λ (bs : List ℕ). get_or bs j 0) image_is
-          ∙ get_or_append_left (text shape has.found) (frame_text shape.format f ++ 0 ∷ tail) 0 j (omega (arith, b.to))
+      ∙ get_or_append_left (text shape has.found) (frame_text shape.format f ++ 0 ∷ tail) 0 j (omega (arith, b.to))
       ∙ sym
-        (ap (λ (bs : List ℕ). get_or bs j 0) has.begins.begins.1
-              ∙ get_or_append_left (text shape has.found) has.begins.begins.0 0 j (omega (arith, b.to))))
+      (ap (λ (bs : List ℕ). get_or bs j 0) has.begins.begins.1
+      ∙ get_or_append_left (text shape has.found) has.begins.begins.0 0 j (omega (arith, b.to))))
 
   hold_there : (fold : ℕ) → f ≡ Fold fold → HomesHold shape.format (raw shape.width) image has.found fold vector
   hold_there fold is =
@@ -142,8 +136,8 @@ module _ (count : ℕ) (shape : Shape) (frames : List Frame) (vector : List (Lis
   body_holds =
       let begins = Begins_push shape image has.found f (0 ∷ tail) has.begins.legal whole may' image_is in
       let before =
-          IsVectorOf_begins shape.format (raw shape.width) s.seen image has.found vector has.begins
-            (BeginsImage_before shape image has.found f begins) has.read in
+      IsVectorOf_begins shape.format (raw shape.width) s.seen image has.found vector has.begins
+      (BeginsImage_before shape image has.found f begins) has.read in
       record {
         found = has.found ++ f ∷ [];
         alike = map_push blanked has.found f ∙ ap (λ (fs : List Frame). fs ++ blanked f ∷ []) has.alike;

@@ -38,7 +38,7 @@ IsBeingFolded_push shape count frames f j legal no_fold is =
     let covered = folded_covered shape count frames j is in
     let inside : i < t.size = live_inside shape frames i covered.0 legal covered.1 in
     let folded : (tally_of (frames_with frames f)).folded ≡ t.folded =
-        ap (λ u. u.folded) (tally_from_push nothing frames (blanked f)) ∙ same_folded t f no_fold in
+    ap (λ u. u.folded) (tally_from_push nothing frames (blanked f)) ∙ same_folded t f no_fold in
     let here : Option ℕ = early_in shape t.folded count i (length (text shape frames)) t (blanked f) in
     let again = told_again here is.told in
     record {
@@ -47,9 +47,9 @@ IsBeingFolded_push shape count frames f j legal no_fold is =
       told = again.turned;
       home_is =
           home_push shape frames (blanked f) i
-            ∙ ap (λ o. option_or o (home_of shape frames i))
-              (home_in_before shape.width i (length (text shape frames)) t (blanked f) inside)
-            ∙ is.home_is;
+          ∙ ap (λ o. option_or o (home_of shape frames i))
+          (home_in_before shape.width i (length (text shape frames)) t (blanked f) inside)
+          ∙ is.home_is;
       covered =
           ap (λ n. last_from (early_in shape n count i) shape.format (length (header shape)) nothing (frames_with frames f)) folded
           ∙ last_push (early_in shape t.folded count i) shape frames (blanked f) ∙ ap (option_or here) is.covered ∙ again.is;

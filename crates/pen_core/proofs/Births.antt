@@ -28,7 +28,7 @@ unborn_short width image le = unborn width image (or_left (nat_le (length image)
 unborn_closed : (width : ℕ) (image : List ℕ) → get_or image 0 0 ≢ 1 → header_fault width image ≡ Some Unborn
 unborn_closed width image shut =
     unborn width image
-      (or_right (nat_le (length image) 1) (not (get_or image 0 0 == 1)) (ap not (ne_eqb (get_or image 0 0) 1 shut)))
+    (or_right (nat_le (length image) 1) (not (get_or image 0 0 == 1)) (ap not (ne_eqb (get_or image 0 0) 1 shut)))
 
 -- the header, and the first gate, closed
 abbrev pub empty_file : Shape → List ℕ
@@ -61,7 +61,7 @@ pub births_of_header : (shape : Shape) (len : ℕ) (bytes seen image : List ℕ)
     → IsImage (touched (settled bytes) 1 len seen) image → IsUnbornOrEmpty shape image
 births_of_header shape len bytes seen image some shut is =
     birth_closed shape image
-      (λ opened. shut (sym (is.each 0 some (not_pending [] 1 len 0 refl (λ from upto. omega arith))) ∙ opened))
+    (λ opened. shut (sym (is.each 0 some (not_pending [] 1 len 0 refl (λ from upto. omega arith))) ∙ opened))
 
 -- while byte 0 is opened: no file yet, or the empty one
 pub births_of_opening : (shape : Shape) (bytes seen image : List ℕ) → length bytes ≡ length (empty_file shape)
@@ -72,10 +72,10 @@ births_of_opening shape bytes seen image size same is = elim (cases_eq (get_or i
   | inr shut ↦ birth_closed shape image shut
   | inl opened ↦ inr
       (subst (Opens shape [] [])
-          (sym
-              (ext_get_or 0 image (empty_file shape) (omega (arith, size, is.no_shorter, is.no_longer))
-                    (λ j lt. at j opened (omega (arith, is.no_longer, size)))))
-          (empty_opens shape))
+      (sym
+      (ext_get_or 0 image (empty_file shape) (omega (arith, size, is.no_shorter, is.no_longer))
+      (λ j lt. at j opened (omega (arith, is.no_longer, size)))))
+      (empty_opens shape))
 ]
   where
     at : (j : ℕ) → get_or image 0 0 ≡ 1 → j < length bytes → get_or image j 0 ≡ get_or (empty_file shape) j 0
@@ -100,14 +100,14 @@ pub torn_only : {T : Type 0} (old new : List State) (at : ℕ) (bytes : List ℕ
     → LeavesOnly old new (IsImage (touched (now old) at (length bytes) (bytes_of old)))
 torn_only old new at bytes r done torn =
     LeavesOnly-write old new (IsImage (touched (now old) at (length bytes) (bytes_of old))) r at bytes done torn
-      (λ image is. is)
+    (λ image is. is)
 
 -- ---- calls that change nothing
 
 pub stays_only : (old new : List State) → Stays old new → LeavesOnly old new (IsImage (now old))
 stays_only old new stays =
     LeavesOnly-more old old new (now old) (IsImage (now old)) (LeavesOnly-start old (IsImage (now old)) (λ image is. is))
-      stays (λ image is. is)
+    stays (λ image is. is)
 
 pub stays_twice : (old mid new : List State) → Stays old mid → Stays mid new → LeavesOnly old new (IsImage (now old))
 stays_twice old mid new first second =
@@ -130,10 +130,10 @@ pub born_still : (shape : Shape) (old new : List State) (bytes : List ℕ) → n
     → LeavesOnly old new (IsImage (now old)) → LeavesOnly old new (IsUnbornOrEmpty shape)
 born_still shape old new bytes is none leaves =
     LeavesOnly-weaker old new (IsImage (now old)) (IsUnbornOrEmpty shape)
-        (λ image left.
-            subst (IsUnbornOrEmpty shape) (sym (IsImage-settled bytes image (subst (λ s. IsImage s image) is left)))
-                (unborn_as_it_is shape bytes none))
-        leaves
+    (λ image left.
+    subst (IsUnbornOrEmpty shape) (sym (IsImage-settled bytes image (subst (λ s. IsImage s image) is left)))
+    (unborn_as_it_is shape bytes none))
+    leaves
 
 -- behind a first byte that is written
 pub born_first : (shape : Shape) (old mid new : List State) (bytes : List ℕ) → now old ≡ settled bytes → now mid ≡ now old
@@ -142,10 +142,10 @@ pub born_first : (shape : Shape) (old mid new : List State) (bytes : List ℕ) �
 born_first shape old mid new bytes is same none short first second =
     LeavesOnly-join old mid new (IsUnbornOrEmpty shape) (born_still shape old mid bytes is none first)
     (LeavesOnly-weaker mid new (IsImage (touched (now mid) 0 1 (bytes_of mid))) (IsUnbornOrEmpty shape)
-      (λ image left.
-          births_of_first shape bytes (bytes_of mid) image short
-              (subst (λ s. IsImage (touched s 0 1 (bytes_of mid)) image) (same ∙ is) left))
-      second)
+    (λ image left.
+    births_of_first shape bytes (bytes_of mid) image short
+    (subst (λ s. IsImage (touched s 0 1 (bytes_of mid)) image) (same ∙ is) left))
+    second)
 
 pub clear_first : (bytes : List ℕ) → length bytes ≤ 1 → IsClear (settled (overlay bytes 0 (0 ∷ [])))
 clear_first [] short = (0 ∷ [], refl, omega arith, omega arith, λ e. omega (arith, e))
@@ -168,10 +168,10 @@ module _ (shape : Shape) where
       → LeavesOnly old mid (IsUnbornOrEmpty shape)
   born_header old mid clear leaves =
       LeavesOnly-weaker old mid (IsImage (touched (now old) 1 (length rest) (bytes_of old))) (IsUnbornOrEmpty shape)
-          (λ image left.
-              births_of_header shape (length rest) clear.0 (bytes_of old) image clear.2 clear.4
-                  (subst (λ s. IsImage (touched s 1 (length rest) (bytes_of old)) image) clear.1 left))
-          leaves
+      (λ image left.
+      births_of_header shape (length rest) clear.0 (bytes_of old) image clear.2 clear.4
+      (subst (λ s. IsImage (touched s 1 (length rest) (bytes_of old)) image) clear.1 left))
+      leaves
 
   pub born_opened : (old mid new : List State) → IsClear (now old)
       → LeavesOnly old mid (IsImage (touched (now old) 1 (length rest) (bytes_of old)))
@@ -180,17 +180,17 @@ module _ (shape : Shape) where
   born_opened old mid new clear first is second =
       LeavesOnly-join old mid new (IsUnbornOrEmpty shape) (born_header old mid clear first)
       (LeavesOnly-weaker mid new (IsImage (touched (now mid) 0 1 (bytes_of mid))) (IsUnbornOrEmpty shape)
-        (λ image left. opening clear.0 (ap (λ s. s.seen) clear.1) clear.2 clear.3 image left) second)
+      (λ image left. opening clear.0 (ap (λ s. s.seen) clear.1) clear.2 clear.3 image left) second)
     where
       opening : (bytes : List ℕ) → bytes_of old ≡ bytes → 0 < length bytes → length bytes ≤ 12 → (image : List ℕ)
           → IsImage (touched (now mid) 0 1 (bytes_of mid)) image → IsUnbornOrEmpty shape image
       opening [] same some short image left = absurd (omega (arith, some))
       opening (b ∷ bytes) same some short image left =
           let made : now mid ≡ settled (b ∷ rest) =
-              is ∙ ap (λ (bs : List ℕ). settled (overlay bs 1 rest)) same
-                ∙ ap settled (laid_behind b bytes (omega (arith, short))) in
+          is ∙ ap (λ (bs : List ℕ). settled (overlay bs 1 rest)) same
+          ∙ ap settled (laid_behind b bytes (omega (arith, short))) in
           births_of_opening shape (b ∷ rest) (bytes_of mid) image refl (λ j some' lt. behind j some')
-              (subst (λ s. IsImage (touched s 0 1 (bytes_of mid)) image) made left)
+          (subst (λ s. IsImage (touched s 0 1 (bytes_of mid)) image) made left)
         where
           behind : (j : ℕ) → 0 < j → get_or (b ∷ rest) j 0 ≡ get_or (empty_file shape) j 0
           behind zero some' = absurd (omega arith)
@@ -205,8 +205,8 @@ module _ (shape : Shape) where
       made [] same some short = absurd (omega (arith, some))
       made (b ∷ bytes) same some short =
           ap (λ s. settled (overlay s.seen 0 (1 ∷ [])))
-            (is ∙ ap (λ (bs : List ℕ). settled (overlay bs 1 rest)) same
-                ∙ ap settled (laid_behind b bytes (omega (arith, short))))
+          (is ∙ ap (λ (bs : List ℕ). settled (overlay bs 1 rest)) same
+          ∙ ap settled (laid_behind b bytes (omega (arith, short))))
 
 -- ---- from the first sync on
 
@@ -220,7 +220,7 @@ pub born_onward : (shape : Shape) (old mid last new : List State) → clock mid 
     → LeavesOnly last new (IsUnbornOrEmpty shape) → StaysUnbornOrEmpty shape old new
 born_onward shape old mid last new time same first second =
     born_safely shape old mid new time same
-      (λ none. LeavesOnly-join mid last new (IsUnbornOrEmpty shape) (first none) second)
+    (λ none. LeavesOnly-join mid last new (IsUnbornOrEmpty shape) (first none) second)
 
 pub born_unsynced : (shape : Shape) (old new : List State) → clock new ≡ clock old + 1 → StaysUnbornOrEmpty shape old new
 born_unsynced shape old new time none later image left = absurd (omega arith)
@@ -233,10 +233,10 @@ nothing_written old mid new r settles stays readable is leaves same = record {
   bytes_same = ap (λ s. s.seen) same ∙ ap (λ s. s.seen) is;
   left_before = LeavesOnly-join old mid new (IsImage (now old)) (LeavesOnly-sync old mid (IsImage (now old)) r settles stays readable (λ image left. left))
       (LeavesOnly-weaker mid new (IsImage (now mid)) (IsImage (now old))
-        (λ image left.
-            subst (IsImage (now old)) (sym (IsImage-settled (bytes_of old) image (subst (λ s. IsImage s image) is left)))
-                readable)
-        leaves);
+      (λ image left.
+      subst (IsImage (now old)) (sym (IsImage-settled (bytes_of old) image (subst (λ s. IsImage s image) is left)))
+      readable)
+      leaves);
 }
 
 pub nothing_synced : {T : Type 0} (old new : List State) (r : Result T DiskFault) → OnOk r (Settles old new)

@@ -23,11 +23,10 @@ module _ (shape : Shape) (count : ℕ) (frames : List Frame) (vector : List (Lis
     gate_synced = file.gate_synced;
     pending_is_folded =
         λ j lt is.
-          elim (pending_push s.pending (record { at = at; len = len }) j is)
-            [
-              | inl old ↦ file.pending_is_folded j lt old
-              | inr new ↦ (let i = covered_inside at len j new in loose j lt i.0 i.1)
-            ];
+        elim (pending_push s.pending (record { at = at; len = len }) j is) [
+          | inl old ↦ file.pending_is_folded j lt old
+          | inr new ↦ (let i = covered_inside at len j new in loose j lt i.0 i.1)
+        ];
   }
 
   pub IsShut-touched : (gate : ℕ) → IsShut gate s → get_or seen gate 0 ≡ get_or s.seen gate 0
@@ -42,7 +41,7 @@ module _ (shape : Shape) (count : ℕ) (frames : List Frame) (vector : List (Lis
       → PendingIsFolded shape count frames next (touched s at len seen)
   PendingIsFolded-touched next stays loose j lt is =
       elim (pending_push s.pending (record { at = at; len = len }) j is)
-        [ inl old ↦ stays j lt old | inr new ↦ (let i = covered_inside at len j new in loose j lt i.0 i.1) ]
+      [ inl old ↦ stays j lt old | inr new ↦ (let i = covered_inside at len j new in loose j lt i.0 i.1) ]
 
   pub IsOnDisk-touched : (next : List Frame) → IsOnDisk shape frames next s
       → (at + len ≤ gate_of shape frames + 1) ⊎ (gate_of shape next < at)
@@ -51,8 +50,8 @@ module _ (shape : Shape) (count : ℕ) (frames : List Frame) (vector : List (Lis
     inside = there.inside;
     kept =
         λ j past upto.
-          not_pending s.pending at len j (there.kept j past upto)
-            (λ from before. elim apart [ inl below ↦ omega arith | inr above ↦ omega arith ]);
+        not_pending s.pending at len j (there.kept j past upto)
+        (λ from before. elim apart [ inl below ↦ omega arith | inr above ↦ omega arith ]);
   }
 
 -- ---- the body
@@ -97,7 +96,7 @@ module _ (shape : Shape) (count : ℕ) (frames next : List Frame) (before after 
         inside = omega arith;
         pending_is_folded =
             PendingIsFolded-touched shape count frames before s (p + 1) (length body) seen' next stays
-              (λ j lt from upto. absurd (omega arith));
+            (λ j lt from upto. absurd (omega arith));
       }
     where
       last : get_or seen' (gate_of shape next) 0 ≡ get_or body (length body - 1) 0
@@ -116,7 +115,7 @@ module _ (shape : Shape) (count : ℕ) (frames next : List Frame) (before after 
       let s' : State = touched s (p + 1) (length body) s.seen in
       images_shut shape count frames before s'
       (IsFileOf-touched shape count frames before s (p + 1) (length body) s.seen file file.holds
-        (λ j lt from upto. absurd (omega arith)))
+      (λ j lt from upto. absurd (omega arith)))
       (touched_more s (p + 1) (length body) s.seen s.seen readable) image is
       (IsShut-touched shape count frames before s (p + 1) (length body) s.seen p shut refl (λ from upto. omega arith))
 
@@ -124,7 +123,7 @@ module _ (shape : Shape) (count : ℕ) (frames next : List Frame) (before after 
   holds_of_body image is =
       image_holds shape count frames before (touched s (p + 1) (length body) s.seen)
       (IsFileOf-touched shape count frames before s (p + 1) (length body) s.seen file file.holds
-        (λ j lt from upto. absurd (omega arith)))
+      (λ j lt from upto. absurd (omega arith)))
       (touched_more s (p + 1) (length body) s.seen s.seen readable) image is
 
 -- ---- a sync, of the log or of the homes
@@ -162,8 +161,8 @@ module _ (shape : Shape) (count : ℕ) (frames next : List Frame) (before after 
       let longer = wrote.longer in
       let inside = wrote.inside in
       let same : (j : ℕ) → j < gate_of shape next → (IsLoose shape next j → ⊥)
-          → get_or s.seen j 0 ≡ get_or (overlay s.seen p (1 ∷ [])) j 0 =
-          λ j lt fast. elim (cases_order j p) [
+      → get_or s.seen j 0 ≡ get_or (overlay s.seen p (1 ∷ [])) j 0 =
+      λ j lt fast. elim (cases_order j p) [
         | inl at ↦ subst (λ k. get_or s.seen k 0 ≡ get_or (overlay s.seen p (1 ∷ [])) k 0) (sym at) (opened ∙ sym (opened_at s.seen p (omega arith)))
         | inr (inl below) ↦ sym (opened_elsewhere s.seen p j (omega arith) (omega arith) (λ e. omega arith))
         | inr (inr above) ↦ sym (opened_elsewhere s.seen p j (omega arith) (omega arith) (λ e. omega arith))
@@ -208,8 +207,8 @@ module _ (shape : Shape) (count : ℕ) (frames next : List Frame) (before after 
       let longer = wrote.longer in
       let inside = wrote.inside in
       let twice : (j : ℕ) → j < gate_of shape next → (IsLoose shape next j → ⊥)
-          → get_or (overlay opened g (1 ∷ [])) j 0 ≡ get_or opened j 0 =
-          λ j lt fast. elim (cases_order j g) [
+      → get_or (overlay opened g (1 ∷ [])) j 0 ≡ get_or opened j 0 =
+      λ j lt fast. elim (cases_order j g) [
         | inl at ↦ subst (λ k. get_or (overlay opened g (1 ∷ [])) k 0 ≡ get_or opened k 0) (sym at)
             (opened_at opened g (omega arith) ∙ sym (opened_at s.seen g i))
         | inr (inl below) ↦ opened_elsewhere opened g j (omega arith) (omega arith) (λ e. omega arith)
@@ -223,7 +222,7 @@ module _ (shape : Shape) (count : ℕ) (frames next : List Frame) (before after 
         inside = omega arith;
         pending_is_folded =
             PendingIsFolded-touched shape count frames before s g 1 opened next wrote.pending_is_folded
-              (λ j lt from upto. absurd (omega arith));
+            (λ j lt from upto. absurd (omega arith));
       }
 
   pub on_disk_after_gate : IsOnDisk shape frames next (written s g (1 ∷ []))
@@ -236,15 +235,14 @@ module _ (shape : Shape) (count : ℕ) (frames next : List Frame) (before after 
   images_of_gate image is =
       images_open shape count frames next before after (touched s g 1 s.seen)
       (IsFileOf-touched shape count frames before s g 1 s.seen file file.holds (λ j lt from upto. absurd (omega arith)))
-      (record
-        {
-          longer = wrote.longer;
-          holds = wrote.holds;
-          closed = wrote.closed;
-          inside = wrote.inside;
-          pending_is_folded = PendingIsFolded-touched shape count frames before s g 1 s.seen next wrote.pending_is_folded
-              (λ j lt from upto. absurd (omega arith));
-        })
+      (record {
+        longer = wrote.longer;
+        holds = wrote.holds;
+        closed = wrote.closed;
+        inside = wrote.inside;
+        pending_is_folded = PendingIsFolded-touched shape count frames before s g 1 s.seen next wrote.pending_is_folded
+            (λ j lt from upto. absurd (omega arith));
+      })
       (IsOnDisk-touched shape count frames before s g 1 s.seen next there (inl (omega arith)))
       (touched_more s g 1 s.seen s.seen readable) image is
 

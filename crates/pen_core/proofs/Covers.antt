@@ -29,23 +29,23 @@ pub has-longer : (i start end next count : ℕ) → start ≤ next → next ≤ 
     → (has i (start, end - start) || has i (next, count)) ≡ has i (start, next + count - start)
 has-longer i start end next count after touches further =
     same_test (has i (start, end - start) || has i (next, count)) (has i (start, next + count - start))
-      (λ e. elim (or_cases (has i (start, end - start)) (has i (next, count)) e) [
-  | inl h ↦ let b = has-true i start (end - start) h in true-has i start (next + count - start) b.0 (omega arith)
-  | inr h ↦ let b = has-true i next count h in true-has i start (next + count - start) (omega arith) (omega arith)
-]) (λ e. let b = has-true i start (next + count - start) e in elim (cases_lt i end) [
-  | inl lt ↦ or_left (has i (start, end - start)) (has i (next, count)) (true-has i start (end - start) b.0 (omega arith))
-  | inr ge ↦ or_right (has i (start, end - start)) (has i (next, count)) (true-has i next count (omega arith) (omega arith))
-])
+    (λ e. elim (or_cases (has i (start, end - start)) (has i (next, count)) e) [
+      | inl h ↦ let b = has-true i start (end - start) h in true-has i start (next + count - start) b.0 (omega arith)
+      | inr h ↦ let b = has-true i next count h in true-has i start (next + count - start) (omega arith) (omega arith)
+    ]) (λ e. let b = has-true i start (next + count - start) e in elim (cases_lt i end) [
+      | inl lt ↦ or_left (has i (start, end - start)) (has i (next, count)) (true-has i start (end - start) b.0 (omega arith))
+      | inr ge ↦ or_right (has i (start, end - start)) (has i (next, count)) (true-has i next count (omega arith) (omega arith))
+    ])
 
 -- a run that ends inside another that began before it adds nothing
 pub has-inner : (i start end next count : ℕ) → start ≤ next → next + count ≤ end
     → (has i (start, end - start) || has i (next, count)) ≡ has i (start, end - start)
 has-inner i start end next count after inside =
     same_test (has i (start, end - start) || has i (next, count)) (has i (start, end - start))
-      (λ e. elim (or_cases (has i (start, end - start)) (has i (next, count)) e) [
-  | inl h ↦ h
-  | inr h ↦ let b = has-true i next count h in true-has i start (end - start) (omega arith) (omega arith)
-]) (λ e. or_left (has i (start, end - start)) (has i (next, count)) e)
+    (λ e. elim (or_cases (has i (start, end - start)) (has i (next, count)) e) [
+      | inl h ↦ h
+      | inr h ↦ let b = has-true i next count h in true-has i start (end - start) (omega arith) (omega arith)
+    ]) (λ e. or_left (has i (start, end - start)) (has i (next, count)) e)
 
 or_false : (b : Bool) → (b || false) ≡ b
 or_false true = refl
@@ -72,9 +72,11 @@ EndBefore-push place later (first ∷ runs) run le before lt = (omega (arith, be
 pub StandApart-push : (from start count : ℕ) (runs : List (ℕ × ℕ)) → StandApart from runs → EndBefore start runs
     → from ≤ start → 0 < count → StandApart from (runs ++ (start, count) ∷ [])
 StandApart-push from start count [] apart before le some = (le, some, tt)
-StandApart-push from start count (first ∷ runs) apart before le some =
-    (apart.0, apart.1,
-        StandApart-push (first.0 + first.1 + 1) start count runs apart.2 before.1 (omega (arith, before.0)) some)
+StandApart-push from start count (first ∷ runs) apart before le some = (
+  apart.0,
+  apart.1,
+  StandApart-push (first.0 + first.1 + 1) start count runs apart.2 before.1 (omega (arith, before.0)) some,
+)
 
 -- runs that were sorted: none begins before an earlier one, each has a position, and none ends too late
 pub record AreSorted (runs : List (ℕ × ℕ)) : Type 0 where

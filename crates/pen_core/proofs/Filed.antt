@@ -1,5 +1,5 @@
 -- The frame of a fold becomes the job.
-use Rattle.std.proofs.Common.{◌≡◌, ℕ, ◌+◌, ◌-◌, ◌^◌, ◌≤◌, ◌<◌, Bool, false, List, [], ◌∷◌, ◌++◌, length, map, take, drop, Option, Some, None, refl, sym, ap, subst, ◌∙◌, arith}
+use Rattle.std.proofs.Common.{◌≡◌, ℕ, ◌+◌, ◌-◌, ◌^◌, ◌≤◌, ◌<◌, false, List, [], ◌∷◌, ◌++◌, length, map, take, drop, Some, None, refl, sym, ap, subst, ◌∙◌, arith}
 use Rattle.std.specs.Prelude.{nat_lt}
 use Rattle.std.proofs.lemmas.Bool.{le-ltb}
 use Rattle.std.proofs.lemmas.List.{length-append}
@@ -7,8 +7,6 @@ use Rattle.disk_core.specs.State.{State, now, IsImage}
 use Rattle.disk_core.specs.Calls.{bytes_of}
 use Rattle.segment_core.specs.declared.format.Format.{Format}
 use Rattle.segment_core.specs.declared.format.Format.TheVariants.{One, Two}
-use Rattle.segment_core.specs.declared.format.Shape.{Shape}
-use Rattle.segment_core.specs.declared.found.Homes.{Homes}
 use Rattle.segment_core.specs.declared.tally.Tally.{Tally}
 use Rattle.segment_core.specs.Shape.{limit_of}
 use Rattle.segment_core.specs.Frame.{Frame, frame_text}
@@ -20,10 +18,8 @@ use Rattle.segment_core.specs.Tally.{after, is_miscounted, MayFollow}
 use Rattle.segment_core.specs.Raw.{raw, after_frame}
 use Rattle.segment_core.specs.Folding.{HomesHold}
 use Rattle.segment_core.specs.Parsed.{vector_before}
-use Rattle.pen_core.specs.declared.fold.Fold.{Fold}
 use Rattle.pen_core.specs.declared.pen.Pen.TheInside.{Inside}
 use Rattle.pen_core.specs.Fields.{IsSound}
-use Rattle.pen_core.specs.declared.step.Step.{Step}
 use Rattle.pen_core.specs.declared.step.Step.TheVariants.{Body}
 use Rattle.pen_core.specs.declared.stage.FoldStage.TheVariants.{Ready, Filed}
 use Rattle.pen_core.specs.Step.{body_of}
@@ -110,24 +106,24 @@ module _ {D : Type 0} {keeps : D → Type 0} {states : D → List State} {pen th
   knows : keeps pen.disk → Knows 0 pen.shape pen.gate pen.tally frames vector pen.bytes.items None pen.broken (now old)
   knows model =
       subst (λ step. Knows 0 pen.shape pen.gate pen.tally frames vector pen.bytes.items step pen.broken (now old)) files.idle
-        (subst
-            (λ st.
-                Knows (open_count st pen.fold.count) pen.shape pen.gate pen.tally frames vector pen.bytes.items pen.step
-                    pen.broken (now old))
-            files.ready (files.sound.job.knows model))
+      (subst
+      (λ st.
+      Knows (open_count st pen.fold.count) pen.shape pen.gate pen.tally frames vector pen.bytes.items pen.step
+      pen.broken (now old))
+      files.ready (files.sound.job.knows model))
 
   -- the homes are on the disk
   held : (model : keeps pen.disk) → HomesHold pen.shape.format (raw pen.shape.width) (bytes_of old) frames pen.fold.count vector
   held model =
       let homes_are : IsFolding pen.shape pen.fold.count frames vector (left_of pen.fold) (now old) =
-          subst (HomesAt pen.shape frames vector pen.fold (now old)) files.ready
-            (files.sound.fold.homes model files.going) in
+      subst (HomesAt pen.shape frames vector pen.fold (now old)) files.ready
+      (files.sound.fold.homes model files.going) in
       let none : left_of pen.fold ≡ [] = ap (map (write_of pen.fold.bytes.items)) (drop_whole pen.fold.writes.items pen.fold.done at_ready.1) in
       subst (λ left. HomesHold pen.shape.format (raw pen.shape.width) (laid left (bytes_of old)) frames pen.fold.count vector) none homes_are.homes_hold
 
   at_body : (model : keeps pen.disk)
       → IsAtStep pen.shape 0 pen.gate frames (frames_with frames (frame_at pen.shape then.bytes.items))
-        (after_frame pen.shape.width vector (frame_at pen.shape then.bytes.items)) then.bytes.items Body (now old)
+      (after_frame pen.shape.width vector (frame_at pen.shape then.bytes.items)) then.bytes.items Body (now old)
   at_body model =
       let k = knows model in
       let s = now old in
@@ -138,13 +134,14 @@ module _ {D : Type 0} {keeps : D → Type 0} {states : D → List State} {pen th
       (λ count is. subst (λ n. HomesHold pen.shape.format (raw pen.shape.width) s.seen frames n vector) (same_count count is) (held model))
       (λ j lt pending. absurd (nothing_folded pen.shape frames j (k.file.pending_is_folded j lt pending))) in
       subst (λ g. IsAtStep pen.shape 0 pen.gate frames (frames_with frames g) (after_frame pen.shape.width vector g) then.bytes.items Body s) (sym filed_frame)
-      (subst (λ bs. IsAtStep pen.shape 0 pen.gate frames (frames_with frames f) (after_frame pen.shape.width vector f) bs Body s) (sym spelled)
-      (k.stands files.going,
-          subst
-                (λ g.
-                    IsBodyOf pen.shape 0 g frames (frames_with frames f) (after_frame pen.shape.width vector f)
-                        (body_of (frame_text pen.shape.format f ++ 0 ∷ [])) s)
-                (sym k.gate_is) made))
+      (subst (λ bs. IsAtStep pen.shape 0 pen.gate frames (frames_with frames f) (after_frame pen.shape.width vector f) bs Body s) (sym spelled) (
+        k.stands files.going,
+        subst
+            (λ g.
+            IsBodyOf pen.shape 0 g frames (frames_with frames f) (after_frame pen.shape.width vector f)
+            (body_of (frame_text pen.shape.format f ++ 0 ∷ [])) s)
+            (sym k.gate_is) made,
+      ))
     where
       same_count : (count : ℕ) → kinds.Fold pen.fold.count ≡ kinds.Fold count → pen.fold.count ≡ count
       same_count count is = cc
@@ -155,34 +152,35 @@ module _ {D : Type 0} {keeps : D → Type 0} {states : D → List State} {pen th
   filed_job : IsPen (open_count then.fold.stage then.fold.count) (keeps pen.disk) old pen.shape pen.gate pen.tally next' then.bytes.items (Some Body) pen.broken
   filed_job =
       subst
-        (λ st.
-            IsPen (open_count st then.fold.count) (keeps pen.disk) old pen.shape pen.gate pen.tally next' then.bytes.items
-                (Some Body) pen.broken)
-        (sym files.filed) (record {
-    wide = files.sound.job.wide;
-    gate_fits = files.sound.job.gate_fits;
-    size_fits = files.sound.job.size_fits;
-    changes_fit = files.sound.job.changes_fit;
-    folded_counted = files.sound.job.folded_counted;
-    job = record {
-      spelled = subst (λ g. then.bytes.items ≡ frame_text pen.shape.format g ++ 0 ∷ []) (sym filed_frame) spelled;
-      whole = subst (IsFrame pen.shape) (sym filed_frame) framed;
-      may_follow = subst (MayFollow pen.tally) (sym filed_frame) follows;
-      next_is = subst (λ g. next' ≡ after pen.tally g) (sym filed_frame) refl;
-      fits = let all = ap length spelled ∙ length-append (frame_text pen.shape.format f) (0 ∷ []) in let below = room in omega arith;
-    };
-    knows =
-        λ model. let k = knows model in
-        knows_at pen.shape pen.gate pen.tally frames vector then.bytes.items (now old) k.gate_is k.tally_is Body pen.broken
-          k.file (at_body model) (files.reads pen.disk model);
-  })
+      (λ st.
+      IsPen (open_count st then.fold.count) (keeps pen.disk) old pen.shape pen.gate pen.tally next' then.bytes.items
+      (Some Body) pen.broken)
+      (sym files.filed) (record {
+        wide = files.sound.job.wide;
+        gate_fits = files.sound.job.gate_fits;
+        size_fits = files.sound.job.size_fits;
+        changes_fit = files.sound.job.changes_fit;
+        folded_counted = files.sound.job.folded_counted;
+        job = record {
+          spelled = subst (λ g. then.bytes.items ≡ frame_text pen.shape.format g ++ 0 ∷ []) (sym filed_frame) spelled;
+          whole = subst (IsFrame pen.shape) (sym filed_frame) framed;
+          may_follow = subst (MayFollow pen.tally) (sym filed_frame) follows;
+          next_is = subst (λ g. next' ≡ after pen.tally g) (sym filed_frame) refl;
+          fits = let all = ap length spelled ∙ length-append (frame_text pen.shape.format f) (0 ∷ []) in let below = room in omega arith;
+        };
+        knows =
+            λ model. let k = knows model in
+            knows_at pen.shape pen.gate pen.tally frames vector then.bytes.items (now old) k.gate_is k.tally_is Body pen.broken
+            k.file (at_body model) (files.reads pen.disk model);
+      })
 
   filed_fold : IsFold (keeps pen.disk) old pen.shape pen.gate pen.tally then.bytes.items (Some Body) pen.broken then.fold
   filed_fold = record {
     counts =
-        subst (IsAtStage pen.shape pen.gate pen.tally then.bytes.items (Some Body) then.fold) (sym files.filed)
-          (ap (λ g. Some g) filed_frame ∙ ap (λ n. Some (kinds.Fold n)) (sym files.count_same),
-              files.done_same ∙ at_ready.1 ∙ sym (ap (λ ws. length ws.items) files.writes_same));
+        subst (IsAtStage pen.shape pen.gate pen.tally then.bytes.items (Some Body) then.fold) (sym files.filed) (
+          ap (λ g. Some g) filed_frame ∙ ap (λ n. Some (kinds.Fold n)) (sym files.count_same),
+          files.done_same ∙ at_ready.1 ∙ sym (ap (λ ws. length ws.items) files.writes_same),
+        );
     homes = λ model whole'. subst (HomesAt pen.shape frames vector then.fold (now old)) (sym files.filed) tt;
   }
 
@@ -190,10 +188,10 @@ module _ {D : Type 0} {keeps : D → Type 0} {states : D → List State} {pen th
   filed_lists =
       let ahead : Some f ≡ frame_in_hand pen.shape then.bytes.items (Some Body) = sym (ap (λ g. Some g) filed_frame) in
       let rests : Lists pen.shape files.sound.lists.frames None pen.homes pen.live =
-          subst
-            (λ step.
-                Lists pen.shape files.sound.lists.frames (frame_in_hand pen.shape pen.bytes.items step) pen.homes pen.live)
-            files.idle files.sound.lists.lists in
+      subst
+      (λ step.
+      Lists pen.shape files.sound.lists.frames (frame_in_hand pen.shape pen.bytes.items step) pen.homes pen.live)
+      files.idle files.sound.lists.lists in
       record {
         frames = files.sound.lists.frames;
         legal = files.sound.lists.legal;
@@ -201,20 +199,19 @@ module _ {D : Type 0} {keeps : D → Type 0} {states : D → List State} {pen th
         tally_is = files.sound.lists.tally_is;
         lists =
             subst (λ g. Lists pen.shape files.sound.lists.frames g pen.homes pen.live) ahead
-              (record
-                  {
-                    told = rests.told;
-                    are_homes = rests.are_homes;
-                    homes_are = rests.homes_are;
-                    live_is = rests.live_is;
-                    counted = rests.counted;
-                  });
+            (record {
+              told = rests.told;
+              are_homes = rests.are_homes;
+              homes_are = rests.homes_are;
+              live_is = rests.live_is;
+              counted = rests.counted;
+            });
         filed = λ count is. (files.filed, same_count count (ahead ∙ is) ∙ sym files.count_same);
         runs_are =
             λ held. files.runs_same ∙ files.sound.lists.runs_are (subst IsInHand (sym files.ready) tt)
-              ∙ ap
-                (λ n. length (flat_map pairs_of (take (n - pen.tally.folded) (live_of pen.shape files.sound.lists.frames))))
-                (sym files.count_same);
+            ∙ ap
+            (λ n. length (flat_map pairs_of (take (n - pen.tally.folded) (live_of pen.shape files.sound.lists.frames))))
+            (sym files.count_same);
         same = files.sound.lists.same;
       }
     where

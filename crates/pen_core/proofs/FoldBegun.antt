@@ -81,11 +81,11 @@ get_or-bytes_at width cells from count i m wide inside le lt small =
     let part : List (List ℕ) = take count (drop from cells) in
     let here : from + (i - from) ≡ i = omega arith in
     get_or-joined_cells width part (i - from) m
-        (All-take (HasWidth width) count (drop from cells) (All-drop (HasWidth width) from cells wide))
-        (omega (arith, length-take-le count (drop from cells) (omega (arith, length-drop from cells)))) small
+    (All-take (HasWidth width) count (drop from cells) (All-drop (HasWidth width) from cells wide))
+    (omega (arith, length-take-le count (drop from cells) (omega (arith, length-drop from cells)))) small
     ∙ ap (λ cell. get_or cell m 0)
     (get_or-take count (drop from cells) (i - from) [] (omega arith) ∙ get_or-drop from cells (i - from) []
-      ∙ ap (λ n. get_or cells n []) here)
+    ∙ ap (λ n. get_or cells n []) here)
 
 -- ---- rows of one width
 
@@ -101,7 +101,7 @@ row_of place width (suc count) j from before = elim (cases_lt j (place + count *
   | inl first ↦ (let r = row_of place width count j from first in record { row = r.row; inside = omega (arith, r.inside); from = r.from; before = r.before })
   | inr
       last ↦ (let more : width + count * width ≡ suc count * width = omega arith in
-        record { row = count; inside = omega arith; from = last; before = omega arith })
+      record { row = count; inside = omega arith; from = last; before = omega arith })
 ]
 
 -- ---- runs that are at home
@@ -139,7 +139,7 @@ home_runs_of shape frames homes from (run ∷ runs) says ascend each =
     All-cons (IsHomeRun shape.width (home_of shape frames)) run runs
     (record { some = first.some; few = first.few; adjacent = λ i le lt. sym (says i (omega arith)) ∙ first.adjacent i le lt })
     (home_runs_of shape frames homes (run.position + run.count) runs says ascend.1
-      (All-tail (IsHomeRun shape.width (home_among shape.width homes)) run runs each))
+    (All-tail (IsHomeRun shape.width (home_among shape.width homes)) run runs each))
 
 -- ---- writes laid
 
@@ -242,7 +242,7 @@ module _ (shape : Shape) (frames : List Frame) (cells : List (List ℕ)) (legal 
       | inl inside ↦ (
           let at = written_at run (place + m) home from inside in
           let elsewhere : i ≡ at.position → ⊥ =
-              λ same. elim other [ inl before ↦ omega (arith, same, at.from) | inr past ↦ omega (arith, same, at.to) ] in
+          λ same. elim other [ inl before ↦ omega (arith, same, at.from) | inr past ↦ omega (arith, same, at.to) ] in
           elim (home_of_apart shape frames i at.position place at.place legal elsewhere is at.home_is) [
             | inl first ↦ absurd (omega (arith, at.place_from))
             | inr then ↦ absurd (omega (arith, at.place_to))
@@ -300,7 +300,7 @@ module _ (shape : Shape) (frames : List Frame) (cells : List (List ℕ)) (legal 
       let one = All-get_or (HasWidth width) cells i [] lt wide in
       ext_get_or 0 (take width (drop place image)) (get_or cells i []) (whole ∙ sym one) (λ m small.
       get_or-take width (drop place image) m 0 (omega arith) ∙ get_or-drop place image m 0
-            ∙ byte_laid 0 i place m runs bytes ascend homes covered is (omega arith) long)
+      ∙ byte_laid 0 i place m runs bytes ascend homes covered is (omega arith) long)
 
   homes_hold_laid : (count : ℕ) (runs : List Home) (bytes : List ℕ) → AreAscending 0 (tally_of frames).size runs
       → AllByRecursion (IsAtHome shape frames) runs
@@ -361,15 +361,15 @@ held_wide shape frames vector bytes has = All-from_get_or (HasWidth shape.width)
     at : (i : ℕ) → i < length vector → (o : Option ℕ) → place_of shape has.found i ≡ o → HasWidth shape.width (get_or vector i [])
     at i lt None is =
         let none : None ≡ Some (get_or vector i []) =
-            sym (ap (option_and_then (record_in (raw shape.width) bytes)) is) ∙ has.read.each i lt
-              ∙ slice_get-get_or vector i [] lt in
+        sym (ap (option_and_then (record_in (raw shape.width) bytes)) is) ∙ has.read.each i lt
+        ∙ slice_get-get_or vector i [] lt in
         absurd cc
     at i lt (Some place) is =
         let b = place_of_between shape has.found i place has.begins.legal is in
         let size = ap length has.begins.begins.1 ∙ length-append (text shape has.found) has.begins.begins.0 in
         let told : Some (take shape.width (drop place bytes)) ≡ Some (get_or vector i []) =
-            sym (ap (option_and_then (record_in (raw shape.width) bytes)) is) ∙ has.read.each i lt
-              ∙ slice_get-get_or vector i [] lt in
+        sym (ap (option_and_then (record_in (raw shape.width) bytes)) is) ∙ has.read.each i lt
+        ∙ slice_get-get_or vector i [] lt in
         let same : take shape.width (drop place bytes) ≡ get_or vector i [] = cc in
         ap length (sym same) ∙ length-take-le shape.width (drop place bytes) (omega (arith, b.to, length-drop place bytes))
 
@@ -435,6 +435,6 @@ module _ (shape : Shape) (frames : List Frame) (vector : List (List ℕ)) (homes
       record {
         homes_hold =
             homes_hold_laid shape others vector legal wide vector_size (tally_of frames).changes runs s.seen ascend_others
-              at_home same_covered gate_seen;
+            at_home same_covered gate_seen;
         into_homes = all_home_writes shape others vector legal wide vector_size (tally_of frames).changes runs at_home some covered_early;
       }

@@ -44,7 +44,7 @@ module _ {keeps : Type 0} {states : List State} {shape : Shape} {gate : ℕ} {ta
   runs_are : runs_now ≡ live_runs shape frames
   runs_are =
       ap (take live) listed.lists.live_is
-        ∙ take_at (live_runs shape frames) (runs_ahead (frame_in_hand shape bytes step)) live (sym listed.lists.counted)
+      ∙ take_at (live_runs shape frames) (runs_ahead (frame_in_hand shape bytes step)) live (sym listed.lists.counted)
 
   pub some_live : All HasSome runs_now
   some_live = subst (All HasSome) (sym runs_are) (live_runs_some shape frames listed.legal)
@@ -54,9 +54,12 @@ module _ {keeps : Type 0} {states : List State} {shape : Shape} {gate : ℕ} {ta
 
   pub live_inside : live ≤ length homes.live.items
   live_inside =
-      omega
-        (arith, listed.lists.counted, ap length listed.lists.live_is,
-            length-append (live_runs shape frames) (runs_ahead (frame_in_hand shape bytes step)))
+      omega (
+        arith,
+        listed.lists.counted,
+        ap length listed.lists.live_is,
+        length-append (live_runs shape frames) (runs_ahead (frame_in_hand shape bytes step)),
+      )
 
   pub says_homes : SaysHomes shape frames homes.homes.items
   says_homes = SaysHomes-listed shape frames (frame_in_hand shape bytes step) homes live listed.lists
@@ -81,7 +84,7 @@ module _ {keeps : Type 0} {states : List State} {shape : Shape} {gate : ℕ} {ta
 
       pub IsFolding-pen : keeps → 0 < shape.width
           → Holds shape (blanked_before shape gate (bytes_of states)) (vector_before shape gate (bytes_of states))
-            (now states).seen
+          (now states).seen
           → IsFolding shape tally.changes (blanked_before shape gate (bytes_of states))
           (vector_before shape gate (bytes_of states))
           (writes_for (raw shape.width) (vector_before shape gate (bytes_of states)) runs) (now states)
@@ -92,11 +95,11 @@ module _ {keeps : Type 0} {states : List State} {shape : Shape} {gate : ℕ} {ta
           subst (λ fs. IsFolding shape tally.changes fs vector (writes_for (raw shape.width) vector runs) (now states)) (sym same)
           (subst (λ t. IsFolding shape t.changes (all_blanked frames) vector (writes_for (raw shape.width) vector runs) (now states)) (sym listed.tally_is)
           (IsFolding-begun shape frames vector homes.homes.items cover runs (now states) some
-              (subst (λ fs. Holds shape fs vector (now states).seen) same has) says_homes file_cover here))
+          (subst (λ fs. Holds shape fs vector (now states).seen) same has) says_homes file_cover here))
 
       IsWholeFold-pen : keeps → 0 < shape.width
           → Holds shape (blanked_before shape gate (bytes_of states)) (vector_before shape gate (bytes_of states))
-            (now states).seen
+          (now states).seen
           → IsWholeFold shape (blanked_before shape gate (bytes_of states)) (vector_before shape gate (bytes_of states))
           (writes_for (raw shape.width) (vector_before shape gate (bytes_of states)) runs)
       IsWholeFold-pen model some has =
@@ -105,7 +108,7 @@ module _ {keeps : Type 0} {states : List State} {shape : Shape} {gate : ℕ} {ta
           let here = subst (λ t. AreHomeRuns shape.width t.size homes.homes.items cover runs) listed.tally_is at in
           subst (λ fs. IsWholeFold shape fs vector (writes_for (raw shape.width) vector runs)) (sym same)
           (IsWholeFold-begun shape frames vector homes.homes.items cover runs (now states) some
-            (subst (λ fs. Holds shape fs vector (now states).seen) same has) says_homes file_cover here)
+          (subst (λ fs. Holds shape fs vector (now states).seen) same has) says_homes file_cover here)
 
       module _ {R : Type 0} (form : Encoding R) (records : List R) (made : List ℕ) (writes : List Write)
           (some : 0 < shape.width) (made_is : map (write_of made) writes ≡ writes_for form records runs) where
@@ -115,7 +118,7 @@ module _ {keeps : Type 0} {states : List State} {shape : Shape} {gate : ℕ} {ta
             let here = subst (λ t. AreHomeRuns shape.width t.size homes.homes.items cover runs) listed.tally_is at in
             subst (λ g. AllByRecursion (IsPlanned g (length made)) writes) (sym listed.gate_is)
             (ArePlanned-begun form shape frames homes.homes.items cover runs records made writes some each listed.legal
-              says_homes here (size ∙ ap (λ t. t.size) listed.tally_is) made_is within)
+            says_homes here (size ∙ ap (λ t. t.size) listed.tally_is) made_is within)
 
         -- the vector is these records, as their bytes
         made_of_vector : vector_before shape gate (bytes_of states) ≡ map form.bytes_of records
@@ -124,24 +127,24 @@ module _ {keeps : Type 0} {states : List State} {shape : Shape} {gate : ℕ} {ta
 
         pub folding_pen : keeps
             → Holds shape (blanked_before shape gate (bytes_of states)) (vector_before shape gate (bytes_of states))
-              (now states).seen
+            (now states).seen
             → vector_before shape gate (bytes_of states) ≡ map form.bytes_of records
             → IsFolding shape tally.changes (blanked_before shape gate (bytes_of states))
             (vector_before shape gate (bytes_of states)) (map (write_of made) writes) (now states)
         folding_pen model has same =
             subst
-                (λ left.
-                    IsFolding shape tally.changes (blanked_before shape gate (bytes_of states))
-                        (vector_before shape gate (bytes_of states)) left (now states))
-                (sym (made_of_vector same)) (IsFolding-pen model some has)
+            (λ left.
+            IsFolding shape tally.changes (blanked_before shape gate (bytes_of states))
+            (vector_before shape gate (bytes_of states)) left (now states))
+            (sym (made_of_vector same)) (IsFolding-pen model some has)
 
         pub whole_pen : keeps
             → Holds shape (blanked_before shape gate (bytes_of states)) (vector_before shape gate (bytes_of states))
-              (now states).seen
+            (now states).seen
             → vector_before shape gate (bytes_of states) ≡ map form.bytes_of records
             → IsWholeFold shape (blanked_before shape gate (bytes_of states)) (vector_before shape gate (bytes_of states)) (map (write_of made) writes)
         whole_pen model has same =
             subst
-                (IsWholeFold shape (blanked_before shape gate (bytes_of states))
-                    (vector_before shape gate (bytes_of states)))
-                (sym (made_of_vector same)) (IsWholeFold-pen model some has)
+            (IsWholeFold shape (blanked_before shape gate (bytes_of states))
+            (vector_before shape gate (bytes_of states)))
+            (sym (made_of_vector same)) (IsWholeFold-pen model some has)

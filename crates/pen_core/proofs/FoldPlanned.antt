@@ -66,4 +66,4 @@ ArePlanned-begun form shape frames homes cover runs records bytes writes some ea
     all_planned (gate_of shape frames) bytes writes within
     (subst (AllByRecursion (HasPlace (gate_of shape frames))) (sym (made ∙ writes_for-raw form shape.width records runs))
     (all_placed shape frames (map form.bytes_of records) legal (written_wide form shape.width records each)
-        (length-map records form.bytes_of ∙ size) homes cover runs some says at))
+    (length-map records form.bytes_of ∙ size) homes cover runs some says at))

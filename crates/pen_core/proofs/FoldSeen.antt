@@ -83,8 +83,8 @@ ready_at shape gate tally bytes o fold at quiet held idle = elim (ready_or_filed
   | inl ready ↦ ready
   | inr
       filed ↦ (let clash : None ≡ Some (kinds.Fold fold.count) = sym (ap (frame_in_hand shape bytes) idle)
-          ∙ filed_at shape gate tally bytes o fold at filed in
-        absurd cc)
+      ∙ filed_at shape gate tally bytes o fold at filed in
+      absurd cc)
 ]
 
 pub none_at : (o : Option Step) → is_some o ≡ false → o ≡ None
@@ -99,11 +99,10 @@ job_some shape bytes (Some step) some = refl
 still_held : (stage : FoldStage) → has_call stage ≡ true → is_unfolded (stage_after stage) ≡ false
 still_held stages.None calls = absurd cc
 still_held (Home n) calls =
-    elim (cases_Bool (nat_lt 1 n))
-      [
-        | inl more ↦ ap (λ b. is_unfolded (cond b (Home (n - 1)) Sync)) more
-        | inr last ↦ ap (λ b. is_unfolded (cond b (Home (n - 1)) Sync)) last
-      ]
+    elim (cases_Bool (nat_lt 1 n)) [
+      | inl more ↦ ap (λ b. is_unfolded (cond b (Home (n - 1)) Sync)) more
+      | inr last ↦ ap (λ b. is_unfolded (cond b (Home (n - 1)) Sync)) last
+    ]
 still_held Sync calls = refl
 still_held Ready calls = absurd cc
 still_held Filed calls = absurd cc
@@ -152,7 +151,7 @@ left_long fold = length-map (drop fold.done fold.writes.items) (write_of fold.by
 left_at : (shape : Shape) (gate : ℕ) (tally : Tally) (bytes : List ℕ) (o : Option Step) (fold : Fold) (stage : FoldStage)
     → IsAtStage shape gate tally bytes o fold stage
     → IfSome (in_stage stage (record { count = fold.count; left = left_of fold; stage = stage }))
-      (λ f. length f.left ≡ writes_left f.stage)
+    (λ f. length f.left ≡ writes_left f.stage)
 left_at shape gate tally bytes o fold stages.None at = tt
 left_at shape gate tally bytes o fold (Home n) at = left_long fold ∙ omega (arith, at.1)
 left_at shape gate tally bytes o fold Sync at = left_long fold ∙ omega (arith, at.1)

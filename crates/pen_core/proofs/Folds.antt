@@ -78,9 +78,9 @@ folding_alike shape count frames vector left s t legal same fold =
           (λ i place at. (
           let b = home_of_between shape frames i place legal at in
           ap (λ c. Some c)
-                  (sym
-                          (take_same shape.width place (laid left s.seen) (laid left t.seen) (omega (arith, b.to))
-                                    (omega (arith, b.to)) (λ j from before. both.each j (omega (arith, b.to)))))))
+          (sym
+          (take_same shape.width place (laid left s.seen) (laid left t.seen) (omega (arith, b.to))
+          (omega (arith, b.to)) (λ j from before. both.each j (omega (arith, b.to)))))))
           fold.homes_hold;
       into_homes = fold.into_homes;
     }
@@ -180,15 +180,15 @@ homes_behind : (shape : Shape) (count : ℕ) (frames : List Frame) (f : Frame) (
     → AllByRecursion (IsHomeWrite shape count (frames_with frames f)) left
 homes_behind shape count frames f [] legal appends all = tt
 homes_behind shape count frames f (w ∷ left) legal appends all =
-    let below = all.0.below_gate in
-    (record
-      {
+    let below = all.0.below_gate in (
+      record {
         some = all.0.some;
         below_gate = omega (arith, gate_with shape frames f);
         folded = λ j from before.
             IsBeingFolded_push shape count frames f j legal (no_fold f appends) (all.0.folded j from before);
       },
-      homes_behind shape count frames f left legal appends all.1)
+      homes_behind shape count frames f left legal appends all.1,
+    )
 
 pub folding_more : (shape : Shape) (count : ℕ) (frames : List Frame) (f : Frame) (vector then : List (List ℕ))
     (left : List HomeWrite) (s : State)

@@ -1,41 +1,20 @@
 -- A job is begun: its frame is in hand, and nothing of it is written yet.
-use Rattle.std.proofs.Common.{◌≡◌, ℕ, ◌+◌, ◌-◌, ◌^◌, ◌<◌, Bool, false, cond, List, [], ◌∷◌, ◌++◌, length, take, drop, get_or, Option, Some, None, refl, sym, ap, subst, ◌∙◌, arith, append_assoc}
-use Rattle.std.specs.Option.{option_or}
-use Rattle.std.specs.Int.{w32, to_le_bytes}
-use Rattle.std.proofs.lemmas.Bool.{le-ltb}
-use Rattle.std.proofs.lemmas.List.{length-append, length-take-le, take_at, drop_at, take-append-le, take-take, map_push, get_or_push, get_or_append_left}
-use Rattle.disk_core.specs.State.{State, now, overlay, IsImage}
+use Rattle.std.proofs.Common.{◌≡◌, ℕ, ◌+◌, ◌^◌, ◌<◌, false, List, [], ◌∷◌, ◌++◌, length, Some, None, refl, sym, ap, subst, ◌∙◌, arith}
+use Rattle.std.proofs.lemmas.List.{length-append}
+use Rattle.disk_core.specs.State.{State, now, IsImage}
 use Rattle.disk_core.specs.Calls.{bytes_of}
-use Rattle.segment_core.specs.declared.format.Shape.{Shape}
-use Rattle.segment_core.specs.declared.tally.Tally.{Tally}
-use Rattle.segment_core.specs.Frame.{Frame, Fold, kind_of, payload_of, header, frame_text, text}
+use Rattle.segment_core.specs.Frame.{Frame, Fold, frame_text}
 use Rattle.segment_core.specs.Layout.{IsFrame}
-use Rattle.segment_core.specs.Tally.{nothing, after, tally_of, MayFollow, AreLegal}
-use Rattle.segment_core.specs.Vector.{last_from, change_in, home_of}
-use Rattle.segment_core.specs.Folding.{HomesHold}
-use Rattle.segment_core.specs.Blanked.{blanked}
-use Rattle.segment_core.proofs.Push.{Begins_push, BeginsImage_before}
-use Rattle.segment_core.proofs.Blanked.{tally_from-blanked, same_legal}
-use Rattle.segment_core.proofs.PlaceOf.{home_of_between}
-use Rattle.segment_core.proofs.Loose.{take_same}
-use Rattle.segment_core.proofs.HomesHold.{HomesHold_same, HomesHold_blanked}
-use Rattle.segment_core.proofs.OneMore.{IsVectorOf_begins}
-use Rattle.segment_core.proofs.Raw.{IsVectorOf_frame}
-use Rattle.segment_core.proofs.Payload.{length-frame_text}
-use Rattle.pen_core.specs.declared.step.Step.{Step}
+use Rattle.segment_core.specs.Tally.{after, MayFollow}
 use Rattle.pen_core.specs.declared.step.Step.TheVariants.{Body}
 use Rattle.pen_core.specs.Step.{body_of}
-use Rattle.segment_core.specs.Raw.{raw}
-use Rattle.pen_core.specs.Held.{Holds, IsBeingFolded, early_in, gate_of}
 use Rattle.pen_core.specs.Vectors.{frame_at, blanked_before, frames_with}
 use Rattle.segment_core.specs.Raw.{after_frame}
 use Rattle.segment_core.specs.Parsed.{vector_before}
 use Rattle.pen_core.specs.Inside.{IsBodyOf, IsAtStep, Knows, IsPen}
-use Rattle.pen_core.specs.Known.{PendingIsFolded}
-use Rattle.pen_core.proofs.Again.{gate_behind, blank_again}
 use Rattle.pen_core.proofs.BeingFolded.{IsBeingFolded_push}
 use Rattle.pen_core.proofs.Parsed.{frame_at-text}
-use Rattle.pen_core.proofs.Pens.{gate_with, knows_at}
+use Rattle.pen_core.proofs.Pens.{knows_at}
 use Rattle.pen_core.specs.declared.pen.Pen.TheInside.{Inside}
 use Rattle.pen_core.specs.Fields.{seen_as, count_open, IsSound}
 use Rattle.pen_core.specs.InHand.{fold_of}
@@ -81,7 +60,7 @@ module _ {D : Type 0} {keeps : D → Type 0} {states : D → List State} {pen th
 
   at_body : (model : keeps pen.disk)
       → IsAtStep pen.shape (count_open pen) pen.gate frames (frames_with frames (frame_at pen.shape then.bytes.items))
-        (after_frame pen.shape.width vector (frame_at pen.shape then.bytes.items)) then.bytes.items Body (now old)
+      (after_frame pen.shape.width vector (frame_at pen.shape then.bytes.items)) then.bytes.items Body (now old)
   at_body model =
       let k = knows model in
       let s = now old in
@@ -90,16 +69,17 @@ module _ {D : Type 0} {keeps : D → Type 0} {states : D → List State} {pen th
       body_is (count_open pen) pen.shape frames vector s frame k.file.holds (omega (arith, k.file.gate_synced, there.no_shorter)) begins.framed
       (subst (λ t. MayFollow t frame) k.tally_is begins.follows) (λ fold is. absurd (begins.no_fold fold is))
       (λ j lt pending.
-        IsBeingFolded_push pen.shape (count_open pen) frames frame j (held_legal pen.shape frames vector (now old).seen k.file.holds) begins.no_fold
-            (k.file.pending_is_folded j lt pending)) in
+      IsBeingFolded_push pen.shape (count_open pen) frames frame j (held_legal pen.shape frames vector (now old).seen k.file.holds) begins.no_fold
+      (k.file.pending_is_folded j lt pending)) in
       subst (λ g. IsAtStep pen.shape (count_open pen) pen.gate frames (frames_with frames g) (after_frame pen.shape.width vector g) then.bytes.items Body s) (sym begun_frame)
-      (subst (λ bs. IsAtStep pen.shape (count_open pen) pen.gate frames (frames_with frames frame) (after_frame pen.shape.width vector frame) bs Body s) (sym begins.spelled)
-      (k.stands begins.going,
-          subst
-                (λ g.
-                    IsBodyOf pen.shape (count_open pen) g frames (frames_with frames frame) (after_frame pen.shape.width vector frame)
-                        (body_of (frame_text pen.shape.format frame ++ 0 ∷ [])) s)
-                (sym k.gate_is) made))
+      (subst (λ bs. IsAtStep pen.shape (count_open pen) pen.gate frames (frames_with frames frame) (after_frame pen.shape.width vector frame) bs Body s) (sym begins.spelled) (
+        k.stands begins.going,
+        subst
+            (λ g.
+            IsBodyOf pen.shape (count_open pen) g frames (frames_with frames frame) (after_frame pen.shape.width vector frame)
+            (body_of (frame_text pen.shape.format frame ++ 0 ∷ [])) s)
+            (sym k.gate_is) made,
+      ))
 
   begun_job : IsPen (count_open pen) (keeps pen.disk) old pen.shape pen.gate pen.tally then.next then.bytes.items (Some Body) pen.broken
   begun_job = record {
@@ -121,7 +101,7 @@ module _ {D : Type 0} {keeps : D → Type 0} {states : D → List State} {pen th
     knows =
         λ model. let k = knows model in
         knows_at pen.shape pen.gate pen.tally frames vector then.bytes.items (now old) k.gate_is k.tally_is Body pen.broken k.file (at_body model)
-          (begins.reads pen.disk model);
+        (begins.reads pen.disk model);
   }
 
   -- the frame is in hand

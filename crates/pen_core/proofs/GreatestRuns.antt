@@ -31,7 +31,7 @@ longer run n = record { position = run.position; place = run.place; count = run.
 
 positions_at-longer : (init : List Home) (last : Home) (n : ℕ)
     → positions_at (init ++ longer last n ∷ []) ≡ positions_at (init ++ last ∷ []) ++ range_with_len
-      (last.position + last.count) n
+    (last.position + last.count) n
 positions_at-longer init last n =
     positions_at-append init (longer last n ∷ [])
     ∙ ap (λ ps. positions_at init ++ ps) (append-nil (range_with_len last.position (last.count + n)) ∙ sym (range-append last.position last.count n))
@@ -86,7 +86,7 @@ module _ (width : ℕ) (runs : List Home) (last : Home) (some : 0 < length runs)
       → AreGreatest width (set runs (length runs - 1) last ++ next ∷ [])
   apart_next next greatest apart =
       subst (λ rs. AreGreatest width (rs ++ next ∷ [])) (sym (set_last runs last last some))
-        (greatest-next width init last next (subst (AreGreatest width) were greatest) (λ meets. absurd (apart meets)))
+      (greatest-next width init last next (subst (AreGreatest width) were greatest) (λ meets. absurd (apart meets)))
 
   module _ (n : ℕ) where
     abbrev grown : List Home
@@ -98,7 +98,7 @@ module _ (width : ℕ) (runs : List Home) (last : Home) (some : 0 < length runs)
     pub longer_positions : positions_at grown ≡ positions_at runs ++ range_with_len (last.position + last.count) n
     longer_positions =
         ap positions_at are ∙ positions_at-longer init last n
-          ∙ ap (λ rs. positions_at rs ++ range_with_len (last.position + last.count) n) (sym were)
+        ∙ ap (λ rs. positions_at rs ++ range_with_len (last.position + last.count) n) (sym were)
 
     longer_greatest : AreGreatest width runs → AreGreatest width (init ++ longer last n ∷ [])
     longer_greatest greatest = greatest-last width init last (longer last n) refl refl (subst (AreGreatest width) were greatest)
@@ -111,10 +111,10 @@ module _ (width : ℕ) (runs : List Home) (last : Home) (some : 0 < length runs)
         record {
           ascend =
               subst (AreAscending 0 (last.position + last.count + n)) (sym are)
-                (ascending-longer 0 to init last n (subst (AreAscending 0 to) were so_far.ascend));
+              (ascending-longer 0 to init last n (subst (AreAscending 0 to) were so_far.ascend));
           each =
               All-set (IsHomeRun width home) runs (length runs - 1) (longer last n)
-                (IsHomeRun-longer width home last part n each adjacent meets fits few) so_far.each;
+              (IsHomeRun-longer width home last part n each adjacent meets fits few) so_far.each;
           greatest = subst (AreGreatest width) (sym are) (longer_greatest so_far.greatest);
         }
 
@@ -122,7 +122,7 @@ module _ (width : ℕ) (runs : List Home) (last : Home) (some : 0 < length runs)
     pub full_next : (next : Home) → AreGreatest width runs → last.count + n ≡ 4096 → AreGreatest width (grown ++ next ∷ [])
     full_next next greatest full =
         subst (λ rs. AreGreatest width (rs ++ next ∷ [])) (sym are)
-          (greatest-next width init (longer last n) next (longer_greatest greatest) (λ meets. full))
+        (greatest-next width init (longer last n) next (longer_greatest greatest) (λ meets. full))
 
 -- ---- a run behind the others
 
@@ -138,8 +138,8 @@ IsHomeRun-next width home part done count adjacent fits some few = record {
   adjacent = λ i from to. (
       let here : i - part.position ≡ done + (i - (part.position + done)) = omega arith in
       adjacent i (omega arith) (omega arith)
-            ∙ ap Some
-                (ap (λ n. part.place + n * width) here ∙ sym (moved part.place done (i - (part.position + done)) width)));
+      ∙ ap Some
+      (ap (λ n. part.place + n * width) here ∙ sym (moved part.place done (i - (part.position + done)) width)));
 }
 
 module _ (width : ℕ) (part : Home) (done count : ℕ) (runs : List Home) where

@@ -1,5 +1,5 @@
 -- Growths as a frame that may follow, and the records behind it.
-use Rattle.std.proofs.Common.{Bool, false, ◌≡◌, ℕ, ◌+◌, ◌*◌, ◌^◌, ◌≤◌, ◌<◌, List, [], ◌∷◌, ◌++◌, length, map, sum, Option, Some, None, refl, sym, ap, subst, ◌∙◌, arith}
+use Rattle.std.proofs.Common.{false, ◌≡◌, ℕ, ◌+◌, ◌*◌, ◌^◌, ◌≤◌, ◌<◌, List, [], ◌∷◌, ◌++◌, length, map, sum, None, refl, sym, ap, subst, ◌∙◌, arith}
 use Rattle.std.specs.List.{AllByRecursion}
 use Rattle.std.proofs.lemmas.Bool.{le-ltb}
 use Rattle.std.proofs.lemmas.List.{append-nil, length-append, length-map}
@@ -11,16 +11,14 @@ use Rattle.record_core.proofs.Cells.{length-flat_map_bytes}
 use Rattle.segment_core.specs.declared.format.Shape.{Shape}
 use Rattle.segment_core.specs.declared.tally.Tally.{Tally}
 use Rattle.segment_core.specs.Shape.{limit_of}
-use Rattle.segment_core.specs.Frame.{Frame, Fold, frame_text}
+use Rattle.segment_core.specs.Frame.{Frame, frame_text}
 use Rattle.segment_core.specs.Layout.{IsLength, IsFrame}
-use Rattle.segment_core.specs.Tally.{after, MayFollow}
+use Rattle.segment_core.specs.Tally.{MayFollow}
 use Rattle.segment_core.specs.Raw.{after_frame, AreCellsOf}
 use Rattle.segment_core.specs.Written.{group_frame, joined, payload_len}
 use Rattle.segment_core.proofs.Payload.{limit_small, length-frame_text}
 use Rattle.segment_core.proofs.ReadAs.{AreCellsOf_group}
 use Rattle.segment_core.proofs.Written.{long_growth, sum-lengths, length-group_frame}
-use Rattle.pen_core.specs.declared.step.Step.{Step}
-use Rattle.pen_core.specs.declared.step.Step.TheVariants.{Body}
 use Rattle.pen_core.specs.Vectors.{frame_at}
 use Rattle.pen_core.specs.declared.pen.Pen.TheInside.{Inside}
 use Rattle.pen_core.specs.Fields.{IsSound}

@@ -34,11 +34,10 @@ pub not_pending : (es : List Extent) (at len j : ℕ) → is_within es j ≡ fal
     → is_within (es ++ record { at = at; len = len } ∷ []) j ≡ false
 not_pending es at len j out apart = elim (cases_Bool (is_within (es ++ record { at = at; len = len } ∷ []) j)) [
   | inr is ↦ is
-  | inl is ↦ elim (pending_push es (record { at = at; len = len }) j is)
-      [
-        | inl old ↦ absurd (both_ways (is_within es j) out old)
-        | inr new ↦ (let i = covered_inside at len j new in absurd (apart i.0 i.1))
-      ]
+  | inl is ↦ elim (pending_push es (record { at = at; len = len }) j is) [
+    | inl old ↦ absurd (both_ways (is_within es j) out old)
+    | inr new ↦ (let i = covered_inside at len j new in absurd (apart i.0 i.1))
+  ]
 ]
 
 -- ---- images
@@ -58,8 +57,8 @@ module _ (shape : Shape) (count : ℕ) (frames : List Frame) (vector : List (Lis
   image_holds =
       Holds-again shape frames vector s.seen image file.holds (omega (arith, file.gate_synced, is.no_shorter)) (λ j lt fast.
       images_agree s image s.seen j is readable (omega (arith, file.gate_synced))
-            (fast_kept s j (IsBeingFolded shape count frames j) (file.pending_is_folded j lt)
-                  (λ f. fast (folded_loose shape count frames j f))))
+      (fast_kept s j (IsBeingFolded shape count frames j) (file.pending_is_folded j lt)
+      (λ f. fast (folded_loose shape count frames j f))))
 
   pub image_opens : get_or image (gate_of shape frames) 0 ≢ 1 → Opens shape frames vector image
   image_opens closed = Holds-opens shape frames vector image image_holds (omega (arith, file.gate_synced, is.no_shorter)) closed
@@ -68,17 +67,17 @@ module _ (shape : Shape) (count : ℕ) (frames : List Frame) (vector : List (Lis
   pub images_shut : IsShut (gate_of shape frames) s → Opens shape frames vector image
   images_shut shut =
       image_opens
-        (λ opened.
-            shut.closed
-                (sym (images_agree s image s.seen (gate_of shape frames) is readable file.gate_synced shut.kept) ∙ opened))
+      (λ opened.
+      shut.closed
+      (sym (images_agree s image s.seen (gate_of shape frames) is readable file.gate_synced shut.kept) ∙ opened))
 
 -- the byte at a gate that was opened
 pub opened_at : (old : List ℕ) (gate : ℕ) → gate < length old → get_or (overlay old gate (1 ∷ [])) gate 0 ≡ 1
 opened_at old gate lt =
     let l = length-take-le gate old (omega arith) in
     get_or_append_left (take gate old ++ 1 ∷ []) (drop (gate + 1) old) 0 gate
-        (omega (arith, length-append (take gate old) (1 ∷ [])))
-        ∙ get_or_push (take gate old) 1 0 gate l
+    (omega (arith, length-append (take gate old) (1 ∷ [])))
+    ∙ get_or_push (take gate old) 1 0 gate l
 
 pub opened_elsewhere : (old : List ℕ) (gate j : ℕ) → gate < length old → j < length old → (j ≡ gate → ⊥)
     → get_or (overlay old gate (1 ∷ [])) j 0 ≡ get_or old j 0
@@ -110,7 +109,7 @@ images_open shape count frames next before after s file wrote there readable ima
                 (opened ∙ sym (opened_at s.seen p (omega arith)))
             | inr (inl below) ↦ images_agree s image s.seen j is readable (omega arith)
                 (fast_kept s j (IsBeingFolded shape count next j) (wrote.pending_is_folded j below)
-                    (λ f. fast (folded_loose shape count next j f)))
+                (λ f. fast (folded_loose shape count next j f)))
                 ∙ sym (opened_elsewhere s.seen p j (omega arith) (omega arith) (λ e. omega arith))
             | inr (inr above) ↦ images_agree s image s.seen j is readable (omega arith) (there.kept j above (omega arith))
                 ∙ sym (opened_elsewhere s.seen p j (omega arith) (omega arith) (λ e. omega arith))

@@ -2,18 +2,14 @@
 use Rattle.std.proofs.Common.{◌≡◌, ℕ, ◌+◌, ◌-◌, ◌≤◌, ◌<◌, inl, inr, Bool, true, false, cond, List, [], ◌∷◌, ◌++◌, length, Option, Some, None, Result, OnOk, OnErr, refl, sym, ap, subst, ◌∙◌, arith}
 use Rattle.std.specs.Prelude.{nat_lt}
 use Rattle.std.specs.List.{AllByRecursion}
-use Rattle.std.proofs.lemmas.Bool.{cases_Bool, both_ways, ltb-true, ltb-false}
+use Rattle.std.proofs.lemmas.Bool.{cases_Bool, ltb-true, ltb-false}
 use Rattle.disk_core.specs.declared.fault.DiskFault.{DiskFault}
-use Rattle.disk_core.specs.State.{State, now, settled, touched, written, has_place, is_within, IsImage, IsTornWrite}
+use Rattle.disk_core.specs.State.{State, now, settled, written, IsImage}
 use Rattle.disk_core.specs.Calls.{bytes_of}
 use Rattle.disk_core.specs.Moments.{LeavesOnly}
 use Rattle.disk_core.proofs.CallLemmas.{LeavesOnly-write, LeavesOnly-sync}
-use Rattle.disk_core.proofs.ImageLemmas.{settled_image, touched_more, torn_images}
-use Rattle.segment_core.specs.declared.format.Shape.{Shape}
-use Rattle.segment_core.specs.declared.tally.Tally.{Tally}
 use Rattle.segment_core.specs.Frame.{Frame}
 use Rattle.segment_core.specs.Frame as kinds
-use Rattle.segment_core.specs.Raw.{after_frame}
 use Rattle.segment_core.specs.Parsed.{vector_before}
 use Rattle.pen_core.specs.declared.fold.Fold.{Fold}
 use Rattle.pen_core.specs.declared.step.Step.{Step}
@@ -21,21 +17,15 @@ use Rattle.pen_core.specs.declared.stage.FoldStage.{FoldStage}
 use Rattle.pen_core.specs.declared.stage.FoldStage.TheVariants.{Home, Sync, Ready, Filed}
 use Rattle.pen_core.specs.declared.stage.FoldStage.TheVariants as stages
 use Rattle.pen_core.specs.Held.{IsBeingFolded, gate_of}
-use Rattle.pen_core.specs.Known.{IsFileOf, IsShut}
-use Rattle.pen_core.specs.Vectors.{frame_at, blanked_before, frames_with}
+use Rattle.pen_core.specs.Vectors.{frame_at, blanked_before}
 use Rattle.pen_core.specs.Folds.{IsFolding}
 use Rattle.pen_core.specs.InHand.{left_of, first_write, has_call, stage_after, done_after, advanced, HomeCalls, FailsHomeCall, CanCall, IsPlanned, IsUnfiled, frame_in_hand, IsAtStage, HomesAt, IsFold}
-use Rattle.pen_core.specs.Inside.{job_of, IsAtStep, Knows, IsPen}
+use Rattle.pen_core.specs.Inside.{job_of, Knows, IsPen}
 use Rattle.pen_core.specs.Pen.{OpensWith, open_count}
 use Rattle.pen_core.proofs.BeingFolded.{IsBeingFolded_push}
 use Rattle.pen_core.proofs.Begun.{held_legal}
-use Rattle.pen_core.proofs.Calls.{IsFileOf-touched, file_after_sync, shut_after_sync}
 use Rattle.pen_core.proofs.Folds.{folding_written, folding_seen}
-use Rattle.pen_core.proofs.Held.{image_holds, covered_inside}
-use Rattle.pen_core.proofs.HomeTicks.{settled_file, step_after_sync, step_after_home, home_images}
-use Rattle.pen_core.proofs.HomeWrites.{file_after_home, shut_after_home, images_of_home_shut}
 use Rattle.pen_core.proofs.Parsed.{seen_as}
-use Rattle.pen_core.proofs.Pens.{knows_rest, knows_at}
 use Rattle.pen_core.proofs.Whole.{FileStays}
 use Rattle.pen_core.proofs.FoldSeen.{rest_of, left_next, listed_called}
 use Rattle.pen_core.proofs.HomeTick.{Later, write_images, written_knows, torn_knows, synced_knows, same_knows, home_count, can_call}
@@ -97,9 +87,9 @@ module _ {D : Type 0} {keeps : D → Type 0} {states : D → List State} {pen : 
   later at ws below folded n k None other m = tt
   later at ws below folded n k (Some step) other m =
       λ j from upto.
-        IsBeingFolded_push pen.shape pen.fold.count frames (frame_at pen.shape pen.bytes.items) j
-          (held_legal pen.shape frames vector (bytes_of old) k.file.holds) (λ count is. other count (ap (λ f. Some f) is))
-          (folded j from upto)
+      IsBeingFolded_push pen.shape pen.fold.count frames (frame_at pen.shape pen.bytes.items) j
+      (held_legal pen.shape frames vector (bytes_of old) k.file.holds) (λ count is. other count (ap (λ f. Some f) is))
+      (folded j from upto)
 
   -- the next home write
   next_write : (m : keeps pen.disk) (n : ℕ) → AtStage pen.fold (Home n)
@@ -107,7 +97,7 @@ module _ {D : Type 0} {keeps : D → Type 0} {states : D → List State} {pen : 
       → IsFolding pen.shape pen.fold.count frames vector (first_write (left_of pen.fold) ∷ rest_of pen.fold) (now old)
   next_write m n at homes =
       subst (λ left. IsFolding pen.shape pen.fold.count frames vector left (now old))
-        (left_next pen.fold (omega (arith, at.1, at.2))) homes
+      (left_next pen.fold (omega (arith, at.1, at.2))) homes
 
   -- ---- images
 
@@ -125,11 +115,11 @@ module _ {D : Type 0} {keeps : D → Type 0} {states : D → List State} {pen : 
       let into = (next_write m n at homes).into_homes.0 in
       LeavesOnly-write old left (OpensWith pen.shape frames vector (job_of pen.shape pen.bytes.items pen.step)) r w.place w.bytes done failed
       (write_images pen.fold.count pen.shape pen.gate pen.tally frames vector pen.bytes.items (now old)
-        (tick.reads pen.disk m) w.place w.bytes into.below_gate into.folded pen.step pen.broken
-        (later w.place w.bytes into.below_gate into.folded pen.fold.count k pen.step unfiled m) k tick.going)
+      (tick.reads pen.disk m) w.place w.bytes into.below_gate into.folded pen.step pen.broken
+      (later w.place w.bytes into.below_gate into.folded pen.fold.count k pen.step unfiled m) k tick.going)
   leaves_at m Sync calls at homes k r done failed =
       LeavesOnly-sync old left (OpensWith pen.shape frames vector (job_of pen.shape pen.bytes.items pen.step)) r done failed
-        (tick.reads pen.disk m) k.images_open
+      (tick.reads pen.disk m) k.images_open
 
   pub home_leaves : {T : Type 0} (r : Result T DiskFault)
       → (keeps pen.disk → OnOk r (HomeCalls pen.fold.stage (left_of pen.fold) old left))
@@ -138,7 +128,7 @@ module _ {D : Type 0} {keeps : D → Type 0} {states : D → List State} {pen : 
   home_leaves r done failed model =
       let m = tick.back model in
       leaves_at m pen.fold.stage tick.calls tick.sound.fold.counts (tick.sound.fold.homes m tick.going)
-        (tick.sound.job.knows m) r (done m) (failed model)
+      (tick.sound.job.knows m) r (done m) (failed model)
 
   -- ---- what is known behind the call
 
@@ -155,14 +145,14 @@ module _ {D : Type 0} {keeps : D → Type 0} {states : D → List State} {pen : 
       let made : now left ≡ written (now old) w.place w.bytes = ap now call in
       subst (λ c. KnowsSo c pen.broken (now left)) (sym (home_count n pen.fold.count)) (subst (λ t. KnowsSo pen.fold.count pen.broken t) (sym made)
       (written_knows pen.fold.count pen.shape pen.gate pen.tally frames vector pen.bytes.items (now old)
-          (tick.reads pen.disk m) w.place w.bytes into.below_gate into.folded pen.step pen.broken
-          (later w.place w.bytes into.below_gate into.folded pen.fold.count k pen.step unfiled m) k tick.going
-          (subst (λ t. IsImage t t.seen) made readable)))
+      (tick.reads pen.disk m) w.place w.bytes into.below_gate into.folded pen.step pen.broken
+      (later w.place w.bytes into.below_gate into.folded pen.fold.count k pen.step unfiled m) k tick.going
+      (subst (λ t. IsImage t t.seen) made readable)))
   done_at m Sync calls at homes k readable call =
       let made : now left ≡ settled (bytes_of old) = ap now call in
       subst (λ t. KnowsSo 0 pen.broken t) (sym made)
-          (synced_knows 0 pen.shape pen.gate pen.tally frames vector pen.bytes.items (now old) (tick.reads pen.disk m)
-              pen.fold.count pen.step pen.broken k tick.going)
+      (synced_knows 0 pen.shape pen.gate pen.tally frames vector pen.bytes.items (now old) (tick.reads pen.disk m)
+      pen.fold.count pen.step pen.broken k tick.going)
 
   failed_at : (m : keeps pen.disk) (stage : FoldStage) → has_call stage ≡ true → AtStage pen.fold stage
       → HomesAt pen.shape frames vector pen.fold (now old) stage
@@ -177,14 +167,14 @@ module _ {D : Type 0} {keeps : D → Type 0} {states : D → List State} {pen : 
       let made : now left ≡ call.0 = ap now call.1 in
       subst (λ t. KnowsSo pen.fold.count true t) (sym made)
       (torn_knows pen.fold.count pen.shape pen.gate pen.tally frames vector pen.bytes.items (now old) (tick.reads pen.disk m)
-        w.place w.bytes into.below_gate into.folded pen.step pen.broken
-        (later w.place w.bytes into.below_gate into.folded pen.fold.count k pen.step unfiled m) k tick.going call.0 call.2
-        (subst (λ t. IsImage t t.seen) made readable))
+      w.place w.bytes into.below_gate into.folded pen.step pen.broken
+      (later w.place w.bytes into.below_gate into.folded pen.fold.count k pen.step unfiled m) k tick.going call.0 call.2
+      (subst (λ t. IsImage t t.seen) made readable))
   failed_at m Sync calls at homes k readable call =
       let made : now left ≡ now old = ap now call in
       subst (λ t. KnowsSo pen.fold.count true t) (sym made)
-          (same_knows 0 pen.shape pen.gate pen.tally frames vector pen.bytes.items (now old) (tick.reads pen.disk m)
-              pen.fold.count pen.step pen.broken k)
+      (same_knows 0 pen.shape pen.gate pen.tally frames vector pen.bytes.items (now old) (tick.reads pen.disk m)
+      pen.fold.count pen.step pen.broken k)
 
   -- the frames and the vector are read as they were
   again : (n : ℕ) (b : Bool) → (keeps new → KnowsSo n b (now left))
@@ -200,12 +190,12 @@ module _ {D : Type 0} {keeps : D → Type 0} {states : D → List State} {pen : 
         let k = made model in
         let seen = seen_as pen.shape pen.gate frames vector (bytes_of left) k.gate_is k.file.holds in
         subst
-              (λ fs.
-                  Knows n pen.shape pen.gate pen.tally fs (vector_before pen.shape pen.gate (bytes_of left)) pen.bytes.items
-                      pen.step b (now left))
-              (sym seen.frames_are)
-              (subst (λ v. Knows n pen.shape pen.gate pen.tally frames v pen.bytes.items pen.step b (now left))
-                    (sym seen.vector_is) k));
+        (λ fs.
+        Knows n pen.shape pen.gate pen.tally fs (vector_before pen.shape pen.gate (bytes_of left)) pen.bytes.items
+        pen.step b (now left))
+        (sym seen.frames_are)
+        (subst (λ v. Knows n pen.shape pen.gate pen.tally frames v pen.bytes.items pen.step b (now left))
+        (sym seen.vector_is) k));
   }
 
   stays : (n : ℕ) (b : Bool) → (keeps new → KnowsSo n b (now left)) → keeps new → FileStays pen.shape pen.gate old left
@@ -221,7 +211,7 @@ module _ {D : Type 0} {keeps : D → Type 0} {states : D → List State} {pen : 
     broken_knows model =
         let m = tick.back model in
         failed_at m pen.fold.stage tick.calls tick.sound.fold.counts (tick.sound.fold.homes m tick.going)
-          (tick.sound.job.knows m) (tick.reads new model) (fails model)
+        (tick.sound.job.knows m) (tick.reads new model) (fails model)
 
     broken_job : IsPen (open_count pen.fold.stage pen.fold.count) (keeps new) left pen.shape pen.gate pen.tally pen.next pen.bytes.items pen.step true
     broken_job = again (open_count pen.fold.stage pen.fold.count) true broken_knows
@@ -244,7 +234,7 @@ module _ {D : Type 0} {keeps : D → Type 0} {states : D → List State} {pen : 
     called_knows model =
         let m = tick.back model in
         done_at m pen.fold.stage tick.calls tick.sound.fold.counts (tick.sound.fold.homes m tick.going)
-          (tick.sound.job.knows m) (tick.reads new model) (call m)
+        (tick.sound.job.knows m) (tick.reads new model) (call m)
 
     called_job : IsPen (open_count (advanced pen.fold).stage (advanced pen.fold).count) (keeps new) left pen.shape pen.gate
         pen.tally pen.next pen.bytes.items pen.step pen.broken
@@ -264,8 +254,8 @@ module _ {D : Type 0} {keeps : D → Type 0} {states : D → List State} {pen : 
           upto = omega arith;
           planned =
               subst (λ ws. AllByRecursion (IsPlanned pen.gate (length fold'.bytes.items)) ws.items) (sym writes)
-                (subst (λ bs. AllByRecursion (IsPlanned pen.gate (length bs.items)) pen.fold.writes.items) (sym held)
-                    w.planned);
+              (subst (λ bs. AllByRecursion (IsPlanned pen.gate (length bs.items)) pen.fold.writes.items) (sym held)
+              w.planned);
           spelled = ap (λ f. f.items) frame ∙ w.spelled ∙ ap (λ n. kinds.frame_text pen.shape.format (kinds.Fold n) ++ 0 ∷ []) (sym count);
           room = w.room;
         }
@@ -284,12 +274,12 @@ module _ {D : Type 0} {keeps : D → Type 0} {states : D → List State} {pen : 
         elim (cases_Bool (nat_lt 1 n)) [
           | inl
               more' ↦ (let lt = ltb-true 1 n more' in
-                subst (λ b. AtStage fold' (cond b (Home (n - 1)) Sync)) (sym more')
-                    (waits fold' count writes held frame at.0, omega arith, omega arith))
+              subst (λ b. AtStage fold' (cond b (Home (n - 1)) Sync)) (sym more')
+              (waits fold' count writes held frame at.0, omega arith, omega arith))
           | inr
               last ↦ (let le = ltb-false 1 n last in
-                subst (λ b. AtStage fold' (cond b (Home (n - 1)) Sync)) (sym last)
-                    (waits fold' count writes held frame at.0, omega arith))
+              subst (λ b. AtStage fold' (cond b (Home (n - 1)) Sync)) (sym last)
+              (waits fold' count writes held frame at.0, omega arith))
         ]
     counts_at Sync calls at fold' count writes held frame done =
         (waits fold' count writes held frame at.0, done ∙ at.1 ∙ sym (ap (λ ws. length ws.items) writes))
@@ -304,16 +294,15 @@ module _ {D : Type 0} {keeps : D → Type 0} {states : D → List State} {pen : 
     homes_at : (m : keeps pen.disk) (stage : FoldStage) → has_call stage ≡ true → AtStage pen.fold stage
         → HomesAt pen.shape frames vector pen.fold (now old) stage → HomeCalls stage (left_of pen.fold) old left
         → HomesAt pen.shape frames vector
-        (record
-          {
-            stage = stage_after stage;
-            count = pen.fold.count;
-            runs = pen.fold.runs;
-            writes = pen.fold.writes;
-            done = done_after stage pen.fold.done;
-            bytes = pen.fold.bytes;
-            frame = pen.fold.frame;
-          })
+        (record {
+          stage = stage_after stage;
+          count = pen.fold.count;
+          runs = pen.fold.runs;
+          writes = pen.fold.writes;
+          done = done_after stage pen.fold.done;
+          bytes = pen.fold.bytes;
+          frame = pen.fold.frame;
+        })
         (now left) (stage_after stage)
     homes_at m stages.None calls at homes call = absurd cc
     homes_at m Ready calls at homes call = absurd cc
@@ -321,22 +310,21 @@ module _ {D : Type 0} {keeps : D → Type 0} {states : D → List State} {pen : 
     homes_at m (Home n) calls at homes call =
         let w = first_write (left_of pen.fold) in
         folding_behind n frames vector
-        (record
-          {
-            stage = stage_after (Home n);
-            count = pen.fold.count;
-            runs = pen.fold.runs;
-            writes = pen.fold.writes;
-            done = pen.fold.done + 1;
-            bytes = pen.fold.bytes;
-            frame = pen.fold.frame;
-          })
+        (record {
+          stage = stage_after (Home n);
+          count = pen.fold.count;
+          runs = pen.fold.runs;
+          writes = pen.fold.writes;
+          done = pen.fold.done + 1;
+          bytes = pen.fold.bytes;
+          frame = pen.fold.frame;
+        })
         (now left)
         (subst (λ t. IsFolding pen.shape pen.fold.count frames vector (rest_of pen.fold) t) (sym (ap now call))
-          (folding_written pen.shape pen.fold.count frames vector w (rest_of pen.fold) (now old) (next_write m n at homes)))
+        (folding_written pen.shape pen.fold.count frames vector w (rest_of pen.fold) (now old) (next_write m n at homes)))
     homes_at m Sync calls at homes call =
         folding_seen pen.shape pen.fold.count frames vector (left_of pen.fold) (now old) (now left) (sym (ap bytes_of call))
-          homes
+        homes
 
     called_fold : IsFold (keeps new) left pen.shape pen.gate pen.tally pen.bytes.items pen.step pen.broken (advanced pen.fold)
     called_fold = record {
@@ -346,12 +334,12 @@ module _ {D : Type 0} {keeps : D → Type 0} {states : D → List State} {pen : 
           let same = called_stays model in
           subst
           (λ fs.
-            HomesAt pen.shape fs (vector_before pen.shape pen.gate (bytes_of left)) (advanced pen.fold) (now left)
-                (stage_after pen.fold.stage))
+          HomesAt pen.shape fs (vector_before pen.shape pen.gate (bytes_of left)) (advanced pen.fold) (now left)
+          (stage_after pen.fold.stage))
           (sym same.frames_same)
           (subst (λ v. HomesAt pen.shape frames v (advanced pen.fold) (now left) (stage_after pen.fold.stage))
-              (sym same.vector_same)
-              (homes_at m pen.fold.stage tick.calls tick.sound.fold.counts (tick.sound.fold.homes m tick.going) (call m))));
+          (sym same.vector_same)
+          (homes_at m pen.fold.stage tick.calls tick.sound.fold.counts (tick.sound.fold.homes m tick.going) (call m))));
     }
 
     -- the fold goes on

@@ -37,7 +37,7 @@ pub positions_at-append : (xs ys : List Home) → positions_at (xs ++ ys) ≡ po
 positions_at-append [] ys = refl
 positions_at-append (x ∷ xs) ys =
     ap (λ ps. range_with_len x.position x.count ++ ps) (positions_at-append xs ys)
-      ∙ sym (append_assoc (range_with_len x.position x.count) (positions_at xs) (positions_at ys))
+    ∙ sym (append_assoc (range_with_len x.position x.count) (positions_at xs) (positions_at ys))
 
 pub ascending-push : (from to : ℕ) (runs : List Home) (run : Home) → AreAscending from to runs → to ≤ run.position
     → AreAscending from (run.position + run.count) (runs ++ run ∷ [])
@@ -54,7 +54,7 @@ pub home_among-before : (width start end i : ℕ) (homes : List Home) → AreInT
 home_among-before width start end i [] turn lt = refl
 home_among-before width start end i (home ∷ homes) turn lt =
     ap (λ o. option_or o (place_among width home.place home.position home.count i))
-        (home_among-before width (start + home.count) end i homes turn.1 (omega arith))
+    (home_among-before width (start + home.count) end i homes turn.1 (omega arith))
     ∙ place_among_below width home.place home.position home.count i (omega (arith, turn.0))
 
 -- a position's home is the one that has it
@@ -64,11 +64,11 @@ pub home_among-at : (width start end i : ℕ) (homes : List Home) (k : ℕ) (d :
 home_among-at width start end i [] k d turn lt from to = absurd (omega arith)
 home_among-at width start end i (home ∷ homes) zero d turn lt from to =
     ap (λ o. option_or o (place_among width home.place home.position home.count i))
-        (home_among-before width (start + home.count) end i homes turn.1 (omega (arith, turn.0)))
+    (home_among-before width (start + home.count) end i homes turn.1 (omega (arith, turn.0)))
     ∙ place_among_inside width home.place home.position home.count i from to
 home_among-at width start end i (home ∷ homes) (suc k) d turn lt from to =
     ap (λ o. option_or o (place_among width home.place home.position home.count i))
-        (home_among-at width (start + home.count) end i homes k d turn.1 (omega arith) from to)
+    (home_among-at width (start + home.count) end i homes k d turn.1 (omega arith) from to)
 
 pub turn-from : (start end : ℕ) (homes : List Home) (k : ℕ) (d : Home) → AreInTurn start homes end → k < length homes
     → start ≤ (get_or homes k d).position
@@ -160,8 +160,8 @@ pub part_placed : (width size : ℕ) (homes : List Home) (k : ℕ) (d : Home) (f
 part_placed width size homes k d from to are lt le some ends =
     let home = get_or homes k d in
     let fits =
-        are.placed (to - 1) (home.place + (to - 1 - home.position) * width)
-          (home_among-at width 0 are.end (to - 1) homes k d are.in_turn lt (omega arith) (omega arith)) in
+    are.placed (to - 1) (home.place + (to - 1 - home.position) * width)
+    (home_among-at width 0 are.end (to - 1) homes k d are.in_turn lt (omega arith) (omega arith)) in
     let all : from - home.position + (to - from) ≡ (to - 1 - home.position) + 1 = omega arith in
     let last = moved home.place (to - 1 - home.position) 1 width in
     let whole = moved home.place (from - home.position) (to - from) width ∙ ap (λ n. home.place + n * width) all in

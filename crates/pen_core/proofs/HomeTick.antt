@@ -1,20 +1,13 @@
 -- What is known of the disk behind a home write, and behind the sync behind the last one.
-use Rattle.std.proofs.Common.{◌≡◌, ℕ, ◌+◌, ◌-◌, ◌≤◌, ◌<◌, inl, inr, Bool, true, false, cond, List, [], ◌∷◌, ◌++◌, length, Option, Some, None, Result, OnOk, OnErr, refl, sym, ap, subst, ◌∙◌, arith}
+use Rattle.std.proofs.Common.{◌≡◌, ℕ, ◌+◌, ◌-◌, ◌≤◌, ◌<◌, inl, inr, Bool, true, false, cond, List, length, Option, Some, None, sym, ap, subst, arith}
 use Rattle.std.specs.Prelude.{nat_lt}
-use Rattle.std.specs.List.{AllByRecursion}
-use Rattle.std.proofs.lemmas.Bool.{cases_Bool, both_ways, ltb-true, ltb-false}
-use Rattle.disk_core.specs.declared.fault.DiskFault.{DiskFault}
-use Rattle.disk_core.specs.State.{State, now, settled, touched, written, has_place, is_within, IsImage, IsTornWrite}
-use Rattle.disk_core.specs.Calls.{bytes_of}
-use Rattle.disk_core.specs.Moments.{LeavesOnly}
-use Rattle.disk_core.proofs.CallLemmas.{LeavesOnly-write, LeavesOnly-sync}
+use Rattle.std.proofs.lemmas.Bool.{cases_Bool, both_ways}
+use Rattle.disk_core.specs.State.{State, settled, touched, written, has_place, is_within, IsImage, IsTornWrite}
 use Rattle.disk_core.proofs.ImageLemmas.{settled_image, touched_more, torn_images}
 use Rattle.segment_core.specs.declared.format.Shape.{Shape}
 use Rattle.segment_core.specs.declared.tally.Tally.{Tally}
 use Rattle.segment_core.specs.Frame.{Frame}
-use Rattle.segment_core.specs.Frame as kinds
 use Rattle.segment_core.specs.Raw.{after_frame}
-use Rattle.segment_core.specs.Parsed.{vector_before}
 use Rattle.pen_core.specs.declared.fold.Fold.{Fold}
 use Rattle.pen_core.specs.declared.step.Step.{Step}
 use Rattle.pen_core.specs.declared.stage.FoldStage.{FoldStage}
@@ -22,22 +15,15 @@ use Rattle.pen_core.specs.declared.stage.FoldStage.TheVariants.{Home, Sync, Read
 use Rattle.pen_core.specs.declared.stage.FoldStage.TheVariants as stages
 use Rattle.pen_core.specs.Held.{IsBeingFolded, gate_of}
 use Rattle.pen_core.specs.Known.{IsFileOf, IsShut}
-use Rattle.pen_core.specs.Vectors.{frame_at, blanked_before, frames_with}
-use Rattle.pen_core.specs.Folds.{IsFolding}
-use Rattle.pen_core.specs.InHand.{left_of, first_write, has_call, stage_after, done_after, advanced, HomeCalls, FailsHomeCall, CanCall, IsPlanned, IsUnfiled, frame_in_hand, IsAtStage, HomesAt, IsFold}
-use Rattle.pen_core.specs.Inside.{job_of, IsAtStep, Knows, IsPen}
+use Rattle.pen_core.specs.Vectors.{frame_at, frames_with}
+use Rattle.pen_core.specs.InHand.{has_call, stage_after, CanCall, IsAtStage}
+use Rattle.pen_core.specs.Inside.{job_of, IsAtStep, Knows}
 use Rattle.pen_core.specs.Pen.{OpensWith, open_count}
-use Rattle.pen_core.proofs.BeingFolded.{IsBeingFolded_push}
-use Rattle.pen_core.proofs.Begun.{held_legal}
 use Rattle.pen_core.proofs.Calls.{IsFileOf-touched, file_after_sync, shut_after_sync}
-use Rattle.pen_core.proofs.Folds.{folding_written, folding_seen}
 use Rattle.pen_core.proofs.Held.{image_holds, covered_inside}
 use Rattle.pen_core.proofs.HomeTicks.{settled_file, step_after_sync, step_after_home, home_images}
 use Rattle.pen_core.proofs.HomeWrites.{file_after_home, shut_after_home, images_of_home_shut}
-use Rattle.pen_core.proofs.Parsed.{seen_as}
 use Rattle.pen_core.proofs.Pens.{knows_rest, knows_at}
-use Rattle.pen_core.proofs.Whole.{FileStays}
-use Rattle.pen_core.proofs.FoldSeen.{rest_of, left_next}
 
 -- ---- what is known of the disk
 
@@ -75,7 +61,7 @@ module _ (count : ℕ) (shape : Shape) (gate : ℕ) (tally : Tally) (frames : Li
         images_of_home_shut shape count frames vector s at ws k.file readable below folded (shut broken k whole) image is
     write_images (Some step) broken later k whole image is =
         home_images shape count frames following vector then bytes s at ws k.file readable below folded later step
-          (at_step step broken k whole) image is
+        (at_step step broken k whole) image is
 
     pub written_knows : (o : Option Step) (broken : Bool) → Later o → KnowsAs count o broken s → broken ≡ false
         → IsImage (written s at ws) (written s at ws).seen → KnowsAs count o broken (written s at ws)
@@ -83,14 +69,14 @@ module _ (count : ℕ) (shape : Shape) (gate : ℕ) (tally : Tally) (frames : Li
         knows_rest shape gate tally frames vector bytes (written s at ws) k.gate_is k.tally_is broken
         (file_after_home shape count frames vector s at ws k.file readable below folded)
         (subst (λ g. IsShut g (written s at ws)) (sym k.gate_is)
-          (shut_after_home shape count frames vector s at ws k.file readable below folded (shut broken k whole)))
+        (shut_after_home shape count frames vector s at ws k.file readable below folded (shut broken k whole)))
         readable'
     written_knows (Some step) broken later k whole readable' =
         knows_at shape gate tally frames vector bytes (written s at ws) k.gate_is k.tally_is step broken
         (file_after_home shape count frames vector s at ws k.file readable below folded)
         (subst (λ g. IsAtStep shape count g frames following then bytes step (written s at ws)) (sym k.gate_is)
-          (step_after_home shape count frames following vector then bytes s at ws k.file readable below folded later step
-                (at_step step broken k whole)))
+        (step_after_home shape count frames following vector then bytes s at ws k.file readable below folded later step
+        (at_step step broken k whole)))
         readable'
 
     torn_file : IsFileOf shape count frames vector s → (left : State) → IsTornWrite at (length ws) s left
@@ -98,8 +84,8 @@ module _ (count : ℕ) (shape : Shape) (gate : ℕ) (tally : Tally) (frames : Li
     torn_file file left torn readable' = record {
       holds =
           image_holds shape count frames vector (touched s at (length ws) s.seen)
-            (IsFileOf-touched shape count frames vector s at (length ws) s.seen file file.holds
-                (λ j lt from upto. folded j from upto))
+          (IsFileOf-touched shape count frames vector s at (length ws) s.seen file file.holds
+          (λ j lt from upto. folded j from upto))
           (touched_more s at (length ws) s.seen s.seen readable) left.seen (torn_images at (length ws) s left s.seen left.seen torn readable');
       gate_synced = subst (λ bs. gate_of shape frames < length bs) (sym torn.synced) file.gate_synced;
       pending_is_folded = λ j lt is. elim (cases_Bool (is_within s.pending j)) [
@@ -137,14 +123,14 @@ module _ (count : ℕ) (shape : Shape) (gate : ℕ) (tally : Tally) (frames : Li
   synced_knows n None broken k whole =
       knows_rest shape gate tally frames vector bytes (settled s.seen) k.gate_is k.tally_is broken
       (settled_file shape n frames frames vector vector bytes s.seen
-        (file_after_sync shape n frames frames vector vector s readable k.file))
+      (file_after_sync shape n frames frames vector vector s readable k.file))
       (shut_after_sync shape n frames frames vector vector s readable gate (k.stands whole)) (settled_image s.seen)
   synced_knows n (Some step) broken k whole =
       knows_at shape gate tally frames vector bytes (settled s.seen) k.gate_is k.tally_is step broken
       (settled_file shape n frames following vector then bytes s.seen
-        (file_after_sync shape n frames following vector then s readable k.file))
+      (file_after_sync shape n frames following vector then s readable k.file))
       (subst (λ g. IsAtStep shape 0 g frames following then bytes step (settled s.seen)) (sym k.gate_is)
-        (step_after_sync shape n frames following vector then bytes step s readable (at_step step broken k whole)))
+      (step_after_sync shape n frames following vector then bytes step s readable (at_step step broken k whole)))
       (settled_image s.seen)
 
   -- it failed
@@ -163,11 +149,10 @@ module _ (count : ℕ) (shape : Shape) (gate : ℕ) (tally : Tally) (frames : Li
 
 pub home_count : (n count : ℕ) → open_count (stage_after (Home n)) count ≡ count
 home_count n count =
-    elim (cases_Bool (nat_lt 1 n))
-      [
-        | inl more ↦ ap (λ b. open_count (cond b (Home (n - 1)) Sync) count) more
-        | inr last ↦ ap (λ b. open_count (cond b (Home (n - 1)) Sync) count) last
-      ]
+    elim (cases_Bool (nat_lt 1 n)) [
+      | inl more ↦ ap (λ b. open_count (cond b (Home (n - 1)) Sync) count) more
+      | inr last ↦ ap (λ b. open_count (cond b (Home (n - 1)) Sync) count) last
+    ]
 
 -- ---- what is asked of the call
 

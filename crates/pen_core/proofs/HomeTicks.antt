@@ -50,25 +50,30 @@ module _ (shape : Shape) (count : ℕ) (frames next : List Frame) (before after 
 
   pub step_after_sync : (step : Step) (s : State) → IsImage s s.seen → IsAtStep shape count p frames next after job step s
       → IsAtStep shape 0 p frames next after job step (settled s.seen)
-  step_after_sync Body s readable at =
-      (shut_after_sync shape count frames next before after s readable p at.0,
-          record {
-            some = at.1.some;
-            size = at.1.size;
-            closed = at.1.closed;
-            pending_is_folded = λ j lt is. absurd cc;
-            holds = at.1.holds;
-          })
-  step_after_sync BodySync s readable at =
-      (shut_after_sync shape count frames next before after s readable p at.0,
-          settled_written s.seen (written_after_sync shape count frames next before after s readable at.1))
-  step_after_sync Gate s readable at =
-      (shut_after_sync shape count frames next before after s readable p at.0,
-          settled_written s.seen (written_after_sync shape count frames next before after s readable at.1),
-          on_disk_after_sync shape count frames next before after s readable at.1)
-  step_after_sync GateSync s readable at =
-      (settled_written s.seen (written_after_sync shape count frames next before after s readable at.0),
-          on_disk_after_sync shape count frames next before after s readable at.0, at.2)
+  step_after_sync Body s readable at = (
+    shut_after_sync shape count frames next before after s readable p at.0,
+    record {
+      some = at.1.some;
+      size = at.1.size;
+      closed = at.1.closed;
+      pending_is_folded = λ j lt is. absurd cc;
+      holds = at.1.holds;
+    },
+  )
+  step_after_sync BodySync s readable at = (
+    shut_after_sync shape count frames next before after s readable p at.0,
+    settled_written s.seen (written_after_sync shape count frames next before after s readable at.1),
+  )
+  step_after_sync Gate s readable at = (
+    shut_after_sync shape count frames next before after s readable p at.0,
+    settled_written s.seen (written_after_sync shape count frames next before after s readable at.1),
+    on_disk_after_sync shape count frames next before after s readable at.1,
+  )
+  step_after_sync GateSync s readable at = (
+    settled_written s.seen (written_after_sync shape count frames next before after s readable at.0),
+    on_disk_after_sync shape count frames next before after s readable at.0,
+    at.2,
+  )
 
   pub home_sync_leaves : {T : Type 0} (step : Step) (old new : List State) (r : Result T DiskFault)
       → IsFileOf shape count frames before (now old) → IsAtStep shape count p frames next after job step (now old)
@@ -76,7 +81,7 @@ module _ (shape : Shape) (count : ℕ) (frames next : List Frame) (before after 
       → OnOk r (Settles old new) → OnErr r (Stays old new) → LeavesOnly old new P
   home_sync_leaves step old new r file at readable done same =
       LeavesOnly-sync old new P r done same readable
-        (images_at shape count frames next before after job step (now old) file at readable)
+      (images_at shape count frames next before after job step (now old) file at readable)
 
   -- ---- a home write
 
@@ -94,7 +99,7 @@ module _ (shape : Shape) (count : ℕ) (frames next : List Frame) (before after 
       closed = is.closed;
       pending_is_folded =
           PendingIsFolded-touched shape count frames before s at (length bytes) seen' next is.pending_is_folded
-            (λ j lt from upto. folded' j from upto);
+          (λ j lt from upto. folded' j from upto);
       holds =
           let g : p < length s.seen = omega (arith, file.gate_synced, readable.no_shorter) in
           let l = same_length shape count frames before s at bytes file readable below folded in
@@ -104,13 +109,13 @@ module _ (shape : Shape) (count : ℕ) (frames next : List Frame) (before after 
           let lb' = length-overlay seen' (p + 1) body (omega arith) in
           let lo' = length-overlay (overlay seen' (p + 1) body) p (1 ∷ []) (omega arith) in
           let loose' : (k : ℕ) → at ≤ k → k < at + length bytes → IsLoose shape next k =
-              λ k from upto. folded_loose shape count next k (folded' k from upto) in
+          λ k from upto. folded_loose shape count next k (folded' k from upto) in
           Holds-again shape next after (overlay (overlay s.seen (p + 1) body) p (1 ∷ []))
-              (overlay (overlay seen' (p + 1) body) p (1 ∷ [])) is.holds (omega arith) (λ j lt fast. elim (cases_order j p) [
+          (overlay (overlay seen' (p + 1) body) p (1 ∷ [])) is.holds (omega arith) (λ j lt fast. elim (cases_order j p) [
             | inl here ↦ subst
                 (λ k.
-                    get_or (overlay (overlay seen' (p + 1) body) p (1 ∷ [])) k 0 ≡ get_or
-                        (overlay (overlay s.seen (p + 1) body) p (1 ∷ [])) k 0)
+                get_or (overlay (overlay seen' (p + 1) body) p (1 ∷ [])) k 0 ≡ get_or
+                (overlay (overlay s.seen (p + 1) body) p (1 ∷ [])) k 0)
                 (sym here)
                 (opened_at (overlay seen' (p + 1) body) p (omega arith) ∙ sym (opened_at (overlay s.seen (p + 1) body) p (omega arith)))
             | inr (inl low) ↦ opened_elsewhere (overlay seen' (p + 1) body) p j (omega arith) (omega arith) (λ e. omega arith)
@@ -118,21 +123,22 @@ module _ (shape : Shape) (count : ℕ) (frames next : List Frame) (before after 
                 ∙ fast_stays shape count frames before s at bytes file readable below folded (IsLoose shape next) loose' j (omega arith) fast
                 ∙ sym
                 (opened_elsewhere (overlay s.seen (p + 1) body) p j (omega arith) (omega arith) (λ e. omega arith)
-                  ∙ get_or-overlay s.seen (p + 1) body j (omega arith) (omega arith) (inl (omega arith)))
+                ∙ get_or-overlay s.seen (p + 1) body j (omega arith) (omega arith) (inl (omega arith)))
             | inr (inr high) ↦ opened_elsewhere (overlay seen' (p + 1) body) p j (omega arith) (omega arith) (λ e. omega arith)
                 ∙ overlaid seen' (p + 1) body j (omega arith) (omega arith) (omega arith)
                 ∙ sym
                 (opened_elsewhere (overlay s.seen (p + 1) body) p j (omega arith) (omega arith) (λ e. omega arith)
-                  ∙ overlaid s.seen (p + 1) body j (omega arith) (omega arith) (omega arith))
+                ∙ overlaid s.seen (p + 1) body j (omega arith) (omega arith) (omega arith))
           ]);
     }
 
     pub step_after_home : (step : Step) → IsAtStep shape count p frames next after job step s
         → IsAtStep shape count p frames next after job step (written s at bytes)
     step_after_home Body is = (shut_after_home shape count frames before s at bytes file readable below folded is.0, body_after_home is.1)
-    step_after_home BodySync is =
-        (shut_after_home shape count frames before s at bytes file readable below folded is.0,
-            written_after_home shape count frames before s at bytes file readable below folded next after folded' is.1)
+    step_after_home BodySync is = (
+      shut_after_home shape count frames before s at bytes file readable below folded is.0,
+      written_after_home shape count frames before s at bytes file readable below folded next after folded' is.1,
+    )
     step_after_home Gate is = (
       shut_after_home shape count frames before s at bytes file readable below folded is.0,
       written_after_home shape count frames before s at bytes file readable below folded next after folded' is.1,
@@ -162,4 +168,4 @@ module _ (shape : Shape) (count : ℕ) (frames next : List Frame) (before after 
       → OnOk r (Writes at bytes old new) → OnErr r (TearsWrite at (length bytes) old new) → LeavesOnly old new P
   home_write_leaves step old new r at bytes file readable below folded folded' is done torn =
       LeavesOnly-write old new P r at bytes done torn
-        (home_images (now old) at bytes file readable below folded folded' step is)
+      (home_images (now old) at bytes file readable below folded folded' step is)

@@ -35,11 +35,10 @@ module _ (shape : Shape) (count : ℕ) (frames : List Frame) (before : List (Lis
       let g = gate_seen in
       elim (cases_lt j at) [
         | inl first ↦ get_or-overlay s.seen at bytes j (omega arith) lt (inl first)
-        | inr from ↦ elim (cases_lt j (at + length bytes))
-            [
-              | inl in_it ↦ absurd (fast (inside j from in_it))
-              | inr past ↦ get_or-overlay s.seen at bytes j (omega arith) lt (inr past)
-            ]
+        | inr from ↦ elim (cases_lt j (at + length bytes)) [
+          | inl in_it ↦ absurd (fast (inside j from in_it))
+          | inr past ↦ get_or-overlay s.seen at bytes j (omega arith) lt (inr past)
+        ]
       ]
 
   pub file_after_home : IsFileOf shape count frames before (written s at bytes)
@@ -48,9 +47,9 @@ module _ (shape : Shape) (count : ℕ) (frames : List Frame) (before : List (Lis
       let l = same_length in
       IsFileOf-touched shape count frames before s at (length bytes) seen' file
       (Holds-again shape frames before s.seen seen' file.holds (omega arith)
-        (λ j lt fast.
-              fast_stays (IsLoose shape frames) (λ k from upto. folded_loose shape count frames k (folded k from upto)) j
-                    (omega arith) fast))
+      (λ j lt fast.
+      fast_stays (IsLoose shape frames) (λ k from upto. folded_loose shape count frames k (folded k from upto)) j
+      (omega arith) fast))
       (λ j lt from upto. folded j from upto)
 
   gate_stays : get_or seen' p 0 ≡ get_or s.seen p 0
@@ -64,7 +63,7 @@ module _ (shape : Shape) (count : ℕ) (frames : List Frame) (before : List (Lis
   images_of_home_shut shut image is =
       images_shut shape count frames before (touched s at (length bytes) s.seen)
       (IsFileOf-touched shape count frames before s at (length bytes) s.seen file file.holds
-        (λ j lt from upto. folded j from upto))
+      (λ j lt from upto. folded j from upto))
       (touched_more s at (length bytes) s.seen s.seen readable) image is
       (IsShut-touched shape count frames before s at (length bytes) s.seen p shut refl (λ from upto. omega arith))
 
@@ -80,26 +79,26 @@ module _ (shape : Shape) (count : ℕ) (frames : List Frame) (before : List (Lis
         let lo = length-overlay s.seen p (1 ∷ []) (omega arith) in
         let lo' = length-overlay seen' p (1 ∷ []) (omega arith) in
         let loose' : (k : ℕ) → at ≤ k → k < at + length bytes → IsLoose shape next k =
-            λ k from upto. folded_loose shape count next k (folded' k from upto) in
+        λ k from upto. folded_loose shape count next k (folded' k from upto) in
         record {
           longer = longer;
           holds =
               Holds-again shape next after (overlay s.seen p (1 ∷ [])) (overlay seen' p (1 ∷ [])) wrote.holds (omega arith)
-                (λ j lt fast. elim (cases_order j p) [
-            | inl here ↦ subst (λ k. get_or (overlay seen' p (1 ∷ [])) k 0 ≡ get_or (overlay s.seen p (1 ∷ [])) k 0)
-                (sym here) (opened_at seen' p (omega arith) ∙ sym (opened_at s.seen p g))
-            | inr (inl low) ↦ opened_elsewhere seen' p j (omega arith) (omega arith) (λ e. omega arith)
-                ∙ fast_stays (IsLoose shape next) loose' j (omega arith) fast
-                ∙ sym (opened_elsewhere s.seen p j g (omega arith) (λ e. omega arith))
-            | inr (inr high) ↦ opened_elsewhere seen' p j (omega arith) (omega arith) (λ e. omega arith)
-                ∙ fast_stays (IsLoose shape next) loose' j (omega arith) fast
-                ∙ sym (opened_elsewhere s.seen p j g (omega arith) (λ e. omega arith))
-          ]);
+              (λ j lt fast. elim (cases_order j p) [
+                | inl here ↦ subst (λ k. get_or (overlay seen' p (1 ∷ [])) k 0 ≡ get_or (overlay s.seen p (1 ∷ [])) k 0)
+                    (sym here) (opened_at seen' p (omega arith) ∙ sym (opened_at s.seen p g))
+                | inr (inl low) ↦ opened_elsewhere seen' p j (omega arith) (omega arith) (λ e. omega arith)
+                    ∙ fast_stays (IsLoose shape next) loose' j (omega arith) fast
+                    ∙ sym (opened_elsewhere s.seen p j g (omega arith) (λ e. omega arith))
+                | inr (inr high) ↦ opened_elsewhere seen' p j (omega arith) (omega arith) (λ e. omega arith)
+                    ∙ fast_stays (IsLoose shape next) loose' j (omega arith) fast
+                    ∙ sym (opened_elsewhere s.seen p j g (omega arith) (λ e. omega arith))
+              ]);
           closed = λ is. wrote.closed (sym (get_or-overlay s.seen at bytes (gate_of shape next) (omega arith) inside (inr (omega arith))) ∙ is);
           inside = omega arith;
           pending_is_folded =
               PendingIsFolded-touched shape count frames before s at (length bytes) seen' next wrote.pending_is_folded
-                (λ j lt from upto. folded' j from upto);
+              (λ j lt from upto. folded' j from upto);
         }
 
     pub on_disk_after_home : IsOnDisk shape frames next s → IsOnDisk shape frames next (written s at bytes)
@@ -117,7 +116,7 @@ module _ (shape : Shape) (count : ℕ) (frames : List Frame) (before : List (Lis
           inside = wrote.inside;
           pending_is_folded =
               PendingIsFolded-touched shape count frames before s at (length bytes) s.seen next wrote.pending_is_folded
-                (λ j lt from upto. folded' j from upto);
+              (λ j lt from upto. folded' j from upto);
         })
         (IsOnDisk-touched shape count frames before s at (length bytes) s.seen next there (inl (omega arith)))
         (touched_more s at (length bytes) s.seen s.seen readable) image is

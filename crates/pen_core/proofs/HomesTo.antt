@@ -25,9 +25,8 @@ use Rattle.pen_core.specs.Inside.{IsMaybeJob}
 use Rattle.pen_core.specs.InHand.{frame_in_hand}
 use Rattle.pen_core.specs.declared.pen.Pen.TheInside.{Inside}
 use Rattle.pen_core.specs.Fields.{IsSound}
-use Rattle.pen_core.specs.Listed.{homes_ahead, Lists, IsListed}
+use Rattle.pen_core.specs.Listed.{homes_ahead, Lists}
 use Rattle.pen_core.specs.Vectors.{frame_at}
-use Rattle.pen_core.specs.declared.fold.Fold as folds
 use Rattle.pen_core.specs.declared.step.Step.{Step}
 use Rattle.pen_core.proofs.FoldBegun.{SaysHomes}
 
@@ -94,29 +93,29 @@ pub AreHomesTo-listed : (shape : Shape) (frames : List Frame) (ahead : Option Fr
     → AreHomesTo shape.width (tally_of frames).size homes.homes.items
 AreHomesTo-listed shape frames None homes live legal fits may lists =
     subst (AreHomesTo shape.width (tally_of frames).size) (sym (lists.homes_are ∙ append-nil lists.told))
-      (AreHomesTo-file shape frames lists.told legal fits lists.are_homes)
+    (AreHomesTo-file shape frames lists.told legal fits lists.are_homes)
 AreHomesTo-listed shape frames (Some (Group lengths bytes)) homes live legal fits may lists =
     let f : Frame = Group lengths bytes in
     let t : Tally = tally_of frames in
     let come = may f refl in
     let size : (tally_of (frames ++ f ∷ [])).size ≡ t.size + sum lengths = ap (λ u. u.size) (tally_from_push nothing frames f) in
     let gate : gate_of shape (frames ++ f ∷ []) ≡ gate_of shape frames + length (frame_text shape.format f) =
-        ap length (text_push shape frames f) ∙ length-append (text shape frames) (frame_text shape.format f) in
+    ap length (text_push shape frames f) ∙ length-append (text shape frames) (frame_text shape.format f) in
     let end = come.fits in
     subst (AreHomesTo shape.width t.size) (sym lists.homes_are)
     (AreHomesTo-fewer shape.width t.size (tally_of (frames ++ f ∷ [])).size (lists.told ++ group_home shape frames lengths ∷ []) (omega arith)
     (AreHomesTo-file shape (frames ++ f ∷ []) (lists.told ++ group_home shape frames lengths ∷ [])
-        (AreLegalFrom_push shape nothing frames f legal come.whole come.may) (omega arith)
-        (AreHomes_group shape frames lengths bytes lists.told lists.are_homes)))
+    (AreLegalFrom_push shape nothing frames f legal come.whole come.may) (omega arith)
+    (AreHomes_group shape frames lengths bytes lists.told lists.are_homes)))
 AreHomesTo-listed shape frames (Some (Change runs bytes)) homes live legal fits may lists =
     subst (AreHomesTo shape.width (tally_of frames).size) (sym (lists.homes_are ∙ append-nil lists.told))
-      (AreHomesTo-file shape frames lists.told legal fits lists.are_homes)
+    (AreHomesTo-file shape frames lists.told legal fits lists.are_homes)
 AreHomesTo-listed shape frames (Some (Shrink n)) homes live legal fits may lists =
     subst (AreHomesTo shape.width (tally_of frames).size) (sym (lists.homes_are ∙ append-nil lists.told))
-      (AreHomesTo-file shape frames lists.told legal fits lists.are_homes)
+    (AreHomesTo-file shape frames lists.told legal fits lists.are_homes)
 AreHomesTo-listed shape frames (Some (Fold count)) homes live legal fits may lists =
     subst (AreHomesTo shape.width (tally_of frames).size) (sym (lists.homes_are ∙ append-nil lists.told))
-      (AreHomesTo-file shape frames lists.told legal fits lists.are_homes)
+    (AreHomesTo-file shape frames lists.told legal fits lists.are_homes)
 
 -- on a pen's fields
 may_come : (shape : Shape) (frames : List Frame) (gate : ℕ) (tally next : Tally) (bytes : List ℕ) (step : Option Step)
@@ -128,12 +127,11 @@ may_come shape frames gate tally next bytes (Some step) gate_is tally_is job f i
     let end = job.fits in
     let size = ap length job.spelled ∙ length-append (frame_text shape.format (frame_at shape bytes)) (0 ∷ []) in
     subst (MayCome shape frames) same
-        (record
-            {
-              whole = job.whole;
-              may = subst (λ t. MayFollow t (frame_at shape bytes)) tally_is job.may_follow;
-              fits = omega arith;
-            })
+    (record {
+      whole = job.whole;
+      may = subst (λ t. MayFollow t (frame_at shape bytes)) tally_is job.may_follow;
+      fits = omega arith;
+    })
 
 pub AreHomesTo-pen : {D : Type 0} {keeps : D → Type 0} {states : D → List State} {pen : Inside D} → IsSound keeps states pen → pen.gate ≤ 2 ^ 48
     → AreHomesTo pen.shape.width pen.tally.size pen.homes.homes.items
@@ -142,4 +140,4 @@ AreHomesTo-pen {pen = pen} sound fits =
     let below = listed.gate_is in
     subst (λ t. AreHomesTo pen.shape.width t.size pen.homes.homes.items) (sym listed.tally_is)
     (AreHomesTo-listed pen.shape listed.frames (frame_in_hand pen.shape pen.bytes.items pen.step) pen.homes pen.live listed.legal (omega arith)
-      (may_come pen.shape listed.frames pen.gate pen.tally pen.next pen.bytes.items pen.step listed.gate_is listed.tally_is sound.job.job) listed.lists)
+    (may_come pen.shape listed.frames pen.gate pen.tally pen.next pen.bytes.items pen.step listed.gate_is listed.tally_is sound.job.job) listed.lists)

@@ -14,12 +14,7 @@ use Rattle.segment_core.specs.Parsed.{vector_before}
 use Rattle.segment_core.proofs.HomesHold.{Appends}
 use Rattle.pen_core.specs.declared.fold.Fold.{Fold}
 use Rattle.pen_core.specs.declared.fold.Write.{Write}
-use Rattle.record_core.specs.Bytes.{Encoding}
-use Rattle.segment_core.specs.Written.{group_frame, payload_len}
-use Rattle.segment_core.proofs.Payload.{length-frame_text}
-use Rattle.segment_core.proofs.Written.{length-group_frame}
 use Rattle.pen_core.specs.declared.step.Step.{Step}
-use Rattle.pen_core.specs.declared.step.Step.TheVariants.{Body}
 use Rattle.pen_core.specs.declared.stage.FoldStage.{FoldStage}
 use Rattle.pen_core.specs.declared.stage.FoldStage.TheVariants.{Home, Sync, Ready, Filed}
 use Rattle.pen_core.specs.declared.stage.FoldStage.TheVariants as stages
@@ -40,10 +35,10 @@ no_fold_at keeps states shape gate tally bytes o broken fold at = record {
   counts = subst (IsAtStage shape gate tally bytes o fold) (sym at) tt;
   homes =
       λ model whole.
-        subst
-          (HomesAt shape (blanked_before shape gate (bytes_of states)) (vector_before shape gate (bytes_of states)) fold
-              (now states))
-          (sym at) tt;
+      subst
+      (HomesAt shape (blanked_before shape gate (bytes_of states)) (vector_before shape gate (bytes_of states)) fold
+      (now states))
+      (sym at) tt;
 }
 
 pub fold_len_at : (stage : FoldStage) (fold : Fold) → IsInHand stage → fold.stage ≡ stage → fold_len (fold_of fold) ≡ 14
@@ -69,9 +64,10 @@ planned_further : (gate gate' len : ℕ) (writes : List Write) → gate ≤ gate
     → AllByRecursion (IsPlanned gate' len) writes
 planned_further gate gate' len [] le all = tt
 planned_further gate gate' len (w ∷ writes) le all =
-    let below = all.0.below_gate in
-    (record { some = all.0.some; inside = all.0.inside; below_gate = omega arith },
-        planned_further gate gate' len writes le all.1)
+    let below = all.0.below_gate in (
+      record { some = all.0.some; inside = all.0.inside; below_gate = omega arith },
+      planned_further gate gate' len writes le all.1,
+    )
 
 module _ (shape : Shape) (gate gate' : ℕ) (tally tally' : Tally) (bytes bytes' : List ℕ) (o o' : Option Step) (fold : Fold) where
   waits_on : IsUnfiled shape gate tally bytes o fold → tally'.folded ≡ tally.folded → tally.changes ≤ tally'.changes
@@ -123,16 +119,16 @@ pub fold_begun : {keeps : Type 0} {states : List State} {shape : Shape} {gate : 
     → IsFold keeps states shape gate tally bytes' (Some step) broken fold
 fold_begun {keeps} {states} {shape} {gate} {tally} {bytes} {bytes'} {o} {broken} {fold} {step} is f idle spelled room =
     let unfiled : fold.stage ≡ Filed → ⊥ =
-        λ filed.
-          (let clash : None ≡ Some (kinds.Fold fold.count) = sym (ap (frame_in_hand shape bytes) idle)
-              ∙ filed_at shape gate tally bytes o fold is.counts filed in
-            absurd cc) in
+    λ filed.
+    (let clash : None ≡ Some (kinds.Fold fold.count) = sym (ap (frame_in_hand shape bytes) idle)
+    ∙ filed_at shape gate tally bytes o fold is.counts filed in
+    absurd cc) in
     let long = ap length spelled ∙ length-append (frame_text shape.format f) (0 ∷ []) in
     record {
       counts =
           stage_on shape gate gate tally tally bytes bytes' o (Some step) fold fold.stage is.counts
-            (λ filed. absurd (unfiled filed)) refl (omega arith) (omega arith)
-            (λ held out. let len = fold_len_at fold.stage fold held refl in omega arith);
+          (λ filed. absurd (unfiled filed)) refl (omega arith) (omega arith)
+          (λ held out. let len = fold_len_at fold.stage fold held refl in omega arith);
       homes = is.homes;
     }
 
@@ -145,9 +141,9 @@ fold_same {keeps} {states} {shape} {gate} {tally} {bytes} {o} {broken} {fold} is
     record {
       counts =
           stage_on shape gate gate tally tally bytes bytes' o o fold fold.stage is.counts
-            (λ filed. none bytes' ∙ sym (none bytes)) refl (omega arith) (omega arith)
+          (λ filed. none bytes' ∙ sym (none bytes)) refl (omega arith) (omega arith)
           (λ held out. let w = (room_of shape gate tally bytes o fold fold.stage is.counts held out).room in
-            subst (λ g. g + 14 < 2 ^ 48) (ap (gate_then gate bytes) idle ∙ sym (ap (gate_then gate bytes') idle)) w);
+          subst (λ g. g + 14 < 2 ^ 48) (ap (gate_then gate bytes) idle ∙ sym (ap (gate_then gate bytes') idle)) w);
       homes = is.homes;
     }
 
@@ -166,7 +162,7 @@ homes_more : (shape : Shape) (fs : List Frame) (f : Frame) (vector then : List (
     (stage : FoldStage)
     → Holds shape fs vector s.seen → Holds shape (frames_with fs f) then s.seen
     → (IsInHand stage → (stage ≡ Filed → ⊥)
-        → Appends f × ((tally_of fs).folded ≤ fold.count) × (fold.count ≤ (tally_of fs).changes))
+    → Appends f × ((tally_of fs).folded ≤ fold.count) × (fold.count ≤ (tally_of fs).changes))
     → HomesAt shape fs vector fold s stage → HomesAt shape (frames_with fs f) then fold s stage
 homes_more shape fs f vector then fold s stages.None has more fits at = tt
 homes_more shape fs f vector then fold s (Home n) has more fits at =
@@ -218,13 +214,13 @@ module _ {keeps keeps' : Type 0} {states : List State} {shape : Shape} {gate : �
       record {
         counts = stage_on shape gate gate tally tally bytes bytes o (Some behind) fold fold.stage is.counts (λ filed. there) refl (omega arith) (omega arith)
             (λ held out.
-              subst (λ g. g + 14 < 2 ^ 48) (ap (gate_then gate bytes) at)
-                  (room_of shape gate tally bytes o fold fold.stage is.counts held out).room);
+            subst (λ g. g + 14 < 2 ^ 48) (ap (gate_then gate bytes) at)
+            (room_of shape gate tally bytes o fold fold.stage is.counts held out).room);
         homes =
             λ model whole.
-              subst (λ gs. HomesAt shape gs (vector_before shape gate (bytes_of new)) fold (now new) fold.stage)
-                (sym (frames_same model))
-                (subst (λ v. HomesAt shape fs v fold (now new) fold.stage) (sym (vector_same model))
+            subst (λ gs. HomesAt shape gs (vector_before shape gate (bytes_of new)) fold (now new) fold.stage)
+            (sym (frames_same model))
+            (subst (λ v. HomesAt shape fs v fold (now new) fold.stage) (sym (vector_same model))
             (homes_alike shape fs vector fold (now states) (now new) fold.stage (legal model) (same model) (is.homes (back model) whole)));
       }
 
@@ -248,21 +244,23 @@ module _ {keeps keeps' : Type 0} {states : List State} {shape : Shape} {gate : �
     fold_done then tally_is has more settles frames_are vector_is = record {
       counts =
           stage_on shape gate gate' tally next bytes bytes o None fold fold.stage is.counts (λ filed. absurd (unfiled filed))
-            (ap (λ t. t.folded) next_is ∙ same_folded tally frame no_fold)
-            (subst (λ t. tally.changes ≤ t.changes) (sym next_is) (more_changes tally frame)) (omega arith)
+          (ap (λ t. t.folded) next_is ∙ same_folded tally frame no_fold)
+          (subst (λ t. tally.changes ≤ t.changes) (sym next_is) (more_changes tally frame)) (omega arith)
           (λ held out.
-            let w = subst (λ g. g + 14 < 2 ^ 48) (ap (gate_then gate bytes) at)
-              (room_of shape gate tally bytes o fold fold.stage is.counts held out).room in
-            omega arith);
+          let w = subst (λ g. g + 14 < 2 ^ 48) (ap (gate_then gate bytes) at)
+          (room_of shape gate tally bytes o fold fold.stage is.counts held out).room in
+          omega arith);
       homes = λ model whole. (
           let m = back model in
           let made = homes_more shape fs frame vector then fold (now states) fold.stage (has model) (more model)
           (λ held out. (
           let w = room_of shape gate tally bytes o fold fold.stage is.counts held out in
           let live = w.live in
-          let upto = w.upto in
-          (appends_live tally frame may no_fold (omega arith), subst (λ t. t.folded ≤ fold.count) (tally_is m) (omega arith),
-                subst (λ t. fold.count ≤ t.changes) (tally_is m) (omega arith))))
+          let upto = w.upto in (
+            appends_live tally frame may no_fold (omega arith),
+            subst (λ t. t.folded ≤ fold.count) (tally_is m) (omega arith),
+            subst (λ t. fold.count ≤ t.changes) (tally_is m) (omega arith),
+          )))
           (is.homes m whole) in
           let seen : (now states).seen ≡ (now new).seen = sym (ap (λ s. s.seen) (settles model)) in
           subst (λ gs. HomesAt shape gs (vector_before shape gate' (bytes_of new)) fold (now new) fold.stage)

@@ -52,7 +52,7 @@ module _ {D : Type 0} (keeps : D → Type 0) (states : D → List State) (old ne
       | inr (inl at) ↦ inr (inl at)
       | inr (inr folded) ↦ absurd
           (nothing_folded old.shape old.frames j
-              (subst (λ n. IsBeingFolded old.shape n old.frames j) (ap fold_count is.ready.1) folded))
+          (subst (λ n. IsBeingFolded old.shape n old.frames j) (ap fold_count is.ready.1) folded))
     ];
     gate_is = k.gate_is;
     tally_is = k.tally_is;

@@ -1,18 +1,14 @@
 -- The last tick of a job: its frame stands in the file, and a fold ends with its own.
-use Rattle.std.proofs.Common.{◌≡◌, ℕ, ◌+◌, ◌-◌, ◌<◌, Bool, false, List, length, Option, Some, None, inl, inr, refl, sym, ap, subst, ◌∙◌}
+use Rattle.std.proofs.Common.{◌≡◌, ℕ, ◌+◌, ◌-◌, ◌<◌, List, length, Option, Some, None, inl, inr, refl, sym, ap, subst, ◌∙◌}
 use Rattle.std.proofs.lemmas.Option.{same_Some}
-use Rattle.disk_core.specs.State.{State, now, IsImage}
+use Rattle.disk_core.specs.State.{State}
 use Rattle.disk_core.specs.Calls.{bytes_of}
-use Rattle.segment_core.specs.declared.format.Shape.{Shape}
-use Rattle.segment_core.specs.declared.found.Homes.{Homes}
-use Rattle.segment_core.specs.declared.tally.Tally.{Tally}
 use Rattle.segment_core.specs.Frame.{Frame, Group, Change, Shrink}
 use Rattle.segment_core.specs.Frame as kinds
 use Rattle.segment_core.specs.Found.{home_among, AreInTurn}
 use Rattle.segment_core.specs.Raw.{after_frame}
 use Rattle.segment_core.specs.Parsed.{vector_before}
 use Rattle.pen_core.specs.declared.pen.Pen.TheInside.{Inside}
-use Rattle.pen_core.specs.declared.fold.Fold.{Fold}
 use Rattle.pen_core.specs.declared.stage.FoldStage.TheVariants.{Filed}
 use Rattle.pen_core.specs.declared.step.Step.{Step}
 use Rattle.pen_core.specs.Step.{step_after, Calls}
@@ -73,8 +69,8 @@ module _ {D : Type 0} {keeps : D → Type 0} {states : D → List State} {pen : 
       let further = gate_moved tick end.call then.gate end.moved end.last in
       let more = more_frames tick end.call then.gate end.moved end.last in
       let made : IsListed (keeps new) (states new) pen.shape then.gate pen.next pen.bytes.items None then.homes then.live
-          then.fold =
-          elim (is_filed pen.fold.stage) [
+      then.fold =
+      elim (is_filed pen.fold.stage) [
         | inl filed ↦ listed_folded tick.sound.lists step tick.is pen.next tick.sound.job.job (keeps new) (states new) then.gate then.homes then.live
             tick.sound.job.folded_counted further tick.back more end.turn end.each end.all then.fold filed (folds filed) (end.ended ∙ ap stage_ended filed)
             (end.left ∙ ap (λ stage. live_after stage pen.fold.runs pen.homes.live.items) filed)

@@ -23,7 +23,6 @@ use Rattle.segment_core.proofs.FoundSteps.{fold_bounds}
 use Rattle.std.proofs.lemmas.Grind.{flat_map-append}
 use Rattle.segment_core.proofs.HomesPush.{group_home, AreHomes_group, AreHomes_same, live_of_same, live_of_change, live_of_fold}
 use Rattle.pen_core.specs.declared.step.Step.{Step}
-use Rattle.pen_core.specs.declared.step.Step.TheVariants.{Body}
 use Rattle.pen_core.specs.declared.fold.Fold as folds
 use Rattle.pen_core.specs.declared.stage.FoldStage.TheVariants.{Filed}
 use Rattle.pen_core.specs.declared.stage.FoldStage.TheVariants as stages
@@ -49,19 +48,25 @@ in_turn_ahead shape frames (Group lengths bytes) homes live lists may =
       subst (λ hs. AreInTurn 0 hs (t.size + sum lengths)) (sym lists.homes_are)
           (in_turn_push 0 t.size (t.size + sum lengths) lists.told here lists.are_homes.in_turn refl refl),
     )
-in_turn_ahead shape frames (Change runs bytes) homes live lists may =
-    ((tally_of frames).size, omega arith,
-        subst (λ hs. AreInTurn 0 hs (tally_of frames).size) (sym (lists.homes_are ∙ append-nil lists.told))
-            lists.are_homes.in_turn)
+in_turn_ahead shape frames (Change runs bytes) homes live lists may = (
+  (tally_of frames).size,
+  omega arith,
+  subst (λ hs. AreInTurn 0 hs (tally_of frames).size) (sym (lists.homes_are ∙ append-nil lists.told))
+      lists.are_homes.in_turn,
+)
 in_turn_ahead shape frames (Shrink n) homes live lists may =
-    let shorter = ltb-false (tally_of frames).size n may.inside in
-    ((tally_of frames).size, omega arith,
+    let shorter = ltb-false (tally_of frames).size n may.inside in (
+      (tally_of frames).size,
+      omega arith,
       subst (λ hs. AreInTurn 0 hs (tally_of frames).size) (sym (lists.homes_are ∙ append-nil lists.told))
-          lists.are_homes.in_turn)
-in_turn_ahead shape frames (Fold count) homes live lists may =
-    ((tally_of frames).size, omega arith,
-        subst (λ hs. AreInTurn 0 hs (tally_of frames).size) (sym (lists.homes_are ∙ append-nil lists.told))
-            lists.are_homes.in_turn)
+          lists.are_homes.in_turn,
+    )
+in_turn_ahead shape frames (Fold count) homes live lists may = (
+  (tally_of frames).size,
+  omega arith,
+  subst (λ hs. AreInTurn 0 hs (tally_of frames).size) (sym (lists.homes_are ∙ append-nil lists.told))
+      lists.are_homes.in_turn,
+)
 
 -- it is done, and positions past its length have no home
 pub lists_done : (shape : Shape) (frames : List Frame) (f : Frame) (homes homes' : Homes) (live live' : ℕ)
@@ -69,15 +74,15 @@ pub lists_done : (shape : Shape) (frames : List Frame) (f : Frame) (homes homes'
     → (tally_of frames).folded ≤ (tally_of frames).changes
     → ((count : ℕ) → f ≡ Fold count → ⊥) → AreInTurn 0 homes'.homes.items (after (tally_of frames) f).size
     → ((width i : ℕ) → i < (after (tally_of frames) f).size
-      → home_among width homes'.homes.items i ≡ home_among width homes.homes.items i)
+    → home_among width homes'.homes.items i ≡ home_among width homes.homes.items i)
     → homes'.live.items ≡ homes.live.items → live' ≡ length homes'.live.items → Lists shape (frames ++ f ∷ []) None homes' live'
 lists_done shape frames (Group lengths bytes) homes homes' live live' lists may few no_fold turn each same all =
     let f : Frame = Group lengths bytes in
     let has = AreHomes_group shape frames lengths bytes lists.told lists.are_homes in
     let size : (tally_of (frames ++ f ∷ [])).size ≡ (tally_of frames).size + sum lengths = ap (λ t. t.size) (tally_from_push nothing frames f) in
     let runs : homes'.live.items ≡ live_runs shape (frames ++ f ∷ []) =
-        same ∙ lists.live_is ∙ append-nil (live_runs shape frames)
-          ∙ ap (flat_map pairs_of) (sym (live_of_same shape frames f (λ p. refl) refl)) in
+    same ∙ lists.live_is ∙ append-nil (live_runs shape frames)
+    ∙ ap (flat_map pairs_of) (sym (live_of_same shape frames f (λ p. refl) refl)) in
     record {
       told = homes'.homes.items;
       are_homes =
@@ -95,13 +100,13 @@ lists_done shape frames (Change runs bytes) homes homes' live live' lists may fe
     let seen : Seen = record { at = length (text shape frames); shape = shape; frame = f } in
     let now : homes'.live.items ≡ live_runs shape (frames ++ f ∷ []) =
     same ∙ lists.live_is ∙ flat_map_more pairs_of [] (live_of shape frames) seen
-        ∙ sym (ap (flat_map pairs_of) (live_of_change shape frames runs bytes few)) in
+    ∙ sym (ap (flat_map pairs_of) (live_of_change shape frames runs bytes few)) in
     record {
       told = homes'.homes.items;
       are_homes =
           AreHomes_same shape frames f lists.told homes'.homes.items (λ i p t. refl) (omega arith) lists.are_homes turn
-            (λ i lt. each shape.width i lt
-                ∙ ap (λ hs. home_among shape.width hs i) (lists.homes_are ∙ append-nil lists.told));
+          (λ i lt. each shape.width i lt
+          ∙ ap (λ hs. home_among shape.width hs i) (lists.homes_are ∙ append-nil lists.told));
       homes_are = sym (append-nil homes'.homes.items);
       live_is = now ∙ sym (append-nil (live_runs shape (frames ++ f ∷ [])));
       counted = all ∙ ap length now;
@@ -110,14 +115,14 @@ lists_done shape frames (Shrink n) homes homes' live live' lists may few no_fold
     let f : Frame = Shrink n in
     let shorter = ltb-false (tally_of frames).size n may.inside in
     let now : homes'.live.items ≡ live_runs shape (frames ++ f ∷ []) =
-        same ∙ lists.live_is ∙ append-nil (live_runs shape frames)
-          ∙ ap (flat_map pairs_of) (sym (live_of_same shape frames f (λ p. refl) refl)) in
+    same ∙ lists.live_is ∙ append-nil (live_runs shape frames)
+    ∙ ap (flat_map pairs_of) (sym (live_of_same shape frames f (λ p. refl) refl)) in
     record {
       told = homes'.homes.items;
       are_homes =
           AreHomes_same shape frames f lists.told homes'.homes.items (λ i p t. refl) (omega arith) lists.are_homes turn
-            (λ i lt. each shape.width i lt
-                ∙ ap (λ hs. home_among shape.width hs i) (lists.homes_are ∙ append-nil lists.told));
+          (λ i lt. each shape.width i lt
+          ∙ ap (λ hs. home_among shape.width hs i) (lists.homes_are ∙ append-nil lists.told));
       homes_are = sym (append-nil homes'.homes.items);
       live_is = now ∙ sym (append-nil (live_runs shape (frames ++ f ∷ [])));
       counted = all ∙ ap length now;
@@ -136,7 +141,7 @@ after_unfolded t (Fold count) no_fold = absurd (no_fold count refl)
 pub live_counted : (shape : Shape) (frames : List Frame) → length (live_of shape frames) ≡ (tally_of frames).changes - (tally_of frames).folded
 live_counted shape frames =
     length-drop (tally_of frames).folded (changes_of shape frames)
-      ∙ ap (λ n. n - (tally_of frames).folded) (sym (changes_counted shape frames))
+    ∙ ap (λ n. n - (tally_of frames).folded) (sym (changes_counted shape frames))
 
 -- the first of them stay so behind a frame that is no fold
 take_live : (shape : Shape) (frames : List Frame) (f : Frame) (n : ℕ) → (tally_of frames).folded ≤ (tally_of frames).changes
@@ -145,8 +150,8 @@ take_live : (shape : Shape) (frames : List Frame) (f : Frame) (n : ℕ) → (tal
 take_live shape frames (Group lengths bytes) n few no_fold le = ap (take n) (live_of_same shape frames (Group lengths bytes) (λ p. refl) refl)
 take_live shape frames (Change runs bytes) n few no_fold le =
     ap (take n) (live_of_change shape frames runs bytes few)
-      ∙ take-append-le n (live_of shape frames)
-        (record { at = length (text shape frames); shape = shape; frame = Change runs bytes } ∷ []) le
+    ∙ take-append-le n (live_of shape frames)
+    (record { at = length (text shape frames); shape = shape; frame = Change runs bytes } ∷ []) le
 take_live shape frames (Shrink m) n few no_fold le = ap (take n) (live_of_same shape frames (Shrink m) (λ p. refl) refl)
 take_live shape frames (Fold count) n few no_fold le = absurd (no_fold count refl)
 
@@ -201,14 +206,13 @@ module _ {keeps : Type 0} {states : List State} {shape : Shape} {gate : ℕ} {ta
           tally_is = listed.tally_is;
           lists =
               subst (λ f. Lists shape listed.frames f homes' live) (sym none)
-                (record
-                    {
-                      told = at_rest.told;
-                      are_homes = at_rest.are_homes;
-                      homes_are = homes_same ∙ at_rest.homes_are;
-                      live_is = live_same ∙ at_rest.live_is;
-                      counted = at_rest.counted;
-                    });
+              (record {
+                told = at_rest.told;
+                are_homes = at_rest.are_homes;
+                homes_are = homes_same ∙ at_rest.homes_are;
+                live_is = live_same ∙ at_rest.live_is;
+                counted = at_rest.counted;
+              });
           filed = λ count is. let clash = sym none ∙ is in absurd cc;
           runs_are = listed.runs_are;
           same = listed.same;
@@ -233,8 +237,8 @@ module _ {keeps : Type 0} {states : List State} {shape : Shape} {gate : ℕ} {ta
             are_homes = at_rest.are_homes;
             homes_are =
                 homes_more ∙ ap (λ hs. hs ++ homes_entered gate tally.size f) told
-                  ∙ ap (λ g. at_rest.told ++ homes_entered g tally.size f) listed.gate_is
-                  ∙ ap (λ t. at_rest.told ++ homes_entered (gate_of shape listed.frames) t.size f) listed.tally_is;
+                ∙ ap (λ g. at_rest.told ++ homes_entered g tally.size f) listed.gate_is
+                ∙ ap (λ t. at_rest.told ++ homes_entered (gate_of shape listed.frames) t.size f) listed.tally_is;
             live_is = live_more ∙ ap (λ rs. rs ++ runs_entered f) runs;
             counted = at_rest.counted;
           });
@@ -270,7 +274,7 @@ module _ {keeps : Type 0} {states : List State} {shape : Shape} {gate : ℕ} {ta
         (few : tally.folded ≤ tally.changes) (moved : gate' ≡ gate + length (frame_text shape.format frame))
         (back : keeps' → keeps)
         (more : keeps'
-          → blanked_before shape gate' (bytes_of new) ≡ frames_with (blanked_before shape gate (bytes_of states)) frame)
+        → blanked_before shape gate' (bytes_of new) ≡ frames_with (blanked_before shape gate (bytes_of states)) frame)
         (turn : AreInTurn 0 homes'.homes.items next.size)
         (each : (width i : ℕ) → i < next.size → home_among width homes'.homes.items i ≡ home_among width homes.homes.items i)
         (all : live' ≡ length homes'.live.items) where
@@ -283,9 +287,9 @@ module _ {keeps : Type 0} {states : List State} {shape : Shape} {gate : ℕ} {ta
       here : gate' ≡ gate_of shape (listed.frames ++ frame ∷ [])
       here =
           moved ∙ ap (λ g. g + length (frame_text shape.format frame)) listed.gate_is
-            ∙ sym
-              (ap length (text_push shape listed.frames frame)
-                  ∙ length-append (text shape listed.frames) (frame_text shape.format frame))
+          ∙ sym
+          (ap length (text_push shape listed.frames frame)
+          ∙ length-append (text shape listed.frames) (frame_text shape.format frame))
 
       then_blank : keeps' → blanked_before shape gate' (bytes_of new) ≡ all_blanked (listed.frames ++ frame ∷ [])
       then_blank model = more model ∙ ap (λ bs. bs ++ blanked frame ∷ []) (listed.same (back model)) ∙ sym (map_push blanked listed.frames frame)
@@ -295,7 +299,7 @@ module _ {keeps : Type 0} {states : List State} {shape : Shape} {gate : ℕ} {ta
           → homes'.live.items ≡ homes.live.items → IsListed keeps' new shape gate' next bytes None homes' live' fold
       listed_done unfiled upto same =
           let no_fold : (count : ℕ) → frame ≡ Fold count → ⊥ =
-              λ count is'. unfiled (listed.filed count (ap (frame_in_hand shape bytes) is ∙ ap (λ g. Some g) is')).0 in
+          λ count is'. unfiled (listed.filed count (ap (frame_in_hand shape bytes) is ∙ ap (λ g. Some g) is')).0 in
           let counted = live_counted shape listed.frames in
           record {
             frames = listed.frames ++ frame ∷ [];
@@ -304,21 +308,21 @@ module _ {keeps : Type 0} {states : List State} {shape : Shape} {gate : ℕ} {ta
             tally_is = next_is ∙ sym after_is;
             lists =
                 lists_done shape listed.frames frame homes homes' live live' in_hand may
-                  (subst (λ t. t.folded ≤ t.changes) listed.tally_is few) no_fold
-                  (subst (AreInTurn 0 homes'.homes.items) size turn)
-                  (λ width i lt. each width i (subst (λ n. i < n) (sym size) lt)) same all;
+                (subst (λ t. t.folded ≤ t.changes) listed.tally_is few) no_fold
+                (subst (AreInTurn 0 homes'.homes.items) size turn)
+                (λ width i lt. each width i (subst (λ n. i < n) (sym size) lt)) same all;
             filed = λ count clash. absurd cc;
             runs_are = λ held. (
                 let bound : fold.count ≤ (tally_of listed.frames).changes = subst (λ t. fold.count ≤ t.changes) listed.tally_is (upto held) in
                 let folded : next.folded ≡ (tally_of listed.frames).folded =
-                    ap (λ t. t.folded) next_is ∙ after_unfolded (tally_of listed.frames) frame no_fold in
+                ap (λ t. t.folded) next_is ∙ after_unfolded (tally_of listed.frames) frame no_fold in
                 listed.runs_are held ∙ ap (λ t. length (flat_map pairs_of (take (fold.count - t.folded) (live_of shape listed.frames)))) listed.tally_is
                 ∙ sym
-                  (ap (λ n. length (flat_map pairs_of (take (fold.count - n) (live_of shape (listed.frames ++ frame ∷ [])))))
-                      folded
-                        ∙ ap (λ cs. length (flat_map pairs_of cs))
-                              (take_live shape listed.frames frame (fold.count - (tally_of listed.frames).folded)
-                                      (subst (λ t. t.folded ≤ t.changes) listed.tally_is few) no_fold (omega arith))));
+                (ap (λ n. length (flat_map pairs_of (take (fold.count - n) (live_of shape (listed.frames ++ frame ∷ [])))))
+                folded
+                ∙ ap (λ cs. length (flat_map pairs_of cs))
+                (take_live shape listed.frames frame (fold.count - (tally_of listed.frames).folded)
+                (subst (λ t. t.folded ≤ t.changes) listed.tally_is few) no_fold (omega arith))));
             same = then_blank;
           }
 
@@ -335,14 +339,14 @@ module _ {keeps : Type 0} {states : List State} {shape : Shape} {gate : ℕ} {ta
           let lived : List Seen = live_of shape listed.frames in
           let n : ℕ = fold.count - t.folded in
           let parts : flat_map pairs_of lived ≡ flat_map pairs_of (take n lived) ++ flat_map pairs_of (drop n lived) =
-              ap (flat_map pairs_of) (sym (take-append-drop n lived))
-                ∙ flat_map-append pairs_of (take n lived) (drop n lived) in
+          ap (flat_map pairs_of) (sym (take-append-drop n lived))
+          ∙ flat_map-append pairs_of (take n lived) (drop n lived) in
           let runs : fold.runs ≡ length (flat_map pairs_of (take n lived)) =
-              listed.runs_are (subst IsInHand (sym at) tt)
-                ∙ ap (λ u. length (flat_map pairs_of (take (fold.count - u.folded) lived))) listed.tally_is in
+          listed.runs_are (subst IsInHand (sym at) tt)
+          ∙ ap (λ u. length (flat_map pairs_of (take (fold.count - u.folded) lived))) listed.tally_is in
           let left : homes'.live.items ≡ live_runs shape (listed.frames ++ f ∷ []) =
           dropped ∙ ap (drop fold.runs) (lists.live_is ∙ append-nil (live_runs shape listed.frames) ∙ parts)
-              ∙ drop_at (flat_map pairs_of (take n lived)) (flat_map pairs_of (drop n lived)) fold.runs (sym runs)
+          ∙ drop_at (flat_map pairs_of (take n lived)) (flat_map pairs_of (drop n lived)) fold.runs (sym runs)
           ∙ sym (ap (flat_map pairs_of) (live_of_fold shape listed.frames fold.count bounds.0)) in
           record {
             frames = listed.frames ++ frame ∷ [];
@@ -354,7 +358,7 @@ module _ {keeps : Type 0} {states : List State} {shape : Shape} {gate : ℕ} {ta
               are_homes = AreHomes_same shape listed.frames f lists.told homes'.homes.items (λ i p u. refl) (omega arith) lists.are_homes
                   (subst (AreInTurn 0 homes'.homes.items) (size ∙ ap (λ g. (after t g).size) folds) turn)
                   (λ i lt. each shape.width i (subst (λ m. i < m) (sym (size ∙ ap (λ g. (after t g).size) folds)) lt)
-                    ∙ ap (λ hs. home_among shape.width hs i) (lists.homes_are ∙ append-nil lists.told));
+                  ∙ ap (λ hs. home_among shape.width hs i) (lists.homes_are ∙ append-nil lists.told));
               homes_are = sym (append-nil homes'.homes.items);
               live_is = left ∙ sym (append-nil (live_runs shape (listed.frames ++ f ∷ [])));
               counted = all ∙ ap length left;

@@ -74,52 +74,52 @@ either_way false = refl
 all_early : (shape : Shape) (folded count i p : ℕ) (tally : Tally) (frames : List Frame)
     → tally.changes + length (changes_from shape p frames) ≤ count
     → last_from (early_in shape folded count i) shape.format p tally frames ≡ last_from (change_in shape folded i)
-      shape.format p tally frames
+    shape.format p tally frames
 all_early shape folded count i p tally [] few = refl
 all_early shape folded count i p tally (Group lengths bytes ∷ frames) few =
     let f : Frame = Group lengths bytes in
     let rest = all_early shape folded count i (p + length (frame_text shape.format f)) (after tally f) frames few in
     ap (λ o. option_or o (early_in shape folded count i p tally f)) rest
-        ∙ ap
-          (option_or
-              (last_from (change_in shape folded i) shape.format (p + length (frame_text shape.format f)) (after tally f)
-                    frames))
-          (either_way (nat_lt tally.changes count))
+    ∙ ap
+    (option_or
+    (last_from (change_in shape folded i) shape.format (p + length (frame_text shape.format f)) (after tally f)
+    frames))
+    (either_way (nat_lt tally.changes count))
 all_early shape folded count i p tally (Change runs bytes ∷ frames) few =
     let f : Frame = Change runs bytes in
     let rest = all_early shape folded count i (p + length (frame_text shape.format f)) (after tally f) frames (omega arith) in
     ap (λ o. option_or o (early_in shape folded count i p tally f)) rest
     ∙ ap
     (λ b.
-      option_or
-          (last_from (change_in shape folded i) shape.format (p + length (frame_text shape.format f)) (after tally f) frames)
-          (cond b (change_in shape folded i p tally f) None))
+    option_or
+    (last_from (change_in shape folded i) shape.format (p + length (frame_text shape.format f)) (after tally f) frames)
+    (cond b (change_in shape folded i p tally f) None))
     (lt-ltb tally.changes count (omega arith))
 all_early shape folded count i p tally (Shrink n ∷ frames) few =
     let f : Frame = Shrink n in
     let rest = all_early shape folded count i (p + length (frame_text shape.format f)) (after tally f) frames few in
     ap (λ o. option_or o (early_in shape folded count i p tally f)) rest
-        ∙ ap
-          (option_or
-              (last_from (change_in shape folded i) shape.format (p + length (frame_text shape.format f)) (after tally f)
-                    frames))
-          (either_way (nat_lt tally.changes count))
+    ∙ ap
+    (option_or
+    (last_from (change_in shape folded i) shape.format (p + length (frame_text shape.format f)) (after tally f)
+    frames))
+    (either_way (nat_lt tally.changes count))
 all_early shape folded count i p tally (Fold n ∷ frames) few =
     let f : Frame = Fold n in
     let rest = all_early shape folded count i (p + length (frame_text shape.format f)) (after tally f) frames few in
     ap (λ o. option_or o (early_in shape folded count i p tally f)) rest
-        ∙ ap
-          (option_or
-              (last_from (change_in shape folded i) shape.format (p + length (frame_text shape.format f)) (after tally f)
-                    frames))
-          (either_way (nat_lt tally.changes count))
+    ∙ ap
+    (option_or
+    (last_from (change_in shape folded i) shape.format (p + length (frame_text shape.format f)) (after tally f)
+    frames))
+    (either_way (nat_lt tally.changes count))
 
 -- each change that is live is folded
 pub early_of-all : (shape : Shape) (frames : List Frame) (i : ℕ)
     → early_of shape (tally_of frames).changes frames i ≡ change_of shape (tally_of frames).folded frames i
 early_of-all shape frames i =
     all_early shape (tally_of frames).folded (tally_of frames).changes i (length (header shape)) nothing frames
-      (let all = changes_counted shape frames in omega arith)
+    (let all = changes_counted shape frames in omega arith)
 
 -- ---- each run has a position, inside the vector
 
@@ -138,11 +138,12 @@ some_changes : (shape : Shape) (p : ℕ) (tally : Tally) (frames : List Frame) �
 some_changes shape p tally [] legal = tt
 some_changes shape p tally (Group lengths bytes ∷ frames) legal =
     some_changes shape (p + length (frame_text shape.format (Group lengths bytes))) (after tally (Group lengths bytes))
-      frames legal.2
-some_changes shape p tally (Change runs bytes ∷ frames) legal =
-    (some_runs runs legal.0.layout.1,
-        some_changes shape (p + length (frame_text shape.format (Change runs bytes))) (after tally (Change runs bytes))
-            frames legal.2)
+    frames legal.2
+some_changes shape p tally (Change runs bytes ∷ frames) legal = (
+  some_runs runs legal.0.layout.1,
+  some_changes shape (p + length (frame_text shape.format (Change runs bytes))) (after tally (Change runs bytes))
+      frames legal.2,
+)
 some_changes shape p tally (Shrink n ∷ frames) legal =
     some_changes shape (p + length (frame_text shape.format (Shrink n))) (after tally (Shrink n)) frames legal.2
 some_changes shape p tally (Fold count ∷ frames) legal =
@@ -156,7 +157,7 @@ pub live_runs_some : (shape : Shape) (frames : List Frame) → AreLegal shape fr
 live_runs_some shape frames legal =
     some_pairs (live_of shape frames)
     (all_drop (λ change. All HasSome (pairs_of change)) (tally_of frames).folded (changes_of shape frames)
-      (some_changes shape (length (header shape)) nothing frames legal))
+    (some_changes shape (length (header shape)) nothing frames legal))
 
 -- where all positions are below a size no run ends behind it
 ends_inside : (size : ℕ) (runs : List (ℕ × ℕ)) → All HasSome runs → ((i : ℕ) → covers i runs ≡ true → i < size) → All (EndsBy size) runs
@@ -166,7 +167,7 @@ ends_inside size (run ∷ runs) some below =
     let last : ℕ = run.0 + run.1 - 1 in
     let at = below last (or_left (has last run) (covers last runs) (true-has last run.0 run.1 (omega arith) (omega arith))) in
     All-cons (EndsBy size) run runs (omega arith)
-        (ends_inside size runs (All-tail HasSome run runs some) (λ i e. below i (or_right (has i run) (covers i runs) e)))
+    (ends_inside size runs (All-tail HasSome run runs some) (λ i e. below i (or_right (has i run) (covers i runs) e)))
 
 live_below : (shape : Shape) (frames : List Frame) (i : ℕ) → AreLegal shape frames → covers i (live_runs shape frames) ≡ true
     → i < (tally_of frames).size
@@ -177,7 +178,7 @@ live_below shape frames i legal e =
 pub live_runs_inside : (shape : Shape) (frames : List Frame) → AreLegal shape frames → All (EndsBy (tally_of frames).size) (live_runs shape frames)
 live_runs_inside shape frames legal =
     ends_inside (tally_of frames).size (live_runs shape frames) (live_runs_some shape frames legal)
-      (λ i e. live_below shape frames i legal e)
+    (λ i e. live_below shape frames i legal e)
 
 -- and so no run ends past the positions that a vector can have
 pub live_runs_small : (shape : Shape) (frames : List Frame) → AreLegal shape frames → All (EndsBy (2 ^ 32)) (live_runs shape frames)
@@ -193,7 +194,7 @@ pub cover_inside : (shape : Shape) (frames : List Frame) (cover : List (ℕ × �
     → IsCover (live_runs shape frames) cover → All (EndsBy (tally_of frames).size) cover
 cover_inside shape frames cover legal is =
     ends_inside (tally_of frames).size cover (apart_some 0 cover is.apart)
-      (λ i e. live_below shape frames i legal (sym (is.same i) ∙ e))
+    (λ i e. live_below shape frames i legal (sym (is.same i) ∙ e))
 
 -- ---- where a change is live, a position is covered
 
@@ -206,7 +207,7 @@ filled_changes : (shape : Shape) (p : ℕ) (tally : Tally) (frames : List Frame)
 filled_changes shape p tally [] legal = tt
 filled_changes shape p tally (Group lengths bytes ∷ frames) legal =
     filled_changes shape (p + length (frame_text shape.format (Group lengths bytes))) (after tally (Group lengths bytes))
-      frames legal.2
+    frames legal.2
 filled_changes shape p tally (Change runs bytes ∷ frames) legal = (
   (let some = has_run shape.format runs legal.0.layout.0 in omega (arith, length-map runs pair_of)),
   filled_changes shape (p + length (frame_text shape.format (Change runs bytes))) (after tally (Change runs bytes)) frames legal.2,
@@ -234,6 +235,6 @@ live_runs_cover shape frames legal live =
     let left = length-drop (tally_of frames).folded (changes_of shape frames) in
     first_covered (live_runs shape frames) (live_runs_some shape frames legal)
     (filled_pairs (live_of shape frames)
-      (all_drop (λ change. 0 < length (pairs_of change)) (tally_of frames).folded (changes_of shape frames)
-          (filled_changes shape (length (header shape)) nothing frames legal))
-      (omega arith))
+    (all_drop (λ change. 0 < length (pairs_of change)) (tally_of frames).folded (changes_of shape frames)
+    (filled_changes shape (length (header shape)) nothing frames legal))
+    (omega arith))

@@ -102,7 +102,7 @@ module _ {D : Type 0} {keeps : D → Type 0} {states : D → List State} {pen : 
   fails_at_gate : (model : keeps pen.disk) → FailsSo → FailsCall step p pen.bytes.items old left
   fails_at_gate model call =
       subst (λ g. FailsCall step g pen.bytes.items old left) (knows model).gate_is
-        (subst (λ b. FailsCall step pen.gate b old left) tick.value call)
+      (subst (λ b. FailsCall step pen.gate b old left) tick.value call)
 
   on_ok : {T : Type 0} {A B : Type 0} (r : Result T DiskFault) → (A → B) → OnOk r A → OnOk r B
   on_ok (Ok value) f a = f a
@@ -118,7 +118,7 @@ module _ {D : Type 0} {keeps : D → Type 0} {states : D → List State} {pen : 
       let m = tick.back model in
       subst (λ s. LeavesOnly old left (OpensWith pen.shape frames vector (job_of pen.shape pen.bytes.items s))) (sym tick.is)
       (tick_leaves pen.shape (count_open pen) frames following vector then pen.bytes.items step old left r (knows m).file
-        (at m) (tick.reads pen.disk m) (on_ok r (at_gate m) (done m)) (on_err r (fails_at_gate m) (failed model)))
+      (at m) (tick.reads pen.disk m) (on_ok r (at_gate m) (done m)) (on_err r (fails_at_gate m) (failed model)))
 
   pub tally_now : keeps pen.disk → pen.tally ≡ tally_of frames
   tally_now m = (knows m).tally_is
@@ -133,7 +133,7 @@ module _ {D : Type 0} {keeps : D → Type 0} {states : D → List State} {pen : 
   failed model call =
       let m = tick.back model in
       tick_failed pen.shape (count_open pen) frames following vector then pen.bytes.items step old left (knows m).file (at m)
-        (tick.reads pen.disk m) (tick.reads new model) (fails_at_gate m call)
+      (tick.reads pen.disk m) (tick.reads new model) (fails_at_gate m call)
 
   failed_seen : (model : keeps new) → FailsSo → SeenAs pen.shape pen.gate frames vector (bytes_of left)
   failed_seen model call = seen_as pen.shape pen.gate frames vector (bytes_of left) (knows (tick.back model)).gate_is (failed model call).file.holds
@@ -150,11 +150,11 @@ module _ {D : Type 0} {keeps : D → Type 0} {states : D → List State} {pen : 
         let seen = failed_seen model (call model) in
         let k = knows (tick.back model) in
         let made : KnowsAs frames vector pen.step true (now left) =
-            subst (λ s. KnowsAs frames vector s true (now left)) (sym tick.is)
-              (knows_broken pen.shape pen.gate pen.tally frames vector pen.bytes.items (now left) k.gate_is k.tally_is step
-                  (failed model (call model))) in
+        subst (λ s. KnowsAs frames vector s true (now left)) (sym tick.is)
+        (knows_broken pen.shape pen.gate pen.tally frames vector pen.bytes.items (now left) k.gate_is k.tally_is step
+        (failed model (call model))) in
         subst (λ fs. KnowsAs fs (vector_before pen.shape pen.gate (bytes_of left)) pen.step true (now left))
-              (sym seen.frames_are) (subst (λ v. KnowsAs frames v pen.step true (now left)) (sym seen.vector_is) made));
+        (sym seen.frames_are) (subst (λ v. KnowsAs frames v pen.step true (now left)) (sym seen.vector_is) made));
   }
 
   pub broken_file : (keeps new → FailsSo) → keeps new → FileStays pen.shape pen.gate old left
@@ -187,11 +187,11 @@ module _ {D : Type 0} {keeps : D → Type 0} {states : D → List State} {pen : 
     bytes_alike model =
         let m = tick.back model in
         calls_alike step p pen.bytes.items old left
-          (omega (arith, (knows m).file.gate_synced, (tick.reads pen.disk m).no_shorter)) (at_gate m (call m))
+        (omega (arith, (knows m).file.gate_synced, (tick.reads pen.disk m).no_shorter)) (at_gate m (call m))
 
     next_job : (behind : Step) → step_after step ≡ Some behind
         → IsPen (count_open pen) (keeps new) left pen.shape pen.gate pen.tally pen.next pen.bytes.items (Some behind)
-          pen.broken
+        pen.broken
     next_job behind after_it = record {
       wide = tick.sound.job.wide;
       gate_fits = tick.sound.job.gate_fits;
@@ -206,11 +206,11 @@ module _ {D : Type 0} {keeps : D → Type 0} {states : D → List State} {pen : 
           let stands = went_on behind after_it model in
           let at' : At pen.gate behind (now left) = subst (λ g. At g behind (now left)) (sym k.gate_is) stands.at in
           let made : KnowsAs frames vector (Some behind) pen.broken (now left) =
-              knows_at pen.shape pen.gate pen.tally frames vector pen.bytes.items (now left) k.gate_is k.tally_is behind
-                pen.broken stands.file at' (tick.reads new model) in
+          knows_at pen.shape pen.gate pen.tally frames vector pen.bytes.items (now left) k.gate_is k.tally_is behind
+          pen.broken stands.file at' (tick.reads new model) in
           subst (λ fs. KnowsAs fs (vector_before pen.shape pen.gate (bytes_of left)) (Some behind) pen.broken (now left))
-                (sym seen.frames_are)
-                (subst (λ v. KnowsAs frames v (Some behind) pen.broken (now left)) (sym seen.vector_is) made));
+          (sym seen.frames_are)
+          (subst (λ v. KnowsAs frames v (Some behind) pen.broken (now left)) (sym seen.vector_is) made));
     }
 
     pub next_file : (behind : Step) → step_after step ≡ Some behind → keeps new → FileStays pen.shape pen.gate old left
@@ -288,18 +288,18 @@ module _ {D : Type 0} {keeps : D → Type 0} {states : D → List State} {pen : 
                 let done = ended model in
                 let tally_is : pen.next ≡ tally_of following = counted ∙ ap (λ t. after t frame) k.tally_is ∙ sym (tally_with frames frame) in
                 let made : Knows (count_open pen) pen.shape gate' pen.next following then pen.bytes.items None pen.broken
-                    (now left) =
-                    knows_rest pen.shape gate' pen.next following then pen.bytes.items (now left) (next_gate m) tally_is
-                      pen.broken done.0 (subst (λ g. IsShut g (now left)) (sym (next_gate m)) done.1)
-                      (tick.reads new model) in
+                (now left) =
+                knows_rest pen.shape gate' pen.next following then pen.bytes.items (now left) (next_gate m) tally_is
+                pen.broken done.0 (subst (λ g. IsShut g (now left)) (sym (next_gate m)) done.1)
+                (tick.reads new model) in
                 subst
-                      (λ fs.
-                          Knows (count_open pen) pen.shape gate' pen.next fs (vector_before pen.shape gate' (bytes_of left))
-                              pen.bytes.items None pen.broken (now left))
-                      (sym seen.frames_are)
-                      (subst
-                            (λ v.
-                                Knows (count_open pen) pen.shape gate' pen.next following v pen.bytes.items None pen.broken
-                                    (now left))
-                            (sym seen.vector_is) made));
+                (λ fs.
+                Knows (count_open pen) pen.shape gate' pen.next fs (vector_before pen.shape gate' (bytes_of left))
+                pen.bytes.items None pen.broken (now left))
+                (sym seen.frames_are)
+                (subst
+                (λ v.
+                Knows (count_open pen) pen.shape gate' pen.next following v pen.bytes.items None pen.broken
+                (now left))
+                (sym seen.vector_is) made));
           }

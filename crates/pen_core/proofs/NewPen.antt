@@ -32,7 +32,7 @@ module _ (keeps : Type 0) (states : List State) (shape : Shape) (next : Tally) (
   empty_seen : keeps → SeenAs shape 11 [] [] (bytes_of states)
   empty_seen model =
       subst (λ s. SeenAs shape 11 [] [] s.seen) (sym (made model))
-        (seen_as shape 11 [] [] (empty_file shape) (empty_gate shape) (empty_holds shape))
+      (seen_as shape 11 [] [] (empty_file shape) (empty_gate shape) (empty_holds shape))
 
   pub new_frames : keeps → blanked_before shape 11 (bytes_of states) ≡ []
   new_frames model = (empty_seen model).frames_are
@@ -60,13 +60,13 @@ module _ (keeps : Type 0) (states : List State) (shape : Shape) (next : Tally) (
         let seen = empty_seen model in
         subst
         (λ s.
-          Knows 0 shape 11 nothing (blanked_before shape 11 (bytes_of states)) (vector_before shape 11 (bytes_of states))
-              bytes None false s)
+        Knows 0 shape 11 nothing (blanked_before shape 11 (bytes_of states)) (vector_before shape 11 (bytes_of states))
+        bytes None false s)
         (sym (made model))
         (subst
-          (λ fs.
-              Knows 0 shape 11 nothing fs (vector_before shape 11 (bytes_of states)) bytes None false
-                  (settled (empty_file shape)))
-          (sym seen.frames_are)
+        (λ fs.
+        Knows 0 shape 11 nothing fs (vector_before shape 11 (bytes_of states)) bytes None false
+        (settled (empty_file shape)))
+        (sym seen.frames_are)
         (subst (λ v. Knows 0 shape 11 nothing [] v bytes None false (settled (empty_file shape))) (sym seen.vector_is) empty_known)));
   }

@@ -32,7 +32,7 @@ module _ (width : ℕ) (home : ℕ → Option ℕ) where
   first_is_covered : (run : Home) (runs : List Home) → Is run → covered run.position (run ∷ runs) ≡ true
   first_is_covered run runs is =
       or_left (has run.position (span_of run)) (covered run.position runs)
-        (true-has run.position run.position run.count (omega arith) (omega (arith, is.some)))
+      (true-has run.position run.position run.count (omega arith) (omega (arith, is.some)))
 
   -- where the first position behind a run is covered by those behind it, and its home bytes are adjacent, it fills a write
   fills : (to p : ℕ) (run : Home) (runs : List Home) → AreAscending p to runs → All Is runs → covered p runs ≡ true
@@ -58,17 +58,17 @@ module _ (width : ℕ) (home : ℕ → Option ℕ) where
   no_longer to run other runs others position place ascend each is apart same less =
       let p : ℕ = run.position + run.count in
       let there : covered p (run ∷ runs) ≡ true =
-          same p (omega arith)
-            ∙ or_left (has p (span_of other)) (covered p others)
-              (true-has p other.position other.count (omega arith) (omega arith)) in
+      same p (omega arith)
+      ∙ or_left (has p (span_of other)) (covered p others)
+      (true-has p other.position other.count (omega arith) (omega arith)) in
       let behind : covered p runs ≡ true = elim (or_cases (has p (span_of run)) (covered p runs) there) [
         | inl here ↦ (let b = has-true p run.position run.count here in absurd (omega (arith, b.1)))
         | inr later ↦ later
       ] in
       let count : p - other.position ≡ run.count = omega arith in
       let at : home p ≡ Some (run.place + run.count * width) =
-          is.adjacent p (omega arith) (omega arith) ∙ ap (λ n. Some (other.place + n * width)) count
-            ∙ ap (λ q. Some (q + run.count * width)) (sym place) in
+      is.adjacent p (omega arith) (omega arith) ∙ ap (λ n. Some (other.place + n * width)) count
+      ∙ ap (λ q. Some (q + run.count * width)) (sym place) in
       let full = fills to p run runs ascend (All-tail Is run runs each) behind refl at apart in
       omega (arith, is.few)
 
@@ -93,8 +93,8 @@ module _ (width : ℕ) (home : ℕ → Option ℕ) where
       let other = All-head Is y ys all in
       let least = covered_from x.position to y.position (x ∷ xs) (omega arith, ascend.1) each (same y.position others.0 ∙ first_is_covered y ys other) in
       let most_too =
-          covered_from y.position to x.position (y ∷ ys) (omega arith, others.1) all
-            (sym (same x.position ascend.0) ∙ first_is_covered x xs first) in
+      covered_from y.position to x.position (y ∷ ys) (omega arith, others.1) all
+      (sym (same x.position ascend.0) ∙ first_is_covered x xs first) in
       let position : x.position ≡ y.position = omega arith in
       let told : Some x.place ≡ Some y.place = sym (at_first x first) ∙ ap home position ∙ at_first y other in
       let place : x.place ≡ y.place = cc in
@@ -103,16 +103,16 @@ module _ (width : ℕ) (home : ℕ → Option ℕ) where
         | inr (inl less) ↦ absurd (no_longer to x y xs ys position place ascend.1 each other greatest.0 (λ i le. same i (omega (arith, ascend.0))) less)
         | inr (inr more) ↦ absurd
             (no_longer to y x ys xs (sym position) (sym place) others.1 all first most.0
-                (λ i le. sym (same i (omega (arith, others.0)))) more)
+            (λ i le. sym (same i (omega (arith, others.0)))) more)
       ] in
       let run : x ≡ y =
-          ap (λ n. record { position = n; place = x.place; count = x.count }) position
-            ∙ ap (λ n. record { position = y.position; place = n; count = x.count }) place
-            ∙ ap (λ n. record { position = y.position; place = y.place; count = n }) count in
+      ap (λ n. record { position = n; place = x.place; count = x.count }) position
+      ∙ ap (λ n. record { position = y.position; place = n; count = x.count }) place
+      ∙ ap (λ n. record { position = y.position; place = y.place; count = n }) count in
       let end : y.position + y.count ≡ x.position + x.count = omega arith in
       let rest =
-          one_list (x.position + x.count) to xs ys ascend.1 (subst (λ n. AreAscending n to ys) end others.1)
-            (All-tail Is x xs each) (All-tail Is y ys all) greatest.1 most.1 (λ i le.
+      one_list (x.position + x.count) to xs ys ascend.1 (subst (λ n. AreAscending n to ys) end others.1)
+      (All-tail Is x xs each) (All-tail Is y ys all) greatest.1 most.1 (λ i le.
       ap (λ b. b || covered i xs) (sym (not_in x i le)) ∙ same i (omega (arith, ascend.0)) ∙ ap (λ b. b || covered i ys) (not_in y i (omega arith))) in
       ap (λ r. r ∷ xs) run ∙ ap (λ rs. y ∷ rs) rest
 
@@ -122,6 +122,6 @@ IsWholeFold_one shape frames vector left others whole again =
     whole.writes_are
     ∙ ap (writes_for (raw shape.width) vector)
     (one_list shape.width (home_of shape frames) 0 (tally_of frames).size whole.runs again.runs whole.runs_are.ascend
-      again.runs_are.ascend whole.runs_are.each again.runs_are.each whole.runs_are.greatest again.runs_are.greatest
-      (λ i le. whole.covered i ∙ sym (again.covered i)))
+    again.runs_are.ascend whole.runs_are.each again.runs_are.each whole.runs_are.greatest again.runs_are.greatest
+    (λ i le. whole.covered i ∙ sym (again.covered i)))
     ∙ sym again.writes_are

@@ -82,7 +82,7 @@ AreReadAs_same {R} format form image frames cells records read typed = record { 
 
     told : (place : Option ℕ)
         → option_and_then form.value_of (option_and_then (record_in (raw form.width) image) place) ≡ option_and_then
-          (record_in form image) place
+        (record_in form image) place
     told None = refl
     told (Some place) = refl
 
@@ -145,7 +145,7 @@ module _ {R : Type 0} (format : Format) (form : Encoding R) (front more : List �
   read_raw : IsVectorOf format (raw form.width) image found cells
   read_raw =
       IsVectorOf_begins format (raw form.width) front image found cells begins_front begins
-        (IsVectorOf_raw format form front found records back fits begins_front read.read)
+      (IsVectorOf_raw format form front found records back fits begins_front read.read)
 
   holds : Holds shape frames cells image
   holds = record { found = found; alike = refl; begins = begins; read = read_raw }
@@ -166,11 +166,11 @@ module _ {R : Type 0} (format : Format) (form : Encoding R) (front more : List �
   shut = record {
     closed =
         λ opened.
-          has.framed.closed.2
-            (sym
-                (ap (λ (bs : List ℕ). get_or bs p 0) has.framed.closed.3
-                    ∙ get_or_at (text shape found) has.framed.closed.0 has.framed.closed.1 0 p refl)
-                ∙ opened);
+        has.framed.closed.2
+        (sym
+        (ap (λ (bs : List ℕ). get_or bs p 0) has.framed.closed.3
+        ∙ get_or_at (text shape found) has.framed.closed.0 has.framed.closed.1 0 p refl)
+        ∙ opened);
     kept = refl;
   }
 
@@ -180,7 +180,7 @@ module _ {R : Type 0} (format : Format) (form : Encoding R) (front more : List �
   known_file : (bytes : List ℕ) → Knows 0 shape p (tally_of found) frames cells bytes None false (settled image)
   known_file bytes =
       knows_rest shape p (tally_of found) frames cells bytes (settled image) gate_is (sym (tally_from-blanked nothing found))
-        false file_is shut (settled_image image)
+      false file_is shut (settled_image image)
 
 -- ---- a pen's fields
 
@@ -193,8 +193,8 @@ same_format Two Two v is was = refl
 same_tally : (t : Tally) (n c f : ℕ) → n ≡ t.size → c ≡ t.changes → f ≡ t.folded → record { size = n; changes = c; folded = f } ≡ t
 same_tally t n c f size changes folded =
     ap (λ k. record { size = k; changes = c; folded = f }) size
-        ∙ ap (λ k. record { size = t.size; changes = k; folded = f }) changes
-        ∙ ap (λ k. record { size = t.size; changes = t.changes; folded = k }) folded
+    ∙ ap (λ k. record { size = t.size; changes = k; folded = f }) changes
+    ∙ ap (λ k. record { size = t.size; changes = t.changes; folded = k }) folded
 
 module _ {R : Type 0} (form : Encoding R) (keeps : Type 0) (states : List State) (scanned : Scanned R) (homes : Homes)
     (on : IsFoundOn form keeps states scanned homes) (back : WritesBack form) (format : Format)
@@ -220,8 +220,8 @@ module _ {R : Type 0} (form : Encoding R) (keeps : Type 0) (states : List State)
   pub shape_same : told ≡ file
   shape_same =
       ap (λ f. record { format = f; width = scanned.width })
-        (same_format format named scanned.version known on.scan.version_is)
-        ∙ ap (λ w. record { format = named; width = w }) on.scan.width_is
+      (same_format format named scanned.version known on.scan.version_is)
+      ∙ ap (λ w. record { format = named; width = w }) on.scan.width_is
 
   pub tally_same : tally ≡ tally_of found
   tally_same = same_tally (tally_of found) n scanned.changes scanned.folded (counted ∙ on.scan.vector.read.size) on.scan.changes_are on.scan.folded_is
@@ -243,7 +243,7 @@ module _ {R : Type 0} (form : Encoding R) (keeps : Type 0) (states : List State)
       subst (λ s. SeenAs s scanned.gate (all_blanked found) (map form.bytes_of records) (bytes_of states)) (sym shape_same)
       (subst (λ g. SeenAs file g (all_blanked found) (map form.bytes_of records) (bytes_of states)) (sym gate_same)
       (subst (λ (bs : List ℕ). SeenAs file (length (text file found)) (all_blanked found) (map form.bytes_of records) bs)
-          (sym (seen_same model)) (seen named form on.image (more model) found records back on.fits on.scan.vector)))
+      (sym (seen_same model)) (seen named form on.image (more model) found records back on.fits on.scan.vector)))
 
   has_known : (bytes : List ℕ) → keeps → Knows 0 told scanned.gate tally (all_blanked found) (map form.bytes_of records) bytes None false (now states)
   has_known bytes model =
@@ -251,11 +251,11 @@ module _ {R : Type 0} (form : Encoding R) (keeps : Type 0) (states : List State)
       (subst (λ g. Knows 0 file g tally (all_blanked found) (map form.bytes_of records) bytes None false (now states)) (sym gate_same)
       (subst (λ t. Knows 0 file (length (text file found)) t (all_blanked found) (map form.bytes_of records) bytes None false (now states)) (sym tally_same)
       (subst
-            (λ s.
-                Knows 0 file (length (text file found)) (tally_of found) (all_blanked found) (map form.bytes_of records)
-                    bytes None false s)
-            (sym (on.on_disk model).1)
-            (known_file named form on.image (more model) found records back on.fits on.scan.vector bytes))))
+      (λ s.
+      Knows 0 file (length (text file found)) (tally_of found) (all_blanked found) (map form.bytes_of records)
+      bytes None false s)
+      (sym (on.on_disk model).1)
+      (known_file named form on.image (more model) found records back on.fits on.scan.vector bytes))))
 
   pub opened_pen : (next : Tally) (bytes : List ℕ) → (1 ≤ form.width) × (form.width < 2 ^ 16)
       → IsPen 0 keeps states told scanned.gate tally next bytes None false
@@ -276,8 +276,8 @@ module _ {R : Type 0} (form : Encoding R) (keeps : Type 0) (states : List State)
             let seen = has_seen model in
             subst
             (λ fs.
-              Knows 0 told scanned.gate tally fs (vector_before told scanned.gate (bytes_of states)) bytes None false
-                  (now states))
+            Knows 0 told scanned.gate tally fs (vector_before told scanned.gate (bytes_of states)) bytes None false
+            (now states))
             (sym seen.frames_are)
             (subst (λ v. Knows 0 told scanned.gate tally (all_blanked found) v bytes None false (now states)) (sym seen.vector_is) (has_known bytes model)));
       }
@@ -303,7 +303,7 @@ module _ {R : Type 0} (form : Encoding R) (keeps : Type 0) (states : List State)
 
   pub opened_as : {D : Type 0} (disk : D) (bytes : List ℕ) (room places : ℕ) (fold : Option FoldOf) → keeps
       → IsOpened form (bytes_of states) (pen_of states disk told scanned.gate tally bytes room None false places fold)
-        records
+      records
   opened_as disk bytes room places fold model =
       let seen = has_seen model in
       let image : bytes_of states ≡ on.image ++ more model = seen_same model in
@@ -312,15 +312,15 @@ module _ {R : Type 0} (form : Encoding R) (keeps : Type 0) (states : List State)
         found = found;
         vector =
             subst (λ (bs : List ℕ). HasVector named form bs found records) (sym image)
-              (has named form on.image (more model) found records back on.fits on.scan.vector);
+            (has named form on.image (more model) found records back on.fits on.scan.vector);
         shape_is = shape_same;
         frames_are = seen.frames_are;
         cells_are =
             AreCellsOf_read form (vector_before told scanned.gate (bytes_of states)) records seen.vector_is
-              (subst (λ cells. AreReadAs form cells records) (sym seen.vector_is)
-                  (AreReadAs_same named form (on.image ++ more model) found (map form.bytes_of records) records
-                        (read_raw named form on.image (more model) found records back on.fits on.scan.vector)
-                        (has named form on.image (more model) found records back on.fits on.scan.vector).read));
+            (subst (λ cells. AreReadAs form cells records) (sym seen.vector_is)
+            (AreReadAs_same named form (on.image ++ more model) found (map form.bytes_of records) records
+            (read_raw named form on.image (more model) found records back on.fits on.scan.vector)
+            (has named form on.image (more model) found records back on.fits on.scan.vector).read));
         tally_is = tally_same;
         gate_is = gate_same;
       }

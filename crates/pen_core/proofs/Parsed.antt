@@ -28,6 +28,6 @@ seen_as shape gate frames vector bytes is has =
     record {
       frames_are =
           ap (λ n. all_blanked (frames_before shape n bytes)) at
-            ∙ ap all_blanked (frames_before-text shape bytes has.found has.begins) ∙ has.alike;
+          ∙ ap all_blanked (frames_before-text shape bytes has.found has.begins) ∙ has.alike;
       vector_is = ap (λ n. vector_before shape n bytes) at ∙ vector_before-text shape.format shape.width bytes has.found vector has.begins has.read;
     }

@@ -31,15 +31,15 @@ pub gate_with : (shape : Shape) (frames : List Frame) (frame : Frame)
     → gate_of shape (frames_with frames frame) ≡ gate_of shape frames + length (frame_text shape.format frame)
 gate_with shape frames frame =
     ap length (text_push shape frames (blanked frame))
-      ∙ length-append (text shape frames) (frame_text shape.format (blanked frame))
-      ∙ ap (λ n. gate_of shape frames + n) (length-frame_text-blanked shape.format frame)
+    ∙ length-append (text shape frames) (frame_text shape.format (blanked frame))
+    ∙ ap (λ n. gate_of shape frames + n) (length-frame_text-blanked shape.format frame)
 
 -- what holds the frames holds as many records
 pub held_size : (shape : Shape) (frames : List Frame) (vector : List (List ℕ)) (bytes : List ℕ)
     → Holds shape frames vector bytes → (tally_of frames).size ≡ length vector
 held_size shape frames vector bytes has =
     ap (λ fs. (tally_of fs).size) (sym has.alike) ∙ ap (λ t. t.size) (tally_from-blanked nothing has.found)
-      ∙ sym has.read.size
+    ∙ sym has.read.size
 
 -- ---- what is known
 
@@ -75,7 +75,7 @@ module _ (shape : Shape) (gate : ℕ) (tally : Tally) (frames : List Frame) (vec
       → Knows count shape gate tally frames vector bytes (Some step) broken s
   knows_at {count} step broken file at readable =
       let at' : IsAtStep shape count (gate_of shape frames) frames following then bytes step s =
-          subst (λ g. IsAtStep shape count g frames following then bytes step s) gate_is at in
+      subst (λ g. IsAtStep shape count g frames following then bytes step s) gate_is at in
       record {
         gate_is = gate_is;
         tally_is = tally_is;

@@ -44,7 +44,7 @@ piece_part pieces k d start at last lt is from some to =
 -- bytes up to one position, and those up to a later one
 pub bytes_at-more : {R : Type 0} (form : Encoding R) (records : List R) (from at last : ℕ) → from ≤ at → at ≤ last
     → bytes_at form records from (at - from) ++ bytes_at form records at (last - at) ≡ bytes_at form records from
-      (last - from)
+    (last - from)
 bytes_at-more form records from at last some more =
     let here : from + (at - from) ≡ at = omega arith in
     let all : at - from + (last - at) ≡ last - from = omega arith in
@@ -52,7 +52,7 @@ bytes_at-more form records from at last some more =
     ∙ ap (flat_map form.bytes_of) (take-add (at - from) (last - at) (drop from records))
     ∙ flat_map-append form.bytes_of (take (at - from) (drop from records)) (take (last - at) (drop (at - from) (drop from records)))
     ∙ ap (λ rs. bytes_at form records from (at - from) ++ flat_map form.bytes_of (take (last - at) rs))
-      (drop-drop (at - from) from records ∙ ap (λ n. drop n records) here))
+    (drop-drop (at - from) from records ∙ ap (λ n. drop n records) here))
 
 -- the next piece ends inside the whole
 pub piece_inside : {R : Type 0} (pieces : List (List R)) (k : ℕ) (d : List R) → k < length pieces

@@ -47,7 +47,7 @@ module _ {R : Type 0} (form : Encoding R) (keeps keeps' : Type 0) (bytes : List 
   joined : keeps' → image ≡ take (at + n) bytes
   joined model =
       ap (λ (bs : List ℕ). bs ++ piece) (taken.is (back model)) ∙ ap (λ (bs : List ℕ). take at bytes ++ bs) (value model)
-        ∙ next_part [] bytes at n
+      ∙ next_part [] bytes at n
 
   -- what is taken in behind one piece more
   pub taken_more : length piece ≡ n → at + n < 2 ^ 64 → IsBytes piece → HasTaken form keeps' bytes (at + n) new
@@ -211,13 +211,13 @@ only_syncs_settled old mid new settles readable same leaves =
     let P : List ℕ → Type 0 = IsImage (now old) in
     let is : now mid ≡ settled (bytes_of old) = ap now settles in
     let as_read : (image : List ℕ) → IsImage (now mid) image → image ≡ bytes_of old =
-        λ image left. IsImage-settled (bytes_of old) image (subst (λ s. IsImage s image) is left) in
+    λ image left. IsImage-settled (bytes_of old) image (subst (λ s. IsImage s image) is left) in
     let time : clock mid ≡ clock old + 1 = omega (arith, ap length settles) in
     record {
       stands = inr (same ∙ is);
       left_before = LeavesOnly-join old mid new P
           (LeavesOnly-more old old mid (settled (bytes_of old)) P (LeavesOnly-start old P (λ image left. left)) settles
-            (λ image left. subst P (sym (IsImage-settled (bytes_of old) image left)) readable))
+          (λ image left. subst P (sym (IsImage-settled (bytes_of old) image left)) readable))
           (LeavesOnly-weaker mid new (IsImage (now mid)) P (λ image left. subst P (sym (as_read image left)) readable) leaves);
       stays_as_read = λ later image left. as_read image (leaves.each image (subst (λ t. LeftSince new t image) (sym time) left));
     }
@@ -233,8 +233,8 @@ pub reads_behind : (mid last new : List State) → Stays mid last → now new �
     → LeavesOnly last new (IsImage (now last)) → LeavesOnly mid new (IsImage (now mid))
 reads_behind mid last new stays same leaves =
     LeavesOnly-join mid last new (IsImage (now mid)) (stays_only mid last stays)
-        (LeavesOnly-weaker last new (IsImage (now last)) (IsImage (now mid))
-            (λ image left. subst (λ s. IsImage s image) (ap now stays) left) leaves)
+    (LeavesOnly-weaker last new (IsImage (now last)) (IsImage (now mid))
+    (λ image left. subst (λ s. IsImage s image) (ap now stays) left) leaves)
 
 -- A sync has succeeded, the length was told, and reads came behind it.
 pub record IsWalked (len : ℕ) (old mid last new : List State) : Type 0 where

@@ -1,5 +1,5 @@
 -- A change of runs as a frame that may follow, and the records behind it.
-use Rattle.std.proofs.Common.{◌≡◌, ℕ, ◌+◌, ◌*◌, ◌^◌, ◌≤◌, ◌<◌, Bool, true, false, List, [], ◌∷◌, ◌++◌, length, map, Option, Some, None, cond, refl, sym, ap, subst, ◌∙◌, arith}
+use Rattle.std.proofs.Common.{◌≡◌, ℕ, ◌+◌, ◌*◌, ◌^◌, ◌≤◌, ◌<◌, Bool, true, false, List, [], ◌∷◌, ◌++◌, length, map, Some, None, cond, refl, sym, ap, subst, ◌∙◌, arith}
 use Rattle.std.specs.Prelude.{nat_le, nat_lt, not, ◌&&◌, MatchOption}
 use Rattle.std.specs.List.{list_all, AllByRecursion}
 use Rattle.std.specs.Option.{is_some}
@@ -11,13 +11,11 @@ use Rattle.disk_core.specs.Calls.{bytes_of}
 use Rattle.record_core.specs.Bytes.{Encoding}
 use Rattle.record_core.specs.Cells.{AreReadAgain}
 use Rattle.record_core.proofs.Cells.{length-flat_map_bytes}
-use Rattle.segment_core.specs.declared.found.Homes.{Homes}
 use Rattle.segment_core.specs.declared.format.Format.{Format}
 use Rattle.segment_core.specs.declared.format.Format.TheVariants.{One, Two}
 use Rattle.segment_core.specs.declared.format.Shape.{Shape}
 use Rattle.segment_core.specs.declared.tally.Tally.{Tally}
 use Rattle.segment_core.specs.Shape.{limit_of}
-use Rattle.segment_core.specs.Frame as kinds
 use Rattle.segment_core.specs.Frame.{Run, Frame, records_of_runs, frame_text, payload_of}
 use Rattle.segment_core.specs.Layout.{HasRuns, IsFrame}
 use Rattle.segment_core.specs.Tally.{after, are_ascending, are_inside, MayFollow}
@@ -29,23 +27,17 @@ use Rattle.segment_core.proofs.Payload.{limit_small, length-frame_text}
 use Rattle.segment_core.proofs.Changes.{length-runs_given, length-change_frame}
 use Rattle.segment_core.proofs.ReadAs.{AreCellsOf_change}
 use Rattle.segment_core.proofs.LegalCommand.{are_runs}
-use Rattle.pen_core.specs.declared.step.Step.{Step}
-use Rattle.pen_core.specs.declared.step.Step.TheVariants.{Body}
 use Rattle.pen_core.specs.declared.fault.PenFault.{PenFault}
 use Rattle.pen_core.specs.PenOf.{PenOf}
 use Rattle.pen_core.specs.declared.fault.PenFault.TheVariants.{OldFormat, Runs, OutOfRange, Memory}
 use Rattle.pen_core.specs.Refusals.{first_refusal, IsRefusal, fold_len, ready_lines, room_lines, is_old, are_disordered, change_lines, one_run}
 use Rattle.pen_core.specs.Vectors.{frame_at}
-use Rattle.pen_core.specs.Inside.{IsPen, job_of}
-use Rattle.pen_core.specs.Listed.{IsListed}
+use Rattle.pen_core.specs.Inside.{job_of}
 use Rattle.pen_core.proofs.Begins.{no_step}
 use Rattle.pen_core.specs.declared.pen.Pen.TheInside.{Inside}
 use Rattle.pen_core.specs.Fields.{IsSound}
 use Rattle.pen_core.proofs.FrameBegun.{Begins, begun_frame}
-use Rattle.pen_core.specs.declared.fold.Fold.{Fold}
-use Rattle.pen_core.specs.InHand.{fold_of, IsFold}
-use Rattle.pen_core.proofs.InHand.{fold_begun}
-use Rattle.pen_core.proofs.Listed.{listed_begun}
+use Rattle.pen_core.specs.InHand.{fold_of}
 
 -- ---- what the tests say
 
@@ -90,8 +82,8 @@ module _ {D : Type 0} (pen : PenOf D) (runs : List Run) where
   allows none =
       let tests = none_holds (change_lines pen runs) none in
       let formed =
-          and_parts (list_all (λ run. nat_lt 0 run.count) runs) (are_ascending 0 runs)
-            (not-false (list_all (λ run. nat_lt 0 run.count) runs && are_ascending 0 runs) tests.1.1.1.0) in
+      and_parts (list_all (λ run. nat_lt 0 run.count) runs) (are_ascending 0 runs)
+      (not-false (list_all (λ run. nat_lt 0 run.count) runs && are_ascending 0 runs) tests.1.1.1.0) in
       let below = leb-false (2 ^ 48) (pen.gate + (6 + change_len pen.shape runs) + fold_len pen.fold) tests.1.1.1.1.1.1.0 in
       record {
         whole = tests.0;
@@ -111,7 +103,7 @@ first_of_them : (before : List (Bool × PenFault)) (test : Bool) (fault : PenFau
 first_of_them [] test fault behind none holds = ap (λ b. cond b (Some fault) (first_refusal behind)) holds
 first_of_them (line ∷ before) test fault behind none holds =
     ap (λ b. cond b (Some line.1) (first_refusal (before ++ (test, fault) ∷ behind))) none.0
-      ∙ first_of_them before test fault behind none.1 holds
+    ∙ first_of_them before test fault behind none.1 holds
 
 -- no vector has so many positions
 pub too_many : {D : Type 0} (pen : PenOf D) (start count : ℕ) → pen.broken ≡ false → is_some pen.job ≡ false
@@ -119,14 +111,14 @@ pub too_many : {D : Type 0} (pen : PenOf D) (start count : ℕ) → pen.broken �
 too_many pen start count whole idle short many =
     let runs : List Run = one_run start count in
     let formed : are_disordered pen runs ≡ false =
-        ap (λ b. not ((b && true) && (nat_le 0 start && true))) (lt-ltb 0 count (omega arith))
-          ∙ ap (λ b. not (b && true)) (le-leb 0 start (omega arith)) in
+    ap (λ b. not ((b && true) && (nat_le 0 start && true))) (lt-ltb 0 count (omega arith))
+    ∙ ap (λ b. not (b && true)) (le-leb 0 start (omega arith)) in
     let outside : not (are_inside pen.tally.size runs) ≡ true = ap (λ b. not (b && true)) (lt-leb (start + count) pen.tally.size (omega arith)) in
     let first =
-        first_of_them
-          (ready_lines pen ++ (is_old pen pen.shape.format runs, OldFormat) ∷ (are_disordered pen runs, Runs) ∷ [])
-          (not (are_inside pen.tally.size runs)) OutOfRange (room_lines pen (change_len pen.shape runs))
-          (whole, (idle, (young pen.shape.format, (formed, tt)))) outside in
+    first_of_them
+    (ready_lines pen ++ (is_old pen pen.shape.format runs, OldFormat) ∷ (are_disordered pen runs, Runs) ∷ [])
+    (not (are_inside pen.tally.size runs)) OutOfRange (room_lines pen (change_len pen.shape runs))
+    (whole, (idle, (young pen.shape.format, (formed, tt)))) outside in
     subst (λ o. MatchOption o (OutOfRange ≡ Memory) (λ fault. OutOfRange ≡ fault)) (sym first) refl
   where
     young : (format : Format) → is_old pen format (one_run start count) ≡ false

@@ -29,10 +29,10 @@ and_false false = refl
 pub none_formed : (end start count : ℕ) (rest : List (ℕ × ℕ)) → nat_lt 0 count ≡ false → well_formed end ((start, count) ∷ rest) ≡ false
 none_formed end start count rest none =
     ap
-      (λ b.
-          (b && list_all (λ run. nat_lt 0 run.count) (runs_given rest)) && (nat_le end start && are_ascending (start + count)
-                (runs_given rest)))
-      none
+    (λ b.
+    (b && list_all (λ run. nat_lt 0 run.count) (runs_given rest)) && (nat_le end start && are_ascending (start + count)
+    (runs_given rest)))
+    none
 
 pub none_behind : (end start count : ℕ) (rest : List (ℕ × ℕ)) → nat_le end start ≡ false → well_formed end ((start, count) ∷ rest) ≡ false
 none_behind end start count rest none =

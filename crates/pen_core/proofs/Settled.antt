@@ -108,16 +108,16 @@ module _ {D : Type 0} (keeps : D → Type 0) (states : D → List State) (faults
   LogGoes-images old mid new goes model images =
       LeavesOnly-join (states old.disk) (states mid.disk) (states new.disk) (MayOpen old) (goes.images model)
       (LeavesOnly-weaker (states mid.disk) (states new.disk) (MayOpen mid) (MayOpen old)
-        (MayOpen-step old mid goes.job goes.step goes.counts_same.shape_same (goes.file_same model) goes.job_was goes.job_is)
-        images)
+      (MayOpen-step old mid goes.job goes.step goes.counts_same.shape_same (goes.file_same model) goes.job_was goes.job_is)
+      images)
 
   LogGoes-join : (old mid new : PenOf D) → LogGoes keeps states faults old mid → LogGoes keeps states faults mid new → LogGoes keeps states faults old new
   LogGoes-join old mid new first then =
       let time₁ = first.time in
       let time₂ = then.time in
       let same : first.job.frame ≡ then.job.frame =
-          ap (λ (j : JobOf). j.frame)
-            (same_Some (record { frame = first.job.frame; step = first.step }) then.job (sym first.job_is ∙ then.job_was)) in
+      ap (λ (j : JobOf). j.frame)
+      (same_Some (record { frame = first.job.frame; step = first.step }) then.job (sym first.job_is ∙ then.job_was)) in
       record {
         images = λ now. LogGoes-images old mid new first (then.model now) (then.images now);
         job = first.job;
@@ -194,7 +194,7 @@ module _ {D : Type 0} (keeps : D → Type 0) (states : D → List State) (faults
     idle_settled ticked =
         let same = idle_same ticked.0 in
         match_none (new ≡ old) (λ (job : JobOf). CountsDone job.frame old new) old.job
-            (ap (λ (p : PenOf D). p.job) (sym same) ∙ ticked.0) (ticked.1 ∙ same)
+        (ap (λ (p : PenOf D). p.job) (sym same) ∙ ticked.0) (ticked.1 ∙ same)
 
     pub idle_file : IsTicked mid new ticks.Idle → new.vector ≡ vector_after old
     idle_file ticked =
@@ -218,9 +218,12 @@ module _ {D : Type 0} (keeps : D → Type 0) (states : D → List State) (faults
     done_from job is = elim so_far [
       | inl same ↦ (job, ap (λ (p : PenOf D). p.job) (sym same) ∙ is, refl)
       | inr
-          first ↦ (first.job, first.job_was,
-              ap (λ (j : JobOf). j.frame)
-                  (same_Some (record { frame = first.job.frame; step = first.step }) job (sym first.job_is ∙ is)))
+          first ↦ (
+            first.job,
+            first.job_was,
+            ap (λ (j : JobOf). j.frame)
+                (same_Some (record { frame = first.job.frame; step = first.step }) job (sym first.job_is ∙ is)),
+          )
     ]
 
     so_far_counts : CountsSame old mid
@@ -247,7 +250,7 @@ module _ {D : Type 0} (keeps : D → Type 0) (states : D → List State) (faults
           tally_is = done.tally_is ∙ ap (λ t. after t from.0.frame) same.tally_same;
           gate_is =
               done.gate_is ∙ ap (λ g. g + length (frame_text mid.shape.format from.0.frame)) same.gate_same
-                ∙ ap (λ s. old.gate + length (frame_text s.format from.0.frame)) same.shape_same;
+              ∙ ap (λ s. old.gate + length (frame_text s.format from.0.frame)) same.shape_same;
           room_same = λ kind. done.room_same kind ∙ same.room_same;
           places_same = λ kind. done.places_same kind ∙ same.places_same;
           job_done = done.job_done;
@@ -316,7 +319,7 @@ module _ {D : Type 0} (keeps : D → Type 0) (states : D → List State) (faults
           let before = so_far_time in
           let none : failed_calls fault ≡ 0 = ap failed_calls barred.0 in
           let same : clock (states new.disk) + log_left new.job ≡ clock (states mid.disk) + log_left mid.job =
-              ap (λ (p : PenOf D). clock (states p.disk) + log_left p.job) barred.2 in
+          ap (λ (p : PenOf D). clock (states p.disk) + log_left p.job) barred.2 in
           omega arith)
       | inr failed ↦ (
           let before = so_far_time in

@@ -1,5 +1,5 @@
 -- A fold is begun, on a pen's fields.
-use Rattle.std.proofs.Common.{◌≡◌, ℕ, ◌+◌, ◌-◌, ◌^◌, ◌≤◌, ◌<◌, Bool, true, false, List, [], ◌∷◌, ◌++◌, length, map, take, drop, All, Option, Some, None, refl, sym, ap, subst, ◌∙◌, arith}
+use Rattle.std.proofs.Common.{◌≡◌, ℕ, ◌+◌, ◌-◌, ◌≤◌, ◌<◌, Bool, true, List, [], ◌∷◌, ◌++◌, length, map, take, drop, All, Option, Some, None, refl, sym, ap, subst, ◌∙◌, arith}
 use Rattle.std.specs.List.{flat_map}
 use Rattle.std.proofs.lemmas.List.{length-append, length-map, take-append-le, append-nil}
 use Rattle.disk_core.specs.State.{State, now}
@@ -7,7 +7,6 @@ use Rattle.disk_core.specs.Calls.{bytes_of}
 use Rattle.record_core.specs.Bytes.{Encoding}
 use Rattle.segment_core.specs.declared.format.Shape.{Shape}
 use Rattle.segment_core.specs.declared.found.Home as Home_
-use Rattle.segment_core.specs.declared.found.Homes.{Homes}
 use Rattle.segment_core.specs.declared.tally.Tally.{Tally}
 use Rattle.segment_core.specs.Frame.{Frame, frame_text}
 use Rattle.segment_core.specs.Frame as kinds
@@ -28,7 +27,7 @@ use Rattle.pen_core.specs.Vectors.{frame_at, blanked_before, frames_with}
 use Rattle.pen_core.specs.Plan.{IsPlan}
 use Rattle.pen_core.specs.Values.{write_for}
 use Rattle.pen_core.specs.Folds.{IsFolding, IsWholeFold}
-use Rattle.pen_core.specs.InHand.{write_of, left_of, in_stage, fold_of, gate_then, IsAtStage, HomesAt, IsFold}
+use Rattle.pen_core.specs.InHand.{write_of, left_of, in_stage, gate_then, IsAtStage, HomesAt, IsFold}
 use Rattle.pen_core.specs.Inside.{job_of, IsMaybeJob, IsAtStep, Stands, IsPen}
 use Rattle.pen_core.specs.Listed.{IsListed}
 use Rattle.pen_core.specs.PenOf.{FoldOf}
@@ -67,15 +66,16 @@ written_more shape count frames next after s wrote =
 step_more : (shape : Shape) (count gate : ℕ) (frames next : List Frame) (after : List (List ℕ)) (bytes : List ℕ)
     (step : Step) (s : State)
     → IsAtStep shape 0 gate frames next after bytes step s → IsAtStep shape count gate frames next after bytes step s
-step_more shape count gate frames next after bytes Body s at =
-    (at.0,
-        record {
-          some = at.1.some;
-          size = at.1.size;
-          closed = at.1.closed;
-          pending_is_folded = pending_more shape count frames next s at.1.pending_is_folded;
-          holds = at.1.holds;
-        })
+step_more shape count gate frames next after bytes Body s at = (
+  at.0,
+  record {
+    some = at.1.some;
+    size = at.1.size;
+    closed = at.1.closed;
+    pending_is_folded = pending_more shape count frames next s at.1.pending_is_folded;
+    holds = at.1.holds;
+  },
+)
 step_more shape count gate frames next after bytes BodySync s at = (at.0, written_more shape count frames next after s at.1)
 step_more shape count gate frames next after bytes Gate s at = (at.0, written_more shape count frames next after s at.1, at.2)
 step_more shape count gate frames next after bytes GateSync s at = (written_more shape count frames next after s at.0, at.1, at.2)
@@ -140,11 +140,11 @@ plan_for form records width size live homes fold fold' bytes_same writes_same pl
   at_home = plan.at_home;
   writes_are =
       ap (λ bs. map (write_of bs.items) fold'.writes.items) bytes_same
-        ∙ ap (λ ws. map (write_of fold.bytes.items) ws.items) writes_same ∙ plan.writes_are;
+      ∙ ap (λ ws. map (write_of fold.bytes.items) ws.items) writes_same ∙ plan.writes_are;
   inside =
       subst (λ bs. All (λ write. (write.from ≤ write.to) × (write.to ≤ length bs.items)) fold'.writes.items) (sym bytes_same)
-        (subst (λ ws. All (λ write. (write.from ≤ write.to) × (write.to ≤ length fold.bytes.items)) ws.items)
-            (sym writes_same) plan.inside);
+      (subst (λ ws. All (λ write. (write.from ≤ write.to) × (write.to ≤ length fold.bytes.items)) ws.items)
+      (sym writes_same) plan.inside);
 }
 
 unseen_at : (stage : FoldStage) (fold : FoldOf) → in_stage stage fold ≡ None → stage ≡ stages.None
@@ -192,8 +192,8 @@ module _ {R D : Type 0} {form : Encoding R} {records : List R} {keeps : D → Ty
       let counted = live_counted pen.shape takes.sound.lists.frames in
       let lived : List Seen = live_of pen.shape takes.sound.lists.frames in
       let every : take (fold.count - pen.tally.folded) lived ≡ lived =
-          take_whole lived (fold.count - pen.tally.folded)
-            (ap (λ n. n - pen.tally.folded) takes.count_is ∙ ap (λ t. t.changes - t.folded) takes.sound.lists.tally_is ∙ sym counted) in
+      take_whole lived (fold.count - pen.tally.folded)
+      (ap (λ n. n - pen.tally.folded) takes.count_is ∙ ap (λ t. t.changes - t.folded) takes.sound.lists.tally_is ∙ sym counted) in
       record {
         frames = takes.sound.lists.frames;
         legal = takes.sound.lists.legal;
@@ -219,8 +219,8 @@ module _ {R D : Type 0} {form : Encoding R} {records : List R} {keeps : D → Ty
         upto = omega arith;
         planned =
             planned_pen takes.sound.lists takes.plan.cover takes.plan.covered takes.plan.runs
-              takes.plan.at_home form records fold.bytes.items fold.writes.items (omega (arith, takes.sound.job.wide.0)) takes.plan.writes_are
-              takes.size_of takes.all takes.plan.inside;
+            takes.plan.at_home form records fold.bytes.items fold.writes.items (omega (arith, takes.sound.job.wide.0)) takes.plan.writes_are
+            takes.size_of takes.all takes.plan.inside;
         spelled = takes.spelled ∙ ap (λ n. frame_text pen.shape.format (kinds.Fold n) ++ 0 ∷ []) (sym takes.count_is);
         room = omega (arith, takes.ready.3, gate_seen pen.shape pen.gate pen.tally pen.next pen.bytes.items pen.step takes.sound.job.job);
       },
@@ -229,32 +229,32 @@ module _ {R D : Type 0} {form : Encoding R} {records : List R} {keeps : D → Ty
     );
     homes =
         λ model whole.
-          subst
-            (HomesAt pen.shape (blanked_before pen.shape pen.gate (bytes_of old)) (vector_before pen.shape pen.gate (bytes_of old)) fold
-                (now old))
-            (sym takes.at)
+        subst
+        (HomesAt pen.shape (blanked_before pen.shape pen.gate (bytes_of old)) (vector_before pen.shape pen.gate (bytes_of old)) fold
+        (now old))
+        (sym takes.at)
         (folding_now model);
   }
     where
       folding_now : (model : keeps pen.disk)
           → HomesAt pen.shape (blanked_before pen.shape pen.gate (bytes_of old)) (vector_before pen.shape pen.gate (bytes_of old)) fold
-            (now old) (Home (length fold.writes.items))
+          (now old) (Home (length fold.writes.items))
       folding_now model =
           let made =
-              folding_pen takes.sound.lists takes.plan.cover takes.plan.covered takes.plan.runs
-                takes.plan.at_home form records fold.bytes.items fold.writes.items (omega (arith, takes.sound.job.wide.0)) takes.plan.writes_are
-                model (closed.knows model).file.holds (takes.values model) in
+          folding_pen takes.sound.lists takes.plan.cover takes.plan.covered takes.plan.runs
+          takes.plan.at_home form records fold.bytes.items fold.writes.items (omega (arith, takes.sound.job.wide.0)) takes.plan.writes_are
+          model (closed.knows model).file.holds (takes.values model) in
           subst
           (λ n.
-            IsFolding pen.shape n (blanked_before pen.shape pen.gate (bytes_of old)) (vector_before pen.shape pen.gate (bytes_of old))
-                (left_of fold) (now old))
+          IsFolding pen.shape n (blanked_before pen.shape pen.gate (bytes_of old)) (vector_before pen.shape pen.gate (bytes_of old))
+          (left_of fold) (now old))
           (sym takes.count_is)
           (subst
-            (λ d.
-                IsFolding pen.shape pen.tally.changes (blanked_before pen.shape pen.gate (bytes_of old))
-                    (vector_before pen.shape pen.gate (bytes_of old))
-                    (map (write_of fold.bytes.items) (drop d fold.writes.items)) (now old))
-            (sym takes.first) made)
+          (λ d.
+          IsFolding pen.shape pen.tally.changes (blanked_before pen.shape pen.gate (bytes_of old))
+          (vector_before pen.shape pen.gate (bytes_of old))
+          (map (write_of fold.bytes.items) (drop d fold.writes.items)) (now old))
+          (sym takes.first) made)
 
   pub some_left : 0 < length (left_of fold)
   some_left = let some = some_writes in omega (arith, length_left fold takes.first)
@@ -267,9 +267,9 @@ module _ {R D : Type 0} {form : Encoding R} {records : List R} {keeps : D → Ty
   whole_taken model =
       subst
       (λ d.
-        IsWholeFold pen.shape (blanked_before pen.shape pen.gate (bytes_of old)) (vector_before pen.shape pen.gate (bytes_of old))
-            (map (write_of fold.bytes.items) (drop d fold.writes.items)))
+      IsWholeFold pen.shape (blanked_before pen.shape pen.gate (bytes_of old)) (vector_before pen.shape pen.gate (bytes_of old))
+      (map (write_of fold.bytes.items) (drop d fold.writes.items)))
       (sym takes.first)
       (whole_pen takes.sound.lists takes.plan.cover takes.plan.covered takes.plan.runs takes.plan.at_home form
-        records fold.bytes.items fold.writes.items (omega (arith, takes.sound.job.wide.0)) takes.plan.writes_are model
-        (closed.knows model).file.holds (takes.values model))
+      records fold.bytes.items fold.writes.items (omega (arith, takes.sound.job.wide.0)) takes.plan.writes_are model
+      (closed.knows model).file.holds (takes.values model))

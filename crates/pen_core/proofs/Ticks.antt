@@ -73,11 +73,11 @@ module _ (shape : Shape) (count : ℕ) (frames next : List Frame) (before after 
       → OnOk r (Calls step p bytes old new) → OnErr r (FailsCall step p bytes old new) → LeavesOnly old new P
   tick_leaves Body old new r file at readable done failed =
       LeavesOnly-write old new P r (p + 1) body done failed
-        (λ image is. inl (images_of_body shape count frames next before after (now old) body file at.0 readable image is))
+      (λ image is. inl (images_of_body shape count frames next before after (now old) body file at.0 readable image is))
   tick_leaves BodySync old new r file at readable done failed = LeavesOnly-sync old new P r done failed readable (images_at BodySync (now old) file at readable)
   tick_leaves Gate old new r file at readable done failed =
       LeavesOnly-write old new P r p (1 ∷ []) done failed
-        (images_of_gate shape count frames next before after (now old) file at.1 at.2 readable)
+      (images_of_gate shape count frames next before after (now old) file at.1 at.2 readable)
   tick_leaves GateSync old new r file at readable done failed = LeavesOnly-sync old new P r done failed readable (images_at GateSync (now old) file at readable)
 
   -- what a step leaves for the one behind it
@@ -94,30 +94,33 @@ module _ (shape : Shape) (count : ℕ) (frames next : List Frame) (before after 
       let made : now new ≡ written s (p + 1) body = ap now call in
       subst (λ t. StandsAt behind t) (sym made) (subst (λ b. StandsAt b (written s (p + 1) body)) (same_Some BodySync behind is) (record {
         file = file_after_body shape count frames next before after s body file at.0 readable;
-        at =
-            (shut_after_body shape count frames next before after s body file at.0 readable,
-                written_after_body shape count frames next before after s body file at.0 readable at.1.pending_is_folded
-                    at.1.size at.1.some at.1.closed at.1.holds);
+        at = (
+          shut_after_body shape count frames next before after s body file at.0 readable,
+          written_after_body shape count frames next before after s body file at.0 readable at.1.pending_is_folded
+              at.1.size at.1.some at.1.closed at.1.holds,
+        );
       }))
   tick_next BodySync old new file at readable call behind is =
       let s = now old in
       let made : now new ≡ settled s.seen = ap now call in
       subst (λ t. StandsAt behind t) (sym made) (subst (λ b. StandsAt b (settled s.seen)) (same_Some Gate behind is) (record {
         file = file_after_sync shape count frames next before after s readable file;
-        at =
-            (shut_after_sync shape count frames next before after s readable p at.0,
-                written_after_sync shape count frames next before after s readable at.1,
-                on_disk_after_sync shape count frames next before after s readable at.1);
+        at = (
+          shut_after_sync shape count frames next before after s readable p at.0,
+          written_after_sync shape count frames next before after s readable at.1,
+          on_disk_after_sync shape count frames next before after s readable at.1,
+        );
       }))
   tick_next Gate old new file at readable call behind is =
       let s = now old in
       let made : now new ≡ written s p (1 ∷ []) = ap now call in
       subst (λ t. StandsAt behind t) (sym made) (subst (λ b. StandsAt b (written s p (1 ∷ []))) (same_Some GateSync behind is) (record {
         file = file_after_gate shape count frames next before after s file at.1 at.2 readable;
-        at =
-            (written_after_gate shape count frames next before after s file at.1 at.2 readable,
-                on_disk_after_gate shape count frames next before after s file at.1 at.2 readable,
-                open_after_gate shape count frames next before after s file at.1 at.2 readable);
+        at = (
+          written_after_gate shape count frames next before after s file at.1 at.2 readable,
+          on_disk_after_gate shape count frames next before after s file at.1 at.2 readable,
+          open_after_gate shape count frames next before after s file at.1 at.2 readable,
+        );
       }))
   tick_next GateSync old new file at readable call behind is = absurd cc
 
@@ -130,7 +133,7 @@ module _ (shape : Shape) (count : ℕ) (frames next : List Frame) (before after 
   tick_done GateSync old new at readable call is =
       let made : now new ≡ settled (now old).seen = ap now call in
       subst (λ t. IsFileOf shape count next after t × IsShut (gate_of shape next) t) (sym made)
-          (next_after_sync shape count frames next before after (now old) readable at.0 at.2)
+      (next_after_sync shape count frames next before after (now old) readable at.0 at.2)
 
   -- a call that failed leaves the same file, no other image, and nothing more pending than its step may leave so
   pub record Failed (step : Step) (s : State) : Type 0 where
@@ -147,14 +150,14 @@ module _ (shape : Shape) (count : ℕ) (frames next : List Frame) (before after 
       let left = torn.0 in
       let made : now new ≡ left = ap now torn.1 in
       let before_it : (image : List ℕ) → IsImage left image → IsImage (touched s (p + 1) (length body) s.seen) image =
-          λ image is. torn_images (p + 1) (length body) s left s.seen image torn.2 is in
+      λ image is. torn_images (p + 1) (length body) s left s.seen image torn.2 is in
       let reads' : IsImage left left.seen = subst (λ t. IsImage t t.seen) made reads in
       subst (λ t. Failed Body t) (sym made) (record {
         file =
             torn_file shape count frames before (p + 1) (length body) s left file torn.2
-              (holds_of_body shape count frames next before after s body file at.0 readable left.seen
-                  (before_it left.seen reads'))
-              (omega arith);
+            (holds_of_body shape count frames next before after s body file at.0 readable left.seen
+            (before_it left.seen reads'))
+            (omega arith);
         images = λ image is. inl (images_of_body shape count frames next before after s body file at.0 readable image (before_it image is));
         gate_pending = λ is. elim (cases_Bool (has_place (record { at = p + 1; len = length body }) p)) [
           | inl new ↦ (let i = covered_inside (p + 1) (length body) p new in absurd (omega (arith, i.0)))
@@ -166,32 +169,30 @@ module _ (shape : Shape) (count : ℕ) (frames next : List Frame) (before after 
       let left = torn.0 in
       let made : now new ≡ left = ap now torn.1 in
       let before_it : (image : List ℕ) → IsImage left image → IsImage (touched s p 1 s.seen) image =
-          λ image is. torn_images p 1 s left s.seen image torn.2 is in
+      λ image is. torn_images p 1 s left s.seen image torn.2 is in
       let reads' : IsImage left left.seen = subst (λ t. IsImage t t.seen) made reads in
       subst (λ t. Failed Gate t) (sym made) (record {
         file =
             torn_file shape count frames before p 1 s left file torn.2
-              (holds_of_gate shape count frames next before after s file at.1 at.2 readable left.seen
-                  (before_it left.seen reads'))
-              (omega arith);
+            (holds_of_gate shape count frames next before after s file at.1 at.2 readable left.seen
+            (before_it left.seen reads'))
+            (omega arith);
         images = λ image is. images_of_gate shape count frames next before after s file at.1 at.2 readable image (before_it image is);
         gate_pending = λ is. inl refl;
       })
   tick_failed BodySync old new file at readable reads same =
       let made : now new ≡ now old = ap now same in
       subst (λ t. Failed BodySync t) (sym made)
-          (record
-              {
-                file = file;
-                images = images_at BodySync (now old) file at readable;
-                gate_pending = gate_at BodySync (now old) at;
-              })
+      (record {
+        file = file;
+        images = images_at BodySync (now old) file at readable;
+        gate_pending = gate_at BodySync (now old) at;
+      })
   tick_failed GateSync old new file at readable reads same =
       let made : now new ≡ now old = ap now same in
       subst (λ t. Failed GateSync t) (sym made)
-          (record
-              {
-                file = file;
-                images = images_at GateSync (now old) file at readable;
-                gate_pending = gate_at GateSync (now old) at;
-              })
+      (record {
+        file = file;
+        images = images_at GateSync (now old) file at readable;
+        gate_pending = gate_at GateSync (now old) at;
+      })

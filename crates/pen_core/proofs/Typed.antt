@@ -36,14 +36,14 @@ pub vector_after-same : {D : Type 0} (old new : PenOf D) → new.shape ≡ old.s
     → vector_after new ≡ vector_after old
 vector_after-same old new shape file job =
     ap (λ s. vector_with s new.vector new.job) shape ∙ ap (λ v. vector_with old.shape v new.job) file.vector_same
-        ∙ ap (vector_with old.shape old.vector) job
+    ∙ ap (vector_with old.shape old.vector) job
 
 -- also at a step of the job
 pub vector_after-step : {D : Type 0} (old new : PenOf D) → IsTicked old new Step → FileSame old new → vector_after new ≡ vector_after old
 vector_after-step old new ticked file =
     let shape = ticked.3.shape_same in
     ap (λ s. vector_with s new.vector new.job) shape ∙ ap (λ v. vector_with old.shape v new.job) file.vector_same
-        ∙ ap (vector_with old.shape old.vector) ticked.2.2 ∙ sym (ap (vector_with old.shape old.vector) ticked.1)
+    ∙ ap (vector_with old.shape old.vector) ticked.2.2 ∙ sym (ap (vector_with old.shape old.vector) ticked.1)
 
 module _ {R : Type 0} (form : Encoding R) where
   -- ---- what an image opens to
@@ -53,7 +53,7 @@ module _ {R : Type 0} (form : Encoding R) where
       → OpensTo form image records
   Opens_typed shape frames vector image records width are opens =
       let opened : HasVector shape.format (raw form.width) image opens.found vector =
-          subst (λ w. HasVector shape.format (raw w) image opens.found vector) (sym width) opens.opened in
+      subst (λ w. HasVector shape.format (raw w) image opens.found vector) (sym width) opens.opened in
       record {
         format = shape.format;
         frames = opens.found;
@@ -93,7 +93,7 @@ module _ {R : Type 0} (form : Encoding R) where
       → AreCellsOf form (vector_after pen) after → before ≡ after
   same_typed pen before after none was will =
       AreCellsOf_same form pen.vector before after was
-        (subst (λ cells. AreCellsOf form cells after) (vector_after-none pen none) will)
+      (subst (λ cells. AreCellsOf form cells after) (vector_after-none pen none) will)
 
   pub MayOpen_rest : {D : Type 0} (pen : PenOf D) (image : List ℕ) (records : List R) → form.width ≡ pen.shape.width
       → pen.job ≡ None → AreCellsOf form pen.vector records → MayOpen pen image → OpensTo form image records

@@ -1,10 +1,8 @@
 -- What is known of a pen's disk between two calls, and what a call of the log leaves of the bytes and the counts.
-use Rattle.std.proofs.Common.{◌≡◌, ℕ, ◌+◌, ◌-◌, ◌≤◌, ◌<◌, ◌⊎◌, inl, ◌^◌, Bool, true, false, List, [], ◌∷◌, length, sum, Option, Some, None, Result, Ok, Err, OnOk, OnErr, refl, sym, ap, subst, ◌∙◌, arith}
+use Rattle.std.proofs.Common.{◌≡◌, ℕ, ◌+◌, ◌≤◌, ◌<◌, ◌⊎◌, inl, ◌^◌, Bool, true, List, [], ◌∷◌, length, sum, Option, None, refl, sym, ap, subst, ◌∙◌, arith}
 use Rattle.std.proofs.lemmas.Bool.{ltb-false, or_parts}
 use Rattle.std.specs.Prelude.{nat_lt, vec_capacity}
-use Rattle.std.proofs.lemmas.List.{length-append}
-use Rattle.disk_core.specs.declared.fault.DiskFault.{DiskFault}
-use Rattle.disk_core.specs.State.{State, now, overlay, settled, IsImage}
+use Rattle.disk_core.specs.State.{State, now, overlay}
 use Rattle.disk_core.proofs.ImageLemmas.{length-overlay, get_or-overlay}
 use Rattle.disk_core.specs.Calls.{bytes_of}
 use Rattle.disk_core.specs.Moments.{LeavesOnly}
@@ -13,15 +11,12 @@ use Rattle.segment_core.specs.declared.format.Shape.{Shape}
 use Rattle.segment_core.specs.declared.tally.Tally.{Tally}
 use Rattle.segment_core.specs.Frame.{Frame, Group, Change, Shrink, frame_text}
 use Rattle.segment_core.specs.Frame as kinds
-use Rattle.segment_core.specs.Tally.{after, tally_of, MayFollow, AreLegal}
-use Rattle.segment_core.proofs.Payload.{length-frame_text}
+use Rattle.segment_core.specs.Tally.{after, MayFollow}
 use Rattle.pen_core.specs.declared.step.Step.{Step}
 use Rattle.pen_core.specs.declared.step.Step.TheVariants.{Body, BodySync, Gate, GateSync}
-use Rattle.pen_core.specs.Step.{step_after, body_of, Calls, FailsCall}
-use Rattle.pen_core.specs.Held.{Holds, IsBeingFolded, gate_of}
-use Rattle.pen_core.specs.Known.{IsShut}
-use Rattle.pen_core.specs.Vectors.{frame_at, blanked_before, frames_with}
-use Rattle.segment_core.specs.Raw.{after_frame}
+use Rattle.pen_core.specs.Step.{step_after, body_of, Calls}
+use Rattle.pen_core.specs.Held.{IsBeingFolded}
+use Rattle.pen_core.specs.Vectors.{blanked_before}
 use Rattle.segment_core.specs.Parsed.{vector_before}
 use Rattle.pen_core.specs.declared.fold.Fold.{Fold}
 use Rattle.pen_core.specs.declared.stage.FoldStage.{FoldStage}
@@ -57,20 +52,20 @@ module _ (fold : Fold) (keeps : Type 0) (states : List State) (shape : Shape) (g
         images_open = knows.images_open;
         pending_is_told =
             λ j is.
-              subst
-                (λ n. (gate < j)
-                    ⊎ (((j ≡ gate) × MayBeOpening (job_of shape bytes o))
-                          ⊎ IsBeingFolded shape n (blanked_before shape gate (bytes_of states)) j))
-                (sym
-                    (fold_count_is fold.stage (record { count = fold.count; left = left_of fold; stage = fold.stage }) refl))
-                (told_pending shape gate tally (blanked_before shape gate (bytes_of states))
-                    (vector_before shape gate (bytes_of states)) bytes o broken (now states) knows j is);
+            subst
+            (λ n. (gate < j)
+            ⊎ (((j ≡ gate) × MayBeOpening (job_of shape bytes o))
+            ⊎ IsBeingFolded shape n (blanked_before shape gate (bytes_of states)) j))
+            (sym
+            (fold_count_is fold.stage (record { count = fold.count; left = left_of fold; stage = fold.stage }) refl))
+            (told_pending shape gate tally (blanked_before shape gate (bytes_of states))
+            (vector_before shape gate (bytes_of states)) bytes o broken (now states) knows j is);
         gate_is = knows.gate_is;
         tally_is = knows.tally_is;
         size_is =
             ap (λ t. t.size) knows.tally_is
-              ∙ held_size shape (blanked_before shape gate (bytes_of states)) (vector_before shape gate (bytes_of states))
-                (bytes_of states) knows.file.holds;
+            ∙ held_size shape (blanked_before shape gate (bytes_of states)) (vector_before shape gate (bytes_of states))
+            (bytes_of states) knows.file.holds;
       }
 
 module _ {D : Type 0} {keeps : D → Type 0} {states : D → List State} {pen : Inside D} (sound : IsSound keeps states pen) (model : keeps pen.disk) where
@@ -134,16 +129,16 @@ pub calls_alike : (step : Step) (p : ℕ) (bytes : List ℕ) (old new : List Sta
     → Calls step p bytes old new → LaidAlike p (bytes_of old) (bytes_of new)
 calls_alike Body p bytes old new lt call =
     subst (LaidAlike p (bytes_of old)) (sym (ap bytes_of call))
-      (laid_past p (p + 1) (bytes_of old) (body_of bytes) (omega arith) (omega arith))
+    (laid_past p (p + 1) (bytes_of old) (body_of bytes) (omega arith) (omega arith))
 calls_alike BodySync p bytes old new lt call =
     subst (LaidAlike p (bytes_of old)) (sym (ap bytes_of call))
-      (record { long = omega arith; long_too = omega arith; each = λ j below. refl })
+    (record { long = omega arith; long_too = omega arith; each = λ j below. refl })
 calls_alike Gate p bytes old new lt call =
     subst (LaidAlike p (bytes_of old)) (sym (ap bytes_of call))
-      (laid_past p p (bytes_of old) (1 ∷ []) (omega arith) (omega arith))
+    (laid_past p p (bytes_of old) (1 ∷ []) (omega arith) (omega arith))
 calls_alike GateSync p bytes old new lt call =
     subst (LaidAlike p (bytes_of old)) (sym (ap bytes_of call))
-      (record { long = omega arith; long_too = omega arith; each = λ j below. refl })
+    (record { long = omega arith; long_too = omega arith; each = λ j below. refl })
 
 pub last_step : (step : Step) → step_after step ≡ None → step ≡ GateSync
 last_step Body is = absurd cc

@@ -49,7 +49,7 @@ module _ {D : Type 0} (pen : PenOf D) (image : List ℕ) (may : MayOpen pen imag
 
   opens_with_its_own : (job : JobOf) → pen.job ≡ Some job
       → Opens pen.shape pen.frames pen.vector image
-        ⊎ Opens pen.shape (frames_with pen.frames job.frame) (after_frame pen.shape.width pen.vector job.frame) image
+      ⊎ Opens pen.shape (frames_with pen.frames job.frame) (after_frame pen.shape.width pen.vector job.frame) image
   opens_with_its_own job is = subst (λ o. OpensWith pen.shape pen.frames pen.vector o image) is may
 
 -- ---- what stays
@@ -92,7 +92,7 @@ begun_pen frame old new is =
 -- all but the fold
 pub folding_pen : {D : Type 0} (old new : PenOf D) (is : BeginsFold old new)
     → new ≡ record old
-      { fold = Some (record { count = old.tally.changes; left = is.left; stage = folds.Home (length is.left) }) }
+    { fold = Some (record { count = old.tally.changes; left = is.left; stage = folds.Home (length is.left) }) }
 folding_pen old new is =
     λ i. record {
       disk = is.disk_same i;

@@ -89,22 +89,20 @@ told_by_length = inl (omega arith, (omega arith, refl))
 
 not_told_by_length : IsFoundOut (twelve 1) (calls_of_creation (twelve 1)) 2 → ⊥
 not_told_by_length told =
-    elim told
-      [
-        | inl long ↦ absurd (omega (arith, long.0))
-        | inr read ↦ absurd (let clash : Some Length ≡ Some Read = read.1.1 in cc)
-      ]
+    elim told [
+      | inl long ↦ absurd (omega (arith, long.0))
+      | inr read ↦ absurd (let clash : Some Length ≡ Some Read = read.1.1 in cc)
+    ]
 
 told_by_byte : AreCallsUntil (twelve 1) (calls_of_creation (twelve 1)) faults.Exists 3
 told_by_byte = inr (omega arith, (omega arith, refl))
 
 not_told_by_byte : IsFoundOut (thirteen 1) (calls_of_creation (thirteen 1)) 3 → ⊥
 not_told_by_byte told =
-    elim told
-      [
-        | inl long ↦ absurd (let clash : Some Write ≡ Some Length = long.1.1 in cc)
-        | inr read ↦ absurd (omega (arith, read.0))
-      ]
+    elim told [
+      | inl long ↦ absurd (let clash : Some Write ≡ Some Length = long.1.1 in cc)
+      | inr read ↦ absurd (omega (arith, read.0))
+    ]
 
 one_look_at_none : AreLooks [] (first_calls []) Blank 1
 one_look_at_none = refl

@@ -129,7 +129,7 @@ made_pen shape pen is empty =
 ready_pen : {D : Type 0} (width size : ℕ) (pen : PenOf D) → IsAtRest width size pen → first_refusal (ready_lines pen) ≡ None
 ready_pen width size pen is =
     ap (λ b. if b then Some Broken else first_refusal ((is_some pen.job, Busy) ∷ [])) is.whole
-      ∙ ap (λ job. if is_some job then Some Busy else None) is.no_job
+    ∙ ap (λ job. if is_some job then Some Busy else None) is.no_job
 
 -- and a fold, where a change is live and there is room
 folds_pen : {D : Type 0} (width size : ℕ) (pen : PenOf D) → IsAtRest width size pen → pen.tally.folded < pen.tally.changes

@@ -187,13 +187,15 @@ stays_beside_others old new n is = is.fold_is
 -- the frame of one record has 22 bytes
 one_record_more : (old new : PenOf (Unit {0})) → old.shape ≡ shape → CountsDone (Group (1 ∷ []) zeros) old new
     → (new.gate ≡ old.gate + 22) × (new.tally.size ≡ old.tally.size + 1)
-one_record_more old new at is =
-    (is.gate_is ∙ ap (λ s. old.gate + length (frame_text s.format (Group (1 ∷ []) zeros))) at,
-        ap (λ t. t.size) is.tally_is ∙ omega arith)
+one_record_more old new at is = (
+  is.gate_is ∙ ap (λ s. old.gate + length (frame_text s.format (Group (1 ∷ []) zeros))) at,
+  ap (λ t. t.size) is.tally_is ∙ omega arith,
+)
 
 -- one frame more, which counts as the pen counts it
 one_frame_more : (old new : PenOf (Unit {0})) (frame : Frame) → FileGains frame old new
     → (length new.frames ≡ length old.frames + 1) × (tally_of new.frames ≡ after (tally_of old.frames) frame)
-one_frame_more old new frame is =
-    (ap length is.frames_more ∙ length-append old.frames (blanked frame ∷ []),
-        ap tally_of is.frames_more ∙ tally_with old.frames frame)
+one_frame_more old new frame is = (
+  ap length is.frames_more ∙ length-append old.frames (blanked frame ∷ []),
+  ap tally_of is.frames_more ∙ tally_with old.frames frame,
+)

@@ -31,7 +31,7 @@ writes_of-append bytes more (write ∷ writes) within =
 
 write_of-last : (place : ℕ) (bytes more : List ℕ)
     → write_of (bytes ++ more)
-      (record { place = place; from = length bytes; to = length (bytes ++ more) }) ≡ record { place = place; bytes = more }
+    (record { place = place; from = length bytes; to = length (bytes ++ more) }) ≡ record { place = place; bytes = more }
 write_of-last place bytes more =
     let count : length more ≡ length (bytes ++ more) - length bytes = omega (arith, length-append bytes more) in
     ap (λ bs. record { place = place; bytes = bs })
@@ -63,11 +63,11 @@ writes_more form records runs k d bytes writes lt so_far within =
 
 pub within_more : (bytes more : List ℕ) (writes : List Write) (place : ℕ) → All (Within (length bytes)) writes
     → All (Within (length (bytes ++ more)))
-      (writes ++ record { place = place; from = length bytes; to = length (bytes ++ more) } ∷ [])
+    (writes ++ record { place = place; from = length bytes; to = length (bytes ++ more) } ∷ [])
 within_more bytes more writes place within =
     All-push (Within (length (bytes ++ more))) writes (record { place = place; from = length bytes; to = length (bytes ++ more) })
     (All-weaker (Within (length bytes)) (Within (length (bytes ++ more)))
-      (λ w inside. (inside.0, omega (arith, inside.1, length-append bytes more))) writes within)
+    (λ w inside. (inside.0, omega (arith, inside.1, length-append bytes more))) writes within)
     (omega (arith, length-append bytes more), omega arith)
 
 pub ascending-inside : (from to : ℕ) (runs : List Home) → AreAscending from to runs → from ≤ to
@@ -95,5 +95,5 @@ pub writes_for-take : {R : Type 0} (form : Encoding R) (records : List R) (n fro
 writes_for-take form records n from [] ascend = refl
 writes_for-take form records n from (run ∷ runs) ascend =
     ap (λ rs. record { place = run.place; bytes = flat_map form.bytes_of rs } ∷ writes_for form (take n records) runs)
-        (cut_part records n run.position run.count (ascending-inside (run.position + run.count) n runs ascend.1))
+    (cut_part records n run.position run.count (ascending-inside (run.position + run.count) n runs ascend.1))
     ∙ ap (λ ws. write_for form records run ∷ ws) (writes_for-take form records n (run.position + run.count) runs ascend.1)

@@ -43,7 +43,7 @@ IsUnbornOrEmpty shape image = (header_fault shape.width image ≡ Some Unborn) �
 abbrev pub StaysUnbornOrEmpty : Shape → List State → List State → Type 0
 StaysUnbornOrEmpty shape old new =
     (IsExisting (bytes_of old) → ⊥) → clock old + 1 < clock new → (image : List ℕ) → LeftSince new (clock old + 1) image
-      → IsUnbornOrEmpty shape image
+    → IsUnbornOrEmpty shape image
 
 -- Where there was a file nothing is written: a crash leaves what it might have left before.
 pub record WritesNothing (old new : List State) : Type 0 where

@@ -1,6 +1,6 @@
 -- A pen by the record of its fields, as its code has them.
 use Rattle.std.specs.Prelude.{ℕ, ◌-◌, List, vec_len, vec_capacity}
-use Rattle.disk_core.specs.State.{State, now}
+use Rattle.disk_core.specs.State.{State}
 use Rattle.disk_core.specs.Calls.{bytes_of}
 use Rattle.segment_core.specs.Frame.{Frame}
 use Rattle.segment_core.specs.Parsed.{vector_before}

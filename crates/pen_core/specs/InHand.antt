@@ -197,7 +197,7 @@ pub record IsFold (keeps : Type 0) (states : List State) (shape : Shape) (gate :
   -- until a call fails
   pub homes : keeps → broken ≡ false
       → HomesAt shape (blanked_before shape gate (bytes_of states)) (vector_before shape gate (bytes_of states)) fold
-        (now states) fold.stage
+      (now states) fold.stage
 
 -- ---- the end of a fold, where its frame was the job
 

@@ -99,4 +99,4 @@ pub record IsPen (count : ℕ) (keeps : Type 0) (states : List State) (shape : S
   pub job : IsMaybeJob shape gate tally next bytes step
   pub knows : keeps
       → Knows count shape gate tally (blanked_before shape gate (bytes_of states))
-        (vector_before shape gate (bytes_of states)) bytes step broken (now states)
+      (vector_before shape gate (bytes_of states)) bytes step broken (now states)

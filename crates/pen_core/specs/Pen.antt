@@ -236,7 +236,7 @@ abbrev pub IsHomeFault : {D : Type 0} → PenOf D → PenOf D → PenFault → T
 IsHomeFault old new fault =
     ((fault ≡ faults.Broken) × (old.broken ≡ true) × (new ≡ old))
     ⊎ ((fold : FoldOf) × (old.broken ≡ false) × (old.fold ≡ Some fold) × (has_call fold.stage ≡ true)
-          × (fault ≡ faults.Disk (home_fault fold.stage)) × IsBrokenBy old new)
+    × (fault ≡ faults.Disk (home_fault fold.stage)) × IsBrokenBy old new)
 
 -- how many calls of the device a tick makes
 abbrev pub home_calls_due : Bool → Option FoldOf → ℕ
@@ -266,7 +266,7 @@ IsFoldBarred pen fault =
     ((fault ≡ faults.Broken) × (pen.broken ≡ true))
     ⊎ (((fault ≡ faults.Busy) × (pen.broken ≡ false) × (is_some pen.fold ≡ true))
     ⊎ ((fault ≡ faults.FileFull) × (pen.broken ≡ false) × (pen.fold ≡ None) × (pen.tally.folded < pen.tally.changes)
-            × (2 ^ 48 ≤ gate_behind_fold pen)))
+    × (2 ^ 48 ≤ gate_behind_fold pen)))
 
 -- A fold of all changes in the file is in hand, and nothing else has changed.
 pub record BeginsFold {D : Type 0} (old new : PenOf D) : Type 0 where

@@ -60,8 +60,10 @@ module _ {D : Type 0} (pen : PenOf D) where
   -- to a length past the vector's, or while a change is live
   abbrev pub shrink_lines : ℕ → List (Bool × PenFault)
   shrink_lines n =
-      ready_lines ++ (nat_lt pen.tally.size n, OutOfRange) ∷ (nat_lt pen.tally.folded pen.tally.changes,
-          Unfolded) ∷ (is_full 8, FileFull) ∷ []
+      ready_lines ++ (nat_lt pen.tally.size n, OutOfRange) ∷ (
+        nat_lt pen.tally.folded pen.tally.changes,
+        Unfolded,
+      ) ∷ (is_full 8, FileFull) ∷ []
 
 -- the room that a payload needs: with the frame's head, and the next gate behind it
 abbrev pub room_for : ℕ → ℕ

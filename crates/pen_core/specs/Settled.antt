@@ -34,7 +34,7 @@ abbrev pub IsLogFault : {D : Type 0} → PenOf D → PenOf D → PenFault → Ty
 IsLogFault old new fault =
     ((fault ≡ faults.Broken) × (old.broken ≡ true) × (new ≡ old))
     ⊎ ((job : JobOf) × (step : Step) × (old.broken ≡ false) × (old.job ≡ Some job) × (fault ≡ faults.Disk (fault_of step))
-          × StopsAt job.frame step old new)
+    × StopsAt job.frame step old new)
 
 -- a stretch of calls, none of them the last one
 pub record LogGoes {D : Type 0} (keeps : D → Type 0) (states : D → List State) (faults : D → ℕ) (old new : PenOf D) : Type 0 where

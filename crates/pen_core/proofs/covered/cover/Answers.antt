@@ -11,12 +11,12 @@ sweep-requires-clause-some c = rw c.deref.ensures.value (All-permutation (λ run
 pub sweep-requires-clause-inside : goal.sweep-requires-clause-inside
 sweep-requires-clause-inside c =
     rw c.deref.ensures.value
-      (All-permutation (λ run. run.0 + run.1 ≤ 2 ^ 32) _ _ c.in_ok-in_order.ensures.moved c.requires.inside)
+    (All-permutation (λ run. run.0 + run.1 ≤ 2 ^ 32) _ _ c.in_ok-in_order.ensures.moved c.requires.inside)
 
 pub returns : goal.returns
 returns c =
     let given = c.args.runs.now in
     let moved : IsPermutation given c.deref.result.now = subst (IsPermutation given) (sym c.deref.ensures.value) c.in_ok-in_order.ensures.moved in
     IfOk-weaker c.sweep.result (λ (v : Vec (ℕ × ℕ) Global). IsCover c.deref.result.now v.items)
-        (λ (v : Vec (ℕ × ℕ) Global). IsCover given v.items) (λ v is. IsCover-moved given c.deref.result.now v.items moved is)
-        c.sweep.ensures
+    (λ (v : Vec (ℕ × ℕ) Global). IsCover given v.items) (λ v is. IsCover-moved given c.deref.result.now v.items moved is)
+    c.sweep.ensures

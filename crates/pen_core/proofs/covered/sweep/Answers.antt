@@ -48,5 +48,5 @@ push_reserved-requires-2 c = omega (arith, c.loop-k.invariant.swept.fewer, c.loo
 pub returns : goal.returns
 returns c =
     rw c.push_reserved-2.ensures.items
-      (swept-all c.args.runs.now c.loop-k.k c.loop-k.start c.loop-k.end c.loop-k.cover.items (omega arith)
-          c.loop-k.invariant.swept)
+    (swept-all c.args.runs.now c.loop-k.k c.loop-k.start c.loop-k.end c.loop-k.cover.items (omega arith)
+    c.loop-k.invariant.swept)

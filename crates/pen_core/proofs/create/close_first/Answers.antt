@@ -70,4 +70,4 @@ returns-in-Err-write_synced-clause-calls g c = λ model.
     let some : 0 < clock new - clock mid = ends.0 in
     subst (λ cs. EndsAt cs c.in-Err-write_synced.fault (clock new - clock old)) (sym (first_blank (bytes_of old) short))
     (ends_behind (Length ∷ []) write_calls (clock new - clock mid) (clock new - clock old) c.in-Err-write_synced.fault
-      (omega (arith, one, some, c.look.ensures.later)) ends)
+    (omega (arith, one, some, c.look.ensures.later)) ends)

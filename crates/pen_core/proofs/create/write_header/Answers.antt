@@ -16,8 +16,8 @@ returns-in_err-write_synced-clause-born g c = λ model.
     let mid = g.D.Disk.states c.write_synced.new.disk in
     born_header c.args.shape old mid (c.requires.clear (c.write_synced.ensures.model model))
     (subst
-      (λ bs. LeavesOnly old mid (IsImage (touched (now old) 1 (length (take (length bs - 1) (drop 1 bs))) (bytes_of old))))
-      c.requires.spelled (c.write_synced.ensures.images model))
+    (λ bs. LeavesOnly old mid (IsImage (touched (now old) 1 (length (take (length bs - 1) (drop 1 bs))) (bytes_of old))))
+    c.requires.spelled (c.write_synced.ensures.images model))
 
 pub returns-clause-born : goal.returns-clause-born
 returns-clause-born g c = λ model.
@@ -26,8 +26,8 @@ returns-clause-born g c = λ model.
     let m = c.write_synced-2.ensures.model model in
     born_opened c.args.shape old mid (g.D.Disk.states c.write_synced-2.new.disk) (c.requires.clear (c.write_synced.ensures.model m))
     (subst
-      (λ bs. LeavesOnly old mid (IsImage (touched (now old) 1 (length (take (length bs - 1) (drop 1 bs))) (bytes_of old))))
-      c.requires.spelled (c.write_synced.ensures.images m))
+    (λ bs. LeavesOnly old mid (IsImage (touched (now old) 1 (length (take (length bs - 1) (drop 1 bs))) (bytes_of old))))
+    c.requires.spelled (c.write_synced.ensures.images m))
     (subst (λ bs. now mid ≡ settled (overlay (bytes_of old) 1 (take (length bs - 1) (drop 1 bs)))) c.requires.spelled (c.in_ok-write_synced.ensures.done m))
     (c.write_synced-2.ensures.images model)
 
@@ -52,8 +52,8 @@ returns-clause-done g c = λ model.
     let mid = g.D.Disk.states c.write_synced.new.disk in
     let m = c.write_synced-2.ensures.model model in
     let first =
-        subst (λ bs. now mid ≡ settled (overlay (bytes_of old) 1 (take (length bs - 1) (drop 1 bs)))) c.requires.spelled
-          (c.in_ok-write_synced.ensures.done m) in
+    subst (λ bs. now mid ≡ settled (overlay (bytes_of old) 1 (take (length bs - 1) (drop 1 bs)))) c.requires.spelled
+    (c.in_ok-write_synced.ensures.done m) in
     on_ok_weaker c.write_synced-2.result
-        (λ done. done ∙ opened_file c.args.shape old mid (c.requires.clear (c.write_synced.ensures.model m)) first)
-        (c.write_synced-2.ensures.done model)
+    (λ done. done ∙ opened_file c.args.shape old mid (c.requires.clear (c.write_synced.ensures.model m)) first)
+    (c.write_synced-2.ensures.done model)

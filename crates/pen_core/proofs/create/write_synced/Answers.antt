@@ -10,7 +10,7 @@ use Rattle.pen_core.proofs.create.write_synced.Goals as goal
 pub returns-in_err-write_at-clause-images : goal.returns-in_err-write_at-clause-images
 returns-in_err-write_at-clause-images g c = λ model.
     torn_only (g.D.Disk.states c.args.disk.now) (g.D.Disk.states c.write_at.new.self) c.args.at c.args.bytes.now
-        c.write_at.result (c.write_at.ensures.done (c.write_at.ensures.model model)) (c.write_at.ensures.torn model)
+    c.write_at.result (c.write_at.ensures.done (c.write_at.ensures.model model)) (c.write_at.ensures.torn model)
 
 pub returns-clause-images : goal.returns-clause-images
 returns-clause-images g c = λ model.
@@ -29,5 +29,5 @@ returns-in_err-write_at-clause-calls g c =
 pub returns-clause-calls : goal.returns-clause-calls
 returns-clause-calls g c =
     sync_ends c.sync.result (g.D.Disk.faults c.write_at.new.self) (g.D.Disk.faults c.sync.new.self)
-        (clock (g.D.Disk.states c.args.disk.now)) (clock (g.D.Disk.states c.sync.new.self)) c.sync.ensures.cause
-        (omega (arith, c.write_at.ensures.time, c.sync.ensures.time))
+    (clock (g.D.Disk.states c.args.disk.now)) (clock (g.D.Disk.states c.sync.new.self)) c.sync.ensures.cause
+    (omega (arith, c.write_at.ensures.time, c.sync.ensures.time))

@@ -7,8 +7,8 @@ pub loop-done-init : goal.loop-done-init
 loop-done-init c =
     let new = c.lengthen_last-done.new.runs in
     let same : take c.args.runs.now.len (new ++ drop (length new) c.args.runs.now.items) ≡ new =
-        take_at new (drop (length new) c.args.runs.now.items) c.args.runs.now.len
-          (omega (arith, c.lengthen_last-done.auto.runs, c.deref_mut.ensures.len)) in
+    take_at new (drop (length new) c.args.runs.now.items) c.args.runs.now.len
+    (omega (arith, c.lengthen_last-done.auto.runs, c.deref_mut.ensures.len)) in
     let made = c.lengthen_last-done.ensures in
     rw (same, ← c.deref_mut.ensures.value) record {
       most = made.some;
@@ -30,7 +30,7 @@ loop-done-preserved c =
       positions = next_positions width part done c.min-count.result runs c.args.runs.now.items l.positions;
       so_far =
           λ home adjacent old.
-            next_runs width part done c.min-count.result runs home (l.so_far home adjacent old) adjacent (omega arith)
-              (omega arith) (omega arith) (l.next old.greatest (omega arith));
+          next_runs width part done c.min-count.result runs home (l.so_far home adjacent old) adjacent (omega arith)
+          (omega arith) (omega arith) (l.next old.greatest (omega arith));
       next = λ old less. next_next width part done c.min-count.result runs (l.next old (omega arith)) (omega arith);
     }

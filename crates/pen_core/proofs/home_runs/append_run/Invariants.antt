@@ -11,8 +11,8 @@ invariant-loop-k l = record {
   to : l.at ≤ l.to;
   here : (d : Home) → l.at < l.to → l.k < length l.homes
       → ((get_or l.homes l.k d).position ≤ l.at)
-        × ((l.at ≡ (get_or l.homes l.k d).position)
-            ⊎ (l.at < (get_or l.homes l.k d).position + (get_or l.homes l.k d).count));
+      × ((l.at ≡ (get_or l.homes l.k d).position)
+      ⊎ (l.at < (get_or l.homes l.k d).position + (get_or l.homes l.k d).count));
   all : length l.homes ≤ l.k → l.to ≤ l.at;
   positions : positions_at l.runs.items ≡ positions_at l.fn.runs.items ++ range_with_len l.from (l.at - l.from);
   runs_are : AreRuns l.width (home_among l.width l.homes) l.at l.runs.items;

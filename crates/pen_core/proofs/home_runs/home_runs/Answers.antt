@@ -10,10 +10,10 @@ use Rattle.pen_core.proofs.home_runs.home_runs.Goals as goal
 
 positions_more : (cover : List (ℕ × ℕ)) (k : ℕ) → k < length cover
     → positions_in (take (k + 1) cover) ≡ positions_in (take k cover) ++ range_with_len (get_or cover k (0, 0)).0
-      (get_or cover k (0, 0)).1
+    (get_or cover k (0, 0)).1
 positions_more cover k lt =
     ap positions_in (take_more cover k (0, 0) lt)
-      ∙ sym (flat_map_more (λ (run : ℕ × ℕ). range_with_len run.0 run.1) [] (take k cover) (get_or cover k (0, 0)))
+    ∙ sym (flat_map_more (λ (run : ℕ × ℕ). range_with_len run.0 run.1) [] (take k cover) (get_or cover k (0, 0)))
 
 -- of runs that stand apart the next has a position, and stands apart from those behind it
 apart_next : (from : ℕ) (cover : List (ℕ × ℕ)) (k : ℕ) → k < length cover → StandApart from (drop k cover)
@@ -60,8 +60,8 @@ loop-k-preserved c =
       inside = inside;
       positions =
           made.positions ∙ ap (λ ps. ps ++ range_with_len run.0 (run.0 + run.1 - run.0)) l.positions
-            ∙ ap (λ n. positions_in (take k cover) ++ range_with_len run.0 n) count
-            ∙ sym (positions_more cover k c.loop-k-test.true);
+          ∙ ap (λ n. positions_in (take k cover) ++ range_with_len run.0 n) count
+          ∙ sym (positions_more cover k c.loop-k-test.true);
       runs_are = made.runs;
       left = apart_lower (run.0 + run.1 + 1) (run.0 + run.1) (drop (k + 1) cover) (omega arith) next.2;
     }

@@ -14,10 +14,10 @@ returns-then-last-part-clause-next c = λ greatest some.
     elim c.then-last-part.branch [
       | then-last-part-via-then-last-part w ↦ rw w.runs-is
           (apart_next width c.args.runs.now last item.3.0 item.1 next greatest
-              (λ (meets : Meets width last next). w.if-last-part.true (omega (arith, meets.0))))
+          (λ (meets : Meets width last next). w.if-last-part.true (omega (arith, meets.0))))
       | then-last-part-via-else-last-part+then-last-width w ↦ rw w.runs-is
           (apart_next width c.args.runs.now last item.3.0 item.1 next greatest
-              (λ (meets : Meets width last next). w.if-last-width.true (omega (arith, meets.1))))
+          (λ (meets : Meets width last next). w.if-last-width.true (omega (arith, meets.1))))
     ]
 
 pub returns-clause-positions : goal.returns-clause-positions
@@ -26,7 +26,7 @@ returns-clause-positions c =
     let last = c.in-Some.last.now in
     let item = c.in-Some.ensures.item in
     longer_positions c.args.width runs last item.3.0 item.1 c.min-count.result
-        ∙ ap (λ n. positions_at runs ++ range_with_len n c.min-count.result) c.if-last-part.false
+    ∙ ap (λ n. positions_at runs ++ range_with_len n c.min-count.result) c.if-last-part.false
 
 pub returns-clause-runs : goal.returns-clause-runs
 returns-clause-runs c = λ home adjacent so_far.
@@ -37,8 +37,8 @@ returns-clause-runs c = λ home adjacent so_far.
     let bounded = subst (IsBounded width) (sym item.1) (c.requires.bounded (length runs - 1) last (omega (arith, item.3.0))) in
     let meets : Meets width last c.args.part = (sym c.if-last-part.false, sym c.if-last-width.false) in
     let grown =
-        longer_runs width runs last item.3.0 item.1 c.min-count.result home c.args.part.position c.args.part adjacent meets
-          (omega (arith, c.min-count.ensures)) (omega (arith, c.min-count.ensures, bounded.few)) so_far in
+    longer_runs width runs last item.3.0 item.1 c.min-count.result home c.args.part.position c.args.part adjacent meets
+    (omega (arith, c.min-count.ensures)) (omega (arith, c.min-count.ensures, bounded.few)) so_far in
     rw (← c.if-last-part.false) grown
 
 pub returns-clause-next : goal.returns-clause-next
@@ -49,4 +49,4 @@ returns-clause-next c = λ greatest less.
     let item = c.in-Some.ensures.item in
     let bounded = subst (IsBounded width) (sym item.1) (c.requires.bounded (length runs - 1) last (omega (arith, item.3.0))) in
     full_next width runs last item.3.0 item.1 c.min-count.result (behind width c.args.part c.min-count.result) greatest
-        (omega (arith, c.min-count.ensures, less, bounded.few))
+    (omega (arith, c.min-count.ensures, less, bounded.few))

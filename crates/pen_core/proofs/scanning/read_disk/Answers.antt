@@ -1,4 +1,4 @@
-use Rattle.std.proofs.Common.{◌≡◌, ◌+◌, ◌-◌, length, take, refl, sym, ap, subst, ◌∙◌, arith}
+use Rattle.std.proofs.Common.{◌≡◌, ◌+◌, ◌-◌, length, take, refl, sym, ap, ◌∙◌, arith}
 use Rattle.std.proofs.lemmas.Result.{err_from_is_err_and}
 use Rattle.disk_core.specs.State.{now}
 use Rattle.disk_core.specs.Calls.{bytes_of}
@@ -36,10 +36,12 @@ pub returns-in-Err-len-clause-time : goal.returns-in-Err-len-clause-time
 returns-in-Err-len-clause-time g c =
     let old = g.D.Disk.states c.args.disk.now in
     let len = length (bytes_of old) in
-    let n = clock (g.D.Disk.states c.len.new.self) - clock old in
-    (len, λ model. refl,
+    let n = clock (g.D.Disk.states c.len.new.self) - clock old in (
+      len,
+      λ model. refl,
       made_a_length (length c.args.piece.now) len n c.in-Err-len.fault c.in-Err-len.ensures.cause.0
-          (omega (arith, c.sync.ensures.time, c.len.ensures.time)))
+          (omega (arith, c.sync.ensures.time, c.len.ensures.time)),
+    )
 
 -- ---- the bytes were read
 

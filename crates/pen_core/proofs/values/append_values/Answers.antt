@@ -16,21 +16,21 @@ loop-k-init g c = record {
   to = c.requires.some;
   values =
       sym (append-nil c.args.bytes.now.items)
-        ∙ ap (λ (bs : List ℕ). c.args.bytes.now.items ++ bs)
-          (bytes_at-none g.R.Record.form (joined (g.G.GrowthList.growths c.args.pieces.now)) c.args.from);
+      ∙ ap (λ (bs : List ℕ). c.args.bytes.now.items ++ bs)
+      (bytes_at-none g.R.Record.form (joined (g.G.GrowthList.growths c.args.pieces.now)) c.args.from);
 }
 
 pub append_records-requires-after_bounds : goal.append_records-requires-after_bounds
 append_records-requires-after_bounds g c κs within =
     let skipped = c.loop-k.at - c.loop-k.passed.records in
     let many =
-        length-take-le (skipped + c.min-count.result - skipped) (drop skipped c.growth-piece.result.now)
-          (omega (arith, length-drop skipped c.growth-piece.result.now, c.min-count.ensures, c.loop-k.invariant.behind)) in
+    length-take-le (skipped + c.min-count.result - skipped) (drop skipped c.growth-piece.result.now)
+    (omega (arith, length-drop skipped c.growth-piece.result.now, c.min-count.ensures, c.loop-k.invariant.behind)) in
     let from = c.loop-k.invariant.from in
     let end = c.min-count.ensures in
     let fits =
-        mul-le (length (take (skipped + c.min-count.result - skipped) (drop skipped c.growth-piece.result.now)))
-          g.R.Record.form.width (c.args.to - c.args.from) g.R.Record.form.width (omega arith) (omega arith) in
+    mul-le (length (take (skipped + c.min-count.result - skipped) (drop skipped c.growth-piece.result.now)))
+    g.R.Record.form.width (c.args.to - c.args.from) g.R.Record.form.width (omega arith) (omega arith) in
     let small = c.loop-k.bytes.small in
     omega (arith, c.requires.small)
 
@@ -40,16 +40,16 @@ returns-then-at-to-clause-values g c =
     let form = g.R.Record.form in
     let l = c.loop-k.invariant in
     let is : c.loop-k.passed.records ≡ length (joined (take c.loop-k.k growths)) =
-        l.passed.records_are ∙ ap (λ n. length (joined (take n growths))) l.here in
+    l.passed.records_are ∙ ap (λ n. length (joined (take n growths))) l.here in
     let all : c.if-skipped-len.bytes.items ≡ c.args.bytes.now.items ++ bytes_at form (joined growths) c.args.from
-        (c.if-skipped-len.at - c.args.from) =
-        elim c.if-skipped-len.branch [
+    (c.if-skipped-len.at - c.args.from) =
+    elim c.if-skipped-len.branch [
       | then-skipped-len+in_ok-append_records w ↦ rw (w.bytes-is, w.at-is)
           (values_more form growths c.loop-k.k c.growth-piece.result.now c.loop-k.passed.records c.loop-k.at
-              w.min-count.result c.args.from c.args.bytes.now.items c.loop-k.bytes.items w.append_records.new.out.items
+          w.min-count.result c.args.from c.args.bytes.now.items c.loop-k.bytes.items w.append_records.new.out.items
           c.growth-piece.ensures (omega (arith, c.loop-k-test.true, c.count-k-end.ensures)) is l.behind
-                (omega (arith, w.min-count.ensures, l.behind, w.if-skipped-len.true)) l.from l.values
-                w.in_ok-append_records.ensures.bytes)
+          (omega (arith, w.min-count.ensures, l.behind, w.if-skipped-len.true)) l.from l.values
+          w.in_ok-append_records.ensures.bytes)
       | else-skipped-len w ↦ rw (w.bytes-is, w.at-is) l.values
     ] in
     all ∙ ap (λ n. c.args.bytes.now.items ++ bytes_at form (joined growths) c.args.from (n - c.args.from)) c.if-at-to.true
@@ -61,7 +61,7 @@ loop-k-preserved g c =
     let l = c.loop-k.invariant in
     let inside : c.loop-k.k < length growths = omega (arith, c.loop-k-test.true, c.count-k-end.ensures) in
     let is : c.loop-k.passed.records ≡ length (joined (take c.loop-k.k growths)) =
-        l.passed.records_are ∙ ap (λ n. length (joined (take n growths))) l.here in
+    l.passed.records_are ∙ ap (λ n. length (joined (take n growths))) l.here in
     let next = passed_more growths c.loop-k.k c.growth-piece.result.now c.loop-k.passed.records c.growth-piece.ensures inside is in
     elim c.if-skipped-len.branch [
       | then-skipped-len+in_ok-append_records w ↦
@@ -75,7 +75,7 @@ loop-k-preserved g c =
             to = omega (arith, l.to);
             values =
                 values_more form growths c.loop-k.k c.growth-piece.result.now c.loop-k.passed.records c.loop-k.at
-                  w.min-count.result c.args.from c.args.bytes.now.items c.loop-k.bytes.items w.append_records.new.out.items
+                w.min-count.result c.args.from c.args.bytes.now.items c.loop-k.bytes.items w.append_records.new.out.items
                 c.growth-piece.ensures inside is l.behind (omega (arith, l.behind, w.if-skipped-len.true)) l.from l.values w.in_ok-append_records.ensures.bytes;
           }
       | else-skipped-len w ↦ rw (w.bytes-is, w.at-is) record {
@@ -97,8 +97,8 @@ returns-clause-values g c =
     let growths = g.G.GrowthList.growths c.args.pieces.now in
     let l = c.loop-k.invariant in
     let is : c.loop-k.passed.records ≡ length (joined (take c.loop-k.k growths)) =
-        l.passed.records_are ∙ ap (λ n. length (joined (take n growths))) l.here in
+    l.passed.records_are ∙ ap (λ n. length (joined (take n growths))) l.here in
     l.values
-        ∙ ap (λ n. c.args.bytes.now.items ++ bytes_at g.R.Record.form (joined growths) c.args.from (n - c.args.from))
-          (done growths c.loop-k.k c.loop-k.passed.records c.loop-k.at c.args.to
-              (omega (arith, c.loop-k-test.false, c.count-k-end.ensures)) is l.behind l.to c.requires.inside)
+    ∙ ap (λ n. c.args.bytes.now.items ++ bytes_at g.R.Record.form (joined growths) c.args.from (n - c.args.from))
+    (done growths c.loop-k.k c.loop-k.passed.records c.loop-k.at c.args.to
+    (omega (arith, c.loop-k-test.false, c.count-k-end.ensures)) is l.behind l.to c.requires.inside)

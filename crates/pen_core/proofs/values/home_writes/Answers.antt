@@ -84,23 +84,24 @@ loop-k-preserved g c =
       so_far = writes_more form records runs k blank c.loop-k.bytes.items c.loop-k.writes.items c.loop-k-test.true l.so_far l.within;
       within = within_more c.loop-k.bytes.items (bytes_at form records run.position run.count) c.loop-k.writes.items run.place l.within;
       many =
-          omega
-            (arith, l.many,
-                length-append c.loop-k.writes.items
-                    (record
-                          {
-                            place = run.place;
-                            from = length c.loop-k.bytes.items;
-                            to = length (c.loop-k.bytes.items ++ bytes_at form records run.position run.count);
-                          } ∷ []));
+          omega (
+            arith,
+            l.many,
+            length-append c.loop-k.writes.items
+                (record {
+                  place = run.place;
+                  from = length c.loop-k.bytes.items;
+                  to = length (c.loop-k.bytes.items ++ bytes_at form records run.position run.count);
+                } ∷ []),
+          );
       room = omega (arith, l.room, c.push_reserved.ensures.capacity);
     }
 
 pub returns-clause-writes : goal.returns-clause-writes
 returns-clause-writes g c =
     c.loop-k.invariant.so_far
-      ∙ ap (writes_for g.R.Record.form (joined (g.G.GrowthList.growths c.args.pieces.now)))
-        (take_all c.loop-k.k c.args.runs.now c.loop-k-test.false)
+    ∙ ap (writes_for g.R.Record.form (joined (g.G.GrowthList.growths c.args.pieces.now)))
+    (take_all c.loop-k.k c.args.runs.now c.loop-k-test.false)
 
 pub returns-clause-inside : goal.returns-clause-inside
 returns-clause-inside g c = c.loop-k.invariant.within

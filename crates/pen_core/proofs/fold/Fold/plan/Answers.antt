@@ -8,8 +8,8 @@ use Rattle.pen_core.proofs.fold.Fold.plan.Goals as goal
 pub home_writes-requires-clause-ascend : goal.home_writes-requires-clause-ascend
 home_writes-requires-clause-ascend g c κs within =
     rw c.deref-2.ensures.value
-        (ascending-to 0 c.args.size (length (joined (g.G.GrowthList.growths c.args.pieces.now))) c.in_ok-runs.runs.items
-            c.in_ok-runs.ensures.runs_are.ascend c.requires.all)
+    (ascending-to 0 c.args.size (length (joined (g.G.GrowthList.growths c.args.pieces.now))) c.in_ok-runs.runs.items
+    c.in_ok-runs.ensures.runs_are.ascend c.requires.all)
 
 pub home_writes-requires-clause-few : goal.home_writes-requires-clause-few
 home_writes-requires-clause-few g c κs within =
@@ -27,6 +27,6 @@ returns-clause-planned g c =
       at_home = at;
       writes_are =
           rw c.deref-2.ensures.value at c.in_ok-home_writes.ensures.writes
-            ∙ sym (writes_for-take g.R.Record.form records c.args.size 0 c.in_ok-runs.runs.items at.runs_are.ascend);
+          ∙ sym (writes_for-take g.R.Record.form records c.args.size 0 c.in_ok-runs.runs.items at.runs_are.ascend);
       inside = c.in_ok-home_writes.ensures.inside;
     }

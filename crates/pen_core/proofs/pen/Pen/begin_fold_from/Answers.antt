@@ -1,4 +1,4 @@
-use Rattle.std.proofs.Common.{◌≡◌, ◌≤◌, ◌<◌, ◌+◌, ◌^◌, List, Result, Ok, Err, OnOk, true, false, length, map, take, All, Some, refl, sym, ap, subst, ◌∙◌, arith}
+use Rattle.std.proofs.Common.{◌≡◌, ◌≤◌, ◌<◌, ◌+◌, ◌^◌, Result, Ok, Err, OnOk, true, false, length, map, take, All, Some, refl, sym, ap, subst, ◌∙◌, arith}
 use Rattle.std.specs.Result.{is_err}
 use Rattle.std.proofs.lemmas.List.{length-take-le}
 use Rattle.segment_core.specs.Written.{joined}
@@ -50,7 +50,7 @@ pub plan-requires-clause-inside : goal.plan-requires-clause-inside
 plan-requires-clause-inside g c κs within =
     let s = c.self.inside in
     λ cover is.
-      inside_cover c.self.invariant.lists cover (subst (λ runs. IsCover (take s.live runs) cover) c.deref.ensures.value is)
+    inside_cover c.self.invariant.lists cover (subst (λ runs. IsCover (take s.live runs) cover) c.deref.ensures.value is)
 
 pub plan-requires-clause-homes : goal.plan-requires-clause-homes
 plan-requires-clause-homes g c κs within =
@@ -73,7 +73,7 @@ returns-then-is_err-clause-unchanged g c = rw (← c.self.view_is) (
 pub returns-then-is_err-clause-kept : goal.returns-then-is_err-clause-kept
 returns-then-is_err-clause-kept g c =
     kept_unchanged g.D.Disk.keeps g.D.Disk.states c.args.self.now _ c.ready_fold.ensures.kept
-      (returns-then-is_err-clause-unchanged g c)
+    (returns-then-is_err-clause-unchanged g c)
 
 pub invariant_of-self-then-is_err-2 : goal.invariant_of-self-then-is_err-2
 invariant_of-self-then-is_err-2 g c =
@@ -88,7 +88,7 @@ returns-then-is_err-2-clause-unchanged g c = rw (← c.self.view_is) (
 pub returns-then-is_err-2-clause-kept : goal.returns-then-is_err-2-clause-kept
 returns-then-is_err-2-clause-kept g c =
     kept_unchanged g.D.Disk.keeps g.D.Disk.states c.args.self.now _ c.ready_fold.ensures.kept
-      (returns-then-is_err-2-clause-unchanged g c)
+    (returns-then-is_err-2-clause-unchanged g c)
 
 -- ---- a fold is begun
 
@@ -117,10 +117,10 @@ takes g c =
     let size : s.tally.size ≤ length given = subst (λ v. v.tally.size ≤ length given) (sym c.self.view_is) c.requires.all in
     let made = sym c.is_err.ensures.value ∙ c.if-is_err.false in
     let planned =
-        subst (λ runs. IsPlan form records s.shape.width s.tally.size (take s.live runs) s.homes.homes.items c.plan.new.self)
-        c.deref.ensures.value
-        (subst (λ hs. IsPlan form records s.shape.width s.tally.size (take s.live c.deref.result.now) hs c.plan.new.self)
-        c.deref-2.ensures.value (on_ok c.plan.result made c.plan.ensures.planned)) in
+    subst (λ runs. IsPlan form records s.shape.width s.tally.size (take s.live runs) s.homes.homes.items c.plan.new.self)
+    c.deref.ensures.value
+    (subst (λ hs. IsPlan form records s.shape.width s.tally.size (take s.live c.deref.result.now) hs c.plan.new.self)
+    c.deref-2.ensures.value (on_ok c.plan.result made c.plan.ensures.planned)) in
     record {
       sound = c.self.invariant;
       ready = ready g (goal.at.After-len g c).Else-not-branch;

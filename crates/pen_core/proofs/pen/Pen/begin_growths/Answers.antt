@@ -1,18 +1,14 @@
-use Rattle.std.proofs.Common.{◌≡◌, ℕ, ◌+◌, ◌*◌, ◌^◌, ◌<◌, ◌≤◌, ◌∷◌, [], ◌++◌, List, length, Result, Ok, Err, OnOk, false, cond, Some, refl, sym, ap, subst, ◌∙◌, arith}
+use Rattle.std.proofs.Common.{◌≡◌, ℕ, ◌+◌, ◌*◌, ◌^◌, ◌<◌, ◌≤◌, ◌∷◌, [], ◌++◌, List, length, Result, Ok, Err, OnOk, false, cond, refl, sym, ap, subst, ◌∙◌, arith}
 use Rattle.std.proofs.lemmas.Nat.{mul-le}
-use Rattle.std.specs.Prelude.{vec_capacity}
 use Rattle.std.specs.Option.{is_some}
 use Rattle.std.specs.Result.{is_err, is_ok}
 use Rattle.disk_core.specs.Calls.{bytes_of}
-use Rattle.segment_core.specs.declared.found.Home.{Home}
 use Rattle.segment_core.specs.Shape.{limit_of}
 use Rattle.segment_core.specs.Frame.{frame_text}
 use Rattle.segment_core.specs.Written.{group_frame, joined, payload_len}
 use Rattle.segment_core.specs.Parsed.{vector_before}
-use Rattle.segment_core.proofs.Written.{sum-lengths}
-use Rattle.pen_core.specs.declared.step.Step.TheVariants.{Body}
 use Rattle.pen_core.specs.Refusals.{is_full, fold_len}
-use Rattle.pen_core.proofs.Begins.{no_step, no_job_same, all_fits, not_full}
+use Rattle.pen_core.proofs.Begins.{no_step, all_fits}
 use Rattle.pen_core.proofs.Growths.{few_growths, Grows, group_begins, group_tells}
 use Rattle.pen_core.specs.InHand.{fold_of}
 use Rattle.pen_core.proofs.AtRest.{at_rest}
@@ -72,28 +68,28 @@ pub invariant_of-self : goal.invariant_of-self
 invariant_of-self g c =
     let s = c.self.inside in
     sound
-        (at_rest c.self.invariant s.bytes.items (record { homes = c.reserve.new.self; live = s.homes.live })
-            (no_step s.shape s.bytes.items s.step
-                (subst (λ v. is_some v.job ≡ false) (sym c.self.view_is) c.in_ok-ready.ensures.idle))
-            c.reserve.ensures.items refl)
+    (at_rest c.self.invariant s.bytes.items (record { homes = c.reserve.new.self; live = s.homes.live })
+    (no_step s.shape s.bytes.items s.step
+    (subst (λ v. is_some v.job ≡ false) (sym c.self.view_is) c.in_ok-ready.ensures.idle))
+    c.reserve.ensures.items refl)
 
 pub invariant_of-self-then-is_err-2 : goal.invariant_of-self-then-is_err-2
 invariant_of-self-then-is_err-2 g c =
     let s = c.self.inside in
     sound
-        (at_rest c.self.invariant c.append_group.new.file.items (record { homes = c.reserve.new.self; live = s.homes.live })
-            (no_step s.shape s.bytes.items s.step
-                (subst (λ v. is_some v.job ≡ false) (sym c.self.view_is) c.in_ok-ready.ensures.idle))
-            c.reserve.ensures.items refl)
+    (at_rest c.self.invariant c.append_group.new.file.items (record { homes = c.reserve.new.self; live = s.homes.live })
+    (no_step s.shape s.bytes.items s.step
+    (subst (λ v. is_some v.job ≡ false) (sym c.self.view_is) c.in_ok-ready.ensures.idle))
+    c.reserve.ensures.items refl)
 
 pub invariant_of-self-then-is_err-3 : goal.invariant_of-self-then-is_err-3
 invariant_of-self-then-is_err-3 g c =
     let s = c.self.inside in
     sound
-        (at_rest c.self.invariant c.push.new.self.items (record { homes = c.reserve.new.self; live = s.homes.live })
-            (no_step s.shape s.bytes.items s.step
-                (subst (λ v. is_some v.job ≡ false) (sym c.self.view_is) c.in_ok-ready.ensures.idle))
-            c.reserve.ensures.items refl)
+    (at_rest c.self.invariant c.push.new.self.items (record { homes = c.reserve.new.self; live = s.homes.live })
+    (no_step s.shape s.bytes.items s.step
+    (subst (λ v. is_some v.job ≡ false) (sym c.self.view_is) c.in_ok-ready.ensures.idle))
+    c.reserve.ensures.items refl)
 
 -- what the begin rests on once memory was taken
 begins : (g : Over) (c : After-self-2-1 g)
@@ -112,12 +108,12 @@ begins g c =
     let counted : c.in-Some.records ≡ length (joined growths) = c.in-Some.ensures.0 in
     let len : ℕ = 4 + c.count.result * 4 + c.in-Some.records * c.width_of.result in
     let payload : len ≡ payload_len form.width growths =
-        ap (λ n. 4 + n * 4 + c.in-Some.records * c.width_of.result) c.count.ensures
-        ∙ ap (λ n. 4 + length growths * 4 + n * c.width_of.result) counted
-        ∙ ap (λ w. 4 + length growths * 4 + length (joined growths) * w) c.width_of.ensures.is in
+    ap (λ n. 4 + n * 4 + c.in-Some.records * c.width_of.result) c.count.ensures
+    ∙ ap (λ n. 4 + length growths * 4 + n * c.width_of.result) counted
+    ∙ ap (λ w. 4 + length growths * 4 + length (joined growths) * w) c.width_of.ensures.is in
     let text =
-        on_ok c.append_group.result (sym c.is_err-2.ensures.value ∙ c.if-is_err-2.false) c.append_group.ensures.text s.shape.format
-        ∙ ap (λ bs. bs ++ frame_text s.shape.format (group_frame form growths)) c.clear.ensures.items in
+    on_ok c.append_group.result (sym c.is_err-2.ensures.value ∙ c.if-is_err-2.false) c.append_group.ensures.text s.shape.format
+    ∙ ap (λ bs. bs ++ frame_text s.shape.format (group_frame form growths)) c.clear.ensures.items in
     record {
       sound = c.self.invariant;
       going = subst (λ v. v.broken ≡ false) (sym c.self.view_is) c.in_ok-ready.ensures.whole;
@@ -126,7 +122,7 @@ begins g c =
       spelled =
           c.push.ensures.items
           ∙ pushed c.push.result (sym c.is_err-3.ensures.value ∙ c.if-is_err-3.false) c.append_group.new.file.items
-            (c.append_group.new.file.items ++ 0 ∷ [])
+          (c.append_group.new.file.items ++ 0 ∷ [])
           ∙ ap (λ bs. bs ++ 0 ∷ []) text;
       wide = laws.width_in_range.0;
       width = c.requires.width ∙ sym (ap (λ v. v.shape.width) c.self.view_is);
@@ -191,5 +187,5 @@ returns-then-is_err-3-clause-kept g c = sound_kept (invariant_of-self-then-is_er
 pub returns-clause-kept : goal.returns-clause-kept
 returns-clause-kept g c =
     kept_begun g.D.Disk.keeps g.D.Disk.states c.args.self.now _ c.ready.ensures.kept
-      (group_frame g.R.Record.form (g.G.GrowthList.growths c.args.growths.now))
-      (none_job c.args.self.now c.in_ok-ready.ensures.idle) (returns-clause-begun g c)
+    (group_frame g.R.Record.form (g.G.GrowthList.growths c.args.growths.now))
+    (none_job c.args.self.now c.in_ok-ready.ensures.idle) (returns-clause-begun g c)

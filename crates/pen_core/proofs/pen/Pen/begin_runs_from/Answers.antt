@@ -1,4 +1,4 @@
-use Rattle.std.proofs.Common.{◌≡◌, ◌+◌, ◌-◌, ◌^◌, ◌<◌, ◌≤◌, ◌++◌, List, length, Result, Ok, Err, OnOk, true, false, cond, Some, refl, sym, ap, subst, ◌∙◌, arith}
+use Rattle.std.proofs.Common.{◌≡◌, ◌+◌, ◌-◌, ◌^◌, ◌<◌, ◌≤◌, ◌++◌, List, length, Result, Ok, Err, OnOk, true, false, cond, refl, sym, ap, subst, ◌∙◌, arith}
 use Rattle.std.specs.Result.{is_err, is_ok}
 use Rattle.std.specs.Prelude.{vec_len, vec_capacity}
 use Rattle.std.proofs.lemmas.List.{length-map}
@@ -7,14 +7,11 @@ use Rattle.std.specs.Option.{is_some}
 use Rattle.disk_core.specs.Calls.{bytes_of}
 use Rattle.segment_core.specs.Parsed.{vector_before}
 use Rattle.segment_core.specs.Runs.{runs_given, change_frame}
-use Rattle.pen_core.specs.declared.step.Step.TheVariants.{Body}
 use Rattle.segment_core.specs.Runs.{change_len}
-use Rattle.pen_core.specs.Pen.{open_count}
 use Rattle.pen_core.specs.Refusals.{fold_len}
 use Rattle.pen_core.proofs.AtRest.{at_rest}
 use Rattle.pen_core.proofs.KeptPen.{none_job, kept_begun}
-use Rattle.pen_core.proofs.Whole.{pen_kept}
-use Rattle.pen_core.proofs.Begins.{no_step, no_job_same}
+use Rattle.pen_core.proofs.Begins.{no_step}
 use Rattle.pen_core.proofs.RunsBegun.{Allows, allowed_space, allows, Changes, change_begins, change_tells}
 use Rattle.pen_core.proofs.pen.Pen.begin_runs_from.Given.{Over}
 use Rattle.pen_core.proofs.pen.Pen.begin_runs_from.Goals.{Else-is_err-2}
@@ -77,23 +74,23 @@ pub invariant_of-self : goal.invariant_of-self
 invariant_of-self g c =
     let s = c.self.inside in
     sound
-        (at_rest c.self.invariant c.put_change.new.bytes.items s.homes
-            (no_step s.shape s.bytes.items s.step
-                (subst (λ v. is_some v.job ≡ false) (sym c.self.view_is) c.in_ok-payload.ensures.idle))
-            refl refl)
+    (at_rest c.self.invariant c.put_change.new.bytes.items s.homes
+    (no_step s.shape s.bytes.items s.step
+    (subst (λ v. is_some v.job ≡ false) (sym c.self.view_is) c.in_ok-payload.ensures.idle))
+    refl refl)
 
 pub invariant_of-self-then-is_err-2 : goal.invariant_of-self-then-is_err-2
 invariant_of-self-then-is_err-2 g c =
     let s = c.self.inside in
     sound
-        (at_rest c.self.invariant c.put_change.new.bytes.items
-            (record { homes = s.homes.homes; live = c.extend_from_slice.new.self })
-            (no_step s.shape s.bytes.items s.step
-                (subst (λ v. is_some v.job ≡ false) (sym c.self.view_is) c.in_ok-payload.ensures.idle))
-            refl
-            (c.extend_from_slice.ensures.items
-                  ∙ refused c.extend_from_slice.result (sym c.is_err-2.ensures.value ∙ c.if-is_err-2.true) s.homes.live.items
-                        (s.homes.live.items ++ c.args.runs.now)))
+    (at_rest c.self.invariant c.put_change.new.bytes.items
+    (record { homes = s.homes.homes; live = c.extend_from_slice.new.self })
+    (no_step s.shape s.bytes.items s.step
+    (subst (λ v. is_some v.job ≡ false) (sym c.self.view_is) c.in_ok-payload.ensures.idle))
+    refl
+    (c.extend_from_slice.ensures.items
+    ∙ refused c.extend_from_slice.result (sym c.is_err-2.ensures.value ∙ c.if-is_err-2.true) s.homes.live.items
+    (s.homes.live.items ++ c.args.runs.now)))
 
 pub invariant_of-self-2 : goal.invariant_of-self-2
 invariant_of-self-2 g c = pen_begun (change_begins (begins g (goal.at.invariant_of-self-2 g c).Else-is_err-2))
@@ -115,8 +112,8 @@ returns-then-is_err-2-clause-kept g c = sound_kept (invariant_of-self-then-is_er
 pub returns-clause-kept : goal.returns-clause-kept
 returns-clause-kept g c =
     kept_begun g.D.Disk.keeps g.D.Disk.states c.args.self.now _ c.change_size.ensures.kept
-      (change_frame g.R.Record.form (runs_given c.args.runs.now) (g.G.GrowthList.growths c.args.pieces.now))
-      (none_job c.args.self.now c.in_ok-payload.ensures.idle) (returns-clause-begun g c)
+    (change_frame g.R.Record.form (runs_given c.args.runs.now) (g.G.GrowthList.growths c.args.pieces.now))
+    (none_job c.args.self.now c.in_ok-payload.ensures.idle) (returns-clause-begun g c)
 
 pub returns-then-is_err-clause-unchanged : goal.returns-then-is_err-clause-unchanged
 returns-then-is_err-clause-unchanged g c = rw (← c.self.view_is) (
@@ -135,18 +132,21 @@ returns-then-is_err-2-clause-sure g c = λ readied.
     let s = c.self.inside in
     let runs = runs_given c.args.runs.now in
     let places : length runs ≤ vec_capacity s.homes.live - vec_len s.homes.live =
-        subst (λ v. length runs ≤ v.places) (sym c.self.view_is) readied.places in
+    subst (λ v. length runs ≤ v.places) (sym c.self.view_is) readied.places in
     let room =
-        c.extend_from_slice.ensures.succeeds
-          (omega
-              (arith, places, c.requires.some,
-                    length-map {B = Run} c.args.runs.now (λ run. record { start = run.0; count = run.1 }))) in
+    c.extend_from_slice.ensures.succeeds
+    (omega (
+      arith,
+      places,
+      c.requires.some,
+      length-map {B = Run} c.args.runs.now (λ run. record { start = run.0; count = run.1 }),
+    )) in
     sym c.if-is_err-2.ensures.negation ∙ room
 
 pub overflow_add-self : goal.overflow_add-self
 overflow_add-self g c =
     let space =
-        subst (λ v. v.gate + (6 + change_len v.shape (runs_given c.args.runs.now)) + fold_len v.fold < 2 ^ 48)
-          (sym c.self.view_is)
-          (allowed_space c.args.self.now (runs_given c.args.runs.now) c.in_ok-payload.ensures.allowed) in
+    subst (λ v. v.gate + (6 + change_len v.shape (runs_given c.args.runs.now)) + fold_len v.fold < 2 ^ 48)
+    (sym c.self.view_is)
+    (allowed_space c.args.self.now (runs_given c.args.runs.now) c.in_ok-payload.ensures.allowed) in
     omega (arith, space, c.self.invariant.job.changes_fit)

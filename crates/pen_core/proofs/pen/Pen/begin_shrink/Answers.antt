@@ -63,9 +63,9 @@ returns-then-is_err-clause-unchanged g c = rw (← c.self.view_is) (
 pub returns-then-is_err-clause-kept : goal.returns-then-is_err-clause-kept
 returns-then-is_err-clause-kept g c =
     kept_unchanged g.D.Disk.keeps g.D.Disk.states c.args.self.now _ c.ready.ensures.kept
-      (returns-then-is_err-clause-unchanged g c)
+    (returns-then-is_err-clause-unchanged g c)
 
 pub returns-clause-kept : goal.returns-clause-kept
 returns-clause-kept g c =
     kept_begun g.D.Disk.keeps g.D.Disk.states c.args.self.now _ c.ready.ensures.kept (Shrink c.args.n)
-      (none_job c.args.self.now c.in_ok-ready.ensures.idle) (returns-clause-begun g c)
+    (none_job c.args.self.now c.in_ok-ready.ensures.idle) (returns-clause-begun g c)

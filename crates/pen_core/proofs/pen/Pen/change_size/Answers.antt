@@ -27,7 +27,7 @@ not_old g c =
 -- the payload
 size : (g : Over) (c : After-runs_len g)
     → c.runs_len.result + c.count_positions-records.result * c.self.inside.shape.width ≡ change_len c.args.self.now.shape
-      (runs_given c.args.runs.now)
+    (runs_given c.args.runs.now)
 size g c =
     let s = c.self.inside in
     let count = length-map {B = Run} c.args.runs.now (λ run. record { start = run.0; count = run.1 }) in
@@ -52,22 +52,22 @@ pub returns-then-payload-limit-clause-refused : goal.returns-then-payload-limit-
 returns-then-payload-limit-clause-refused g c =
     let step = goal.at.returns-then-payload-limit-clause-refused g c in
     let limit : c.payload_limit-limit.result ≡ limit_of c.args.self.now.shape.format =
-        c.payload_limit-limit.ensures.is ∙ ap (λ v. limit_of v.shape.format) c.self.view_is in
+    c.payload_limit-limit.ensures.is ∙ ap (λ v. limit_of v.shape.format) c.self.view_is in
     refused_long c.args.self.now (runs_given c.args.runs.now) c.in_ok-ready.ensures.whole c.in_ok-ready.ensures.idle (not_old g step.After-runs_ascend)
     (sym c.runs_ascend.ensures ∙ c.if-not-runs_ascend.false)
     (ap (λ v. are_inside v.tally.size (runs_given c.args.runs.now)) (sym c.self.view_is) ∙ sym c.runs_inside.ensures
-      ∙ c.if-not-runs_inside.false)
+    ∙ c.if-not-runs_inside.false)
     (omega (arith, limit, size g step.After-runs_len, c.if-payload-limit.true))
 
 pub returns-then-is_full-clause-refused : goal.returns-then-is_full-clause-refused
 returns-then-is_full-clause-refused g c =
     let step = goal.at.returns-then-is_full-clause-refused g c in
     let limit : c.payload_limit-limit.result ≡ limit_of c.args.self.now.shape.format =
-        c.payload_limit-limit.ensures.is ∙ ap (λ v. limit_of v.shape.format) c.self.view_is in
+    c.payload_limit-limit.ensures.is ∙ ap (λ v. limit_of v.shape.format) c.self.view_is in
     refused_full c.args.self.now (runs_given c.args.runs.now) c.in_ok-ready.ensures.whole c.in_ok-ready.ensures.idle (not_old g step.After-runs_ascend)
     (sym c.runs_ascend.ensures ∙ c.if-not-runs_ascend.false)
     (ap (λ v. are_inside v.tally.size (runs_given c.args.runs.now)) (sym c.self.view_is) ∙ sym c.runs_inside.ensures
-      ∙ c.if-not-runs_inside.false)
+    ∙ c.if-not-runs_inside.false)
     (omega (arith, limit, size g step.After-runs_len, c.if-payload-limit.false))
     (sym (ap (is_full c.args.self.now) (size g step.After-runs_len)) ∙ sym c.is_full.ensures ∙ c.if-is_full.true)
 
@@ -75,11 +75,11 @@ pub returns-clause-allowed : goal.returns-clause-allowed
 returns-clause-allowed g c =
     let step = goal.at.returns-clause-allowed g c in
     let limit : c.payload_limit-limit.result ≡ limit_of c.args.self.now.shape.format =
-        c.payload_limit-limit.ensures.is ∙ ap (λ v. limit_of v.shape.format) c.self.view_is in
+    c.payload_limit-limit.ensures.is ∙ ap (λ v. limit_of v.shape.format) c.self.view_is in
     refused_none c.args.self.now (runs_given c.args.runs.now) c.in_ok-ready.ensures.whole c.in_ok-ready.ensures.idle (not_old g step.After-runs_ascend)
     (sym c.runs_ascend.ensures ∙ c.if-not-runs_ascend.false)
     (ap (λ v. are_inside v.tally.size (runs_given c.args.runs.now)) (sym c.self.view_is) ∙ sym c.runs_inside.ensures
-      ∙ c.if-not-runs_inside.false)
+    ∙ c.if-not-runs_inside.false)
     (omega (arith, limit, size g step.After-runs_len, c.if-payload-limit.false))
     (sym (ap (is_full c.args.self.now) (size g step.After-runs_len)) ∙ sym c.is_full.ensures ∙ c.if-is_full.false)
 
@@ -101,10 +101,10 @@ pub returns-then-runs-limit-clause-refused : goal.returns-then-runs-limit-clause
 returns-then-runs-limit-clause-refused g c =
     let step = goal.at.returns-then-runs-limit-clause-refused g c in
     let limit : c.payload_limit-limit.result ≡ limit_of c.args.self.now.shape.format =
-        c.payload_limit-limit.ensures.is ∙ ap (λ v. limit_of v.shape.format) c.self.view_is in
+    c.payload_limit-limit.ensures.is ∙ ap (λ v. limit_of v.shape.format) c.self.view_is in
     let count = length-map {B = Run} c.args.runs.now (λ run. record { start = run.0; count = run.1 }) in
     refused_long c.args.self.now (runs_given c.args.runs.now) c.in_ok-ready.ensures.whole c.in_ok-ready.ensures.idle (not_old g step.After-runs_ascend)
     (sym c.runs_ascend.ensures ∙ c.if-not-runs_ascend.false)
     (ap (λ v. are_inside v.tally.size (runs_given c.args.runs.now)) (sym c.self.view_is) ∙ sym c.runs_inside.ensures
-      ∙ c.if-not-runs_inside.false)
+    ∙ c.if-not-runs_inside.false)
     (omega (arith, limit, count, change_len-least c.args.self.now.shape (runs_given c.args.runs.now), c.if-runs-limit.true))

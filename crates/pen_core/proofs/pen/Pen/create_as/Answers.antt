@@ -1,5 +1,4 @@
 use Rattle.std.proofs.Common.{Err, None, false, inl, inr, refl, ap, arith}
-use Rattle.std.specs.Prelude.{vec_capacity}
 use Rattle.segment_core.specs.declared.format.Shape.{Shape}
 use Rattle.segment_core.specs.Tally.{nothing}
 use Rattle.pen_core.proofs.NewPen.{new_frames, new_vector, new_pen}

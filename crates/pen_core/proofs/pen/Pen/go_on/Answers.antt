@@ -21,7 +21,7 @@ invariant_of-result g c =
       pen_unfolded keeps states (record { format = c.in-Some.format; width = c.args.scanned.now.width })
           c.args.scanned.now.gate tally tally c.new.result.items None false c.none.result c.none.ensures
           (opened_pen form keeps states c.args.scanned.now c.args.homes c.requires laws.writes_back c.in-Some.format
-            c.in-Some.ensures.known c.len.result counted tally c.new.result.items laws.width_in_range),
+          c.in-Some.ensures.known c.len.result counted tally c.new.result.items laws.width_in_range),
       opened_lists form keeps states c.args.scanned.now c.args.homes c.requires laws.writes_back c.in-Some.format
           c.in-Some.ensures.known c.len.result counted c.new.result.items c.len-2.result c.none.result c.none.ensures
           (c.len-2.ensures ∙ c.args.homes.live.ok.0),
@@ -34,7 +34,7 @@ returns-clause-opened g c = λ model.
     let laws = g.met.R.Record g.world.𝓛 g.world.𝓜 g.world.𝓡 ((λ s x. x), (λ x. x), (λ x. x), λ x. x) in
     let counted : c.len.result ≡ length c.args.scanned.now.records.items = c.len.ensures ∙ c.args.scanned.now.records.ok.0 in
     opened_as g.R.Record.form (g.D.Disk.keeps c.args.disk) (g.D.Disk.states c.args.disk) c.args.scanned.now c.args.homes
-        c.requires laws.writes_back c.in-Some.format c.in-Some.ensures.known c.len.result counted
+    c.requires laws.writes_back c.in-Some.format c.in-Some.ensures.known c.len.result counted
     c.args.disk c.new.result.items (vec_capacity c.new.result) (vec_capacity c.args.homes.live - vec_len c.args.homes.live) (fold_of c.none.result) model
 
 pub returns-clause-kept : goal.returns-clause-kept
@@ -48,7 +48,7 @@ returns-clause-kept g c = λ model.
     let counted : c.len.result ≡ length c.args.scanned.now.records.items = c.len.ensures ∙ c.args.scanned.now.records.ok.0 in
     pen_kept c.none.result keeps states shape c.args.scanned.now.gate tally tally c.new.result.items None false
     (pen_unfolded keeps states shape c.args.scanned.now.gate tally tally c.new.result.items None false c.none.result
-      c.none.ensures
-      (opened_pen form keeps states c.args.scanned.now c.args.homes c.requires laws.writes_back c.in-Some.format
-            c.in-Some.ensures.known c.len.result counted tally c.new.result.items laws.width_in_range))
+    c.none.ensures
+    (opened_pen form keeps states c.args.scanned.now c.args.homes c.requires laws.writes_back c.in-Some.format
+    c.in-Some.ensures.known c.len.result counted tally c.new.result.items laws.width_in_range))
     model c.args.disk (vec_capacity c.new.result)

@@ -1,13 +1,11 @@
 use Rattle.std.proofs.Common.{◌≡◌, Result, Ok, Err, OnOk, None, false, refl, sym, ap, subst, ◌∙◌, arith}
 use Rattle.std.specs.Option.{is_some}
-use Rattle.std.specs.Prelude.{vec_capacity}
 use Rattle.std.specs.Result.{is_err}
 use Rattle.std.proofs.lemmas.List.{length-map}
 use Rattle.segment_core.specs.Frame.{Run}
 use Rattle.segment_core.specs.Runs.{runs_given, change_len}
 use Rattle.pen_core.specs.Refusals.{first_refusal, change_lines}
 use Rattle.pen_core.proofs.AtRest.{at_rest}
-use Rattle.pen_core.proofs.Whole.{pen_kept}
 use Rattle.pen_core.proofs.Begins.{no_step, no_job_same}
 use Rattle.pen_core.proofs.Worked.{unchanged_pen}
 use Rattle.pen_core.proofs.AtRest.{sound}
@@ -23,28 +21,28 @@ pub invariant_of-self : goal.invariant_of-self
 invariant_of-self g c =
     let s = c.self.inside in
     sound
-        (at_rest c.self.invariant c.take_room.new.bytes.items s.homes
-            (no_step s.shape s.bytes.items s.step
-                (subst (λ v. is_some v.job ≡ false) (sym c.self.view_is) c.in_ok-payload.ensures.idle))
-            refl refl)
+    (at_rest c.self.invariant c.take_room.new.bytes.items s.homes
+    (no_step s.shape s.bytes.items s.step
+    (subst (λ v. is_some v.job ≡ false) (sym c.self.view_is) c.in_ok-payload.ensures.idle))
+    refl refl)
 
 pub invariant_of-self-then-is_err-2 : goal.invariant_of-self-then-is_err-2
 invariant_of-self-then-is_err-2 g c =
     let s = c.self.inside in
     sound
-        (at_rest c.self.invariant c.take_room.new.bytes.items (record { homes = s.homes.homes; live = c.reserve.new.self })
-            (no_step s.shape s.bytes.items s.step
-                (subst (λ v. is_some v.job ≡ false) (sym c.self.view_is) c.in_ok-payload.ensures.idle))
-            refl c.reserve.ensures.items)
+    (at_rest c.self.invariant c.take_room.new.bytes.items (record { homes = s.homes.homes; live = c.reserve.new.self })
+    (no_step s.shape s.bytes.items s.step
+    (subst (λ v. is_some v.job ≡ false) (sym c.self.view_is) c.in_ok-payload.ensures.idle))
+    refl c.reserve.ensures.items)
 
 pub invariant_of-self-2 : goal.invariant_of-self-2
 invariant_of-self-2 g c =
     let s = c.self.inside in
     sound
-        (at_rest c.self.invariant c.take_room.new.bytes.items (record { homes = s.homes.homes; live = c.reserve.new.self })
-            (no_step s.shape s.bytes.items s.step
-                (subst (λ v. is_some v.job ≡ false) (sym c.self.view_is) c.in_ok-payload.ensures.idle))
-            refl c.reserve.ensures.items)
+    (at_rest c.self.invariant c.take_room.new.bytes.items (record { homes = s.homes.homes; live = c.reserve.new.self })
+    (no_step s.shape s.bytes.items s.step
+    (subst (λ v. is_some v.job ≡ false) (sym c.self.view_is) c.in_ok-payload.ensures.idle))
+    refl c.reserve.ensures.items)
 
 pub returns-then-is_err-clause-kept : goal.returns-then-is_err-clause-kept
 returns-then-is_err-clause-kept g c = sound_kept (invariant_of-self g c)
@@ -86,13 +84,13 @@ pub returns-clause-ready : goal.returns-clause-ready
 returns-clause-ready g c =
     let runs = runs_given c.args.runs.now in
     let size : c.in_ok-payload.payload ≡ change_len c.self.inside.shape runs =
-        c.in_ok-payload.ensures.size ∙ ap (λ v. change_len v.shape runs) (sym c.self.view_is) in
+    c.in_ok-payload.ensures.size ∙ ap (λ v. change_len v.shape runs) (sym c.self.view_is) in
     let room = on_ok c.take_room.result (sym c.is_err.ensures.value ∙ c.if-is_err.false) c.take_room.ensures.room in
     let places = on_ok c.reserve.result (sym c.is_err-2.ensures.value ∙ c.if-is_err-2.false) c.reserve.ensures.ok in
     record {
       allowed =
           subst (λ v. first_refusal (change_lines v runs) ≡ None)
-            (sym (unchanged_pen c.args.self.now _ (returns-clause-unchanged g c))) c.in_ok-payload.ensures.allowed;
+          (sym (unchanged_pen c.args.self.now _ (returns-clause-unchanged g c))) c.in_ok-payload.ensures.allowed;
       room = omega (arith, size, room);
       places = omega (arith, places, length-map {B = Run} c.args.runs.now (λ run. record { start = run.0; count = run.1 }));
     }

@@ -17,34 +17,34 @@ pub returns-in_err-tick_log-clause-refused : goal.returns-in_err-tick_log-clause
 returns-in_err-tick_log-clause-refused g c =
     let p = err_from_is_err_and c.from_residual.result c.from_residual.ensures.1 in
     rw (p.1, p.2)
-        (fault_is g.D.Disk.keeps g.D.Disk.states g.D.Disk.faults c.args.self.now c.loop.self c.tick_log.new.self
-            c.loop.invariant.so_far c.in_err-tick_log.field-0.0 c.in_err-tick_log.ensures.refused)
+    (fault_is g.D.Disk.keeps g.D.Disk.states g.D.Disk.faults c.args.self.now c.loop.self c.tick_log.new.self
+    c.loop.invariant.so_far c.in_err-tick_log.field-0.0 c.in_err-tick_log.ensures.refused)
 
 pub returns-in_err-tick_log-clause-file_stays : goal.returns-in_err-tick_log-clause-file_stays
 returns-in_err-tick_log-clause-file_stays g c =
     let p = err_from_is_err_and c.from_residual.result c.from_residual.ensures.1 in
     rw p.1
-        (fault_file g.D.Disk.keeps g.D.Disk.states g.D.Disk.faults c.args.self.now c.loop.self c.tick_log.new.self
-            c.loop.invariant.so_far c.tick_log.ensures.model c.in_err-tick_log.ensures.file_stays)
+    (fault_file g.D.Disk.keeps g.D.Disk.states g.D.Disk.faults c.args.self.now c.loop.self c.tick_log.new.self
+    c.loop.invariant.so_far c.tick_log.ensures.model c.in_err-tick_log.ensures.file_stays)
 
 pub returns-in_err-tick_log-clause-time : goal.returns-in_err-tick_log-clause-time
 returns-in_err-tick_log-clause-time g c =
     let p = err_from_is_err_and c.from_residual.result c.from_residual.ensures.1 in
     rw (p.1, p.2)
-        (fault_time g.D.Disk.keeps g.D.Disk.states g.D.Disk.faults c.args.self.now c.loop.self c.tick_log.new.self
-            c.loop.invariant.so_far c.in_err-tick_log.field-0.0 c.in_err-tick_log.ensures.refused c.tick_log.ensures.time)
+    (fault_time g.D.Disk.keeps g.D.Disk.states g.D.Disk.faults c.args.self.now c.loop.self c.tick_log.new.self
+    c.loop.invariant.so_far c.in_err-tick_log.field-0.0 c.in_err-tick_log.ensures.refused c.tick_log.ensures.time)
 
 pub returns-in_err-tick_log-clause-faults : goal.returns-in_err-tick_log-clause-faults
 returns-in_err-tick_log-clause-faults g c =
     let p = err_from_is_err_and c.from_residual.result c.from_residual.ensures.1 in
     rw (p.1, p.2)
-        (ended_faults g.D.Disk.keeps g.D.Disk.states g.D.Disk.faults c.args.self.now c.loop.self c.tick_log.new.self
-            c.loop.invariant.so_far _ c.in_err-tick_log.ensures.faults)
+    (ended_faults g.D.Disk.keeps g.D.Disk.states g.D.Disk.faults c.args.self.now c.loop.self c.tick_log.new.self
+    c.loop.invariant.so_far _ c.in_err-tick_log.ensures.faults)
 
 pub returns-in_err-tick_log-clause-model : goal.returns-in_err-tick_log-clause-model
 returns-in_err-tick_log-clause-model g c =
     ended_model g.D.Disk.keeps g.D.Disk.states g.D.Disk.faults c.args.self.now c.loop.self c.tick_log.new.self
-      c.loop.invariant.so_far c.tick_log.ensures.model
+    c.loop.invariant.so_far c.tick_log.ensures.model
 
 pub loop-smaller : goal.loop-smaller
 loop-smaller g c =
@@ -71,21 +71,21 @@ pub returns-clause-settled : goal.returns-clause-settled
 returns-clause-settled g c =
     let other : c.in_ok-tick_log.field-0 ≡ Step → ⊥ = λ same. search rules in
     ended_settled g.D.Disk.keeps g.D.Disk.states g.D.Disk.faults c.args.self.now c.loop.self c.tick_log.new.self
-        c.loop.invariant.so_far c.in_ok-tick_log.field-0 other c.in_ok-tick_log.ensures.ticked
+    c.loop.invariant.so_far c.in_ok-tick_log.field-0 other c.in_ok-tick_log.ensures.ticked
 
 pub returns-clause-file : goal.returns-clause-file
 returns-clause-file g c = λ now.
     let other : c.in_ok-tick_log.field-0 ≡ Step → ⊥ = λ same. search rules in
     let e = c.in_ok-tick_log.ensures in
     ended_file g.D.Disk.keeps g.D.Disk.states g.D.Disk.faults c.args.self.now c.loop.self c.tick_log.new.self
-        c.loop.invariant.so_far c.in_ok-tick_log.field-0 other (c.tick_log.ensures.model now) e.ticked (e.file now)
+    c.loop.invariant.so_far c.in_ok-tick_log.field-0 other (c.tick_log.ensures.model now) e.ticked (e.file now)
 
 pub returns-clause-frames : goal.returns-clause-frames
 returns-clause-frames g c = λ now.
     let other : c.in_ok-tick_log.field-0 ≡ Step → ⊥ = λ same. search rules in
     let e = c.in_ok-tick_log.ensures in
     ended_frames g.D.Disk.keeps g.D.Disk.states g.D.Disk.faults c.args.self.now c.loop.self c.tick_log.new.self
-        c.loop.invariant.so_far c.in_ok-tick_log.field-0 other (c.tick_log.ensures.model now) e.ticked (e.file now)
+    c.loop.invariant.so_far c.in_ok-tick_log.field-0 other (c.tick_log.ensures.model now) e.ticked (e.file now)
 
 pub returns-clause-whole : goal.returns-clause-whole
 returns-clause-whole g c =
@@ -97,7 +97,7 @@ returns-clause-time g c =
     let other : c.in_ok-tick_log.field-0 ≡ Step → ⊥ = λ same. search rules in
     let e = c.in_ok-tick_log.ensures in
     ended_time g.D.Disk.keeps g.D.Disk.states g.D.Disk.faults c.args.self.now c.loop.self c.tick_log.new.self
-        c.loop.invariant.so_far c.in_ok-tick_log.field-0 other e.ticked e.whole.0 c.tick_log.ensures.time
+    c.loop.invariant.so_far c.in_ok-tick_log.field-0 other e.ticked e.whole.0 c.tick_log.ensures.time
 
 pub returns-clause-faults : goal.returns-clause-faults
 returns-clause-faults g c =
@@ -108,9 +108,9 @@ returns-clause-faults g c =
 pub returns-clause-model : goal.returns-clause-model
 returns-clause-model g c =
     ended_model g.D.Disk.keeps g.D.Disk.states g.D.Disk.faults c.args.self.now c.loop.self c.tick_log.new.self
-      c.loop.invariant.so_far c.tick_log.ensures.model
+    c.loop.invariant.so_far c.tick_log.ensures.model
 
 pub returns-clause-goes_on : goal.returns-clause-goes_on
 returns-clause-goes_on g c =
     ended_goes_on g.D.Disk.keeps g.D.Disk.states g.D.Disk.faults c.args.self.now c.loop.self c.tick_log.new.self
-      c.loop.invariant.so_far c.in_ok-tick_log.ensures.goes_on
+    c.loop.invariant.so_far c.in_ok-tick_log.ensures.goes_on

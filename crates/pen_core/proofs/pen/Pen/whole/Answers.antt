@@ -1,4 +1,3 @@
-use Rattle.std.specs.Prelude.{vec_capacity}
 use Rattle.pen_core.proofs.Whole.{sound_kept}
 use Rattle.pen_core.proofs.pen.Pen.whole.Goals as goal
 
