@@ -19,3 +19,4 @@ pub mod VaultTies
 pub mod Given
 pub mod GrowthTies
 pub mod Phases
+pub mod Names

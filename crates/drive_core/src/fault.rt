@@ -1,20 +1,35 @@
 //! Why a step is refused.
 
+ghost use Rattle.std.specs.Prelude.{Some};
+ghost use Rattle.drive_core.specs.Names.{fault_name};
+
 use book_core::GrowFault;
 use segment_core::ScanFault;
-use thiserror::Error;
+use std::error::Error;
+use std::fmt;
 use vault_core::VaultFault;
 
 /// Why a step is refused.
-#[derive(Clone, Copy, Debug, PartialEq, Eq, Error)]
+#[derive(Clone, Copy, Debug, PartialEq, Eq)]
 pub enum Fault {
     /// By the vault or by the pen, or the step doesn't fit the phase.
-    #[error("{0}")]
     Vault(VaultFault),
     /// By the book. Every growth that strayed is told so.
-    #[error("{0}")]
     Grow(GrowFault),
     /// The file on the disk is refused.
-    #[error("{0}")]
     Scan(ScanFault),
 }
+
+impl fmt::Display for Fault {
+    ghost output = { λ fault. Some (fault_name fault) };
+
+    fn fmt<W: fmt::Write>(&self, f: &mut fmt::Formatter<W>) -> fmt::Result {
+        match *self {
+            Fault::Vault(fault) => fmt::Display::fmt(&fault, f),
+            Fault::Grow(fault) => fmt::Display::fmt(&fault, f),
+            Fault::Scan(fault) => fmt::Display::fmt(&fault, f),
+        }
+    }
+}
+
+impl Error for Fault {}
