@@ -10,6 +10,8 @@ use Rattle.segment_core.specs.declared.tally.Tally.{Tally}
 use Rattle.segment_core.specs.Frame.{Frame}
 use Rattle.segment_core.specs.Frame as kinds
 use Rattle.pen_core.specs.declared.fold.Fold.{Fold}
+use Rattle.pen_core.specs.declared.pen.Pen.TheInside.{Inside}
+use Rattle.pen_core.specs.Fields.{IsSound}
 use Rattle.pen_core.specs.declared.fold.Write.{Write}
 use Rattle.pen_core.specs.declared.step.Step.{Step}
 use Rattle.pen_core.specs.declared.stage.FoldStage.{FoldStage}
@@ -76,14 +78,13 @@ ready_or_filed Sync quiet held = absurd cc
 ready_or_filed Ready quiet held = inl refl
 ready_or_filed Filed quiet held = inr refl
 
-pub ready_at : (shape : Shape) (gate : ℕ) (tally : Tally) (bytes : List ℕ) (o : Option Step) (fold : Fold)
-    → IsAtStage shape gate tally bytes o fold fold.stage → has_call fold.stage ≡ false → is_unfolded fold.stage ≡ false
-    → o ≡ None → fold.stage ≡ Ready
-ready_at shape gate tally bytes o fold at quiet held idle = elim (ready_or_filed fold.stage quiet held) [
+pub ready_at : {D : Type 0} {keeps : D → Type 0} {states : D → List State} {pen : Inside D} → IsSound keeps states pen
+    → has_call pen.fold.stage ≡ false → is_unfolded pen.fold.stage ≡ false → pen.step ≡ None → pen.fold.stage ≡ Ready
+ready_at {pen = pen} sound quiet held idle = elim (ready_or_filed pen.fold.stage quiet held) [
   | inl ready ↦ ready
-  | inr
-      filed ↦ (let clash : None ≡ Some (kinds.Fold fold.count) = sym (ap (frame_in_hand shape bytes) idle)
-      ∙ filed_at shape gate tally bytes o fold at filed in
+  | inr filed ↦ (
+      let in_hand = filed_at pen.shape pen.gate pen.tally pen.bytes.items pen.step pen.fold sound.fold.counts filed in
+      let clash : None ≡ Some (kinds.Fold pen.fold.count) = sym (ap (frame_in_hand pen.shape pen.bytes.items) idle) ∙ in_hand in
       absurd cc)
 ]
 
@@ -116,13 +117,13 @@ left_called shape gate tally bytes o fold Sync calls at = refl
 left_called shape gate tally bytes o fold Ready calls at = absurd cc
 left_called shape gate tally bytes o fold Filed calls at = absurd cc
 
-pub called_seen : (shape : Shape) (gate : ℕ) (tally : Tally) (bytes : List ℕ) (o : Option Step) (fold : Fold)
-    → has_call fold.stage ≡ true → IsAtStage shape gate tally bytes o fold fold.stage
-    → fold_of (advanced fold) ≡ Some (called (seen fold))
-called_seen shape gate tally bytes o fold calls at =
+pub called_seen : {D : Type 0} {keeps : D → Type 0} {states : D → List State} {pen : Inside D} → IsSound keeps states pen
+    → has_call pen.fold.stage ≡ true → fold_of (advanced pen.fold) ≡ Some (called (seen pen.fold))
+called_seen {pen = pen} sound calls =
+    let fold = pen.fold in
     fold_is_seen (advanced fold) (still_held fold.stage calls)
     ∙ ap (λ left. Some (record { count = fold.count; left = left; stage = stage_after fold.stage }))
-    (left_called shape gate tally bytes o fold fold.stage calls at)
+    (left_called pen.shape pen.gate pen.tally pen.bytes.items pen.step fold fold.stage calls sound.fold.counts)
 
 pub listed_called : {keeps : Type 0} {states : List State} {shape : Shape} {gate : ℕ} {tally : Tally} {bytes : List ℕ} {o : Option Step}
     {homes : Homes} {live : ℕ} {fold : Fold} → has_call fold.stage ≡ true
@@ -159,6 +160,6 @@ left_at shape gate tally bytes o fold Ready at = left_long fold ∙ omega (arith
 left_at shape gate tally bytes o fold Filed at = left_long fold ∙ omega (arith, at.1)
 
 -- as many writes are left as the stage tells
-pub left_told : (shape : Shape) (gate : ℕ) (tally : Tally) (bytes : List ℕ) (o : Option Step) (fold : Fold)
-    → IsAtStage shape gate tally bytes o fold fold.stage → IfSome (fold_of fold) (λ f. length f.left ≡ writes_left f.stage)
-left_told shape gate tally bytes o fold at = left_at shape gate tally bytes o fold fold.stage at
+pub left_told : {D : Type 0} {keeps : D → Type 0} {states : D → List State} {pen : Inside D} → IsSound keeps states pen
+    → IfSome (fold_of pen.fold) (λ f. length f.left ≡ writes_left f.stage)
+left_told {pen = pen} sound = left_at pen.shape pen.gate pen.tally pen.bytes.items pen.step pen.fold pen.fold.stage sound.fold.counts

@@ -196,7 +196,7 @@ same_tally t n c f size changes folded =
     ∙ ap (λ k. record { size = t.size; changes = k; folded = f }) changes
     ∙ ap (λ k. record { size = t.size; changes = t.changes; folded = k }) folded
 
-module _ {R : Type 0} (form : Encoding R) (keeps : Type 0) (states : List State) (scanned : Scanned R) (homes : Homes)
+module _ {R : Type 0} {form : Encoding R} {keeps : Type 0} {states : List State} {scanned : Scanned R} {homes : Homes}
     (on : IsFoundOn form keeps states scanned homes) (back : WritesBack form) (format : Format)
     (known : version_of format ≡ scanned.version) (n : ℕ) (counted : n ≡ length scanned.records.items) where
   abbrev named : Format

@@ -131,7 +131,7 @@ runs_again : (runs : List (ℕ × ℕ)) → map (λ run. (run.start, run.count))
 runs_again [] = refl
 runs_again (run ∷ runs) = ap (λ rs. (run.0, run.1) ∷ rs) (runs_again runs)
 
-module _ {R : Type 0} (form : Encoding R) (shape : Shape) (gate : ℕ) (tally : Tally) (runs : List Run)
+module _ {R : Type 0} (form : Encoding R) {shape : Shape} {gate : ℕ} {tally : Tally} {runs : List Run}
     (pieces : List (List R)) (wide : 1 ≤ shape.width) (short : tally.size ≤ 2 ^ 32) (width : form.width ≡ shape.width)
     (size_of : (r : R) → length (form.bytes_of r) ≡ form.width)
     (some : 0 < length runs) (filled : length (joined pieces) ≡ records_of_runs runs) {broken busy : Bool}
@@ -170,9 +170,6 @@ module _ {R : Type 0} (form : Encoding R) (shape : Shape) (gate : ℕ) (tally : 
   pub change_text_len : length (frame_text shape.format frame) ≡ 6 + change_len shape runs
   change_text_len = length-frame_text shape.format frame ∙ ap (λ n. 6 + n) payload
 
-  pub change_room : gate + length (frame_text shape.format frame) < 2 ^ 48
-  change_room = let long = length-frame_text shape.format frame ∙ ap (λ n. 6 + n) payload in let below = allowed.not_full in omega arith
-
 -- ---- begun
 
 -- What a change is begun from.
@@ -209,13 +206,13 @@ module _ {R D : Type 0} {form : Encoding R} {keeps : D → Type 0} {states : D �
         idle = no_step pen.shape pen.bytes.items pen.step changes.allowed.idle;
         reads = changes.reads;
         spelled = changes.spelled;
-        framed = change_framed form pen.shape pen.gate pen.tally given pieces wide short changes.width changes.size_of counted changes.filled changes.allowed;
-        follows = change_follows form pen.shape pen.gate pen.tally given pieces wide short changes.width changes.size_of counted changes.filled changes.allowed;
+        framed = change_framed form pieces wide short changes.width changes.size_of counted changes.filled changes.allowed;
+        follows = change_follows form pieces wide short changes.width changes.size_of counted changes.filled changes.allowed;
         counted = changes.next_is;
         no_fold = λ count is. absurd cc;
         room =
             let space = changes.space in
-            omega (arith, change_text_len form pen.shape pen.gate pen.tally given pieces wide short changes.width changes.size_of counted changes.filled changes.allowed);
+            omega (arith, change_text_len form pieces wide short changes.width changes.size_of counted changes.filled changes.allowed);
         homes_more = ap (λ v. v.items) changes.homes_same ∙ sym (append-nil pen.homes.homes.items);
         runs_more = changes.runs_more ∙ ap (λ rs. pen.homes.live.items ++ rs) (sym (runs_again runs));
       }

@@ -102,7 +102,7 @@ returns-then-has_call-clause-ticked g c = rw (← c.self.view_is) (
       record {
         fold_was = fold_is_seen s.fold (calls_held s.fold.stage calls);
         fold_is = ap fold_of c.advance.ensures
-            ∙ called_seen s.shape s.gate s.tally s.bytes.items s.step s.fold calls c.self.invariant.fold.counts;
+            ∙ called_seen c.self.invariant calls;
         job_same = refl;
         shape_same = refl;
         tally_same = refl;
@@ -160,7 +160,7 @@ files g c =
       sound = c.self.invariant;
       going = c.if-self.false;
       idle = idle;
-      ready = ready_at s.shape s.gate s.tally s.bytes.items s.step s.fold c.self.invariant.fold.counts
+      ready = ready_at c.self.invariant
           (sym c.has_call.ensures ∙ c.if-has_call.false) (sym c.is_none.ensures ∙ c.if-is_none.false) idle;
       reads = g.met.D.Disk.reads_an_image;
       swapped = ap (λ v. v.items) c.swap.ensures.x_after;
