@@ -1,4 +1,4 @@
-use Rattle.std.proofs.Common.{◌≡◌, ◌+◌, length, List, ℕ, sym, ap, subst, ◌∙◌, arith}
+use Rattle.std.proofs.Common.{◌≡◌, ◌+◌, length, sym, ap, subst, ◌∙◌, arith}
 use Rattle.std.proofs.lemmas.Bool.{eqb-true, eqb-false}
 use Rattle.segment_core.specs.declared.fault.Cause.TheVariants.{Kind}
 use Rattle.segment_core.specs.Layout.{is_layout}
