@@ -5,6 +5,7 @@ use Rattle.std.specs.Option.{option_or}
 use Rattle.std.proofs.lemmas.Bool.{not-false, ltb-false, leb-true, le-leb, and_parts}
 use Rattle.std.proofs.lemmas.List.{length-append}
 use Rattle.record_core.specs.Bytes.{Encoding}
+use Rattle.record_core.specs.Limits.{record_limit}
 use Rattle.segment_core.specs.declared.format.Format.{Format}
 use Rattle.segment_core.specs.declared.format.Shape.{Shape}
 use Rattle.segment_core.specs.declared.found.Found.{Found}
@@ -16,7 +17,7 @@ use Rattle.segment_core.specs.Tally.{after, tally_of, are_inside, is_outside, is
 use Rattle.segment_core.specs.Vector.{place_among, home_in, home_of}
 use Rattle.segment_core.specs.Reading.{runs_of, record_count, head_len}
 use Rattle.segment_core.specs.Notes.{noted}
-use Rattle.segment_core.specs.Found.{home_among, AreInTurn, AreHomes, changes_in, HasHome}
+use Rattle.segment_core.specs.Found.{home_among, AreInTurn, AreHomes, changes_in, HasHome, IsFound, IsSame}
 use Rattle.segment_core.proofs.Push.{text_push}
 use Rattle.segment_core.proofs.LastFrom.{home_push}
 
@@ -146,3 +147,28 @@ homes_kept shape frames f homes later kind shorter has turn same = record {
 
 pub same_shape : {R : Type 0} (form : Encoding R) (shape : Shape) → shape.width ≡ form.width → shape ≡ shape_of shape.format form
 same_shape form shape wide = ap (λ w. record { format = shape.format; width = w }) wide
+
+-- what is found of the positions where a frame leaves them as they were
+pub record StayFound {R : Type 0} (form : Encoding R) (format : Format) (frames : List Frame) (f : Frame) (new : Found R) : Type 0 where
+  pub size_is : length new.records.items ≡ (tally_of (frames ++ f ∷ [])).size
+  pub small : (tally_of (frames ++ f ∷ [])).size ≤ record_limit
+  pub each : (i : ℕ) → i < (tally_of (frames ++ f ∷ [])).size
+      → HasHome form (text (shape_of format form) (frames ++ f ∷ [])) (home_of (shape_of format form) (frames ++ f ∷ []) i) (slice_get new.records.items i) (noted new.notes i)
+  pub homes : AreHomes (shape_of format form) (frames ++ f ∷ []) new.homes.items
+
+pub stay_found : {R : Type 0} (form : Encoding R) (format : Format) (frames : List Frame) (f : Frame) (old new : Found R)
+    → 1 < kind_of f → IsFound form format frames old → IsSame old new
+    → (tally_of (frames ++ f ∷ [])).size ≡ (tally_of frames).size
+    → StayFound form format frames f new
+stay_found form format frames f old new kind behind same size =
+    let shape : Shape = shape_of format form in
+    record {
+      size_is = ap length same.records_are ∙ behind.size_is ∙ sym size;
+      small = let small = behind.small in omega arith;
+      each = λ i lt.
+          kept form format frames f old new i (no_home form.width i (length (text shape frames)) (tally_of frames) f kind)
+          (ap (λ rs. slice_get rs i) same.records_are) (same.notes_are i) (behind.each i (omega arith));
+      homes = homes_kept shape frames f old.homes.items new.homes.items kind (omega arith) behind.homes
+          (subst (λ (hs : List Home). AreInTurn 0 hs (tally_of (frames ++ f ∷ [])).size) (sym same.homes_are) (subst (AreInTurn 0 old.homes.items) (sym size) behind.homes.in_turn))
+          (λ i lt. ap (λ (hs : List Home). home_among shape.width hs i) same.homes_are);
+    }

@@ -26,7 +26,7 @@ use Rattle.segment_core.proofs.Replaced.{slice_get-take}
 use Rattle.segment_core.proofs.FoundHomes.{home_among_push, in_turn_push}
 use Rattle.segment_core.proofs.FrameParts.{length-frame_parts, records_filled}
 use Rattle.segment_core.proofs.FoundChanges.{all_push, all_drop, all_map, changes_push, changes_counted, records_stand}
-use Rattle.segment_core.proofs.FoundKept.{has_home_as, after_group, home_in_group, changes_in_group, group_fits, no_home, after_change, changes_in_change, change_inside, inside_longer, kept, homes_kept, same_shape}
+use Rattle.segment_core.proofs.FoundKept.{has_home_as, after_group, home_in_group, changes_in_group, group_fits, no_home, after_change, changes_in_change, change_inside, inside_longer, kept, homes_kept, same_shape, stay_found}
 
 -- ---- the same frames
 
@@ -164,19 +164,14 @@ found_change form frames seen old new kind follows same folded_same pushed =
     let one : record { at = length (text shape frames); shape = shape; frame = f } ≡ seen
     = ap (λ n. record { at = n; shape = shape; frame = f }) (sym at)
     ∙ ap (λ s. record { at = seen.at; shape = s; frame = f }) (sym is_shape) in
+    let stays = stay_found form format frames f old new (omega (arith, kind)) behind same size in
     let few = behind.counted in
     let counted = changes_counted shape frames in
     record {
-      size_is = ap length same.records_are ∙ behind.size_is ∙ sym size;
-      small = let small = behind.small in omega arith;
-      each =
-          λ i lt.
-          kept form format frames f old new i
-          (no_home form.width i (length (text shape frames)) t f (omega (arith, kind)))
-          (ap (λ rs. slice_get rs i) same.records_are) (same.notes_are i) (behind.each i (omega arith));
-      homes = homes_kept shape frames f old.homes.items new.homes.items (omega (arith, kind)) (omega arith) behind.homes
-          (subst (λ (hs : List Home). AreInTurn 0 hs (tally_of (frames ++ f ∷ [])).size) (sym same.homes_are) (subst (AreInTurn 0 old.homes.items) (sym size) behind.homes.in_turn))
-          (λ i lt. ap (λ (hs : List Home). home_among shape.width hs i) same.homes_are);
+      size_is = stays.size_is;
+      small = stays.small;
+      each = stays.each;
+      homes = stays.homes;
       folded_is = folded_same ∙ behind.folded_is ∙ sym folded;
       counted = omega arith;
       live_is = pushed ∙ ap (λ (cs : List Seen). cs ++ seen ∷ []) behind.live_is ∙ sym (
@@ -257,17 +252,12 @@ found_fold form frames seen old new count frame follows same folded_now dropped 
     let high = bounds.1 in
     let was = behind.folded_is in
     let both : t.folded + (count - old.folded) ≡ count = omega arith in
+    let stays = stay_found form format frames f old new (omega (arith, kind)) behind same size in
     record {
-      size_is = ap length same.records_are ∙ behind.size_is ∙ sym size;
-      small = let small = behind.small in omega arith;
-      each =
-          λ i lt.
-          kept form format frames f old new i
-          (no_home form.width i (length (text shape frames)) t f (omega (arith, kind)))
-          (ap (λ rs. slice_get rs i) same.records_are) (same.notes_are i) (behind.each i (omega arith));
-      homes = homes_kept shape frames f old.homes.items new.homes.items (omega (arith, kind)) (omega arith) behind.homes
-          (subst (λ (hs : List Home). AreInTurn 0 hs (tally_of (frames ++ f ∷ [])).size) (sym same.homes_are) (subst (AreInTurn 0 old.homes.items) (sym size) behind.homes.in_turn))
-          (λ i lt. ap (λ (hs : List Home). home_among shape.width hs i) same.homes_are);
+      size_is = stays.size_is;
+      small = stays.small;
+      each = stays.each;
+      homes = stays.homes;
       folded_is = folded_now ∙ sym folded;
       counted = omega arith;
       live_is =

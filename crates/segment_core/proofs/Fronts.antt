@@ -63,19 +63,33 @@ opened bytes front left is some gate =
     let any : 0 < length front = omega arith in
     record { some = omega arith; opened = front_byte bytes front left 0 is any ∙ gate }
 
--- the byte of the kind, and the number behind it
+-- what the front tells of the head, once its gate was found open and its kind known
+pub record IsTold (bytes : List ℕ) (left : ℕ) (kind : FrameKind) (len : ℕ) : Type 0 where
+  pub size : length bytes ≡ left
+  pub gate : IsOpen bytes
+  pub kind_is : kind_in bytes ≡ kind_byte kind
+  pub known : is_kind (kind_in bytes) ≡ true
+  pub len_is : payload_len_in bytes ≡ len
+
+-- the byte of the kind
 pub kind_shown : (bytes front : List ℕ) (left : ℕ)
     → IsFrontOf bytes front left → 6 ≤ left → kind_in bytes ≡ slice_index front 1
 kind_shown bytes front left is long = let enough = is.enough in front_byte bytes front left 1 is (omega arith)
 
-pub len_shown : (bytes front : List ℕ) (left n : ℕ)
-    → IsFrontOf bytes front left → 6 ≤ left → n ≡ u32_at front 2 → payload_len_in bytes ≡ n
-len_shown bytes front left n is long told =
-    let enough = is.enough in front_u32 bytes front left 2 is (omega arith) ∙ sym told
-
-pub known : (kind : FrameKind) (byte : ℕ) (bytes : List ℕ)
-    → kind_in bytes ≡ byte → kind_byte kind ≡ byte → is_kind (kind_in bytes) ≡ true
-known kind byte bytes shown is = ap is_kind (shown ∙ sym is) ∙ is_kind-kind_byte kind
+pub told : (bytes front : List ℕ) (left : ℕ) (kind : FrameKind) (len : ℕ)
+    → IsFrontOf bytes front left → IsOpen bytes → 6 ≤ left
+    → kind_byte kind ≡ slice_index front 1 → len ≡ u32_at front 2
+    → IsTold bytes left kind len
+told bytes front left kind len is gate long kind_is len_is =
+    let enough = is.enough in
+    let here : kind_in bytes ≡ kind_byte kind = kind_shown bytes front left is long ∙ sym kind_is in
+    record {
+      size = is.size;
+      gate = gate;
+      kind_is = here;
+      known = ap is_kind here ∙ is_kind-kind_byte kind;
+      len_is = front_u32 bytes front left 2 is (omega arith) ∙ sym len_is;
+    }
 
 -- ---- the number that begins the payload
 

@@ -9,7 +9,7 @@ use Rattle.segment_core.specs.declared.format.Format.TheVariants.{One}
 use Rattle.segment_core.specs.declared.format.Shape.{Shape}
 use Rattle.segment_core.specs.Shape.{shape_of}
 use Rattle.segment_core.specs.Frame.{Frame, Group, Change, Fold, text}
-use Rattle.segment_core.specs.Tally.{AreLegal}
+use Rattle.segment_core.specs.Tally.{AreLegal, AreLegalFrom}
 use Rattle.segment_core.specs.Image.{BeginsImage}
 use Rattle.segment_core.specs.Vector.{change_of, place_of, record_at, IsVectorOf}
 use Rattle.segment_core.specs.Folding.{home_record_at, HomesHold}
@@ -38,8 +38,11 @@ changed_file = text shape (grown ++ change ∷ []) ++ 0 ∷ []
 abbrev folded_file : List ℕ
 folded_file = text shape (written ++ Fold 1 ∷ []) ++ 0 ∷ []
 
-changed_legal : AreLegal shape (grown ++ change ∷ [])
-changed_legal = (
+-- a growth of one record, a change of it, and frames that may follow
+legal_before : (n : ℕ) (rest : List Frame)
+    → AreLegalFrom shape (record { size = 1; changes = 1; folded = 0 }) rest
+    → AreLegal shape (Group (1 ∷ []) (to_le_bytes w64 n) ∷ change ∷ rest)
+legal_before n rest legal = (
   record {
     wide = omega arith;
     small = omega arith;
@@ -53,9 +56,12 @@ changed_legal = (
       layout = (refl, ((omega arith, (omega arith, omega arith)), tt), refl);
     },
     record { ordered = refl; inside = refl; folded = refl; counted = refl; short = refl },
-    tt,
+    legal,
   ),
 )
+
+changed_legal : AreLegal shape (grown ++ change ∷ [])
+changed_legal = legal_before 5 [] tt
 
 grown_vector : IsVectorOf One numbers changed_file grown (5 ∷ [])
 unfolding place_of
@@ -78,22 +84,10 @@ changed_vector =
     (to_le_bytes w64 7) (7 ∷ []) (record { legal = changed_legal; begins = (0 ∷ [], refl) }) seven
 
 written_legal : AreLegal shape (written ++ Fold 1 ∷ [])
-written_legal = (
-  record {
-    wide = omega arith;
-    small = omega arith;
-    layout = (omega arith, ((omega arith, omega arith), tt), refl);
-  },
+written_legal = legal_before 7 (Fold 1 ∷ []) (
+  record { wide = omega arith; small = omega arith; layout = omega arith },
   record { ordered = refl; inside = refl; folded = refl; counted = refl; short = refl },
-  (
-    record {
-      wide = omega arith;
-      small = omega arith;
-      layout = (refl, ((omega arith, (omega arith, omega arith)), tt), refl);
-    },
-    record { ordered = refl; inside = refl; folded = refl; counted = refl; short = refl },
-    (record { wide = omega arith; small = omega arith; layout = omega arith }, record { ordered = refl; inside = refl; folded = refl; counted = refl; short = refl }, tt),
-  ),
+  tt,
 )
 
 written_begins : BeginsImage shape folded_file (written ++ Fold 1 ∷ [])

@@ -1,9 +1,11 @@
 -- What the definitions that are computed nowhere say of worked images: their frames, vector, scan, homes and first
 -- fault, each with what they say of none.
-use Rattle.std.proofs.Common.{◌≡◌, ℕ, zero, suc, ◌+◌, ◌<◌, inl, inr, List, [], ◌∷◌, ◌++◌, length, Some, None, refl, sym, ap, subst, ◌∙◌, arith, length-append}
+use Rattle.std.proofs.Common.{◌≡◌, ℕ, zero, suc, ◌+◌, ◌<◌, inl, inr, List, [], ◌∷◌, ◌++◌, length, drop, Some, None, refl, sym, ap, subst, ◌∙◌, arith, length-append}
 use Rattle.std.specs.Prelude.{◌↔◌, slice_get}
+use Rattle.std.proofs.lemmas.List.{drop_at}
 use Rattle.std.specs.Int.{w64, to_le_bytes}
 use Rattle.record_core.specs.Bytes.{Encoding, unsigned, flagged}
+use Rattle.segment_core.specs.declared.fault.Cause.{Cause}
 use Rattle.segment_core.specs.declared.fault.Cause.TheVariants.{NoGate, ShortFrame, Kind, BadRecord}
 use Rattle.segment_core.specs.declared.fault.ScanFault.{ScanFault}
 use Rattle.segment_core.specs.declared.format.Format.TheVariants.{One}
@@ -147,15 +149,24 @@ gate_sound : IsSound 8 One (text one changed)
 unfolding header_lines
 gate_sound = record { no_fault = refl; names = refl }
 
+-- the one fault of an image whose frames end at it
+fault_at_end : {R : Type 0} (form : Encoding R) (frames : List Frame) (rest : List ℕ) (at : ℕ) (cause : Cause)
+    → IsSound form.width One (text (shape_of One form) frames ++ rest) → AreLegal (shape_of One form) frames
+    → frame_fault (shape_of One form) (length (text (shape_of One form) frames)) (tally_of frames) rest ≡ Some (damaged at cause)
+    → (fault : ScanFault)
+    → IsFirstFault form (text (shape_of One form) frames ++ rest) fault ↔ fault ≡ damaged at cause
+fault_at_end form frames rest at cause sound legal here fault =
+    let shape : Shape = shape_of One form in
+    let p : ℕ = length (text shape frames) in
+    let image : List ℕ = text shape frames ++ rest in
+    let longest = is_longest shape frames image rest legal refl (NoFrame_fault shape p (tally_of frames) rest (damaged at cause) here) in
+    let there : frame_fault shape p (tally_of frames) (drop p image) ≡ Some (damaged at cause)
+    = ap (frame_fault shape p (tally_of frames)) (drop_at (text shape frames) rest p refl) ∙ here in
+    let first = cut_first form image at cause (refused_by_frame form One image frames (damaged at cause) sound longest there) in
+    (λ is. one_fault form image fault (damaged at cause) is first, λ is. subst (IsFirstFault form image) (sym is) first)
+
 gate_fault : (fault : ScanFault) → IsFirstFault numbers (text one changed) fault ↔ fault ≡ damaged 55 NoGate
-gate_fault fault = (λ is. one_fault numbers (text one changed) fault (damaged 55 NoGate) is here, λ is. subst (IsFirstFault numbers (text one changed)) (sym is) here)
-  where
-    here : IsFirstFault numbers (text one changed) (damaged 55 NoGate)
-    here =
-        cut_first numbers (text one changed) 55 NoGate
-        (refused_by_frame numbers One (text one changed) changed (damaged 55 NoGate) gate_sound
-        (is_longest one changed (text one changed) [] changed_legal refl (NoFrame_fault one 55 (tally_of changed) [] (damaged 55 NoGate) no_gate_at_55))
-        no_gate_at_55)
+gate_fault = fault_at_end numbers changed [] 55 NoGate gate_sound changed_legal no_gate_at_55
 
 -- a frame of another kind behind a growth
 abbrev other_kind : List ℕ
@@ -173,14 +184,7 @@ unfolding header_lines
 kind_sound = record { no_fault = refl; names = refl }
 
 kind_fault : (fault : ScanFault) → IsFirstFault numbers kind_file fault ↔ fault ≡ damaged 34 (Kind 5)
-kind_fault fault = (λ is. one_fault numbers kind_file fault (damaged 34 (Kind 5)) is here, λ is. subst (IsFirstFault numbers kind_file) (sym is) here)
-  where
-    here : IsFirstFault numbers kind_file (damaged 34 (Kind 5))
-    here =
-        cut_first numbers kind_file 34 (Kind 5)
-        (refused_by_frame numbers One kind_file grown (damaged 34 (Kind 5)) kind_sound
-        (is_longest one grown kind_file other_kind grown_legal refl (NoFrame_fault one 33 (tally_of grown) other_kind (damaged 34 (Kind 5)) kind_at_34))
-        kind_at_34)
+kind_fault = fault_at_end numbers grown other_kind 34 (Kind 5) kind_sound grown_legal kind_at_34
 
 -- ---- records that are none: two of flag 2
 
@@ -244,14 +248,7 @@ unfolding header_lines
 bad_kind_sound = record { no_fault = refl; names = refl }
 
 frame_before_record : (fault : ScanFault) → IsFirstFault flagged bad_kind_file fault ↔ fault ≡ damaged 44 (Kind 5)
-frame_before_record fault = (λ is. one_fault flagged bad_kind_file fault (damaged 44 (Kind 5)) is here, λ is. subst (IsFirstFault flagged bad_kind_file) (sym is) here)
-  where
-    here : IsFirstFault flagged bad_kind_file (damaged 44 (Kind 5))
-    here =
-        cut_first flagged bad_kind_file 44 (Kind 5)
-        (refused_by_frame flagged One bad_kind_file bad (damaged 44 (Kind 5)) bad_kind_sound
-        (is_longest flags bad bad_kind_file other_kind bad_legal refl (NoFrame_fault flags 43 (tally_of bad) other_kind (damaged 44 (Kind 5)) bad_kind_at_44))
-        bad_kind_at_44)
+frame_before_record = fault_at_end flagged bad other_kind 44 (Kind 5) bad_kind_sound bad_legal bad_kind_at_44
 
 -- a file that has a vector has no fault
 no_fault : (fault : ScanFault) → IsFirstFault numbers changed_file fault → ⊥

@@ -32,10 +32,14 @@ FitsNumber format Fold len n = len ≡ 8
 
 -- ---- the head
 
+-- the bytes of a frame that are looked at: its head, and the longest number that begins a payload
+abbrev pub front_len : ℕ
+front_len = 14
+
 -- these are the first bytes of others, of which there are so many
 pub record IsFrontOf (bytes front : List ℕ) (left : ℕ) : Type 0 where
   pub size : length bytes ≡ left
-  pub enough : length front ≡ min 14 left
+  pub enough : length front ≡ min front_len left
   pub rest : List ℕ
   pub is : bytes ≡ front ++ rest
 

@@ -7,7 +7,7 @@ ghost use Rattle.segment_core.specs.Frame.{frame_head_len, open_gate};
 ghost use Rattle.segment_core.specs.Layout.{u32_at, u64_at, is_layout};
 ghost use Rattle.segment_core.specs.declared.format.Shape.{Shape};
 ghost use Rattle.segment_core.specs.Fault.{is_closed, first_line, frame_lines};
-ghost use Rattle.segment_core.specs.FrameHead.{IsFrontOf, Shows, FitsNumber, FitsIn, first_number, IsNextHead};
+ghost use Rattle.segment_core.specs.FrameHead.{front_len, IsFrontOf, Shows, FitsNumber, FitsIn, first_number, IsNextHead};
 
 use crate::fault::{Cause, ScanFault, damaged};
 use crate::format::{
@@ -106,7 +106,7 @@ impl FrameHead {
     /// What is told of the frame whose gate is the first of these bytes, at `at` of a file of which so many bytes are left
     /// from there on. The bytes are the first of those, `FRONT_LEN` where there are as many. `None`: the gate is closed.
     pub fn read(front: &[u8], left: u64, at: u64, shape: Shape) -> Result<Option<FrameHead>, Unread>
-        requires enough { length front.now ≡ min 14 left }
+        requires enough { length front.now ≡ min front_len left }
         requires place { at + left < 2 ^ 64 }
         ensures fits { IfOk result (λ next. MatchOption next (Unit {0}) (FitsIn shape.format left)) }
         ensures next { (bytes : List ℕ) → IsFrontOf bytes front.now left → IsNextHead shape at bytes result }

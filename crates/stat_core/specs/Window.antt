@@ -2,6 +2,7 @@
 use Rattle.std.specs.Prelude.{◌≡◌, ◌≤◌, ℕ, ◌+◌, ◌-◌, min, List, take, drop}
 use Rattle.disk_core.specs.State.{State, now, IsImage}
 use Rattle.disk_core.specs.Moments.{LeavesOnly}
+use Rattle.segment_core.specs.FrameHead.{front_len}
 use Rattle.stat_core.specs.declared.window.Window.{Window}
 
 -- the buffer begins with this part of the image
@@ -12,7 +13,7 @@ Holds image buffer window = take window.len buffer ≡ take window.len (drop win
 pub record IsWithin (room at bytes : ℕ) (window : Window) : Type 0 where
   pub fits : window.len ≤ room
   pub starts : window.start ≤ at
-  pub reaches : at + min 14 (bytes - at) ≤ window.start + window.len
+  pub reaches : at + min front_len (bytes - at) ≤ window.start + window.len
   pub ends : window.start + window.len ≤ bytes
 
 -- A read gives what it gave, and a crash leaves no more than it might have left.

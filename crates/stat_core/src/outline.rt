@@ -3,7 +3,7 @@
 ghost use Rattle.std.specs.Prelude.{◌≡◌, ◌≤◌, ◌<◌, ◌+◌, ◌*◌, ◌^◌, ℕ, List, false, length, min, MatchOption, MatchResult, IfSome, IfOk};
 ghost use Rattle.segment_core.specs.Kind.{kind_byte};
 ghost use Rattle.segment_core.specs.Layout.{is_layout, is_group_layout, is_change_layout, count_in, run_count_in};
-ghost use Rattle.segment_core.specs.FrameHead.{IsFrontOf, FitsNumber, first_number};
+ghost use Rattle.segment_core.specs.FrameHead.{front_len, IsFrontOf, FitsNumber, first_number};
 ghost use Rattle.stat_core.specs.Next.{IsNextOutline, IsOrderFault, IsOutlineOf, IsSized};
 ghost use Rattle.stat_core.specs.Outline.{MayStand, outline_len};
 
@@ -127,7 +127,7 @@ pub(crate) fn read_outline(
     tally: Tally,
 ) -> Result<Option<(Outline, u64)>, ScanFault>
     requires wide { 0 < shape.width }
-    requires enough { length front.now ≡ min 14 left }
+    requires enough { length front.now ≡ min front_len left }
     requires place { at + left < 2 ^ 64 }
     ensures sized { IfOk result (λ next. MatchOption next (Unit {0}) (IsSized shape tally left)) }
     ensures next { (bytes : List ℕ) → IsFrontOf bytes front.now left → IsNextOutline shape at tally bytes result }

@@ -3,6 +3,7 @@
 ghost use Rattle.std.specs.Prelude.{◌≡◌, ◌≤◌, ◌<◌, ◌+◌, ◌-◌, ◌^◌, length, min, IfOk, IfErr, MatchResult};
 ghost use Rattle.disk_core.specs.Calls.{bytes_of};
 ghost use Rattle.disk_core.specs.Moments.{clock};
+ghost use Rattle.segment_core.specs.FrameHead.{front_len};
 ghost use Rattle.stat_core.specs.Window.{Holds, IsWithin, OnlyReads};
 
 use disk_core::{Disk, DiskFault};
@@ -22,7 +23,7 @@ pub(crate) struct Window {
 
 /// How many bytes from `at` on are looked at, in a file of so many.
 pub(crate) fn front_len(at: u64, bytes: u64) -> u64
-    ensures { result ≡ min 14 (bytes - at) }
+    ensures { result ≡ min front_len (bytes - at) }
 {
     (FRONT_LEN as u64).min(bytes.saturating_sub(at))
 }
@@ -37,7 +38,7 @@ pub(crate) fn slide<D: Disk>(
 ) -> Result<Window, DiskFault>
     requires length { D.keeps disk.old → bytes ≡ length (bytes_of (D.states disk.old)) }
     requires inside { at ≤ bytes }
-    requires room { 14 ≤ length buffer.old }
+    requires room { front_len ≤ length buffer.old }
     requires within { (window.len ≤ length buffer.old) × (window.start + window.len ≤ bytes) }
     requires holds { D.keeps disk.old → Holds (bytes_of (D.states disk.old)) buffer.old window }
     ensures within { IfOk result (IsWithin (length buffer.old) at bytes) }
