@@ -37,7 +37,12 @@ module _ {R : Type 0} (width : ℕ) where
 
       at : ((left : ℕ) → cost width (take n growths) ≤ left → (n < length growths → left < cost width (take (n + 1) growths)) → fitting width left growths ≡ n)
           → (b : Bool) → nat_le (4 + length growth * width) room ≡ b → (if b then 1 + fitting width (room - (4 + length growth * width)) growths else 0) ≡ suc n
-      at again true is = let within = leb-true (4 + length growth * width) room is in let rest = again (room - (4 + length growth * width)) (omega (arith, le)) (λ less. let more = most (omega (arith, less)) in let next : cost width (take (suc n + 1) (growth ∷ growths)) ≡ (4 + length growth * width) + cost width (take (n + 1) growths) = ap (λ k. cost width (take k (growth ∷ growths))) one_more in omega (arith, more, next)) in omega (arith, rest)
+      at again true is =
+          let within = leb-true (4 + length growth * width) room is in
+          let next : cost width (take (suc n + 1) (growth ∷ growths)) ≡ (4 + length growth * width) + cost width (take (n + 1) growths)
+          = ap (λ k. cost width (take k (growth ∷ growths))) one_more in
+          let rest = again (room - (4 + length growth * width)) (omega (arith, le)) (λ less. let more = most (omega (arith, less)) in omega (arith, more, next)) in
+          omega (arith, rest)
       at again false is = let past = leb-false (4 + length growth * width) room is in absurd (omega (arith, le, past))
 
   pub greatest_fits : (limit : ℕ) (growths : List (List R)) (n : ℕ) → 4 ≤ limit → IsGreatest width limit growths n → fitting width (limit - 4) growths ≡ n
@@ -77,7 +82,10 @@ module _ {A : Type 0} where
     where
       at : (b : Bool) → nat_le t n ≡ b → take (n - t) (drop t xs) ≡ drop t (take n xs)
       at true is = let le = leb-true t n is in take-drop_sum t (n - t) n xs (omega (arith, le))
-      at false is = let less = leb-false t n is in let few = short n xs in ap (λ k. take k (drop t xs)) (let none : n - t ≡ 0 = omega (arith, less) in none) ∙ sym (drop-all t (take n xs) (omega (arith, few, less)))
+      at false is =
+          let less = leb-false t n is in
+          let few = short n xs in
+          ap (λ k. take k (drop t xs)) (let none : n - t ≡ 0 = omega (arith, less) in none) ∙ sym (drop-all t (take n xs) (omega (arith, few, less)))
 
 pub drop-map : {A B : Type 0} (f : A → B) (t : ℕ) (xs : List A) → drop t (map f xs) ≡ map f (drop t xs)
 drop-map f zero xs = refl

@@ -160,7 +160,10 @@ module _ {R D : Type 0} {m : Medium R D} {w : World R} {phase : Growth} {g : Gro
     gather_answers size is long =
         let settled = not_lt w.settled (length w.history) (let all = all_settled in omega (arith, all)) in
         answered is (still_left (worlds.Growing phase) (record w { phase = worlds.Exclusive }) tie.calm tie.phase_is
-        (inl (passes w.hand.broken _ _ None (whole_hand whole.pen_whole) (passes (nat_lt w.settled (length w.history)) _ _ None settled (inr refl)), (ap step.Size (long ∙ sym (ap length same_list)), refl)))
+        (inl (
+          passes w.hand.broken _ _ None (whole_hand whole.pen_whole) (passes (nat_lt w.settled (length w.history)) _ _ None settled (inr refl)),
+          (ap step.Size (long ∙ sym (ap length same_list)), refl),
+        ))
         refl refl (ap (λ (p : PenOf D). p.disk) pen_is) tie.calm (left_exclusive ended_tie))
 
   -- ---- refused

@@ -128,7 +128,8 @@ pub runs_more : {R : Type 0} (list : List (ℕ × ℕ)) (runs : List (ℕ × Vec
     → runs_given list ≡ runs_of (pieces_of (take k runs)) → runs_given (list ++ (run.0, length run.1.items) ∷ []) ≡ runs_of (pieces_of (take (k + 1) runs))
 runs_more list runs k run there is =
     map-append (λ (r : ℕ × ℕ). record { start = r.0; count = r.1 }) list ((run.0, length run.1.items) ∷ []) ∙ ap (λ rs. rs ++ record { start = run.0; count = length run.1.items } ∷ []) is
-    ∙ sym (ap (λ rs. runs_of (pieces_of rs)) (take_more runs k run there) ∙ ap runs_of (map-append (λ (r : ℕ × Vec _). (r.0, r.1.items)) (take k runs) (run ∷ [])) ∙ map-append (λ (piece : ℕ × List _). record { start = piece.0; count = length piece.1 }) (pieces_of (take k runs)) ((run.0, run.1.items) ∷ []))
+    ∙ sym (ap (λ rs. runs_of (pieces_of rs)) (take_more runs k run there) ∙ ap runs_of (map-append (λ (r : ℕ × Vec _). (r.0, r.1.items)) (take k runs) (run ∷ []))
+    ∙ map-append (λ (piece : ℕ × List _). record { start = piece.0; count = length piece.1 }) (pieces_of (take k runs)) ((run.0, run.1.items) ∷ []))
 
 pub runs_all : {R : Type 0} (list : List (ℕ × ℕ)) (runs : List (ℕ × Vec R)) (k : ℕ) → length runs ≤ k → runs_given list ≡ runs_of (pieces_of (take k runs))
     → runs_given list ≡ runs_of (pieces_of runs)

@@ -50,11 +50,13 @@ module _ {R : Type 0} (w w' : World R) (n : ℕ) (there : HasFile w.phase) where
   -- one command more
   longer : {x : World R} → w' ≡ x → (command : Command R) → x.base ≡ w.base → x.history ≡ w.history ++ command ∷ [] → w.settled ≤ x.settled → HasFile x.phase
       → (n ≡ 0 → x.settled ≡ w.settled) → Goes w w' n
-  longer is command base history settled file quiet = subst (λ y. Goes w y n) (sym is) (record { base_same = base; added = command ∷ []; history_is = history; settled_le = settled; file_there = file; quiet = quiet })
+  longer is command base history settled file quiet = subst (λ y. Goes w y n) (sym is)
+      (record { base_same = base; added = command ∷ []; history_is = history; settled_le = settled; file_there = file; quiet = quiet })
 
   -- and none, but more of them settled
   settles : {x : World R} → w' ≡ x → x.base ≡ w.base → x.history ≡ w.history → w.settled ≤ x.settled → HasFile x.phase → (n ≡ 0 → x.settled ≡ w.settled) → Goes w w' n
-  settles is base history settled file quiet = subst (λ y. Goes w y n) (sym is) (record { base_same = base; added = []; history_is = history ∙ sym (append-nil w.history); settled_le = settled; file_there = file; quiet = quiet })
+  settles is base history settled file quiet = subst (λ y. Goes w y n) (sym is)
+      (record { base_same = base; added = []; history_is = history ∙ sym (append-nil w.history); settled_le = settled; file_there = file; quiet = quiet })
 
   by_outcome : {Fits Accepted : Type 0} {May By : Fault → Type 0} {answer : Answer R} → (Fits × Accepted) ⊎ ((fault : Fault) × May fault × (answer ≡ step.Refused fault) × By fault)
       → (Accepted → Goes w w' n) → ((fault : Fault) → By fault → Goes w w' n) → Goes w w' n

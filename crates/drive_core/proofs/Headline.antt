@@ -156,7 +156,8 @@ module _ {R : Type 0} (form : Encoding R) where
     leaves_more w e end is inner has g far rest = elim (zero_or_more e.calls) [
       | inl none ↦ subst (λ d. LeavesOnly d.states end.disk.states (OpensToPrefix form end.base end.history w.settled)) (is.still none) then
       | inr some ↦ LeavesOnly-join w.disk.states e.after.disk.states end.disk.states (OpensToPrefix form end.base end.history w.settled)
-          (LeavesOnly-weaker w.disk.states e.after.disk.states (OpensToPrefix form e.after.base e.after.history w.settled) (OpensToPrefix form end.base end.history w.settled) (λ image p. prefix_later e.after end w.settled w.settled image far.base_same far.added far.history_is (omega arith) p) (inner.within some has))
+          (LeavesOnly-weaker w.disk.states e.after.disk.states (OpensToPrefix form e.after.base e.after.history w.settled) (OpensToPrefix form end.base end.history w.settled)
+          (λ image p. prefix_later e.after end w.settled w.settled image far.base_same far.added far.history_is (omega arith) p) (inner.within some has))
           then
     ]
       where

@@ -6,12 +6,14 @@ use Rattle.disk_core.proofs.JoinedMoments.{LeavesOnly-weaker}
 use Rattle.pen_core.specs.PenOf.{PenOf}
 use Rattle.flush_core.specs.declared.lane.Tick.{Tick}
 use Rattle.flush_core.specs.declared.lane.Tick.TheVariants as ticks
+use Rattle.flush_core.specs.declared.lane.Lane.{Lane}
 use Rattle.flush_core.specs.declared.lane.Lane.TheVariants as lanes
 use Rattle.flush_core.specs.Flusher.{FlusherOf, SameGrowths, IsFlusherOf, OpensToSettled, OpensToJob}
 use Rattle.flush_core.specs.Refusals.{IsLaneTicked, IsLaneFault, lane_calls, settled_behind, failed}
 use Rattle.flush_core.specs.declared.fault.FlushFault.{FlushFault}
 use Rattle.flush_core.specs.declared.fault.FlushFault.TheVariants as flush
 use Rattle.drive_core.specs.Line.{of_flush}
+use Rattle.drive_core.specs.LaneRows.{lane_step}
 use Rattle.drive_core.specs.Medium.{Medium}
 use Rattle.drive_core.specs.Step.{Step, Answer}
 use Rattle.drive_core.specs.Step as step
@@ -131,14 +133,14 @@ module _ {R D : Type 0} {m : Medium R D} {w : World R} {phase : Growth} {g : Gro
   settled_same : new.settled ≡ g.flusher.settled → phase.before + new.settled ≡ w.settled
   settled_same is = let before = tie.flusher.settled_is in omega (arith, is, before)
 
-  pub log_answers : {answer : Answer R} (tick : Tick) → answer ≡ step.Ticked tick → clock (m.states new.pen.disk) ≡ clock (m.states g.flusher.pen.disk) + log_calls
+  log_answers : {answer : Answer R} (tick : Tick) → answer ≡ step.Ticked tick → clock (m.states new.pen.disk) ≡ clock (m.states g.flusher.pen.disk) + log_calls
       → IsLaneTicked lanes.Log g.flusher.pen new.pen tick → g.flusher.pen.broken ≡ false → new.pen.broken ≡ false → new.settled ≡ settled_behind g.flusher tick
       → GrowthStep m w (record g { flusher = new }) step.Log answer log_calls
   log_answers ticked_as is time ticked whole whole' settled =
       let event = log_answered m w g.flusher.pen new.pen tie.hand_is tie.disk_is (phase.before + new.settled) ticked_as ticked whole whole' (settled_more ticked_as ticked settled) in
       by_event is (log_brings ticked_as ticked settled tick.same.taken_same) time (due_few g.flusher.pen.broken g.flusher.pen.job) event.0 event.1 event.2 refl
 
-  pub log_refuses : {answer : Answer R} (fault : FlushFault) → answer ≡ step.Refused (of_flush fault) → clock (m.states new.pen.disk) ≡ clock (m.states g.flusher.pen.disk) + log_calls
+  log_refuses : {answer : Answer R} (fault : FlushFault) → answer ≡ step.Refused (of_flush fault) → clock (m.states new.pen.disk) ≡ clock (m.states g.flusher.pen.disk) + log_calls
       → IsLaneFault lanes.Log g.flusher.pen new.pen fault → new.settled ≡ g.flusher.settled → m.faults new.pen.disk ≡ m.faults g.flusher.pen.disk + failed fault
       → GrowthStep m w (record g { flusher = new }) step.Log answer log_calls
   log_refuses (flush.Strayed number) is time why settled counted = absurd why
@@ -161,7 +163,7 @@ module _ {R D : Type 0} {m : Medium R D} {w : World R} {phase : Growth} {g : Gro
   settled_home ticks.Filed ticked is = is
   settled_home ticks.Waiting ticked is = is
 
-  pub home_answers : {answer : Answer R} (tick : Tick) → answer ≡ step.Ticked tick → clock (m.states new.pen.disk) ≡ clock (m.states g.flusher.pen.disk) + home_calls
+  home_answers : {answer : Answer R} (tick : Tick) → answer ≡ step.Ticked tick → clock (m.states new.pen.disk) ≡ clock (m.states g.flusher.pen.disk) + home_calls
       → IsLaneTicked lanes.Home g.flusher.pen new.pen tick → g.flusher.pen.broken ≡ false → new.pen.broken ≡ false → new.settled ≡ settled_behind g.flusher tick
       → GrowthStep m w (record g { flusher = new }) step.Home answer home_calls
   home_answers ticked_as is time ticked whole whole' told =
@@ -169,7 +171,7 @@ module _ {R D : Type 0} {m : Medium R D} {w : World R} {phase : Growth} {g : Gro
       let event = home_answered m w g.flusher.pen new.pen tie.hand_is tie.disk_is (phase.before + new.settled) ticked_as ticked whole whole' (settled_same settled) in
       by_event is (home_brings ticked_as ticked settled tick.same.taken_same) time (home_few g.flusher.pen.broken g.flusher.pen.fold) event.0 event.1 event.2 refl
 
-  pub home_refuses : {answer : Answer R} (fault : FlushFault) → answer ≡ step.Refused (of_flush fault) → clock (m.states new.pen.disk) ≡ clock (m.states g.flusher.pen.disk) + home_calls
+  home_refuses : {answer : Answer R} (fault : FlushFault) → answer ≡ step.Refused (of_flush fault) → clock (m.states new.pen.disk) ≡ clock (m.states g.flusher.pen.disk) + home_calls
       → IsLaneFault lanes.Home g.flusher.pen new.pen fault → new.settled ≡ g.flusher.settled → m.faults new.pen.disk ≡ m.faults g.flusher.pen.disk + failed fault
       → GrowthStep m w (record g { flusher = new }) step.Home answer home_calls
   home_refuses (flush.Strayed number) is time why settled counted = absurd why
@@ -178,6 +180,20 @@ module _ {R D : Type 0} {m : Medium R D} {w : World R} {phase : Growth} {g : Gro
       let job : growths_in_hand new.pen.job ≡ growths_in_hand g.flusher.pen.job
       = elim why [ inl was ↦ ap (λ (p : PenOf D). growths_in_hand p.job) was.2 | inr by ↦ ap growths_in_hand by.5.job_same ] in
       by_event is (job_left job settled) time (home_few g.flusher.pen.broken g.flusher.pen.fold) event.0 event.1 event.2 refl
+
+  -- ---- either lane
+
+  pub lane_answers : {answer : Answer R} (lane : Lane) (tick : Tick) → answer ≡ step.Ticked tick → clock (m.states new.pen.disk) ≡ clock (m.states g.flusher.pen.disk) + lane_calls lane g.flusher.pen
+      → IsLaneTicked lane g.flusher.pen new.pen tick → g.flusher.pen.broken ≡ false → new.pen.broken ≡ false → new.settled ≡ settled_behind g.flusher tick
+      → GrowthStep m w (record g { flusher = new }) (lane_step lane) answer (lane_calls lane g.flusher.pen)
+  lane_answers lanes.Log ticked_as is time ticked whole whole' settled = log_answers ticked_as is time ticked whole whole' settled
+  lane_answers lanes.Home ticked_as is time ticked whole whole' settled = home_answers ticked_as is time ticked whole whole' settled
+
+  pub lane_refuses : {answer : Answer R} (lane : Lane) (fault : FlushFault) → answer ≡ step.Refused (of_flush fault) → clock (m.states new.pen.disk) ≡ clock (m.states g.flusher.pen.disk) + lane_calls lane g.flusher.pen
+      → IsLaneFault lane g.flusher.pen new.pen fault → new.settled ≡ g.flusher.settled → m.faults new.pen.disk ≡ m.faults g.flusher.pen.disk + failed fault
+      → GrowthStep m w (record g { flusher = new }) (lane_step lane) answer (lane_calls lane g.flusher.pen)
+  lane_refuses lanes.Log fault is time why settled counted = log_refuses fault is time why settled counted
+  lane_refuses lanes.Home fault is time why settled counted = home_refuses fault is time why settled counted
 
 -- with what a crash may leave of the disk as it is lent
 pub lent_tick : {R D : Type 0} (m : Medium R D) (live : book.Phase R) {old new : FlusherOf R D} {lent : D} → IsFlusherOf (m.keeps old.pen.disk) live old → SameGrowths old new

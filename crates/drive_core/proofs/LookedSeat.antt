@@ -30,7 +30,8 @@ module _ {R D : Type 0} {m : Medium R D} {w : World R} {phase : Growth} {g : Gro
       answered is (quiet_steps tie w' (seat_row tie inside w' refused (IsLook w phase (Some k) refused w')
       (inr (told.Grow (grow.Strayed n), inl (told.Grow (grow.Strayed n), refl, refl), refl, refl))) refl refl refl (strayed_behind tie w' n refl refl refl))
 
-  module _ (m1 t : Seated R) (learns : SeatLearns m0 m1) (few : length m1.pass.entries ≤ g.puts) (at_t : slice_get (slice_set g.seats k m1) g.last ≡ Some t) (met : MeetsIn (slice_set g.seats k m1) row g.last t m1) where
+  module _ (m1 t : Seated R) (learns : SeatLearns m0 m1) (few : length m1.pass.entries ≤ g.puts)
+      (at_t : slice_get (slice_set g.seats k m1) g.last ≡ Some t) (met : MeetsIn (slice_set g.seats k m1) row g.last t m1) where
     within_all : length m1.pass.entries ≤ length tie.entries
     within_all = let puts = tie.puts_is in omega (arith, few, puts)
 

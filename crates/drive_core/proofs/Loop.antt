@@ -92,4 +92,7 @@ module _ {R : Type 0} (form : Encoding R) where
 
     pub Run-weaker : (w : World R) (events : List (Event R)) → Run form before w events → Run form now w events
     Run-weaker w [] run = tt
-    Run-weaker w (e ∷ events) run = (record { row = stray_weaker w w.strayed e.asked e.answer e.after run.0.row; called = run.0.called; time = run.0.time; still = run.0.still }, Run-weaker e.after events run.1)
+    Run-weaker w (e ∷ events) run = (
+      record { row = stray_weaker w w.strayed e.asked e.answer e.after run.0.row; called = run.0.called; time = run.0.time; still = run.0.still },
+      Run-weaker e.after events run.1,
+    )

@@ -110,7 +110,9 @@ module _ {R : Type 0} (form : Encoding R) where
   pub run_pushed : (keeps : Type 0) (Tied : World R → Type 0) (w : World R) (steps steps' : List (Step R)) (answers answers' : List (Answer R)) (calls calls' : List ℕ) → steps' ≡ steps
       → answers' ≡ answers → calls' ≡ calls → HasRun form keeps Tied w steps answers calls → HasRun form keeps Tied w steps' answers' calls'
   run_pushed keeps Tied w steps steps' answers answers' calls calls' p q r has =
-      subst (λ xs. HasRun form keeps Tied w xs answers' calls') (sym p) (subst (λ xs. HasRun form keeps Tied w steps xs calls') (sym q) (subst (λ xs. HasRun form keeps Tied w steps answers xs) (sym r) has))
+      subst (λ xs. HasRun form keeps Tied w xs answers' calls') (sym p)
+      (subst (λ xs. HasRun form keeps Tied w steps xs calls') (sym q)
+      (subst (λ xs. HasRun form keeps Tied w steps answers xs) (sym r) has))
 
 pub asked_more : {R : Type 0} (asks : List (code.Step R)) (k : ℕ) (asked : code.Step R) → slice_get asks k ≡ Some asked
     → map step_of (take (k + 1) asks) ≡ map step_of (take k asks) ++ step_of asked ∷ []

@@ -39,9 +39,17 @@ module _ {R D : Type 0} {m : Medium R D} {w : World R} {v : VaultOf R D} (tie : 
 
   -- ---- of one run
 
-  one : (start : ℕ) (r : R) (records : List R) → IsWritten m w v new (step.Change start (r ∷ records)) (Change (one_run start (length (r ∷ records))) (r ∷ records))
-      (changed_frame m.form (one_run start (length (r ∷ records))) (list_of new)) (change_lines v.pen (one_run start (length (r ∷ records)))) (IsGiven ((start, r ∷ records) ∷ []) (one_run start (length (r ∷ records))))
-  one start r records = changes tie new size rests ((start, r ∷ records) ∷ []) (r ∷ records) (sym (append-nil (r ∷ records))) (step.Change start (r ∷ records)) (λ answer w' n row calls. (row, calls))
+  -- what is written of a step that asks for a change of these runs
+  abbrev WritesRuns : Step R → List Run → List R → Type 0 → Type 0
+  WritesRuns asked runs records made = IsWritten m w v new asked (Change runs records) (changed_frame m.form runs (list_of new)) (change_lines v.pen runs) made
+
+  abbrev WritesOne : ℕ → List R → List Run → Type 0
+  WritesOne start records run = WritesRuns (step.Change start records) run records (IsGiven ((start, records) ∷ []) run)
+
+  one : (start : ℕ) (r : R) (records : List R) → WritesOne start (r ∷ records) (one_run start (length (r ∷ records)))
+  one start r records =
+      changes tie new size rests ((start, r ∷ records) ∷ []) (r ∷ records) (sym (append-nil (r ∷ records))) (step.Change start (r ∷ records))
+      (λ answer w' n row calls. (row, calls))
 
   pub one_answers : {answer : Answer R} (start : ℕ) (records : List R) → answer ≡ step.Fine
       → (0 < length records → IsGiven ((start, records) ∷ []) (one_run start (length records))) → (0 < length records → Says (one_run start (length records)) (Ok tt))
@@ -59,8 +67,7 @@ module _ {R D : Type 0} {m : Medium R D} {w : World R} {v : VaultOf R D} (tie : 
   -- ---- of several
 
   some : (piece : ℕ × List R) (pieces : List (ℕ × List R))
-      → IsWritten m w v new (step.Changes (piece ∷ pieces)) (Change (runs_of (piece ∷ pieces)) (joined (map (λ p. p.1) (piece ∷ pieces))))
-      (changed_frame m.form (runs_of (piece ∷ pieces)) (list_of new)) (change_lines v.pen (runs_of (piece ∷ pieces))) (IsGiven (piece ∷ pieces) (runs_of (piece ∷ pieces)))
+      → WritesRuns (step.Changes (piece ∷ pieces)) (runs_of (piece ∷ pieces)) (joined (map (λ p. p.1) (piece ∷ pieces))) (IsGiven (piece ∷ pieces) (runs_of (piece ∷ pieces)))
   some piece pieces = changes tie new size rests (piece ∷ pieces) (joined (map (λ p. p.1) (piece ∷ pieces))) refl (step.Changes (piece ∷ pieces)) (λ answer w' n row calls. (inr row, calls))
 
   some_answers : {answer : Answer R} (pieces : List (ℕ × List R)) → answer ≡ step.Fine
@@ -79,7 +86,8 @@ module _ {R D : Type 0} {m : Medium R D} {w : World R} {v : VaultOf R D} (tie : 
   -- by the list of their starts and lengths
   module _ (pieces : List (ℕ × List R)) (list : List (ℕ × ℕ)) (same : runs_given list ≡ runs_of pieces) where
     as_long : length list ≡ length pieces
-    as_long = sym (length-map list (λ (run : ℕ × ℕ). record { start = run.0; count = run.1 })) ∙ ap length same ∙ length-map pieces (λ (piece : ℕ × List R). record { start = piece.0; count = length piece.1 })
+    as_long = sym (length-map list (λ (run : ℕ × ℕ). record { start = run.0; count = run.1 })) ∙ ap length same
+        ∙ length-map pieces (λ (piece : ℕ × List R). record { start = piece.0; count = length piece.1 })
 
     pub runs_answers : {answer : Answer R} → answer ≡ step.Fine
         → (0 < length list → IsGiven pieces (runs_given list)) → (0 < length list → Says (runs_given list) (Ok tt))

@@ -1,5 +1,5 @@
 -- The begin of a fold, from what a pen's begin promises.
-use Rattle.std.proofs.Common.{◌≡◌, inl, inr, ℕ, ◌≤◌, ◌<◌, ◌^◌, Bool, true, false, nat_lt, nat_le, List, Option, Some, None, refl, sym, ap, subst, arith, is_some, lt-ltb, le-leb, leb-true, ltb-true}
+use Rattle.std.proofs.Common.{[], ◌∷◌, List, ◌≡◌, inl, inr, ℕ, ◌≤◌, ◌<◌, ◌^◌, Bool, true, false, nat_lt, nat_le, Option, Some, None, refl, sym, ap, subst, arith, is_some, lt-ltb, le-leb, leb-true, ltb-true}
 use Rattle.std.specs.Prelude.{IfSome}
 use Rattle.disk_core.specs.State.{IsImage, now}
 use Rattle.pen_core.specs.PenOf.{PenOf, FoldOf}
@@ -9,7 +9,8 @@ use Rattle.pen_core.specs.declared.fault.PenFault.{PenFault}
 use Rattle.pen_core.specs.declared.fault.PenFault.TheVariants as pen
 use Rattle.drive_core.specs.declared.fault.Fault.TheVariants.{Vault}
 use Rattle.vault_core.specs.declared.fault.VaultFault.TheVariants as vault
-use Rattle.drive_core.specs.Line.{Allows}
+use Rattle.drive_core.specs.declared.fault.Fault.{Fault}
+use Rattle.drive_core.specs.Line.{Line, When, Allows}
 use Rattle.drive_core.specs.Step.{Answer}
 use Rattle.drive_core.specs.Step as step
 use Rattle.drive_core.specs.World.{World, hand_of, is_live}
@@ -39,47 +40,51 @@ module _ {D : Type 0} where
   live_of p true ready = lt-ltb p.tally.folded p.tally.changes ready.2
   live_of p false ready = not_lt p.tally.folded p.tally.changes ready.2
 
-  no_fold : (p : PenOf D) → p.fold ≡ None → is_some p.fold ≡ false
-  no_fold p none = ap is_some none
+  -- ---- the table
+
+  abbrev FoldRefuses : PenOf D → Bool → PenFault → Type 0
+  FoldRefuses p live fault = Allows (fold_lines (hand_of p) live) (Some (Vault (vault.Pen fault)))
+
+  -- neither broken nor with a fold in hand
+  past_two : (p : PenOf D) (lines : List Line) (answer : Option Fault) → p.broken ≡ false → p.fold ≡ None → Allows lines answer
+      → Allows (When p.broken (Vault (vault.Pen pen.Broken)) ∷ When (is_some p.fold) (Vault (vault.Pen pen.Busy)) ∷ lines) answer
+  past_two p lines answer whole none allows =
+      passes p.broken (Vault (vault.Pen pen.Broken)) _ answer whole (passes (is_some p.fold) (Vault (vault.Pen pen.Busy)) lines answer (ap is_some none) allows)
 
   ready_lines : (p : PenOf D) (ready : Bool) → IsReadyToFold p ready → Allows (fold_lines (hand_of p) ready) None
-  ready_lines p true ready =
-      passes p.broken (Vault (vault.Pen pen.Broken)) _ None ready.0 (passes _ (Vault (vault.Pen pen.Busy)) _ None (no_fold p ready.1) (passes _ (Vault (vault.Pen pen.FileFull)) _ None (not_le (2 ^ 48) (gate_behind_fold p) ready.3) (inr refl)))
-  ready_lines p false ready = passes p.broken (Vault (vault.Pen pen.Broken)) _ None ready.0 (passes _ (Vault (vault.Pen pen.Busy)) _ None (no_fold p ready.1) refl)
+  ready_lines p true ready = past_two p _ None ready.0 ready.1 (passes _ (Vault (vault.Pen pen.FileFull)) _ None (not_le (2 ^ 48) (gate_behind_fold p) ready.3) (inr refl))
+  ready_lines p false ready = past_two p [] None ready.0 ready.1 refl
 
-  full_lines : (p : PenOf D) (live : Bool) → live ≡ true → p.broken ≡ false → p.fold ≡ None → 2 ^ 48 ≤ gate_behind_fold p
-      → Allows (fold_lines (hand_of p) live) (Some (Vault (vault.Pen pen.FileFull)))
-  full_lines p true is whole none full =
-      passes p.broken (Vault (vault.Pen pen.Broken)) _ _ whole (passes _ (Vault (vault.Pen pen.Busy)) _ _ (no_fold p none) (stops _ (Vault (vault.Pen pen.FileFull)) _ (le-leb (2 ^ 48) (gate_behind_fold p) full)))
+  full_lines : (p : PenOf D) (live : Bool) → live ≡ true → p.broken ≡ false → p.fold ≡ None → 2 ^ 48 ≤ gate_behind_fold p → FoldRefuses p live pen.FileFull
+  full_lines p true is whole none full = past_two p _ _ whole none (stops _ (Vault (vault.Pen pen.FileFull)) _ (le-leb (2 ^ 48) (gate_behind_fold p) full))
   full_lines p false is whole none full = absurd cc
 
-  memory_lines : (p : PenOf D) (live : Bool) → live ≡ true → IsReadyToFold p true → Allows (fold_lines (hand_of p) live) (Some (Vault (vault.Pen pen.Memory)))
-  memory_lines p true is ready =
-      passes p.broken (Vault (vault.Pen pen.Broken)) _ _ ready.0 (passes _ (Vault (vault.Pen pen.Busy)) _ _ (no_fold p ready.1) (passes _ (Vault (vault.Pen pen.FileFull)) _ _ (not_le (2 ^ 48) (gate_behind_fold p) ready.3) (inl (Vault (vault.Pen pen.Memory), refl, refl))))
+  memory_lines : (p : PenOf D) (live : Bool) → live ≡ true → IsReadyToFold p true → FoldRefuses p live pen.Memory
+  memory_lines p true is ready = past_two p _ _ ready.0 ready.1
+      (passes _ (Vault (vault.Pen pen.FileFull)) _ _ (not_le (2 ^ 48) (gate_behind_fold p) ready.3) (inl (Vault (vault.Pen pen.Memory), refl, refl)))
   memory_lines p false is ready = absurd cc
 
-  broken_lines : (p : PenOf D) (live : Bool) → p.broken ≡ true → Allows (fold_lines (hand_of p) live) (Some (Vault (vault.Pen pen.Broken)))
+  broken_lines : (p : PenOf D) (live : Bool) → p.broken ≡ true → FoldRefuses p live pen.Broken
   broken_lines p true broken = stops p.broken (Vault (vault.Pen pen.Broken)) _ broken
   broken_lines p false broken = stops p.broken (Vault (vault.Pen pen.Broken)) _ broken
 
-  busy_lines : (p : PenOf D) (live : Bool) → p.broken ≡ false → is_some p.fold ≡ true → Allows (fold_lines (hand_of p) live) (Some (Vault (vault.Pen pen.Busy)))
+  busy_lines : (p : PenOf D) (live : Bool) → p.broken ≡ false → is_some p.fold ≡ true → FoldRefuses p live pen.Busy
   busy_lines p true whole busy = passes p.broken (Vault (vault.Pen pen.Broken)) _ _ whole (stops _ (Vault (vault.Pen pen.Busy)) _ busy)
   busy_lines p false whole busy = passes p.broken (Vault (vault.Pen pen.Broken)) _ _ whole (stops _ (Vault (vault.Pen pen.Busy)) _ busy)
 
-  barred_lines : (p : PenOf D) (fault : PenFault) → IsFoldBarred p fault → Allows (fold_lines (hand_of p) (is_live (hand_of p).file)) (Some (Vault (vault.Pen fault)))
-  barred_lines p fault why = elim why [
-    | inl broken ↦ subst (λ f. Allows (fold_lines (hand_of p) (is_live (hand_of p).file)) (Some (Vault (vault.Pen f)))) (sym broken.0) (broken_lines p (is_live (hand_of p).file) broken.1)
+  barred_lines : (p : PenOf D) (fault : PenFault) → IsFoldBarred p fault → FoldRefuses p (is_live (hand_of p).file) fault
+  barred_lines p fault why = let live : Bool = is_live (hand_of p).file in elim why [
+    | inl broken ↦ subst (FoldRefuses p live) (sym broken.0) (broken_lines p live broken.1)
     | inr other ↦ elim other [
-      | inl busy ↦ subst (λ f. Allows (fold_lines (hand_of p) (is_live (hand_of p).file)) (Some (Vault (vault.Pen f)))) (sym busy.0) (busy_lines p (is_live (hand_of p).file) busy.1 busy.2)
-      | inr full ↦ subst (λ f. Allows (fold_lines (hand_of p) (is_live (hand_of p).file)) (Some (Vault (vault.Pen f)))) (sym full.0)
-          (full_lines p (is_live (hand_of p).file) (lt-ltb p.tally.folded p.tally.changes full.3) full.1 full.2 full.4)
+      | inl busy ↦ subst (FoldRefuses p live) (sym busy.0) (busy_lines p live busy.1 busy.2)
+      | inr full ↦ subst (FoldRefuses p live) (sym full.0) (full_lines p live (lt-ltb p.tally.folded p.tally.changes full.3) full.1 full.2 full.4)
     ]
   ]
 
-  refused_lines : (p : PenOf D) (fault : PenFault) → IsFoldRefusal p fault → Allows (fold_lines (hand_of p) (is_live (hand_of p).file)) (Some (Vault (vault.Pen fault)))
-  refused_lines p fault why = elim why [
+  refused_lines : (p : PenOf D) (fault : PenFault) → IsFoldRefusal p fault → FoldRefuses p (is_live (hand_of p).file) fault
+  refused_lines p fault why = let live : Bool = is_live (hand_of p).file in elim why [
     | inl barred ↦ barred_lines p fault barred
-    | inr memory ↦ subst (λ f. Allows (fold_lines (hand_of p) (is_live (hand_of p).file)) (Some (Vault (vault.Pen f)))) (sym memory.0) (memory_lines p (is_live (hand_of p).file) (live_of p true memory.1) memory.1)
+    | inr memory ↦ subst (FoldRefuses p live) (sym memory.0) (memory_lines p live (live_of p true memory.1) memory.1)
   ]
 
 module _ {R D : Type 0} (w : World R) (old new : PenOf D) (hand_is : w.hand ≡ hand_of old) where
@@ -119,13 +124,17 @@ module _ {R D : Type 0} (w : World R) (old new : PenOf D) (hand_is : w.hand ≡ 
   ready_of false by = by.0
 
   abbrev FoldAt : Type 0 → Bool → Bool → Type 0
-  FoldAt keeps begun live = Outcome {R = R} (fold_lines (hand_of old) live) (step.Begun begun) ((◌≡◌ {A = Answer R} (step.Begun begun) (step.Begun live)) × HasBegun keeps by_pen live behind_fold) (λ fault. behind_fold ≡ by_pen)
+  FoldAt keeps begun live =
+      Outcome {R = R} (fold_lines (hand_of old) live) (step.Begun begun)
+      ((◌≡◌ {A = Answer R} (step.Begun begun) (step.Begun live)) × HasBegun keeps by_pen live behind_fold) (λ fault. behind_fold ≡ by_pen)
 
   at_live : (keeps : Type 0) → Plans keeps → Opening keeps → (begun live : Bool) → live ≡ begun → IsFoldAnswer old new begun → FoldAt keeps begun live
   at_live keeps plans opens begun live is by = subst (λ b. FoldAt keeps begun b) (sym is) (inl (ready_lines old begun (ready_of begun by), (refl, begun_is keeps plans opens begun by)))
 
   pub fold_answered : (keeps : Type 0) → Plans keeps → Opening keeps → (begun : Bool) → IsFoldAnswer old new begun → IsFold keeps w (step.Begun begun) behind_fold
-  fold_answered keeps plans opens begun by = subst (λ (x : World R). IsFold keeps x (step.Begun begun) behind_fold) (sym same) (at_live keeps plans opens begun (is_live (hand_of old).file) (live_of old begun (ready_of begun by)) by)
+  fold_answered keeps plans opens begun by =
+      subst (λ (x : World R). IsFold keeps x (step.Begun begun) behind_fold) (sym same)
+      (at_live keeps plans opens begun (is_live (hand_of old).file) (live_of old begun (ready_of begun by)) by)
 
   pub fold_refused : (keeps : Type 0) (fault : PenFault) → IsFoldRefusal old fault → IsFold keeps w (step.Refused (Vault (vault.Pen fault))) w
   fold_refused keeps fault why = subst (λ (x : World R). IsFold keeps x (step.Refused (Vault (vault.Pen fault))) x) (sym same) (inr (Vault (vault.Pen fault), refused_lines old fault why, refl, refl))

@@ -103,7 +103,9 @@ module _ {R D : Type 0} {m : Medium R D} {w : World R} {phase : Growth} {g : Gro
         → GrowthStep m w kept_hand (step.Put k records) answer 0
     put_told grow.Closed is why = put_strays kept_hand g.puts is refl
     put_told (grow.Strayed n) is why = put_strays kept_hand n is refl
-    put_told grow.Full is why = refused_by grow.Full is refl (stops _ (told.Grow grow.Full) _ (le-leb phase.room (length (growths_of w phase)) (let le = why.1 in let room = tie.room_is in omega (arith, le, long, room)))) calm_same
+    put_told grow.Full is why =
+        let no_room = le-leb phase.room (length (growths_of w phase)) (let le = why.1 in let room = tie.room_is in omega (arith, le, long, room)) in
+        refused_by grow.Full is refl (stops _ (told.Grow grow.Full) _ no_room) calm_same
     put_told grow.TooLong is why =
         let much = lt-ltb record_limit (length (vector w) + length records) (let more = why.2 in omega (arith, more, size)) in
         refused_by grow.TooLong is refl (passes _ (told.Grow grow.Full) _ _ (has_room why.1) (stops _ (told.Grow grow.TooLong) _ much)) calm_same

@@ -123,7 +123,9 @@ module _ {R : Type 0} (entries : List (block.Growth R)) (seats : List (Seated R)
   pub last_replaced : (last : ℕ) → (seat : Seated R) × (slice_get seats last ≡ Some seat) × (seat.pass.entries ≡ entries) → (old.pass.entries ≡ entries → new.pass.entries ≡ entries)
       → (seat : Seated R) × (slice_get (slice_set seats k new) last ≡ Some seat) × (seat.pass.entries ≡ entries)
   last_replaced last knows kept = elim (same_or_not last k) [
-    | inl same ↦ (new, ap (slice_get (slice_set seats k new)) same ∙ get_set_same seats k old new at, kept (ap (λ (s : Seated R). s.pass.entries) (same_Some old knows.0 (sym at ∙ ap (slice_get seats) (sym same) ∙ knows.1)) ∙ knows.2))
+    | inl same ↦
+        let is = same_Some old knows.0 (sym at ∙ ap (slice_get seats) (sym same) ∙ knows.1) in
+        (new, ap (slice_get (slice_set seats k new)) same ∙ get_set_same seats k old new at, kept (ap (λ (s : Seated R). s.pass.entries) is ∙ knows.2))
     | inr other ↦ (knows.0, get_set_other seats k last new other ∙ knows.1, knows.2)
   ]
 
@@ -143,7 +145,11 @@ module _ {R : Type 0} (items front back : List (Seated R)) (n k : ℕ) (items_ar
 
   whole_row : (f b : Seated R) → take n ((slice_set front k f ++ slice_set back 0 b) ++ drop (length (slice_set front k f ++ slice_set back 0 b)) items) ≡ slice_set front k f ++ slice_set back 0 b
   whole_row f b = row_back n (slice_set front k f ++ slice_set back 0 b) items
-      (let all = length-append (slice_set front k f) (slice_set back 0 b) in let one = length_set front k f in let two = length_set back 0 b in let parts = ap length items_are ∙ length-append front back in omega (arith, all, one, two, parts, long))
+      (let all = length-append (slice_set front k f) (slice_set back 0 b) in
+      let one = length_set front k f in
+      let two = length_set back 0 b in
+      let parts = ap length items_are ∙ length-append front back in
+      omega (arith, all, one, two, parts, long))
 
   -- the first stands in front
   pub meets_front : (mine theirs mine' theirs' m t : Seated R) → slice_get front k ≡ Some mine → slice_get back 0 ≡ Some theirs → theirs' ≡ theirs → SeatLearns mine mine'
@@ -155,7 +161,8 @@ module _ {R : Type 0} (items front back : List (Seated R)) (n k : ℕ) (items_ar
       let is_t : t ≡ theirs = same_Some t theirs (sym at_t ∙ ap (λ xs. slice_get xs (length front)) items_are ∙ get_back front back ∙ at_theirs) in
       subst (λ x. MeetsIn items (row_of mine' theirs') k x t) (sym is_m) (subst (λ x. MeetsIn items (row_of mine' theirs') k mine x) (sym is_t) (record {
         met = mine';
-        row_is = whole_row mine' theirs' ∙ ap (λ b. slice_set front k mine' ++ slice_set back 0 b) same ∙ ap (λ ys. slice_set front k mine' ++ ys) (set_same back 0 theirs at_theirs) ∙ set_front front back k mine' inside ∙ ap (λ xs. slice_set xs k mine') (sym items_are);
+        row_is = whole_row mine' theirs' ∙ ap (λ b. slice_set front k mine' ++ slice_set back 0 b) same
+            ∙ ap (λ ys. slice_set front k mine' ++ ys) (set_same back 0 theirs at_theirs) ∙ set_front front back k mine' inside ∙ ap (λ xs. slice_set xs k mine') (sym items_are);
         learns = learns;
         agree = agree;
         meets = meets;
@@ -171,7 +178,8 @@ module _ {R : Type 0} (items front back : List (Seated R)) (n k : ℕ) (items_ar
       let is_m : m ≡ mine = same_Some m mine (sym at_m ∙ ap (λ xs. slice_get xs (length front)) items_are ∙ get_back front back ∙ at_mine) in
       subst (λ x. MeetsIn items (row_of theirs' mine') (length front) x t) (sym is_m) (subst (λ x. MeetsIn items (row_of theirs' mine') (length front) mine x) (sym is_t) (record {
         met = mine';
-        row_is = whole_row theirs' mine' ∙ ap (λ f. slice_set front k f ++ slice_set back 0 mine') same ∙ ap (λ xs. xs ++ slice_set back 0 mine') (set_same front k theirs at_theirs) ∙ set_back front back mine' ∙ ap (λ xs. slice_set xs (length front) mine') (sym items_are);
+        row_is = whole_row theirs' mine' ∙ ap (λ f. slice_set front k f ++ slice_set back 0 mine') same
+            ∙ ap (λ xs. xs ++ slice_set back 0 mine') (set_same front k theirs at_theirs) ∙ set_back front back mine' ∙ ap (λ xs. slice_set xs (length front) mine') (sym items_are);
         learns = learns;
         agree = agree;
         meets = meets;

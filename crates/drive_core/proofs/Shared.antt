@@ -80,7 +80,8 @@ is_none limit n none = or_left (n == 0) (nat_lt limit n) (ap (λ k. k == 0) none
 is_much : (limit n : ℕ) → limit < n → is_outside limit n ≡ true
 is_much limit n much = or_right (n == 0) (nat_lt limit n) (lt-ltb limit n much)
 
-module _ {R D : Type 0} {m : Medium R D} {w : World R} {v : VaultOf R D} (tie : IsExclusive m w v) (room : ℕ) {seats count : ℕ} (clamped : (count ≡ seats) ⊎ ((65535 ≤ seats) × (count ≡ 65535))) where
+module _ {R D : Type 0} {m : Medium R D} {w : World R} {v : VaultOf R D} (tie : IsExclusive m w v) (room : ℕ)
+    {seats count : ℕ} (clamped : (count ≡ seats) ⊎ ((65535 ≤ seats) × (count ≡ 65535))) where
   ready_same : first_refusal (ready_lines (as_pen w.hand 0)) ≡ first_refusal (ready_lines v.pen)
   ready_same = ap (λ (h : Hand). first_refusal (ready_lines (as_pen h 0))) tie.hand_is
 
@@ -109,7 +110,8 @@ module _ {R D : Type 0} {m : Medium R D} {w : World R} {v : VaultOf R D} (tie : 
 
   -- ---- begun
 
-  module _ (row : List (Seated R)) {live : Phase R} {f : FlusherOf R D} (shares : Shares (m.keeps v.pen.disk) v room count live f) (long : length row ≡ count) (new : AreNewSeats live.directory live.mark row) (may : MayShare v room count) where
+  module _ (row : List (Seated R)) {live : Phase R} {f : FlusherOf R D} (shares : Shares (m.keeps v.pen.disk) v room count live f)
+      (long : length row ≡ count) (new : AreNewSeats live.directory live.mark row) (may : MayShare v room count) where
     abbrev begun_hand : GrowingOf R D
     begun_hand = record { live = live; seats = row; flusher = f; puts = 0; last = 0; mark = 0; closed = false }
 

@@ -128,7 +128,8 @@ module _ {R : Type 0} (w w' : World R) (n : ℕ) (there : HasFile w.phase) (brok
     seat_stops asked answer false calls row_stops row = misplaced asked answer calls row
 
     exclusive_stops : (asked : Step R) (answer : Answer R) → HasCalls w asked answer n → ExclusiveRow form keeps w asked answer w' → Stopped w' n
-    exclusive_stops (step.Share room seats) answer calls row = table (step.Share room seats) answer (share_lines w.hand room seats) calls (λ given allows. first_line w.hand.broken _ given broken allows) (λ same. same) row
+    exclusive_stops (step.Share room seats) answer calls row =
+        table (step.Share room seats) answer (share_lines w.hand room seats) calls (λ given allows. first_line w.hand.broken _ given broken allows) (λ same. same) row
     exclusive_stops (step.Change start records) answer calls row = command_stops (step.Change start records) (changed start records) answer calls row
     exclusive_stops (step.Changes pieces) answer calls row = changes_stops pieces answer calls row
     exclusive_stops (step.Resize size r) answer calls row = command_stops (step.Resize size r) (resized (length (vector w)) size r) answer calls row
@@ -150,7 +151,8 @@ module _ {R : Type 0} (w w' : World R) (n : ℕ) (there : HasFile w.phase) (brok
         (λ view. elim view [ inl ok ↦ stays ok.1.1 calls | inr refused ↦ stays refused.3 calls ]) row
     growth_stops phase (step.Settled seat) answer calls row = seat_stops (step.Settled seat) answer (has_seat phase (Some seat)) calls
         (λ read. elim read [ inl ok ↦ to ok.1.4 tt refl calls | inr refused ↦ to refused.3 there refl calls ]) row
-    growth_stops phase step.Take answer calls row = table step.Take answer (take_lines form.width w.hand (next_group form.width w phase)) calls (λ given allows. first_line w.hand.broken _ given broken allows) (λ same. same) row
+    growth_stops phase step.Take answer calls row =
+        table step.Take answer (take_lines form.width w.hand (next_group form.width w phase)) calls (λ given allows. first_line w.hand.broken _ given broken allows) (λ same. same) row
     growth_stops phase step.Raise answer calls row = to row.1 tt refl calls
     growth_stops phase step.Close answer calls row = to row.1 tt refl calls
     growth_stops phase step.Gather answer calls row = table step.Gather answer (gather_lines phase) calls (λ given allows. first_line w.hand.broken _ given broken allows) (λ same. same) row

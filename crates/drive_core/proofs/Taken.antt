@@ -156,7 +156,8 @@ module _ {R D : Type 0} {m : Medium R D} {w : World R} {phase : Growth} {g : Gro
               (room_stops group fault (omega (arith, long, some)) (subst (λ b. IsRefusal ((b, pen.FileFull) ∷ []) fault) (sym (full_same (payload_len m.form.width group))) not.why)))
         ]
 
-    module _ (n : ℕ) (more : new.taken ≡ g.flusher.taken + n) (greatest : IsGreatest m.form.width (limit_of format) (untaken g.flusher) n) (ready : first_refusal (ready_lines g.flusher.pen) ≡ None) where
+    module _ (n : ℕ) (more : new.taken ≡ g.flusher.taken + n) (greatest : IsGreatest m.form.width (limit_of format) (untaken g.flusher) n)
+        (ready : first_refusal (ready_lines g.flusher.pen) ≡ None) where
       abbrev group : List (List R)
       group = take n (untaken g.flusher)
 

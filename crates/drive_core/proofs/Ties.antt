@@ -125,7 +125,8 @@ module _ {R D : Type 0} {m : Medium R D} {w : World R} {phase : Growth} {g : Gro
   }
 
   -- nothing but the mark, and whether the book was closed
-  abbrev pub other_mark : (mark : ℕ) (closed : Bool) → IsGrowing m (within w (record phase { mark = mark; closed = closed })) (record phase { mark = mark; closed = closed }) (record g { mark = mark; closed = closed })
+  abbrev pub other_mark : (mark : ℕ) (closed : Bool)
+      → IsGrowing m (within w (record phase { mark = mark; closed = closed })) (record phase { mark = mark; closed = closed }) (record g { mark = mark; closed = closed })
   other_mark mark closed = record {
     phase_is = refl;
     calm = tie.calm;

@@ -39,7 +39,8 @@ use Rattle.drive_core.proofs.Ties.{content-append}
 use Rattle.drive_core.proofs.VaultEvents.{Holds, Asks, vault_steps, still_steps, vault_rests, vault_leaves}
 
 -- A step that asks for a command: what the vault writes it as, tests it by and makes of its list.
-pub record IsWritten {R D : Type 0} (m : Medium R D) (w : World R) (v new : VaultOf R D) (asked : Step R) (command : Command R) (frame : Frame) (lines : List (Bool × PenFault)) (made : Type 0) : Type 0 where
+pub record IsWritten {R D : Type 0} (m : Medium R D) (w : World R) (v new : VaultOf R D)
+    (asked : Step R) (command : Command R) (frame : Frame) (lines : List (Bool × PenFault)) (made : Type 0) : Type 0 where
   pub asks : Asks m w new asked (Some command)
   -- the vault counts the length of its list
   pub size : v.pen.broken ≡ false → v.pen.tally.size ≡ length (list_of v)
@@ -167,8 +168,10 @@ module _ {R D : Type 0} {m : Medium R D} {w : World R} {v new : VaultOf R D} {as
   -- a broken pen refuses whatever the length
   refused_row : (fault : PenFault) → IsRefusal tests fault → TableAllows world_tests (Some (Vault (vault.Pen fault)))
   refused_row fault why = elim (true_or_false v.pen.broken) [
-    | inl broken ↦ pen_refuses world_tests (Might is_disk ∷ []) fault
-        (broken_refusal world_tests tests fault (first_is m.form w.hand (length (vector w)) command (ap (λ (h : Hand). h.broken) tie.hand_is ∙ broken)) (first_is m.form (hand_of v.pen) v.pen.tally.size command broken) why)
+    | inl broken ↦
+        let here = first_is m.form w.hand (length (vector w)) command (ap (λ (h : Hand). h.broken) tie.hand_is ∙ broken) in
+        let there = first_is m.form (hand_of v.pen) v.pen.tally.size command broken in
+        pen_refuses world_tests (Might is_disk ∷ []) fault (broken_refusal world_tests tests fault here there why)
     | inr whole ↦ subst (λ lines. TableAllows lines (Some (Vault (vault.Pen fault)))) (sym (tests_are whole)) (pen_refuses tests (Might is_disk ∷ []) fault why)
   ]
 
@@ -214,7 +217,9 @@ module _ {R D : Type 0} {m : Medium R D} {w : World R} {v new : VaultOf R D} {as
         hand_is = refl;
         disk_is = refl;
       } in
-      vault_steps tie new (behind w.settled (hand_of new.pen)) n both.0 both.1 time (let most = bounds.1 in omega (arith, most)) (λ none. let some = bounds.0 in absurd (omega (arith, some, none))) refl tied
+      let some = bounds.0 in
+      let most = bounds.1 in
+      vault_steps tie new (behind w.settled (hand_of new.pen)) n both.0 both.1 time (omega (arith, most)) (λ none. absurd (omega (arith, some, none))) refl tied
       (λ kept. leaves_either w.settled (says.model kept) is (says.images kept)) (λ kept. vault_rests tied kept written.rests)
 
   torn_at : (fault : PenFault) (at : pen_step.Step) → fault ≡ pen.Disk (fault_of at) → Promised (Err (vault.Pen fault)) → Stands made (new.blocks ≡ v.blocks) (vault.Pen fault)

@@ -8,6 +8,7 @@ use Rattle.segment_core.specs.Written.{joined}
 use Rattle.pen_core.specs.PenOf.{PenOf}
 use Rattle.pen_core.specs.Pen.{MayOpen, IsKept, IsFoldAnswer, IsUnchanged}
 use Rattle.pen_core.specs.declared.fault.PenFault.TheVariants as pen
+use Rattle.flush_core.specs.declared.lane.Lane.{Lane}
 use Rattle.flush_core.specs.declared.lane.Lane.TheVariants as lanes
 use Rattle.flush_core.specs.declared.lane.Tick.{Tick}
 use Rattle.flush_core.specs.declared.lane.Tick.TheVariants as ticks
@@ -20,6 +21,7 @@ use Rattle.drive_core.specs.declared.fault.Fault.TheVariants.{Vault}
 use Rattle.drive_core.specs.Rows.{ExclusiveRow}
 use Rattle.drive_core.specs.Run.{HasCalls}
 use Rattle.drive_core.specs.Outcome.{stray_in}
+use Rattle.drive_core.specs.LaneRows.{lane_step}
 use Rattle.drive_core.specs.Medium.{Medium}
 use Rattle.drive_core.specs.Step.{Step, Answer}
 use Rattle.drive_core.specs.Step as step
@@ -100,19 +102,24 @@ module _ {R D : Type 0} {m : Medium R D} {w : World R} {v new : VaultOf R D} (ti
     none_brought ticks.Filed = omega arith
     none_brought ticks.Waiting = omega arith
 
-    pub log_answers : {answer : Answer R} (tick : Tick) → answer ≡ step.Ticked tick → IsLaneTicked lanes.Log v.pen new.pen tick → new.pen.broken ≡ false
+    log_answers : {answer : Answer R} (tick : Tick) → answer ≡ step.Ticked tick → IsLaneTicked lanes.Log v.pen new.pen tick → new.pen.broken ≡ false
         → clock (m.states new.pen.disk) ≡ clock (m.states v.pen.disk) + lane_calls lanes.Log v.pen → VaultStep m w v new step.Log answer
     log_answers tick is ticked whole' time =
         let n : ℕ = lane_calls lanes.Log v.pen in
         let event = log_answered m w v.pen new.pen tie.hand_is tie.disk_is w.settled tick ticked whole whole' (none_brought tick) in
         by_event n is time (due_few v.pen.broken v.pen.job) event.0 event.1 event.2 refl (answered_tie (brings_log tick ticked))
 
-    pub home_answers : {answer : Answer R} (tick : Tick) → answer ≡ step.Ticked tick → IsLaneTicked lanes.Home v.pen new.pen tick → new.pen.broken ≡ false
+    home_answers : {answer : Answer R} (tick : Tick) → answer ≡ step.Ticked tick → IsLaneTicked lanes.Home v.pen new.pen tick → new.pen.broken ≡ false
         → clock (m.states new.pen.disk) ≡ clock (m.states v.pen.disk) + lane_calls lanes.Home v.pen → VaultStep m w v new step.Home answer
     home_answers tick is ticked whole' time =
         let n : ℕ = lane_calls lanes.Home v.pen in
         let event = home_answered m w v.pen new.pen tie.hand_is tie.disk_is w.settled tick ticked whole whole' refl in
         by_event n is time (home_few v.pen.broken v.pen.fold) event.0 event.1 event.2 refl (answered_tie (brings_home tick ticked))
+
+    pub lane_answers : {answer : Answer R} (lane : Lane) (tick : Tick) → answer ≡ step.Ticked tick → IsLaneTicked lane v.pen new.pen tick → new.pen.broken ≡ false
+        → clock (m.states new.pen.disk) ≡ clock (m.states v.pen.disk) + lane_calls lane v.pen → VaultStep m w v new (lane_step lane) answer
+    lane_answers lanes.Log tick is ticked whole' time = log_answers tick is ticked whole' time
+    lane_answers lanes.Home tick is ticked whole' time = home_answers tick is ticked whole' time
 
   -- ---- a tick that was refused
 
@@ -120,7 +127,7 @@ module _ {R D : Type 0} {m : Medium R D} {w : World R} {v new : VaultOf R D} (ti
     broken_tie : new.pen.broken ≡ true → IsExclusive m behind new
     broken_tie broken = ticked_tie (λ kept. tie.sure_is (tick.model kept) ∙ sym (sure kept)) (λ on. absurd (differ (sym broken ∙ on)))
 
-    pub log_refuses : {answer : Answer R} (fault : VaultFault) → answer ≡ step.Refused (Vault fault) → commands.IsLaneFault lanes.Log v.pen new.pen fault
+    log_refuses : {answer : Answer R} (fault : VaultFault) → answer ≡ step.Refused (Vault fault) → commands.IsLaneFault lanes.Log v.pen new.pen fault
         → clock (m.states new.pen.disk) ≡ clock (m.states v.pen.disk) + lane_calls lanes.Log v.pen → m.faults new.pen.disk ≡ m.faults v.pen.disk + commands.failed fault
         → VaultStep m w v new step.Log answer
     log_refuses (vault.Unsettled number) is why time counted = absurd why
@@ -131,7 +138,7 @@ module _ {R D : Type 0} {m : Medium R D} {w : World R} {v new : VaultOf R D} (ti
         let broken : new.pen.broken ≡ true = elim why [ inl was ↦ ap (λ (p : PenOf D). p.broken) was.2 ∙ was.1 | inr by ↦ by.4.broken ] in
         by_event n is time (due_few v.pen.broken v.pen.job) event.0 event.1 event.2 refl (broken_tie broken)
 
-    pub home_refuses : {answer : Answer R} (fault : VaultFault) → answer ≡ step.Refused (Vault fault) → commands.IsLaneFault lanes.Home v.pen new.pen fault
+    home_refuses : {answer : Answer R} (fault : VaultFault) → answer ≡ step.Refused (Vault fault) → commands.IsLaneFault lanes.Home v.pen new.pen fault
         → clock (m.states new.pen.disk) ≡ clock (m.states v.pen.disk) + lane_calls lanes.Home v.pen → m.faults new.pen.disk ≡ m.faults v.pen.disk + commands.failed fault
         → VaultStep m w v new step.Home answer
     home_refuses (vault.Unsettled number) is why time counted = absurd why
@@ -141,6 +148,12 @@ module _ {R D : Type 0} {m : Medium R D} {w : World R} {v new : VaultOf R D} (ti
         let event = home_refused m w v.pen new.pen tie.hand_is tie.disk_is w.settled fault why refl counted in
         let broken : new.pen.broken ≡ true = elim why [ inl was ↦ ap (λ (p : PenOf D). p.broken) was.2 ∙ was.1 | inr by ↦ by.5.broken ] in
         by_event n is time (home_few v.pen.broken v.pen.fold) event.0 event.1 event.2 refl (broken_tie broken)
+
+    pub lane_refuses : {answer : Answer R} (lane : Lane) (fault : VaultFault) → answer ≡ step.Refused (Vault fault) → commands.IsLaneFault lane v.pen new.pen fault
+        → clock (m.states new.pen.disk) ≡ clock (m.states v.pen.disk) + lane_calls lane v.pen → m.faults new.pen.disk ≡ m.faults v.pen.disk + commands.failed fault
+        → VaultStep m w v new (lane_step lane) answer
+    lane_refuses lanes.Log fault is why time counted = log_refuses fault is why time counted
+    lane_refuses lanes.Home fault is why time counted = home_refuses fault is why time counted
 
 module _ {R D : Type 0} {m : Medium R D} {w : World R} {v : VaultOf R D} (tie : IsExclusive m w v) (new : VaultOf R D) where
   -- ---- a fold's begin

@@ -12,6 +12,8 @@ use Rattle.pen_core.specs.Folds.{IsWholeFold}
 use Rattle.pen_core.specs.declared.step.Step as pen_step
 use Rattle.pen_core.specs.declared.step.Step.TheVariants.{Body}
 use Rattle.pen_core.specs.declared.stage.FoldStage.TheVariants as stages
+use Rattle.flush_core.specs.declared.lane.Lane.{Lane}
+use Rattle.flush_core.specs.declared.lane.Lane.TheVariants as lanes
 use Rattle.flush_core.specs.declared.lane.Tick.TheVariants as ticks
 use Rattle.pen_core.specs.declared.fault.PenFault.TheVariants as pen_fault
 use Rattle.drive_core.specs.declared.fault.Fault.TheVariants.{Vault}
@@ -38,6 +40,11 @@ device_lines hand false = When hand.broken (Vault (vault.Pen pen_fault.Broken)) 
 abbrev pub home_calls : Option FoldOf → Bool
 home_calls None = false
 home_calls (Some fold) = has_call fold.stage
+
+-- the step that makes a lane's next call
+abbrev pub lane_step : {R : Type 0} → Lane → Step R
+lane_step lanes.Log = step.Log
+lane_step lanes.Home = step.Home
 
 -- how the device call that is due fails, if it does
 abbrev pub log_due : Hand → Option DiskFault

@@ -4,6 +4,7 @@ ghost use Rattle.std.specs.Prelude.{◌≡◌, ◌<◌, length, IfOk, OnErr};
 ghost use Rattle.segment_core.specs.Runs as run_lists;
 ghost use Rattle.drive_core.specs.Asked.{answer_of};
 ghost use Rattle.drive_core.specs.Given.{pieces_of};
+ghost use Rattle.drive_core.specs.LaneRows.{lane_step};
 ghost use Rattle.drive_core.specs.Step as step;
 ghost use Rattle.drive_core.specs.VaultTies.{VaultSteps};
 ghost use Rattle.drive_core.specs.World.{runs_of};
@@ -20,25 +21,12 @@ use std::alloc::{AllocError, Global};
 use std::thread::Threads;
 use vault_core::{Vault, VaultFault};
 
-/// The next device call of the log job.
-pub(crate) fn log<R: Record, D: Disk>(vault: &mut Vault<R, D>) -> Answer<R>
-    ensures steps { VaultSteps R.form D.states D.faults D.keeps vault.old vault.new step.Log (answer_of result) }
+/// The next device call of a lane: of the log job, or of the fold in hand, or its filing.
+pub(crate) fn tick<R: Record, D: Disk>(vault: &mut Vault<R, D>, lane: Lane) -> Answer<R>
+    ensures steps { VaultSteps R.form D.states D.faults D.keeps vault.old vault.new (lane_step lane) (answer_of result) }
     ensures model { D.keeps vault.new.pen.disk → D.keeps vault.old.pen.disk }
 {
-    let ticked = vault.tick(Lane::Log);
-    let _ = vault.disk();
-    match ticked {
-        Ok(tick) => Answer::Ticked(tick),
-        Err(fault) => Answer::Refused(Fault::Vault(fault)),
-    }
-}
-
-/// The next device call of the fold in hand, or its filing.
-pub(crate) fn home<R: Record, D: Disk>(vault: &mut Vault<R, D>) -> Answer<R>
-    ensures steps { VaultSteps R.form D.states D.faults D.keeps vault.old vault.new step.Home (answer_of result) }
-    ensures model { D.keeps vault.new.pen.disk → D.keeps vault.old.pen.disk }
-{
-    let ticked = vault.tick(Lane::Home);
+    let ticked = vault.tick(lane);
     let _ = vault.disk();
     match ticked {
         Ok(tick) => Answer::Ticked(tick),

@@ -5,6 +5,7 @@ ghost use Rattle.std.specs.Prelude.{◌≡◌, ◌≤◌, ◌<◌, length, false
 ghost use Rattle.block_core.specs.Length.{IsBlockLength};
 ghost use Rattle.flush_core.specs.Refusals.{lane_calls};
 ghost use Rattle.drive_core.specs.Asked.{answer_of};
+ghost use Rattle.drive_core.specs.LaneRows.{lane_step};
 ghost use Rattle.drive_core.specs.Line.{of_flush, of_block, put_fault_of, look_fault_of};
 ghost use Rattle.drive_core.specs.Step as step;
 ghost use Rattle.drive_core.specs.GrowthTies.{GrowthStepsOf};
@@ -176,25 +177,12 @@ impl<R: Record, D: Disk> Growing<R, D> {
         }
     }
 
-    /// The next device call of the log job.
-    pub fn log(&mut self) -> Answer<R>
-        ensures steps { GrowthStepsOf R.form D.states D.faults D.keeps self.old self.new step.Log (answer_of result) (lane_calls Lane.Log self.old.flusher.pen) }
+    /// The next device call of a lane: of the log job, or of the fold in hand, or its filing.
+    pub fn tick(&mut self, lane: Lane) -> Answer<R>
+        ensures steps { GrowthStepsOf R.form D.states D.faults D.keeps self.old self.new (lane_step lane) (answer_of result) (lane_calls lane self.old.flusher.pen) }
         ensures model { D.keeps self.new.flusher.pen.disk → D.keeps self.old.flusher.pen.disk }
     {
-        let ticked = self.flusher.tick(Lane::Log);
-        let _ = self.flusher.disk();
-        match ticked {
-            Ok(tick) => Answer::Ticked(tick),
-            Err(fault) => Answer::Refused(told_fault(fault)),
-        }
-    }
-
-    /// The next device call of the fold in hand, or its filing.
-    pub fn home(&mut self) -> Answer<R>
-        ensures steps { GrowthStepsOf R.form D.states D.faults D.keeps self.old self.new step.Home (answer_of result) (lane_calls Lane.Home self.old.flusher.pen) }
-        ensures model { D.keeps self.new.flusher.pen.disk → D.keeps self.old.flusher.pen.disk }
-    {
-        let ticked = self.flusher.tick(Lane::Home);
+        let ticked = self.flusher.tick(lane);
         let _ = self.flusher.disk();
         match ticked {
             Ok(tick) => Answer::Ticked(tick),

@@ -9,6 +9,7 @@ use crate::fault::Fault;
 use crate::growing::Growing;
 use crate::step::{Answer, Step};
 use disk_core::Disk;
+use flush_core::Lane;
 use record_core::Record;
 use std::sync::Wait;
 use vault_core::VaultFault;
@@ -91,8 +92,8 @@ pub(crate) fn answer<R: Record, D: Disk, E: Wait>(
         Step::Raise => growing.raise(),
         Step::Close => growing.close(rt),
         Step::Fold => growing.fold(),
-        Step::Log => growing.log(),
-        Step::Home => growing.home(),
+        Step::Log => growing.tick(Lane::Log),
+        Step::Home => growing.tick(Lane::Home),
         Step::Create
         | Step::CreateTwo
         | Step::Open

@@ -13,6 +13,7 @@ use crate::growing::Growing;
 use crate::growth::{self, misplaced};
 use crate::step::{Answer, Step};
 use disk_core::Disk;
+use flush_core::Lane;
 use pen_core::{OpenFault, PenFault};
 use record_core::Record;
 use segment_core::Format;
@@ -156,8 +157,8 @@ fn command<R: Record, D: Disk, E: Threads + Sync>(
         Step::Clear => exclusive::clear(vault),
         Step::List => exclusive::list(alloc, vault),
         Step::Fold => exclusive::fold(vault),
-        Step::Log => exclusive::log(vault),
-        Step::Home => exclusive::home(vault),
+        Step::Log => exclusive::tick(vault, Lane::Log),
+        Step::Home => exclusive::tick(vault, Lane::Home),
         Step::Create
         | Step::CreateTwo
         | Step::Open

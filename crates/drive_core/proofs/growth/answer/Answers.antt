@@ -14,10 +14,10 @@ pub returns-in-Fold-clause-steps : goal.returns-in-Fold-clause-steps
 returns-in-Fold-clause-steps g c = λ w phase tie. asked_steps tie c.in-Fold.is (c.fold.ensures.steps w phase tie)
 
 pub returns-in-Log-clause-steps : goal.returns-in-Log-clause-steps
-returns-in-Log-clause-steps g c = λ w phase tie. asked_steps tie c.in-Log.is (c.log.ensures.steps w phase tie)
+returns-in-Log-clause-steps g c = λ w phase tie. asked_steps tie c.in-Log.is (c.tick.ensures.steps w phase tie)
 
 pub returns-in-Home-clause-steps : goal.returns-in-Home-clause-steps
-returns-in-Home-clause-steps g c = λ w phase tie. asked_steps tie c.in-Home.is (c.home.ensures.steps w phase tie)
+returns-in-Home-clause-steps g c = λ w phase tie. asked_steps tie c.in-Home.is (c.tick-in-Home.ensures.steps w phase tie)
 
 pub returns-in-Put-clause-steps : goal.returns-in-Put-clause-steps
 returns-in-Put-clause-steps g c = λ w phase tie. asked_steps tie c.in-Put.is (c.put.ensures.steps w phase tie)

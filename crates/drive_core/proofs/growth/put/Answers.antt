@@ -8,4 +8,5 @@ returns-in-Some-clause-steps g c = λ w phase tie. seat_steps tie (λ n. step.Pu
 
 pub returns-in-None-clause-steps : goal.returns-in-None-clause-steps
 returns-in-None-clause-steps g c = λ w phase tie.
-    misplaced_steps tie (step.Put c.args.seat c.args.records.now.items) c.misplaced.ensures (of_none tie (IsPut g.R.Record.form.width w phase c.args.seat c.args.records.now.items wrong w) c.in-None.ensures)
+    misplaced_steps tie (step.Put c.args.seat c.args.records.now.items) c.misplaced.ensures
+    (of_none tie (IsPut g.R.Record.form.width w phase c.args.seat c.args.records.now.items wrong w) c.in-None.ensures)

@@ -9,10 +9,10 @@ pub returns-in-Fold-clause-steps : goal.returns-in-Fold-clause-steps
 returns-in-Fold-clause-steps g c = λ w tie. asked_as (ap step_of c.in-Fold.is) (c.fold.ensures.steps w tie)
 
 pub returns-in-Log-clause-steps : goal.returns-in-Log-clause-steps
-returns-in-Log-clause-steps g c = λ w tie. asked_as (ap step_of c.in-Log.is) (c.log.ensures.steps w tie)
+returns-in-Log-clause-steps g c = λ w tie. asked_as (ap step_of c.in-Log.is) (c.tick.ensures.steps w tie)
 
 pub returns-in-Home-clause-steps : goal.returns-in-Home-clause-steps
-returns-in-Home-clause-steps g c = λ w tie. asked_as (ap step_of c.in-Home.is) (c.home.ensures.steps w tie)
+returns-in-Home-clause-steps g c = λ w tie. asked_as (ap step_of c.in-Home.is) (c.tick-in-Home.ensures.steps w tie)
 
 pub returns-in-Clear-clause-steps : goal.returns-in-Clear-clause-steps
 returns-in-Clear-clause-steps g c = λ w tie. asked_as (ap step_of c.in-Clear.is) (c.clear.ensures.steps w tie)
