@@ -1,9 +1,32 @@
-use Rattle.std.proofs.Common.{◌≡◌, true, cond, List, [], ◌∷◌, ◌++◌, Some, refl, sym, ap, ◌∙◌, arith, rules}
+use Rattle.std.proofs.Common.{◌≡◌, ℕ, suc, ◌+◌, ◌*◌, ◌≤◌, ◌<◌, true, cond, List, [], ◌∷◌, ◌++◌, Some, refl, sym, ap, ◌∙◌, arith, rules}
 use Rattle.std.specs.Prelude.{is_ok}
 use Rattle.std.proofs.lemmas.List.{append-nil, append_assoc}
+use Rattle.std.proofs.lemmas.Nat.{mul-le}
 use Rattle.record_core.specs.Cells.{cell}
 use Rattle.record_core.proofs.Cells.{cell_is, HasRead_some, HasRead_more, HasRead_all, AreRecords_read}
 use Rattle.record_core.proofs.records.read_records.Goals as goal
+
+-- Record i ends inside of the bytes of so many. A search finds what follows from it too, in far more time.
+cell_ends : {width w len : ℕ} (count i : ℕ) → w ≡ width → len ≡ count * width → i < count → i * w + w ≤ len
+cell_ends {width} {w} count i is filled lt =
+    let rows : suc i * w ≤ count * w = mul-le (suc i) w count w (omega arith) (omega arith) in
+    let all = ap (λ n. count * n) is in
+    omega arith
+
+pub overflow_mul-at : goal.overflow_mul-at
+overflow_mul-at g c = omega (arith, cell_ends c.args.count c.loop-i.i c.width_of-width.ensures.is c.requires c.loop-i-test.true)
+
+pub overflow_add-at : goal.overflow_add-at
+overflow_add-at g c = omega (arith, cell_ends c.args.count c.loop-i.i c.width_of-width.ensures.is c.requires c.loop-i-test.true)
+
+pub slice_bounds-take-count : goal.slice_bounds-take-count
+slice_bounds-take-count g c = omega (arith, cell_ends c.args.count c.loop-i.i c.width_of-width.ensures.is c.requires c.loop-i-test.true)
+
+pub slice_bounds-take-start : goal.slice_bounds-take-start
+slice_bounds-take-start g c = omega (arith, cell_ends c.args.count c.loop-i.i c.width_of-width.ensures.is c.requires c.loop-i-test.true)
+
+pub slice_bounds-take-end : goal.slice_bounds-take-end
+slice_bounds-take-end g c = omega (arith, cell_ends c.args.count c.loop-i.i c.width_of-width.ensures.is c.requires c.loop-i-test.true)
 
 pub loop-i-init : goal.loop-i-init
 loop-i-init g c = ([], sym (append-nil _), record { so_far = refl; each = λ i lt. absurd (omega arith) }, omega arith, omega arith)
