@@ -149,6 +149,25 @@ impl<R: Record> Blocks<R> {
         self.ends[number - 1]
     }
 
+    /// The number of the block that has position `i`, and how many of its records stand before it.
+    fn place_of(&self, i: u64) -> (usize, usize)
+        requires { i < length (joined self.now) }
+        ensures number { result.0 < length self.now }
+        ensures inside { result.1 < length (block_at self.now result.0) }
+        ensures is { i ≡ sum_by length (take result.0 self.now) + result.1 }
+    {
+        let number = self.block_of(i);
+        (number, (i - self.start_of(number)) as usize)
+    }
+
+    /// The records of the block of that number.
+    fn block_at(&self, number: usize) -> &[R]
+        requires { number < length self.now }
+        ensures { result.now ≡ block_at self.now number }
+    {
+        self.blocks[number].as_slice()
+    }
+
     /// The records from position `i` to the end of the block that has it. `None` past the end.
     pub(crate) fn rest(&self, i: u64) -> Option<&[R]>
         ensures { MatchOption result
@@ -158,9 +177,8 @@ impl<R: Record> Blocks<R> {
         if i >= self.len() {
             return None;
         }
-        let number = self.block_of(i);
-        let start = self.start_of(number);
-        Some(&self.blocks[number][(i - start) as usize..])
+        let (number, place) = self.place_of(i);
+        Some(&self.block_at(number)[place..])
     }
 
     /// Puts parts that stand one behind the other behind the others: those of the positions from `start` on.
@@ -285,8 +303,7 @@ impl<R: Record> Blocks<R> {
         if n >= self.len() {
             return;
         }
-        let number = self.block_of(n);
-        let left = (n - self.start_of(number)) as usize;
+        let (number, left) = self.place_of(n);
         if left == 0 {
             self.keep(number);
         } else {

@@ -1,7 +1,8 @@
 //! The source over lists that are given.
 //!
-//! The toolchain takes no impl of a trait over each `R: Record` at once where a method calls a function of such an `R`: so
-//! there is one impl for each type of records.
+//! The toolchain passes no method of a trait, over each `R: Record` at once, that calls a function over such an `R`: so there
+//! is one impl for each type of records. An impl over each of them may lend its records, but makes no blocks, and a source
+//! that wraps this one may ask for these.
 
 ghost use Rattle.std.specs.Prelude.{◌≡◌, ◌<◌, ◌≤◌, ◌^◌, ◌⊎◌, ℕ, length, All, HoldsAt, vec_len, MatchOption};
 ghost use Rattle.vault_core.specs.Crewing.{growths_of, count_in, block_in};

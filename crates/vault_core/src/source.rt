@@ -1,6 +1,6 @@
 //! What the growers of a crew grow by, and what they ask and tell.
 
-ghost use Rattle.std.specs.Prelude.{◌≡◌, ◌<◌, ℕ, List, length, false, MatchResult};
+ghost use Rattle.std.specs.Prelude.{◌≡◌, ◌<◌, ℕ, List, length, false, IfSome, MatchResult};
 ghost use Rattle.vault_core.specs.Crewing.{IsSourceFault};
 
 use block_core::{Fresh, FreshFault};
@@ -25,13 +25,22 @@ pub trait Source<R: Record>: Sync {
         requires { grower < growers_of self.now }
         ensures { result ≡ count_of self.now grower };
 
-    /// A grower's block of that number.
+    /// A grower's block of that number. A crew doesn't ask for one whose records are lent.
     fn block(&self, alloc: Global, grower: u16, k: u32) -> Result<Fresh<R>, FreshFault>
         requires grower { grower < growers_of self.now }
         requires k { k < count_of self.now grower }
         ensures { MatchResult result
             (λ fresh. fresh ≡ block_of self.now grower k)
             (IsSourceFault R.form.width (length (block_of self.now grower k))) };
+
+    /// The records of a grower's block of that number, where the source lends them: a crew copies these into a block.
+    fn records(&self, _grower: u16, _k: u32) -> Option<&[R]>
+        requires grower { _grower < growers_of self.now }
+        requires k { _k < count_of self.now _grower }
+        ensures { IfSome result (λ records. records.now ≡ block_of self.now _grower _k) }
+    {
+        None
+    }
 }
 
 /// What a grower asks before each of its growths, and tells after it. Both may be called from many threads at once.
