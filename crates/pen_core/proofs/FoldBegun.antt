@@ -1,23 +1,22 @@
 -- A fold that was begun: its writes go into home bytes that are being folded, and lay the vector's records there.
-use Rattle.std.proofs.Common.{◌≡◌, ℕ, zero, suc, ◌+◌, ◌-◌, ◌*◌, ◌≤◌, ◌<◌, true, List, [], ◌∷◌, ◌++◌, length, map, take, drop, get_or, Option, Some, None, All, refl, sym, ap, subst, ◌∙◌, arith, inl, inr}
+use Rattle.std.proofs.Common.{◌≡◌, ℕ, ◌+◌, ◌-◌, ◌*◌, ◌≤◌, ◌<◌, true, List, [], ◌∷◌, length, map, take, drop, get_or, Option, Some, None, All, refl, sym, ap, subst, ◌∙◌, arith, inl, inr}
 use Rattle.std.specs.Prelude.{◌⊎◌, is_some, IsSome}
-use Rattle.std.specs.List.{flat_map, AllByRecursion}
+use Rattle.std.specs.List.{AllByRecursion}
 use Rattle.std.specs.Option.{option_and_then}
 use Rattle.std.proofs.Math.Nat.{add-mul}
 use Rattle.std.proofs.lemmas.Bool.{cases_lt, or_cases, or_left, or_right}
 use Rattle.std.proofs.lemmas.Nat.{row_fits}
 use Rattle.std.proofs.lemmas.Option.{slice_get-get_or}
-use Rattle.std.proofs.lemmas.List.{length-append, length-drop, length-take-le, get_or-take, get_or-drop, get_or_append_left, get_or-append-add, ext_get_or}
-use Rattle.std.proofs.lemmas.List.Elements.{All-nil, All-cons, All-head, All-tail, All-take, All-drop, All-get_or, All-from_get_or}
+use Rattle.std.proofs.lemmas.List.{length-append, length-drop, length-take-le, get_or-take, get_or-drop, ext_get_or}
+use Rattle.std.proofs.lemmas.List.Elements.{All-get_or, All-from_get_or}
 use Rattle.disk_core.specs.State.{State, overlay}
-use Rattle.disk_core.proofs.ImageLemmas.{length-overlay, get_or-overlay}
+use Rattle.disk_core.proofs.ImageLemmas.{length-overlay}
 use Rattle.segment_core.specs.declared.format.Shape.{Shape}
 use Rattle.segment_core.specs.declared.found.Home.{Home}
 use Rattle.segment_core.specs.Frame.{Frame, text}
 use Rattle.segment_core.specs.Tally.{nothing, tally_of, AreLegal}
 use Rattle.segment_core.specs.Vector.{home_of, change_of, place_of, record_in}
 use Rattle.segment_core.specs.Folding.{HomesHold}
-use Rattle.segment_core.specs.Found.{home_among}
 use Rattle.segment_core.specs.Blanked.{all_blanked}
 use Rattle.segment_core.specs.Raw.{raw}
 use Rattle.segment_core.proofs.Apart.{home_of_apart}
@@ -26,148 +25,17 @@ use Rattle.segment_core.proofs.PlaceOf.{home_of_between, place_of_between, has_h
 use Rattle.pen_core.specs.Covered.{has, covers, IsCover}
 use Rattle.pen_core.specs.Folds.{laid, IsHomeWrite, IsFolding, IsWholeFold}
 use Rattle.pen_core.specs.Held.{Holds, early_of, gate_of}
-use Rattle.pen_core.specs.HomeRuns.{span_of, IsHomeRun, AreAscending, AreHomeRuns}
+use Rattle.pen_core.specs.HomeRuns.{span_of, AreAscending, AreHomeRuns}
 use Rattle.pen_core.specs.Listed.{live_runs}
 use Rattle.pen_core.specs.PenOf.{HomeWrite}
-use Rattle.pen_core.specs.Values.{bytes_at, write_for, writes_for}
+use Rattle.pen_core.specs.Values.{write_for, writes_for}
 use Rattle.pen_core.proofs.Again.{gate_behind}
 use Rattle.pen_core.proofs.Begun.{held_legal}
 use Rattle.pen_core.proofs.Covers.{has-true, true-has}
 use Rattle.pen_core.proofs.LiveRuns.{change_of-covers, told_is, early_of-all}
 use Rattle.pen_core.proofs.Overlaid.{overlaid}
 use Rattle.pen_core.proofs.RunPositions.{covers-home_runs}
-use Rattle.pen_core.proofs.WritesFor.{ascending-inside}
-
--- ---- records of one width behind one another
-
-abbrev pub HasWidth : ℕ → List ℕ → Type 0
-HasWidth width cell = length cell ≡ width
-
-abbrev joined_cells : List (List ℕ) → List ℕ
-joined_cells cells = flat_map (λ cell. cell) cells
-
-length-joined_cells : (width : ℕ) (cells : List (List ℕ)) → All (HasWidth width) cells → length (joined_cells cells) ≡ length cells * width
-length-joined_cells width [] wide = omega arith
-length-joined_cells width (cell ∷ cells) wide =
-    let first = All-head (HasWidth width) cell cells wide in
-    let rest = length-joined_cells width cells (All-tail (HasWidth width) cell cells wide) in
-    let more : width + length cells * width ≡ suc (length cells) * width = omega arith in
-    omega (arith, length-append cell (joined_cells cells))
-
-get_or-joined_cells : (width : ℕ) (cells : List (List ℕ)) (k m : ℕ) → All (HasWidth width) cells → k < length cells
-    → m < width → get_or (joined_cells cells) (k * width + m) 0 ≡ get_or (get_or cells k []) m 0
-get_or-joined_cells width [] k m wide lt inside = absurd (omega arith)
-get_or-joined_cells width (cell ∷ cells) zero m wide lt inside =
-    let first = All-head (HasWidth width) cell cells wide in
-    let here : 0 * width + m ≡ m = omega arith in
-    ap (λ n. get_or (cell ++ joined_cells cells) n 0) here ∙ get_or_append_left cell (joined_cells cells) 0 m (omega arith)
-get_or-joined_cells width (cell ∷ cells) (suc k) m wide lt inside =
-    let first = All-head (HasWidth width) cell cells wide in
-    let more : width + k * width ≡ suc k * width = omega arith in
-    let here : suc k * width + m ≡ length cell + (k * width + m) = omega arith in
-    ap (λ n. get_or (cell ++ joined_cells cells) n 0) here ∙ get_or-append-add cell (joined_cells cells) (k * width + m) 0
-    ∙ get_or-joined_cells width cells k m (All-tail (HasWidth width) cell cells wide) (omega arith) inside
-
-length-bytes_at : (width : ℕ) (cells : List (List ℕ)) (from count : ℕ) → All (HasWidth width) cells
-    → from + count ≤ length cells → length (bytes_at (raw width) cells from count) ≡ count * width
-length-bytes_at width cells from count wide inside =
-    length-joined_cells width (take count (drop from cells)) (All-take (HasWidth width) count (drop from cells) (All-drop (HasWidth width) from cells wide))
-    ∙ ap (λ n. n * width) (length-take-le count (drop from cells) (omega (arith, length-drop from cells)))
-
-get_or-bytes_at : (width : ℕ) (cells : List (List ℕ)) (from count i m : ℕ) → All (HasWidth width) cells
-    → from + count ≤ length cells → from ≤ i → i < from + count → m < width
-    → get_or (bytes_at (raw width) cells from count) ((i - from) * width + m) 0 ≡ get_or (get_or cells i []) m 0
-get_or-bytes_at width cells from count i m wide inside le lt small =
-    let part : List (List ℕ) = take count (drop from cells) in
-    let here : from + (i - from) ≡ i = omega arith in
-    get_or-joined_cells width part (i - from) m
-    (All-take (HasWidth width) count (drop from cells) (All-drop (HasWidth width) from cells wide))
-    (omega (arith, length-take-le count (drop from cells) (omega (arith, length-drop from cells)))) small
-    ∙ ap (λ cell. get_or cell m 0)
-    (get_or-take count (drop from cells) (i - from) [] (omega arith) ∙ get_or-drop from cells (i - from) []
-    ∙ ap (λ n. get_or cells n []) here)
-
--- ---- rows of one width
-
-record IsInRow (place width count j : ℕ) : Type 0 where
-  row : ℕ
-  inside : row < count
-  from : place + row * width ≤ j
-  before : j < place + row * width + width
-
-row_of : (place width count j : ℕ) → place ≤ j → j < place + count * width → IsInRow place width count j
-row_of place width zero j from before = absurd (omega arith)
-row_of place width (suc count) j from before = elim (cases_lt j (place + count * width)) [
-  | inl first ↦ (let r = row_of place width count j from first in record { row = r.row; inside = omega (arith, r.inside); from = r.from; before = r.before })
-  | inr
-      last ↦ (let more : width + count * width ≡ suc count * width = omega arith in
-      record { row = count; inside = omega arith; from = last; before = omega arith })
-]
-
--- ---- runs that are at home
-
--- the homes say where each position's home bytes begin
-abbrev pub SaysHomes : Shape → List Frame → List Home → Type 0
-SaysHomes shape frames homes = (i : ℕ) → i < (tally_of frames).size → home_among shape.width homes i ≡ home_of shape frames i
-
-record IsAtHome (shape : Shape) (frames : List Frame) (run : Home) : Type 0 where
-  some : 0 < run.count
-  inside : run.position + run.count ≤ (tally_of frames).size
-  adjacent : (i : ℕ) → run.position ≤ i → i < run.position + run.count
-      → home_of shape frames i ≡ Some (run.place + (i - run.position) * shape.width)
-
-all_at_home : (shape : Shape) (frames : List Frame) (homes : List Home) (from : ℕ) (runs : List Home)
-    → SaysHomes shape frames homes → AreAscending from (tally_of frames).size runs
-    → All (IsHomeRun shape.width (home_among shape.width homes)) runs → AllByRecursion (IsAtHome shape frames) runs
-all_at_home shape frames homes from [] are ascend each = tt
-all_at_home shape frames homes from (run ∷ runs) are ascend each =
-    let first = All-head (IsHomeRun shape.width (home_among shape.width homes)) run runs each in
-    let end = ascending-inside (run.position + run.count) (tally_of frames).size runs ascend.1 in (
-      record { some = first.some; inside = end; adjacent = λ i le lt. sym (are i (omega arith)) ∙ first.adjacent i le lt },
-      all_at_home shape frames homes (run.position + run.count) runs are ascend.1
-          (All-tail (IsHomeRun shape.width (home_among shape.width homes)) run runs each),
-    )
-
-home_runs_of : (shape : Shape) (frames : List Frame) (homes : List Home) (from : ℕ) (runs : List Home)
-    → SaysHomes shape frames homes → AreAscending from (tally_of frames).size runs
-    → All (IsHomeRun shape.width (home_among shape.width homes)) runs
-    → All (IsHomeRun shape.width (home_of shape frames)) runs
-home_runs_of shape frames homes from [] says ascend each = All-nil (IsHomeRun shape.width (home_of shape frames))
-home_runs_of shape frames homes from (run ∷ runs) says ascend each =
-    let first = All-head (IsHomeRun shape.width (home_among shape.width homes)) run runs each in
-    let end = ascending-inside (run.position + run.count) (tally_of frames).size runs ascend.1 in
-    All-cons (IsHomeRun shape.width (home_of shape frames)) run runs
-    (record { some = first.some; few = first.few; adjacent = λ i le lt. sym (says i (omega arith)) ∙ first.adjacent i le lt })
-    (home_runs_of shape frames homes (run.position + run.count) runs says ascend.1
-    (All-tail (IsHomeRun shape.width (home_among shape.width homes)) run runs each))
-
--- ---- writes laid
-
-abbrev EndsAt : ℕ → HomeWrite → Type 0
-EndsAt n write = write.place + length write.bytes ≤ n
-
--- a write of some bytes, below the gate
-pub record HasPlace (gate : ℕ) (write : HomeWrite) : Type 0 where
-  pub some : 0 < length write.bytes
-  pub below : write.place + length write.bytes ≤ gate
-
-abbrev Misses : ℕ → HomeWrite → Type 0
-Misses j write = (j < write.place) ⊎ (write.place + length write.bytes ≤ j)
-
-laid_kept : (n j : ℕ) (writes : List HomeWrite) (bytes : List ℕ) → AllByRecursion (EndsAt n) writes
-    → AllByRecursion (Misses j) writes → n ≤ length bytes → j < n → get_or (laid writes bytes) j 0 ≡ get_or bytes j 0
-laid_kept n j [] bytes ends misses long lt = refl
-laid_kept n j (write ∷ writes) bytes ends misses long lt =
-    let fits = ends.0 in
-    laid_kept n j writes (overlay bytes write.place write.bytes) ends.1 misses.1 (omega (arith, length-overlay bytes write.place write.bytes (omega arith))) lt
-    ∙ get_or-overlay bytes write.place write.bytes j (omega arith) (omega arith) misses.0
-
-laid_long : (n : ℕ) (writes : List HomeWrite) (bytes : List ℕ) → AllByRecursion (EndsAt n) writes → n ≤ length bytes
-    → n ≤ length (laid writes bytes)
-laid_long n [] bytes ends long = long
-laid_long n (write ∷ writes) bytes ends long =
-    let fits = ends.0 in
-    laid_long n writes (overlay bytes write.place write.bytes) ends.1 (omega (arith, length-overlay bytes write.place write.bytes (omega arith)))
+use Rattle.pen_core.proofs.HomeRows.{HasWidth, length-bytes_at, get_or-bytes_at, row_of, SaysHomes, all_at_home, home_runs_of, EndsAt, HasPlace, Misses, laid_kept, laid_long}
 
 -- ---- the writes of runs that are at home
 

@@ -24,7 +24,8 @@ use Rattle.pen_core.specs.InHand.{frame_in_hand, write_of, IsPlanned}
 use Rattle.pen_core.specs.Listed.{live_runs, runs_ahead, IsListed}
 use Rattle.pen_core.specs.Values.{writes_for}
 use Rattle.pen_core.specs.Vectors.{blanked_before}
-use Rattle.pen_core.proofs.FoldBegun.{SaysHomes, IsFolding-begun, IsWholeFold-begun}
+use Rattle.pen_core.proofs.FoldBegun.{IsFolding-begun, IsWholeFold-begun}
+use Rattle.pen_core.proofs.HomeRows.{SaysHomes}
 use Rattle.pen_core.proofs.FoldPlanned.{writes_for-raw, ArePlanned-begun}
 use Rattle.pen_core.proofs.HomesTo.{SaysHomes-listed}
 use Rattle.pen_core.proofs.LiveRuns.{HasSome, EndsBy, live_runs_some, live_runs_small, cover_inside, live_runs_cover}

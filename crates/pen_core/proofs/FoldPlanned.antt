@@ -15,7 +15,8 @@ use Rattle.pen_core.specs.Held.{gate_of}
 use Rattle.pen_core.specs.HomeRuns.{AreHomeRuns}
 use Rattle.pen_core.specs.InHand.{write_of, IsPlanned}
 use Rattle.pen_core.specs.Values.{bytes_at, write_for, writes_for}
-use Rattle.pen_core.proofs.FoldBegun.{HasWidth, SaysHomes, HasPlace, all_placed}
+use Rattle.pen_core.proofs.FoldBegun.{all_placed}
+use Rattle.pen_core.proofs.HomeRows.{HasWidth, SaysHomes, HasPlace}
 use Rattle.pen_core.proofs.WritesFor.{Within}
 
 -- ---- records, and their bytes

@@ -28,7 +28,7 @@ use Rattle.pen_core.specs.Fields.{IsSound}
 use Rattle.pen_core.specs.Listed.{homes_ahead, Lists}
 use Rattle.pen_core.specs.Vectors.{frame_at}
 use Rattle.pen_core.specs.declared.step.Step.{Step}
-use Rattle.pen_core.proofs.FoldBegun.{SaysHomes}
+use Rattle.pen_core.proofs.HomeRows.{SaysHomes}
 
 home_among-past : (width start end i : ℕ) (homes : List Home) → AreInTurn start homes end → end ≤ i → home_among width homes i ≡ None
 home_among-past width start end i [] turn past = refl

@@ -46,6 +46,7 @@ pub mod WritesFor
 pub mod LiveRuns
 pub mod HomesTo
 pub mod RunPositions
+pub mod HomeRows
 pub mod FoldBegun
 pub mod FoldPlanned
 pub mod FoldListed

@@ -24,6 +24,7 @@ mod Homes
 mod Served
 mod Copies
 mod Vaults
+pub mod CopyCounts
 pub mod Upgrades
 mod NewFiles
 mod Worked

@@ -1,16 +1,13 @@
 -- Growths that are copied into a new file.
-use Rattle.std.proofs.Common.{◌≡◌, ◌⊎◌, ℕ, ◌+◌, ◌-◌, ◌*◌, ◌≤◌, ◌<◌, ◌^◌, min, List, Bool, true, false, [], ◌∷◌}
+use Rattle.std.proofs.Common.{◌≡◌, ℕ, ◌+◌, ◌-◌, ◌*◌, ◌≤◌, ◌<◌, ◌^◌, min, List, Bool, false, [], ◌∷◌}
 use Rattle.std.proofs.Common.{◌++◌, length, take, drop, Option, None, inl, inr, refl, sym, ap, subst, ◌∙◌, arith, length-append, append-nil}
 use Rattle.std.specs.Prelude.{MatchOption, nat_le, nat_lt}
 use Rattle.std.specs.Option.{is_some}
-use Rattle.std.proofs.Math.Nat.{lt_of_mul-lt-mul_right}
 use Rattle.std.proofs.lemmas.Nat.{mul-le}
-use Rattle.std.proofs.Math.Seq.{take-add}
-use Rattle.std.proofs.lemmas.Bool.{cases_lt, leb-true, leb-false, le-ltb}
-use Rattle.std.proofs.lemmas.Grind.{div_ceil_times}
-use Rattle.std.proofs.lemmas.List.{take_at, take_all, drop_at, drop_all, drop-drop, nil_from_length, length-drop, length-take}
+use Rattle.std.proofs.lemmas.Bool.{leb-true, leb-false, le-ltb}
+use Rattle.std.proofs.lemmas.List.{take_all, length-drop, length-take}
 use Rattle.record_core.specs.Bytes.{Encoding}
-use Rattle.disk_core.specs.State.{State, IsImage, now}
+use Rattle.disk_core.specs.State.{State, now}
 use Rattle.disk_core.specs.Moments.{LeavesOnly, clock}
 use Rattle.disk_core.proofs.JoinedMoments.{LeavesOnly-start, LeavesOnly-join, LeavesOnly-weaker}
 use Rattle.segment_core.specs.declared.format.Format.TheVariants.{Two}
@@ -29,80 +26,12 @@ use Rattle.pen_core.specs.PenOf.{PenOf, JobOf}
 use Rattle.pen_core.specs.Pen.{MayOpen, IsKept, IsUnchanged, BeginsFrame, CountsDone, vector_after, log_left, failed_calls}
 use Rattle.pen_core.specs.Refusals.{first_refusal, IsRefusal, group_lines, is_full, fold_len}
 use Rattle.pen_core.specs.Settled.{IsLogSettled, IsLogFault}
-use Rattle.pen_core.specs.declared.step.Step.{Step}
-use Rattle.pen_core.specs.declared.step.Step.TheVariants.{Body, BodySync, Gate, GateSync}
 use Rattle.pen_core.specs.Step.{steps_left}
 use Rattle.pen_core.proofs.Typed.{MayOpen_typed, MayOpen_rest}
 use Rattle.vault_core.specs.Upgrading.{HasWritten, IsCopyStop, IsFilledBehind, OpensToCopied, copied, gate_behind, growth_count}
 use Rattle.vault_core.specs.Vault.{OpensToEither}
 use Rattle.vault_core.proofs.Commands.{passes}
-
--- ---- counts
-
--- a growth that begins before the end is one of them
-count_above : (piece len growths : ℕ) → 1 ≤ piece → growths * piece < len → growths < growth_count piece len
-count_above piece len growths some before =
-    let is = div_ceil_times len piece some in
-    let first = is.0 in
-    lt_of_mul-lt-mul_right piece (omega arith)
-
--- so many that reach the end, and no more than that
-count_is : (piece len growths : ℕ) → 1 ≤ piece → len ≤ growths * piece → growths * piece < len + piece → growths ≡ growth_count piece len
-count_is piece len growths some all within =
-    let is = div_ceil_times len piece some in
-    let first = is.0 in
-    let second = is.1 in
-    let a : growths < growth_count piece len + 1 = lt_of_mul-lt-mul_right piece (omega arith) in
-    let b : growth_count piece len < growths + 1 = lt_of_mul-lt-mul_right piece (omega arith) in
-    omega arith
-
--- a gate, and the next one behind a frame of so many records more
-gate_more : (width growths a b : ℕ) → gate_behind width growths a + (6 + (8 + b * width)) ≡ gate_behind width (growths + 1) (a + b)
-gate_more width growths a b = omega arith
-
--- ---- lists
-
-module _ {R : Type 0} (piece : ℕ) (records rest chunk left : List R) (growths : ℕ) (rest_is : rest ≡ drop (growths * piece) records)
-    (parts : rest ≡ chunk ++ left) (size : length chunk ≡ min piece (length rest)) where
-  -- a chunk is a piece, or all that is left
-  chunk_cases : (take piece rest ≡ chunk) × (drop piece rest ≡ left)
-  chunk_cases = elim (cases_lt (length rest) piece) [
-    | inl short ↦ (
-        let long = ap length parts ∙ length-append chunk left in
-        let none : left ≡ [] = nil_from_length left (omega (arith, long, size, short)) in
-        let all : rest ≡ chunk = parts ∙ ap (λ (l : List R). chunk ++ l) none ∙ append-nil chunk in
-        (take_all piece rest (omega (arith, short)) ∙ all, drop_all piece rest (omega (arith, short)) ∙ sym none))
-    | inr full ↦ (
-        let whole : length chunk ≡ piece = omega (arith, size, full) in
-        (ap (take piece) parts ∙ take_at chunk left piece whole, ap (drop piece) parts ∙ drop_at chunk left piece whole))
-  ]
-
-  next_is : (growths + 1) * piece ≡ growths * piece + piece
-  next_is = omega arith
-
-  pub copied_more : copied piece records (growths + 1) ≡ copied piece records growths ++ chunk
-  copied_more =
-      ap (λ n. take n records) next_is ∙ take-add (growths * piece) piece records
-      ∙ ap (λ (rs : List R). copied piece records growths ++ rs) (ap (take piece) (sym rest_is) ∙ chunk_cases.0)
-
-  pub left_more : left ≡ drop ((growths + 1) * piece) records
-  left_more = sym chunk_cases.1 ∙ ap (drop piece) rest_is ∙ drop-drop piece (growths * piece) records ∙ ap (λ n. drop n records) (sym next_is)
-
--- ---- refusals
-
-skip : (test : Bool) (first : PenFault) (lines : List (Bool × PenFault)) (fault : PenFault) → test ≡ false → IsRefusal ((test, first) ∷ lines) fault → IsRefusal lines fault
-skip true first lines fault passed why = absurd cc
-skip false first lines fault passed why = why
-
-last : (test : Bool) (first fault : PenFault) → IsRefusal ((test, first) ∷ []) fault → ((test ≡ true) × (fault ≡ first)) ⊎ ((test ≡ false) × (fault ≡ faults.Memory))
-last true first fault why = inl (refl, why)
-last false first fault why = inr (refl, why)
-
-steps_left-most : (step : Step) → steps_left step ≤ 4
-steps_left-most Body = omega arith
-steps_left-most BodySync = omega arith
-steps_left-most Gate = omega arith
-steps_left-most GateSync = omega arith
+use Rattle.vault_core.proofs.CopyCounts.{count_above, count_is, gate_more, copied_more, left_more, skip, last, steps_left-most}
 
 -- ---- the pen between two growths
 
