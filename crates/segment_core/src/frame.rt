@@ -1,15 +1,16 @@
 //! One frame of an image, and its fields.
 
-ghost use Rattle.std.specs.Prelude.{◌≡◌, ◌≤◌, ◌<◌, ◌+◌, ◌*◌, ◌-◌, ◌/◌, ◌^◌, ◌++◌, ℕ, List, Some, true, false, length, take, drop, sum, slice_index, slice_get, nat_lt, MatchOption, IfOk};
-ghost use Rattle.std.specs.List.{list_all};
-ghost use Rattle.segment_core.specs.Shape.{version_of, limit_of};
+ghost use Rattle.std.specs.Prelude.{◌≡◌, ◌≤◌, ◌<◌, ◌+◌, ◌*◌, ◌-◌, ◌/◌, ◌^◌, ℕ, Some, length, drop, slice_index, slice_get, IfOk};
+ghost use Rattle.segment_core.specs.Shape.{version_of};
 ghost use Rattle.segment_core.specs.Frame.{Frame, Shrink, Fold, frame_head_len, kind_of, payload_of, frame_text};
 ghost use Rattle.segment_core.specs.Kind.{kind_byte};
-ghost use Rattle.segment_core.specs.Layout.{u32_at, u64_at, numbers_in, count_in, lengths_in, number_at, run_count_in, runs_in, frame_in, is_group_layout, is_change_layout, is_layout};
+ghost use Rattle.segment_core.specs.Layout.{u32_at, u64_at, frame_in};
 ghost use Rattle.segment_core.specs.Reading.{IsNext, BeginsWith, lengths_of, runs_of, record_bytes_of, record_count, head_len};
 
 use crate::fault::{Cause, damaged};
-use crate::format::{FRAME_HEAD_LEN, FRONT_LEN, Format, FrameKind, Shape};
+use crate::format::{
+    COUNT_LEN, FRAME_HEAD_LEN, FRONT_LEN, Format, FrameKind, SHRINK_PAYLOAD_LEN, Shape,
+};
 use crate::frame_head::{FrameHead, Unread, u32_at, u64_at};
 use payload::{counts, run_at};
 use std::alloc::{AllocError, Global};
@@ -139,7 +140,7 @@ impl<'a> FrameReader<'a> {
         requires { k < length (lengths_of self.now.frame) }
         ensures { result ≡ slice_index (lengths_of self.now.frame) k }
     {
-        u32_at(self.payload, 4 + k as usize * 4)
+        u32_at(self.payload, COUNT_LEN + k as usize * COUNT_LEN)
     }
 
     /// How many runs of positions it replaces: of a change, one at least, and in version 1 one.
@@ -218,9 +219,9 @@ impl<'a> FrameReader<'a> {
         ensures inside { result ≤ length (payload_of self.now.shape.format self.now.frame) }
     {
         match self.kind {
-            FrameKind::Group => 4 + self.heads * 4,
+            FrameKind::Group => COUNT_LEN + self.heads * COUNT_LEN,
             FrameKind::Change => self.shape.format.runs_len(self.heads),
-            FrameKind::Shrink | FrameKind::Fold => 8,
+            FrameKind::Shrink | FrameKind::Fold => SHRINK_PAYLOAD_LEN,
         }
     }
 

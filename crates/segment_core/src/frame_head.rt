@@ -4,7 +4,7 @@ ghost use Rattle.std.specs.Prelude.{◌≡◌, ◌≤◌, ◌<◌, ◌+◌, ◌^
 ghost use Rattle.std.specs.Int.{w32, to_le_bytes};
 ghost use Rattle.segment_core.specs.Kind.{kind_byte};
 ghost use Rattle.segment_core.specs.Frame.{frame_head_len, open_gate};
-ghost use Rattle.segment_core.specs.Layout.{u32_at, u64_at, is_layout};
+ghost use Rattle.segment_core.specs.Layout.{u32_at, u64_at};
 ghost use Rattle.segment_core.specs.declared.format.Shape.{Shape};
 ghost use Rattle.segment_core.specs.Fault.{is_closed, first_line, frame_lines};
 ghost use Rattle.segment_core.specs.FrameHead.{front_len, IsFrontOf, Shows, FitsNumber, FitsIn, first_number, IsNextHead};

@@ -1,8 +1,8 @@
 //! Reading an image piece by piece.
 
-ghost use Rattle.std.specs.Prelude.{◌≡◌, ◌≤◌, ◌<◌, ◌+◌, ◌^◌, ◌++◌, ◌⊎◌, [], ℕ, List, Some, None, Err, length, take, drop, OnOk, OnErr, IfOk, IfErr, MatchResult, min, vec_capacity, ◌-◌, ◌/◌, true, false};
+ghost use Rattle.std.specs.Prelude.{◌≡◌, ◌≤◌, ◌<◌, ◌+◌, ◌^◌, ◌++◌, ◌⊎◌, [], ℕ, List, Some, None, Err, length, take, drop, OnOk, IfErr, MatchResult, min, vec_capacity, ◌-◌, ◌/◌, true, false};
 ghost use Rattle.record_core.specs.Limits.{record_limit};
-ghost use Rattle.segment_core.specs.Shape.{shape_of, format_in, limit_of};
+ghost use Rattle.segment_core.specs.Shape.{shape_of, format_in};
 ghost use Rattle.segment_core.specs.Frame.{header_len, header};
 ghost use Rattle.segment_core.specs.Fault.{header_fault, IsRefused};
 ghost use Rattle.segment_core.specs.Found.{AreHomesOf};

@@ -8,7 +8,7 @@ ghost use Rattle.segment_core.specs.Layout.{u32_at, u64_at, numbers_in, count_in
 ghost use Rattle.segment_core.specs.Reading.{lengths_of, runs_of, record_count};
 ghost use Rattle.segment_core.specs.FrameHead.{FitsNumber, first_number};
 
-use crate::format::{Format, FrameKind, Shape};
+use crate::format::{COUNT_LEN, Format, FrameKind, START_LEN, Shape};
 use crate::frame_head::{u32_at, u64_at};
 
 /// Run `k` of a change's payload: its start, and how many positions it has.
@@ -21,8 +21,11 @@ pub(super) fn run_at(payload: &[u8], shape: Shape, k: usize) -> (u64, usize)
     ensures small { result.1 < 2 ^ 32 }
 {
     let number = shape.format.number_len();
-    let at = number + k * (8 + number);
-    (u64_at(payload, at), count_at(payload, shape, at + 8))
+    let at = number + k * (START_LEN + number);
+    (
+        u64_at(payload, at),
+        count_at(payload, shape, at + START_LEN),
+    )
 }
 
 /// The number of positions of a run of a change's payload. In version 1 it doesn't stand there: the one run has
@@ -34,7 +37,7 @@ fn count_at(payload: &[u8], shape: Shape, at: usize) -> usize
     ensures { result ≡ number_at shape.format ((length payload.now - 8) / shape.width) payload.now at }
 {
     match shape.format {
-        Format::One => (payload.len() - 8) / shape.width,
+        Format::One => (payload.len() - START_LEN) / shape.width,
         Format::Two => u32_at(payload, at) as usize,
     }
 }
@@ -49,7 +52,7 @@ fn sum_of_lengths(payload: &[u8], growths: usize) -> Option<usize>
 {
     let mut records = 0;
     for k in 0..growths {
-        let length = u32_at(payload, 4 + k * 4) as usize;
+        let length = u32_at(payload, COUNT_LEN + k * COUNT_LEN) as usize;
         if length == 0 {
             return None;
         }
@@ -69,12 +72,12 @@ fn group_counts(payload: &[u8], growths: usize, width: usize) -> Option<(usize, 
         (is_group_layout width payload.now ≡ false)
         (λ counts. (is_group_layout width payload.now ≡ true) × (counts.0 ≡ count_in payload.now) × (counts.1 ≡ sum (lengths_in payload.now))) }
 {
-    if growths == 0 || payload.len() < 4 + growths * 4 {
+    if growths == 0 || payload.len() < COUNT_LEN + growths * COUNT_LEN {
         return None;
     }
     let records = sum_of_lengths(payload, growths)?;
     let filled = records.checked_mul(width)?;
-    if filled == payload.len() - (4 + growths * 4) {
+    if filled == payload.len() - (COUNT_LEN + growths * COUNT_LEN) {
         Some((growths, records))
     } else {
         None

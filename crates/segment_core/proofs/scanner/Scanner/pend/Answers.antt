@@ -49,15 +49,7 @@ pub returns-in-Closed-clause-ok : goal.returns-in-Closed-clause-ok
 returns-in-Closed-clause-ok g c = λ image on. (
     let self = c.args.self.now in
     let form = g.R.Record.form in
-    let now : Scanner g.row.R.Denot = record {
-      alloc = self.alloc;
-      told = self.told;
-      header = self.header;
-      filled = self.filled;
-      stage = stages.Closed;
-      pending = c.extend_from_slice.new.self;
-      walk = c.read.new.self;
-    } in
+    let now : Scanner g.row.R.Denot = record self { stage = stages.Closed; pending = c.extend_from_slice.new.self; walk = c.read.new.self } in
     let grown : c.extend_from_slice.new.self.items ≡ self.pending.items ++ c.args.bytes.now = c.in-Ok.ensures.items in
     let stands = stands_behind_pending form image self.pending.items c.args.bytes.now c.deref.result.now self.walk on.stands (c.deref.ensures.value ∙ grown) in
     let tail = rw c.in-Closed.is at c.in_ok-used.ensures.tail in
@@ -73,15 +65,7 @@ returns-in_ok-cut_front-in-Short-clause-ok g c = λ image on. (
     let self = c.args.self.now in
     let form = g.R.Record.form in
     let left : List ℕ = drop c.in_ok-used.used c.deref.result.now in
-    let now : Scanner g.row.R.Denot = record {
-      alloc = self.alloc;
-      told = self.told;
-      header = self.header;
-      filled = self.filled;
-      stage = self.stage;
-      pending = c.cut_front.new.bytes;
-      walk = c.read.new.self;
-    } in
+    let now : Scanner g.row.R.Denot = record self { pending = c.cut_front.new.bytes; walk = c.read.new.self } in
     let grown : c.extend_from_slice.new.self.items ≡ self.pending.items ++ c.args.bytes.now = c.in-Ok.ensures.items in
     let stands = stands_behind_pending form image self.pending.items c.args.bytes.now c.deref.result.now self.walk on.stands (c.deref.ensures.value ∙ grown) in
     let tail = rw c.in-Short.is at c.in_ok-used.ensures.tail in

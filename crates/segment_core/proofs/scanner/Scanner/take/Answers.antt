@@ -39,15 +39,7 @@ pub returns-in-Closed-clause-ok : goal.returns-in-Closed-clause-ok
 returns-in-Closed-clause-ok g c = λ image on. (
     let self = c.args.self.now in
     let form = g.R.Record.form in
-    let now : Scanner g.row.R.Denot = record {
-      alloc = self.alloc;
-      told = self.told;
-      header = self.header;
-      filled = self.filled;
-      stage = stages.Closed;
-      pending = self.pending;
-      walk = c.read.new.self;
-    } in
+    let now : Scanner g.row.R.Denot = record self { stage = stages.Closed; walk = c.read.new.self } in
     let stands = stands_behind_pending form image self.pending.items c.args.bytes.now c.args.bytes.now self.walk on.stands (ap (λ (bs : List ℕ). bs ++ c.args.bytes.now) (sym c.requires.none)) in
     let tail = rw c.in-Closed.is at c.in_ok-used.ensures.tail in
     inr (
@@ -62,15 +54,7 @@ returns-in-Ok-clause-ok g c = λ image on. (
     let self = c.args.self.now in
     let form = g.R.Record.form in
     let left : List ℕ = drop c.in_ok-used.used c.args.bytes.now in
-    let now : Scanner g.row.R.Denot = record {
-      alloc = self.alloc;
-      told = self.told;
-      header = self.header;
-      filled = self.filled;
-      stage = self.stage;
-      pending = c.extend_from_slice.new.self;
-      walk = c.read.new.self;
-    } in
+    let now : Scanner g.row.R.Denot = record self { pending = c.extend_from_slice.new.self; walk = c.read.new.self } in
     let stands = stands_behind_pending form image self.pending.items c.args.bytes.now c.args.bytes.now self.walk on.stands (ap (λ (bs : List ℕ). bs ++ c.args.bytes.now) (sym c.requires.none)) in
     let tail = rw c.in-Short.is at c.in_ok-used.ensures.tail in
     let part : List ℕ = take (length c.args.bytes.now - c.in_ok-used.used) left in
