@@ -1,6 +1,6 @@
 //! The run of a list of steps.
 
-ghost use Rattle.std.specs.Prelude.{◌≡◌, ◌-◌, ◌≤◌, ◌%◌, ◌^◌, [], map, IfOk, IfErr, vec_len, vec_capacity};
+ghost use Rattle.std.specs.Prelude.{◌≡◌, ◌-◌, ◌≤◌, ◌%◌, ◌^◌, map, IfOk, IfErr};
 ghost use Rattle.disk_core.specs.Moments.{clock};
 ghost use Rattle.drive_core.specs.Asked.{answer_of, step_of};
 ghost use Rattle.drive_core.specs.Counted.{below};
@@ -79,20 +79,6 @@ pub struct Driven<R: Record, D: Disk> {
     pub calls: Vec<u64>,
 }
 
-/// Room for so many answers and counts of calls.
-fn reserved<R: Record>(
-    alloc: Global,
-    count: usize,
-) -> Result<(Vec<Answer<R>>, Vec<u64>), AllocError>
-    ensures empty { IfOk result (λ room. (room.0.items ≡ []) × (room.1.items ≡ [])) }
-    ensures lengths { IfOk result (λ room. (vec_len room.0 ≡ 0) × (vec_len room.1 ≡ 0)) }
-    ensures capacity { IfOk result (λ room. (count ≤ vec_capacity room.0) × (count ≤ vec_capacity room.1)) }
-{
-    let answers = Vec::with_capacity(alloc, count)?;
-    let calls = Vec::with_capacity(alloc, count)?;
-    Ok((answers, calls))
-}
-
 /// The run of the steps, by a disk that counts from this moment on.
 fn drive_counted<R: Record, D: Disk, B: Began, E: Threads + Wait + Sync>(
     alloc: Global,
@@ -105,8 +91,12 @@ fn drive_counted<R: Record, D: Disk, B: Began, E: Threads + Wait + Sync>(
     ensures model { IfOk result (λ d. D.keeps d.disk → D.keeps disk) }
     ensures refused { IfErr result (λ r. r.0 ≡ disk) }
 {
-    let (mut answers, mut calls) = match reserved(alloc, steps.len()) {
-        Ok(room) => room,
+    let mut answers = match Vec::with_capacity(alloc, steps.len()) {
+        Ok(answers) => answers,
+        Err(fault) => return Err((disk, fault)),
+    };
+    let mut calls = match Vec::with_capacity(alloc, steps.len()) {
+        Ok(calls) => calls,
         Err(fault) => return Err((disk, fault)),
     };
     let counted: Counted<D, B> = Counted::new(disk);

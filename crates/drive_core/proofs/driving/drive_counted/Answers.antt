@@ -17,9 +17,9 @@ loop-k-init g c =
     let same = ap (disk_of d.states d.faults) (sym c.new-counted.ensures.below) in
     let from = start (disk_of d.states d.faults c.args.disk) in
     let none = run_none g.R.Record.form _ _ from (record { strayed_is = refl; disk_is = same; goes_on = λ none. record { phase_is = refl; calm = refl; disk_is = same } }) in (
-      (c.in-Ok.ensures.lengths.0, c.in-Ok.ensures.lengths.1, c.in-Ok.ensures.capacity.0, c.in-Ok.ensures.capacity.1),
+      (c.in-Ok.ensures.len, c.in-Ok-with_capacity.ensures.len, c.in-Ok.ensures.capacity, c.in-Ok-with_capacity.ensures.capacity),
       (λ kept. subst d.keeps c.new-counted.ensures.below kept),
-      run_pushed g.R.Record.form _ _ from _ _ _ _ _ _ refl (ap (map answer_of) c.in-Ok.ensures.empty.0) c.in-Ok.ensures.empty.1 none,
+      run_pushed g.R.Record.form _ _ from _ _ _ _ _ _ refl (ap (map answer_of) c.in-Ok.ensures.items) c.in-Ok-with_capacity.ensures.items none,
     )
 
 pub loop-k-preserved : goal.loop-k-preserved

@@ -1,4 +1,4 @@
-use Rattle.std.proofs.Common.{arith, false, ◌==◌, eqb-true, ◌≡◌, ◌<◌, ap, refl, sym, subst, ◌∙◌, length, slice_set}
+use Rattle.std.proofs.Common.{arith, false, ◌==◌, eqb-true, ◌≡◌, ◌<◌, ap, refl, sym, subst, ◌∙◌, length}
 use Rattle.drive_core.specs.Asked.{answer_of}
 use Rattle.book_core.specs.Growing.{size_of}
 use Rattle.drive_core.specs.declared.fault.Fault.TheVariants as told
