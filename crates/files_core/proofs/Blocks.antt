@@ -37,14 +37,17 @@ pub record IsGathered {R : Type 0} (block : ℕ) (lines : List (List R)) (k : �
   pub part_is : part ≡ joined left
 
 -- the same, by other names
-pub gathered_as : {R : Type 0} (block : ℕ) (lines : List (List R)) (k : ℕ) (done : List (List R)) (part : List R) (held : ℕ) (growths : List (List R) × List R) (count : ℕ) → growths ≡ (done, part) → count ≡ held → IsGathered block lines k done part held → IsGathered block lines k growths.0 growths.1 count
+pub gathered_as : {R : Type 0} (block : ℕ) (lines : List (List R)) (k : ℕ) (done : List (List R)) (part : List R) (held : ℕ)
+    (growths : List (List R) × List R) (count : ℕ) → growths ≡ (done, part) → count ≡ held → IsGathered block lines k done part held
+    → IsGathered block lines k growths.0 growths.1 count
 gathered_as block lines k done part held growths count is held_is so =
     subst (λ gs. IsGathered block lines k gs.0 gs.1 count) (sym is) (subst (λ n. IsGathered block lines k done part n) (sym held_is) so)
 
 pub gathered_nothing : {R : Type 0} (block : ℕ) (lines : List (List R)) → 0 < block → IsGathered block lines 0 [] [] 0
 gathered_nothing block lines some = record { whole = []; left = []; each = tt; held_is = refl; fewer = some; lines_are = refl; done_is = refl; part_is = refl }
 
-module _ {R : Type 0} (block : ℕ) (lines : List (List R)) (k : ℕ) (done : List (List R)) (part : List R) (held : ℕ) (so : IsGathered block lines k done part held) (line : List R) (at : slice_get lines k ≡ Some line) where
+module _ {R : Type 0} (block : ℕ) (lines : List (List R)) (k : ℕ) (done : List (List R)) (part : List R) (held : ℕ)
+    (so : IsGathered block lines k done part held) (line : List R) (at : slice_get lines k ≡ Some line) where
   more_lines : take (k + 1) lines ≡ joined so.whole ++ (so.left ++ line ∷ [])
   more_lines = take_one_more lines k line at ∙ ap (λ ls. ls ++ line ∷ []) so.lines_are ∙ append_assoc (joined so.whole) so.left (line ∷ [])
 
@@ -96,7 +99,8 @@ module _ {R : Type 0} (block : ℕ) (lines : List (List R)) (done : List (List R
     each = so.each;
     fewer = omega (arith, so.held_is, so.fewer);
     lines_are = all_lines;
-    growths_are = ap (λ gs. gs ++ part ∷ []) so.done_is ∙ ap (λ rs. map joined so.whole ++ rs ∷ []) so.part_is ∙ ap (λ gs. map joined so.whole ++ gs) (last_is so.left (omega (arith, so.held_is, some)));
+    growths_are = ap (λ gs. gs ++ part ∷ []) so.done_is ∙ ap (λ rs. map joined so.whole ++ rs ∷ []) so.part_is
+        ∙ ap (λ gs. map joined so.whole ++ gs) (last_is so.left (omega (arith, so.held_is, some)));
   }
 
   pub gathered_all : held ≡ 0 → AreLineBlocks block lines done
@@ -151,7 +155,8 @@ last_count : {R : Type 0} (left : List (List R)) → ((length left ≡ 0) × (le
 last_count [] = inl (refl, refl)
 last_count (line ∷ lines) = inr (omega arith, refl)
 
-lines_between : (block whole left last lines growths : ℕ) → left < block → lines ≡ whole * block + left → growths ≡ whole + last → ((left ≡ 0) × (last ≡ 0)) ⊎ ((0 < left) × (last ≡ 1)) → (lines ≤ growths * block) × (growths * block < lines + block)
+lines_between : (block whole left last lines growths : ℕ) → left < block → lines ≡ whole * block + left → growths ≡ whole + last
+    → ((left ≡ 0) × (last ≡ 0)) ⊎ ((0 < left) × (last ≡ 1)) → (lines ≤ growths * block) × (growths * block < lines + block)
 lines_between block whole left last lines growths fewer lines_are growths_are (inl none) =
     let same : growths ≡ whole = omega (arith, none.1) in
     let product : growths * block ≡ whole * block = ap (λ n. n * block) same in
@@ -162,14 +167,16 @@ lines_between block whole left last lines growths fewer lines_are growths_are (i
     (omega (arith, some.0, product), omega (arith, some.0, product))
 
 -- each growth has a block of them, but that the last may have fewer
-pub lines_of_blocks : {R : Type 0} (block : ℕ) (lines growths : List (List R)) → AreLineBlocks block lines growths → (length lines ≤ length growths * block) × (length growths * block < length lines + block)
+pub lines_of_blocks : {R : Type 0} (block : ℕ) (lines growths : List (List R)) → AreLineBlocks block lines growths
+    → (length lines ≤ length growths * block) × (length growths * block < length lines + block)
 lines_of_blocks block lines growths so =
     lines_between block (length so.whole) (length so.left) (length (last_growth so.left)) (length lines) (length growths) so.fewer
     (ap length so.lines_are ∙ length-append (joined so.whole) so.left ∙ ap (λ n. n + length so.left) (each_long block so.whole so.each))
     (ap length so.growths_are ∙ length-append (map joined so.whole) (last_growth so.left) ∙ ap (λ n. n + length (last_growth so.left)) (length-map so.whole joined))
     (last_count so.left)
 
-pub lines_of_input : {R : Type 0} (spelling : Spelling R) (block : ℕ) (input : List ℕ) (growths : List (List R)) (count : ℕ) → AreInputBlocks spelling block input growths count → (count ≤ length growths * block) × (length growths * block < count + block)
+pub lines_of_input : {R : Type 0} (spelling : Spelling R) (block : ℕ) (input : List ℕ) (growths : List (List R)) (count : ℕ)
+    → AreInputBlocks spelling block input growths count → (count ≤ length growths * block) × (length growths * block < count + block)
 lines_of_input spelling block input growths count so =
     let both = lines_of_blocks block so.lines growths so.gathered in
     (omega (arith, both.0, so.count_is), omega (arith, both.1, so.count_is))

@@ -14,7 +14,9 @@ use Rattle.files_core.specs.Changing.{Replaces}
 use Rattle.files_core.specs.Opened.{IsOpenedOn, LeavesBeforeOr}
 use Rattle.files_core.proofs.Opened.{opened_list, opened_alone, opened_then, opens_same}
 
-module _ {R D : Type 0} (form : Encoding R) (keeps : D → Type 0) (states : D → List State) (faults : D → ℕ) (IsMadeOf : List R → List R → Type 0) (disk left : D) (v w : VaultOf R D) (opened : IsOpenedOn form keeps states faults disk v) (same : left ≡ w.pen.disk) (may : keeps left → (image : List ℕ) → IsImage (now (states left)) image → MayHold form w image) (made : IsMadeOf (list_of v) (list_of w)) where
+module _ {R D : Type 0} (form : Encoding R) (keeps : D → Type 0) (states : D → List State) (faults : D → ℕ) (IsMadeOf : List R → List R → Type 0)
+    (disk left : D) (v w : VaultOf R D) (opened : IsOpenedOn form keeps states faults disk v) (same : left ≡ w.pen.disk)
+    (may : keeps left → (image : List ℕ) → IsImage (now (states left)) image → MayHold form w image) (made : IsMadeOf (list_of v) (list_of w)) where
   -- by a command that was committed
   pub replaced_by : (frame : Frame) (lines : List (Bool × PenFault)) → IsCommand form keeps states faults frame lines v w (Ok tt) → keeps left → Replaces form states IsMadeOf disk left
   replaced_by frame lines command model = record {
@@ -57,7 +59,8 @@ empty_or [] = inl refl
 empty_or (x ∷ xs) = inr (omega arith)
 
 -- a vault that was opened is not broken
-pub not_broken : {R D : Type 0} (form : Encoding R) (keeps : D → Type 0) (states : D → List State) (faults : D → ℕ) (disk : D) (v : VaultOf R D) (fault : VaultFault) → IsOpenedOn form keeps states faults disk v → IsNothingFault v.pen fault → ⊥
+pub not_broken : {R D : Type 0} (form : Encoding R) (keeps : D → Type 0) (states : D → List State) (faults : D → ℕ) (disk : D) (v : VaultOf R D)
+    (fault : VaultFault) → IsOpenedOn form keeps states faults disk v → IsNothingFault v.pen fault → ⊥
 not_broken form keeps states faults disk v fault opened refused = cc (opened.rests.whole, refused.1)
 
 -- a number is below another, above it, or the same

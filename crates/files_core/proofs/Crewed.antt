@@ -43,20 +43,25 @@ one_some is = cc
 pub same_room : (count other_count : ℕ → ℕ) (n other_n : ℕ) → count ≡ other_count → n ≡ other_n → crew_room count n ≡ crew_room other_count other_n
 same_room count other_count n other_n same_count same_n = ap (λ (c : ℕ → ℕ). crew_room c n) same_count ∙ ap (λ m. crew_room other_count m) same_n
 
-pub share_as : {R D : Type 0} (v : VaultOf R D) (count other_count : ℕ → ℕ) (n other_n : ℕ) (fault : VaultFault) → count ≡ other_count → n ≡ other_n → IsShareFault v (crew_room count n) n fault → IsShareFault v (crew_room other_count other_n) other_n fault
+pub share_as : {R D : Type 0} (v : VaultOf R D) (count other_count : ℕ → ℕ) (n other_n : ℕ) (fault : VaultFault) → count ≡ other_count → n ≡ other_n
+    → IsShareFault v (crew_room count n) n fault → IsShareFault v (crew_room other_count other_n) other_n fault
 share_as v count other_count n other_n fault same_count same_n refused =
     subst (λ m. IsShareFault v (crew_room other_count m) m fault) same_n (subst (λ (c : ℕ → ℕ). IsShareFault v (crew_room c n) n fault) same_count refused)
 
 module _ {R D : Type 0} (form : Encoding R) (keeps : D → Type 0) (states : D → List State) where
   -- what a source deals is what is said of it
-  pub crewed_as : (count other_count : ℕ → ℕ) (block other_block : ℕ → ℕ → List R) (may_stop : ℕ → ℕ → Type 0) (n other_n : ℕ) (old new : VaultOf R D) (receipts : List (List Receipt)) (faults : List (Option GrowFault)) → count ≡ other_count → block ≡ other_block → n ≡ other_n
+  pub crewed_as : (count other_count : ℕ → ℕ) (block other_block : ℕ → ℕ → List R) (may_stop : ℕ → ℕ → Type 0) (n other_n : ℕ) (old new : VaultOf R D)
+      (receipts : List (List Receipt)) (faults : List (Option GrowFault)) → count ≡ other_count → block ≡ other_block → n ≡ other_n
       → HasCrewed form keeps states count block may_stop n old new receipts faults → HasCrewed form keeps states other_count other_block may_stop other_n old new receipts faults
   crewed_as count other_count block other_block may_stop n other_n old new receipts faults same_count same_block same_n crewed =
       subst (λ m. HasCrewed form keeps states other_count other_block may_stop m old new receipts faults) same_n
       (subst (λ b. HasCrewed form keeps states other_count b may_stop n old new receipts faults) same_block
       (subst (λ c. HasCrewed form keeps states c block may_stop n old new receipts faults) same_count crewed))
 
-  module _ (may_stop : ℕ → ℕ → Type 0) (growths : List (List R)) (growers : ℕ) (old new : VaultOf R D) (receipts : List (Vec Receipt)) (faults : List (Option GrowFault)) (crewed : HasCrewed form keeps states (count_for (length growths) growers) (dealt growths growers) may_stop growers old new (map (λ its. its.items) receipts) faults) where
+  module _ (may_stop : ℕ → ℕ → Type 0) (growths : List (List R)) (growers : ℕ) (old new : VaultOf R D) (receipts : List (Vec Receipt))
+      (faults : List (Option GrowFault))
+      (crewed : HasCrewed form keeps states (count_for (length growths) growers) (dealt growths growers) may_stop growers old new
+      (map (λ its. its.items) receipts) faults) where
     pub are_dealt : AreDealt growths growers crewed.0
     are_dealt = record { chained = crewed.1.chained; by_growers = crewed.1.by_growers; records_are = λ k j growth lt at. crewed.1.blocks_are k j growth lt at }
 
@@ -78,19 +83,28 @@ module _ {R D : Type 0} (form : Encoding R) (keeps : D → Type 0) (states : D �
         let same : its ≡ there.0 = one_some (sym at ∙ there.1) in
         ap (λ (v : Vec Receipt). length v.items) same ∙ ap length there.2 ∙ length-map own (receipt_of (length (list_of old)))
 
-    pub stopped_as : (stopped : Stopped) → stopped.size ≡ length (list_of new) → IsFirstStop growers (count_for (length growths) growers) receipts faults stopped → IsStopOf form.width growths growers crewed.0 stopped
+    pub stopped_as : (stopped : Stopped) → stopped.size ≡ length (list_of new)
+        → IsFirstStop growers (count_for (length growths) growers) receipts faults stopped → IsStopOf form.width growths growers crewed.0 stopped
     stopped_as stopped size stop =
         let long = own_long stopped.grower stop.its stop.inside stop.its_are in
         record {
           inside = stop.inside;
           line_is = stop.line_is ∙ ap (line_behind growers stopped.grower) long;
           why = elim stop.why [
-            | inl has ↦ subst (λ n. IsReason form.width (crew_room (count_for (length growths) growers) growers) n (count_for (length growths) growers stopped.grower) (dealt growths growers stopped.grower) stopped.grower crewed.0 (length (own_of stopped.grower crewed.0)) stopped.fault) (sym size) (crewed.1.faults_are stopped.grower stopped.fault stop.inside has)
-            | inr fewer ↦ subst (λ fault. IsReason form.width (crew_room (count_for (length growths) growers) growers) stopped.size (count_for (length growths) growers stopped.grower) (dealt growths growers stopped.grower) stopped.grower crewed.0 (length (own_of stopped.grower crewed.0)) fault) (sym fewer.0) (subst (λ n. n < count_for (length growths) growers stopped.grower) long fewer.1)
+            | inl has ↦ subst
+                (λ n. IsReason form.width (crew_room (count_for (length growths) growers) growers) n
+                (count_for (length growths) growers stopped.grower) (dealt growths growers stopped.grower) stopped.grower crewed.0
+                (length (own_of stopped.grower crewed.0)) stopped.fault) (sym size) (crewed.1.faults_are stopped.grower stopped.fault stop.inside has)
+            | inr fewer ↦ subst
+                (λ fault. IsReason form.width (crew_room (count_for (length growths) growers) growers) stopped.size
+                (count_for (length growths) growers stopped.grower) (dealt growths growers stopped.grower) stopped.grower crewed.0
+                (length (own_of stopped.grower crewed.0)) fault) (sym fewer.0)
+                (subst (λ n. n < count_for (length growths) growers stopped.grower) long fewer.1)
           ];
         }
 
-    pub all_made : ((k : ℕ) → k < growers → (its : Vec Receipt) → slice_get receipts k ≡ Some its → count_for (length growths) growers k ≤ length its.items) → AllMade growths growers crewed.0
+    pub all_made : ((k : ℕ) → k < growers → (its : Vec Receipt) → slice_get receipts k ≡ Some its
+        → count_for (length growths) growers k ≤ length its.items) → AllMade growths growers crewed.0
     all_made enough k lt =
         let own = own_of k crewed.0 in
         let there = some_of (λ its. its.items) receipts k (map (receipt_of (length (list_of old))) own) (crewed.1.receipts_are k lt) in
@@ -106,7 +120,8 @@ module _ {R D : Type 0} (form : Encoding R) (keeps : D → Type 0) (states : D �
 
     pub dealt_all : {X : Type 0} (may_stop : ℕ → ℕ → Type 0) (new : VaultOf R D) (receipts : List (Vec Receipt)) (faults : List (Option GrowFault))
         → HasCrewed form keeps states count block may_stop of old new (map (λ its. its.items) receipts) faults
-        → (result : Result (VaultOf R D) X) → IfOk result (λ w. (w ≡ new) × ((k : ℕ) → k < of → (its : Vec Receipt) → slice_get receipts k ≡ Some its → count k ≤ length its.items))
+        → (result : Result (VaultOf R D) X)
+        → IfOk result (λ w. (w ≡ new) × ((k : ℕ) → k < of → (its : Vec Receipt) → slice_get receipts k ≡ Some its → count k ≤ length its.items))
         → IfOk result (λ w. (made : List (Growth R)) × AreDealt growths growers made × AllMade growths growers made
         × StandBehind form keeps states old w.pen.disk made × (list_of w ≡ list_of old ++ joined made))
     dealt_all may_stop new receipts faults crewed (Err x) has = has
@@ -120,7 +135,8 @@ module _ {R D : Type 0} (form : Encoding R) (keeps : D → Type 0) (states : D �
           ap list_of has.0 ∙ own.1.list_is,
         )
 
-    pub dealt_stopped : {X : Type 0} (left : X → D) (told : X → FileFault) (may_stop : ℕ → ℕ → Type 0) (new : VaultOf R D) (receipts : List (Vec Receipt)) (faults : List (Option GrowFault))
+    pub dealt_stopped : {X : Type 0} (left : X → D) (told : X → FileFault) (may_stop : ℕ → ℕ → Type 0) (new : VaultOf R D)
+        (receipts : List (Vec Receipt)) (faults : List (Option GrowFault))
         → HasCrewed form keeps states count block may_stop of old new (map (λ its. its.items) receipts) faults
         → (result : Result (VaultOf R D) X) → IfErr result (λ r. (left r ≡ new.pen.disk) × ((stopped : Stopped) × (told r ≡ by_grower stopped)
         × (stopped.size ≡ length (list_of new)) × IsFirstStop of count receipts faults stopped))
@@ -165,7 +181,8 @@ module _ {R D : Type 0} (form : Encoding R) (keeps : D → Type 0) (states : D �
         ))
 
   -- the growths stand behind the list of the file that was opened
-  pub appended_to : {failures : D → ℕ} (disk left : D) (v : VaultOf R D) (made : List (Growth R)) → IsOpenedOn form keeps states failures disk v → StandBehind form keeps states v left made → keeps left → Appends form states disk left (list_of v) made
+  pub appended_to : {failures : D → ℕ} (disk left : D) (v : VaultOf R D) (made : List (Growth R)) → IsOpenedOn form keeps states failures disk v
+      → StandBehind form keeps states v left made → keeps left → Appends form states disk left (list_of v) made
   appended_to disk left v made opened stands model =
       let before = stands.model model in
       record {
@@ -186,14 +203,17 @@ module _ {R D : Type 0} (form : Encoding R) (keeps : D → Type 0) (states : D �
     size_is = ap length grown.4;
   }
 
-  pub refused_by : {failures : D → ℕ} (growths : List (List R)) (growers : ℕ) (disk left : D) (v : VaultOf R D) → IsOpenedOn form keeps states failures disk v → (fault : FileFault) → IsGrowthStop form keeps states growths growers v left fault → IsLoadRefusal form keeps states failures growths growers disk left fault
+  pub refused_by : {failures : D → ℕ} (growths : List (List R)) (growers : ℕ) (disk left : D) (v : VaultOf R D)
+      → IsOpenedOn form keeps states failures disk v → (fault : FileFault) → IsGrowthStop form keeps states growths growers v left fault
+      → IsLoadRefusal form keeps states failures growths growers disk left fault
   refused_by growths growers disk left v opened (faults.Vault fault) (inl (same, why)) = (
     list_of v,
     [],
     (λ model.
         let before = subst keeps same model in (
           opened_list form (bytes_of (states disk)) v.pen (list_of v) (opened.opened before),
-          subst (λ d. LeavesBeforeOr (states disk) (states d) (OpensToGrown form (list_of v) [])) (sym same) (opened_alone (states disk) (states v.pen.disk) (OpensToGrown form (list_of v) []) (opened.only_syncs before)),
+          subst (λ d. LeavesBeforeOr (states disk) (states d) (OpensToGrown form (list_of v) [])) (sym same)
+              (opened_alone (states disk) (states v.pen.disk) (OpensToGrown form (list_of v) []) (opened.only_syncs before)),
         )),
     inl (v, opened, same, why),
   )

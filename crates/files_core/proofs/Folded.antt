@@ -37,7 +37,8 @@ same_disk old new true begins = begins.disk_same
 same_disk old new false none = ap (λ p. p.disk) none.1
 
 -- where a fold is settled that was begun with no job in hand no change is live, nor where none was to be folded
-pub folds_all : {D : Type 0} (keeps : Type 0) (old mid new : PenOf D) (begun : Bool) → old.job ≡ None → IsFoldAnswer old mid begun → IsIdle new → StandsInFile keeps mid new → IsAllFolded new
+pub folds_all : {D : Type 0} (keeps : Type 0) (old mid new : PenOf D) (begun : Bool) → old.job ≡ None → IsFoldAnswer old mid begun → IsIdle new
+    → StandsInFile keeps mid new → IsAllFolded new
 folds_all keeps old mid new true no_job begins idle stands = (idle, none_live)
   where
     job : mid.job ≡ None
@@ -88,14 +89,18 @@ module _ {R D : Type 0} (form : Encoding R) (keeps : D → Type 0) (states : D �
       (subst (λ s. LeavesOnly (states mid.pen.disk) (states left) (OpensToEither form s (list_of mid))) sure leaves))
 
   -- a file that was scanned and opened, and whose list stays in all images
-  pub stays_by : {faults : D → ℕ} (disk mid left : D) (v : VaultOf R D) → IsImage (now (states disk)) (bytes_of (states disk)) → OnlySyncs (states disk) (states mid) → IsOpenedOn form keeps states faults mid v → keeps v.pen.disk
+  pub stays_by : {faults : D → ℕ} (disk mid left : D) (v : VaultOf R D) → IsImage (now (states disk)) (bytes_of (states disk))
+      → OnlySyncs (states disk) (states mid) → IsOpenedOn form keeps states faults mid v → keeps v.pen.disk
       → LeavesOnly (states v.pen.disk) (states left) (MayHold form v) → Stays form states disk left
   stays_by disk mid left v reads first opened before leaves = record {
     records = list_of v;
     file = subst (λ bs. OpensTo form bs (list_of v)) (bytes_stay (states disk) (states mid) first) (opened_list form (bytes_of (states mid)) v.pen (list_of v) (opened.opened before));
     images = LeavesOnly-join (states disk) (states v.pen.disk) (states left) (λ image. IsImage (now (states disk)) image ⊎ OpensTo form image (list_of v))
-        (LeavesOnly-weaker (states disk) (states v.pen.disk) (IsImage (now (states disk))) (λ image. IsImage (now (states disk)) image ⊎ OpensTo form image (list_of v)) (λ image is. inl is) (opened_again (states disk) (states mid) (states v.pen.disk) reads first (opened.only_syncs before)))
-        (LeavesOnly-weaker (states v.pen.disk) (states left) (MayHold form v) (λ image. IsImage (now (states disk)) image ⊎ OpensTo form image (list_of v)) (λ image may. inr (one image may)) leaves);
+        (LeavesOnly-weaker (states disk) (states v.pen.disk) (IsImage (now (states disk)))
+        (λ image. IsImage (now (states disk)) image ⊎ OpensTo form image (list_of v)) (λ image is. inl is)
+        (opened_again (states disk) (states mid) (states v.pen.disk) reads first (opened.only_syncs before)))
+        (LeavesOnly-weaker (states v.pen.disk) (states left) (MayHold form v)
+        (λ image. IsImage (now (states disk)) image ⊎ OpensTo form image (list_of v)) (λ image may. inr (one image may)) leaves);
     settled = λ image is. one image (leaves.newest image is);
   }
     where

@@ -22,7 +22,8 @@ use Rattle.pen_core.proofs.Pieces.{reads_behind}
 use Rattle.files_core.specs.SoundFront.{closed_at, IsCutAt, IsNoCutOf, IsSoundFront, IsFrontRefusal}
 
 -- two reads behind a call of the length
-pub read_twice : (old last mid new : List State) → Stays old last → now mid ≡ now last → LeavesOnly last mid (IsImage (now last)) → now new ≡ now mid → LeavesOnly mid new (IsImage (now mid)) → LeavesOnly old new (IsImage (now old))
+pub read_twice : (old last mid new : List State) → Stays old last → now mid ≡ now last → LeavesOnly last mid (IsImage (now last)) → now new ≡ now mid
+    → LeavesOnly mid new (IsImage (now mid)) → LeavesOnly old new (IsImage (now old))
 read_twice old last mid new stays same leaves again then =
     reads_behind old last new stays (again ∙ same)
     (LeavesOnly-join last mid new (IsImage (now last)) leaves (LeavesOnly-weaker mid new (IsImage (now mid)) (IsImage (now last)) (λ image left. subst (λ s. IsImage s image) same left) then))
@@ -50,7 +51,8 @@ module _ {R : Type 0} (form : Encoding R) (old last : List State) (len at n : �
   front_is : take n (bytes_of last) ++ [] ≡ take at (bytes_of old)
   front_is = append-nil (take n (bytes_of last)) ∙ ap (λ (ss : List State). take n (bytes_of ss)) stays ∙ take_least at n (bytes_of old) (omega (arith, is, least))
 
-  pub sound_whole : (scanned : Scanned R) (records : List R) → records ≡ scanned.records.items → IsScanOf form (take n (bytes_of last) ++ []) scanned → IsSoundFront form (bytes_of old) at (length records)
+  pub sound_whole : (scanned : Scanned R) (records : List R) → records ≡ scanned.records.items → IsScanOf form (take n (bytes_of last) ++ []) scanned
+      → IsSoundFront form (bytes_of old) at (length records)
   sound_whole scanned records same scan = record {
     records = scanned.records.items;
     count = ap length same;
@@ -63,15 +65,21 @@ module _ {R : Type 0} (form : Encoding R) (old last : List State) (len at n : �
       inl (subst (λ (bs : List ℕ). IsRefused form bs fault) front_is refused, λ end le lt. none end (omega (arith, size, is, least, le)) lt)
   refused_whole (Disk cause) none refused = tt
 
-  pub cut_at : (end : ℕ) (fault : OpenFault) → (fault ≡ Scan (damaged end NoGate)) ⊎ (fault ≡ Scan (damaged end ShortFrame)) → IsOpenRefusal form (take n (bytes_of last) ++ []) fault → IsCutAt form (take at (bytes_of old)) end
-  cut_at end fault (inl no_gate) refused = inl (subst (λ (bs : List ℕ). IsFirstFault form bs (damaged end NoGate)) front_is (fault_of form (take n (bytes_of last) ++ []) end NoGate (subst (IsOpenRefusal form (take n (bytes_of last) ++ [])) no_gate refused)))
-  cut_at end fault (inr short) refused = inr (subst (λ (bs : List ℕ). IsFirstFault form bs (damaged end ShortFrame)) front_is (fault_of form (take n (bytes_of last) ++ []) end ShortFrame (subst (IsOpenRefusal form (take n (bytes_of last) ++ [])) short refused)))
+  pub cut_at : (end : ℕ) (fault : OpenFault) → (fault ≡ Scan (damaged end NoGate)) ⊎ (fault ≡ Scan (damaged end ShortFrame))
+      → IsOpenRefusal form (take n (bytes_of last) ++ []) fault → IsCutAt form (take at (bytes_of old)) end
+  cut_at end fault (inl no_gate) refused =
+      inl (subst (λ (bs : List ℕ). IsFirstFault form bs (damaged end NoGate)) front_is
+      (fault_of form (take n (bytes_of last) ++ []) end NoGate (subst (IsOpenRefusal form (take n (bytes_of last) ++ [])) no_gate refused)))
+  cut_at end fault (inr short) refused =
+      inr (subst (λ (bs : List ℕ). IsFirstFault form bs (damaged end ShortFrame)) front_is
+      (fault_of form (take n (bytes_of last) ++ []) end ShortFrame (subst (IsOpenRefusal form (take n (bytes_of last) ++ [])) short refused)))
 
   module _ (mid : List State) (same : now mid ≡ now last) (end : ℕ) (cut : IsCutAt form (take at (bytes_of old)) end) where
     closed_is : take end (bytes_of mid) ++ closed_gate ∷ [] ≡ closed_at end (bytes_of old)
     closed_is = ap (λ s. take end s.seen ++ closed_gate ∷ []) (same ∙ ap now stays)
 
-    pub sound_cut : (scanned : Scanned R) (records : List R) → records ≡ scanned.records.items → IsScanOf form (take end (bytes_of mid) ++ closed_gate ∷ []) scanned → IsSoundFront form (bytes_of old) at (length records)
+    pub sound_cut : (scanned : Scanned R) (records : List R) → records ≡ scanned.records.items
+        → IsScanOf form (take end (bytes_of mid) ++ closed_gate ∷ []) scanned → IsSoundFront form (bytes_of old) at (length records)
     sound_cut scanned records equal scan = record {
       records = scanned.records.items;
       count = ap length equal;

@@ -13,10 +13,12 @@ use Rattle.text_core.proofs.GroupLines.{Reads, Reads_word, unfinished_is_bad, wo
 use Rattle.files_core.specs.GrowthLines.{IsGrowthLine, IsGrowthLineOf, alone}
 
 -- one word more
-pub Reads_value : {R : Type 0} (spelling : Spelling R) (line : List ℕ) (growths : List (List R)) (growth : List R) (word : List ℕ) (words : List (List ℕ)) (new_growths : List (List R)) (new_growth : List R) → AreWords spelling → HasOneValue spelling
+pub Reads_value : {R : Type 0} (spelling : Spelling R) (line : List ℕ) (growths : List (List R)) (growth : List R) (word : List ℕ)
+    (words : List (List ℕ)) (new_growths : List (List R)) (new_growth : List R) → AreWords spelling → HasOneValue spelling
     → BringsRecord spelling word growths growth new_growths new_growth → Reads spelling line [] growth (word ∷ words) → Reads spelling line [] new_growth words
 Reads_value spelling line growths growth word words new_growths new_growth law one brings reads =
-    Reads_word spelling line [] growth word words [] new_growth law one (inr (record { record_read = brings.record_read; value = brings.value; text = brings.text; same = refl; brought = brings.brought })) reads
+    Reads_word spelling line [] growth word words [] new_growth law one
+    (inr (record { record_read = brings.record_read; value = brings.value; text = brings.text; same = refl; brought = brings.brought })) reads
 
 none_behind : {R : Type 0} (growth whole : List R) (others : List (List R)) → growth ∷ [] ≡ whole ∷ others → others ≡ []
 none_behind growth whole others is = sym (tail_of growth whole [] others is)
@@ -25,14 +27,17 @@ none_behind growth whole others is = sym (tail_of growth whole [] others is)
     tail_of x y xs ys is = cc
 
 -- a word that is the text of no value
-stray : {R : Type 0} (spelling : Spelling R) (word : List ℕ) (words : List (List ℕ)) (more : List R) → ((r : R) → spelling.is_value r → spelling.text_of r ≢ word) → AllByRecursion spelling.is_value more → map spelling.text_of more ≡ word ∷ words → ⊥
+stray : {R : Type 0} (spelling : Spelling R) (word : List ℕ) (words : List (List ℕ)) (more : List R)
+    → ((r : R) → spelling.is_value r → spelling.text_of r ≢ word) → AllByRecursion spelling.is_value more → map spelling.text_of more ≡ word ∷ words
+    → ⊥
 stray spelling word words [] none values are = cc are
 stray spelling word words (r ∷ more) none values are = none r values.0 (head_of (spelling.text_of r) word (map spelling.text_of more) words are)
   where
     head_of : (x y : List ℕ) (xs ys : List (List ℕ)) → x ∷ xs ≡ y ∷ ys → x ≡ y
     head_of x y xs ys is = cc
 
-pub stray_is_bad : {R : Type 0} (spelling : Spelling R) (line : List ℕ) (growth : List R) (word : List ℕ) (words : List (List ℕ)) → ((r : R) → spelling.is_value r → spelling.text_of r ≢ word)
+pub stray_is_bad : {R : Type 0} (spelling : Spelling R) (line : List ℕ) (growth : List R) (word : List ℕ) (words : List (List ℕ))
+    → ((r : R) → spelling.is_value r → spelling.text_of r ≢ word)
     → Reads spelling line [] growth (word ∷ words) → IsGrowthLine spelling line → ⊥
 stray_is_bad {R} spelling line growth word words none reads so =
     let a = reads.only (alone so.0) so.1 in
@@ -44,17 +49,21 @@ pub no_growth_is_bad : {R : Type 0} (spelling : Spelling R) (line : List ℕ) (g
 no_growth_is_bad spelling line growth none reads so = unfinished_is_bad spelling line [] growth none reads (alone so.0, so.1)
 
 -- one line more
-pub HasGrowths_more : {R : Type 0} (spelling : Spelling R) (input : List ℕ) (growths : List (List R)) (growth : List R) (text line : List ℕ) (rest : Option (List ℕ)) → 0 < length text → MatchOption rest (text ≡ line) (λ after. text ≡ line ++ 10 ∷ after) → HasNoLf line
-    → length (after_cut rest) < length text → IsGrowthLineOf spelling line growth → HasGroups spelling input (map alone growths) text → HasGroups spelling input (map alone (growths ++ growth ∷ [])) (after_cut rest)
+pub HasGrowths_more : {R : Type 0} (spelling : Spelling R) (input : List ℕ) (growths : List (List R)) (growth : List R) (text line : List ℕ)
+    (rest : Option (List ℕ)) → 0 < length text → MatchOption rest (text ≡ line) (λ after. text ≡ line ++ 10 ∷ after) → HasNoLf line
+    → length (after_cut rest) < length text → IsGrowthLineOf spelling line growth → HasGroups spelling input (map alone growths) text
+    → HasGroups spelling input (map alone (growths ++ growth ∷ [])) (after_cut rest)
 HasGrowths_more {R} spelling input growths growth text line rest some whole plain less read before =
     subst (λ (gs : List (List (List R))). HasGroups spelling input gs (after_cut rest)) (sym (map-append alone growths (growth ∷ [])))
     (HasGroups_more spelling input (map alone growths) (alone growth) text line rest some whole plain less read before)
 
-are_growth_lines : {R : Type 0} (spelling : Spelling R) (growths : List (List R)) → AllByRecursion (IsGroup spelling.is_value) (map alone growths) → AllByRecursion (IsGrowthLine spelling) (map (group_line spelling.text_of) (map alone growths))
+are_growth_lines : {R : Type 0} (spelling : Spelling R) (growths : List (List R)) → AllByRecursion (IsGroup spelling.is_value) (map alone growths)
+    → AllByRecursion (IsGrowthLine spelling) (map (group_line spelling.text_of) (map alone growths))
 are_growth_lines spelling [] all = tt
 are_growth_lines spelling (growth ∷ growths) all = ((growth, record { group = all.0; text = refl }), are_growth_lines spelling growths all.1)
 
-pub first_bad_growth : {R : Type 0} (spelling : Spelling R) (input : List ℕ) (growths : List (List R)) (text line : List ℕ) (rest : Option (List ℕ)) (n : ℕ) → 0 < length text → MatchOption rest (text ≡ line) (λ after. text ≡ line ++ 10 ∷ after) → HasNoLf line
+pub first_bad_growth : {R : Type 0} (spelling : Spelling R) (input : List ℕ) (growths : List (List R)) (text line : List ℕ) (rest : Option (List ℕ))
+    (n : ℕ) → 0 < length text → MatchOption rest (text ≡ line) (λ after. text ≡ line ++ 10 ∷ after) → HasNoLf line
     → (IsGrowthLine spelling line → ⊥) → n ≡ length growths + 1 → HasGroups spelling input (map alone growths) text → IsFirstBadLine (IsGrowthLine spelling) input n
 first_bad_growth spelling input growths text line rest n some whole plain bad place so =
     first_bad (IsGrowthLine spelling) input (map (group_line spelling.text_of) (map alone growths)) text line rest n some whole plain bad

@@ -8,6 +8,5 @@ pub mod Windows
 pub mod Folded
 pub mod Commas
 pub mod Standing
-pub mod Scans
 pub mod Fronts
 pub mod Blocks

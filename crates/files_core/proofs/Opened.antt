@@ -37,11 +37,14 @@ opened_then old mid new P syncs leaves =
     (LeavesOnly-weaker mid new P (λ image. IsImage (now old) image ⊎ P image) (λ image has. inr has) leaves)
 
 -- an answer was told so
-pub told_text : {X E : Type 0} (old new : Option (List ℕ)) (text : List ℕ) (written : Result X E) (ended : Ended) → MatchResult written (λ _. ended ≡ Done) (λ _. ended ≡ OutputFailed) → OnOk written (Appends old new text) → WritesText old new text ended
+pub told_text : {X E : Type 0} (old new : Option (List ℕ)) (text : List ℕ) (written : Result X E) (ended : Ended)
+    → MatchResult written (λ _. ended ≡ Done) (λ _. ended ≡ OutputFailed) → OnOk written (Appends old new text) → WritesText old new text ended
 told_text old new text (Ok x) ended told appends = subst (WritesText old new text) (sym told) appends
 told_text old new text (Err e) ended told appends = subst (WritesText old new text) (sym told) tt
 
-pub told_answer : {X E : Type 0} (old new : Option (List ℕ)) (text : List ℕ) (IsAnswer : List ℕ → Type 0) (written : Result X E) (ended : Ended) → MatchResult written (λ _. ended ≡ Done) (λ _. ended ≡ OutputFailed) → OnOk written (Appends old new text) → IsAnswer text → Writes old new IsAnswer ended
+pub told_answer : {X E : Type 0} (old new : Option (List ℕ)) (text : List ℕ) (IsAnswer : List ℕ → Type 0) (written : Result X E) (ended : Ended)
+    → MatchResult written (λ _. ended ≡ Done) (λ _. ended ≡ OutputFailed) → OnOk written (Appends old new text) → IsAnswer text
+    → Writes old new IsAnswer ended
 told_answer old new text IsAnswer (Ok x) ended told appends is = subst (Writes old new IsAnswer) (sym told) (text, is, appends)
 told_answer old new text IsAnswer (Err e) ended told appends is = subst (Writes old new IsAnswer) (sym told) tt
 
@@ -49,7 +52,8 @@ told_answer old new text IsAnswer (Err e) ended told appends is = subst (Writes 
 pub same_keeps : {D : Type 0} (keeps : D → Type 0) (left own : D) → left ≡ own → keeps left → keeps own
 same_keeps keeps left own same model = subst keeps same model
 
-pub told_ends : {X E : Type 0} (done : Type 0) (refused : FileFault → Type 0) (written : Result X E) (ended : Ended) → MatchResult written (λ _. ended ≡ Done) (λ _. ended ≡ OutputFailed) → done → EndsAs done refused ended
+pub told_ends : {X E : Type 0} (done : Type 0) (refused : FileFault → Type 0) (written : Result X E) (ended : Ended)
+    → MatchResult written (λ _. ended ≡ Done) (λ _. ended ≡ OutputFailed) → done → EndsAs done refused ended
 told_ends done refused (Ok x) ended told holds = subst (EndsAs done refused) (sym told) holds
 told_ends done refused (Err e) ended told holds = subst (EndsAs done refused) (sym told) holds
 
@@ -68,12 +72,15 @@ done_answer old new text IsAnswer ended (inl done) writes is = subst (Writes old
 done_answer old new text IsAnswer ended (inr half) writes is = subst (Writes old new IsAnswer) (sym half) tt
 
 -- no call had failed where its work is done
-pub told_counts : {D X E : Type 0} (faults : D → ℕ) (failed : Ended → ℕ) (disk left : D) (written : Result X E) (ended : Ended) → failed Done ≡ 0 → failed OutputFailed ≡ 0 → MatchResult written (λ _. ended ≡ Done) (λ _. ended ≡ OutputFailed) → faults left ≡ faults disk → faults left ≡ faults disk + failed ended
+pub told_counts : {D X E : Type 0} (faults : D → ℕ) (failed : Ended → ℕ) (disk left : D) (written : Result X E) (ended : Ended) → failed Done ≡ 0
+    → failed OutputFailed ≡ 0 → MatchResult written (λ _. ended ≡ Done) (λ _. ended ≡ OutputFailed) → faults left ≡ faults disk
+    → faults left ≡ faults disk + failed ended
 told_counts faults failed disk left (Ok x) ended done half told same = let none : failed ended ≡ 0 = ap failed told ∙ done in omega (arith, none, same)
 told_counts faults failed disk left (Err e) ended done half told same = let none : failed ended ≡ 0 = ap failed told ∙ half in omega (arith, none, same)
 
 -- one of two lists that are the same one
-pub opens_same : {R : Type 0} (form : Encoding R) (was behind records : List R) (image : List ℕ) → was ≡ records → behind ≡ records → OpensToEither form was behind image → OpensTo form image records
+pub opens_same : {R : Type 0} (form : Encoding R) (was behind records : List R) (image : List ℕ) → was ≡ records → behind ≡ records
+    → OpensToEither form was behind image → OpensTo form image records
 opens_same form was behind records image first second (inl opens) = subst (OpensTo form image) first opens
 opens_same form was behind records image first second (inr opens) = subst (OpensTo form image) second opens
 

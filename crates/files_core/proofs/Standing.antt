@@ -1,5 +1,6 @@
 -- Growths that are appended as they are read.
-use Rattle.std.proofs.Common.{◌≡◌, ◌⊎◌, ℕ, suc, ◌+◌, ◌-◌, ◌*◌, ◌^◌, ◌<◌, ◌≤◌, min, Bool, List, [], ◌∷◌, ◌++◌, length, take, All, Result, Ok, Err, IfOk, MatchResult, zero-add, inl, inr, refl, sym, ap, subst, ◌∙◌, arith}
+use Rattle.std.proofs.Common.{◌≡◌, ◌⊎◌, ℕ, suc, ◌+◌, ◌-◌, ◌*◌, ◌^◌, ◌<◌, ◌≤◌, min, Bool, List, [], ◌∷◌, ◌++◌}
+use Rattle.std.proofs.Common.{length, take, All, Result, Ok, Err, IfOk, MatchResult, zero-add, inl, inr, refl, sym, ap, subst, ◌∙◌, arith}
 use Rattle.std.specs.Prelude.{cond}
 use Rattle.std.proofs.Math.Nat.{add-mul}
 use Rattle.std.proofs.lemmas.Bool.{eq-eqb}
@@ -19,14 +20,15 @@ use Rattle.directory_core.specs.Chain.{joined}
 use Rattle.pen_core.specs.Typed.{OpensTo}
 use Rattle.vault_core.specs.Crewing.{OpensToGrown, IsReason, crew_room}
 use Rattle.vault_core.specs.Vault.{VaultOf, MayHold, list_of}
-use Rattle.files_core.specs.declared.appending.Appended.{Appended}
+use Rattle.files_core.specs.declared.appended.Appended.{Appended}
 use Rattle.files_core.specs.declared.ended.Ended.{Ended}
 use Rattle.files_core.specs.declared.ended.Ended.TheVariants.{Done, OutputFailed, Refused}
 use Rattle.files_core.specs.Ended.{EndsAs}
 use Rattle.files_core.specs.declared.fault.FileFault.{FileFault}
 use Rattle.files_core.specs.declared.fault.FileFault.TheVariants as faults
 use Rattle.files_core.specs.declared.fault.Stopped.{Stopped}
-use Rattle.files_core.specs.Appending.{AreLinesOf, AreLinesWithin, AreOfBlocks, GrowsTo, HasAppended, HasAppendedAll, HasGone, IsAppendRefusal, IsBatchStop, IsLast, IsSettled, IsStopTold, StandBehindList, GrowthsStand, StopsAt}
+use Rattle.files_core.specs.Appending.{AreLinesOf, AreLinesWithin, AreOfBlocks, GrowsTo, HasAppended, HasAppendedAll, HasGone, IsAppendRefusal}
+use Rattle.files_core.specs.Appending.{IsBatchStop, IsLast, IsSettled, IsStopTold, StandBehindList, GrowthsStand, StopsAt}
 use Rattle.files_core.specs.Dealt.{count_for, dealt}
 use Rattle.files_core.specs.Loading.{AreDealt, AllMade, StandBehind, IsGrowthStop, IsStopOf}
 use Rattle.files_core.specs.Opened.{IsOpenedOn}
@@ -63,11 +65,15 @@ more_grown form list one two image grown = record {
   opens = subst (λ gs. OpensTo form image (list ++ joined gs)) (sym (take-append-le grown.count one two grown.known)) grown.opens;
 }
 
-behind_grown : {R : Type 0} (form : Encoding R) (list mid : List R) (one two : List (Growth R)) (image : List ℕ) → mid ≡ list ++ joined one → OpensToGrown form mid two image → OpensToGrown form list (one ++ two) image
+behind_grown : {R : Type 0} (form : Encoding R) (list mid : List R) (one two : List (Growth R)) (image : List ℕ) → mid ≡ list ++ joined one
+    → OpensToGrown form mid two image → OpensToGrown form list (one ++ two) image
 behind_grown form list mid one two image is grown = record {
   count = length one + grown.count;
   known = omega (arith, length-append one two, grown.known);
-  opens = subst (OpensTo form image) (ap (λ rs. rs ++ joined (take grown.count two)) is ∙ append_assoc list (joined one) (joined (take grown.count two)) ∙ ap (λ rs. list ++ rs) (sym (joined_on one (take grown.count two))) ∙ ap (λ gs. list ++ joined gs) (sym (take_on one grown.count two))) grown.opens;
+  opens = subst (OpensTo form image)
+      (ap (λ rs. rs ++ joined (take grown.count two)) is ∙ append_assoc list (joined one) (joined (take grown.count two))
+      ∙ ap (λ rs. list ++ rs) (sym (joined_on one (take grown.count two))) ∙ ap (λ gs. list ++ joined gs) (sym (take_on one grown.count two)))
+      grown.opens;
 }
 
 -- so many, as far as that is told
@@ -94,13 +100,15 @@ own_first [] all = refl
 own_first (growth ∷ made) all =
     let here : growth.seat < 1 = All-head (λ (g : Growth _). g.seat < 1) growth made all in
     let first : growth.seat ≡ 0 = omega arith in
-    ap (λ (b : Bool). cond b (growth ∷ own_of 0 made) (own_of 0 made)) (eq-eqb growth.seat 0 first) ∙ ap (λ gs. growth ∷ gs) (own_first made (All-tail (λ (g : Growth _). g.seat < 1) growth made all))
+    ap (λ (b : Bool). cond b (growth ∷ own_of 0 made) (own_of 0 made)) (eq-eqb growth.seat 0 first)
+    ∙ ap (λ gs. growth ∷ gs) (own_first made (All-tail (λ (g : Growth _). g.seat < 1) growth made all))
 
 all_for_one : (n : ℕ) → count_for n 1 0 ≡ n
 all_for_one n = omega arith
 
 -- one that stopped had growths left to make, or none were made
-growths_left : {R : Type 0} (width room size count : ℕ) (block : ℕ → List R) (id : ℕ) (growths : List (Growth R)) (m : ℕ) (fault : GrowFault) → IsReason width room size count block id growths m fault → (m < count) ⊎ (m ≡ 0)
+growths_left : {R : Type 0} (width room size count : ℕ) (block : ℕ → List R) (id : ℕ) (growths : List (Growth R)) (m : ℕ) (fault : GrowFault)
+    → IsReason width room size count block id growths m fault → (m < count) ⊎ (m ≡ 0)
 growths_left width room size count block id growths m grow_faults.Closed why = inl why
 growths_left width room size count block id growths m grow_faults.Full why = inl why.0
 growths_left width room size count block id growths m grow_faults.TooLong why = inl why.0
@@ -109,16 +117,20 @@ growths_left width room size count block id growths m grow_faults.Memory why = w
 growths_left width room size count block id growths m grow_faults.Empty why = inl why.0
 growths_left width room size count block id growths m grow_faults.TooLarge why = inl why.0
 
-behind_own : (line made all grower : ℕ) → grower < 1 → all < 2 ^ 64 → (made < count_for all 1 grower) ⊎ (made ≡ 0) → line ≡ min (2 ^ 64 - 1) (made * 1 + (grower + 1)) → line - 1 ≡ made
+behind_own : (line made all grower : ℕ) → grower < 1 → all < 2 ^ 64 → (made < count_for all 1 grower) ⊎ (made ≡ 0)
+    → line ≡ min (2 ^ 64 - 1) (made * 1 + (grower + 1)) → line - 1 ≡ made
 behind_own line made all grower one few (inl less) is = omega arith
 behind_own line made all grower one few (inr none) is = omega arith
 
 -- its line tells how many it made
-made_by_one : {R : Type 0} (width : ℕ) (batch : List (List R)) (own : List (Growth R)) (stopped : Stopped) → length batch < 2 ^ 64 → AreDealt batch 1 own → IsStopOf width batch 1 own stopped → stopped.line - 1 ≡ length own
+made_by_one : {R : Type 0} (width : ℕ) (batch : List (List R)) (own : List (Growth R)) (stopped : Stopped) → length batch < 2 ^ 64
+    → AreDealt batch 1 own → IsStopOf width batch 1 own stopped → stopped.line - 1 ≡ length own
 made_by_one width batch own stopped few own_are stop =
     let first : stopped.grower ≡ 0 = omega (arith, stop.inside) in
     let mine : length (own_of stopped.grower own) ≡ length own = ap (λ (k : ℕ). length (own_of k own)) first ∙ ap length (own_first own own_are.by_growers) in
-    behind_own stopped.line (length (own_of stopped.grower own)) (length batch) stopped.grower stop.inside few (growths_left width (crew_room (count_for (length batch) 1) 1) stopped.size (count_for (length batch) 1 stopped.grower) (dealt batch 1 stopped.grower) stopped.grower own (length (own_of stopped.grower own)) stopped.fault stop.why) stop.line_is ∙ mine
+    behind_own stopped.line (length (own_of stopped.grower own)) (length batch) stopped.grower stop.inside few
+    (growths_left width (crew_room (count_for (length batch) 1) 1) stopped.size (count_for (length batch) 1 stopped.grower)
+    (dealt batch 1 stopped.grower) stopped.grower own (length (own_of stopped.grower own)) stopped.fault stop.why) stop.line_is ∙ mine
 
 all_counted : {R : Type 0} (growths : List (List R)) (made : List (Growth R)) → AreDealt growths 1 made → AllMade growths 1 made → length made ≡ length growths
 all_counted growths made dealt all = ap length (sym (own_first made dealt.by_growers)) ∙ all 0 (omega arith) ∙ all_for_one (length growths)
@@ -137,7 +149,10 @@ module _ {R D : Type 0} (form : Encoding R) (keeps : D → Type 0) (states : D �
     model = λ model. model;
   }
 
-  pub grows_to : (growths : List (List R)) (v w : VaultOf R D) → (made : List (Growth R)) × AreDealt growths 1 made × AllMade growths 1 made × StandBehind form keeps states v w.pen.disk made × (list_of w ≡ list_of v ++ joined made) → (made : List (Growth R)) × GrowsTo form keeps states v w made × (length made ≡ length growths)
+  pub grows_to : (growths : List (List R)) (v w : VaultOf R D)
+      → (made : List (Growth R)) × AreDealt growths 1 made × AllMade growths 1 made × StandBehind form keeps states v w.pen.disk made
+      × (list_of w ≡ list_of v ++ joined made)
+      → (made : List (Growth R)) × GrowsTo form keeps states v w made × (length made ≡ length growths)
   grows_to growths v w grown = (
     grown.0,
     record {
@@ -149,7 +164,8 @@ module _ {R D : Type 0} (form : Encoding R) (keeps : D → Type 0) (states : D �
     all_counted growths grown.0 grown.1 grown.2,
   )
 
-  pub stops_by : (growths : List (List R)) (v : VaultOf R D) (left : D) (fault : FileFault) → IsSettled form keeps states v → IsGrowthStop form keeps states growths 1 v left fault → StopsAt form keeps states growths v left fault
+  pub stops_by : (growths : List (List R)) (v : VaultOf R D) (left : D) (fault : FileFault) → IsSettled form keeps states v
+      → IsGrowthStop form keeps states growths 1 v left fault → StopsAt form keeps states growths v left fault
   stops_by growths v left (faults.Vault fault) settled (inl (same, why)) = subst (λ d. StopsAt form keeps states growths v d (faults.Vault fault)) (sym same) (record {
     by_crew = tt;
     more = [];
@@ -158,7 +174,8 @@ module _ {R D : Type 0} (form : Encoding R) (keeps : D → Type 0) (states : D �
     model = λ model. model;
   })
   stops_by growths v left (faults.Vault fault) settled (inr some) = record { by_crew = tt; more = some.0; images = λ model. (some.2 model).1; settled = tt; model = λ model. (some.2 model).0 }
-  stops_by growths v left (faults.Grower stopped) settled stop = record { by_crew = tt; more = stop.0; images = stop.2.images; settled = (stop.2.settled, stop.3, stop.1, stop.4); model = stop.2.model }
+  stops_by growths v left (faults.Grower stopped) settled stop =
+      record { by_crew = tt; more = stop.0; images = stop.2.images; settled = (stop.2.settled, stop.3, stop.1, stop.4); model = stop.2.model }
   stops_by growths v left (faults.Open fault) settled stop = absurd stop
   stops_by growths v left (faults.Word word) settled stop = absurd stop
   stops_by growths v left (faults.Input refusal) settled stop = absurd stop
@@ -166,11 +183,15 @@ module _ {R D : Type 0} (form : Encoding R) (keeps : D → Type 0) (states : D �
 
   -- ---- one batch after the other
 
-  leaves_further : (v mid : VaultOf R D) (left : D) (one two : List (Growth R)) → GrowsTo form keeps states v mid one → keeps mid.pen.disk → LeavesOnly (states mid.pen.disk) (states left) (OpensToGrown form (list_of mid) two) → LeavesOnly (states v.pen.disk) (states left) (OpensToGrown form (list_of v) (one ++ two))
+  leaves_further : (v mid : VaultOf R D) (left : D) (one two : List (Growth R)) → GrowsTo form keeps states v mid one → keeps mid.pen.disk
+      → LeavesOnly (states mid.pen.disk) (states left) (OpensToGrown form (list_of mid) two)
+      → LeavesOnly (states v.pen.disk) (states left) (OpensToGrown form (list_of v) (one ++ two))
   leaves_further v mid left one two first model leaves =
       LeavesOnly-join (states v.pen.disk) (states mid.pen.disk) (states left) (OpensToGrown form (list_of v) (one ++ two))
-      (LeavesOnly-weaker (states v.pen.disk) (states mid.pen.disk) (OpensToGrown form (list_of v) one) (OpensToGrown form (list_of v) (one ++ two)) (λ image grown. more_grown form (list_of v) one two image grown) (first.images model))
-      (LeavesOnly-weaker (states mid.pen.disk) (states left) (OpensToGrown form (list_of mid) two) (OpensToGrown form (list_of v) (one ++ two)) (λ image grown. behind_grown form (list_of v) (list_of mid) one two image first.list grown) leaves)
+      (LeavesOnly-weaker (states v.pen.disk) (states mid.pen.disk) (OpensToGrown form (list_of v) one) (OpensToGrown form (list_of v) (one ++ two))
+      (λ image grown. more_grown form (list_of v) one two image grown) (first.images model))
+      (LeavesOnly-weaker (states mid.pen.disk) (states left) (OpensToGrown form (list_of mid) two) (OpensToGrown form (list_of v) (one ++ two))
+      (λ image grown. behind_grown form (list_of v) (list_of mid) one two image first.list grown) leaves)
 
   grows_further : (v mid w : VaultOf R D) (one two : List (Growth R)) → GrowsTo form keeps states v mid one → GrowsTo form keeps states mid w two → GrowsTo form keeps states v w (one ++ two)
   grows_further v mid w one two first then = record {
@@ -180,7 +201,8 @@ module _ {R D : Type 0} (form : Encoding R) (keeps : D → Type 0) (states : D �
     model = λ model. first.model (then.model model);
   }
 
-  pub gone_nowhere : (block : ℕ) (v : VaultOf R D) (appended : Appended) → IsSettled form keeps states v → appended.growths ≡ 0 → appended.lines ≡ 0 → appended.size ≡ length (list_of v)
+  pub gone_nowhere : (block : ℕ) (v : VaultOf R D) (appended : Appended) → IsSettled form keeps states v → appended.growths ≡ 0 → appended.lines ≡ 0
+      → appended.size ≡ length (list_of v)
       → HasGone form keeps states block v v appended
   gone_nowhere block v appended settled none no_line size = record { made = []; goes = grows_nowhere v settled; size_is = size; growths_are = none; lines_are = no_line ∙ no_block }
     where
@@ -243,7 +265,9 @@ module _ {R D : Type 0} (form : Encoding R) (keeps : D → Type 0) (states : D �
         record { no_more = omega (arith, lines.0, now.2); no_less = omega (arith, lines.1, now.2) },
       )
 
-  stands_with : (block : ℕ) (batch : List (List R)) (v mid : VaultOf R D) (left : D) (appended : Appended) (fault : FileFault) (gone : HasGone form keeps states block v mid appended) (stops : StopsAt form keeps states batch mid left fault) → StandBehindList form keeps states v left appended gone.made stops.more
+  stands_with : (block : ℕ) (batch : List (List R)) (v mid : VaultOf R D) (left : D) (appended : Appended) (fault : FileFault)
+      (gone : HasGone form keeps states block v mid appended) (stops : StopsAt form keeps states batch mid left fault)
+      → StandBehindList form keeps states v left appended gone.made stops.more
   stands_with block batch v mid left appended fault gone stops = record {
     images = λ model. leaves_further v mid left gone.made stops.more gone.goes (stops.model model) (stops.images model);
     settled = λ model image is. subst (λ (rs : List R). OpensToGrown form rs stops.more image) gone.goes.list ((stops.images model).newest image is);
@@ -252,7 +276,10 @@ module _ {R D : Type 0} (form : Encoding R) (keeps : D → Type 0) (states : D �
   }
 
   -- a grower stopped behind that: what it made stands too
-  module _ (block : ℕ) (batch : List (List R)) (v mid : VaultOf R D) (left : D) (before after : Appended) (stopped : Stopped) (told : FileFault) (few : length batch < 2 ^ 64) (gone : HasGone form keeps states block v mid before) (stops : StopsAt form keeps states batch mid left (faults.Grower stopped)) (tells : IsStopTold block before (faults.Grower stopped) after told) where
+  module _ (block : ℕ) (batch : List (List R)) (v mid : VaultOf R D) (left : D) (before after : Appended) (stopped : Stopped) (told : FileFault)
+      (few : length batch < 2 ^ 64) (gone : HasGone form keeps states block v mid before)
+      (stops : StopsAt form keeps states batch mid left (faults.Grower stopped))
+      (tells : IsStopTold block before (faults.Grower stopped) after told) where
     count_own : stopped.line - 1 ≡ length stops.more
     count_own = made_by_one form.width batch stops.more stopped few stops.settled.2 stops.settled.3
 
@@ -267,7 +294,9 @@ module _ {R D : Type 0} (form : Encoding R) (keeps : D → Type 0) (states : D �
 
     stands_all : StandBehindList form keeps states v left after (gone.made ++ stops.more) []
     stands_all = record {
-      images = λ model. subst (λ gs. LeavesOnly (states v.pen.disk) (states left) (OpensToGrown form (list_of v) gs)) (sym (append-nil (gone.made ++ stops.more))) (leaves_further v mid left gone.made stops.more gone.goes (stops.model model) (stops.images model));
+      images = λ model. subst (λ gs. LeavesOnly (states v.pen.disk) (states left) (OpensToGrown form (list_of v) gs))
+          (sym (append-nil (gone.made ++ stops.more)))
+          (leaves_further v mid left gone.made stops.more gone.goes (stops.model model) (stops.images model));
       settled = λ model image is. none_grown form (list_of v ++ joined (gone.made ++ stops.more)) [] image (subst (OpensTo form image) list_all (stops.settled.0 model image is));
       size_is = tells.2 ∙ size_all;
       growths_are = tells.0 ∙ counts_on (2 ^ 64 - 1) before.growths (length gone.made) (stopped.line - 1) gone.growths_are ∙ ap (min (2 ^ 64 - 1)) count_all;
@@ -315,7 +344,8 @@ module _ {R D : Type 0} (form : Encoding R) (keeps : D → Type 0) (states : D �
       let mine = subst keeps (sym same) model in
       opens_same form v.sure (list_of v) (list_of v) image (sure model) refl (may mine image (subst (λ d. IsImage (now (states d)) image) (sym same) is))
 
-  module _ (failures : D → ℕ) (block : ℕ) (disk left : D) (v : VaultOf R D) (appended : Appended) (opened : IsOpenedOn form keeps states failures disk v) (back : keeps left → keeps v.pen.disk) where
+  module _ (failures : D → ℕ) (block : ℕ) (disk left : D) (v : VaultOf R D) (appended : Appended)
+      (opened : IsOpenedOn form keeps states failures disk v) (back : keeps left → keeps v.pen.disk) where
     growths_stand : (made more : List (Growth R)) → StandBehindList form keeps states v left appended made more → keeps left → GrowthsStand form states disk left appended made more
     growths_stand made more stands model = record {
       was = list_of v;

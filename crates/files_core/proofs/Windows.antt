@@ -42,13 +42,16 @@ drop_min n xs = elim (cases_lt n (length xs)) [
 ]
 
 -- one piece more
-pub window_more : {X : Type 0} (from count : ℕ) (gone piece : List X) → take count (drop from (gone ++ piece)) ≡ take count (drop from gone) ++ take (count - length (drop from gone)) (drop (from - length gone) piece)
+pub window_more : {X : Type 0} (from count : ℕ) (gone piece : List X)
+    → take count (drop from (gone ++ piece)) ≡ take count (drop from gone) ++ take (count - length (drop from gone)) (drop (from - length gone) piece)
 window_more from count gone piece = ap (take count) (drop_append from gone piece) ∙ take_append count (drop from gone) (drop (from - length gone) piece)
 
 pub skip_more : {X : Type 0} (from : ℕ) (gone piece : List X) → from - length gone - length piece ≡ from - length (gone ++ piece)
 skip_more from gone piece = omega (arith, length-append gone piece)
 
-pub left_more : {X : Type 0} (from count : ℕ) (gone piece : List X) → count - length (drop from gone) - length (take (count - length (drop from gone)) (drop (from - length gone) piece)) ≡ count - length (drop from (gone ++ piece))
+pub left_more : {X : Type 0} (from count : ℕ) (gone piece : List X)
+    → count - length (drop from gone) - length (take (count - length (drop from gone)) (drop (from - length gone) piece))
+    ≡ count - length (drop from (gone ++ piece))
 left_more from count gone piece =
     let was = length-drop from gone in
     let now = length-drop from (gone ++ piece) in

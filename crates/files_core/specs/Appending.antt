@@ -9,7 +9,7 @@ use Rattle.directory_core.specs.Chain.{joined}
 use Rattle.pen_core.specs.Typed.{OpensTo}
 use Rattle.vault_core.specs.Crewing.{OpensToGrown}
 use Rattle.vault_core.specs.Vault.{VaultOf, list_of}
-use Rattle.files_core.specs.declared.appending.Appended.{Appended}
+use Rattle.files_core.specs.declared.appended.Appended.{Appended}
 use Rattle.files_core.specs.declared.fault.FileFault.{FileFault}
 use Rattle.files_core.specs.declared.fault.FileFault.TheVariants.{Word, Input, Open, Vault, Grower, Upgrade}
 use Rattle.files_core.specs.declared.fault.Stopped.{Stopped}
@@ -101,7 +101,9 @@ module _ {R D : Type 0} (form : Encoding R) (keeps : D → Type 0) (states : D �
   -- behind a grower's fault all growths that were made are settled, the first of the batch, and it tells how many records there
   -- are with them, and why there aren't more
   abbrev pub IsGrowerStop : List (List R) → VaultOf R D → D → List (Growth R) → FileFault → Type 0
-  IsGrowerStop batch v left all (Grower stopped) = (keeps left → AllOpenTo form (states left) (list_of v ++ joined all)) × (stopped.size ≡ length (list_of v ++ joined all)) × AreDealt batch 1 all × IsStopOf form.width batch 1 all stopped
+  IsGrowerStop batch v left all (Grower stopped) =
+      (keeps left → AllOpenTo form (states left) (list_of v ++ joined all)) × (stopped.size ≡ length (list_of v ++ joined all)) × AreDealt batch 1 all
+      × IsStopOf form.width batch 1 all stopped
   IsGrowerStop batch v left all (Vault fault) = Unit {0}
   IsGrowerStop batch v left all (Open fault) = Unit {0}
   IsGrowerStop batch v left all (Word word) = Unit {0}
@@ -136,7 +138,9 @@ module _ {R D : Type 0} (form : Encoding R) (keeps : D → Type 0) (states : D �
   HasAppended block v left appended (Ok all) = (made : List (Growth R)) × StandBehindList v left appended made [] × AreLinesOf block appended made
   HasAppended block v left appended (Err (Input refusal)) = (made : List (Growth R)) × StandBehindList v left appended made [] × AreOfBlocks block appended made
   HasAppended block v left appended (Err (Vault fault)) = (made more : List (Growth R)) × StandBehindList v left appended made more × AreOfBlocks block appended made
-  HasAppended block v left appended (Err (Grower stopped)) = (made : List (Growth R)) × StandBehindList v left appended made [] × AreOfBlocks block appended made × IsBatchStop form.width appended made stopped
+  HasAppended block v left appended (Err (Grower stopped)) =
+      (made : List (Growth R)) × StandBehindList v left appended made [] × AreOfBlocks block appended made
+      × IsBatchStop form.width appended made stopped
   HasAppended block v left appended (Err (Open fault)) = ⊥
   HasAppended block v left appended (Err (Word word)) = ⊥
   HasAppended block v left appended (Err (Upgrade fault)) = ⊥
@@ -150,7 +154,10 @@ module _ {R D : Type 0} (form : Encoding R) (keeps : D → Type 0) (states : D �
   abbrev pub IsAppendRefusal : (D → ℕ) → ℕ → D → D → Appended → FileFault → Type 0
   IsAppendRefusal faults block disk left appended (Open fault) = (appended ≡ nothing_appended) × IsNotOpened form keeps states faults disk left fault
   IsAppendRefusal faults block disk left appended (Input refusal) = (made : List (Growth R)) × (keeps left → GrowthsStand form states disk left appended made []) × AreOfBlocks block appended made
-  IsAppendRefusal faults block disk left appended (Vault fault) = (made more : List (Growth R)) × (keeps left → GrowthsStand form states disk left appended made more) × AreOfBlocks block appended made
-  IsAppendRefusal faults block disk left appended (Grower stopped) = (made : List (Growth R)) × (keeps left → GrowthsStand form states disk left appended made []) × AreOfBlocks block appended made × IsBatchStop form.width appended made stopped
+  IsAppendRefusal faults block disk left appended (Vault fault) =
+      (made more : List (Growth R)) × (keeps left → GrowthsStand form states disk left appended made more) × AreOfBlocks block appended made
+  IsAppendRefusal faults block disk left appended (Grower stopped) =
+      (made : List (Growth R)) × (keeps left → GrowthsStand form states disk left appended made []) × AreOfBlocks block appended made
+      × IsBatchStop form.width appended made stopped
   IsAppendRefusal faults block disk left appended (Word word) = ⊥
   IsAppendRefusal faults block disk left appended (Upgrade fault) = ⊥

@@ -50,7 +50,8 @@ module _ {R D : Type 0} (form : Encoding R) (keeps : D → Type 0) (states : D �
 
   -- why its length wasn't made n: more copies weren't appended, or records weren't taken away
   pub record IsResizeFault (n : ℕ) (r : R) (v w : VaultOf R D) (fault : VaultFault) : Type 0 where
-    pub up : length (list_of v) < n → IsCommand form keeps states faults (group_frame form (replicate (n - length (list_of v)) r ∷ [])) (group_lines v.pen (n - length (list_of v)) (8 + (n - length (list_of v)) * form.width)) v w (Err fault)
+    pub up : length (list_of v) < n → IsCommand form keeps states faults (group_frame form (replicate (n - length (list_of v)) r ∷ []))
+        (group_lines v.pen (n - length (list_of v)) (8 + (n - length (list_of v)) * form.width)) v w (Err fault)
     pub down : n < length (list_of v) → IsCommand form keeps states faults (Shrink n) (shrink_lines v.pen n) v w (Err fault)
     pub other : n ≡ length (list_of v) → ⊥
     pub list : Stands (list_of w ≡ resized n r (list_of v)) (w.blocks ≡ v.blocks) fault
@@ -75,7 +76,8 @@ module _ {R D : Type 0} (form : Encoding R) (keeps : D → Type 0) (states : D �
   -- its length was made n: by one growth of copies, by a shrink, or it was n already
   pub record IsResized (n : ℕ) (r : R) (v w : VaultOf R D) : Type 0 where
     pub list : list_of w ≡ resized n r (list_of v)
-    pub up : length (list_of v) < n → IsCommand form keeps states faults (group_frame form (replicate (n - length (list_of v)) r ∷ [])) (group_lines v.pen (n - length (list_of v)) (8 + (n - length (list_of v)) * form.width)) v w (Ok tt)
+    pub up : length (list_of v) < n → IsCommand form keeps states faults (group_frame form (replicate (n - length (list_of v)) r ∷ []))
+        (group_lines v.pen (n - length (list_of v)) (8 + (n - length (list_of v)) * form.width)) v w (Ok tt)
     pub down : n < length (list_of v) → IsCommand form keeps states faults (Shrink n) (shrink_lines v.pen n) v w (Ok tt)
     pub same : n ≡ length (list_of v) → w ≡ v
 

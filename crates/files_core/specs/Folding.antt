@@ -80,7 +80,9 @@ module _ {R D : Type 0} (form : Encoding R) (keeps : D → Type 0) (states : D �
 
   -- Why a file wasn't folded: at scanning or opening it, and then nothing was written; or by the vault.
   abbrev pub IsFoldRefusal : FileFault → Type 0
-  IsFoldRefusal (Open fault) = (keeps left → IsOpenRefusal form (bytes_of (states disk)) fault × LeavesOnly (states disk) (states left) (IsImage (now (states disk)))) × (faults left ≡ faults disk + failed_openings fault)
+  IsFoldRefusal (Open fault) =
+      (keeps left → IsOpenRefusal form (bytes_of (states disk)) fault × LeavesOnly (states disk) (states left) (IsImage (now (states disk))))
+      × (faults left ≡ faults disk + failed_openings fault)
   IsFoldRefusal (Vault fault) = IsNotFolded fault
   IsFoldRefusal (Word word) = ⊥
   IsFoldRefusal (Input refusal) = ⊥

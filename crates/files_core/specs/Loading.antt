@@ -60,7 +60,8 @@ pub record IsFirstStop (growers : ℕ) (count : ℕ → ℕ) (receipts : List (V
 -- why the grower that is told didn't make its next growth, where these were made of growths that were dealt
 abbrev pub IsStopReason : {R : Type 0} → ℕ → List (List R) → ℕ → List (Growth R) → Stopped → Type 0
 IsStopReason width growths growers made stopped =
-    IsReason width (crew_room (count_for (length growths) growers) growers) stopped.size (count_for (length growths) growers stopped.grower) (dealt growths growers stopped.grower) stopped.grower made (length (own_of stopped.grower made)) stopped.fault
+    IsReason width (crew_room (count_for (length growths) growers) growers) stopped.size (count_for (length growths) growers stopped.grower)
+    (dealt growths growers stopped.grower) stopped.grower made (length (own_of stopped.grower made)) stopped.fault
 
 -- The grower that is told stopped: its first growth that wasn't made has that line, and that is why it wasn't.
 pub record IsStopOf {R : Type 0} (width : ℕ) (growths : List (List R)) (growers : ℕ) (made : List (Growth R)) (stopped : Stopped) : Type 0 where
@@ -102,8 +103,12 @@ module _ {R D : Type 0} (form : Encoding R) (keeps : D → Type 0) (states : D �
   -- What stands where a crew gave no vault, or not all growths were made: nothing was begun; or each image opens to the list
   -- and the first of some growths.
   abbrev pub IsGrowthStop : List (List R) → ℕ → VaultOf R D → D → FileFault → Type 0
-  IsGrowthStop growths growers v left (Vault fault) = ((left ≡ v.pen.disk) × IsNotBegun (length growths) growers v fault) ⊎ ((made : List (Growth R)) × IsNotEnded keeps (length growths) growers left made fault × (keeps left → keeps v.pen.disk × LeavesOnly (states v.pen.disk) (states left) (OpensToGrown form (list_of v) made)))
-  IsGrowthStop growths growers v left (Grower stopped) = (made : List (Growth R)) × AreDealt growths growers made × StandBehind v left made × (stopped.size ≡ length (list_of v ++ joined made)) × IsStopOf form.width growths growers made stopped
+  IsGrowthStop growths growers v left (Vault fault) =
+      ((left ≡ v.pen.disk) × IsNotBegun (length growths) growers v fault)
+      ⊎ ((made : List (Growth R)) × IsNotEnded keeps (length growths) growers left made fault
+      × (keeps left → keeps v.pen.disk × LeavesOnly (states v.pen.disk) (states left) (OpensToGrown form (list_of v) made)))
+  IsGrowthStop growths growers v left (Grower stopped) = (made : List (Growth R)) × AreDealt growths growers made × StandBehind v left made
+      × (stopped.size ≡ length (list_of v ++ joined made)) × IsStopOf form.width growths growers made stopped
   IsGrowthStop growths growers v left (Open fault) = ⊥
   IsGrowthStop growths growers v left (Word word) = ⊥
   IsGrowthStop growths growers v left (Input refusal) = ⊥
@@ -140,7 +145,8 @@ IsLoadRefusal {R} form keeps states faults growths growers disk left (Vault faul
     (was : List R) × (made : List (Growth R)) × (keeps left → OpensTo form (bytes_of (states disk)) was × LeavesBeforeOr (states disk) (states left) (OpensToGrown form was made))
     × IsVaultStop form keeps states faults (length growths) growers disk left made fault
 IsLoadRefusal {R} form keeps states faults growths growers disk left (Grower stopped) =
-    (was : List R) × (made : List (Growth R)) × AreDealt growths growers made × (keeps left → Appends form states disk left was made) × (stopped.size ≡ length (was ++ joined made)) × IsStopOf form.width growths growers made stopped
+    (was : List R) × (made : List (Growth R)) × AreDealt growths growers made × (keeps left → Appends form states disk left was made)
+    × (stopped.size ≡ length (was ++ joined made)) × IsStopOf form.width growths growers made stopped
 IsLoadRefusal form keeps states faults growths growers disk left (Word word) = ⊥
 IsLoadRefusal form keeps states faults growths growers disk left (Input refusal) = ⊥
 IsLoadRefusal form keeps states faults growths growers disk left (Upgrade fault) = ⊥

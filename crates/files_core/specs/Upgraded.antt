@@ -40,7 +40,8 @@ failed_upgrading (Refused fault) = failed_before fault
 abbrev pub IsGreatestPiece : ℕ → ℕ → Type 0
 IsGreatestPiece width piece = (n : ℕ) → (n ≤ piece) ↔ (8 + n * width ≤ limit_of Two)
 
-module _ {R D N : Type 0} (form : Encoding R) (keeps : D → Type 0) (states : D → List State) (keeps_new : N → Type 0) (states_new : N → List State) (faults_new : N → ℕ) (old : D) (new : N) (left : D) (left_new : N) where
+module _ {R D N : Type 0} (form : Encoding R) (keeps : D → Type 0) (states : D → List State) (keeps_new : N → Type 0) (states_new : N → List State)
+    (faults_new : N → ℕ) (old : D) (new : N) (left : D) (left_new : N) where
   -- The records of the file of version 1 stand in the new one, copied in the longest growths.
   pub record IsUpgraded (text : List ℕ) : Type 0 where
     pub piece : ℕ
@@ -53,7 +54,9 @@ module _ {R D N : Type 0} (form : Encoding R) (keeps : D → Type 0) (states : D
 
   -- they weren't copied
   abbrev pub IsUpgradeRefusal : FileFault → Type 0
-  IsUpgradeRefusal (Upgrade fault) = (piece : ℕ) × IsGreatestPiece form.width piece × IsUpgradeFault form (keeps left) (bytes_of (states old)) keeps_new states_new faults_new piece new left_new fault
+  IsUpgradeRefusal (Upgrade fault) =
+      (piece : ℕ) × IsGreatestPiece form.width piece × IsUpgradeFault form (keeps left) (bytes_of (states old)) keeps_new states_new faults_new piece
+      new left_new fault
   IsUpgradeRefusal (Word word) = ⊥
   IsUpgradeRefusal (Input refusal) = ⊥
   IsUpgradeRefusal (Open fault) = ⊥

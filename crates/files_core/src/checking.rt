@@ -10,14 +10,17 @@ ghost use Rattle.files_core.specs.Texts.{checked_front, checked_line};
 
 use crate::ended::Ended;
 use crate::fault::FileFault;
-use crate::scanning::scan_disk;
 use disk_core::Disk;
+use pen_core::scan_disk;
 use record_core::Record;
 use segment_core::Scanned;
 use std::alloc::Global;
 use std::io;
 use std::io::Write;
 use text_core::{write_line, write_numbered};
+
+/// The bytes of a read at most.
+pub(crate) const PIECE_LEN: usize = 65_536;
 
 /// How many changes are live.
 pub(crate) fn live_changes<R>(scanned: &Scanned<R>) -> u64
@@ -52,8 +55,8 @@ pub fn check<R: Record, D: Disk, W: Write>(alloc: Global, disk: D, writer: &mut 
     ensures writes { Writes (W.contents writer.old) (W.contents writer.new) (IsChecked R.form (D.keeps result.0) (bytes_of (D.states disk))) result.1 }
 {
     let mut disk = disk;
-    match scan_disk::<R, D>(alloc, &mut disk) {
-        Ok(scanned) => {
+    match scan_disk::<D, R>(alloc, &mut disk, &mut [0; PIECE_LEN]) {
+        Ok((scanned, _homes)) => {
             let written = write_checked(writer, &scanned);
             (disk, Ended::told(written))
         }

@@ -1,14 +1,11 @@
 //! Growths that are dealt to the growers of a crew, one after the other.
-//!
-//! The toolchain takes no impl of a trait over each `R: Record` at once where a method calls a function of such an `R`: so
-//! there is one impl for each type of records.
 
 ghost use Rattle.std.specs.Prelude.{◌≡◌, ◌<◌, ◌≤◌, ◌^◌, ◌+◌, ◌*◌, ◌⊎◌, length, MatchOption};
 ghost use Rattle.files_core.specs.Dealt.{count_for, dealt};
 
 use block_core::{Fresh, FreshFault};
 use book_core::Receipt;
-use record_core::{Flagged, Pair, Record};
+use record_core::Record;
 use segment_core::Growths;
 use std::alloc::Global;
 use vault_core::{Gate, Source};
@@ -79,7 +76,9 @@ impl Gate for OpenGate {
     fn after(&self, _grower: u16, _receipt: &Receipt) {}
 }
 
-impl Source<u32> for Dealt<u32> {
+/// It lends its growths, and makes no block: the toolchain passes no method of a trait, over each `R: Record` at once, that
+/// calls a function over such an `R`.
+impl<R: Record> Source<R> for Dealt<R> {
     ghost growers_of = { λ s. s.growers };
 
     ghost count_of = { λ s. count_for (length s.growths.0) s.growers };
@@ -94,133 +93,17 @@ impl Source<u32> for Dealt<u32> {
         count_for(self.growths.count(), self.growers, grower)
     }
 
-    fn block(&self, alloc: Global, grower: u16, k: u32) -> Result<Fresh<u32>, FreshFault> {
-        Fresh::from_slice(alloc, self.growth(grower, k))
+    fn block(&self, _alloc: Global, _grower: u16, _k: u32) -> Result<Fresh<R>, FreshFault> {
+        Err(FreshFault::Memory)
+    }
+
+    fn records(&self, grower: u16, k: u32) -> Option<&[R]> {
+        Some(self.growth(grower, k))
     }
 }
 
-impl Deck<u32> for Dealt<u32> {
-    fn deal(growths: Growths<u32>, growers: u16) -> Option<Dealt<u32>>
-        ensures { MatchOption result
-            ((growers ≡ 0) ⊎ (2 ^ 32 ≤ length growths.0))
-            (λ deck. (deck.growers ≡ growers) × (count_for (length deck.growths.0) deck.growers ≡ count_for (length growths.0) growers) × (dealt deck.growths.0 deck.growers ≡ dealt growths.0 growers)) }
-    {
-        Dealt::new(growths, growers)
-    }
-}
-
-impl Source<u64> for Dealt<u64> {
-    ghost growers_of = { λ s. s.growers };
-
-    ghost count_of = { λ s. count_for (length s.growths.0) s.growers };
-
-    ghost block_of = { λ s. dealt s.growths.0 s.growers };
-
-    fn growers(&self) -> u16 {
-        self.growers
-    }
-
-    fn count(&self, grower: u16) -> u32 {
-        count_for(self.growths.count(), self.growers, grower)
-    }
-
-    fn block(&self, alloc: Global, grower: u16, k: u32) -> Result<Fresh<u64>, FreshFault> {
-        Fresh::from_slice(alloc, self.growth(grower, k))
-    }
-}
-
-impl Deck<u64> for Dealt<u64> {
-    fn deal(growths: Growths<u64>, growers: u16) -> Option<Dealt<u64>>
-        ensures { MatchOption result
-            ((growers ≡ 0) ⊎ (2 ^ 32 ≤ length growths.0))
-            (λ deck. (deck.growers ≡ growers) × (count_for (length deck.growths.0) deck.growers ≡ count_for (length growths.0) growers) × (dealt deck.growths.0 deck.growers ≡ dealt growths.0 growers)) }
-    {
-        Dealt::new(growths, growers)
-    }
-}
-
-impl Source<i64> for Dealt<i64> {
-    ghost growers_of = { λ s. s.growers };
-
-    ghost count_of = { λ s. count_for (length s.growths.0) s.growers };
-
-    ghost block_of = { λ s. dealt s.growths.0 s.growers };
-
-    fn growers(&self) -> u16 {
-        self.growers
-    }
-
-    fn count(&self, grower: u16) -> u32 {
-        count_for(self.growths.count(), self.growers, grower)
-    }
-
-    fn block(&self, alloc: Global, grower: u16, k: u32) -> Result<Fresh<i64>, FreshFault> {
-        Fresh::from_slice(alloc, self.growth(grower, k))
-    }
-}
-
-impl Deck<i64> for Dealt<i64> {
-    fn deal(growths: Growths<i64>, growers: u16) -> Option<Dealt<i64>>
-        ensures { MatchOption result
-            ((growers ≡ 0) ⊎ (2 ^ 32 ≤ length growths.0))
-            (λ deck. (deck.growers ≡ growers) × (count_for (length deck.growths.0) deck.growers ≡ count_for (length growths.0) growers) × (dealt deck.growths.0 deck.growers ≡ dealt growths.0 growers)) }
-    {
-        Dealt::new(growths, growers)
-    }
-}
-
-impl Source<Pair> for Dealt<Pair> {
-    ghost growers_of = { λ s. s.growers };
-
-    ghost count_of = { λ s. count_for (length s.growths.0) s.growers };
-
-    ghost block_of = { λ s. dealt s.growths.0 s.growers };
-
-    fn growers(&self) -> u16 {
-        self.growers
-    }
-
-    fn count(&self, grower: u16) -> u32 {
-        count_for(self.growths.count(), self.growers, grower)
-    }
-
-    fn block(&self, alloc: Global, grower: u16, k: u32) -> Result<Fresh<Pair>, FreshFault> {
-        Fresh::from_slice(alloc, self.growth(grower, k))
-    }
-}
-
-impl Deck<Pair> for Dealt<Pair> {
-    fn deal(growths: Growths<Pair>, growers: u16) -> Option<Dealt<Pair>>
-        ensures { MatchOption result
-            ((growers ≡ 0) ⊎ (2 ^ 32 ≤ length growths.0))
-            (λ deck. (deck.growers ≡ growers) × (count_for (length deck.growths.0) deck.growers ≡ count_for (length growths.0) growers) × (dealt deck.growths.0 deck.growers ≡ dealt growths.0 growers)) }
-    {
-        Dealt::new(growths, growers)
-    }
-}
-
-impl Source<Flagged> for Dealt<Flagged> {
-    ghost growers_of = { λ s. s.growers };
-
-    ghost count_of = { λ s. count_for (length s.growths.0) s.growers };
-
-    ghost block_of = { λ s. dealt s.growths.0 s.growers };
-
-    fn growers(&self) -> u16 {
-        self.growers
-    }
-
-    fn count(&self, grower: u16) -> u32 {
-        count_for(self.growths.count(), self.growers, grower)
-    }
-
-    fn block(&self, alloc: Global, grower: u16, k: u32) -> Result<Fresh<Flagged>, FreshFault> {
-        Fresh::from_slice(alloc, self.growth(grower, k))
-    }
-}
-
-impl Deck<Flagged> for Dealt<Flagged> {
-    fn deal(growths: Growths<Flagged>, growers: u16) -> Option<Dealt<Flagged>>
+impl<R: Record> Deck<R> for Dealt<R> {
+    fn deal(growths: Growths<R>, growers: u16) -> Option<Dealt<R>>
         ensures { MatchOption result
             ((growers ≡ 0) ⊎ (2 ^ 32 ≤ length growths.0))
             (λ deck. (deck.growers ≡ growers) × (count_for (length deck.growths.0) deck.growers ≡ count_for (length growths.0) growers) × (dealt deck.growths.0 deck.growers ≡ dealt growths.0 growers)) }

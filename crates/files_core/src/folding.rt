@@ -13,12 +13,11 @@ ghost use Rattle.vault_core.specs.Vault.{MayHold, list_of};
 ghost use Rattle.files_core.specs.Folding.{IsAllFolded, IsFolded, IsFoldRefusal, IsFoldingFault, NoneLive, Stays, failed_folding};
 ghost use Rattle.files_core.specs.Texts.{folded_line};
 
-use crate::checking::live_changes;
+use crate::checking::{PIECE_LEN, live_changes};
 use crate::ended::Ended;
 use crate::fault::FileFault;
-use crate::scanning::scan_disk;
 use disk_core::Disk;
-use pen_core::OpenFault;
+use pen_core::{OpenFault, scan_disk};
 use record_core::Record;
 use std::alloc::Global;
 use std::io;
@@ -36,8 +35,8 @@ fn count_live<R: Record, D: Disk>(alloc: Global, disk: &mut D) -> Result<u64, Op
         (λ fault. D.faults disk.new ≡ D.faults disk.old + failed_openings fault) }
     ensures model { D.keeps disk.new → D.keeps disk.old }
 {
-    match scan_disk::<R, D>(alloc, disk) {
-        Ok(scanned) => Ok(live_changes(&scanned)),
+    match scan_disk::<D, R>(alloc, disk, &mut [0; PIECE_LEN]) {
+        Ok((scanned, _homes)) => Ok(live_changes(&scanned)),
         Err(fault) => Err(fault),
     }
 }

@@ -5,8 +5,10 @@
 //! each gives the disk back, with how it ended. On a refusal it has written no answer; `refuse_file` writes the refusal's line.
 #![tactic(auto)]
 
+mod appended;
 mod appending;
 mod asked;
+mod batches;
 mod checking;
 mod creating;
 mod crewing;
@@ -20,14 +22,14 @@ mod listing;
 mod loading;
 mod progress;
 mod resizing;
-mod scanning;
 mod searching;
 mod setting;
 mod sounding;
 mod upgrading;
 mod watched;
 
-pub use appending::{Appended, append};
+pub use appended::Appended;
+pub use appending::append;
 pub use asked::{Resizing, Setting, Window, read_record, read_resizing, read_setting, read_window};
 pub use checking::check;
 pub use creating::create;

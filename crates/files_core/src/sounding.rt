@@ -11,9 +11,9 @@ ghost use Rattle.pen_core.specs.Opening.{IsOpenRefusal, failed_openings};
 ghost use Rattle.pen_core.specs.declared.fault.OpenFault.TheVariants as faults;
 ghost use Rattle.files_core.specs.SoundFront.{IsNoCutOf, IsSoundFront, IsFrontRefusal};
 
-use crate::scanning::scan_front;
+use crate::checking::PIECE_LEN;
 use disk_core::Disk;
-use pen_core::OpenFault;
+use pen_core::{OpenFault, scan_front};
 use record_core::Record;
 use segment_core::{CLOSED_GATE, Cause, ScanFault};
 use std::alloc::Global;
@@ -52,7 +52,7 @@ fn count_front<R: Record, D: Disk>(
         (λ fault. D.faults disk.new ≡ D.faults disk.old + failed_openings fault) }
     ensures model { D.keeps disk.new → D.keeps disk.old }
 {
-    match scan_front::<R, D>(alloc, disk, len, tail) {
+    match scan_front::<D, R>(alloc, disk, len, tail, &mut [0; PIECE_LEN]) {
         Ok(scanned) => Ok(scanned.records.as_slice().len() as u64),
         Err(fault) => Err(fault),
     }

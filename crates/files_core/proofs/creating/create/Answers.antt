@@ -8,5 +8,7 @@ returns-in-Ok-clause-created g c = told_ends _ _ _ _ c.told.ensures (record {
   vault = c.in-Ok.vault;
   made = c.in-Ok.ensures;
   disk_is = sym c.into_disk.ensures.disk;
-  settled = λ model image is. opens_same _ _ _ _ image (c.in-Ok.ensures.sure (same_keeps g.D.Disk.keeps _ _ c.into_disk.ensures.disk model)) (ap joined c.in-Ok.ensures.created.1) (c.into_disk.ensures.images model image is);
+  settled =
+      λ model image is. opens_same _ _ _ _ image (c.in-Ok.ensures.sure (same_keeps g.D.Disk.keeps _ _ c.into_disk.ensures.disk model))
+      (ap joined c.in-Ok.ensures.created.1) (c.into_disk.ensures.images model image is);
 })

@@ -21,7 +21,8 @@ returns-in-Err-open-clause-stays g c = (
       let mid = e.model model in
       let first = c.count_live.ensures.only_syncs mid in (
         subst (λ (bs : List ℕ). IsOpenRefusal g.R.Record.form bs c.in-Err-open.fault) (bytes_stay (g.D.Disk.states c.args.disk) (g.D.Disk.states c.count_live.new.disk) first) (e.refused model),
-        opened_again (g.D.Disk.states c.args.disk) (g.D.Disk.states c.count_live.new.disk) (g.D.Disk.states c.in-Err-open.disk) (g.met.D.Disk.reads_an_image c.args.disk (c.count_live.ensures.model mid)) first (e.only_syncs model),
+        opened_again (g.D.Disk.states c.args.disk) (g.D.Disk.states c.count_live.new.disk) (g.D.Disk.states c.in-Err-open.disk)
+            (g.met.D.Disk.reads_an_image c.args.disk (c.count_live.ensures.model mid)) first (e.only_syncs model),
       )),
   c.in-Err-open.ensures.faults ∙ ap (λ n. n + failed_openings c.in-Err-open.fault) c.in-Ok.ensures.faults,
 )
@@ -29,12 +30,16 @@ returns-in-Err-open-clause-stays g c = (
 pub returns-in-Ok-fold_vault-clause-stays : goal.returns-in-Ok-fold_vault-clause-stays
 returns-in-Ok-fold_vault-clause-stays g c =
     let e = c.in-Ok-open.ensures in
-    let opened : IsOpenedOn g.R.Record.form g.D.Disk.keeps g.D.Disk.states g.D.Disk.faults c.count_live.new.disk c.in-Ok-open.vault = record { rests = e.rests; opened = e.opened; sure = e.sure; only_syncs = e.only_syncs; faults_same = e.faults; model = e.model } in
+    let opened : IsOpenedOn g.R.Record.form g.D.Disk.keeps g.D.Disk.states g.D.Disk.faults c.count_live.new.disk c.in-Ok-open.vault =
+    record { rests = e.rests; opened = e.opened; sure = e.sure; only_syncs = e.only_syncs; faults_same = e.faults; model = e.model } in
     told_ends _ _ _ _ c.told.ensures (λ model.
     let own = subst g.D.Disk.keeps c.into_disk.ensures.disk model in
     let before = c.fold_vault.ensures.model own in
-    stays_by g.R.Record.form g.D.Disk.keeps g.D.Disk.states c.args.disk c.count_live.new.disk c.into_disk.result c.in-Ok-open.vault (g.met.D.Disk.reads_an_image c.args.disk (c.count_live.ensures.model (e.model before))) (c.count_live.ensures.only_syncs (e.model before)) opened before
-    (subst (λ d. LeavesOnly (g.D.Disk.states c.in-Ok-open.vault.pen.disk) (g.D.Disk.states d) (MayHold g.R.Record.form c.in-Ok-open.vault)) (sym c.into_disk.ensures.disk) (c.fold_vault.ensures.images own)))
+    stays_by g.R.Record.form g.D.Disk.keeps g.D.Disk.states c.args.disk c.count_live.new.disk c.into_disk.result c.in-Ok-open.vault
+    (g.met.D.Disk.reads_an_image c.args.disk (c.count_live.ensures.model (e.model before))) (c.count_live.ensures.only_syncs (e.model before)) opened
+    before
+    (subst (λ d. LeavesOnly (g.D.Disk.states c.in-Ok-open.vault.pen.disk) (g.D.Disk.states d) (MayHold g.R.Record.form c.in-Ok-open.vault))
+    (sym c.into_disk.ensures.disk) (c.fold_vault.ensures.images own)))
 
 pub returns-in-Ok-fold_vault-clause-writes : goal.returns-in-Ok-fold_vault-clause-writes
 returns-in-Ok-fold_vault-clause-writes g c = told_answer _ _ _ _ _ _ c.told.ensures c.write_folded.ensures (record {
@@ -46,7 +51,8 @@ returns-in-Ok-fold_vault-clause-writes g c = told_answer _ _ _ _ _ _ c.told.ensu
 pub returns-in-Err-fold_vault-clause-stays : goal.returns-in-Err-fold_vault-clause-stays
 returns-in-Err-fold_vault-clause-stays g c =
     let e = c.in-Ok-open.ensures in
-    let opened : IsOpenedOn g.R.Record.form g.D.Disk.keeps g.D.Disk.states g.D.Disk.faults c.count_live.new.disk c.in-Ok-open.vault = record { rests = e.rests; opened = e.opened; sure = e.sure; only_syncs = e.only_syncs; faults_same = e.faults; model = e.model } in
+    let opened : IsOpenedOn g.R.Record.form g.D.Disk.keeps g.D.Disk.states g.D.Disk.faults c.count_live.new.disk c.in-Ok-open.vault =
+    record { rests = e.rests; opened = e.opened; sure = e.sure; only_syncs = e.only_syncs; faults_same = e.faults; model = e.model } in
     record {
       scanned = c.count_live.new.disk;
       vault = c.in-Ok-open.vault;
@@ -56,12 +62,16 @@ returns-in-Err-fold_vault-clause-stays g c =
       opened = opened;
       disk_is = sym c.into_disk-in-Err-fold_vault.ensures.disk;
       why = c.in-Err-fold_vault.ensures.refused;
-      faults_are = ap g.D.Disk.faults c.into_disk-in-Err-fold_vault.ensures.disk ∙ c.in-Err-fold_vault.ensures.faults ∙ ap (λ n. n + failed c.in-Err-fold_vault.fault) (e.faults ∙ c.in-Ok.ensures.faults);
+      faults_are = ap g.D.Disk.faults c.into_disk-in-Err-fold_vault.ensures.disk ∙ c.in-Err-fold_vault.ensures.faults
+          ∙ ap (λ n. n + failed c.in-Err-fold_vault.fault) (e.faults ∙ c.in-Ok.ensures.faults);
       stays = λ model.
           let own = subst g.D.Disk.keeps c.into_disk-in-Err-fold_vault.ensures.disk model in
           let before = c.fold_vault.ensures.model own in
-          stays_by g.R.Record.form g.D.Disk.keeps g.D.Disk.states c.args.disk c.count_live.new.disk c.into_disk-in-Err-fold_vault.result c.in-Ok-open.vault (g.met.D.Disk.reads_an_image c.args.disk (c.count_live.ensures.model (e.model before))) (c.count_live.ensures.only_syncs (e.model before)) opened before
-          (subst (λ d. LeavesOnly (g.D.Disk.states c.in-Ok-open.vault.pen.disk) (g.D.Disk.states d) (MayHold g.R.Record.form c.in-Ok-open.vault)) (sym c.into_disk-in-Err-fold_vault.ensures.disk) (c.fold_vault.ensures.images own));
+          stays_by g.R.Record.form g.D.Disk.keeps g.D.Disk.states c.args.disk c.count_live.new.disk c.into_disk-in-Err-fold_vault.result
+          c.in-Ok-open.vault (g.met.D.Disk.reads_an_image c.args.disk (c.count_live.ensures.model (e.model before)))
+          (c.count_live.ensures.only_syncs (e.model before)) opened before
+          (subst (λ d. LeavesOnly (g.D.Disk.states c.in-Ok-open.vault.pen.disk) (g.D.Disk.states d) (MayHold g.R.Record.form c.in-Ok-open.vault))
+          (sym c.into_disk-in-Err-fold_vault.ensures.disk) (c.fold_vault.ensures.images own));
     }
 
 pub returns-in-Ok-fold_vault-clause-none_live : goal.returns-in-Ok-fold_vault-clause-none_live
@@ -73,10 +83,13 @@ returns-in-Ok-fold_vault-clause-none_live g c = told_ends _ _ _ _ c.told.ensures
 })
 
 pub returns-in-Ok-fold_vault-clause-faults : goal.returns-in-Ok-fold_vault-clause-faults
-returns-in-Ok-fold_vault-clause-faults g c = told_counts g.D.Disk.faults failed_folding _ _ _ _ refl refl c.told.ensures (ap g.D.Disk.faults c.into_disk.ensures.disk ∙ c.in-Ok-fold_vault.ensures.faults ∙ c.in-Ok-open.ensures.faults ∙ c.in-Ok.ensures.faults)
+returns-in-Ok-fold_vault-clause-faults g c =
+    told_counts g.D.Disk.faults failed_folding _ _ _ _ refl refl c.told.ensures
+    (ap g.D.Disk.faults c.into_disk.ensures.disk ∙ c.in-Ok-fold_vault.ensures.faults ∙ c.in-Ok-open.ensures.faults ∙ c.in-Ok.ensures.faults)
 
 pub returns-in-Err-fold_vault-clause-faults : goal.returns-in-Err-fold_vault-clause-faults
-returns-in-Err-fold_vault-clause-faults g c = ap g.D.Disk.faults c.into_disk-in-Err-fold_vault.ensures.disk ∙ c.in-Err-fold_vault.ensures.faults ∙ ap (λ n. n + failed c.in-Err-fold_vault.fault) (c.in-Ok-open.ensures.faults ∙ c.in-Ok.ensures.faults)
+returns-in-Err-fold_vault-clause-faults g c = ap g.D.Disk.faults c.into_disk-in-Err-fold_vault.ensures.disk ∙ c.in-Err-fold_vault.ensures.faults
+    ∙ ap (λ n. n + failed c.in-Err-fold_vault.fault) (c.in-Ok-open.ensures.faults ∙ c.in-Ok.ensures.faults)
 
 pub returns-in-Err-open-clause-faults : goal.returns-in-Err-open-clause-faults
 returns-in-Err-open-clause-faults g c = c.in-Err-open.ensures.faults ∙ ap (λ n. n + failed_openings c.in-Err-open.fault) c.in-Ok.ensures.faults

@@ -13,20 +13,26 @@ loop-rest-init g c =
 
 pub returns-in_err-take_word-clause-bad : goal.returns-in_err-take_word-clause-bad
 returns-in_err-take_word-clause-bad g c = λ bad so.
-    let cutting : words_in (option_copied c.loop-rest.rest) ≡ c.cut.result.0.now ∷ words_in (option_copied c.cut.result.1) = ap (λ o. words_in (option_copied o)) c.in-Some.is ∙ words_cut c.in-Some.text.now c.cut.result.0.now c.cut.result.1 c.cut.ensures.whole c.cut.ensures.first in
+    let cutting : words_in (option_copied c.loop-rest.rest) ≡ c.cut.result.0.now ∷ words_in (option_copied c.cut.result.1) =
+    ap (λ o. words_in (option_copied o)) c.in-Some.is ∙ words_cut c.in-Some.text.now c.cut.result.0.now c.cut.result.1 c.cut.ensures.whole
+    c.cut.ensures.first in
     let reads = rw cutting at c.loop-rest.invariant.1 in
     let fault = err_is c.from_residual.result _ c.in_err-take_word.field-0.0 c.from_residual.ensures.1 bad in
     stray_is_bad g.R.TextRecord.spelling c.args.line.now _ c.cut.result.0.now _ (c.in_err-take_word.ensures.bad (ap Err fault)) reads so
 
 pub loop-rest-smaller : goal.loop-rest-smaller
 loop-rest-smaller g c =
-    let cutting : words_in (option_copied c.loop-rest.rest) ≡ c.cut.result.0.now ∷ words_in (option_copied c.cut.result.1) = ap (λ o. words_in (option_copied o)) c.in-Some.is ∙ words_cut c.in-Some.text.now c.cut.result.0.now c.cut.result.1 c.cut.ensures.whole c.cut.ensures.first in
+    let cutting : words_in (option_copied c.loop-rest.rest) ≡ c.cut.result.0.now ∷ words_in (option_copied c.cut.result.1) =
+    ap (λ o. words_in (option_copied o)) c.in-Some.is ∙ words_cut c.in-Some.text.now c.cut.result.0.now c.cut.result.1 c.cut.ensures.whole
+    c.cut.ensures.first in
     let len = ap length cutting in omega (arith, len)
 
 pub loop-rest-preserved : goal.loop-rest-preserved
 loop-rest-preserved g c =
     let laws = g.met.R.TextRecord g.world.𝓛 g.world.𝓜 g.world.𝓡 ((λ s x. x), (λ x. x), (λ x. x), λ x. x) in
-    let cutting : words_in (option_copied c.loop-rest.rest) ≡ c.cut.result.0.now ∷ words_in (option_copied c.cut.result.1) = ap (λ o. words_in (option_copied o)) c.in-Some.is ∙ words_cut c.in-Some.text.now c.cut.result.0.now c.cut.result.1 c.cut.ensures.whole c.cut.ensures.first in (
+    let cutting : words_in (option_copied c.loop-rest.rest) ≡ c.cut.result.0.now ∷ words_in (option_copied c.cut.result.1) =
+    ap (λ o. words_in (option_copied o)) c.in-Some.is ∙ words_cut c.in-Some.text.now c.cut.result.0.now c.cut.result.1 c.cut.ensures.whole
+    c.cut.ensures.first in (
       c.in_ok-take_word.ensures.ok.same ∙ c.loop-rest.invariant.0,
       Reads_value g.R.TextRecord.spelling c.args.line.now _ _ c.cut.result.0.now _ _ _ laws.is_word laws.one_value c.in_ok-take_word.ensures.ok (rw cutting at c.loop-rest.invariant.1),
     )

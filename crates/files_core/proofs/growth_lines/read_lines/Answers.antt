@@ -16,7 +16,9 @@ returns-in-Err-Bad-clause-refused g c =
     let some : 0 < length c.loop-rest.rest.now = let no = eqb-false _ 0 (sym c.loop-rest-test.ensures) in omega (arith, no) in
     let whole = lent_whole c.cut.result.1 c.loop-rest.rest.now c.cut.result.0.now c.cut.ensures.whole in
     let so_far = c.loop-rest.invariant in
-    first_bad_growth g.R.TextRecord.spelling c.args.input.now c.loop-rest.growths.0 c.loop-rest.rest.now c.cut.result.0.now (option_copied c.cut.result.1) _ some whole c.cut.ensures.first (c.in-Err-Bad.ensures.bad (ap Err c.in-Err-Bad.field-0-is)) (ap (λ n. n + 1) so_far.2) so_far.0
+    first_bad_growth g.R.TextRecord.spelling c.args.input.now c.loop-rest.growths.0 c.loop-rest.rest.now c.cut.result.0.now
+    (option_copied c.cut.result.1) _ some whole c.cut.ensures.first (c.in-Err-Bad.ensures.bad (ap Err c.in-Err-Bad.field-0-is))
+    (ap (λ n. n + 1) so_far.2) so_far.0
 
 pub loop-rest-smaller : goal.loop-rest-smaller
 loop-rest-smaller g c =
@@ -34,7 +36,8 @@ loop-rest-preserved g c =
     let read = c.in-Ok.ensures.read in
     let len = length-append c.loop-rest.growths.0 (read.0 ∷ []) in
     rw (rest, read.2) (
-      HasGrowths_more g.R.TextRecord.spelling c.args.input.now c.loop-rest.growths.0 read.0 c.loop-rest.rest.now c.cut.result.0.now (option_copied c.cut.result.1) some whole c.cut.ensures.first (shorter_rest _ _ _ some whole) read.1 so_far.0,
+      HasGrowths_more g.R.TextRecord.spelling c.args.input.now c.loop-rest.growths.0 read.0 c.loop-rest.rest.now c.cut.result.0.now
+          (option_copied c.cut.result.1) some whole c.cut.ensures.first (shorter_rest _ _ _ some whole) read.1 so_far.0,
       refl,
       omega (arith, so_far.2, len),
     )

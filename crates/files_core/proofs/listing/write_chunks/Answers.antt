@@ -20,10 +20,14 @@ loop-rest-preserved g c =
     let so_far = c.loop-rest.invariant in
     let chunk = c.split_at.result.0.now in
     let behind = c.split_at.result.1.now in
-    let whole : chunk ++ behind ≡ c.loop-rest.rest.now = ap (λ (xs : List g.row.R.Denot). xs ++ behind) c.split_at.ensures.front ∙ ap (λ (xs : List g.row.R.Denot). take c.min.result c.loop-rest.rest.now ++ xs) c.split_at.ensures.back ∙ take-append-drop c.min.result c.loop-rest.rest.now in (
+    let whole : chunk ++ behind ≡ c.loop-rest.rest.now =
+    ap (λ (xs : List g.row.R.Denot). xs ++ behind) c.split_at.ensures.front
+    ∙ ap (λ (xs : List g.row.R.Denot). take c.min.result c.loop-rest.rest.now ++ xs) c.split_at.ensures.back
+    ∙ take-append-drop c.min.result c.loop-rest.rest.now in (
       so_far.0 ++ chunk,
       so_far.1 ∙ ap (λ (xs : List g.row.R.Denot). so_far.0 ++ xs) (sym whole) ∙ sym (append_assoc so_far.0 chunk behind),
-      lines_join g.R.TextRecord.spelling.text_of (g.W.Write.contents c.args.writer.now) (g.W.Write.contents c.loop-rest.writer) (g.W.Write.contents c.write_records.new.writer) so_far.0 chunk so_far.2 c.in_ok-write_records.ensures,
+      lines_join g.R.TextRecord.spelling.text_of (g.W.Write.contents c.args.writer.now) (g.W.Write.contents c.loop-rest.writer)
+          (g.W.Write.contents c.write_records.new.writer) so_far.0 chunk so_far.2 c.in_ok-write_records.ensures,
     )
 
 pub returns : goal.returns

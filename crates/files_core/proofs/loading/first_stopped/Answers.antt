@@ -14,7 +14,9 @@ returns-in-loop-grower g c =
         its = c.index.result.now;
         its_are = at_place c.args.crewed.now.receipts.items c.loop-grower.grower c.index.result.now (omega (arith, inside, c.requires.0)) c.index.ensures;
         why = elim c.in-Some.ensures [
-          | inl has ↦ inl (at_place c.args.crewed.now.faults.items c.loop-grower.grower _ (omega (arith, inside, c.requires.1)) (subst (λ fault. fault ≡ get_or c.args.crewed.now.faults.items c.loop-grower.grower fault) has c.index-in-loop-grower.ensures))
+          | inl has ↦ inl
+              (at_place c.args.crewed.now.faults.items c.loop-grower.grower _ (omega (arith, inside, c.requires.1))
+              (subst (λ fault. fault ≡ get_or c.args.crewed.now.faults.items c.loop-grower.grower fault) has c.index-in-loop-grower.ensures))
           | inr fewer ↦ inr (fewer.0, omega (arith, fewer.1, made, c.count-count.ensures))
         ];
         line_is = saturated _ _ _ _ _ _ product c.saturating_mul.ensures c.saturating_add.ensures;

@@ -7,8 +7,11 @@ use Rattle.files_core.proofs.loading.load_opened.Goals as goal
 
 pub returns-in-Ok-clause-loaded : goal.returns-in-Ok-clause-loaded
 returns-in-Ok-clause-loaded g c disk opened =
-    done_ends _ _ _ c.tell_loaded.ensures.done
-    (_, loaded_by g.R.Record.form g.D.Disk.keeps g.D.Disk.states c.args.growths.0 c.args.growers disk c.tell_loaded.result.0 c.args.vault c.in-Ok.vault opened c.tell_loaded.ensures.disk c.in-Ok.ensures.grown)
+    done_ends _ _ _ c.tell_loaded.ensures.done (
+      _,
+      loaded_by g.R.Record.form g.D.Disk.keeps g.D.Disk.states c.args.growths.0 c.args.growers disk c.tell_loaded.result.0 c.args.vault
+          c.in-Ok.vault opened c.tell_loaded.ensures.disk c.in-Ok.ensures.grown,
+    )
 
 pub returns-in-Ok-clause-writes : goal.returns-in-Ok-clause-writes
 returns-in-Ok-clause-writes g c disk opened =

@@ -9,4 +9,5 @@ returns g c =
     let one = g.W.Write.contents c.write_numbered.new.writer in
     let two = g.W.Write.contents c.write_numbered-2.new.writer in
     appends_last c.write_line.result old two (g.W.Write.contents c.write_line.new.writer) _ (10 ∷ [])
-    (appends_join old one two (codes "loaded " ++ decimal c.args.growths) (codes " growths, size " ++ decimal c.args.size) c.in_ok-write_numbered.ensures c.in_ok-write_numbered-2.ensures) c.write_line.ensures
+    (appends_join old one two (codes "loaded " ++ decimal c.args.growths) (codes " growths, size " ++ decimal c.args.size)
+    c.in_ok-write_numbered.ensures c.in_ok-write_numbered-2.ensures) c.write_line.ensures

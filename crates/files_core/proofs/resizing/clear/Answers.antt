@@ -9,17 +9,21 @@ pub returns-in-Ok-clear-clause-cleared : goal.returns-in-Ok-clear-clause-cleared
 returns-in-Ok-clear-clause-cleared g c =
     let v = c.in-Ok.vault in
     let e = c.in-Ok.ensures in
-    let opened : IsOpenedOn g.R.Record.form g.D.Disk.keeps g.D.Disk.states g.D.Disk.faults c.args.disk c.in-Ok.vault = record { rests = e.rests; opened = e.opened; sure = e.sure; only_syncs = e.only_syncs; faults_same = e.faults; model = e.model } in
+    let opened : IsOpenedOn g.R.Record.form g.D.Disk.keeps g.D.Disk.states g.D.Disk.faults c.args.disk c.in-Ok.vault =
+    record { rests = e.rests; opened = e.opened; sure = e.sure; only_syncs = e.only_syncs; faults_same = e.faults; model = e.model } in
     told_ends _ _ _ _ c.told.ensures (elim (empty_or (list_of v)) [
-      | inl none ↦ replaced_by_none g.R.Record.form g.D.Disk.keeps g.D.Disk.states g.D.Disk.faults (λ was behind. behind ≡ []) _ _ v c.clear.new.self opened c.into_disk.ensures.disk c.into_disk.ensures.images c.in-Ok-clear.ensures.list (c.in-Ok-clear.ensures.nothing none).0
-      | inr some ↦ replaced_by g.R.Record.form g.D.Disk.keeps g.D.Disk.states g.D.Disk.faults (λ was behind. behind ≡ []) _ _ v c.clear.new.self opened c.into_disk.ensures.disk c.into_disk.ensures.images c.in-Ok-clear.ensures.list _ _ (c.in-Ok-clear.ensures.command some)
+      | inl none ↦ replaced_by_none g.R.Record.form g.D.Disk.keeps g.D.Disk.states g.D.Disk.faults (λ was behind. behind ≡ []) _ _ v c.clear.new.self
+          opened c.into_disk.ensures.disk c.into_disk.ensures.images c.in-Ok-clear.ensures.list (c.in-Ok-clear.ensures.nothing none).0
+      | inr some ↦ replaced_by g.R.Record.form g.D.Disk.keeps g.D.Disk.states g.D.Disk.faults (λ was behind. behind ≡ []) _ _ v c.clear.new.self
+          opened c.into_disk.ensures.disk c.into_disk.ensures.images c.in-Ok-clear.ensures.list _ _ (c.in-Ok-clear.ensures.command some)
     ])
 
 pub returns-in-Err-clear-clause-cleared : goal.returns-in-Err-clear-clause-cleared
 returns-in-Err-clear-clause-cleared g c =
     let v = c.in-Ok.vault in
     let e = c.in-Ok.ensures in
-    let opened : IsOpenedOn g.R.Record.form g.D.Disk.keeps g.D.Disk.states g.D.Disk.faults c.args.disk c.in-Ok.vault = record { rests = e.rests; opened = e.opened; sure = e.sure; only_syncs = e.only_syncs; faults_same = e.faults; model = e.model } in (
+    let opened : IsOpenedOn g.R.Record.form g.D.Disk.keeps g.D.Disk.states g.D.Disk.faults c.args.disk c.in-Ok.vault =
+    record { rests = e.rests; opened = e.opened; sure = e.sure; only_syncs = e.only_syncs; faults_same = e.faults; model = e.model } in (
       v,
       c.clear.new.self,
       opened,

@@ -11,18 +11,26 @@ returns-in-Ok-resize-clause-resized g c =
     let v = c.in-Ok.vault in
     let e = c.in-Ok.ensures in
     let n = c.args.asked.now.len in
-    let opened : IsOpenedOn g.R.Record.form g.D.Disk.keeps g.D.Disk.states g.D.Disk.faults c.args.disk c.in-Ok.vault = record { rests = e.rests; opened = e.opened; sure = e.sure; only_syncs = e.only_syncs; faults_same = e.faults; model = e.model } in
+    let opened : IsOpenedOn g.R.Record.form g.D.Disk.keeps g.D.Disk.states g.D.Disk.faults c.args.disk c.in-Ok.vault =
+    record { rests = e.rests; opened = e.opened; sure = e.sure; only_syncs = e.only_syncs; faults_same = e.faults; model = e.model } in
     told_ends _ _ _ _ c.told.ensures (elim (three_ways (length (list_of v)) n) [
-      | inl up ↦ replaced_by g.R.Record.form g.D.Disk.keeps g.D.Disk.states g.D.Disk.faults (λ was behind. behind ≡ resized n c.args.asked.now.filler was) _ _ v c.resize.new.self opened c.into_disk.ensures.disk c.into_disk.ensures.images c.in-Ok-resize.ensures.list _ _ (c.in-Ok-resize.ensures.up up)
-      | inr (inl down) ↦ replaced_by g.R.Record.form g.D.Disk.keeps g.D.Disk.states g.D.Disk.faults (λ was behind. behind ≡ resized n c.args.asked.now.filler was) _ _ v c.resize.new.self opened c.into_disk.ensures.disk c.into_disk.ensures.images c.in-Ok-resize.ensures.list _ _ (c.in-Ok-resize.ensures.down down)
-      | inr (inr same) ↦ replaced_by_none g.R.Record.form g.D.Disk.keeps g.D.Disk.states g.D.Disk.faults (λ was behind. behind ≡ resized n c.args.asked.now.filler was) _ _ v c.resize.new.self opened c.into_disk.ensures.disk c.into_disk.ensures.images c.in-Ok-resize.ensures.list (c.in-Ok-resize.ensures.nothing (sym same)).0
+      | inl up ↦ replaced_by g.R.Record.form g.D.Disk.keeps g.D.Disk.states g.D.Disk.faults
+          (λ was behind. behind ≡ resized n c.args.asked.now.filler was) _ _ v c.resize.new.self opened c.into_disk.ensures.disk
+          c.into_disk.ensures.images c.in-Ok-resize.ensures.list _ _ (c.in-Ok-resize.ensures.up up)
+      | inr (inl down) ↦ replaced_by g.R.Record.form g.D.Disk.keeps g.D.Disk.states g.D.Disk.faults
+          (λ was behind. behind ≡ resized n c.args.asked.now.filler was) _ _ v c.resize.new.self opened c.into_disk.ensures.disk
+          c.into_disk.ensures.images c.in-Ok-resize.ensures.list _ _ (c.in-Ok-resize.ensures.down down)
+      | inr (inr same) ↦ replaced_by_none g.R.Record.form g.D.Disk.keeps g.D.Disk.states g.D.Disk.faults
+          (λ was behind. behind ≡ resized n c.args.asked.now.filler was) _ _ v c.resize.new.self opened c.into_disk.ensures.disk
+          c.into_disk.ensures.images c.in-Ok-resize.ensures.list (c.in-Ok-resize.ensures.nothing (sym same)).0
     ])
 
 pub returns-in-Err-resize-clause-resized : goal.returns-in-Err-resize-clause-resized
 returns-in-Err-resize-clause-resized g c =
     let v = c.in-Ok.vault in
     let e = c.in-Ok.ensures in
-    let opened : IsOpenedOn g.R.Record.form g.D.Disk.keeps g.D.Disk.states g.D.Disk.faults c.args.disk c.in-Ok.vault = record { rests = e.rests; opened = e.opened; sure = e.sure; only_syncs = e.only_syncs; faults_same = e.faults; model = e.model } in (
+    let opened : IsOpenedOn g.R.Record.form g.D.Disk.keeps g.D.Disk.states g.D.Disk.faults c.args.disk c.in-Ok.vault =
+    record { rests = e.rests; opened = e.opened; sure = e.sure; only_syncs = e.only_syncs; faults_same = e.faults; model = e.model } in (
       v,
       c.resize.new.self,
       opened,

@@ -15,9 +15,11 @@ returns-in-Ok-put-clause-set g c =
     let w = c.put.new.vault in
     let e = c.in-Ok.ensures in
     let start = c.args.asked.now.start in
-    let opened : IsOpenedOn g.R.Record.form g.D.Disk.keeps g.D.Disk.states g.D.Disk.faults c.args.disk c.in-Ok.vault = record { rests = e.rests; opened = e.opened; sure = e.sure; only_syncs = e.only_syncs; faults_same = e.faults; model = e.model } in
+    let opened : IsOpenedOn g.R.Record.form g.D.Disk.keeps g.D.Disk.states g.D.Disk.faults c.args.disk c.in-Ok.vault =
+    record { rests = e.rests; opened = e.opened; sure = e.sure; only_syncs = e.only_syncs; faults_same = e.faults; model = e.model } in
     told_ends _ _ _ _ c.told.ensures (replaced_by g.R.Record.form g.D.Disk.keeps g.D.Disk.states g.D.Disk.faults _ _ _ v w opened c.into_disk.ensures.disk c.into_disk.ensures.images
-    (subst (λ (rs : List g.row.R.Denot). IsTouched (given start rs) (one_run start (length rs)) (list_of v) (list_of w)) c.as_slice.ensures.value c.in-Ok-put.ensures.list) _ _ c.in-Ok-put.ensures.command)
+    (subst (λ (rs : List g.row.R.Denot). IsTouched (given start rs) (one_run start (length rs)) (list_of v) (list_of w)) c.as_slice.ensures.value
+    c.in-Ok-put.ensures.list) _ _ c.in-Ok-put.ensures.command)
 
 pub returns-in-Err-put-clause-set : goal.returns-in-Err-put-clause-set
 returns-in-Err-put-clause-set g c =
@@ -25,12 +27,14 @@ returns-in-Err-put-clause-set g c =
     let w = c.put.new.vault in
     let e = c.in-Ok.ensures in
     let start = c.args.asked.now.start in
-    let opened : IsOpenedOn g.R.Record.form g.D.Disk.keeps g.D.Disk.states g.D.Disk.faults c.args.disk c.in-Ok.vault = record { rests = e.rests; opened = e.opened; sure = e.sure; only_syncs = e.only_syncs; faults_same = e.faults; model = e.model } in (
+    let opened : IsOpenedOn g.R.Record.form g.D.Disk.keeps g.D.Disk.states g.D.Disk.faults c.args.disk c.in-Ok.vault =
+    record { rests = e.rests; opened = e.opened; sure = e.sure; only_syncs = e.only_syncs; faults_same = e.faults; model = e.model } in (
       v,
       w,
       opened,
       sym c.into_disk-in-Err-put.ensures.disk,
-      subst (λ (rs : List g.row.R.Denot). IsSetFault g.R.Record.form g.D.Disk.keeps g.D.Disk.states g.D.Disk.faults start rs v w c.in-Err-put.fault) c.as_slice.ensures.value (record { command = c.in-Err-put.ensures.command; list = c.in-Err-put.ensures.list }),
+      subst (λ (rs : List g.row.R.Denot). IsSetFault g.R.Record.form g.D.Disk.keeps g.D.Disk.states g.D.Disk.faults start rs v w c.in-Err-put.fault)
+          c.as_slice.ensures.value (record { command = c.in-Err-put.ensures.command; list = c.in-Err-put.ensures.list }),
     )
 
 pub returns-in-Ok-put-clause-written : goal.returns-in-Ok-put-clause-written
@@ -45,5 +49,6 @@ returns-in-Ok-put-clause-written g c =
       opened = record { rests = e.rests; opened = e.opened; sure = e.sure; only_syncs = e.only_syncs; faults_same = e.faults; model = e.model };
       disk_is = sym c.into_disk.ensures.disk;
       kept = c.into_disk.ensures.kept;
-      done = subst (λ (rs : List g.row.R.Denot). IsSet g.R.Record.form g.D.Disk.keeps g.D.Disk.states g.D.Disk.faults start rs v w) c.as_slice.ensures.value (record { list = c.in-Ok-put.ensures.list; command = c.in-Ok-put.ensures.command });
+      done = subst (λ (rs : List g.row.R.Denot). IsSet g.R.Record.form g.D.Disk.keeps g.D.Disk.states g.D.Disk.faults start rs v w)
+          c.as_slice.ensures.value (record { list = c.in-Ok-put.ensures.list; command = c.in-Ok-put.ensures.command });
     })

@@ -20,17 +20,22 @@ returns-in-Ok-count_front-clause-sound g c = λ model.
 
 pub returns-in-Ok-count_front-clause-images : goal.returns-in-Ok-count_front-clause-images
 returns-in-Ok-count_front-clause-images g c = λ model.
-    reads_behind (g.D.Disk.states c.args.disk.now) (g.D.Disk.states c.len.new.self) (g.D.Disk.states c.count_front.new.disk) (c.len.ensures.same (c.len.ensures.model (c.count_front.ensures.model model))) (c.count_front.ensures.same model) (c.count_front.ensures.images model)
+    reads_behind (g.D.Disk.states c.args.disk.now) (g.D.Disk.states c.len.new.self) (g.D.Disk.states c.count_front.new.disk)
+    (c.len.ensures.same (c.len.ensures.model (c.count_front.ensures.model model))) (c.count_front.ensures.same model)
+    (c.count_front.ensures.images model)
 
 pub returns-in_default-clause-refused : goal.returns-in_default-clause-refused
 returns-in_default-clause-refused g c = λ model.
     let last = c.count_front.ensures.model model in
-    refused_whole g.R.Record.form (g.D.Disk.states c.args.disk.now) (g.D.Disk.states c.len.new.self) c.in-Ok.len c.args.at c.min-len.result (c.len.ensures.same (c.len.ensures.model last)) (c.in-Ok.ensures.value last) c.min-len.ensures
+    refused_whole g.R.Record.form (g.D.Disk.states c.args.disk.now) (g.D.Disk.states c.len.new.self) c.in-Ok.len c.args.at c.min-len.result
+    (c.len.ensures.same (c.len.ensures.model last)) (c.in-Ok.ensures.value last) c.min-len.ensures
     c.in-Err-count_front.fault c.in_default.ensures (c.in-Err-count_front.ensures.refused model)
 
 pub returns-in_default-clause-images : goal.returns-in_default-clause-images
 returns-in_default-clause-images g c = λ model.
-    reads_behind (g.D.Disk.states c.args.disk.now) (g.D.Disk.states c.len.new.self) (g.D.Disk.states c.count_front.new.disk) (c.len.ensures.same (c.len.ensures.model (c.count_front.ensures.model model))) (c.count_front.ensures.same model) (c.count_front.ensures.images model)
+    reads_behind (g.D.Disk.states c.args.disk.now) (g.D.Disk.states c.len.new.self) (g.D.Disk.states c.count_front.new.disk)
+    (c.len.ensures.same (c.len.ensures.model (c.count_front.ensures.model model))) (c.count_front.ensures.same model)
+    (c.count_front.ensures.images model)
 
 pub returns-in-Ok-count_front-2-clause-sound : goal.returns-in-Ok-count_front-2-clause-sound
 returns-in-Ok-count_front-2-clause-sound g c = λ model.
@@ -43,7 +48,8 @@ returns-in-Ok-count_front-2-clause-sound g c = λ model.
     let found = c.in-Ok-count_front-2.ensures.found model in
     subst (IsSoundFront g.R.Record.form (bytes_of old) c.args.at) (sym found.2)
     (sound_cut g.R.Record.form old new c.in-Ok.len c.args.at c.min-len.result stays is c.min-len.ensures (g.D.Disk.states c.count_front.new.disk) (c.count_front.ensures.same mid) c.in-Some.end
-    (cut_at g.R.Record.form old new c.in-Ok.len c.args.at c.min-len.result stays is c.min-len.ensures c.in-Some.end c.in-Err-count_front.fault c.in-Some.ensures.2 (c.in-Err-count_front.ensures.refused mid))
+    (cut_at g.R.Record.form old new c.in-Ok.len c.args.at c.min-len.result stays is c.min-len.ensures c.in-Some.end c.in-Err-count_front.fault
+    c.in-Some.ensures.2 (c.in-Err-count_front.ensures.refused mid))
     found.0 found.0.records.items refl found.1)
 
 pub returns-in-Ok-count_front-2-clause-images : goal.returns-in-Ok-count_front-2-clause-images
@@ -62,7 +68,8 @@ returns-in-Err-count_front-2-clause-refused g c = λ model.
     let stays = c.len.ensures.same (c.len.ensures.model last) in
     let is = c.in-Ok.ensures.value last in
     refused_cut g.R.Record.form old new c.in-Ok.len c.args.at c.min-len.result stays is c.min-len.ensures (g.D.Disk.states c.count_front.new.disk) (c.count_front.ensures.same mid) c.in-Some.end
-    (cut_at g.R.Record.form old new c.in-Ok.len c.args.at c.min-len.result stays is c.min-len.ensures c.in-Some.end c.in-Err-count_front.fault c.in-Some.ensures.2 (c.in-Err-count_front.ensures.refused mid))
+    (cut_at g.R.Record.form old new c.in-Ok.len c.args.at c.min-len.result stays is c.min-len.ensures c.in-Some.end c.in-Err-count_front.fault
+    c.in-Some.ensures.2 (c.in-Err-count_front.ensures.refused mid))
     c.in-Err-count_front-2.fault (c.in-Err-count_front-2.ensures.refused model)
 
 pub returns-in-Err-count_front-2-clause-images : goal.returns-in-Err-count_front-2-clause-images
