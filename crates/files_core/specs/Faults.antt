@@ -1,18 +1,13 @@
--- The names of the faults of commands over files, and the line of a refusal.
+-- The names of the faults of commands over files, which `Display` writes, and the line of a refusal.
 use Rattle.std.specs.Prelude.{ℕ, List, ◌++◌, codes}
-use Rattle.pen_core.specs.declared.fault.OpenFault.{OpenFault}
-use Rattle.pen_core.specs.declared.fault.OpenFault.TheVariants as open_faults
+use Rattle.pen_core.specs.Names.{open_name}
+use Rattle.book_core.specs.Names.{grow_name}
+use Rattle.vault_core.specs.Names.{vault_name}
 use Rattle.vault_core.specs.declared.upgrading.UpgradeFault.{UpgradeFault}
 use Rattle.vault_core.specs.declared.upgrading.UpgradeFault.TheVariants as upgrade_faults
-use Rattle.fault_names.specs.Names.{disk_name, vault_name, grow_name}
-use Rattle.text_core.specs.Refusals.{scan_name, name_of}
-use Rattle.text_core.specs.Text.{ended_line}
+use Rattle.text_core.specs.Refusals.{name_of, refused_line}
 use Rattle.files_core.specs.declared.fault.FileFault.{FileFault}
 use Rattle.files_core.specs.declared.fault.FileFault.TheVariants.{Word, Input, Open, Vault, Grower, Upgrade}
-
-abbrev pub open_name : OpenFault → List ℕ
-open_name (open_faults.Scan fault) = scan_name fault
-open_name (open_faults.Disk fault) = disk_name fault
 
 abbrev pub upgrade_name : UpgradeFault → List ℕ
 upgrade_name (upgrade_faults.Old fault) = codes "old " ++ open_name fault
@@ -29,4 +24,4 @@ fault_name (Upgrade fault) = upgrade_name fault
 
 -- the line that is printed
 abbrev pub fault_line : FileFault → List ℕ
-fault_line fault = codes "refused: " ++ ended_line (fault_name fault)
+fault_line fault = refused_line (fault_name fault)

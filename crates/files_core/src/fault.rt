@@ -1,15 +1,15 @@
 //! Why a command over a file is refused, and the line that names it.
 
-ghost use Rattle.std.specs.Prelude.{◌≡◌, ◌⊎◌, ◌++◌, OnOk};
+ghost use Rattle.std.specs.Prelude.{◌≡◌, ◌⊎◌, Some};
+ghost use Rattle.std.specs.Fmt.{DisplaysOnOk};
 ghost use Rattle.std.specs.Io.KnownBytes.{Appends};
-ghost use Rattle.files_core.specs.Faults.{open_name, upgrade_name, fault_name, fault_line};
+ghost use Rattle.files_core.specs.Faults.{upgrade_name, fault_name, fault_line};
 
 use book_core::GrowFault;
-use fault_names::{write_disk_fault, write_grow_fault, write_vault_fault};
 use pen_core::OpenFault;
-use std::io;
+use std::fmt::{self, Display};
 use std::io::Write;
-use text_core::{Refusal, Status, write_line, write_name, write_scan_fault};
+use text_core::{Refusal, Status, write_refusal};
 use vault_core::{UpgradeFault, VaultFault};
 
 /// The words of a command that have to be of a form.
@@ -60,50 +60,30 @@ pub enum FileFault {
     Upgrade(UpgradeFault),
 }
 
-fn write_open_fault<W: Write>(writer: &mut W, fault: OpenFault) -> io::Result<()>
-    ensures { OnOk result (Appends (W.contents writer.old) (W.contents writer.new) (open_name fault)) }
+/// Writes the name of why a file wasn't upgraded.
+fn write_upgrade_fault<W: fmt::Write>(f: &mut fmt::Formatter<W>, fault: UpgradeFault) -> fmt::Result
+    ensures { DisplaysOnOk W.write_str_gives f.old result (Some (upgrade_name fault)) f.new }
 {
     match fault {
-        OpenFault::Scan(fault) => write_scan_fault(writer, fault),
-        OpenFault::Disk(fault) => write_disk_fault(writer, fault),
+        UpgradeFault::Old(fault) => write!(f, "old {fault}"),
+        UpgradeFault::NotOld => f.write_str("not version 1"),
+        UpgradeFault::New(fault) => write!(f, "new {fault}"),
     }
 }
 
-fn write_upgrade_fault<W: Write>(writer: &mut W, fault: UpgradeFault) -> io::Result<()>
-    ensures { OnOk result (Appends (W.contents writer.old) (W.contents writer.new) (upgrade_name fault)) }
-{
-    match fault {
-        UpgradeFault::Old(fault) => {
-            writer.write_all(b"old ")?;
-            write_open_fault(writer, fault)
+impl Display for FileFault {
+    ghost output = { λ fault. Some (fault_name fault) };
+
+    fn fmt<W: fmt::Write>(&self, f: &mut fmt::Formatter<W>) -> fmt::Result {
+        match *self {
+            FileFault::Word(_) => f.write_str("word"),
+            FileFault::Input(refusal) => Display::fmt(&refusal, f),
+            FileFault::Open(fault) => Display::fmt(&fault, f),
+            FileFault::Vault(fault) => Display::fmt(&fault, f),
+            FileFault::Grower(stopped) => Display::fmt(&stopped.fault, f),
+            FileFault::Upgrade(fault) => write_upgrade_fault(f, fault),
         }
-        UpgradeFault::NotOld => writer.write_all(b"not version 1"),
-        UpgradeFault::New(fault) => {
-            writer.write_all(b"new ")?;
-            write_vault_fault(writer, fault)
-        }
     }
-}
-
-fn write_fault<W: Write>(writer: &mut W, fault: FileFault) -> io::Result<()>
-    ensures { OnOk result (Appends (W.contents writer.old) (W.contents writer.new) (fault_name fault)) }
-{
-    match fault {
-        FileFault::Word(_) => writer.write_all(b"word"),
-        FileFault::Input(refusal) => write_name(writer, refusal),
-        FileFault::Open(fault) => write_open_fault(writer, fault),
-        FileFault::Vault(fault) => write_vault_fault(writer, fault),
-        FileFault::Grower(stopped) => write_grow_fault(writer, stopped.fault),
-        FileFault::Upgrade(fault) => write_upgrade_fault(writer, fault),
-    }
-}
-
-fn write_fault_line<W: Write>(writer: &mut W, fault: FileFault) -> io::Result<()>
-    ensures { OnOk result (Appends (W.contents writer.old) (W.contents writer.new) (fault_line fault)) }
-{
-    writer.write_all(b"refused: ")?;
-    write_fault(writer, fault)?;
-    write_line(b"", writer)
 }
 
 /// Writes the line of a refusal. No memory is taken for it.
@@ -111,7 +91,7 @@ pub fn refuse_file<W: Write>(writer: &mut W, fault: FileFault) -> Status
     ensures refused { result ≡ Status.Refused → Appends (W.contents writer.old) (W.contents writer.new) (fault_line fault) }
     ensures ends { (result ≡ Status.Refused) ⊎ (result ≡ Status.OutputFailed) }
 {
-    match write_fault_line(writer, fault) {
+    match write_refusal(writer, fault) {
         Ok(()) => Status::Refused,
         Err(_) => Status::OutputFailed,
     }

@@ -21,13 +21,15 @@ tail_is v w vs ws is = cc
 
 -- ---- records
 
-pub map_more : {R : Type 0} (text_of : R → List ℕ) (records : List R) (r : R) (words left : List (List ℕ)) → left ≡ text_of r ∷ words → map text_of records ++ left ≡ map text_of (records ++ r ∷ []) ++ words
+pub map_more : {R : Type 0} (text_of : R → List ℕ) (records : List R) (r : R) (words left : List (List ℕ)) → left ≡ text_of r ∷ words
+    → map text_of records ++ left ≡ map text_of (records ++ r ∷ []) ++ words
 map_more text_of records r words left is =
     ap (λ (ws : List (List ℕ)). map text_of records ++ ws) is
     ∙ sym (append_assoc (map text_of records) (text_of r ∷ []) words)
     ∙ ap (λ (ws : List (List ℕ)). ws ++ words) (sym (map-append text_of records (r ∷ [])))
 
-same_records : {R : Type 0} (spelling : Spelling R) (rs ss : List R) (t u : List (List ℕ)) → HasOneValue spelling → AllByRecursion spelling.is_value rs → AllByRecursion spelling.is_value ss → StartsWithNone spelling t → StartsWithNone spelling u
+same_records : {R : Type 0} (spelling : Spelling R) (rs ss : List R) (t u : List (List ℕ)) → HasOneValue spelling
+    → AllByRecursion spelling.is_value rs → AllByRecursion spelling.is_value ss → StartsWithNone spelling t → StartsWithNone spelling u
     → map spelling.text_of rs ++ t ≡ map spelling.text_of ss ++ u → (rs ≡ ss) × (t ≡ u)
 same_records spelling [] [] t u one values others none free is = (refl, is)
 same_records spelling [] (s ∷ ss) t u one values others none free is = absurd (none s (map spelling.text_of ss ++ u) others.0 is)
@@ -40,19 +42,23 @@ same_records spelling (r ∷ rs) (s ∷ ss) t u one values others none free is =
 -- ---- one run
 
 -- the first word is no number
-pub no_number_first : {R : Type 0} (spelling : Spelling R) (words tail : List (List ℕ)) (run : ℕ × List R) → StartsWithNone (number_spelling 64) words → IsRun spelling run → words ≢ run_words spelling.text_of run ++ tail
+pub no_number_first : {R : Type 0} (spelling : Spelling R) (words tail : List (List ℕ)) (run : ℕ × List R) → StartsWithNone (number_spelling 64) words
+    → IsRun spelling run → words ≢ run_words spelling.text_of run ++ tail
 no_number_first spelling words tail run none so is = none run.0 (map spelling.text_of run.1 ++ tail) so.small is
 
-no_record_here : {R : Type 0} (spelling : Spelling R) (words tail : List (List ℕ)) (records : List R) → 0 < length records → AllByRecursion spelling.is_value records → StartsWithNone spelling words → words ≢ map spelling.text_of records ++ tail
+no_record_here : {R : Type 0} (spelling : Spelling R) (words tail : List (List ℕ)) (records : List R) → 0 < length records
+    → AllByRecursion spelling.is_value records → StartsWithNone spelling words → words ≢ map spelling.text_of records ++ tail
 no_record_here spelling words tail [] some values none is = absurd (omega (arith, some))
 no_record_here spelling words tail (r ∷ records) some values none is = none r (map spelling.text_of records ++ tail) values.0 is
 
 -- a number, and no record behind it
-pub no_record_behind : {R : Type 0} (spelling : Spelling R) (words left tail : List (List ℕ)) (n : ℕ) (run : ℕ × List R) → words ≡ decimal n ∷ left → StartsWithNone spelling left → IsRun spelling run → words ≢ run_words spelling.text_of run ++ tail
+pub no_record_behind : {R : Type 0} (spelling : Spelling R) (words left tail : List (List ℕ)) (n : ℕ) (run : ℕ × List R) → words ≡ decimal n ∷ left
+    → StartsWithNone spelling left → IsRun spelling run → words ≢ run_words spelling.text_of run ++ tail
 no_record_behind spelling words left tail n run cut none so is =
     no_record_here spelling left tail run.1 so.some so.values none (tail_is (decimal n) (decimal run.0) left (map spelling.text_of run.1 ++ tail) (sym cut ∙ is))
 
-same_run : {R : Type 0} (spelling : Spelling R) (a b : ℕ × List R) (t u : List (List ℕ)) → HasOneValue spelling → IsRun spelling a → IsRun spelling b → StartsWithNone spelling t → StartsWithNone spelling u
+same_run : {R : Type 0} (spelling : Spelling R) (a b : ℕ × List R) (t u : List (List ℕ)) → HasOneValue spelling → IsRun spelling a → IsRun spelling b
+    → StartsWithNone spelling t → StartsWithNone spelling u
     → run_words spelling.text_of a ++ t ≡ run_words spelling.text_of b ++ u → (a ≡ b) × (t ≡ u)
 same_run spelling a b t u one of_a of_b none free is =
     let more = map spelling.text_of a.1 ++ t in
@@ -65,7 +71,9 @@ pub none_of_nothing : {R : Type 0} (spelling : Spelling R) → StartsWithNone sp
 none_of_nothing spelling r more value is = cc is
 
 -- more stands behind a run than its records
-pub more_behind : {R : Type 0} (spelling : Spelling R) (words left : List (List ℕ)) (run other : ℕ × List R) → HasOneValue spelling → words ≡ run_words spelling.text_of run ++ left → left ≢ [] → IsRun spelling run → StartsWithNone spelling left → IsRun spelling other → words ≢ run_words spelling.text_of other
+pub more_behind : {R : Type 0} (spelling : Spelling R) (words left : List (List ℕ)) (run other : ℕ × List R) → HasOneValue spelling
+    → words ≡ run_words spelling.text_of run ++ left → left ≢ [] → IsRun spelling run → StartsWithNone spelling left → IsRun spelling other
+    → words ≢ run_words spelling.text_of other
 more_behind spelling words left run other one cut some so none so_other is =
     some (same_run spelling run other left [] one so so_other none (none_of_nothing spelling) (sym cut ∙ is ∙ sym (append-nil (run_words spelling.text_of other)))).1
 
@@ -73,7 +81,9 @@ more_behind spelling words left run other one cut some so none so_other is =
 
 none_of_bars : {R : Type 0} (spelling : Spelling R) (runs : List (ℕ × List R)) → AreWords spelling → StartsWithNone spelling (flat_map (barred_words spelling.text_of) runs)
 none_of_bars spelling [] law = none_of_nothing spelling
-none_of_bars spelling (run ∷ runs) law = λ r more value is. not_bar (spelling.text_of r) (law r value) (sym (head_is (codes "|") (spelling.text_of r) (run_words spelling.text_of run ++ flat_map (barred_words spelling.text_of) runs) more is))
+none_of_bars spelling (run ∷ runs) law =
+    λ r more value is. not_bar (spelling.text_of r) (law r value)
+    (sym (head_is (codes "|") (spelling.text_of r) (run_words spelling.text_of run ++ flat_map (barred_words spelling.text_of) runs) more is))
 
 -- what any reading of the words has behind the runs so far
 pub record Ahead {R : Type 0} (spelling : Spelling R) (done all : List (ℕ × List R)) (left : List (List ℕ)) : Type 0 where
@@ -88,20 +98,24 @@ pub record HasRuns {R : Type 0} (spelling : Spelling R) (words : List (List ℕ)
   pub so_far : words ≡ runs_words spelling.text_of done ++ left
   pub only : (all : List (ℕ × List R)) → AreRuns spelling all → words ≡ runs_words spelling.text_of all → Ahead spelling done all left
 
-start_ahead : {R : Type 0} (spelling : Spelling R) (words left : List (List ℕ)) (run : ℕ × List R) (all : List (ℕ × List R)) → AreWords spelling → HasOneValue spelling → IsRun spelling run → StartsWithNone spelling left → words ≡ run_words spelling.text_of run ++ left → AreRuns spelling all → words ≡ runs_words spelling.text_of all → Ahead spelling (run ∷ []) all left
+start_ahead : {R : Type 0} (spelling : Spelling R) (words left : List (List ℕ)) (run : ℕ × List R) (all : List (ℕ × List R)) → AreWords spelling
+    → HasOneValue spelling → IsRun spelling run → StartsWithNone spelling left → words ≡ run_words spelling.text_of run ++ left → AreRuns spelling all
+    → words ≡ runs_words spelling.text_of all → Ahead spelling (run ∷ []) all left
 start_ahead spelling words left run [] law one so none cut are is = let some = are.some in absurd (omega (arith, some))
 start_ahead spelling words left run (other ∷ more) law one so none cut are is =
     let same = same_run spelling run other left (flat_map (barred_words spelling.text_of) more) one so are.each.0 none (none_of_bars spelling more law) (sym cut ∙ is) in
     record { others = more; parts = ap (λ r. r ∷ more) (sym same.0); each = are.each.1; words_are = same.1 }
 
-pub HasRuns_start : {R : Type 0} (spelling : Spelling R) (words left : List (List ℕ)) (run : ℕ × List R) → AreWords spelling → HasOneValue spelling → IsRun spelling run → StartsWithNone spelling left → words ≡ run_words spelling.text_of run ++ left → HasRuns spelling words (run ∷ []) left
+pub HasRuns_start : {R : Type 0} (spelling : Spelling R) (words left : List (List ℕ)) (run : ℕ × List R) → AreWords spelling → HasOneValue spelling
+    → IsRun spelling run → StartsWithNone spelling left → words ≡ run_words spelling.text_of run ++ left → HasRuns spelling words (run ∷ []) left
 HasRuns_start spelling words left run law one so none cut = record {
   runs = record { some = omega arith; each = (so, tt) };
   so_far = cut ∙ ap (λ (ws : List (List ℕ)). ws ++ left) (sym (append-nil (run_words spelling.text_of run)));
   only = λ all are is. start_ahead spelling words left run all law one so none cut are is;
 }
 
-words_more : {R : Type 0} (spelling : Spelling R) (done : List (ℕ × List R)) (run : ℕ × List R) (left : List (List ℕ)) → 0 < length done → runs_words spelling.text_of done ++ (barred_words spelling.text_of run ++ left) ≡ runs_words spelling.text_of (done ++ run ∷ []) ++ left
+words_more : {R : Type 0} (spelling : Spelling R) (done : List (ℕ × List R)) (run : ℕ × List R) (left : List (List ℕ)) → 0 < length done
+    → runs_words spelling.text_of done ++ (barred_words spelling.text_of run ++ left) ≡ runs_words spelling.text_of (done ++ run ∷ []) ++ left
 words_more spelling [] run left some = absurd (omega (arith, some))
 words_more spelling (first ∷ done) run left some =
     let front = run_words spelling.text_of first in
@@ -114,14 +128,19 @@ words_more spelling (first ∷ done) run left some =
     ∙ sym (append_assoc front (bars (done ++ run ∷ [])) left)
 
 -- behind a bar
-ahead_behind : {R : Type 0} (spelling : Spelling R) (word : List ℕ) (behind : List (List ℕ)) (others : List (ℕ × List R)) → AllByRecursion (IsRun spelling) others → word ∷ behind ≡ flat_map (barred_words spelling.text_of) others
-    → (run : ℕ × List R) × (more : List (ℕ × List R)) × (others ≡ run ∷ more) × IsRun spelling run × AllByRecursion (IsRun spelling) more × (word ≡ codes "|") × (behind ≡ run_words spelling.text_of run ++ flat_map (barred_words spelling.text_of) more)
+ahead_behind : {R : Type 0} (spelling : Spelling R) (word : List ℕ) (behind : List (List ℕ)) (others : List (ℕ × List R))
+    → AllByRecursion (IsRun spelling) others → word ∷ behind ≡ flat_map (barred_words spelling.text_of) others
+    → (run : ℕ × List R) × (more : List (ℕ × List R)) × (others ≡ run ∷ more) × IsRun spelling run × AllByRecursion (IsRun spelling) more
+    × (word ≡ codes "|") × (behind ≡ run_words spelling.text_of run ++ flat_map (barred_words spelling.text_of) more)
 ahead_behind spelling word behind [] each is = cc is
 ahead_behind spelling word behind (run ∷ more) each is =
     let words = run_words spelling.text_of run ++ flat_map (barred_words spelling.text_of) more in
     (run, more, refl, each.0, each.1, head_is word (codes "|") behind words is, tail_is word (codes "|") behind words is)
 
-more_ahead : {R : Type 0} (spelling : Spelling R) (done all : List (ℕ × List R)) (word : List ℕ) (left behind after : List (List ℕ)) (run : ℕ × List R) → AreWords spelling → HasOneValue spelling → left ≡ word ∷ behind → IsRun spelling run → StartsWithNone spelling after → behind ≡ run_words spelling.text_of run ++ after
+more_ahead : {R : Type 0} (spelling : Spelling R) (done all : List (ℕ × List R)) (word : List ℕ) (left behind after : List (List ℕ))
+    (run : ℕ × List R)
+    → AreWords spelling → HasOneValue spelling → left ≡ word ∷ behind → IsRun spelling run → StartsWithNone spelling after
+    → behind ≡ run_words spelling.text_of run ++ after
     → Ahead spelling done all left → Ahead spelling (done ++ run ∷ []) all after
 more_ahead spelling done all word left behind after run law one cut so none read ahead =
     let next = ahead_behind spelling word behind ahead.others ahead.each (sym cut ∙ ahead.words_are) in
@@ -133,14 +152,20 @@ more_ahead spelling done all word left behind after run law one cut so none read
       words_are = same.1;
     }
 
-pub HasRuns_more : {R : Type 0} (spelling : Spelling R) (words : List (List ℕ)) (done : List (ℕ × List R)) (word : List ℕ) (left behind after : List (List ℕ)) (run : ℕ × List R) → AreWords spelling → HasOneValue spelling → left ≡ word ∷ behind → word ≡ codes "|" → IsRun spelling run → StartsWithNone spelling after → behind ≡ run_words spelling.text_of run ++ after
+pub HasRuns_more : {R : Type 0} (spelling : Spelling R) (words : List (List ℕ)) (done : List (ℕ × List R)) (word : List ℕ)
+    (left behind after : List (List ℕ)) (run : ℕ × List R)
+    → AreWords spelling → HasOneValue spelling → left ≡ word ∷ behind → word ≡ codes "|" → IsRun spelling run → StartsWithNone spelling after
+    → behind ≡ run_words spelling.text_of run ++ after
     → HasRuns spelling words done left → HasRuns spelling words (done ++ run ∷ []) after
 HasRuns_more spelling words done word left behind after run law one cut bar so none read before = record {
   runs = record {
     some = let len = length-append done (run ∷ []) in omega (arith, len);
     each = push_all (IsRun spelling) done run before.runs.each so;
   };
-  so_far = before.so_far ∙ ap (λ (ws : List (List ℕ)). runs_words spelling.text_of done ++ ws) (cut ∙ ap (λ (w : List ℕ). w ∷ behind) bar ∙ ap (λ (ws : List (List ℕ)). codes "|" ∷ ws) read) ∙ words_more spelling done run after before.runs.some;
+  so_far =
+      before.so_far
+      ∙ ap (λ (ws : List (List ℕ)). runs_words spelling.text_of done ++ ws) (cut ∙ ap (λ (w : List ℕ). w ∷ behind) bar ∙ ap (λ (ws : List (List ℕ)). codes "|" ∷ ws) read)
+      ∙ words_more spelling done run after before.runs.some;
   only = λ all are is. more_ahead spelling done all word left behind after run law one cut so none read (before.only all are is);
 }
 
@@ -157,17 +182,22 @@ HasRuns_next spelling words old new word left behind after law one cut bar so be
 
 -- ---- no runs
 
-pub no_bar : {R : Type 0} (spelling : Spelling R) (words : List (List ℕ)) (done all : List (ℕ × List R)) (word : List ℕ) (left behind : List (List ℕ)) → left ≡ word ∷ behind → word ≢ codes "|" → HasRuns spelling words done left → AreRuns spelling all → words ≢ runs_words spelling.text_of all
+pub no_bar : {R : Type 0} (spelling : Spelling R) (words : List (List ℕ)) (done all : List (ℕ × List R)) (word : List ℕ) (left behind : List (List ℕ))
+    → left ≡ word ∷ behind → word ≢ codes "|" → HasRuns spelling words done left → AreRuns spelling all → words ≢ runs_words spelling.text_of all
 no_bar spelling words done all word left behind cut other so are is =
     let ahead = so.only all are is in other (ahead_behind spelling word behind ahead.others ahead.each (sym cut ∙ ahead.words_are)).5
 
-pub no_run : {R : Type 0} (spelling : Spelling R) (words : List (List ℕ)) (done all : List (ℕ × List R)) (word : List ℕ) (left behind : List (List ℕ)) → left ≡ word ∷ behind → ((run : ℕ × List R) (tail : List (List ℕ)) → IsRun spelling run → behind ≢ run_words spelling.text_of run ++ tail) → HasRuns spelling words done left → AreRuns spelling all → words ≢ runs_words spelling.text_of all
+pub no_run : {R : Type 0} (spelling : Spelling R) (words : List (List ℕ)) (done all : List (ℕ × List R)) (word : List ℕ) (left behind : List (List ℕ))
+    → left ≡ word ∷ behind → ((run : ℕ × List R) (tail : List (List ℕ)) → IsRun spelling run → behind ≢ run_words spelling.text_of run ++ tail)
+    → HasRuns spelling words done left → AreRuns spelling all → words ≢ runs_words spelling.text_of all
 no_run spelling words done all word left behind cut none so are is =
     let ahead = so.only all are is in
     let next = ahead_behind spelling word behind ahead.others ahead.each (sym cut ∙ ahead.words_are) in
     none next.0 (flat_map (barred_words spelling.text_of) next.1) next.3 next.6
 
-pub no_first : {R : Type 0} (spelling : Spelling R) (words : List (List ℕ)) (all : List (ℕ × List R)) → ((run : ℕ × List R) (tail : List (List ℕ)) → IsRun spelling run → words ≢ run_words spelling.text_of run ++ tail) → AreRuns spelling all → words ≢ runs_words spelling.text_of all
+pub no_first : {R : Type 0} (spelling : Spelling R) (words : List (List ℕ)) (all : List (ℕ × List R))
+    → ((run : ℕ × List R) (tail : List (List ℕ)) → IsRun spelling run → words ≢ run_words spelling.text_of run ++ tail) → AreRuns spelling all
+    → words ≢ runs_words spelling.text_of all
 no_first spelling words [] none are is = let some = are.some in absurd (omega (arith, some))
 no_first spelling words (run ∷ more) none are is = none run (flat_map (barred_words spelling.text_of) more) are.each.0 is
 

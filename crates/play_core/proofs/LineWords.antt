@@ -20,5 +20,6 @@ words_same : (rest : Option (Bor (List ℕ))) → words_in (option_copied rest) 
 words_same None = refl
 words_same (Some text) = refl
 
-pub next_left : (text word : List ℕ) (rest : Option (Bor (List ℕ))) → MatchOption rest (text ≡ word) (λ after. text ≡ word ++ 32 ∷ after.now) → All (λ b. b ≢ 32) word → words_of text ≡ word ∷ words_left rest
+pub next_left : (text word : List ℕ) (rest : Option (Bor (List ℕ))) → MatchOption rest (text ≡ word) (λ after. text ≡ word ++ 32 ∷ after.now)
+    → All (λ b. b ≢ 32) word → words_of text ≡ word ∷ words_left rest
 next_left text word rest whole first = words_cut text word rest whole first ∙ ap (λ (ws : List (List ℕ)). word ∷ ws) (words_same rest)

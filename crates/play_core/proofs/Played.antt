@@ -26,10 +26,13 @@ drop_next xs i x inside is = rw add-one (drop-cons xs i x inside ∙ ap (λ y. y
 -- ---- parts
 
 module _ {R : Type 0} (form : Encoding R) (text_of : R → List ℕ) where
-  pub steps_played : (old : DiskOf) (steps given : List (code_step.Step R)) (new : DiskOf) (own : List ℕ) → steps ≡ given → AreStepsPlayed form text_of old (map step_of steps) new own → AreStepsPlayed form text_of old (map step_of given) new own
+  pub steps_played : (old : DiskOf) (steps given : List (code_step.Step R)) (new : DiskOf) (own : List ℕ) → steps ≡ given
+      → AreStepsPlayed form text_of old (map step_of steps) new own → AreStepsPlayed form text_of old (map step_of given) new own
   steps_played old steps given new own are played = subst (λ (ss : List (code_step.Step R)). AreStepsPlayed form text_of old (map step_of ss) new own) are played
 
-  pub part_played : (old : DiskOf) (part : code.Part R) (left : RamDisk) (steps : List (code_step.Step R)) (image own : List ℕ) → steps ≡ part.steps.items → AreStepsPlayed form text_of old (map step_of steps) (ram_disk left) own → IsChosen part.crash (now (states_of left)) image
+  pub part_played : (old : DiskOf) (part : code.Part R) (left : RamDisk) (steps : List (code_step.Step R)) (image own : List ℕ)
+      → steps ≡ part.steps.items → AreStepsPlayed form text_of old (map step_of steps) (ram_disk left) own
+      → IsChosen part.crash (now (states_of left)) image
       → IsPartPlayed form text_of old (part_of part) image (own ++ crashed_line (length image))
   part_played old part left steps image own are played chosen = record {
     left = ram_disk left;
@@ -52,17 +55,21 @@ module _ {R : Type 0} (form : Encoding R) (text_of : R → List ℕ) where
     goes_on = λ rest so. subst (IsScriptPlayed form text_of script) (ap (λ (t : List ℕ). t ++ rest) (sym none)) so;
   }
 
-  pub HasPlayed_more : (script : ScriptOf R) (left more : List (PartOf R)) (part : PartOf R) (disk new : DiskOf) (text after image own : List ℕ) → left ≡ part ∷ more → after ≡ text ++ own → IsPartPlayed form text_of disk part image own → new ≡ fresh_disk image
+  pub HasPlayed_more : (script : ScriptOf R) (left more : List (PartOf R)) (part : PartOf R) (disk new : DiskOf) (text after image own : List ℕ)
+      → left ≡ part ∷ more → after ≡ text ++ own → IsPartPlayed form text_of disk part image own → new ≡ fresh_disk image
       → HasPlayed script left disk text → HasPlayed script more new after
   HasPlayed_more script left more part disk new text after image own cut appended played fresh before = record {
     bytes = image;
     fresh = fresh;
     goes_on = λ rest so.
         let this = subst (λ (d : DiskOf). IsPartPlayed form text_of d part image own) before.fresh played in
-        subst (IsScriptPlayed form text_of script) (sym (append_assoc text own rest) ∙ ap (λ (t : List ℕ). t ++ rest) (sym appended)) (before.goes_on (own ++ rest) (subst (λ (parts : List (PartOf R)). ArePartsPlayed form text_of before.bytes parts script.last (own ++ rest)) (sym cut) (image, own, rest, this, so, refl)));
+        subst (IsScriptPlayed form text_of script) (sym (append_assoc text own rest) ∙ ap (λ (t : List ℕ). t ++ rest) (sym appended))
+        (before.goes_on (own ++ rest) (subst (λ (parts : List (PartOf R)). ArePartsPlayed form text_of before.bytes parts script.last (own ++ rest)) (sym cut) (image, own, rest, this, so, refl)));
   }
 
-  pub HasPlayed_all : (script : ScriptOf R) (left : List (PartOf R)) (disk new : DiskOf) (text after own : List ℕ) → left ≡ [] → after ≡ text ++ own → AreStepsPlayed form text_of disk script.last new own → HasPlayed script left disk text → IsScriptPlayed form text_of script after
+  pub HasPlayed_all : (script : ScriptOf R) (left : List (PartOf R)) (disk new : DiskOf) (text after own : List ℕ) → left ≡ [] → after ≡ text ++ own
+      → AreStepsPlayed form text_of disk script.last new own → HasPlayed script left disk text → IsScriptPlayed form text_of script after
   HasPlayed_all script left disk new text after own none appended played before =
       let this = subst (λ (d : DiskOf). AreStepsPlayed form text_of d script.last new own) before.fresh played in
-      subst (IsScriptPlayed form text_of script) (sym appended) (before.goes_on own (subst (λ (parts : List (PartOf R)). ArePartsPlayed form text_of before.bytes parts script.last own) (sym none) (new, this)))
+      subst (IsScriptPlayed form text_of script) (sym appended)
+      (before.goes_on own (subst (λ (parts : List (PartOf R)). ArePartsPlayed form text_of before.bytes parts script.last own) (sym none) (new, this)))

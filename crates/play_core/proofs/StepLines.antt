@@ -62,11 +62,13 @@ one_verb v w is = sym (found v) ∙ ap (verb_in all_verbs) is ∙ found w
 pub no_verb : {R : Type 0} (spelling : Spelling R) (line name : List ℕ) (rest : List (List ℕ)) → words_of line ≡ name ∷ rest → ((verb : Verb) → name ≢ verb_word verb) → IsStepLine spelling line → ⊥
 no_verb spelling line name rest cut none so = none so.1.verb (head_is name (verb_word so.1.verb) rest so.1.words (sym cut ∙ so.1.parts))
 
-pub no_words : {R : Type 0} (spelling : Spelling R) (line name : List ℕ) (verb : Verb) (rest : List (List ℕ)) → words_of line ≡ name ∷ rest → name ≡ verb_word verb → AsksNothing spelling verb rest → IsStepLine spelling line → ⊥
+pub no_words : {R : Type 0} (spelling : Spelling R) (line name : List ℕ) (verb : Verb) (rest : List (List ℕ)) → words_of line ≡ name ∷ rest
+    → name ≡ verb_word verb → AsksNothing spelling verb rest → IsStepLine spelling line → ⊥
 no_words spelling line name verb rest cut named none so =
     let parts = sym cut ∙ so.1.parts in
     let same = one_verb so.1.verb verb (sym (head_is name (verb_word so.1.verb) rest so.1.words parts) ∙ named) in
-    none so.0 (subst (λ (ws : List (List ℕ)). Asks spelling verb ws so.0) (sym (tail_is name (verb_word so.1.verb) rest so.1.words parts)) (subst (λ (v : Verb). Asks spelling v so.1.words so.0) same so.1.asks))
+    none so.0
+    (subst (λ (ws : List (List ℕ)). Asks spelling verb ws so.0) (sym (tail_is name (verb_word so.1.verb) rest so.1.words parts)) (subst (λ (v : Verb). Asks spelling v so.1.words so.0) same so.1.asks))
 
 -- ---- bytes in hex
 
@@ -90,6 +92,7 @@ no_byte digits fault refused byte is =
 
 -- ---- words of a crash
 
-pub no_choice : {R : Type 0} (spelling : Spelling R) (words : List (List ℕ)) (word : List ℕ) → words ≡ word ∷ [] → ((choice : Choice) → IsCrash word choice → ⊥) → AsksNothing spelling verbs.Crash words
+pub no_choice : {R : Type 0} (spelling : Spelling R) (words : List (List ℕ)) (word : List ℕ) → words ≡ word ∷ []
+    → ((choice : Choice) → IsCrash word choice → ⊥) → AsksNothing spelling verbs.Crash words
 no_choice spelling words word cut none asked so =
     none so.1 (subst (λ (w : List ℕ). IsCrash w so.1) (head_is so.0 word [] [] (sym so.2 ∙ cut)) so.3)

@@ -1,4 +1,4 @@
--- The text of answers, and the names of the faults that refuse a step.
+-- The text of answers.
 use Rattle.std.specs.Prelude.{ℕ, true, false, List, [], ◌∷◌, ◌++◌, codes, decimal}
 use Rattle.std.specs.List.{flat_map}
 use Rattle.book_core.specs.declared.seat.Receipt.{Receipt}
@@ -6,18 +6,10 @@ use Rattle.book_core.specs.declared.mark.MarkState.{MarkState}
 use Rattle.book_core.specs.declared.mark.MarkState.TheVariants.{Running, Ended, Broken}
 use Rattle.flush_core.specs.declared.lane.Tick.{Tick}
 use Rattle.flush_core.specs.declared.lane.Tick.TheVariants as ticks
-use Rattle.drive_core.specs.declared.fault.Fault.{Fault}
-use Rattle.drive_core.specs.declared.fault.Fault.TheVariants as faults
+use Rattle.drive_core.specs.Names.{fault_name}
 use Rattle.drive_core.specs.Step.{Answer, Fine, Size, Grown, Listed, Told, Took, Raised, Begun, Ticked, Refused}
 use Rattle.text_core.specs.GroupLine.{growth_text}
-use Rattle.fault_names.specs.Names.{vault_name, grow_name}
-use Rattle.text_core.specs.Refusals.{scan_name}
 use Rattle.text_core.specs.Text.{ended_line}
-
-abbrev pub fault_name : Fault → List ℕ
-fault_name (faults.Vault fault) = vault_name fault
-fault_name (faults.Grow fault) = grow_name fault
-fault_name (faults.Scan fault) = scan_name fault
 
 abbrev pub mark_text : MarkState → List ℕ
 mark_text Running = codes " running"

@@ -4,9 +4,9 @@ ghost use Rattle.std.specs.Prelude.{◌++◌, codes, map, OnOk};
 ghost use Rattle.std.specs.List.{flat_map};
 ghost use Rattle.std.specs.Io.KnownBytes.{Appends};
 ghost use Rattle.drive_core.specs.Asked.{answer_of};
-ghost use Rattle.play_core.specs.Answers.{growth_answer, mark_text, settled_answer, tick_word, fault_name, listed_text, answer_text, answer_lines, crashed_line};
+ghost use Rattle.drive_core.specs.Names.{fault_name};
+ghost use Rattle.play_core.specs.Answers.{growth_answer, mark_text, settled_answer, tick_word, listed_text, answer_text, answer_lines, crashed_line};
 
-use crate::fault_name::write_fault;
 use book_core::{MarkState, Receipt};
 use drive_core::{Answer, Fault};
 use flush_core::Tick;
@@ -76,8 +76,7 @@ fn write_list<R: TextRecord, W: Write>(writer: &mut W, records: &[R]) -> io::Res
 fn write_refused<W: Write>(writer: &mut W, fault: Fault) -> io::Result<()>
     ensures { OnOk result (Appends (W.contents writer.old) (W.contents writer.new) (codes "refused " ++ fault_name fault)) }
 {
-    writer.write_all(b"refused ")?;
-    write_fault(writer, fault)
+    write!(writer, "refused {fault}")
 }
 
 /// Writes the text of an answer.

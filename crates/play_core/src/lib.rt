@@ -3,7 +3,6 @@
 
 mod answer_line;
 mod asked;
-mod fault_name;
 mod line_runs;
 mod line_words;
 mod playing;

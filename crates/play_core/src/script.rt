@@ -11,7 +11,7 @@ use disk_core::Choice;
 use drive_core::Step;
 use std::alloc::{AllocError, Global};
 use std::mem;
-use text_core::{LineFault, Refusal, TextRecord, cut};
+use text_core::{LineFault, Refusal, TextRecord, next_line};
 
 /// The steps between two crashes, and the image that the second one leaves.
 #[derive(Drop)]
@@ -64,16 +64,15 @@ fn read_into<R: TextRecord>(
 {
     let mut lines = 0u64;
     let mut rest = input;
-    while !rest.is_empty() {
-        let (line, after) = cut(rest, b'\n');
+    'lines: while let Some((line, after)) = next_line(rest) {
         lines += 1;
         let asked = match read_step_line(alloc, line) {
             Ok(asked) => asked,
             Err(LineFault::Bad) => return Err(Refusal::Line(lines)),
             Err(LineFault::Memory) => return Err(Refusal::Memory),
         };
-        script.push(alloc, asked).map_err(|_| Refusal::Memory)?;
-        rest = after.unwrap_or(&[]);
+        script.push(alloc, asked)?;
+        rest = after;
     }
     Ok(())
 }

@@ -11,7 +11,8 @@ use Rattle.segment_core.specs.Written.{group_frame, payload_len, AllFit}
 use Rattle.segment_core.proofs.Written.{AllFit_push, text_more}
 use Rattle.text_core.specs.Drafts.{IsDraft}
 
-pub IsDraft_push : {R : Type 0} (form : Encoding R) (groups : List (List (List R))) (group : List (List R)) (file new : List ℕ) (too_large : Option ℕ) → is_some too_large ≡ false → new ≡ file ++ frame_text One (group_frame form group) → payload_len form.width group ≤ payload_limit
+pub IsDraft_push : {R : Type 0} (form : Encoding R) (groups : List (List (List R))) (group : List (List R)) (file new : List ℕ) (too_large : Option ℕ)
+    → is_some too_large ≡ false → new ≡ file ++ frame_text One (group_frame form group) → payload_len form.width group ≤ payload_limit
     → IsDraft form groups file too_large → IsDraft form (groups ++ group ∷ []) new too_large
 IsDraft_push form groups group file new None none is fits draft =
     (AllFit_push form.width groups group draft.0 fits, is ∙ ap (λ (bs : List ℕ). bs ++ frame_text One (group_frame form group)) draft.1 ∙ sym (text_more One form groups group))
@@ -21,7 +22,9 @@ last_is : {X : Type 0} (xs : List X) (x : X) → slice_get (xs ++ x ∷ []) (len
 last_is [] x = refl
 last_is (y ∷ xs) x = last_is xs x
 
-pub IsDraft_refused : {R : Type 0} (form : Encoding R) (groups : List (List (List R))) (group : List (List R)) (file new : List ℕ) (line : ℕ) (too_large : Option ℕ) → is_some too_large ≡ false → line ≡ length groups + 1 → payload_limit < payload_len form.width group
+pub IsDraft_refused : {R : Type 0} (form : Encoding R) (groups : List (List (List R))) (group : List (List R)) (file new : List ℕ) (line : ℕ)
+    (too_large : Option ℕ)
+    → is_some too_large ≡ false → line ≡ length groups + 1 → payload_limit < payload_len form.width group
     → IsDraft form groups file too_large → IsDraft form (groups ++ group ∷ []) new (Some line)
 IsDraft_refused {R} form groups group file new line None none is past draft =
     (length groups, (subst (λ (gs : List (List (List R))). AllFit form.width gs) (sym (take_at groups (group ∷ []) (length groups) refl)) draft.0, group, last_is groups group, past), is)

@@ -19,7 +19,8 @@ words_first : {R : Type 0} (text_of : R → List ℕ) (r : R) (growth : List R) 
 words_first text_of r growth [] = refl
 words_first text_of r growth (next ∷ more) = refl
 
-words_behind : {R : Type 0} (text_of : R → List ℕ) (growth : List R) (front : List (List R)) (last : List R) → words_of text_of (growth ∷ (front ++ last ∷ [])) ≡ map text_of growth ++ codes "|" ∷ words_of text_of (front ++ last ∷ [])
+words_behind : {R : Type 0} (text_of : R → List ℕ) (growth : List R) (front : List (List R)) (last : List R)
+    → words_of text_of (growth ∷ (front ++ last ∷ [])) ≡ map text_of growth ++ codes "|" ∷ words_of text_of (front ++ last ∷ [])
 words_behind text_of growth [] last = refl
 words_behind text_of growth (next ∷ more) last = refl
 
@@ -27,7 +28,8 @@ map_push : {R : Type 0} (text_of : R → List ℕ) (growth : List R) (r : R) →
 map_push text_of [] r = refl
 map_push text_of (s ∷ growth) r = ap (λ (ws : List (List ℕ)). text_of s ∷ ws) (map_push text_of growth r)
 
-words_push : {R : Type 0} (text_of : R → List ℕ) (front : List (List R)) (growth : List R) (r : R) → words_of text_of (front ++ (growth ++ r ∷ []) ∷ []) ≡ words_of text_of (front ++ growth ∷ []) ++ text_of r ∷ []
+words_push : {R : Type 0} (text_of : R → List ℕ) (front : List (List R)) (growth : List R) (r : R)
+    → words_of text_of (front ++ (growth ++ r ∷ []) ∷ []) ≡ words_of text_of (front ++ growth ∷ []) ++ text_of r ∷ []
 words_push text_of [] growth r = map_push text_of growth r
 words_push text_of (first ∷ front) growth r =
     words_behind text_of first front (growth ++ r ∷ [])
@@ -35,7 +37,8 @@ words_push text_of (first ∷ front) growth r =
     ∙ sym (append_assoc (map text_of first) (codes "|" ∷ words_of text_of (front ++ growth ∷ [])) (text_of r ∷ []))
     ∙ ap (λ (ws : List (List ℕ)). ws ++ text_of r ∷ []) (sym (words_behind text_of first front growth))
 
-words_bar : {R : Type 0} (text_of : R → List ℕ) (front : List (List R)) (growth : List R) → words_of text_of ((front ++ growth ∷ []) ++ [] ∷ []) ≡ words_of text_of (front ++ growth ∷ []) ++ codes "|" ∷ []
+words_bar : {R : Type 0} (text_of : R → List ℕ) (front : List (List R)) (growth : List R)
+    → words_of text_of ((front ++ growth ∷ []) ++ [] ∷ []) ≡ words_of text_of (front ++ growth ∷ []) ++ codes "|" ∷ []
 words_bar text_of [] growth = refl
 words_bar text_of (first ∷ front) growth =
     words_behind text_of first (front ++ growth ∷ []) []
@@ -68,13 +71,17 @@ plain_growth : {R : Type 0} (spelling : Spelling R) (growth : List R) → AreWor
 plain_growth spelling [] law values = tt
 plain_growth spelling (r ∷ growth) law values = (no_space_in_word (spelling.text_of r) (law r values.0), plain_growth spelling growth law values.1)
 
-plain_words : {R : Type 0} (spelling : Spelling R) (growths : List (List R)) → AreWords spelling → AllByRecursion (AllByRecursion spelling.is_value) growths → AllByRecursion HasNoSpace (words_of spelling.text_of growths)
+plain_words : {R : Type 0} (spelling : Spelling R) (growths : List (List R)) → AreWords spelling
+    → AllByRecursion (AllByRecursion spelling.is_value) growths → AllByRecursion HasNoSpace (words_of spelling.text_of growths)
 plain_words spelling [] law values = tt
 plain_words spelling (growth ∷ []) law values = plain_growth spelling growth law values.0
-plain_words spelling (growth ∷ next ∷ more) law values = plain_append (map spelling.text_of growth) (codes "|" ∷ words_of spelling.text_of (next ∷ more)) (plain_growth spelling growth law values.0) (no_space_in_bar, plain_words spelling (next ∷ more) law values.1)
+plain_words spelling (growth ∷ next ∷ more) law values =
+    plain_append (map spelling.text_of growth) (codes "|" ∷ words_of spelling.text_of (next ∷ more)) (plain_growth spelling growth law values.0)
+    (no_space_in_bar, plain_words spelling (next ∷ more) law values.1)
 
 -- the words of a group line are those of its growths
-parts_of_group : {R : Type 0} (spelling : Spelling R) (growths : List (List R)) → AreWords spelling → IsGroup spelling.is_value growths → parts_of (group_line spelling.text_of growths) ≡ words_of spelling.text_of growths
+parts_of_group : {R : Type 0} (spelling : Spelling R) (growths : List (List R)) → AreWords spelling → IsGroup spelling.is_value growths
+    → parts_of (group_line spelling.text_of growths) ≡ words_of spelling.text_of growths
 parts_of_group spelling [] law group = absurd (omega (arith, group.some))
 parts_of_group spelling ([] ∷ others) law group = absurd (omega (arith, group.filled.0))
 parts_of_group spelling ((r ∷ growth) ∷ others) law group =
@@ -136,7 +143,8 @@ tail_is v w vs ws is = cc
 -- ---- a bar
 
 ahead_bar : {R : Type 0} (spelling : Spelling R) (growths : List (List R)) (growth : List R) (word : List ℕ) (words : List (List ℕ)) (all : List (List R)) (more : List R) (others : List (List R))
-    → AreWords spelling → word ≡ codes "|" → all ≡ growths ++ (growth ++ more) ∷ others → Filled others → AllByRecursion spelling.is_value more → AllByRecursion (AllByRecursion spelling.is_value) others → words_of spelling.text_of (more ∷ others) ≡ word ∷ words
+    → AreWords spelling → word ≡ codes "|" → all ≡ growths ++ (growth ++ more) ∷ others → Filled others → AllByRecursion spelling.is_value more
+    → AllByRecursion (AllByRecursion spelling.is_value) others → words_of spelling.text_of (more ∷ others) ≡ word ∷ words
     → Ahead spelling (growths ++ growth ∷ []) [] words all
 ahead_bar spelling growths growth word words all [] [] law bar parts filled values other_values are = cc are
 ahead_bar spelling growths growth word words all [] (next ∷ others) law bar parts filled values other_values are = record {
@@ -150,22 +158,30 @@ ahead_bar spelling growths growth word words all [] (next ∷ others) law bar pa
   words_are = tail_is (codes "|") word (words_of spelling.text_of (next ∷ others)) words are;
 }
 ahead_bar spelling growths growth word words all (r ∷ more) others law bar parts filled values other_values are =
-    absurd (not_bar (spelling.text_of r) (law r values.0) (head_is (spelling.text_of r) word (words_of spelling.text_of (more ∷ others)) words (sym (words_first spelling.text_of r more others) ∙ are) ∙ bar))
+    absurd
+    (not_bar (spelling.text_of r) (law r values.0) (head_is (spelling.text_of r) word (words_of spelling.text_of (more ∷ others)) words (sym (words_first spelling.text_of r more others) ∙ are) ∙ bar))
 
-Reads_bar : {R : Type 0} (spelling : Spelling R) (line : List ℕ) (growths : List (List R)) (growth : List R) (word : List ℕ) (words : List (List ℕ)) → AreWords spelling → word ≡ codes "|" → 0 < length growth
+Reads_bar : {R : Type 0} (spelling : Spelling R) (line : List ℕ) (growths : List (List R)) (growth : List R) (word : List ℕ) (words : List (List ℕ))
+    → AreWords spelling → word ≡ codes "|" → 0 < length growth
     → Reads spelling line growths growth (word ∷ words) → Reads spelling line (growths ++ growth ∷ []) [] words
 Reads_bar spelling line growths growth word words law bar some reads = record {
   filled = push_all (λ g. 0 < length g) growths growth reads.filled some;
   values = push_all (AllByRecursion spelling.is_value) growths growth reads.values reads.own;
   own = tt;
-  so_far = reads.so_far ∙ ap (λ (w : List ℕ). words_of spelling.text_of (growths ++ growth ∷ []) ++ w ∷ words) bar ∙ sym (append_assoc (words_of spelling.text_of (growths ++ growth ∷ [])) (codes "|" ∷ []) words) ∙ ap (λ (ws : List (List ℕ)). ws ++ words) (sym (words_bar spelling.text_of growths growth));
+  so_far =
+      reads.so_far ∙ ap (λ (w : List ℕ). words_of spelling.text_of (growths ++ growth ∷ []) ++ w ∷ words) bar
+      ∙ sym (append_assoc (words_of spelling.text_of (growths ++ growth ∷ [])) (codes "|" ∷ []) words)
+      ∙ ap (λ (ws : List (List ℕ)). ws ++ words) (sym (words_bar spelling.text_of growths growth));
   only = λ all so. let a = reads.only all so in ahead_bar spelling growths growth word words all a.more a.others law bar a.parts a.filled a.values a.other_values a.words_are;
 }
 
 -- ---- a record
 
-ahead_record : {R : Type 0} (spelling : Spelling R) (growths : List (List R)) (growth : List R) (word : List ℕ) (words : List (List ℕ)) (r : R) (all : List (List R)) (more : List R) (others : List (List R))
-    → AreWords spelling → HasOneValue spelling → spelling.is_value r → spelling.text_of r ≡ word → all ≡ growths ++ (growth ++ more) ∷ others → Filled others → AllByRecursion spelling.is_value more → AllByRecursion (AllByRecursion spelling.is_value) others → words_of spelling.text_of (more ∷ others) ≡ word ∷ words
+ahead_record : {R : Type 0} (spelling : Spelling R) (growths : List (List R)) (growth : List R) (word : List ℕ) (words : List (List ℕ)) (r : R)
+    (all : List (List R)) (more : List R) (others : List (List R))
+    → AreWords spelling → HasOneValue spelling → spelling.is_value r → spelling.text_of r ≡ word → all ≡ growths ++ (growth ++ more) ∷ others
+    → Filled others → AllByRecursion spelling.is_value more → AllByRecursion (AllByRecursion spelling.is_value) others
+    → words_of spelling.text_of (more ∷ others) ≡ word ∷ words
     → Ahead spelling growths (growth ++ r ∷ []) words all
 ahead_record spelling growths growth word words r all [] [] law one value text parts filled values other_values are = cc are
 ahead_record spelling growths growth word words r all [] (next ∷ others) law one value text parts filled values other_values are =
@@ -185,17 +201,24 @@ ahead_record spelling growths growth word words r all (s ∷ more) others law on
       words_are = tail_is (spelling.text_of s) word (words_of spelling.text_of (more ∷ others)) words both;
     }
 
-Reads_record : {R : Type 0} (spelling : Spelling R) (line : List ℕ) (growths : List (List R)) (growth : List R) (word : List ℕ) (words : List (List ℕ)) (r : R) → AreWords spelling → HasOneValue spelling → spelling.is_value r → spelling.text_of r ≡ word
+Reads_record : {R : Type 0} (spelling : Spelling R) (line : List ℕ) (growths : List (List R)) (growth : List R) (word : List ℕ)
+    (words : List (List ℕ)) (r : R)
+    → AreWords spelling → HasOneValue spelling → spelling.is_value r → spelling.text_of r ≡ word
     → Reads spelling line growths growth (word ∷ words) → Reads spelling line growths (growth ++ r ∷ []) words
 Reads_record spelling line growths growth word words r law one value text reads = record {
   filled = reads.filled;
   values = reads.values;
   own = push_all spelling.is_value growth r reads.own value;
-  so_far = reads.so_far ∙ ap (λ (w : List ℕ). words_of spelling.text_of (growths ++ growth ∷ []) ++ w ∷ words) (sym text) ∙ sym (append_assoc (words_of spelling.text_of (growths ++ growth ∷ [])) (spelling.text_of r ∷ []) words) ∙ ap (λ (ws : List (List ℕ)). ws ++ words) (sym (words_push spelling.text_of growths growth r));
+  so_far =
+      reads.so_far ∙ ap (λ (w : List ℕ). words_of spelling.text_of (growths ++ growth ∷ []) ++ w ∷ words) (sym text)
+      ∙ sym (append_assoc (words_of spelling.text_of (growths ++ growth ∷ [])) (spelling.text_of r ∷ []) words)
+      ∙ ap (λ (ws : List (List ℕ)). ws ++ words) (sym (words_push spelling.text_of growths growth r));
   only = λ all so. let a = reads.only all so in ahead_record spelling growths growth word words r all a.more a.others law one value text a.parts a.filled a.values a.other_values a.words_are;
 }
 
-pub Reads_word : {R : Type 0} (spelling : Spelling R) (line : List ℕ) (growths : List (List R)) (growth : List R) (word : List ℕ) (words : List (List ℕ)) (new_growths : List (List R)) (new_growth : List R) → AreWords spelling → HasOneValue spelling
+pub Reads_word : {R : Type 0} (spelling : Spelling R) (line : List ℕ) (growths : List (List R)) (growth : List R) (word : List ℕ)
+    (words : List (List ℕ)) (new_growths : List (List R)) (new_growth : List R)
+    → AreWords spelling → HasOneValue spelling
     → TakesWord spelling word growths growth new_growths new_growth → Reads spelling line growths growth (word ∷ words) → Reads spelling line new_growths new_growth words
 Reads_word spelling line growths growth word words new_growths new_growth law one (inl ends) reads =
     rw (ends.moved, ends.fresh) (Reads_bar spelling line growths growth word words law ends.is_bar ends.filled reads)
@@ -204,7 +227,9 @@ Reads_word spelling line growths growth word words new_growths new_growth law on
 
 -- ---- no group line
 
-ahead_stray : {R : Type 0} (spelling : Spelling R) (growth : List R) (word : List ℕ) (words : List (List ℕ)) (more : List R) (others : List (List R)) → AreWords spelling → IsStrayWord spelling word growth → 0 < length (growth ++ more) → AllByRecursion spelling.is_value more → words_of spelling.text_of (more ∷ others) ≡ word ∷ words → ⊥
+ahead_stray : {R : Type 0} (spelling : Spelling R) (growth : List R) (word : List ℕ) (words : List (List ℕ)) (more : List R) (others : List (List R))
+    → AreWords spelling → IsStrayWord spelling word growth → 0 < length (growth ++ more) → AllByRecursion spelling.is_value more
+    → words_of spelling.text_of (more ∷ others) ≡ word ∷ words → ⊥
 ahead_stray spelling growth word words [] others law (inl bar) some values are =
     let none : length (growth ++ []) ≡ 0 = ap (λ g. length (g ++ [])) bar.1 in omega (arith, none, some)
 ahead_stray spelling growth word words [] [] law (inr none) some values are = cc are
@@ -214,20 +239,25 @@ ahead_stray spelling growth word words (r ∷ more) others law (inl bar) some va
 ahead_stray spelling growth word words (r ∷ more) others law (inr none) some values are =
     none.1 r values.0 (head_is (spelling.text_of r) word (words_of spelling.text_of (more ∷ others)) words (sym (words_first spelling.text_of r more others) ∙ are))
 
-pub stray_is_bad : {R : Type 0} (spelling : Spelling R) (line : List ℕ) (growths : List (List R)) (growth : List R) (word : List ℕ) (words : List (List ℕ)) → AreWords spelling → IsStrayWord spelling word growth
+pub stray_is_bad : {R : Type 0} (spelling : Spelling R) (line : List ℕ) (growths : List (List R)) (growth : List R) (word : List ℕ)
+    (words : List (List ℕ))
+    → AreWords spelling → IsStrayWord spelling word growth
     → Reads spelling line growths growth (word ∷ words) → IsGroupLine spelling line → ⊥
 stray_is_bad spelling line growths growth word words law stray reads so =
     let a = reads.only so.0 so.1 in ahead_stray spelling growth word words a.more a.others law stray a.some a.values a.words_are
 
-ahead_ended : {R : Type 0} (text_of : R → List ℕ) (growth : List R) (more : List R) (others : List (List R)) → length growth ≡ 0 → 0 < length (growth ++ more) → words_of text_of (more ∷ others) ≡ [] → ⊥
+ahead_ended : {R : Type 0} (text_of : R → List ℕ) (growth : List R) (more : List R) (others : List (List R)) → length growth ≡ 0
+    → 0 < length (growth ++ more) → words_of text_of (more ∷ others) ≡ [] → ⊥
 ahead_ended text_of growth [] others none some are = let len = ap length (append-nil growth) in omega (arith, len, none, some)
 ahead_ended text_of growth (r ∷ more) others none some are = let bad : text_of r ∷ words_of text_of (more ∷ others) ≡ [] = sym (words_first text_of r more others) ∙ are in cc bad
 
-pub unfinished_is_bad : {R : Type 0} (spelling : Spelling R) (line : List ℕ) (growths : List (List R)) (growth : List R) → length growth ≡ 0 → Reads spelling line growths growth [] → IsGroupLine spelling line → ⊥
+pub unfinished_is_bad : {R : Type 0} (spelling : Spelling R) (line : List ℕ) (growths : List (List R)) (growth : List R) → length growth ≡ 0
+    → Reads spelling line growths growth [] → IsGroupLine spelling line → ⊥
 unfinished_is_bad spelling line growths growth none reads so =
     let a = reads.only so.0 so.1 in ahead_ended spelling.text_of growth a.more a.others none a.some a.words_are
 
-pub read_whole : {R : Type 0} (spelling : Spelling R) (line : List ℕ) (growths : List (List R)) (growth : List R) → 0 < length growth → Reads spelling line growths growth [] → IsGroupLineOf spelling line (growths ++ growth ∷ [])
+pub read_whole : {R : Type 0} (spelling : Spelling R) (line : List ℕ) (growths : List (List R)) (growth : List R) → 0 < length growth
+    → Reads spelling line growths growth [] → IsGroupLineOf spelling line (growths ++ growth ∷ [])
 read_whole spelling line growths growth some reads =
     let filled = push_all (λ g. 0 < length g) growths growth reads.filled some in
     record {
@@ -236,5 +266,7 @@ read_whole spelling line growths growth some reads =
         filled = filled;
         values = push_all (AllByRecursion spelling.is_value) growths growth reads.values reads.own;
       };
-      text = sym (joined_parts line) ∙ ap (joined_by (codes " ")) (reads.so_far ∙ append-nil (words_of spelling.text_of (growths ++ growth ∷ []))) ∙ joined_growths spelling.text_of (growths ++ growth ∷ []) filled;
+      text =
+          sym (joined_parts line) ∙ ap (joined_by (codes " ")) (reads.so_far ∙ append-nil (words_of spelling.text_of (growths ++ growth ∷ [])))
+          ∙ joined_growths spelling.text_of (growths ++ growth ∷ []) filled;
     }

@@ -50,9 +50,18 @@ abbrev pub words_in : Option (List ℕ) → List (List ℕ)
 words_in None = []
 words_in (Some line) = parts_of line
 
-pub words_cut : (line word : List ℕ) (rest : Option (Bor (List ℕ))) → MatchOption rest (line ≡ word) (λ after. line ≡ word ++ 32 ∷ after.now) → All (λ b. b ≢ 32) word → words_in (Some line) ≡ word ∷ words_in (option_copied rest)
+pub words_cut : (line word : List ℕ) (rest : Option (Bor (List ℕ))) → MatchOption rest (line ≡ word) (λ after. line ≡ word ++ 32 ∷ after.now)
+    → All (λ b. b ≢ 32) word → words_in (Some line) ≡ word ∷ words_in (option_copied rest)
 words_cut line word None whole first = ap parts_of whole ∙ slice_split_none (λ b. b == 32) word (All-weaker (λ b. b ≢ 32) (λ b. (b == 32) ≡ false) (λ b. differs b 32) word first)
-words_cut line word (Some after) whole first = ap parts_of whole ∙ slice_split_at (λ b. b == 32) word 32 after.now (All-weaker (λ b. b ≢ 32) (λ b. (b == 32) ≡ false) (λ b. differs b 32) word first) refl
+words_cut line word (Some after) whole first =
+    ap parts_of whole
+    ∙ slice_split_at (λ b. b == 32) word 32 after.now (All-weaker (λ b. b ≢ 32) (λ b. (b == 32) ≡ false) (λ b. differs b 32) word first) refl
+
+-- the same of what is left of a line
+pub words_next : (left : Option (Bor (List ℕ))) (line : Bor (List ℕ)) (word : List ℕ) (rest : Option (Bor (List ℕ))) → left ≡ Some line
+    → MatchOption rest (line.now ≡ word) (λ after. line.now ≡ word ++ 32 ∷ after.now) → All (λ b. b ≢ 32) word
+    → words_in (option_copied left) ≡ word ∷ words_in (option_copied rest)
+words_next left line word rest is whole first = ap (λ o. words_in (option_copied o)) is ∙ words_cut line.now word rest whole first
 
 -- a bar is no word
 pub not_bar : (word : List ℕ) → IsWord word → word ≡ codes "|" → ⊥

@@ -7,7 +7,8 @@ use Rattle.text_core.specs.Keyed.{keyed_text, HasNoColon-key}
 pub no_colon : (text : List ℕ) → HasNoColon text → (key : ℕ) (behind : List ℕ) → keyed_text key behind ≢ text
 no_colon text plain key behind is = some_colon (decimal key) behind (subst HasNoColon (sym is) plain)
 
-pub no_key : (text first second : List ℕ) → text ≡ halves_text first second → HasNoColon first → ((n : ℕ) → n < 2 ^ 64 → decimal n ≢ first) → (key : ℕ) (behind : List ℕ) → key < 2 ^ 64 → keyed_text key behind ≢ text
+pub no_key : (text first second : List ℕ) → text ≡ halves_text first second → HasNoColon first → ((n : ℕ) → n < 2 ^ 64 → decimal n ≢ first)
+    → (key : ℕ) (behind : List ℕ) → key < 2 ^ 64 → keyed_text key behind ≢ text
 no_key text first second cut plain none key behind small is = none key small (first_half (decimal key) behind first second (HasNoColon-key key small) plain (is ∙ cut))
 
 pub not_behind : (text first second : List ℕ) → text ≡ halves_text first second → HasNoColon first → (key : ℕ) (behind : List ℕ) → key < 2 ^ 64 → behind ≢ second → keyed_text key behind ≢ text

@@ -6,7 +6,7 @@ use Rattle.std.specs.List.{AllByRecursion}
 use Rattle.std.proofs.lemmas.List.{append_assoc, length-append}
 use Rattle.std.proofs.lemmas.List.Elements.{All-nil, All-cons}
 use Rattle.std.proofs.lemmas.Bool.{cases_eq}
-use Rattle.text_core.specs.Lines.{ended, HasNoLf, LacksLastLf, AreLines, IsFirstBadLine}
+use Rattle.text_core.specs.Lines.{ended, HasNoLf, IsFirstLine, LacksLastLf, AreLines, IsFirstBadLine}
 
 -- a line and its LF in front
 lines_cons : (line rest : List ℕ) (lines : List (List ℕ)) → HasNoLf line → AreLines rest lines → AreLines (line ++ 10 ∷ rest) (line ∷ lines)
@@ -42,7 +42,11 @@ none_of_nothing : (lines : List (List ℕ)) → AreLines [] lines → lines ≡ 
 none_of_nothing [] so = refl
 none_of_nothing (line ∷ lines) so = elim so.text [
   | inl all ↦ (let some = long_line line lines in let none : 0 ≡ length (ended (line ∷ lines)) = ap length all in absurd (omega (arith, some, none)))
-  | inr lacks ↦ (let some = lacks.some in let none : 0 ≡ length (ended lacks.front ++ lacks.last) = ap length lacks.text in let len = length-append (ended lacks.front) lacks.last in absurd (omega (arith, some, none, len)))
+  | inr lacks ↦ (
+      let some = lacks.some in
+      let none : 0 ≡ length (ended lacks.front ++ lacks.last) = ap length lacks.text in
+      let len = length-append (ended lacks.front) lacks.last in
+      absurd (omega (arith, some, none, len)))
 ]
 
 -- the lines of what follows complete those of the input
@@ -52,19 +56,20 @@ Continues input front rest = (more : List (List ℕ)) → AreLines rest more →
 pub Continues_start : (input : List ℕ) → Continues input [] input
 Continues_start input more so = so
 
--- what a cut leaves
-abbrev pub after_cut : Option (List ℕ) → List ℕ
-after_cut rest = unwrap_or rest []
+lines_of_first : (text line rest : List ℕ) (more : List (List ℕ)) → IsFirstLine text line rest → AreLines rest more → AreLines text (line ∷ more)
+lines_of_first text line rest more first so = elim first.whole [
+  | inl ended ↦ rw ended (lines_cons line rest more first.plain so)
+  | inr last ↦ (
+      let none = none_of_nothing more (subst (λ (t : List ℕ). AreLines t more) last.1 so) in
+      let len = ap length last.0 in
+      let some = first.shorter in
+      rw (last.0, none) (line_alone line first.plain (omega (arith, len, some))))
+]
 
-lines_of_cut : (text line : List ℕ) (rest : Option (List ℕ)) (more : List (List ℕ)) → 0 < length text → MatchOption rest (text ≡ line) (λ after. text ≡ line ++ 10 ∷ after) → HasNoLf line → AreLines (after_cut rest) more → AreLines text (line ∷ more)
-lines_of_cut text line None more some whole plain so =
-    let none = none_of_nothing more so in
-    rw (whole, none) (line_alone line plain (subst (λ (t : List ℕ). 0 < length t) whole some))
-lines_of_cut text line (Some after) more some whole plain so = rw whole (lines_cons line after more plain so)
-
-pub Continues_cut : (input : List ℕ) (front : List (List ℕ)) (text line : List ℕ) (rest : Option (List ℕ)) → 0 < length text → MatchOption rest (text ≡ line) (λ after. text ≡ line ++ 10 ∷ after) → HasNoLf line → Continues input front text → Continues input (front ++ line ∷ []) (after_cut rest)
-Continues_cut input front text line rest some whole plain before more so =
-    rw (append_assoc front (line ∷ []) more) (before (line ∷ more) (lines_of_cut text line rest more some whole plain so))
+pub Continues_next : (input : List ℕ) (front : List (List ℕ)) (text line rest : List ℕ)
+    → IsFirstLine text line rest → Continues input front text → Continues input (front ++ line ∷ []) rest
+Continues_next input front text line rest first before more so =
+    rw (append_assoc front (line ∷ []) more) (before (line ∷ more) (lines_of_first text line rest more first so))
 
 -- ---- every text has lines
 
@@ -74,7 +79,8 @@ first_is x y xs ys is = cc
 rest_is : (x y : List ℕ) (xs ys : List (List ℕ)) → x ∷ xs ≡ y ∷ ys → xs ≡ ys
 rest_is x y xs ys is = cc
 
-longer_by_a_byte : (b : ℕ) (rest line : List ℕ) (lines front : List (List ℕ)) (last : List ℕ) → line ∷ lines ≡ front ++ last ∷ [] → 0 < length last → rest ≡ ended front ++ last → LacksLastLf (b ∷ rest) ((b ∷ line) ∷ lines)
+longer_by_a_byte : (b : ℕ) (rest line : List ℕ) (lines front : List (List ℕ)) (last : List ℕ) → line ∷ lines ≡ front ++ last ∷ [] → 0 < length last
+    → rest ≡ ended front ++ last → LacksLastLf (b ∷ rest) ((b ∷ line) ∷ lines)
 longer_by_a_byte b rest line lines [] last parts some text = record {
   front = [];
   last = b ∷ last;
@@ -85,7 +91,9 @@ longer_by_a_byte b rest line lines [] last parts some text = record {
 longer_by_a_byte b rest line lines (first ∷ front) last parts some text = record {
   front = (b ∷ first) ∷ front;
   last = last;
-  parts = ap (λ (l : List ℕ). (b ∷ l) ∷ lines) (first_is line first lines (front ++ last ∷ []) parts) ∙ ap (λ (ls : List (List ℕ)). (b ∷ first) ∷ ls) (rest_is line first lines (front ++ last ∷ []) parts);
+  parts =
+      ap (λ (l : List ℕ). (b ∷ l) ∷ lines) (first_is line first lines (front ++ last ∷ []) parts)
+      ∙ ap (λ (ls : List (List ℕ)). (b ∷ first) ∷ ls) (rest_is line first lines (front ++ last ∷ []) parts);
   some = some;
   text = ap (λ (t : List ℕ). b ∷ t) text;
 }
@@ -119,9 +127,31 @@ lines_in (b ∷ rest) =
       | inr other ↦ starts_with_byte b rest so.0 other so.1
     ]
 
--- ---- the same of what a cut lends
+-- ---- the first bad line
 
-pub lent_whole : (rest : Option (Bor (List ℕ))) (text line : List ℕ) → MatchOption rest (text ≡ line) (λ after. text ≡ line ++ 10 ∷ after.now) → MatchOption (option_copied rest) (text ≡ line) (λ after. text ≡ line ++ 10 ∷ after)
+pub first_bad_line : (IsGood : List ℕ → Type 0) (input : List ℕ) (front : List (List ℕ)) (text line rest : List ℕ) (n : ℕ)
+    → IsFirstLine text line rest → (IsGood line → ⊥) → n ≡ length front + 1 → AllByRecursion IsGood front → Continues input front text
+    → IsFirstBadLine IsGood input n
+first_bad_line IsGood input front text line rest n first bad place good so =
+    let left = lines_in rest in
+    let lines = Continues_next input front text line rest first so left.0 left.1 in
+    record {
+      front = front;
+      line = line;
+      more = left.0;
+      lines = subst (AreLines input) (append_assoc front (line ∷ []) left.0) lines;
+      place = place;
+      before = good;
+      bad = bad;
+    }
+
+-- ---- what a cut leaves
+
+abbrev pub after_cut : Option (List ℕ) → List ℕ
+after_cut rest = unwrap_or rest []
+
+pub lent_whole : (rest : Option (Bor (List ℕ))) (text line : List ℕ) → MatchOption rest (text ≡ line) (λ after. text ≡ line ++ 10 ∷ after.now)
+    → MatchOption (option_copied rest) (text ≡ line) (λ after. text ≡ line ++ 10 ∷ after)
 lent_whole None text line whole = whole
 lent_whole (Some after) text line whole = whole
 
@@ -129,22 +159,19 @@ pub lent_rest : (rest : Option (Bor (List ℕ))) (empty : Bor (List ℕ)) → em
 lent_rest None empty none = none
 lent_rest (Some after) empty none = refl
 
-pub shorter_rest : (rest : Option (List ℕ)) (text line : List ℕ) → 0 < length text → MatchOption rest (text ≡ line) (λ after. text ≡ line ++ 10 ∷ after) → length (after_cut rest) < length text
+pub shorter_rest : (rest : Option (List ℕ)) (text line : List ℕ) → 0 < length text
+    → MatchOption rest (text ≡ line) (λ after. text ≡ line ++ 10 ∷ after) → length (after_cut rest) < length text
 shorter_rest None text line some whole = some
-shorter_rest (Some after) text line some whole = let len = ap length whole in let parts = length-append line (10 ∷ after) in omega (arith, len, parts)
+shorter_rest (Some after) text line some whole =
+    let len = ap length whole in let parts = length-append line (10 ∷ after) in omega (arith, len, parts)
 
--- ---- the first bad line
+pub first_of_cut : (rest : Option (List ℕ)) (text line : List ℕ) → 0 < length text
+    → MatchOption rest (text ≡ line) (λ after. text ≡ line ++ 10 ∷ after) → HasNoLf line → IsFirstLine text line (after_cut rest)
+first_of_cut None text line some whole plain = record { whole = inr (whole, refl); plain = plain; shorter = shorter_rest None text line some whole }
+first_of_cut (Some after) text line some whole plain = record { whole = inl whole; plain = plain; shorter = shorter_rest (Some after) text line some whole }
 
-pub first_bad : (IsGood : List ℕ → Type 0) (input : List ℕ) (front : List (List ℕ)) (text line : List ℕ) (rest : Option (List ℕ)) (n : ℕ) → 0 < length text → MatchOption rest (text ≡ line) (λ after. text ≡ line ++ 10 ∷ after) → HasNoLf line
+pub first_bad : (IsGood : List ℕ → Type 0) (input : List ℕ) (front : List (List ℕ)) (text line : List ℕ) (rest : Option (List ℕ)) (n : ℕ)
+    → 0 < length text → MatchOption rest (text ≡ line) (λ after. text ≡ line ++ 10 ∷ after) → HasNoLf line
     → (IsGood line → ⊥) → n ≡ length front + 1 → AllByRecursion IsGood front → Continues input front text → IsFirstBadLine IsGood input n
-first_bad IsGood input front text line rest n some whole plain bad place good so =
-    let left = lines_in (after_cut rest) in
-    record {
-      front = front;
-      line = line;
-      more = left.0;
-      lines = subst (AreLines input) (append_assoc front (line ∷ []) left.0) (Continues_cut input front text line rest some whole plain so left.0 left.1);
-      place = place;
-      before = good;
-      bad = bad;
-    }
+first_bad IsGood input front text line rest n some whole plain =
+    first_bad_line IsGood input front text line (after_cut rest) n (first_of_cut rest text line some whole plain)

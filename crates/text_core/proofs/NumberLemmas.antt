@@ -52,6 +52,7 @@ no_text bs not_so n small is = not_so (subst IsUtf8 is (IsUtf8-from_ascii (decim
 pub one_text : (text : List ℕ) (m n : ℕ) → m < 2 ^ 64 → n < 2 ^ 64 → decimal m ≡ text → decimal n ≡ text → m ≡ n
 one_text text m n small less is so = decimal_injective m n small less (is ∙ sym so)
 
-pub no_narrow : {E : Type 0} (bits : ℕ) → bits ≤ 64 → (text : List ℕ) (n : ℕ) (r : Result ℕ E) → n < 2 ^ 64 → decimal n ≡ text → OkIff r (n < 2 ^ bits) n → IfNone (result_ok r) ((m : ℕ) → m < 2 ^ bits → decimal m ≢ text)
+pub no_narrow : {E : Type 0} (bits : ℕ) → bits ≤ 64 → (text : List ℕ) (n : ℕ) (r : Result ℕ E) → n < 2 ^ 64 → decimal n ≡ text
+    → OkIff r (n < 2 ^ bits) n → IfNone (result_ok r) ((m : ℕ) → m < 2 ^ bits → decimal m ≢ text)
 no_narrow bits few text n (Ok m) small is so = tt
 no_narrow bits few text n (Err e) small is so = λ m less same. let one = one_text text m n (fits_64 bits few m less) small same is in so (omega (arith, less, one))

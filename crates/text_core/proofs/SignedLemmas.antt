@@ -32,13 +32,15 @@ no_signed_plain text no_minus none (pos n) fits is = none n fits.sfits is
 no_signed_plain text no_minus none (negsuc n) fits is = no_minus (sym (ap (λ (t : List ℕ). slice_index t 0) is))
 
 -- where no number is so far below 0
-pub no_signed_below : (text digits : List ℕ) (n : ℕ) (r : Option ℤ) (v : ℤ) → text ≡ 45 ∷ digits → n < 2 ^ 64 → decimal n ≡ digits → SomeIff r ((0 < n) × (n ≤ 2 ^ 63)) v → IfNone r ((z : ℤ) → FitsSigned w64 z → signed_decimal z ≢ text)
+pub no_signed_below : (text digits : List ℕ) (n : ℕ) (r : Option ℤ) (v : ℤ) → text ≡ 45 ∷ digits → n < 2 ^ 64 → decimal n ≡ digits
+    → SomeIff r ((0 < n) × (n ≤ 2 ^ 63)) v → IfNone r ((z : ℤ) → FitsSigned w64 z → signed_decimal z ≢ text)
 no_signed_below text digits n (Some y) v minus small is so = tt
 no_signed_below text digits n None v minus small is so = λ z fits written.
     no_signed_minus digits (λ m some less same. let one = one_text digits m n (omega (arith, less)) small same is in so (rw (← one) (some, less))) z fits (written ∙ minus)
 
 -- where the number doesn't fit
-pub no_signed_above : {E : Type 0} (text : List ℕ) (n : ℕ) (r : Result ℤ E) → slice_index text 0 ≢ 45 → n < 2 ^ 64 → decimal n ≡ text → OkIff r (FitsSigned w64 (pos n)) (pos n) → IfNone (result_ok r) ((z : ℤ) → FitsSigned w64 z → signed_decimal z ≢ text)
+pub no_signed_above : {E : Type 0} (text : List ℕ) (n : ℕ) (r : Result ℤ E) → slice_index text 0 ≢ 45 → n < 2 ^ 64 → decimal n ≡ text
+    → OkIff r (FitsSigned w64 (pos n)) (pos n) → IfNone (result_ok r) ((z : ℤ) → FitsSigned w64 z → signed_decimal z ≢ text)
 no_signed_above text n (Ok y) no_minus small is so = tt
 no_signed_above text n (Err e) no_minus small is so = λ z fits written.
     no_signed_plain text no_minus (λ m less same. let one = one_text text m n (omega (arith, less)) small same is in so (record { sfits = omega (arith, less, one) })) z fits written

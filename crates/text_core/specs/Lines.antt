@@ -22,6 +22,12 @@ pub record AreLines (input : List ℕ) (lines : List (List ℕ)) : Type 0 where
   pub whole : AllByRecursion HasNoLf lines
   pub text : (input ≡ ended lines) ⊎ LacksLastLf input lines
 
+-- the first line, without its LF, of a text in which something stands, and what stands behind it
+pub record IsFirstLine (text line rest : List ℕ) : Type 0 where
+  pub whole : (text ≡ line ++ 10 ∷ rest) ⊎ ((text ≡ line) × (rest ≡ []))
+  pub plain : HasNoLf line
+  pub shorter : length rest < length text
+
 -- line n, counted from 1, is the first that isn't of the form
 pub record IsFirstBadLine (IsGood : List ℕ → Type 0) (input : List ℕ) (n : ℕ) : Type 0 where
   pub front : List (List ℕ)

@@ -1,40 +1,16 @@
 -- The names of refusals, and when each of them is right.
 use Rattle.std.specs.Prelude.{◌≡◌, ℕ, ◌+◌, ◌<◌, List, ◌++◌, length, codes, decimal}
 use Rattle.record_core.specs.Bytes.{Encoding}
-use Rattle.segment_core.specs.declared.fault.Cause.{Cause}
-use Rattle.segment_core.specs.declared.fault.Cause.TheVariants.{NoGate, ShortFrame, Kind, TooLarge, Layout, Runs, Range, Unfolded, FoldCount, TooLong, BadRecord}
-use Rattle.segment_core.specs.declared.fault.ScanFault.{ScanFault}
-use Rattle.segment_core.specs.declared.fault.ScanFault.TheVariants.{Unborn, NotSegment, Version, Width, Damaged, Memory}
 use Rattle.segment_core.specs.declared.fault.ImageFault.TheVariants as image_faults
 use Rattle.segment_core.specs.Written.{IsImageRefused}
 use Rattle.segment_core.specs.Fault.{IsRefused}
+use Rattle.segment_core.specs.Names.{scan_name}
 use Rattle.text_core.specs.declared.refusal.Refusal.{Refusal}
 use Rattle.text_core.specs.declared.refusal.Refusal.TheVariants as refusals
 use Rattle.text_core.specs.GroupLine.{AreGroupLines, IsGroupLine}
 use Rattle.text_core.specs.HexLine.{IsHexLine}
 use Rattle.text_core.specs.Lines.{IsFirstBadLine}
 use Rattle.text_core.specs.Text.{Spelling, ended_line}
-
-abbrev pub cause_name : Cause → List ℕ
-cause_name NoGate = codes "no gate"
-cause_name ShortFrame = codes "short frame"
-cause_name (Kind k) = codes "kind " ++ decimal k
-cause_name TooLarge = codes "too large"
-cause_name Layout = codes "layout"
-cause_name Runs = codes "runs"
-cause_name Range = codes "range"
-cause_name Unfolded = codes "unfolded"
-cause_name FoldCount = codes "fold count"
-cause_name TooLong = codes "too long"
-cause_name BadRecord = codes "bad record"
-
-abbrev pub scan_name : ScanFault → List ℕ
-scan_name Unborn = codes "unborn"
-scan_name NotSegment = codes "not a segment"
-scan_name (Version version) = codes "version " ++ decimal version
-scan_name (Width width) = codes "width " ++ decimal width
-scan_name (Damaged at cause) = codes "damaged at " ++ (decimal at ++ (codes ": " ++ cause_name cause))
-scan_name Memory = codes "memory"
 
 abbrev pub name_of : Refusal → List ℕ
 name_of (refusals.Scan fault) = scan_name fault
@@ -45,9 +21,12 @@ name_of refusals.Input = codes "input"
 name_of refusals.InputTooLong = codes "input too long"
 name_of refusals.Memory = codes "memory"
 
--- the line that is printed
+-- the line that is printed of what refuses by this name
+abbrev pub refused_line : List ℕ → List ℕ
+refused_line name = codes "refused: " ++ ended_line name
+
 abbrev pub refusal_line : Refusal → List ℕ
-refusal_line refusal = codes "refused: " ++ ended_line (name_of refusal)
+refusal_line refusal = refused_line (name_of refusal)
 
 -- the bytes that an engine takes at most
 abbrev pub input_limit : ℕ

@@ -1,9 +1,10 @@
 //! One group line: growths with a bar between each two, a growth's records with a space between each two.
 
-ghost use Rattle.std.specs.Prelude.{◌≡◌, ◌≢◌, ◌∷◌, ◌++◌, All, MatchOption, OnOk};
+ghost use Rattle.std.specs.Prelude.{◌≡◌, OnOk};
 ghost use Rattle.text_core.specs.GroupLine.{IsGroupLine, IsGroupLineOf};
 ghost use Rattle.text_core.specs.Words.{TakesWord, IsStrayWord};
 
+use crate::line::cut;
 use crate::text::TextRecord;
 use segment_core::Growths;
 use std::alloc::{AllocError, AllocFailed};
@@ -39,17 +40,6 @@ impl<T: Drop> From<AllocFailed<T>> for LineFault {
     }
 }
 
-/// What stands before the first separator, and behind it, if it is there.
-pub fn cut(text: &[u8], separator: u8) -> (&[u8], Option<&[u8]>)
-    ensures whole { MatchOption result.1 (text.now ≡ result.0.now) (λ rest. text.now ≡ result.0.now ++ separator ∷ rest.now) }
-    ensures first { All (λ b. b ≢ separator) result.0.now }
-{
-    match text.iter().position(|b| *b == separator) {
-        Some(at) => (&text[..at], Some(&text[at + 1..])),
-        None => (text, None),
-    }
-}
-
 /// Takes in one word of a group line: a bar ends the growth, and any other word is a record of it.
 fn take_word<R: TextRecord>(word: &[u8], group: &mut Growths<R>) -> Result<(), LineFault>
     ensures ok { OnOk result (TakesWord R.spelling word.now group.old.0 group.old.1 group.new.0 group.new.1) }
@@ -57,12 +47,14 @@ fn take_word<R: TextRecord>(word: &[u8], group: &mut Growths<R>) -> Result<(), L
 {
     if word != BAR {
         let record = R::parse(word).ok_or(LineFault::Bad)?;
-        return group.push(record).map_err(|_| LineFault::Memory);
+        group.push(record)?;
+        return Ok(());
     }
     if !group.is_begun() {
         return Err(LineFault::Bad);
     }
-    group.end().map_err(|_| LineFault::Memory)
+    group.end()?;
+    Ok(())
 }
 
 /// Reads the growths that a group line spells, in place of those that stood there.
@@ -80,5 +72,6 @@ pub fn read_group<R: TextRecord>(line: &[u8], group: &mut Growths<R>) -> Result<
     if !group.is_begun() {
         return Err(LineFault::Bad);
     }
-    group.end().map_err(|_| LineFault::Memory)
+    group.end()?;
+    Ok(())
 }

@@ -3,7 +3,7 @@
 ghost use Rattle.std.specs.Prelude.{◌≡◌, IfSome, IfNone};
 ghost use Rattle.text_core.specs.Halves.{halves_text, HasNoColon};
 
-use crate::group_line::cut;
+use crate::line::cut;
 
 /// What stands before the first colon of the text, and behind it.
 pub fn halves_of(text: &[u8]) -> Option<(&[u8], &[u8])>

@@ -34,9 +34,7 @@ pub fn read_input<I: Read>(alloc: Global, reader: &mut I) -> Result<Vec<u8>, Ref
         if n > INPUT_LIMIT - input.len() {
             return Err(Refusal::InputTooLong);
         }
-        input
-            .extend_from_slice(&piece[..n])
-            .map_err(|_| Refusal::Memory)?;
+        input.extend_from_slice(&piece[..n])?;
     }
     Err(Refusal::InputTooLong)
 }

@@ -1,5 +1,5 @@
-use Rattle.std.proofs.Common.{◌≡◌, codes, sym, ap, ◌∙◌, inl, rules}
-use Rattle.text_core.proofs.Small.{OnOk_from, OnOk_at, nil_from_test, some_from_test}
+use Rattle.std.proofs.Common.{◌≡◌, codes, ap, inl, rules}
+use Rattle.text_core.proofs.Small.{nil_from_test, some_from_test}
 use Rattle.text_core.proofs.group_line.take_word.Goals as goal
 
 pub returns-then-not-is_begun-clause-bad : goal.returns-then-not-is_begun-clause-bad
@@ -8,12 +8,12 @@ returns-then-not-is_begun-clause-bad g c = λ bad.
     inl (bar, nil_from_test c.args.group.now.1 c.is_begun.result c.if-not-is_begun.true c.is_begun.ensures.1)
 
 pub returns-clause-ok : goal.returns-clause-ok
-returns-clause-ok g c = OnOk_from c.map_err-2.result _ (λ ok.
-    let ended = OnOk_at c.end.result _ c.end.ensures.ok (sym c.map_err-2.ensures.variant ∙ ok) in
+returns-clause-ok g c =
+    let ended = c.in_ok-end.ensures.ok in
     let bar : c.args.word.now ≡ codes "|" = search rules in
     inl (record {
       is_bar = bar;
       filled = some_from_test c.args.group.now.1 c.is_begun.result c.if-not-is_begun.false c.is_begun.ensures.0;
       moved = ap (λ v. v.0) ended;
       fresh = ap (λ v. v.1) ended;
-    }))
+    })

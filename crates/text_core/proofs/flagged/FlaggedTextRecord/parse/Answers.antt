@@ -8,8 +8,10 @@ returns-in_err-key_text-clause-refused c = IfNone_from c.from_residual.result _ 
 
 pub returns-in_err-key-clause-refused : goal.returns-in_err-key-clause-refused
 returns-in_err-key-clause-refused c = IfNone_from c.from_residual-in_err-key.result _ (λ r small.
-    no_key c.args.text.now c.in_ok-key_text.key_text.now c.in_ok-key_text.flag_text.now c.in_ok-key_text.ensures.found.0 c.in_ok-key_text.ensures.found.1 c.in_err-key.ensures.refused r.key (flag_text r.flag) small)
+    no_key c.args.text.now c.in_ok-key_text.key_text.now c.in_ok-key_text.flag_text.now c.in_ok-key_text.ensures.found.0
+    c.in_ok-key_text.ensures.found.1 c.in_err-key.ensures.refused r.key (flag_text r.flag) small)
 
 pub returns-in_err-flag-clause-refused : goal.returns-in_err-flag-clause-refused
 returns-in_err-flag-clause-refused c = IfNone_from c.from_residual-in_err-flag.result _ (λ r small.
-    not_behind c.args.text.now c.in_ok-key_text.key_text.now c.in_ok-key_text.flag_text.now c.in_ok-key_text.ensures.found.0 c.in_ok-key_text.ensures.found.1 r.key (flag_text r.flag) small (c.in_err-flag.ensures.refused r.flag))
+    not_behind c.args.text.now c.in_ok-key_text.key_text.now c.in_ok-key_text.flag_text.now c.in_ok-key_text.ensures.found.0
+    c.in_ok-key_text.ensures.found.1 r.key (flag_text r.flag) small (c.in_err-flag.ensures.refused r.flag))

@@ -8,8 +8,10 @@ returns-in_err-key_text-clause-refused c = IfNone_from c.from_residual.result _ 
 
 pub returns-in_err-key-clause-refused : goal.returns-in_err-key-clause-refused
 returns-in_err-key-clause-refused c = IfNone_from c.from_residual-in_err-key.result _ (λ r so.
-    no_key c.args.text.now c.in_ok-key_text.key_text.now c.in_ok-key_text.value_text.now c.in_ok-key_text.ensures.found.0 c.in_ok-key_text.ensures.found.1 c.in_err-key.ensures.refused r.key (signed_decimal r.value) so.0)
+    no_key c.args.text.now c.in_ok-key_text.key_text.now c.in_ok-key_text.value_text.now c.in_ok-key_text.ensures.found.0
+    c.in_ok-key_text.ensures.found.1 c.in_err-key.ensures.refused r.key (signed_decimal r.value) so.0)
 
 pub returns-in_err-value-clause-refused : goal.returns-in_err-value-clause-refused
 returns-in_err-value-clause-refused c = IfNone_from c.from_residual-in_err-value.result _ (λ r so.
-    not_behind c.args.text.now c.in_ok-key_text.key_text.now c.in_ok-key_text.value_text.now c.in_ok-key_text.ensures.found.0 c.in_ok-key_text.ensures.found.1 r.key (signed_decimal r.value) so.0 (c.in_err-value.ensures.refused r.value so.1))
+    not_behind c.args.text.now c.in_ok-key_text.key_text.now c.in_ok-key_text.value_text.now c.in_ok-key_text.ensures.found.0
+    c.in_ok-key_text.ensures.found.1 r.key (signed_decimal r.value) so.0 (c.in_err-value.ensures.refused r.value so.1))
