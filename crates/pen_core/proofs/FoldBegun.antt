@@ -35,7 +35,7 @@ use Rattle.pen_core.proofs.Covers.{has-true, true-has}
 use Rattle.pen_core.proofs.LiveRuns.{change_of-covers, told_is, early_of-all}
 use Rattle.pen_core.proofs.Overlaid.{overlaid}
 use Rattle.pen_core.proofs.RunPositions.{covers-home_runs}
-use Rattle.pen_core.proofs.HomeRows.{HasWidth, length-bytes_at, get_or-bytes_at, row_of, SaysHomes, all_at_home, home_runs_of, EndsAt, HasPlace, Misses, laid_kept, laid_long}
+use Rattle.pen_core.proofs.HomeRows.{HasWidth, length-bytes_at, get_or-bytes_at, row_of, SaysHomes, all_at_home, home_runs_of, EndsAt, HasPlace, Misses, laid_kept, laid_long, IsAtHome}
 
 -- ---- the writes of runs that are at home
 

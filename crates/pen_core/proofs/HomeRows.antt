@@ -71,11 +71,11 @@ get_or-bytes_at width cells from count i m wide inside le lt small =
 
 -- ---- rows of one width
 
-record IsInRow (place width count j : ℕ) : Type 0 where
-  row : ℕ
-  inside : row < count
-  from : place + row * width ≤ j
-  before : j < place + row * width + width
+pub record IsInRow (place width count j : ℕ) : Type 0 where
+  pub row : ℕ
+  pub inside : row < count
+  pub from : place + row * width ≤ j
+  pub before : j < place + row * width + width
 
 pub row_of : (place width count j : ℕ) → place ≤ j → j < place + count * width → IsInRow place width count j
 row_of place width zero j from before = absurd (omega arith)
@@ -92,10 +92,10 @@ row_of place width (suc count) j from before = elim (cases_lt j (place + count *
 abbrev pub SaysHomes : Shape → List Frame → List Home → Type 0
 SaysHomes shape frames homes = (i : ℕ) → i < (tally_of frames).size → home_among shape.width homes i ≡ home_of shape frames i
 
-record IsAtHome (shape : Shape) (frames : List Frame) (run : Home) : Type 0 where
-  some : 0 < run.count
-  inside : run.position + run.count ≤ (tally_of frames).size
-  adjacent : (i : ℕ) → run.position ≤ i → i < run.position + run.count
+pub record IsAtHome (shape : Shape) (frames : List Frame) (run : Home) : Type 0 where
+  pub some : 0 < run.count
+  pub inside : run.position + run.count ≤ (tally_of frames).size
+  pub adjacent : (i : ℕ) → run.position ≤ i → i < run.position + run.count
       → home_of shape frames i ≡ Some (run.place + (i - run.position) * shape.width)
 
 pub all_at_home : (shape : Shape) (frames : List Frame) (homes : List Home) (from : ℕ) (runs : List Home)
