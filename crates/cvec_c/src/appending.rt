@@ -1,6 +1,6 @@
 //! A group is appended.
 
-ghost use Rattle.std.specs.Prelude.{◌≡◌, ◌≢◌, ◌≤◌, ◌<◌, ◌+◌, ◌*◌, ◌^◌, ◌++◌, ◌∷◌, [], None, Some, ◌⊎◌, length, take, drop, IfOk, OnOk, MatchOption};
+ghost use Rattle.std.specs.Prelude.{◌≡◌, ◌≢◌, ◌<◌, ◌+◌, ◌*◌, ◌^◌, ◌++◌, ◌∷◌, [], None, Some, ◌⊎◌, length, take, drop, IfOk, OnOk, MatchOption};
 ghost use Rattle.std.specs.Int.{w32, w64};
 ghost use Rattle.record_core.specs.Bytes.{unsigned, signed};
 ghost use Rattle.record_core.specs.Cells.{AreReadAgain};

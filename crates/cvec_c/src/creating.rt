@@ -1,9 +1,8 @@
 //! A file that is made.
 
-ghost use Rattle.std.specs.Prelude.{◌≡◌, ◌≢◌, ◌++◌, ◌∷◌, [], length, take, drop, MatchOption};
+ghost use Rattle.std.specs.Prelude.{◌≡◌, ◌≢◌, length, take, drop, MatchOption};
 ghost use Rattle.std.specs.Int.{w32, w64};
 ghost use Rattle.record_core.specs.Bytes.{unsigned, signed};
-ghost use Rattle.segment_core.specs.Frame.{header};
 ghost use Rattle.cvec_c.specs.Status.{code_of};
 ghost use Rattle.cvec_c.specs.Append.{first_refusal};
 ghost use Rattle.cvec_c.specs.Empty.{empty_lines, Creates};

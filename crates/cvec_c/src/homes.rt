@@ -1,6 +1,6 @@
 //! Where the records of an image stand.
 
-ghost use Rattle.std.specs.Prelude.{◌≡◌, ◌≢◌, ◌≤◌, ◌<◌, ℕ, ℤ, List, length, take, drop, MatchResult};
+ghost use Rattle.std.specs.Prelude.{◌≡◌, ◌≢◌, ◌≤◌, ◌<◌, ℕ, ℤ, List, length, take, MatchResult};
 ghost use Rattle.std.specs.Int.{w32, w64};
 ghost use Rattle.record_core.specs.Bytes.{unsigned, signed};
 ghost use Rattle.segment_core.specs.declared.found.Home.{Home};

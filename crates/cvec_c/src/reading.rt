@@ -1,6 +1,6 @@
 //! The records of an image are copied out.
 
-ghost use Rattle.std.specs.Prelude.{◌≡◌, ◌≢◌, ◌+◌, ◌-◌, ◌++◌, List, length, min, drop, slice_range, ℕ, ℤ};
+ghost use Rattle.std.specs.Prelude.{◌≡◌, ◌≢◌, ◌-◌, List, min, ℕ, ℤ};
 ghost use Rattle.std.specs.Int.{w32, w64};
 ghost use Rattle.record_core.specs.Bytes.{unsigned, signed};
 ghost use Rattle.cvec_c.specs.Stat.{HasRecords, IsToldOf};

@@ -1,6 +1,6 @@
 //! What the frames of a file are, by number.
 
-ghost use Rattle.std.specs.Prelude.{◌≡◌, ◌≤◌, ◌<◌, ◌+◌, ◌-◌, ◌^◌, ◌*◌};
+ghost use Rattle.std.specs.Prelude.{◌≡◌, ◌<◌, ◌+◌, ◌-◌, ◌^◌};
 ghost use Rattle.stat_core.specs.Outline.{outline_len};
 ghost use Rattle.stat_core.specs.Summary.{begun, grown, tally_in, AreFew};
 

@@ -1,6 +1,6 @@
 //! The text of a summary.
 
-ghost use Rattle.std.specs.Prelude.{◌≡◌, ◌++◌, decimal, OnOk};
+ghost use Rattle.std.specs.Prelude.{◌++◌, decimal, OnOk};
 ghost use Rattle.std.specs.Io.KnownBytes.{Appends};
 ghost use Rattle.stat_core.specs.Text.{opening_text, field_text, closing_text, file_text, frames_text, vector_text, end_text, summary_text};
 

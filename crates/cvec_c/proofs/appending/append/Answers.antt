@@ -18,15 +18,7 @@ returns-clause-done g c = λ _. (
     let written =
     ap (λ (bs : List ℕ). take (append_len form.width (length new)) (bs ++ drop c.len-len.result c.args.out.now)) copied
     ∙ take_at bytes (drop c.len-len.result c.args.out.now) (append_len form.width (length new)) long in
-    let next : CvecStat = record {
-      size = old.size + length new;
-      frames = c.saturating_add.result;
-      changes = old.changes;
-      folded = old.folded;
-      gate = old.gate + (c.len-len.result - 1);
-      width = old.width;
-      version = old.version;
-    } in
+    let next : CvecStat = record old { size = old.size + length new; frames = c.saturating_add.result; gate = old.gate + (c.len-len.result - 1) } in
     let gate : next.gate + 1 ≡ old.gate + length bytes = (let n = c.len-len.ensures in omega arith) in
     subst (λ (bs : List ℕ). AppendsTo form old new bs next) (sym written) (record {
       before = λ image other records stat same shut. stays form old image other records stat same shut;
