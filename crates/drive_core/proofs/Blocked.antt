@@ -49,7 +49,8 @@ module _ {R D : Type 0} {m : Medium R D} {w : World R} {phase : Growth} {g : Gro
   pub closed_refuses : {answer : Answer R} → IsBlockLength m.form.width (length records) → answer ≡ step.Refused (told.Grow grow.Closed) → g.closed ≡ true
       → GrowthStep m w g (step.Put k records) answer 0
   closed_refuses block is closed = refused_with (told.Grow grow.Closed) is refl
-      (passes _ (told.Grow grow.Empty) _ _ (not_empty block) (passes _ (told.Grow grow.TooLarge) _ _ (not_large block) (inr (stops phase.closed (told.Grow grow.Closed) _ (sym tie.closed_is ∙ closed)))))
+      (passes _ (told.Grow grow.Empty) _ _ (not_empty block) (passes _ (told.Grow grow.TooLarge) _ _ (not_large block)
+      (inr (stops phase.closed (told.Grow grow.Closed) _ (sym tie.closed_is ∙ closed)))))
 
   large : payload_limit < 8 + length records * m.form.width → (length records == 0) ≡ false
   large more = ne_eqb (length records) 0 (λ none. let nothing : length records * m.form.width ≡ 0 = ap (λ n. n * m.form.width) none ∙ grind arith in absurd (omega (arith, more, nothing)))

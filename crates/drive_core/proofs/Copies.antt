@@ -1,6 +1,6 @@
 -- Pieces copied one after the other.
-use Rattle.std.proofs.Common.{◌≡◌, ℕ, ◌+◌, ◌≤◌, List, [], ◌∷◌, ◌++◌, length, take, Some, sym, ap, ◌∙◌, slice_get}
-use Rattle.std.proofs.lemmas.List.{append-nil, take_all}
+use Rattle.std.proofs.Common.{◌≡◌, ℕ, ◌+◌, List, [], ◌∷◌, ◌++◌, length, take, Some, sym, ap, ◌∙◌, slice_get}
+use Rattle.std.proofs.lemmas.List.{append-nil}
 use Rattle.std.proofs.lemmas.List.Concat.{flat_map-append}
 use Rattle.segment_core.proofs.Written.{take_more}
 use Rattle.book_core.specs.Lists.{joined_pieces}
@@ -10,6 +10,3 @@ pub pieces_more : {R : Type 0} (pieces : List (List R)) (k : ℕ) (piece copied 
 pieces_more pieces k piece copied at is =
     ap (λ c. c ++ piece) is ∙ ap (λ p. joined_pieces (take k pieces) ++ p) (sym (append-nil piece))
     ∙ sym (flat_map-append (λ (p : List _). p) (take k pieces) (piece ∷ [])) ∙ ap joined_pieces (sym (take_more pieces k piece at))
-
-pub pieces_all : {R : Type 0} (pieces : List (List R)) (k : ℕ) (copied : List R) → length pieces ≤ k → copied ≡ joined_pieces (take k pieces) → copied ≡ joined_pieces pieces
-pieces_all pieces k copied le is = is ∙ ap joined_pieces (take_all k pieces le)

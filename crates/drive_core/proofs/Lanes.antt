@@ -183,13 +183,15 @@ module _ {R D : Type 0} {m : Medium R D} {w : World R} {phase : Growth} {g : Gro
 
   -- ---- either lane
 
-  pub lane_answers : {answer : Answer R} (lane : Lane) (tick : Tick) → answer ≡ step.Ticked tick → clock (m.states new.pen.disk) ≡ clock (m.states g.flusher.pen.disk) + lane_calls lane g.flusher.pen
+  pub lane_answers : {answer : Answer R} (lane : Lane) (tick : Tick) → answer ≡ step.Ticked tick
+      → clock (m.states new.pen.disk) ≡ clock (m.states g.flusher.pen.disk) + lane_calls lane g.flusher.pen
       → IsLaneTicked lane g.flusher.pen new.pen tick → g.flusher.pen.broken ≡ false → new.pen.broken ≡ false → new.settled ≡ settled_behind g.flusher tick
       → GrowthStep m w (record g { flusher = new }) (lane_step lane) answer (lane_calls lane g.flusher.pen)
   lane_answers lanes.Log ticked_as is time ticked whole whole' settled = log_answers ticked_as is time ticked whole whole' settled
   lane_answers lanes.Home ticked_as is time ticked whole whole' settled = home_answers ticked_as is time ticked whole whole' settled
 
-  pub lane_refuses : {answer : Answer R} (lane : Lane) (fault : FlushFault) → answer ≡ step.Refused (of_flush fault) → clock (m.states new.pen.disk) ≡ clock (m.states g.flusher.pen.disk) + lane_calls lane g.flusher.pen
+  pub lane_refuses : {answer : Answer R} (lane : Lane) (fault : FlushFault) → answer ≡ step.Refused (of_flush fault)
+      → clock (m.states new.pen.disk) ≡ clock (m.states g.flusher.pen.disk) + lane_calls lane g.flusher.pen
       → IsLaneFault lane g.flusher.pen new.pen fault → new.settled ≡ g.flusher.settled → m.faults new.pen.disk ≡ m.faults g.flusher.pen.disk + failed fault
       → GrowthStep m w (record g { flusher = new }) (lane_step lane) answer (lane_calls lane g.flusher.pen)
   lane_refuses lanes.Log fault is time why settled counted = log_refuses fault is time why settled counted

@@ -113,7 +113,8 @@ module _ {R D : Type 0} {m : Medium R D} {w : World R} {phase : Growth} {g : Gro
         let was = tie.flusher.known_is in
         let count = growths_count tie in
         answered is (quiet_steps tie (within w found_phase)
-        (inl (inr refl, (n, (omega (arith, longer, was), omega (arith, count, within_all)), ap step.Size (sized ∙ sym (known_long tie new.pass.entries found)), refl))) refl refl tie.calm (behind_of look_tie))
+        (inl (inr refl, (n, (omega (arith, longer, was), omega (arith, count, within_all)), ap step.Size (sized ∙ sym (known_long tie new.pass.entries found)), refl)))
+        refl refl tie.calm (behind_of look_tie))
 
 -- what is of a phase stays of it
 pub IsFlusherOf-learns : {R D : Type 0} (keeps : D → Type 0) (live : book.Phase R) (old new : FlusherOf R D) → FlusherLearns old new → IsFlusherOf (keeps old.pen.disk) live old

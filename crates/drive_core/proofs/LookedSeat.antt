@@ -105,7 +105,8 @@ module _ {R D : Type 0} {m : Medium R D} {w : World R} {phase : Growth} {g : Gro
         let count = growths_count tie in
         let w' : World R = within w found_phase in
         answered is (quiet_steps tie w' (seat_row tie inside w' (step.Size size) (IsLook w phase (Some k) (step.Size size) w')
-        (inl (inr refl, (n, (omega (arith, longer, was), omega (arith, count, within_all)), ap step.Size (sized ∙ sym (known_long tie m1.pass.entries found)), refl)))) refl refl tie.calm (behind_of look_tie))
+        (inl (inr refl, (n, (omega (arith, longer, was), omega (arith, count, within_all)), ap step.Size (sized ∙ sym (known_long tie m1.pass.entries found)), refl))))
+        refl refl tie.calm (behind_of look_tie))
 
 -- the row keeps its length
 pub look_inside : {R : Type 0} (seats row : List (Seated R)) (k last : ℕ) (m0 m1 : Seated R) → k < length seats → slice_get seats k ≡ Some m0 → last < length seats

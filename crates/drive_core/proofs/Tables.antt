@@ -18,12 +18,6 @@ pub stops : (test : Bool) (fault : Fault) (lines : List Line) → test ≡ true 
 stops true fault lines is = refl
 stops false fault lines is = absurd cc
 
-pub might_not : (kind : Fault → Bool) (lines : List Line) (answer : Option Fault) → Allows lines answer → Allows (Might kind ∷ lines) answer
-might_not kind lines answer allows = inr allows
-
-pub might : (kind : Fault → Bool) (lines : List Line) (fault : Fault) → kind fault ≡ true → Allows (Might kind ∷ lines) (Some fault)
-might kind lines fault is = inl (fault, refl, is)
-
 -- no test of the pen's holds: what stands behind decides
 pub pen_passes : (lines : List (Bool × PenFault)) (behind : List Line) (answer : Option Fault) → first_refusal lines ≡ None → Allows behind answer → Allows (pen_table lines behind) answer
 pen_passes [] behind answer is allows = allows
@@ -47,5 +41,6 @@ pen_refuses lines more fault is = at (first_refusal lines) refl is
   where
     at : (o : Option PenFault) → first_refusal lines ≡ o → MatchOption o (fault ≡ pen.Memory) (λ first. fault ≡ first)
         → Allows (pen_table lines (Might is_vault_memory ∷ more)) (Some (Vault (vault.Pen fault)))
-    at None none memory = pen_passes lines (Might is_vault_memory ∷ more) (Some (Vault (vault.Pen fault))) none (inl (Vault (vault.Pen fault), refl, ap (λ f. is_vault_memory (Vault (vault.Pen f))) memory))
+    at None none memory = pen_passes lines (Might is_vault_memory ∷ more) (Some (Vault (vault.Pen fault))) none
+        (inl (Vault (vault.Pen fault), refl, ap (λ f. is_vault_memory (Vault (vault.Pen f))) memory))
     at (Some first) some same = pen_stops lines (Might is_vault_memory ∷ more) fault (some ∙ ap Some (sym same))

@@ -18,7 +18,7 @@ pub record IsDriver {R D : Type 0} (m : Medium R D) (w : World R) (phase : code.
   pub disk_is : w.disk ≡ disk_of m.states m.faults (disk_in phase)
   pub goes_on : strayed ≡ None → IsInHand m w phase
 
--- from this world, to one that is tied to what is in hand then
+-- from this world this step and answer lead to one that is tied to what is in hand then
 abbrev pub DriverStep : {R D : Type 0} → Medium R D → World R → D → code.Phase R D → Option ℕ → Step R → Answer R → Type 0
 DriverStep m w old new strayed asked answer =
     Steps m.form (m.keeps (disk_in new)) (λ w'. IsDriver m w' new strayed) w asked answer (calls_between (m.states old) (m.states (disk_in new)))

@@ -81,6 +81,7 @@ pub record IsFlushing {R D : Type 0} (known taken before settled : ℕ) (entries
   pub job_brings : flusher.taken ≡ flusher.settled + growths_in_hand flusher.pen.job
   pub settled_is : settled ≡ before + flusher.settled
 
+-- The world is in a growth phase, which is what is in hand: its growths, its seats and its flusher.
 pub record IsGrowing {R D : Type 0} (m : Medium R D) (w : World R) (phase : Growth) (g : GrowingOf R D) : Type 0 where
   pub phase_is : w.phase ≡ Growing phase
   pub calm : w.strayed ≡ None
