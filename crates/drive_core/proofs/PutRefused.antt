@@ -82,8 +82,12 @@ module _ {R D : Type 0} {m : Medium R D} {w : World R} {phase : Growth} {g : Gro
         let few = knows_few tie.seats k has_met.at in
         let count = growths_count tie in
         answered is (quiet_steps tie w' (seat_row tie has_met.inside w' refused (IsPut m.form.width w phase k records refused w')
-        (inr (told.Grow fault, book_decides w phase records block_is open_ (Some (told.Grow fault)) allows, refl,
-        (length tie.entries, (omega (arith, known, few), omega (arith, count)), same)))) refl refl (tie.calm ∙ calm)
+        (inr (
+          told.Grow fault,
+          book_decides w phase records block_is open_ (Some (told.Grow fault)) allows,
+          refl,
+          (length tie.entries, (omega (arith, known, few), omega (arith, count)), same),
+        ))) refl refl (tie.calm ∙ calm)
         (behind_of kept_tie))
 
     calm_same : within w kept_phase ≡ struck (within w kept_phase) (told.Grow grow.Full)

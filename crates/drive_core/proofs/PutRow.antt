@@ -100,7 +100,7 @@ lent_new seats k old new lent less at is =
 -- the last of the row is some seat
 pub find_met : {R : Type 0} {seats row : List (Seated R)} {k last : ℕ} {old : Seated R} (new : Seated R) → k < length seats → slice_get seats k ≡ Some old → last < length seats
     → ((mine theirs : Seated R) → slice_get (slice_set seats k new) k ≡ Some mine → slice_get (slice_set seats k new) last ≡ Some theirs
-      → MeetsIn (slice_set seats k new) row k mine theirs)
+    → MeetsIn (slice_set seats k new) row k mine theirs)
     → (other : Seated R) × HasMet seats last k old new other row
 find_met {seats = seats} {k = k} {last = last} {old = old} new inside at last_inside meets =
     let long = length_set seats k new in
