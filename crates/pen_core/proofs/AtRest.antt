@@ -2,7 +2,6 @@
 use Rattle.std.proofs.Common.{◌≡◌, ℕ, Bool, List, Option, None, refl, sym, subst, ◌∙◌}
 use Rattle.disk_core.specs.State.{State}
 use Rattle.segment_core.specs.declared.format.Shape.{Shape}
-use Rattle.segment_core.specs.declared.found.Homes.{Homes}
 use Rattle.segment_core.specs.declared.tally.Tally.{Tally}
 use Rattle.pen_core.specs.declared.fold.Fold.{Fold}
 use Rattle.pen_core.specs.declared.pen.Pen.TheInside.{Inside}
@@ -44,18 +43,16 @@ pen_same {count} {keeps} {states} {shape} {gate} {tally} {next} {bytes} {o} {bro
     } in
     subst (λ s. IsPen count keeps states shape gate tally next bytes' s broken) (sym idle) made
 
--- the invariant
+-- no job is in hand: the memory for one may have grown, and hold other bytes
 pub at_rest : {D : Type 0} {keeps : D → Type 0} {states : D → List State} {pen : Inside D} → IsSound keeps states pen
-    → (bytes' : List ℕ) (homes' : Homes) → pen.step ≡ None → homes'.homes.items ≡ pen.homes.homes.items
-    → homes'.live.items ≡ pen.homes.live.items
-    → IsPen (count_open pen) (keeps pen.disk) (states pen.disk) pen.shape pen.gate pen.tally pen.next bytes' pen.step pen.broken
-    × IsListed (keeps pen.disk) (states pen.disk) pen.shape pen.gate pen.tally bytes' pen.step homes' pen.live pen.fold
-    × IsFold (keeps pen.disk) (states pen.disk) pen.shape pen.gate pen.tally bytes' pen.step pen.broken pen.fold
-at_rest sound bytes' homes' idle homes_same live_same = (
-  pen_same sound.job idle bytes',
-  listed_same sound.lists idle bytes' homes' homes_same live_same,
-  fold_same sound.fold idle bytes',
-)
+    → (then : Inside D) → pen.step ≡ None → then.homes.homes.items ≡ pen.homes.homes.items
+    → then.homes.live.items ≡ pen.homes.live.items
+    → IsSound keeps states (record pen { bytes = then.bytes; homes = then.homes })
+at_rest sound then idle homes_same live_same = record {
+  job = pen_same sound.job idle then.bytes.items;
+  lists = listed_same sound.lists idle then.bytes.items then.homes homes_same live_same;
+  fold = fold_same sound.fold idle then.bytes.items;
+}
 
 -- all parts of it
 pub sound : {D : Type 0} {keeps : D → Type 0} {states : D → List State} {pen : Inside D}

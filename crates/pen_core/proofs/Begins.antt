@@ -11,12 +11,21 @@ use Rattle.segment_core.specs.Shape.{limit_of}
 use Rattle.segment_core.specs.Frame.{Shrink}
 use Rattle.segment_core.specs.Layout.{IsFrame}
 use Rattle.segment_core.specs.Tally.{MayFollow}
+use Rattle.disk_core.specs.State.{State}
+use Rattle.pen_core.specs.declared.pen.Pen.TheInside.{Inside}
+use Rattle.pen_core.specs.Fields.{seen_as}
+use Rattle.pen_core.specs.PenOf.{PenOf}
 use Rattle.pen_core.specs.declared.step.Step.{Step}
 use Rattle.pen_core.specs.Inside.{job_of}
 
 pub no_step : (shape : Shape) (bytes : List ℕ) (o : Option Step) → is_some (job_of shape bytes o) ≡ false → o ≡ None
 no_step shape bytes None is = refl
 no_step shape bytes (Some step) is = absurd cc
+
+-- no job is in hand, as it is seen
+pub idle_seen : {D : Type 0} (states : D → List State) (pen : Inside D) {value : PenOf D}
+    → seen_as states pen ≡ value → is_some value.job ≡ false → pen.step ≡ None
+idle_seen states pen is none = no_step pen.shape pen.bytes.items pen.step (subst (λ v. is_some v.job ≡ false) (sym is) none)
 
 -- the bytes tell nothing then
 pub no_job_same : (shape : Shape) (bytes bytes' : List ℕ) (o : Option Step) → o ≡ None → job_of shape bytes' o ≡ job_of shape bytes o

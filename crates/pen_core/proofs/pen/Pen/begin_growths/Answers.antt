@@ -1,6 +1,5 @@
 use Rattle.std.proofs.Common.{◌≡◌, ℕ, ◌+◌, ◌*◌, ◌^◌, ◌<◌, ◌≤◌, ◌∷◌, [], ◌++◌, List, length, Result, Ok, Err, OnOk, false, cond, refl, sym, ap, subst, ◌∙◌, arith}
 use Rattle.std.proofs.lemmas.Nat.{mul-le}
-use Rattle.std.specs.Option.{is_some}
 use Rattle.std.specs.Result.{is_err, is_ok}
 use Rattle.disk_core.specs.Calls.{bytes_of}
 use Rattle.segment_core.specs.Shape.{limit_of}
@@ -8,13 +7,12 @@ use Rattle.segment_core.specs.Frame.{frame_text}
 use Rattle.segment_core.specs.Written.{group_frame, joined, payload_len}
 use Rattle.segment_core.specs.Parsed.{vector_before}
 use Rattle.pen_core.specs.Refusals.{is_full, fold_len}
-use Rattle.pen_core.proofs.Begins.{no_step, all_fits}
+use Rattle.pen_core.proofs.Begins.{idle_seen, all_fits}
 use Rattle.pen_core.proofs.Growths.{few_growths, Grows, group_begins, group_tells}
 use Rattle.pen_core.specs.InHand.{fold_of}
 use Rattle.pen_core.proofs.AtRest.{at_rest}
 use Rattle.pen_core.proofs.KeptPen.{none_job, kept_begun}
 use Rattle.pen_core.proofs.Whole.{sound_kept}
-use Rattle.pen_core.proofs.AtRest.{sound}
 use Rattle.pen_core.proofs.Listed.{group_entered}
 use Rattle.pen_core.proofs.FrameBegun.{pen_begun, begun_seen, unchanged_seen}
 use Rattle.pen_core.proofs.pen.Pen.begin_growths.Given.{Over}
@@ -67,29 +65,20 @@ push_reserved-requires g c = below_more (on_ok c.reserve.result (sym c.is_err.en
 pub invariant_of-self : goal.invariant_of-self
 invariant_of-self g c =
     let s = c.self.inside in
-    sound
-    (at_rest c.self.invariant s.bytes.items (record { homes = c.reserve.new.self; live = s.homes.live })
-    (no_step s.shape s.bytes.items s.step
-    (subst (λ v. is_some v.job ≡ false) (sym c.self.view_is) c.in_ok-ready.ensures.idle))
-    c.reserve.ensures.items refl)
+    at_rest c.self.invariant (record s { homes = record { homes = c.reserve.new.self; live = s.homes.live } })
+    (idle_seen g.D.Disk.states s c.self.view_is c.in_ok-ready.ensures.idle) c.reserve.ensures.items refl
 
 pub invariant_of-self-then-is_err-2 : goal.invariant_of-self-then-is_err-2
 invariant_of-self-then-is_err-2 g c =
     let s = c.self.inside in
-    sound
-    (at_rest c.self.invariant c.append_group.new.file.items (record { homes = c.reserve.new.self; live = s.homes.live })
-    (no_step s.shape s.bytes.items s.step
-    (subst (λ v. is_some v.job ≡ false) (sym c.self.view_is) c.in_ok-ready.ensures.idle))
-    c.reserve.ensures.items refl)
+    at_rest c.self.invariant (record s { bytes = c.append_group.new.file; homes = record { homes = c.reserve.new.self; live = s.homes.live } })
+    (idle_seen g.D.Disk.states s c.self.view_is c.in_ok-ready.ensures.idle) c.reserve.ensures.items refl
 
 pub invariant_of-self-then-is_err-3 : goal.invariant_of-self-then-is_err-3
 invariant_of-self-then-is_err-3 g c =
     let s = c.self.inside in
-    sound
-    (at_rest c.self.invariant c.push.new.self.items (record { homes = c.reserve.new.self; live = s.homes.live })
-    (no_step s.shape s.bytes.items s.step
-    (subst (λ v. is_some v.job ≡ false) (sym c.self.view_is) c.in_ok-ready.ensures.idle))
-    c.reserve.ensures.items refl)
+    at_rest c.self.invariant (record s { bytes = c.push.new.self; homes = record { homes = c.reserve.new.self; live = s.homes.live } })
+    (idle_seen g.D.Disk.states s c.self.view_is c.in_ok-ready.ensures.idle) c.reserve.ensures.items refl
 
 -- what the begin rests on once memory was taken
 begins : (g : Over) (c : After-self-2-1 g)
@@ -117,7 +106,7 @@ begins g c =
     record {
       sound = c.self.invariant;
       going = subst (λ v. v.broken ≡ false) (sym c.self.view_is) c.in_ok-ready.ensures.whole;
-      idle = no_step s.shape s.bytes.items s.step (subst (λ v. is_some v.job ≡ false) (sym c.self.view_is) c.in_ok-ready.ensures.idle);
+      idle = idle_seen g.D.Disk.states s c.self.view_is c.in_ok-ready.ensures.idle;
       reads = g.met.D.Disk.reads_an_image;
       spelled =
           c.push.ensures.items
@@ -163,13 +152,13 @@ pub returns-then-is_err-2-clause-unchanged : goal.returns-then-is_err-2-clause-u
 returns-then-is_err-2-clause-unchanged g c = rw (← c.self.view_is) (
     let s = c.self.inside in
     unchanged_seen g.D.Disk.states s (record s { bytes = c.append_group.new.file; homes = record { homes = c.reserve.new.self; live = s.homes.live } })
-    (no_step s.shape s.bytes.items s.step (subst (λ v. is_some v.job ≡ false) (sym c.self.view_is) c.in_ok-ready.ensures.idle)))
+    (idle_seen g.D.Disk.states s c.self.view_is c.in_ok-ready.ensures.idle))
 
 pub returns-then-is_err-3-clause-unchanged : goal.returns-then-is_err-3-clause-unchanged
 returns-then-is_err-3-clause-unchanged g c = rw (← c.self.view_is) (
     let s = c.self.inside in
     unchanged_seen g.D.Disk.states s (record s { bytes = c.push.new.self; homes = record { homes = c.reserve.new.self; live = s.homes.live } })
-    (no_step s.shape s.bytes.items s.step (subst (λ v. is_some v.job ≡ false) (sym c.self.view_is) c.in_ok-ready.ensures.idle)))
+    (idle_seen g.D.Disk.states s c.self.view_is c.in_ok-ready.ensures.idle))
 
 -- ---- what may be pending
 

@@ -11,11 +11,10 @@ use Rattle.segment_core.specs.Runs.{change_len}
 use Rattle.pen_core.specs.Refusals.{fold_len}
 use Rattle.pen_core.proofs.AtRest.{at_rest}
 use Rattle.pen_core.proofs.KeptPen.{none_job, kept_begun}
-use Rattle.pen_core.proofs.Begins.{no_step}
+use Rattle.pen_core.proofs.Begins.{idle_seen}
 use Rattle.pen_core.proofs.RunsBegun.{Allows, allowed_space, allows, Changes, change_begins, change_tells}
 use Rattle.pen_core.proofs.pen.Pen.begin_runs_from.Given.{Over}
 use Rattle.pen_core.proofs.pen.Pen.begin_runs_from.Goals.{Else-is_err-2}
-use Rattle.pen_core.proofs.AtRest.{sound}
 use Rattle.pen_core.proofs.Whole.{sound_kept}
 use Rattle.pen_core.proofs.FrameBegun.{pen_begun, begun_seen, unchanged_seen}
 use Rattle.pen_core.proofs.pen.Pen.begin_runs_from.Goals as goal
@@ -73,24 +72,16 @@ begins g c =
 pub invariant_of-self : goal.invariant_of-self
 invariant_of-self g c =
     let s = c.self.inside in
-    sound
-    (at_rest c.self.invariant c.put_change.new.bytes.items s.homes
-    (no_step s.shape s.bytes.items s.step
-    (subst (λ v. is_some v.job ≡ false) (sym c.self.view_is) c.in_ok-payload.ensures.idle))
-    refl refl)
+    at_rest c.self.invariant (record s { bytes = c.put_change.new.bytes })
+    (idle_seen g.D.Disk.states s c.self.view_is c.in_ok-payload.ensures.idle) refl refl
 
 pub invariant_of-self-then-is_err-2 : goal.invariant_of-self-then-is_err-2
 invariant_of-self-then-is_err-2 g c =
     let s = c.self.inside in
-    sound
-    (at_rest c.self.invariant c.put_change.new.bytes.items
-    (record { homes = s.homes.homes; live = c.extend_from_slice.new.self })
-    (no_step s.shape s.bytes.items s.step
-    (subst (λ v. is_some v.job ≡ false) (sym c.self.view_is) c.in_ok-payload.ensures.idle))
-    refl
-    (c.extend_from_slice.ensures.items
+    at_rest c.self.invariant (record s { bytes = c.put_change.new.bytes; homes = record { homes = s.homes.homes; live = c.extend_from_slice.new.self } })
+    (idle_seen g.D.Disk.states s c.self.view_is c.in_ok-payload.ensures.idle) refl (c.extend_from_slice.ensures.items
     ∙ refused c.extend_from_slice.result (sym c.is_err-2.ensures.value ∙ c.if-is_err-2.true) s.homes.live.items
-    (s.homes.live.items ++ c.args.runs.now)))
+    (s.homes.live.items ++ c.args.runs.now))
 
 pub invariant_of-self-2 : goal.invariant_of-self-2
 invariant_of-self-2 g c = pen_begun (change_begins (begins g (goal.at.invariant_of-self-2 g c).Else-is_err-2))
@@ -119,13 +110,13 @@ pub returns-then-is_err-clause-unchanged : goal.returns-then-is_err-clause-uncha
 returns-then-is_err-clause-unchanged g c = rw (← c.self.view_is) (
     let s = c.self.inside in
     unchanged_seen g.D.Disk.states s (record s { bytes = c.put_change.new.bytes })
-    (no_step s.shape s.bytes.items s.step (subst (λ v. is_some v.job ≡ false) (sym c.self.view_is) c.in_ok-payload.ensures.idle)))
+    (idle_seen g.D.Disk.states s c.self.view_is c.in_ok-payload.ensures.idle))
 
 pub returns-then-is_err-2-clause-unchanged : goal.returns-then-is_err-2-clause-unchanged
 returns-then-is_err-2-clause-unchanged g c = rw (← c.self.view_is) (
     let s = c.self.inside in
     unchanged_seen g.D.Disk.states s (record s { bytes = c.put_change.new.bytes; homes = record { homes = s.homes.homes; live = c.extend_from_slice.new.self } })
-    (no_step s.shape s.bytes.items s.step (subst (λ v. is_some v.job ≡ false) (sym c.self.view_is) c.in_ok-payload.ensures.idle)))
+    (idle_seen g.D.Disk.states s c.self.view_is c.in_ok-payload.ensures.idle))
 
 pub returns-then-is_err-2-clause-sure : goal.returns-then-is_err-2-clause-sure
 returns-then-is_err-2-clause-sure g c = λ readied.

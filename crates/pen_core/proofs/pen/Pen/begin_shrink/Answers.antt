@@ -1,5 +1,4 @@
 use Rattle.std.proofs.Common.{◌≡◌, Result, Ok, Err, OnOk, false, refl, sym, ap, subst, ◌∙◌}
-use Rattle.std.specs.Option.{is_some}
 use Rattle.std.specs.Result.{is_err}
 use Rattle.std.proofs.lemmas.List.{append-nil}
 use Rattle.disk_core.specs.Calls.{bytes_of}
@@ -8,7 +7,7 @@ use Rattle.segment_core.specs.Parsed.{vector_before}
 use Rattle.segment_core.specs.Raw.{after_frame}
 use Rattle.pen_core.specs.InHand.{fold_of}
 use Rattle.pen_core.specs.Refusals.{is_full, fold_len}
-use Rattle.pen_core.proofs.Begins.{no_step, all_fits, shrink_framed, shrink_follows}
+use Rattle.pen_core.proofs.Begins.{idle_seen, all_fits, shrink_framed, shrink_follows}
 use Rattle.pen_core.proofs.FrameBegun.{Begins, begun_frame, pen_begun, begun_seen, unchanged_seen}
 use Rattle.pen_core.proofs.KeptPen.{none_job, kept_begun, kept_unchanged}
 use Rattle.pen_core.proofs.pen.Pen.begin_shrink.Given.{Over}
@@ -29,7 +28,7 @@ begins g c =
     record {
       sound = c.self.invariant;
       going = subst (λ v. v.broken ≡ false) (sym c.self.view_is) c.in_ok-ready.ensures.whole;
-      idle = no_step s.shape s.bytes.items s.step (subst (λ v. is_some v.job ≡ false) (sym c.self.view_is) c.in_ok-ready.ensures.idle);
+      idle = idle_seen g.D.Disk.states s c.self.view_is c.in_ok-ready.ensures.idle;
       reads = g.met.D.Disk.reads_an_image;
       spelled = on_ok c.put_shrink.result (sym c.is_err.ensures.value ∙ c.if-is_err.false) c.put_shrink.ensures.text s.shape.format;
       framed = shrink_framed s.shape n c.self.invariant.job.wide.0 c.ranges.n.fits;
@@ -58,7 +57,7 @@ pub returns-then-is_err-clause-unchanged : goal.returns-then-is_err-clause-uncha
 returns-then-is_err-clause-unchanged g c = rw (← c.self.view_is) (
     let s = c.self.inside in
     unchanged_seen g.D.Disk.states s (record s { bytes = c.put_shrink.new.bytes })
-    (no_step s.shape s.bytes.items s.step (subst (λ v. is_some v.job ≡ false) (sym c.self.view_is) c.in_ok-ready.ensures.idle)))
+    (idle_seen g.D.Disk.states s c.self.view_is c.in_ok-ready.ensures.idle))
 
 pub returns-then-is_err-clause-kept : goal.returns-then-is_err-clause-kept
 returns-then-is_err-clause-kept g c =

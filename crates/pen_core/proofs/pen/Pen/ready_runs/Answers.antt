@@ -1,14 +1,12 @@
 use Rattle.std.proofs.Common.{◌≡◌, Result, Ok, Err, OnOk, None, false, refl, sym, ap, subst, ◌∙◌, arith}
-use Rattle.std.specs.Option.{is_some}
 use Rattle.std.specs.Result.{is_err}
 use Rattle.std.proofs.lemmas.List.{length-map}
 use Rattle.segment_core.specs.Frame.{Run}
 use Rattle.segment_core.specs.Runs.{runs_given, change_len}
 use Rattle.pen_core.specs.Refusals.{first_refusal, change_lines}
 use Rattle.pen_core.proofs.AtRest.{at_rest}
-use Rattle.pen_core.proofs.Begins.{no_step, no_job_same}
+use Rattle.pen_core.proofs.Begins.{idle_seen, no_job_same}
 use Rattle.pen_core.proofs.Worked.{unchanged_pen}
-use Rattle.pen_core.proofs.AtRest.{sound}
 use Rattle.pen_core.proofs.Whole.{sound_kept}
 use Rattle.pen_core.proofs.FrameBegun.{unchanged_seen}
 use Rattle.pen_core.proofs.pen.Pen.ready_runs.Goals as goal
@@ -20,29 +18,20 @@ on_ok (Err error) is p = absurd cc
 pub invariant_of-self : goal.invariant_of-self
 invariant_of-self g c =
     let s = c.self.inside in
-    sound
-    (at_rest c.self.invariant c.take_room.new.bytes.items s.homes
-    (no_step s.shape s.bytes.items s.step
-    (subst (λ v. is_some v.job ≡ false) (sym c.self.view_is) c.in_ok-payload.ensures.idle))
-    refl refl)
+    at_rest c.self.invariant (record s { bytes = c.take_room.new.bytes })
+    (idle_seen g.D.Disk.states s c.self.view_is c.in_ok-payload.ensures.idle) refl refl
 
 pub invariant_of-self-then-is_err-2 : goal.invariant_of-self-then-is_err-2
 invariant_of-self-then-is_err-2 g c =
     let s = c.self.inside in
-    sound
-    (at_rest c.self.invariant c.take_room.new.bytes.items (record { homes = s.homes.homes; live = c.reserve.new.self })
-    (no_step s.shape s.bytes.items s.step
-    (subst (λ v. is_some v.job ≡ false) (sym c.self.view_is) c.in_ok-payload.ensures.idle))
-    refl c.reserve.ensures.items)
+    at_rest c.self.invariant (record s { bytes = c.take_room.new.bytes; homes = record { homes = s.homes.homes; live = c.reserve.new.self } })
+    (idle_seen g.D.Disk.states s c.self.view_is c.in_ok-payload.ensures.idle) refl c.reserve.ensures.items
 
 pub invariant_of-self-2 : goal.invariant_of-self-2
 invariant_of-self-2 g c =
     let s = c.self.inside in
-    sound
-    (at_rest c.self.invariant c.take_room.new.bytes.items (record { homes = s.homes.homes; live = c.reserve.new.self })
-    (no_step s.shape s.bytes.items s.step
-    (subst (λ v. is_some v.job ≡ false) (sym c.self.view_is) c.in_ok-payload.ensures.idle))
-    refl c.reserve.ensures.items)
+    at_rest c.self.invariant (record s { bytes = c.take_room.new.bytes; homes = record { homes = s.homes.homes; live = c.reserve.new.self } })
+    (idle_seen g.D.Disk.states s c.self.view_is c.in_ok-payload.ensures.idle) refl c.reserve.ensures.items
 
 pub returns-then-is_err-clause-kept : goal.returns-then-is_err-clause-kept
 returns-then-is_err-clause-kept g c = sound_kept (invariant_of-self g c)
@@ -57,18 +46,18 @@ pub returns-then-is_err-clause-unchanged : goal.returns-then-is_err-clause-uncha
 returns-then-is_err-clause-unchanged g c = rw (← c.self.view_is) (
     let s = c.self.inside in
     unchanged_seen g.D.Disk.states s (record s { bytes = c.take_room.new.bytes })
-    (no_step s.shape s.bytes.items s.step (subst (λ v. is_some v.job ≡ false) (sym c.self.view_is) c.in_ok-payload.ensures.idle)))
+    (idle_seen g.D.Disk.states s c.self.view_is c.in_ok-payload.ensures.idle))
 
 pub returns-then-is_err-2-clause-unchanged : goal.returns-then-is_err-2-clause-unchanged
 returns-then-is_err-2-clause-unchanged g c = rw (← c.self.view_is) (
     let s = c.self.inside in
     unchanged_seen g.D.Disk.states s (record s { bytes = c.take_room.new.bytes; homes = record { homes = s.homes.homes; live = c.reserve.new.self } })
-    (no_step s.shape s.bytes.items s.step (subst (λ v. is_some v.job ≡ false) (sym c.self.view_is) c.in_ok-payload.ensures.idle)))
+    (idle_seen g.D.Disk.states s c.self.view_is c.in_ok-payload.ensures.idle))
 
 pub returns-clause-unchanged : goal.returns-clause-unchanged
 returns-clause-unchanged g c = rw (← c.self.view_is) (
     let s = c.self.inside in
-    let idle = no_step s.shape s.bytes.items s.step (subst (λ v. is_some v.job ≡ false) (sym c.self.view_is) c.in_ok-payload.ensures.idle) in
+    let idle = idle_seen g.D.Disk.states s c.self.view_is c.in_ok-payload.ensures.idle in
     record {
       disk_same = refl;
       file_same = record { frames_same = refl; vector_same = refl };
