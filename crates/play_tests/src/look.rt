@@ -7,10 +7,10 @@ use drive_core::{Answer, Driven, Step, drive};
 use play_core::write_answers;
 use segment_core::scan;
 use std::alloc::Global;
-use std::io;
+use std::io::{self, Write};
 use std::sync::Wait;
 use std::thread::Threads;
-use text_core::{TextRecord, write_number, write_scan_fault};
+use text_core::{TextRecord, write_number};
 
 /// A longer list is told by its length and a hash of its text.
 const LIST_LIMIT: usize = 40;
@@ -144,7 +144,7 @@ fn list_of<R: TextRecord, E: Threads + Wait + Sync>(
     let records = match scan::<R>(alloc, image) {
         Ok(scanned) => scanned.records,
         Err(fault) => {
-            write_scan_fault(&mut text, fault)?;
+            write!(text, "{fault}")?;
             return Ok(text);
         }
     };

@@ -6,7 +6,7 @@ use crate::repeat::step_in;
 use crate::tally::{BAR, Tally};
 use crate::upgrading::{tally_new, tally_old, upgrade_onto};
 use crate::words::{last_number, next_number, next_word};
-use disk_core::{Choice, FuseDisk, ImageLength, PendingBytes, RamDisk};
+use disk_core::{Blow, Choice, FuseDisk, ImageLength, PendingBytes, RamDisk};
 use drive_core::{Driven, Step};
 use hex::FromHex;
 use play_core::{Asked, read_step_line};
@@ -165,6 +165,17 @@ impl<R: TextRecord> Player<R> {
         Ok(())
     }
 
+    /// Runs all steps on a disk that stops or fails behind so many calls.
+    fn driven_on<E: Threads + Wait + Sync>(
+        &self,
+        rt: &E,
+        calls: u64,
+        blow: Blow,
+    ) -> io::Result<Driven<R, FuseDisk<RamDisk>>> {
+        let disk = FuseDisk::new(self.begun()?, calls, blow);
+        driven(self.alloc, rt, disk, self.steps.as_slice())
+    }
+
     /// Writes what all steps leave on a disk that stops or fails: the lists of its images.
     fn write_cut<E: Threads + Wait + Sync>(
         &mut self,
@@ -174,8 +185,7 @@ impl<R: TextRecord> Player<R> {
     ) -> io::Result<()> {
         let mut tally = Tally::new(self.alloc);
         for calls in cut.first..=cut.last {
-            let disk = FuseDisk::new(self.begun()?, calls, cut.blow);
-            let left = driven(self.alloc, rt, disk, self.steps.as_slice())?;
+            let left = self.driven_on(rt, calls, cut.blow)?;
             let mut lists = Vec::new(self.alloc);
             self.looks
                 .write::<R, E>(rt, &left.disk.into_inner(), &mut lists)?;
@@ -193,8 +203,7 @@ impl<R: TextRecord> Player<R> {
     ) -> io::Result<()> {
         let mut tally = Tally::new(self.alloc);
         for calls in cut.first..=cut.last {
-            let disk = FuseDisk::new(self.begun()?, calls, cut.blow);
-            let left = driven(self.alloc, rt, disk, self.steps.as_slice())?;
+            let left = self.driven_on(rt, calls, cut.blow)?;
             let mut answers = Tally::new(self.alloc);
             answers.add_answers(left.answers, 0)?;
             let mut text = Vec::new(self.alloc);

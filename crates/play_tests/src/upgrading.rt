@@ -4,14 +4,12 @@ use crate::cut::Cut;
 use crate::look::{Looks, copied};
 use crate::tally::Tally;
 use disk_core::{Disk, FuseDisk, RamDisk};
-use fault_names::{write_disk_fault, write_vault_fault};
-use pen_core::OpenFault;
 use std::alloc::Global;
-use std::io;
+use std::io::{self, Write};
 use std::sync::Wait;
 use std::thread::Threads;
-use text_core::{TextRecord, write_numbered, write_scan_fault};
-use vault_core::{UpgradeFault, upgrade};
+use text_core::{TextRecord, write_numbered};
+use vault_core::upgrade;
 
 /// The disks behind an upgrade, and what it answered.
 #[derive(Drop)]
@@ -19,25 +17,6 @@ pub struct Upgraded<D: Disk, E: Disk> {
     pub old: D,
     pub new: E,
     pub answer: Vec<u8>,
-}
-
-fn write_refused(fault: UpgradeFault, text: &mut Vec<u8>) -> io::Result<()> {
-    text.extend_from_slice(b"refused ")?;
-    match fault {
-        UpgradeFault::NotOld => Ok(text.extend_from_slice(b"not version 1")?),
-        UpgradeFault::Old(OpenFault::Scan(fault)) => {
-            text.extend_from_slice(b"old ")?;
-            write_scan_fault(text, fault)
-        }
-        UpgradeFault::Old(OpenFault::Disk(fault)) => {
-            text.extend_from_slice(b"old ")?;
-            write_disk_fault(text, fault)
-        }
-        UpgradeFault::New(fault) => {
-            text.extend_from_slice(b"new ")?;
-            write_vault_fault(text, fault)
-        }
-    }
 }
 
 /// Upgrades the file on the old disk into one on the new disk, as growths of so many records.
@@ -55,7 +34,7 @@ pub fn upgrade_onto<R: TextRecord, D: Disk + Drop, E: Disk + Drop>(
             Ok(Upgraded { old, new, answer })
         }
         Err((old, new, fault)) => {
-            write_refused(fault, &mut answer)?;
+            write!(answer, "refused {fault}")?;
             Ok(Upgraded { old, new, answer })
         }
     }
