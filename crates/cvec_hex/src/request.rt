@@ -3,7 +3,7 @@
 ghost use Rattle.std.specs.Prelude.{◌≡◌, [], None};
 
 /// What is done with the input.
-#[derive(Clone, Copy, Debug, PartialEq, Eq)]
+#[derive(Clone, Copy)]
 pub enum Task {
     /// A segment file is made of group lines.
     Image,
@@ -12,7 +12,7 @@ pub enum Task {
 }
 
 /// The types of record that the program knows.
-#[derive(Clone, Copy, Debug, PartialEq, Eq)]
+#[derive(Clone, Copy)]
 pub enum RecordType {
     U32,
     U64,
@@ -22,7 +22,7 @@ pub enum RecordType {
 }
 
 /// A task on records of one type.
-#[derive(Clone, Copy, Debug, PartialEq, Eq)]
+#[derive(Clone, Copy)]
 pub struct Request {
     pub task: Task,
     pub record_type: RecordType,

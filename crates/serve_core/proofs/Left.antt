@@ -17,8 +17,8 @@ use Rattle.flush_core.specs.Serving.{Serves}
 use Rattle.vault_core.specs.Vault.{VaultOf, MayHold, list_of}
 use Rattle.vault_core.specs.Sharing.{Shares}
 use Rattle.vault_core.specs.Crewing.{OpensToGrown}
-use Rattle.serve_core.specs.declared.serving.ServeFault.{ServeFault}
-use Rattle.serve_core.specs.declared.serving.ServeFault.TheVariants.{Open, Share, Thread, Flush}
+use Rattle.serve_core.specs.declared.fault.ServeFault.{ServeFault}
+use Rattle.serve_core.specs.declared.fault.ServeFault.TheVariants.{Open, Share, Thread, Flush}
 use Rattle.serve_core.specs.Serving.{IsServed, IsAllServed, OpensBehind, IsLeft, ComesBack, IsPhaseLeft}
 
 module _ {R D : Type 0} (form : Encoding R) (keeps : D → Type 0) (states : D → List State) (disk : D) (vault : VaultOf R D)
@@ -27,10 +27,13 @@ module _ {R D : Type 0} (form : Encoding R) (keeps : D → Type 0) (states : D �
   file kept = record { format = (opened kept).format; frames = (opened kept).found; vector = (opened kept).vector }
 
   before_or : (P : List ℕ → Type 0) → keeps vault.pen.disk → LeavesOnly (states disk) (states vault.pen.disk) (λ image. IsImage (now (states disk)) image ⊎ P image)
-  before_or P kept = LeavesOnly-weaker (states disk) (states vault.pen.disk) (IsImage (now (states disk))) (λ image. IsImage (now (states disk)) image ⊎ P image) (λ image is. inl is) (syncs kept).left_before
+  before_or P kept =
+      LeavesOnly-weaker (states disk) (states vault.pen.disk) (IsImage (now (states disk))) (λ image. IsImage (now (states disk)) image ⊎ P image)
+      (λ image is. inl is) (syncs kept).left_before
 
   -- the file opens to the list as ever
-  nothing_grown : (left : D) → left ≡ vault.pen.disk → ((image : List ℕ) → IsImage (now (states left)) image → OpensTo form image (list_of vault)) → keeps left → (served : IsServed form states disk left 0) × (served.growths ≡ [])
+  nothing_grown : (left : D) → left ≡ vault.pen.disk → ((image : List ℕ) → IsImage (now (states left)) image → OpensTo form image (list_of vault))
+      → keeps left → (served : IsServed form states disk left 0) × (served.growths ≡ [])
   nothing_grown left same opens kept =
       let still : keeps vault.pen.disk = subst keeps same kept in (
         record {
@@ -38,14 +41,19 @@ module _ {R D : Type 0} (form : Encoding R) (keeps : D → Type 0) (states : D �
           growths = [];
           file = file still;
           few = omega arith;
-          meanwhile = subst (λ d. LeavesOnly (states disk) (states d) (λ image. IsImage (now (states disk)) image ⊎ OpensToGrown form (list_of vault) [] image)) (sym same) (before_or (OpensToGrown form (list_of vault) []) still);
+          meanwhile =
+              subst
+              (λ d. LeavesOnly (states disk) (states d) (λ image. IsImage (now (states disk)) image ⊎ OpensToGrown form (list_of vault) [] image))
+              (sym same) (before_or (OpensToGrown form (list_of vault) []) still);
           stands = λ image is. record { count = 0; at_least = omega arith; known = omega arith; opens = subst (OpensTo form image) (sym (append-nil (list_of vault))) (opens image is) };
         },
         refl,
       )
 
   -- no phase was begun
-  pub handed_back : (back : VaultOf R D) → back ≡ vault → (left : D) → left ≡ back.pen.disk → (keeps vault.pen.disk → vault.sure ≡ list_of vault) → (keeps left → (image : List ℕ) → IsImage (now (states left)) image → MayHold form back image) → keeps left → (served : IsServed form states disk left 0) × (served.growths ≡ [])
+  pub handed_back : (back : VaultOf R D) → back ≡ vault → (left : D) → left ≡ back.pen.disk → (keeps vault.pen.disk → vault.sure ≡ list_of vault)
+      → (keeps left → (image : List ℕ) → IsImage (now (states left)) image → MayHold form back image) → keeps left
+      → (served : IsServed form states disk left 0) × (served.growths ≡ [])
   handed_back back is left same sure images kept =
       nothing_grown left whole (λ image at. one image (subst (λ (v : VaultOf R D). MayHold form v image) is (images kept image at))) kept
     where
@@ -57,8 +65,10 @@ module _ {R D : Type 0} (form : Encoding R) (keeps : D → Type 0) (states : D �
       one image (inr opens) = opens
 
   -- a phase was begun, and none of its clients served
-  pub not_started : (live : Phase R) (begun back : FlusherOf R D) → live.blocks ≡ vault.blocks → begun.pen ≡ vault.pen → IsFlusherOf (keeps vault.pen.disk) live begun → begun.pass.entries ≡ [] → back ≡ begun
-      → (left : D) → left ≡ back.pen.disk → (keeps left → (image : List ℕ) → IsImage (now (states left)) image → OpensToJob form back image) → keeps left → (served : IsServed form states disk left 0) × (served.growths ≡ [])
+  pub not_started : (live : Phase R) (begun back : FlusherOf R D) → live.blocks ≡ vault.blocks → begun.pen ≡ vault.pen
+      → IsFlusherOf (keeps vault.pen.disk) live begun → begun.pass.entries ≡ [] → back ≡ begun
+      → (left : D) → left ≡ back.pen.disk → (keeps left → (image : List ℕ) → IsImage (now (states left)) image → OpensToJob form back image)
+      → keeps left → (served : IsServed form states disk left 0) × (served.growths ≡ [])
   not_started live begun back blocks pen of none is left same images kept =
       nothing_grown left whole (λ image at. first image (subst (λ (f : FlusherOf R D). OpensToJob form f image) is (images kept image at))) kept
     where
@@ -74,7 +84,8 @@ module _ {R D : Type 0} (form : Encoding R) (keeps : D → Type 0) (states : D �
       first : (image : List ℕ) → OpensToJob form begun image → OpensTo form image (list_of vault)
       first image job = subst (OpensTo form image) (list job.kept.count) job.kept.opens
 
-  module _ (live : Phase R) (begun served : FlusherOf R D) (blocks : live.blocks ≡ vault.blocks) (pen : begun.pen ≡ vault.pen) (of : IsFlusherOf (keeps served.pen.disk) live served) (goes : Serves form keeps states begun served) where
+  module _ (live : Phase R) (begun served : FlusherOf R D) (blocks : live.blocks ≡ vault.blocks) (pen : begun.pen ≡ vault.pen)
+      (of : IsFlusherOf (keeps served.pen.disk) live served) (goes : Serves form keeps states begun served) where
     opening : keeps served.pen.disk → served.opening ≡ list_of vault
     opening kept = of.opening kept ∙ ap joined_pieces blocks
 
@@ -90,7 +101,8 @@ module _ {R D : Type 0} (form : Encoding R) (keeps : D → Type 0) (states : D �
 
     since : keeps served.pen.disk → LeavesOnly (states vault.pen.disk) (states served.pen.disk) (OpensToGrown form (list_of vault) served.pass.entries)
     since kept = subst (λ (p : PenOf D). LeavesOnly (states p.disk) (states served.pen.disk) (OpensToGrown form (list_of vault) served.pass.entries)) pen
-        (LeavesOnly-weaker (states begun.pen.disk) (states served.pen.disk) (OpensToFirst form begun.settled served) (OpensToGrown form (list_of vault) served.pass.entries) (first_of kept) (goes.images kept))
+        (LeavesOnly-weaker (states begun.pen.disk) (states served.pen.disk) (OpensToFirst form begun.settled served)
+        (OpensToGrown form (list_of vault) served.pass.entries) (first_of kept) (goes.images kept))
 
     now_of : keeps served.pen.disk → (image : List ℕ) → OpensToJob form served image → OpensBehind form (list_of vault) served.pass.entries served.settled image
     now_of kept image job = record {
@@ -117,7 +129,8 @@ module _ {R D : Type 0} (form : Encoding R) (keeps : D → Type 0) (states : D �
             file = file still;
             few = few;
             meanwhile = subst (λ d. LeavesOnly (states disk) (states d) Q) (sym same)
-                (LeavesOnly-join (states disk) (states vault.pen.disk) (states served.pen.disk) Q (before_or P still) (LeavesOnly-weaker (states vault.pen.disk) (states served.pen.disk) P Q (λ image has. inr has) (since last)));
+                (LeavesOnly-join (states disk) (states vault.pen.disk) (states served.pen.disk) Q (before_or P still)
+                (LeavesOnly-weaker (states vault.pen.disk) (states served.pen.disk) P Q (λ image has. inr has) (since last)));
             stands = λ image is.
                 let behind = now_of last image (images kept image is) in
                 record { count = behind.count; at_least = omega (arith, count_is, behind.at_least); known = behind.known; opens = behind.opens };

@@ -18,8 +18,8 @@ use Rattle.vault_core.specs.declared.fault.VaultFault.{VaultFault}
 use Rattle.vault_core.specs.declared.fault.VaultFault.TheVariants as vaults
 use Rattle.vault_core.specs.Vault.{VaultOf}
 use Rattle.vault_core.specs.Sharing.{Shares, IsShareFault, IsNotShared, IsTooLarge}
-use Rattle.serve_core.specs.declared.serving.ServeFault.{ServeFault}
-use Rattle.serve_core.specs.declared.serving.ServeFault.TheVariants.{Open, Share, Thread, Flush}
+use Rattle.serve_core.specs.declared.fault.ServeFault.{ServeFault}
+use Rattle.serve_core.specs.declared.fault.ServeFault.TheVariants.{Open, Share, Thread, Flush}
 use Rattle.serve_core.specs.Serving.{IsShareRefusal, IsStop, IsServeRefusal, CountsFailed, ComesBack, IsPhaseLeft, failed_calls}
 
 -- a pen that rests may begin a job

@@ -62,8 +62,14 @@ next_of_none {R} made none = record {
 }
 
 -- the seat has made one more
-pub next_grown : {R : Type 0} (live : Phase R) (old new : Seated R) (records : List R) (receipt : Receipt) (n : ℕ) → Grown live old new records receipt → IsNextOf n old.made → IsNextOf (max (length new.pass.entries) n) new.made
-next_grown {R} live old new records receipt n grown next = subst (IsNextOf (max (length new.pass.entries) n)) (sym grown.made) (record { below = All-push (λ (g : Growth R). g.number < max (length new.pass.entries) n) old.made (growth_of old grown.before records) others mine; last = λ some. one (cases_lt (length new.pass.entries) n) })
+pub next_grown : {R : Type 0} (live : Phase R) (old new : Seated R) (records : List R) (receipt : Receipt) (n : ℕ)
+    → Grown live old new records receipt → IsNextOf n old.made → IsNextOf (max (length new.pass.entries) n) new.made
+next_grown {R} live old new records receipt n grown next =
+    subst (IsNextOf (max (length new.pass.entries) n)) (sym grown.made)
+    (record {
+      below = All-push (λ (g : Growth R). g.number < max (length new.pass.entries) n) old.made (growth_of old grown.before records) others mine;
+      last = λ some. one (cases_lt (length new.pass.entries) n);
+    })
   where
     known : length new.pass.entries ≡ length grown.before + 1
     known = ap length grown.ends ∙ length-append grown.before (growth_of old grown.before records ∷ [])
@@ -82,7 +88,8 @@ next_grown {R} live old new records receipt n grown next = subst (IsNextOf (max 
     one (inr below) = (growth_of old grown.before records, Contains-push old.made (growth_of old grown.before records), omega (arith, below, known))
 
 -- What holds between two requests.
-pub record IsTalking {R : Type 0} (form : Encoding R) (live : Phase R) (seat : Seated R) (input output : Option (List ℕ)) (next : ℕ) (seat_now : Seated R) (input_now output_now : Option (List ℕ)) : Type 0 where
+pub record IsTalking {R : Type 0} (form : Encoding R) (live : Phase R) (seat : Seated R) (input output : Option (List ℕ)) (next : ℕ)
+    (seat_now : Seated R) (input_now output_now : Option (List ℕ)) : Type 0 where
   pub of : IsSeatOf live seat_now
   pub numbers : IsNextOf next seat_now.made
   pub exchanges : List (Exchange R)
@@ -126,13 +133,15 @@ module _ {R : Type 0} (form : Encoding R) (live : Phase R) (seat : Seated R) (in
     read_more : Consumes input input_new (asked so_far.exchanges ++ (done.exchange.head ++ done.exchange.block))
     read_more = Consumes-trans input input_mid input_new (asked so_far.exchanges) (done.exchange.head ++ done.exchange.block) so_far.requests done.read
 
-    wrote_more : (answer : Answer) (out : List ℕ) (output_new : Option (List ℕ)) → done.exchange.answer ≡ answer → out ≡ answer_bytes form answer done.exchange.records → Appends output_mid output_new out
+    wrote_more : (answer : Answer) (out : List ℕ) (output_new : Option (List ℕ)) → done.exchange.answer ≡ answer
+        → out ≡ answer_bytes form answer done.exchange.records → Appends output_mid output_new out
         → Appends output output_new (told form so_far.exchanges ++ answer_bytes form done.exchange.answer done.exchange.records)
     wrote_more answer out output_new is bytes wrote =
         Appends-then output output_mid output_new (told form so_far.exchanges) (answer_bytes form done.exchange.answer done.exchange.records) so_far.answers
         (subst (Appends output_mid output_new) (bytes ∙ ap (λ (a : Answer). answer_bytes form a done.exchange.records) (sym is)) wrote)
 
-    pub goes_on : (then : ℕ) (answer : Answer) (out : List ℕ) (output_new : Option (List ℕ)) → done.exchange.answer ≡ answer → out ≡ answer_bytes form answer done.exchange.records → Appends output_mid output_new out
+    pub goes_on : (then : ℕ) (answer : Answer) (out : List ℕ) (output_new : Option (List ℕ)) → done.exchange.answer ≡ answer
+        → out ≡ answer_bytes form answer done.exchange.records → Appends output_mid output_new out
         → IsSeatOf live new → IsNextOf then new.made → TalkGoesOn answer → IsTalking form live seat input output then new input_new output_new
     goes_on then answer out output_new is bytes wrote of numbers goes = record {
       of = of;
@@ -145,7 +154,8 @@ module _ {R : Type 0} (form : Encoding R) (live : Phase R) (seat : Seated R) (in
     }
 
     -- the answer was written, and the conversation ends behind it
-    pub ends : (answer : Answer) (out : List ℕ) (output_new : Option (List ℕ)) (end : TalkEnd) → done.exchange.answer ≡ answer → out ≡ answer_bytes form answer done.exchange.records → Appends output_mid output_new out
+    pub ends : (answer : Answer) (out : List ℕ) (output_new : Option (List ℕ)) (end : TalkEnd) → done.exchange.answer ≡ answer
+        → out ≡ answer_bytes form answer done.exchange.records → Appends output_mid output_new out
         → EndsTalk end answer → HasTalked form live seat new input input_new output output_new end
     ends answer out output_new end is bytes wrote so = record {
       exchanges = done.exchange ∷ so_far.exchanges;
@@ -157,7 +167,8 @@ module _ {R : Type 0} (form : Encoding R) (live : Phase R) (seat : Seated R) (in
       ends = ends_so end (subst (EndsTalk end) (sym is) so);
     }
       where
-        told_all : (end : TalkEnd) (answer : Answer) → Appends output output_new (told form (done.exchange ∷ so_far.exchanges)) → EndsTalk end answer → Appends output output_new (told form (told_of end (done.exchange ∷ so_far.exchanges)))
+        told_all : (end : TalkEnd) (answer : Answer) → Appends output output_new (told form (done.exchange ∷ so_far.exchanges)) → EndsTalk end answer
+            → Appends output output_new (told form (told_of end (done.exchange ∷ so_far.exchanges)))
         told_all Ended answer wrote is = wrote
         told_all Gone answer wrote is = wrote
         told_all (Refused refusal) answer wrote is = wrote
@@ -196,7 +207,9 @@ module _ {R : Type 0} (form : Encoding R) (live : Phase R) (seat : Seated R) (in
     }
 
   -- the requests ended
-  pub gone : (next : ℕ) (mid now : Seated R) (input_mid input_now output_now : Option (List ℕ)) → IsTalking form live seat input output next mid input_mid output_now → now ≡ mid → HasTalked form live seat now input input_now output output_now Gone
+  pub gone : (next : ℕ) (mid now : Seated R) (input_mid input_now output_now : Option (List ℕ))
+      → IsTalking form live seat input output next mid input_mid output_now → now ≡ mid
+      → HasTalked form live seat now input input_now output output_now Gone
   gone next mid now input_mid input_now output_now so_far is = record {
     exchanges = so_far.exchanges;
     are = subst (AreExchanges form live seat so_far.exchanges) (sym is) so_far.are;
@@ -217,7 +230,8 @@ module _ {R : Type 0} (form : Encoding R) (live : Phase R) (seat : Seated R) (in
   untold next mid now input_mid input_now output_now OutputFailed so_far is = absurd is
 
 -- a request with this head was answered so
-pub some_exchange : {R X : Type 0} (form : Encoding R) (live : Phase R) (old new : Seated R) (head block : List ℕ) (numbers : Head) (request : Request) (records : X → List R) (result : Option (Answer × X))
+pub some_exchange : {R X : Type 0} (form : Encoding R) (live : Phase R) (old new : Seated R) (head block : List ℕ) (numbers : Head)
+    (request : Request) (records : X → List R) (result : Option (Answer × X))
     → IsHead head numbers → numbers ≡ head_of request → IfSome result (λ r. IsOfRequest form live request block old new r.0 (records r.1))
     → IfSome result (λ r. IsExchange form live old (record { head = head; block = block; answer = r.0; records = records r.1 }) new)
 some_exchange form live old new head block numbers request records None is of told = tt

@@ -22,8 +22,8 @@ use Rattle.vault_core.specs.declared.fault.VaultFault.{VaultFault}
 use Rattle.vault_core.specs.declared.fault.VaultFault.TheVariants.{Pen}
 use Rattle.vault_core.specs.Vault.{VaultOf, list_of}
 use Rattle.vault_core.specs.Crewing.{OpensToGrown}
-use Rattle.serve_core.specs.declared.serving.ServeFault.{ServeFault}
-use Rattle.serve_core.specs.declared.serving.ServeFault.TheVariants.{Open, Share, Thread, Flush}
+use Rattle.serve_core.specs.declared.fault.ServeFault.{ServeFault}
+use Rattle.serve_core.specs.declared.fault.ServeFault.TheVariants.{Open, Share, Thread, Flush}
 
 -- the image opens to these records and those of the first of the growths, at least so many of them
 pub record OpensBehind {R : Type 0} (form : Encoding R) (before : List R) (growths : List (Growth R)) (settled : ℕ) (image : List ℕ) : Type 0 where
@@ -93,7 +93,8 @@ CountsFailed count old new result = MatchResult result (λ _. new ≡ old) (λ f
 
 -- The flusher of a phase has served until that came of it: the growths that it settled stand, all of them where it wasn't
 -- refused, and the calls of the device failed as often as the fault tells.
-pub record HasFlushed {R D : Type 0} (form : Encoding R) (keeps : D → Type 0) (states : D → List State) (faults : D → ℕ) (live : Phase R) (old new : FlusherOf R D) {X : Type 0} (flushed : Result X FlushFault) : Type 0 where
+pub record HasFlushed {R D : Type 0} (form : Encoding R) (keeps : D → Type 0) (states : D → List State) (faults : D → ℕ) (live : Phase R)
+    (old new : FlusherOf R D) {X : Type 0} (flushed : Result X FlushFault) : Type 0 where
   pub of : IsFlusherOf (keeps new.pen.disk) live new
   pub served : Serves form keeps states old new
   pub ended : OnOk flushed (HasSettledAll new)
@@ -110,7 +111,8 @@ ComesBack form keeps states faults live old new (Err Thread) = new ≡ old
 ComesBack {X = X} form keeps states faults live old new (Err (Flush fault)) = HasFlushed form keeps states faults live old new {X = X} (Err fault)
 
 -- That came of a flusher, and it is let go: its disk is left, and it has settled so many growths.
-pub record IsPhaseLeft {R D X : Type 0} (form : Encoding R) (keeps : D → Type 0) (states : D → List State) (faults : D → ℕ) (live : Phase R) (old : FlusherOf R D) (left : D) (settled : ℕ) (result : Result X ServeFault) : Type 0 where
+pub record IsPhaseLeft {R D X : Type 0} (form : Encoding R) (keeps : D → Type 0) (states : D → List State) (faults : D → ℕ) (live : Phase R)
+    (old : FlusherOf R D) (left : D) (settled : ℕ) (result : Result X ServeFault) : Type 0 where
   pub flusher : FlusherOf R D
   pub comes : ComesBack form keeps states faults live old flusher result
   pub disk_is : left ≡ flusher.pen.disk

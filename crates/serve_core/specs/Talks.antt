@@ -120,7 +120,8 @@ IsLookRefusal seat other = ⊥
 -- Of looking: the size that it then knows, where of its own growths its list has just those that it made, and how many growths
 -- the mark then tells as settled.
 abbrev pub IsOfLooking : {R : Type 0} → Phase R → Seated R → Seated R → Answer → Type 0
-IsOfLooking {R} live old new (answers.Looked size settled) = (mid : Seated R) × SeatLearns old mid × HasJustItsOwn mid × (size ≡ size_of live mid) × (state : MarkState) × SeatIsTold mid new settled state
+IsOfLooking {R} live old new (answers.Looked size settled) =
+    (mid : Seated R) × SeatLearns old mid × HasJustItsOwn mid × (size ≡ size_of live mid) × (state : MarkState) × SeatIsTold mid new settled state
 IsOfLooking live old new (answers.Refused refusal) = SeatLearns old new × IsLookRefusal new refusal
 IsOfLooking live old new other = ⊥
 

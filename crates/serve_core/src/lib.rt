@@ -3,13 +3,20 @@
 #![tactic(auto)]
 
 mod answer;
+mod client;
+mod fault;
+mod growing;
 mod refusal;
 mod request;
 mod serving;
+mod starting;
 mod talking;
+mod telling;
 
 pub use answer::{Answer, Numbers};
+pub use client::Pipes;
+pub use fault::ServeFault;
 pub use refusal::Refusal;
 pub use request::{HEAD_LEN, Head, Request};
-pub use serving::{Pipes, ServeFault, Served, serve};
+pub use serving::{Served, serve};
 pub use talking::{TalkEnd, talk};

@@ -1,20 +1,19 @@
 //! One client's conversation: its requests are read and answered one after the other, each by the seat as it is then.
 
-ghost use Rattle.std.specs.Prelude.{◌≡◌, ◌≤◌, ◌+◌, ◌*◌, [], length, IfOk, IfErr, IfSome, IfNone, MatchOption, MatchResult};
+ghost use Rattle.std.specs.Prelude.{◌≡◌, ◌≤◌, ◌*◌, [], length, IfOk, IfErr, IfSome, IfNone, MatchOption};
 ghost use Rattle.std.specs.Io.KnownBytes.{Consumes};
-ghost use Rattle.record_core.specs.Cells.{AreRecords};
 ghost use Rattle.record_core.specs.Limits.{payload_limit};
-ghost use Rattle.block_core.specs.Length.{IsBlockLength};
 ghost use Rattle.book_core.specs.Lists.{IsSeatOf};
 ghost use Rattle.serve_core.specs.Answers.{answer_bytes};
-ghost use Rattle.serve_core.specs.Talks.{IsCountRefusal, IsNextOf, IsBlock, IsUnread, IsOfRecords, IsOfGrowth, IsNoGrowth, IsOfWaiting, IsOfLooking, IsOfReading, IsOfRequest, Exchange, IsExchange, IsDone, IsUntold, TalkGoesOn, EndsTalk, HasTalked};
+ghost use Rattle.serve_core.specs.Talks.{IsNextOf, IsOfRequest, Exchange, IsExchange, IsDone, IsUntold, TalkGoesOn, EndsTalk, HasTalked};
 
 use crate::answer::Answer;
+use crate::growing::grow;
 use crate::refusal::Refusal;
 use crate::request::{HEAD_LEN, Head, Request};
-use block_core::{Fresh, FreshFault};
-use book_core::{Live, MarkState, Seat};
-use record_core::{Record, RecordsFault, read_records, width_of};
+use crate::telling::tell;
+use book_core::{Live, Seat};
+use record_core::Record;
 use std::alloc::Global;
 use std::io::{Read, Write};
 use std::sync::Wait;
@@ -32,236 +31,6 @@ pub enum TalkEnd {
     OutputFailed,
     /// There was no memory for an answer.
     Memory,
-}
-
-/// Whether a growth or a read may be of so many records: one at least, and no more than one frame of the file holds.
-fn check_count<R: Record>(count: u32) -> Result<(), Refusal>
-    ensures { MatchResult result (λ _. IsBlockLength R.form.width count) (IsCountRefusal R.form.width count) }
-{
-    match Fresh::<R>::check_len(count as u64) {
-        Ok(()) => Ok(()),
-        Err(FreshFault::Empty) => Err(Refusal::NoRecord),
-        Err(_) => Err(Refusal::TooMany),
-    }
-}
-
-/// The records that the bytes are.
-fn records_of<R: Record>(alloc: Global, count: u32, block: &[u8]) -> Result<Vec<R>, Refusal>
-    requires { length block.now ≡ count * R.form.width }
-    ensures { MatchResult result
-        (λ records. (length records.items ≡ count) × AreRecords R.form block.now records.items)
-        (IsUnread R.form count block.now) }
-{
-    let Ok(mut records) = Vec::with_capacity(alloc, count as usize) else {
-        return Err(Refusal::Memory);
-    };
-    match read_records::<R>(block, count as usize, &mut records) {
-        Ok(()) => Ok(records),
-        Err(RecordsFault::Bad(_)) => Err(Refusal::BadRecord),
-        Err(RecordsFault::Memory) => Err(Refusal::Memory),
-    }
-}
-
-/// Publishes a block as one growth.
-fn grow_fresh<R: Record, E: Wait>(
-    rt: &E,
-    live: &Live<R>,
-    seat: &mut Seat<R>,
-    next: &mut u64,
-    fresh: Fresh<R>,
-) -> Answer
-    requires of { IsSeatOf live.now seat.old }
-    requires numbers { IsNextOf next.old seat.old.made }
-    ensures of { IsSeatOf live.now seat.new }
-    ensures numbers { IsNextOf next.new seat.new.made }
-    ensures told { IsOfRecords live.now fresh seat.old seat.new result }
-{
-    let receipt = match live.grow(rt, seat, fresh) {
-        Ok(receipt) => receipt,
-        Err((_, fault)) => return Answer::Refused(Refusal::of_growth(fault)),
-    };
-    *next = seat.known().max(*next);
-    Answer::Grown {
-        number: receipt.number,
-        start: receipt.start,
-    }
-}
-
-/// Publishes these records as one growth.
-fn grow_records<R: Record, E: Wait>(
-    rt: &E,
-    alloc: Global,
-    live: &Live<R>,
-    seat: &mut Seat<R>,
-    next: &mut u64,
-    records: Vec<R>,
-) -> Answer
-    requires of { IsSeatOf live.now seat.old }
-    requires numbers { IsNextOf next.old seat.old.made }
-    requires len { IsBlockLength R.form.width (length records.items) }
-    ensures of { IsSeatOf live.now seat.new }
-    ensures numbers { IsNextOf next.new seat.new.made }
-    ensures told { IsOfRecords live.now records.items seat.old seat.new result }
-{
-    match Fresh::from_vec(alloc, records) {
-        Ok(fresh) => grow_fresh(rt, live, seat, next, fresh),
-        Err((_, fault)) => Answer::Refused(Refusal::of_growth(fault.into())),
-    }
-}
-
-/// Publishes the records that the bytes are as one growth.
-fn grow_block<R: Record, E: Wait>(
-    rt: &E,
-    alloc: Global,
-    live: &Live<R>,
-    seat: &mut Seat<R>,
-    next: &mut u64,
-    count: u32,
-    block: &[u8],
-) -> Answer
-    requires of { IsSeatOf live.now seat.old }
-    requires numbers { IsNextOf next.old seat.old.made }
-    requires block { IsBlock R.form.width count block.now }
-    ensures of { IsSeatOf live.now seat.new }
-    ensures numbers { IsNextOf next.new seat.new.made }
-    ensures told { IsOfGrowth R.form live.now count block.now seat.old seat.new result }
-{
-    match records_of(alloc, count, block) {
-        Ok(records) => grow_records(rt, alloc, live, seat, next, records),
-        Err(refusal) => Answer::Refused(refusal),
-    }
-}
-
-/// Reads the bytes of a growth, and publishes it. `None`: the requests ended in it.
-fn grow<R: Record, I: Read, E: Wait>(
-    rt: &E,
-    alloc: Global,
-    live: &Live<R>,
-    seat: &mut Seat<R>,
-    next: &mut u64,
-    count: u32,
-    requests: &mut I,
-    block: &mut Vec<u8>,
-) -> Option<Answer>
-    requires of { IsSeatOf live.now seat.old }
-    requires numbers { IsNextOf next.old seat.old.made }
-    requires empty { block.old.items ≡ [] }
-    ensures of { IsSeatOf live.now seat.new }
-    ensures numbers { IsNextOf next.new seat.new.made }
-    ensures told { IfSome result (IsOfGrowth R.form live.now count block.new.items seat.old seat.new) }
-    ensures gone { IfNone result (seat.new ≡ seat.old) }
-    ensures read { IfSome result (λ _. Consumes (I.remaining requests.old) (I.remaining requests.new) block.new.items) }
-{
-    if let Err(refusal) = check_count::<R>(count) {
-        return Some(Answer::Refused(refusal));
-    }
-    if block.resize(count as usize * width_of::<R>(), 0).is_err() {
-        return Some(Answer::Refused(Refusal::NoMemory));
-    }
-    if requests.read_exact(block.as_mut_slice()).is_err() {
-        return None;
-    }
-    Some(grow_block(rt, alloc, live, seat, next, count, block.as_slice()))
-}
-
-/// Waits until the growth of that number is settled, the last of the seat's.
-fn await_number<R: Record, E: Wait>(
-    rt: &E,
-    live: &Live<R>,
-    seat: &mut Seat<R>,
-    number: u64,
-) -> Answer
-    requires of { IsSeatOf live.now seat.old }
-    requires numbers { IsNextOf (number + 1) seat.old.made }
-    ensures of { IsSeatOf live.now seat.new }
-    ensures made { seat.new.made ≡ seat.old.made }
-    ensures told { IsOfWaiting seat.old seat.new result }
-{
-    let (growths, state) = live.await_settled(rt, seat, number);
-    if number < growths {
-        return Answer::Settled { growths };
-    }
-    match state {
-        MarkState::Broken => Answer::Refused(Refusal::Broken),
-        MarkState::Ended => Answer::Refused(Refusal::Ended),
-        MarkState::Running => unreachable!(),
-    }
-}
-
-/// Waits until all that the seat grew is settled: the number before `next` is that of the last.
-fn await_own<R: Record, E: Wait>(rt: &E, live: &Live<R>, seat: &mut Seat<R>, next: u64) -> Answer
-    requires of { IsSeatOf live.now seat.old }
-    requires numbers { IsNextOf next seat.old.made }
-    ensures of { IsSeatOf live.now seat.new }
-    ensures made { seat.new.made ≡ seat.old.made }
-    ensures told { IsOfWaiting seat.old seat.new result }
-{
-    if next > 0 {
-        return await_number(rt, live, seat, next - 1);
-    }
-    let (growths, _) = live.settled(seat);
-    Answer::Settled { growths }
-}
-
-/// How many records there are, and how many growths are settled.
-fn look<R: Record>(live: &Live<R>, seat: &mut Seat<R>) -> Answer
-    requires of { IsSeatOf live.now seat.old }
-    ensures of { IsSeatOf live.now seat.new }
-    ensures made { seat.new.made ≡ seat.old.made }
-    ensures told { IsOfLooking live.now seat.old seat.new result }
-{
-    let Ok(size) = live.look(seat) else {
-        return Answer::Refused(Refusal::Strayed);
-    };
-    let (settled, _) = live.settled(seat);
-    Answer::Looked { size, settled }
-}
-
-/// The records from a position on, lent for the life of the phase.
-fn read<'a, R: Record>(
-    live: &'a Live<R>,
-    seat: &mut Seat<R>,
-    start: u64,
-    count: u32,
-) -> (Answer, &'a [R])
-    requires of { IsSeatOf live.now seat.old }
-    ensures same { seat.new ≡ seat.old }
-    ensures told { IsOfReading R.form live.now start count seat.old seat.new result.0 result.1.now }
-    ensures few { length result.1.now * R.form.width ≤ payload_limit }
-{
-    if let Err(refusal) = check_count::<R>(count) {
-        return (Answer::Refused(refusal), &[]);
-    }
-    let Some(rest) = live.piece(seat, start) else {
-        return (Answer::Piece { start }, &[]);
-    };
-    let len = rest.len().min(count as usize);
-    (Answer::Piece { start }, &rest[..len])
-}
-
-/// Does what is asked by a head alone.
-fn tell<'a, R: Record, E: Wait>(
-    rt: &E,
-    live: &'a Live<R>,
-    seat: &mut Seat<R>,
-    next: u64,
-    request: Request,
-) -> (Answer, &'a [R])
-    requires of { IsSeatOf live.now seat.old }
-    requires numbers { IsNextOf next seat.old.made }
-    requires short { IsNoGrowth request }
-    ensures of { IsSeatOf live.now seat.new }
-    ensures made { seat.new.made ≡ seat.old.made }
-    ensures told { IsOfRequest R.form live.now request [] seat.old seat.new result.0 result.1.now }
-    ensures few { length result.1.now * R.form.width ≤ payload_limit }
-{
-    match request {
-        Request::End => (Answer::Ended, &[]),
-        Request::Grow { count: _ } => unreachable!(),
-        Request::Await => (await_own(rt, live, seat, next), &[]),
-        Request::Look => (look(live, seat), &[]),
-        Request::Read { start, count } => read(live, seat, start, count),
-    }
 }
 
 /// Does what is asked. `None`: the requests ended in it.

@@ -6,3 +6,4 @@ pub mod Window
 pub mod Text
 pub mod Calls
 pub mod Ended
+pub mod Names

@@ -2,4 +2,6 @@ use Rattle.serve_core.proofs.Talks.{some_exchange}
 use Rattle.serve_core.proofs.talking.respond.Goals as goal
 
 pub returns-in-Ok-clause-told : goal.returns-in-Ok-clause-told
-returns-in-Ok-clause-told g c = some_exchange g.R.Record.form c.args.live.now c.args.seat.now c.act.new.seat c.args.head.now c.act.new.block.items c.of.result c.in-Ok.request (λ records. records.now) c.act.result c.of.ensures c.in-Ok.ensures c.act.ensures.told
+returns-in-Ok-clause-told g c =
+    some_exchange g.R.Record.form c.args.live.now c.args.seat.now c.act.new.seat c.args.head.now c.act.new.block.items c.of.result c.in-Ok.request
+    (λ records. records.now) c.act.result c.of.ensures c.in-Ok.ensures c.act.ensures.told

@@ -1,5 +1,5 @@
 use Rattle.serve_core.proofs.Talks.{growth_of_records}
-use Rattle.serve_core.proofs.talking.grow_block.Goals as goal
+use Rattle.serve_core.proofs.growing.grow_block.Goals as goal
 
 pub returns-in-Ok-clause-told : goal.returns-in-Ok-clause-told
 returns-in-Ok-clause-told g c =

@@ -1,6 +1,6 @@
 use Rattle.std.proofs.Common.{◌≡◌, ◌+◌, ◌≤◌, vec_len, vec_capacity}
 use Rattle.book_core.specs.Beginning.{AreNewSeats}
-use Rattle.serve_core.proofs.serving.clients_of.Given as goal
+use Rattle.serve_core.proofs.client.clients_of.Given as goal
 
 abbrev pub invariant-loop : goal.invariant-loop
 invariant-loop g l = record {

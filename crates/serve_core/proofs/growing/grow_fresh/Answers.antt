@@ -1,6 +1,6 @@
 use Rattle.std.proofs.Common.{length, max, arith}
 use Rattle.serve_core.proofs.Talks.{next_same, next_grown}
-use Rattle.serve_core.proofs.talking.grow_fresh.Goals as goal
+use Rattle.serve_core.proofs.growing.grow_fresh.Goals as goal
 
 pub returns-clause-numbers : goal.returns-clause-numbers
 returns-clause-numbers g c =

@@ -1,0 +1,149 @@
+//! A client of the server: its pipes, its seat, and what its thread does.
+
+ghost use Rattle.std.specs.Prelude.{◌≡◌, ◌<◌, ◌≤◌, ◌+◌, [], vec_len, vec_capacity};
+ghost use Rattle.book_core.specs.Lists.{IsSeatOf};
+ghost use Rattle.book_core.specs.Beginning.{AreNewSeats};
+
+use crate::talking::talk;
+use book_core::{Live, Seat};
+use record_core::Record;
+use std::alloc::Global;
+use std::io::{Read, Write};
+use std::sync::atomic::{AtomicU64, Ordering};
+use std::sync::{Mutex, Wait};
+
+/// The two streams of a client.
+#[derive(Drop)]
+pub struct Pipes<I, W> {
+    /// Its requests.
+    pub requests: I,
+    /// Where its answers go.
+    pub answers: W,
+}
+
+/// What the threads of the clients share.
+#[derive(Drop)]
+pub struct Start {
+    /// Whether each client has a thread. Who starts them holds it until that is known.
+    pub all_run: Mutex<bool>,
+    /// How many clients haven't ended.
+    unfinished: AtomicU64,
+}
+
+impl Start {
+    pub fn of(clients: usize) -> Start {
+        Start {
+            all_run: Mutex::new(false),
+            unfinished: AtomicU64::new(clients as u64),
+        }
+    }
+
+    /// Waits until it is known whether each client has a thread.
+    fn is_given<E: Wait>(&self, rt: &E) -> bool {
+        *self.all_run.lock(rt)
+    }
+
+    /// One client has ended. Whether it was the last.
+    fn finish(&self) -> bool {
+        self.unfinished.fetch_sub(1, Ordering::SeqCst) == 1
+    }
+}
+
+/// A client with its seat.
+#[derive(Drop)]
+pub struct Client<'a, R: Record, I, W> {
+    live: &'a Live<R>,
+    seat: Seat<R>,
+    pipes: Pipes<I, W>,
+    ghost of: { IsSeatOf live.now seat },
+    ghost none: { seat.made ≡ [] },
+}
+
+impl<R: Record, I: Read + Drop, W: Write + Drop> Client<'_, R, I, W> {
+    /// What a client's thread runs: it talks, where each client has a thread, and closes the phase behind the last one.
+    pub fn run<E: Wait>(self, rt: &E, alloc: Global, start: &Start) {
+        if start.is_given(rt) {
+            self.talk(rt, alloc, start);
+        }
+    }
+
+    /// Talks, and closes the phase behind the last client.
+    fn talk<E: Wait>(self, rt: &E, alloc: Global, start: &Start) {
+        let Client {
+            live,
+            mut seat,
+            mut pipes,
+        } = self;
+        talk_to_end(rt, alloc, live, start, &mut seat, &mut pipes);
+    }
+}
+
+/// Talks with a client, and closes the phase behind the last one.
+fn talk_to_end<R: Record, I: Read, W: Write, E: Wait>(
+    rt: &E,
+    alloc: Global,
+    live: &Live<R>,
+    start: &Start,
+    seat: &mut Seat<R>,
+    pipes: &mut Pipes<I, W>,
+)
+    requires of { IsSeatOf live.now seat.old }
+    requires none { seat.old.made ≡ [] }
+{
+    let _ = talk(
+        rt,
+        alloc,
+        live,
+        seat,
+        &mut pipes.requests,
+        &mut pipes.answers,
+    );
+    if start.finish() {
+        live.close(rt);
+    }
+}
+
+/// A client with the last of the seats and the last pair of pipes.
+fn take_client<'a, R: Record, I, W>(
+    live: &'a Live<R>,
+    seats: &mut Vec<Seat<R>>,
+    pipes: &mut Vec<Pipes<I, W>>,
+) -> Client<'a, R, I, W>
+    requires new { AreNewSeats live.now.directory live.now.mark seats.old.items }
+    requires as_many { vec_len seats.old ≡ vec_len pipes.old }
+    requires some { 0 < vec_len pipes.old }
+    ensures new { AreNewSeats live.now.directory live.now.mark seats.new.items }
+    ensures one_seat_less { vec_len seats.new + 1 ≡ vec_len seats.old }
+    ensures one_pair_less { vec_len pipes.new + 1 ≡ vec_len pipes.old }
+{
+    let Some(seat) = live.take_seat(seats) else {
+        unreachable!()
+    };
+    Client {
+        live,
+        seat,
+        pipes: pipes.take_last(),
+    }
+}
+
+/// A client for each pair of pipes, with one of the seats, in an empty list that has room for all.
+pub fn clients_of<'a, R: Record, I: Drop, W: Drop>(
+    live: &'a Live<R>,
+    seats: Vec<Seat<R>>,
+    pipes: Vec<Pipes<I, W>>,
+    room: Vec<Client<'a, R, I, W>>,
+) -> Vec<Client<'a, R, I, W>>
+    requires new { AreNewSeats live.now.directory live.now.mark seats.items }
+    requires as_many { vec_len seats ≡ vec_len pipes }
+    requires empty { vec_len room ≡ 0 }
+    requires fits { vec_len pipes ≤ vec_capacity room }
+    ensures { vec_len result ≡ vec_len pipes }
+{
+    let mut seats = seats;
+    let mut pipes = pipes;
+    let mut clients = room;
+    for _ in 0..pipes.len() {
+        clients.push_reserved(take_client(live, &mut seats, &mut pipes));
+    }
+    clients
+}
