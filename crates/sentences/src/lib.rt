@@ -1,6 +1,11 @@
 //! What the program `cvec` tells on standard error of a command over a file that is refused.
 #![tactic(auto)]
 
+mod bytes;
 mod complaint;
+mod input;
+mod role;
+mod vault;
 
-pub use complaint::{Complaint, Role, Sentence};
+pub use complaint::{Complaint, Sentence};
+pub use role::Role;

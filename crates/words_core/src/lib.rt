@@ -1,6 +1,7 @@
 //! The words of the program `cvec`: read into what is asked for, and what standard output and standard error tell of them.
 #![tactic(auto)]
 
+mod commands;
 mod help;
 mod request;
 mod usage;

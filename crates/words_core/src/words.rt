@@ -6,21 +6,16 @@ ghost use Rattle.clap.specs.declared.error.kind.ErrorKind.TheVariants as kinds;
 ghost use Rattle.words_core.specs.declared.words.WordsFault.TheVariants as faults;
 ghost use Rattle.words_core.specs.Words.{task_word, type_word};
 
+use crate::commands::all_commands;
 use crate::request::{FileTask, FileWords, RecordType, Request, StatWords, Task};
 use clap::error::ErrorKind;
-use clap::{Arg, ArgAction, ArgMatches, Command, Error};
+use clap::{ArgMatches, Error};
 use segment_core::Format;
 use stat_core::Form;
 use std::alloc::{AllocError, Global};
 use std::convert::AsStr;
 use std::num::NonZeroU32;
 use text_core::TextRecord;
-
-/// The words for the types of record.
-const TYPES: [&str; 5] = ["u32", "u64", "i64", "pair", "flagged"];
-
-/// The words for the versions of a file.
-const FORMATS: [&str; 2] = ["1", "2"];
 
 /// The most growers that `load` takes, and the most clients of `serve`.
 const SEATS_LIMIT: u64 = 64;
@@ -58,118 +53,6 @@ impl From<AllocError> for WordsFault {
     }
 }
 
-/// A command that takes the word of a type.
-fn typed<'a>(alloc: Global, name: &'a str) -> Result<Command<'a>, AllocError> {
-    let of_type = Arg::new(alloc, "TYPE")
-        .required(true)
-        .action(ArgAction::Set)
-        .value_parser(TYPES.as_slice());
-    Command::new(alloc, name).arg(of_type)
-}
-
-/// A word that has to be there. It may be a negative number, which is none of the program's and refused as such.
-fn word<'a>(alloc: Global, name: &'a str) -> Arg<'a> {
-    Arg::new(alloc, name)
-        .required(true)
-        .action(ArgAction::Set)
-        .allow_negative_numbers(true)
-}
-
-/// A value that is joined to its name.
-fn joined<'a>(alloc: Global, name: &'a str) -> Arg<'a> {
-    Arg::new(alloc, name)
-        .long(name)
-        .require_equals(true)
-        .action(ArgAction::Set)
-}
-
-/// A word that is there or isn't.
-fn flag<'a>(alloc: Global, name: &'a str) -> Arg<'a> {
-    Arg::new(alloc, name).long(name).action(ArgAction::SetTrue)
-}
-
-/// A command over a file.
-fn over_file<'a>(alloc: Global, name: &'a str) -> Result<Command<'a>, AllocError> {
-    typed(alloc, name)?
-        .arg(word(alloc, "FILE"))?
-        .arg(flag(alloc, "quiet"))
-}
-
-/// The commands, in the order in which usage tells them.
-const COMMANDS: [&str; 17] = [
-    "image", "show", "play", "create", "load", "append", "serve", "upgrade", "check", "list",
-    "count", "find", "stat", "set", "resize", "clear", "fold",
-];
-
-/// A command over a file, with a word of its own.
-fn with_word<'a>(alloc: Global, name: &'a str, word: Arg<'a>) -> Result<Command<'a>, AllocError> {
-    over_file(alloc, name)?.arg(word)
-}
-
-/// A command over a file, with two words of its own.
-fn with_words<'a>(
-    alloc: Global,
-    name: &'a str,
-    first: Arg<'a>,
-    second: Arg<'a>,
-) -> Result<Command<'a>, AllocError> {
-    with_word(alloc, name, first)?.arg(second)
-}
-
-/// A value that is joined to its name and has to be there.
-fn needed<'a>(alloc: Global, name: &'a str) -> Arg<'a> {
-    joined(alloc, name).required(true)
-}
-
-/// A command that reads, with the words that are its own.
-fn reading<'a>(alloc: Global, name: &'a str) -> Result<Command<'a>, AllocError> {
-    match name {
-        "list" => with_words(alloc, name, joined(alloc, "from"), joined(alloc, "count")),
-        "count" | "find" => with_word(alloc, name, needed(alloc, "record")),
-        _ => over_file(alloc, name),
-    }
-}
-
-/// A command that appends, with the words that are its own.
-fn growing<'a>(alloc: Global, name: &'a str) -> Result<Command<'a>, AllocError> {
-    let own = match name {
-        "create" => joined(alloc, "format").value_parser(FORMATS.as_slice()),
-        "load" => joined(alloc, "seats"),
-        "append" => joined(alloc, "block"),
-        "serve" => needed(alloc, "seats"),
-        _ => word(alloc, "NEW"),
-    };
-    with_word(alloc, name, own)
-}
-
-/// A command that changes what is there, with the words that are its own.
-fn changing<'a>(alloc: Global, name: &'a str) -> Result<Command<'a>, AllocError> {
-    match name {
-        "set" => with_words(alloc, name, word(alloc, "START"), needed(alloc, "records")),
-        "resize" => with_words(alloc, name, word(alloc, "N"), needed(alloc, "record")),
-        _ => over_file(alloc, name),
-    }
-}
-
-/// `stat`, which takes no word of a type.
-fn stat_command<'a>(alloc: Global) -> Result<Command<'a>, AllocError> {
-    Command::new(alloc, "stat")
-        .arg(word(alloc, "FILE"))?
-        .arg(flag(alloc, "json"))?
-        .arg(flag(alloc, "quiet"))
-}
-
-/// A command with its words.
-fn command_of<'a>(alloc: Global, name: &'a str) -> Result<Command<'a>, AllocError> {
-    match name {
-        "image" | "show" | "play" => typed(alloc, name),
-        "create" | "load" | "append" | "serve" | "upgrade" => growing(alloc, name),
-        "check" | "list" | "count" | "find" => reading(alloc, name),
-        "stat" => stat_command(alloc),
-        _ => changing(alloc, name),
-    }
-}
-
 /// The task over the input that a command's name stands for.
 fn task_of(name: &str) -> Option<Task>
     ensures named { IfSome result (λ task. name.now ≡ task_word task) }
@@ -198,37 +81,9 @@ fn record_type_of(word: &str) -> Option<RecordType>
     }
 }
 
-/// The program, which has none of its commands yet.
-fn program<'a>(alloc: Global) -> Command<'a> {
-    Command::new(alloc, "cvec")
-        .no_binary_name(true)
-        .subcommand_required(true)
-}
-
-/// The program with one more command.
-fn with_command<'a>(
-    alloc: Global,
-    all: Command<'a>,
-    name: &'a str,
-) -> Result<Command<'a>, AllocError> {
-    match command_of(alloc, name) {
-        Ok(command) => all.subcommand(command),
-        Err(error) => Err(error),
-    }
-}
-
-/// All commands.
-fn commands<'a>(alloc: Global) -> Result<Command<'a>, AllocError> {
-    let mut all = program(alloc);
-    for name in COMMANDS.iter() {
-        all = with_command(alloc, all, *name)?;
-    }
-    Ok(all)
-}
-
 /// What `clap` makes of the words.
 fn matches_of<'a, S: AsStr>(alloc: Global, words: &'a [S]) -> Result<ArgMatches<'a>, Error> {
-    commands(alloc)?.try_get_matches_from(words)
+    all_commands(alloc)?.try_get_matches_from(words)
 }
 
 /// How many growers a word asks for: a number from 1 to 64.

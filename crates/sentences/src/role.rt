@@ -1,0 +1,55 @@
+//! Which of a command's files isn't there, can't be opened or is in use.
+
+use std::fmt::{self, Formatter};
+use std::io::{self, ErrorKind};
+use words_core::{FileTask, FileWords};
+
+/// Which of a command's files.
+#[derive(Clone, Copy)]
+pub enum Role {
+    /// FILE.
+    File,
+    /// NEW of `upgrade`.
+    New,
+    /// A pipe of `serve`.
+    Pipe,
+}
+
+/// The name of a file of the command.
+pub fn name_of<'a>(words: &FileWords<'a>, role: Role) -> &'a str {
+    match (role, words.task) {
+        (Role::New, FileTask::Upgrade(new)) => new,
+        (Role::Pipe, _) => "a pipe of the clients",
+        _ => words.file,
+    }
+}
+
+/// What to do about a file or a pipe that isn't opened.
+fn about_error(role: Role, error: &io::Error) -> &'static str {
+    match error.kind() {
+        ErrorKind::NotFound if matches!(role, Role::Pipe) =>
+            "it isn't there: descriptors 3 and 4 are those of the first client, and two more those of each further one",
+        ErrorKind::NotFound =>
+            "there is no such file, or no folder for it; `cvec create` makes a file",
+        ErrorKind::PermissionDenied => "you may not read and write it, or make it in its folder",
+        ErrorKind::IsADirectory => "it is a folder, and not a file",
+        _ => "it can't be opened or made",
+    }
+}
+
+pub fn write_not_opened<W: fmt::Write>(
+    f: &mut Formatter<W>,
+    name: &str,
+    role: Role,
+    error: &io::Error,
+) -> fmt::Result {
+    let about = about_error(role, error);
+    write!(f, "{name}: {about} ({error}); nothing was read or written")
+}
+
+pub fn write_in_use<W: fmt::Write>(f: &mut Formatter<W>, name: &str) -> fmt::Result {
+    write!(
+        f,
+        "{name}: another command uses it; nothing was read or written; wait for its end"
+    )
+}

@@ -1,0 +1,137 @@
+//! Why a vault refuses a command, what its file has then, and what to do next.
+
+use crate::bytes::about_disk;
+use directory_core::GROWTH_LIMIT;
+use disk_core::DiskFault;
+use files_core::Stopped;
+use pen_core::PenFault;
+use std::fmt::{self, Formatter};
+use vault_core::VaultFault;
+
+/// What is wrong, what stands, and what to do next, where a vault refuses a command.
+fn about_pen(fault: PenFault) -> &'static str {
+    match fault {
+        PenFault::Exists =>
+            "there is a vector in this file already; it is as it was; remove it, or name another file",
+        PenFault::Unfolded =>
+            "changes are live, and with them it can't become shorter; it is as it was; `cvec fold` first",
+        PenFault::OutOfRange =>
+            "the positions aren't all in the vector, or there would be more than 4294967296 records; it is as it was",
+        PenFault::TooLarge =>
+            "so many records are more than one frame takes; it is as it was; give fewer at once",
+        PenFault::FileFull => "it is as long as such a file can become; it is as it was",
+        PenFault::Memory => "there is not enough memory; it opens to the vector of before",
+        PenFault::OldFormat =>
+            "version 1 has no change of many runs; it is as it was; `cvec upgrade` first",
+        PenFault::Runs => "the runs are empty, overlap or don't ascend; it is as it was",
+        PenFault::Broken =>
+            "the system didn't write it, or put it on the device, which may be full; restart the system, and it opens to the vector of before, with what was told since",
+        PenFault::Busy | PenFault::Disk(_) =>
+            "it opens to the vector of before this command, or to the one behind it",
+    }
+}
+
+/// What is wrong, what stands, and what to do next, where a vault refuses a command and the disk has no fault.
+fn about_vault(fault: VaultFault) -> &'static str {
+    match fault {
+        VaultFault::Pen(fault) => about_pen(fault),
+        VaultFault::Unsettled(_) =>
+            "not all growths are known to be on the device; it opens to the vector of before, and the first of them",
+        VaultFault::WrongPhase => "the growers didn't come back; what is settled stands",
+    }
+}
+
+pub fn write_vault<W: fmt::Write>(
+    f: &mut Formatter<W>,
+    name: &str,
+    fault: VaultFault,
+) -> fmt::Result {
+    let VaultFault::Pen(PenFault::Disk(fault)) = fault else {
+        let about = about_vault(fault);
+        return write!(f, "{name}: {about}");
+    };
+    let about = about_disk(fault);
+    write!(
+        f,
+        "{name}: {about}; it opens to a vector that was settled, or to what this command was making; mend the device, restart the system, then give the command again"
+    )
+}
+
+/// What stands where a command that makes many growths was refused by the file.
+pub fn write_growth_fault<W: fmt::Write>(
+    f: &mut Formatter<W>,
+    name: &str,
+    fault: VaultFault,
+) -> fmt::Result {
+    match fault {
+        VaultFault::Pen(PenFault::TooLarge) => write!(
+            f,
+            "{name}: the input has more lines than the {} growths that are made at once; it is as it was; `cvec append` takes any number of lines",
+            GROWTH_LIMIT
+        ),
+        VaultFault::Pen(PenFault::Broken) | VaultFault::Unsettled(_) => write!(
+            f,
+            "{name}: the system didn't write it, or put it on the device, which may be full; restart the system, and it opens to the vector of before, and behind it some of the growths; `cvec check` tells how many records there are"
+        ),
+        fault => write_vault(f, name, fault),
+    }
+}
+
+/// Why no more growths of clients were put on the device.
+fn about_served(fault: VaultFault) -> &'static str {
+    match fault {
+        VaultFault::Pen(PenFault::Disk(fault)) => about_disk(fault),
+        VaultFault::Pen(PenFault::Broken) =>
+            "the system didn't write it, or put it on the device, which may be full",
+        VaultFault::Pen(PenFault::FileFull) => "it is as long as such a file can become",
+        VaultFault::Pen(PenFault::Memory) => "there is not enough memory",
+        _ => "not all growths of the clients are known to be on the device",
+    }
+}
+
+/// What to do before the file is opened again, where the device may not have what it took.
+fn before_it_is_opened(fault: VaultFault) -> &'static str {
+    match fault {
+        VaultFault::Pen(PenFault::FileFull | PenFault::Memory) => "",
+        _ => "; restart the system before it is opened again",
+    }
+}
+
+pub fn write_served_fault<W: fmt::Write>(
+    f: &mut Formatter<W>,
+    name: &str,
+    fault: VaultFault,
+) -> fmt::Result {
+    let about = about_served(fault);
+    let next = before_it_is_opened(fault);
+    write!(f, "{name}: {about}{next}; what stood before stands")
+}
+
+pub fn write_stopped<W: fmt::Write>(
+    f: &mut Formatter<W>,
+    name: &str,
+    stopped: Stopped,
+) -> fmt::Result {
+    let line = stopped.line;
+    let fault = stopped.fault;
+    let size = stopped.size;
+    write!(
+        f,
+        "{name}: the growth of line {line} of the input wasn't made ({fault}); those that were made stand: the vector has {size} records"
+    )
+}
+
+/// Why the new file of `upgrade` isn't the vector of the old one, and what to do next.
+pub fn about_new(fault: VaultFault) -> &'static str {
+    match fault {
+        VaultFault::Pen(PenFault::Exists) =>
+            "there is a vector in this file already; it is as it was; remove it, or name another file",
+        VaultFault::Pen(PenFault::Memory) =>
+            "there is not enough memory; it may have a part; begin again on another new file",
+        VaultFault::Pen(PenFault::Disk(DiskFault::Length | DiskFault::Read)) =>
+            "the system didn't tell its length, or didn't read it; begin again on another new file",
+        VaultFault::Pen(PenFault::Disk(DiskFault::Write | DiskFault::Sync) | PenFault::Broken) =>
+            "the system didn't write it, or put it on the device, which may be full; it may have a part; begin again on another new file",
+        _ => "it may have a part; begin again on another new file",
+    }
+}
