@@ -22,7 +22,7 @@ def run(words, given=b'', program=PROGRAM, limit=60, **options):
     return done.returncode, done.stdout, done.stderr
 
 
-# What usage has to name. All are run here but `serve`.
+# What usage has to name.
 COMMANDS = ('image', 'show', 'play', 'create', 'load', 'append', 'serve', 'check', 'stat', 'list', 'count', 'find', 'set',
             'resize', 'clear', 'fold', 'upgrade')
 

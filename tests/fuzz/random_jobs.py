@@ -1,4 +1,4 @@
-"""Random runs of the program without end: files, scripts, lines, words and commands."""
+"""Random runs of the program without end: files, scripts, lines, words, commands and servers."""
 
 import random
 
@@ -7,6 +7,7 @@ from follower import judge_script
 from program import differs, run
 from random_files import frames_image, mutated, random_cells, random_image
 from reader import TYPES
+from serving import judge_served, random_conversations
 from tables import judge_image
 from writer import group, header
 
@@ -122,6 +123,7 @@ def random_jobs(seed):
     while True:
         for _ in range(3):
             yield judge_commands, random_commands(rng)
+            yield judge_served, random_conversations(rng)
         for _ in range(20):
             yield judge_image, (*random_image(rng), rng.random() < .3)
         for _ in range(5):
