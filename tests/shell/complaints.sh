@@ -116,10 +116,10 @@ each_sentence_is_brought_about() (
 
 # The pieces of text of the source's sentences, without what is written between them.
 pieces_of_sentences() {
-    python3 - "$top/crates/sentences/src/complaint.rt" <<'PYTHON'
+    python3 - "$top"/crates/sentences/src/*.rt <<'PYTHON'
 import re, sys
 
-text = re.sub(r"(?m)^\s*//.*$", "", open(sys.argv[1]).read())
+text = re.sub(r"(?m)^\s*//.*$", "", "".join(open(name).read() for name in sys.argv[1:]))
 for literal in re.findall(r'"((?:[^"\\]|\\.)*)"', text):
     for piece in re.split(r"\{\w*\}", literal):
         if len(piece.strip(" :;()")) > 3:
