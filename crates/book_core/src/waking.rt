@@ -10,16 +10,16 @@
 //!
 //! | The flusher | Who rings |
 //! |---|---|
-//! | F1 reads `wakes` | R1 makes a change: a grower sets the cell of its growth, a close sets `done` |
-//! | F2 sets `asleep` | R2 reads `asleep`: cleared, it is through |
-//! | F3 reads `done` and the next cell: changed, it clears `asleep` and returns | R3 clears `asleep`: it was cleared, it is through |
-//! | F4 sleeps on `wakes`, and goes on at F1 | R4 adds to `wakes`, and wakes |
+//! | F1 reads `wakes` | N1 makes a change: a grower sets the cell of its growth, a close sets `done` |
+//! | F2 sets `asleep` | N2 reads `asleep`: cleared, it is through |
+//! | F3 reads `done` and the next cell: changed, it clears `asleep` and returns | N3 clears `asleep`: it was cleared, it is through |
+//! | F4 sleeps on `wakes`, and goes on at F1 | N4 adds to `wakes`, and wakes |
 //!
-//! - R1 < F3: the flusher reads the change.
-//! - F3 < R1, and R3 finds `asleep` set: F1 < R1 < R4, so R4 ends the sleep.
-//! - F3 < R1, and R2 or R3 finds it cleared: F2 had set it, so another has cleared it at an R3 behind F2, and that one's R4
-//!   ends the sleep. If ours was through before the next F2, then R1 < the next F3. If not, these lines hold of the next turn.
-//! - An R4 that belongs to an earlier turn ends a sleep too soon, and F1 follows. Each thread has one of them at most.
+//! - N1 < F3: the flusher reads the change.
+//! - F3 < N1, and N3 finds `asleep` set: F1 < N1 < N4, so N4 ends the sleep.
+//! - F3 < N1, and N2 or N3 finds it cleared: F2 had set it, so another has cleared it at an N3 behind F2, and that one's N4
+//!   ends the sleep. If ours was through before the next F2, then N1 < the next F3. If not, these lines hold of the next turn.
+//! - An N4 that belongs to an earlier turn ends a sleep too soon, and F1 follows. Each thread has one of them at most.
 //!
 //! ## A close, and growths under way (`Live::close`, `Live::grow`)
 //!
@@ -27,8 +27,8 @@
 //! |---|---|
 //! | G1 takes its door | C1 sets `begun` |
 //! | G2 reads `begun`: set, it is refused | C2 takes each door, and leaves it |
-//! | G3 sets the cell: R1 | C3 sets `done`: R1 |
-//! | G4 leaves the door, then R2 | then R2 |
+//! | G3 sets the cell: N1 | C3 sets `done`: N1 |
+//! | G4 leaves the door, then N2 | then N2 |
 //!
 //! - G1 < C2 at its door: C2 waits for G4, so G3 < C3, and who reads `done` finds the growth. C2 < G1: it is refused.
 //! - At a door nobody waits for ever: who holds one takes no other, and sleeps for a time that it chose (`Patience`), once for
