@@ -48,8 +48,8 @@ fn write_checked<R, W: Write>(writer: &mut W, scanned: &Scanned<R>) -> io::Resul
 }
 
 /// Reads the file, and writes `ok`, its version, its width, how many records its vector has, how many frames it has, and
-/// how many changes are live. Beside the vector it takes memory for one frame. Nothing is written to the file. Refused:
-/// `Open`, with the file's first fault.
+/// how many changes are live. Beside the vector it takes memory for one frame, for the live changes,
+/// and 24 bytes for each group. Nothing is written to the file. Refused: `Open`, with the file's first fault.
 pub fn check<R: Record, D: Disk, W: Write>(alloc: Global, disk: D, writer: &mut W) -> (D, Ended)
     ensures reads { OnlyReads R.form D.keeps D.states D.faults disk result.0 result.1 }
     ensures writes { Writes (W.contents writer.old) (W.contents writer.new) (IsChecked R.form (D.keeps result.0) (bytes_of (D.states disk))) result.1 }

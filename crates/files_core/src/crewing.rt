@@ -76,8 +76,8 @@ impl Gate for OpenGate {
     fn after(&self, _grower: u16, _receipt: &Receipt) {}
 }
 
-/// It lends its growths, and makes no block: the toolchain passes no method of a trait, over each `R: Record` at once, that
-/// calls a function over such an `R`.
+/// It lends each growth, so a crew asks for no block. Who asks for one is answered `Memory`: the toolchain passes no method of
+/// a trait, over each `R: Record` at once, that calls a function over such an `R`, as what makes a block is.
 impl<R: Record> Source<R> for Dealt<R> {
     ghost growers_of = { λ s. s.growers };
 
@@ -97,7 +97,11 @@ impl<R: Record> Source<R> for Dealt<R> {
         Err(FreshFault::Memory)
     }
 
-    fn records(&self, grower: u16, k: u32) -> Option<&[R]> {
+    fn records(&self, grower: u16, k: u32) -> Option<&[R]>
+        requires grower { grower < self.now.growers }
+        requires k { k < count_for (length self.now.growths.0) self.now.growers grower }
+        ensures { MatchOption result ⊥ (λ records. records.now ≡ dealt self.now.growths.0 self.now.growers grower k) }
+    {
         Some(self.growth(grower, k))
     }
 }
