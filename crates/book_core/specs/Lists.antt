@@ -40,8 +40,8 @@ pub record IsSeatOf {R : Type 0} (live : Phase R) (seat : Seated R) : Type 0 whe
   pub mark : seat.mark.of ≡ live.mark
 
 -- the whole list as the seat knows it: the records from before the phase, then those of the growths
-abbrev pub list_of : {R : Type 0} → Phase R → Seated R → List R
-list_of live seat = opening_of live ++ joined seat.pass.entries
+abbrev pub seat_list : {R : Type 0} → Phase R → Seated R → List R
+seat_list live seat = opening_of live ++ joined seat.pass.entries
 
 -- the pieces in which it stands: the blocks from before the phase, then the growths by their numbers
 abbrev pub seat_pieces : {R : Type 0} → Phase R → Seated R → List (List R)

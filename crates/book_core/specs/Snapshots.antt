@@ -2,7 +2,7 @@
 use Rattle.std.specs.Prelude.{◌≡◌, ℕ, ◌+◌, ◌*◌, ◌<◌, ◌≤◌, ◌⊎◌, List, ◌++◌, length, map, take, get_or, slice_get, filter, sum_by, nat_lt, All, Option, Some, MatchOption}
 use Rattle.std.specs.Borrow.{Bor}
 use Rattle.record_core.specs.Limits.{record_limit}
-use Rattle.book_core.specs.Lists.{Phase, Seated, joined_pieces, list_of}
+use Rattle.book_core.specs.Lists.{Phase, Seated, joined_pieces, seat_list}
 
 -- each piece has a record
 abbrev pub AreFull : {R : Type 0} → List (List R) → Type 0
@@ -69,4 +69,4 @@ growth_records seat = map (λ e. e.records) seat.pass.entries
 pub record ShowsSeat {R : Type 0} (live : Phase R) (seat : Seated R) (shown : Shown R) : Type 0 where
   pub of : shown.of ≡ live
   pub growths : shown.growths ≡ growth_records seat
-  pub list : list_in shown ≡ list_of live seat
+  pub list : list_in shown ≡ seat_list live seat

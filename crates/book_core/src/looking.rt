@@ -3,7 +3,7 @@
 ghost use Rattle.std.specs.Prelude.{◌≡◌, ◌+◌, ◌≤◌, length, take, IfErr, OnOk, MatchOption, MatchResult};
 ghost use Rattle.record_core.specs.Limits.{record_limit};
 ghost use Rattle.directory_core.specs.Chain.{Agree, IsLongerOf};
-ghost use Rattle.book_core.specs.Lists.{IsSeatOf, own_of, HasJustItsOwn, IsFirstOf, list_of};
+ghost use Rattle.book_core.specs.Lists.{IsSeatOf, own_of, HasJustItsOwn, IsFirstOf, seat_list};
 ghost use Rattle.book_core.specs.Growing.{SeatLearns, IsLookFault, size_of};
 
 use crate::fault::GrowFault;
@@ -74,7 +74,7 @@ impl<R: Record> Live<R> {
     pub fn size(&self, seat: &Seat<R>) -> u64
         requires of { IsSeatOf self.now seat.now }
         ensures size { result ≡ size_of self.now seat.now }
-        ensures is { result ≡ length (list_of self.now seat.now) }
+        ensures is { result ≡ length (seat_list self.now seat.now) }
         ensures in_limit { result ≤ record_limit }
     {
         self.opening.len() + seat.pass.size()

@@ -3,7 +3,7 @@
 
 ghost use Rattle.std.specs.Prelude.{◌≡◌, ◌≤◌, List, length, drop, slice_get, Some, MatchOption, IfSome};
 ghost use Rattle.directory_core.specs.Finding.{IsPieceAt};
-ghost use Rattle.book_core.specs.Lists.{IsSeatOf, joined_pieces, list_of, seat_pieces, IsPlaceIn, IsRestOfPiece};
+ghost use Rattle.book_core.specs.Lists.{IsSeatOf, joined_pieces, seat_list, seat_pieces, IsPlaceIn, IsRestOfPiece};
 
 use crate::live::Live;
 use crate::seat::Seat;
@@ -14,7 +14,7 @@ impl<R: Record> Live<R> {
     fn find(&self, seat: &Seat<R>, i: u64) -> Option<(u64, usize)>
         requires of { IsSeatOf self.now seat.now }
         ensures { MatchOption result
-            (length (list_of self.now seat.now) ≤ i)
+            (length (seat_list self.now seat.now) ≤ i)
             (λ found. IsPlaceIn (seat_pieces self.now seat.now) i found.0 found.1) }
     {
         let before = self.opening.len();
@@ -31,8 +31,8 @@ impl<R: Record> Live<R> {
         requires of { IsSeatOf self.now seat.old }
         ensures same { seat.new ≡ seat.old }
         ensures value { MatchOption result
-            (length (list_of self.now seat.old) ≤ i)
-            (λ found. slice_get (list_of self.now seat.old) i ≡ Some found.now) }
+            (length (seat_list self.now seat.old) ≤ i)
+            (λ found. slice_get (seat_list self.now seat.old) i ≡ Some found.now) }
     {
         let piece = self.piece(seat, i)?;
         Some(&piece[0])
@@ -44,9 +44,9 @@ impl<R: Record> Live<R> {
         requires of { IsSeatOf self.now seat.old }
         ensures same { seat.new ≡ seat.old }
         ensures value { MatchOption result
-            (length (list_of self.now seat.old) ≤ i)
+            (length (seat_list self.now seat.old) ≤ i)
             (λ piece. IsRestOfPiece (seat_pieces self.now seat.old) i piece.now) }
-        ensures in_order { IfSome result (λ piece. IsPieceAt (list_of self.now seat.old) i piece.now) }
+        ensures in_order { IfSome result (λ piece. IsPieceAt (seat_list self.now seat.old) i piece.now) }
     {
         let (number, place) = self.find(seat, i)?;
         let piece = self.piece_at(seat, number)?;
@@ -57,7 +57,7 @@ impl<R: Record> Live<R> {
     pub fn piece_count(&self, seat: &Seat<R>) -> u64
         requires of { IsSeatOf self.now seat.now }
         ensures count { result ≡ length (seat_pieces self.now seat.now) }
-        ensures joined { joined_pieces (seat_pieces self.now seat.now) ≡ list_of self.now seat.now }
+        ensures joined { joined_pieces (seat_pieces self.now seat.now) ≡ seat_list self.now seat.now }
     {
         self.opening.blocks.len() as u64 + seat.pass.known()
     }
@@ -121,7 +121,7 @@ impl<R: Record> Live<R> {
     /// behind it. None past the end.
     pub fn pieces_from<'a, 's>(&'a self, seat: &'s mut Seat<R>, i: u64) -> Pieces<'a, 's, R>
         requires of { IsSeatOf self.now seat.old }
-        ensures list { joined_pieces (pieces_left result) ≡ drop i (list_of self.now seat.old) }
+        ensures list { joined_pieces (pieces_left result) ≡ drop i (seat_list self.now seat.old) }
         ensures pieces { IsLeftOf (seat_pieces self.now seat.old) (pieces_left result) }
         ensures seat { (result.seat.ghost_name ≡ seat.entry.ghost_name) × (result.seat.now ≡ seat.old) }
     {

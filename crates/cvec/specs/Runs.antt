@@ -33,12 +33,12 @@ IsTaskRun Show form spelling input old new status = IsShowRun form spelling inpu
 IsTaskRun Play form spelling input old new status = IsPlayRun form spelling input old new status
 
 -- the same over records of one of the program's types
-abbrev pub IsRun : Task → RecordType → List ℕ → Option (List ℕ) → Option (List ℕ) → Status → Type 0
-IsRun task U32 = IsTaskRun task (unsigned w32) (number_spelling 32)
-IsRun task U64 = IsTaskRun task (unsigned w64) (number_spelling 64)
-IsRun task I64 = IsTaskRun task (signed w64) signed_spelling
-IsRun task Pair = IsTaskRun task pair pair_spelling
-IsRun task Flagged = IsTaskRun task flagged flagged_spelling
+abbrev pub IsProgramRun : Task → RecordType → List ℕ → Option (List ℕ) → Option (List ℕ) → Status → Type 0
+IsProgramRun task U32 = IsTaskRun task (unsigned w32) (number_spelling 32)
+IsProgramRun task U64 = IsTaskRun task (unsigned w64) (number_spelling 64)
+IsProgramRun task I64 = IsTaskRun task (signed w64) signed_spelling
+IsProgramRun task Pair = IsTaskRun task pair pair_spelling
+IsProgramRun task Flagged = IsTaskRun task flagged flagged_spelling
 
 -- how a command over a file may end, and what it has written then: all of an answer, or the line of a refusal
 abbrev pub IsFileRun : (List ℕ → Type 0) → Option (List ℕ) → Option (List ℕ) → Status → Type 0
@@ -54,12 +54,12 @@ IsStatusOf OutputFailed filed = filed ≡ Ok statuses.OutputFailed
 IsStatusOf (Refused fault) filed = (complaint : Complaint) × (filed ≡ Err complaint)
 
 -- what a command over a file has written before the line of a refusal
-abbrev pub IsFiled : (List ℕ → Type 0) → Option (List ℕ) → Option (List ℕ) → Result Status Complaint → Type 0
-IsFiled IsAnswer old new (Ok statuses.Done) = (text : List ℕ) × IsAnswer text × Appends old new text
-IsFiled IsAnswer old new (Ok statuses.Refused) = ⊥
-IsFiled IsAnswer old new (Ok statuses.OutputFailed) = Unit {0}
-IsFiled IsAnswer old new (Ok statuses.Usage) = ⊥
-IsFiled IsAnswer old new (Err complaint) = Keeps old new
+abbrev pub IsFileCommandRun : (List ℕ → Type 0) → Option (List ℕ) → Option (List ℕ) → Result Status Complaint → Type 0
+IsFileCommandRun IsAnswer old new (Ok statuses.Done) = (text : List ℕ) × IsAnswer text × Appends old new text
+IsFileCommandRun IsAnswer old new (Ok statuses.Refused) = ⊥
+IsFileCommandRun IsAnswer old new (Ok statuses.OutputFailed) = Unit {0}
+IsFileCommandRun IsAnswer old new (Ok statuses.Usage) = ⊥
+IsFileCommandRun IsAnswer old new (Err complaint) = Keeps old new
 
 -- the line that is printed of a complaint
 abbrev pub complaint_line : Complaint → List ℕ
@@ -99,6 +99,6 @@ IsIdleRun old new statuses.Usage = Keeps old new
 -- the program did what it was asked for, or answered that it was asked for nothing
 abbrev pub IsAskedRun : Option Request → List ℕ → Option (List ℕ) → Option (List ℕ) → Status → Type 0
 IsAskedRun None input old new status = IsIdleRun old new status
-IsAskedRun (Some (Input task record_type)) input old new status = IsRun task record_type input old new status
+IsAskedRun (Some (Input task record_type)) input old new status = IsProgramRun task record_type input old new status
 IsAskedRun (Some (File words)) input old new status = IsFileRun (IsAnswerTo (File words)) old new status
 IsAskedRun (Some (Stat words)) input old new status = IsFileRun (IsAnswerTo (Stat words)) old new status

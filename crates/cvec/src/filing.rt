@@ -4,7 +4,7 @@ ghost use Rattle.std.specs.Prelude.{◌≡◌, ℕ, List, Option};
 ghost use Rattle.text_core.specs.Text.{record_lines};
 ghost use Rattle.words_core.specs.declared.request.FileTask.TheVariants as tasks;
 ghost use Rattle.cvec.specs.Answers.{IsAnswer};
-ghost use Rattle.cvec.specs.Runs.{IsFiled, IsStatusOf};
+ghost use Rattle.cvec.specs.Runs.{IsFileCommandRun, IsStatusOf};
 
 use crate::access::{Access, Opened, open};
 use crate::meter::CountingGate;
@@ -106,7 +106,7 @@ impl<'a, F: Files<File = File> + AllocGlobal, P: Progress + Sync> Filing<'a, F, 
         format: Format,
         writer: &mut W,
     ) -> Result<Status, Complaint>
-        ensures { IsFiled (IsAnswer R.spelling (tasks.Create format)) (W.contents writer.old) (W.contents writer.new) result }
+        ensures { IsFileCommandRun (IsAnswer R.spelling (tasks.Create format)) (W.contents writer.old) (W.contents writer.new) result }
     {
         let Opened { disk, lock: _lock } = self.open(Access::Makes)?;
         let (_disk, ended) = create::<R, FileDisk, W>(self.alloc, disk, format, writer);
@@ -120,7 +120,7 @@ impl<'a, F: Files<File = File> + AllocGlobal, P: Progress + Sync> Filing<'a, F, 
         reader: &mut I,
         writer: &mut W,
     ) -> Result<Status, Complaint>
-        ensures { IsFiled (IsAnswer R.spelling (tasks.Load seats)) (W.contents writer.old) (W.contents writer.new) result }
+        ensures { IsFileCommandRun (IsAnswer R.spelling (tasks.Load seats)) (W.contents writer.old) (W.contents writer.new) result }
     {
         let growths = read_growth_lines::<R, I>(self.alloc, reader)?;
         let Opened { disk, lock: _lock } = self.open(Access::Writes)?;
@@ -138,7 +138,7 @@ impl<'a, F: Files<File = File> + AllocGlobal, P: Progress + Sync> Filing<'a, F, 
         reader: &mut I,
         writer: &mut W,
     ) -> Result<Status, Complaint>
-        ensures { IsFiled (IsAnswer R.spelling (tasks.Append block)) (W.contents writer.old) (W.contents writer.new) result }
+        ensures { IsFileCommandRun (IsAnswer R.spelling (tasks.Append block)) (W.contents writer.old) (W.contents writer.new) result }
     {
         let Opened { disk, lock: _lock } = self.open(Access::Writes)?;
         let (disk, appended, ended) = append::<R, S, FileDisk, I, W, P, E>(
@@ -160,7 +160,7 @@ impl<'a, F: Files<File = File> + AllocGlobal, P: Progress + Sync> Filing<'a, F, 
     }
 
     fn check<R: TextRecord, W: Write>(&self, writer: &mut W) -> Result<Status, Complaint>
-        ensures { IsFiled (IsAnswer R.spelling tasks.Check) (W.contents writer.old) (W.contents writer.new) result }
+        ensures { IsFileCommandRun (IsAnswer R.spelling tasks.Check) (W.contents writer.old) (W.contents writer.new) result }
     {
         let Opened { disk, lock: _lock } = self.open(Access::Reads)?;
         let disk = self.watched(disk);
@@ -175,7 +175,7 @@ impl<'a, F: Files<File = File> + AllocGlobal, P: Progress + Sync> Filing<'a, F, 
         window: &Window,
         writer: &mut W,
     ) -> Result<Status, Complaint>
-        ensures { IsFiled (λ text. (records : List R) × (text ≡ record_lines R.spelling.text_of records)) (W.contents writer.old) (W.contents writer.new) result }
+        ensures { IsFileCommandRun (λ text. (records : List R) × (text ≡ record_lines R.spelling.text_of records)) (W.contents writer.old) (W.contents writer.new) result }
     {
         let Opened { disk, lock: _lock } = opened;
         let (disk, ended) = list::<R, Watched<'_, FileDisk, P>, W, P>(
@@ -194,7 +194,7 @@ impl<'a, F: Files<File = File> + AllocGlobal, P: Progress + Sync> Filing<'a, F, 
         count: Option<&str>,
         writer: &mut W,
     ) -> Result<Status, Complaint>
-        ensures { IsFiled (IsAnswer R.spelling (tasks.List from.entry count.entry)) (W.contents writer.old) (W.contents writer.new) result }
+        ensures { IsFileCommandRun (IsAnswer R.spelling (tasks.List from.entry count.entry)) (W.contents writer.old) (W.contents writer.new) result }
     {
         let window = read_window(
             from.map(|word| word.as_bytes()),
@@ -210,7 +210,7 @@ impl<'a, F: Files<File = File> + AllocGlobal, P: Progress + Sync> Filing<'a, F, 
         record: &str,
         writer: &mut W,
     ) -> Result<Status, Complaint>
-        ensures { IsFiled (IsAnswer R.spelling (tasks.Count «record».entry)) (W.contents writer.old) (W.contents writer.new) result }
+        ensures { IsFileCommandRun (IsAnswer R.spelling (tasks.Count «record».entry)) (W.contents writer.old) (W.contents writer.new) result }
     {
         let record = read_record::<R>(record.as_bytes())?;
         let Opened { disk, lock: _lock } = self.open(Access::Reads)?;
@@ -227,7 +227,7 @@ impl<'a, F: Files<File = File> + AllocGlobal, P: Progress + Sync> Filing<'a, F, 
         record: &str,
         writer: &mut W,
     ) -> Result<Status, Complaint>
-        ensures { IsFiled (IsAnswer R.spelling (tasks.Find «record».entry)) (W.contents writer.old) (W.contents writer.new) result }
+        ensures { IsFileCommandRun (IsAnswer R.spelling (tasks.Find «record».entry)) (W.contents writer.old) (W.contents writer.new) result }
     {
         let record = read_record::<R>(record.as_bytes())?;
         let Opened { disk, lock: _lock } = self.open(Access::Reads)?;
@@ -245,7 +245,7 @@ impl<'a, F: Files<File = File> + AllocGlobal, P: Progress + Sync> Filing<'a, F, 
         records: &str,
         writer: &mut W,
     ) -> Result<Status, Complaint>
-        ensures { IsFiled (IsAnswer R.spelling (tasks.Set start.entry records.entry)) (W.contents writer.old) (W.contents writer.new) result }
+        ensures { IsFileCommandRun (IsAnswer R.spelling (tasks.Set start.entry records.entry)) (W.contents writer.old) (W.contents writer.new) result }
     {
         let setting = read_setting::<R>(self.alloc, start.as_bytes(), records.as_bytes())?;
         let Opened { disk, lock: _lock } = self.open(Access::Writes)?;
@@ -259,7 +259,7 @@ impl<'a, F: Files<File = File> + AllocGlobal, P: Progress + Sync> Filing<'a, F, 
         record: &str,
         writer: &mut W,
     ) -> Result<Status, Complaint>
-        ensures { IsFiled (IsAnswer R.spelling (tasks.Resize len.entry «record».entry)) (W.contents writer.old) (W.contents writer.new) result }
+        ensures { IsFileCommandRun (IsAnswer R.spelling (tasks.Resize len.entry «record».entry)) (W.contents writer.old) (W.contents writer.new) result }
     {
         let resizing = read_resizing::<R>(len.as_bytes(), record.as_bytes())?;
         let Opened { disk, lock: _lock } = self.open(Access::Writes)?;
@@ -268,7 +268,7 @@ impl<'a, F: Files<File = File> + AllocGlobal, P: Progress + Sync> Filing<'a, F, 
     }
 
     fn clear<R: TextRecord, W: Write>(&self, writer: &mut W) -> Result<Status, Complaint>
-        ensures { IsFiled (IsAnswer R.spelling tasks.Clear) (W.contents writer.old) (W.contents writer.new) result }
+        ensures { IsFileCommandRun (IsAnswer R.spelling tasks.Clear) (W.contents writer.old) (W.contents writer.new) result }
     {
         let Opened { disk, lock: _lock } = self.open(Access::Writes)?;
         let (disk, ended) = clear::<R, FileDisk, W>(self.alloc, disk, writer);
@@ -276,7 +276,7 @@ impl<'a, F: Files<File = File> + AllocGlobal, P: Progress + Sync> Filing<'a, F, 
     }
 
     fn fold<R: TextRecord, W: Write>(&self, writer: &mut W) -> Result<Status, Complaint>
-        ensures { IsFiled (IsAnswer R.spelling tasks.Fold) (W.contents writer.old) (W.contents writer.new) result }
+        ensures { IsFileCommandRun (IsAnswer R.spelling tasks.Fold) (W.contents writer.old) (W.contents writer.new) result }
     {
         let Opened { disk, lock: _lock } = self.open(Access::Writes)?;
         let disk = self.watched(disk);
@@ -289,7 +289,7 @@ impl<'a, F: Files<File = File> + AllocGlobal, P: Progress + Sync> Filing<'a, F, 
         new: &str,
         writer: &mut W,
     ) -> Result<Status, Complaint>
-        ensures { IsFiled (IsAnswer R.spelling (tasks.Upgrade new.entry)) (W.contents writer.old) (W.contents writer.new) result }
+        ensures { IsFileCommandRun (IsAnswer R.spelling (tasks.Upgrade new.entry)) (W.contents writer.old) (W.contents writer.new) result }
     {
         let Opened {
             disk: old,
@@ -312,7 +312,7 @@ impl<'a, F: Files<File = File> + AllocGlobal, P: Progress + Sync> Filing<'a, F, 
         clients: u16,
         writer: &mut W,
     ) -> Result<Status, Complaint>
-        ensures { IsFiled (IsAnswer R.spelling (tasks.Serve clients)) (W.contents writer.old) (W.contents writer.new) result }
+        ensures { IsFileCommandRun (IsAnswer R.spelling (tasks.Serve clients)) (W.contents writer.old) (W.contents writer.new) result }
     {
         let pipes = pipes_of(self.alloc, self.files, clients)?;
         let Opened { disk, lock: _lock } = self.open(Access::Writes)?;
@@ -339,7 +339,7 @@ impl<'a, F: Files<File = File> + AllocGlobal, P: Progress + Sync> Filing<'a, F, 
         reader: &mut I,
         writer: &mut W,
     ) -> Result<Status, Complaint>
-        ensures { IsFiled (IsAnswer R.spelling task.entry) (W.contents writer.old) (W.contents writer.new) result }
+        ensures { IsFileCommandRun (IsAnswer R.spelling task.entry) (W.contents writer.old) (W.contents writer.new) result }
     {
         match task {
             FileTask::Create(format) => self.create::<R, W>(format, writer),

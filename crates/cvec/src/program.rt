@@ -5,7 +5,7 @@ ghost use Rattle.std.specs.Io.KnownBytes.{Keeps, Appends};
 ghost use Rattle.text_core.specs.Text.{ended_line};
 ghost use Rattle.words_core.specs.declared.request.Request.TheVariants as requests;
 ghost use Rattle.cvec.specs.Answers.{IsAnswerTo};
-ghost use Rattle.cvec.specs.Runs.{IsTaskRun, IsRun, IsAskedRun, IsFileRun, IsFiled, IsIdleRun, IsComplaintRun, IsComplaintTold, IsAskedTold};
+ghost use Rattle.cvec.specs.Runs.{IsTaskRun, IsProgramRun, IsAskedRun, IsFileRun, IsFileCommandRun, IsIdleRun, IsComplaintRun, IsComplaintTold, IsAskedTold};
 
 use crate::filing::Filing;
 use crate::telling::tell_stat;
@@ -61,7 +61,7 @@ fn run_task<I: Read, W: Write, E: Threads + Wait + Sync>(
     writer: &mut W,
 ) -> Status
     ensures ends { IfSome (I.remaining reader.old) (λ input.
-        IsRun task record_type input (W.contents writer.old) (W.contents writer.new) result) }
+        IsProgramRun task record_type input (W.contents writer.old) (W.contents writer.new) result) }
     ensures no_usage { result ≢ Status.Usage }
 {
     match record_type {
@@ -112,7 +112,7 @@ fn run_filing<
     reader: &mut I,
     writer: &mut W,
 ) -> Result<Status, Complaint>
-    ensures { IsFiled (IsAnswerTo (requests.File words.now)) (W.contents writer.old) (W.contents writer.new) result }
+    ensures { IsFileCommandRun (IsAnswerTo (requests.File words.now)) (W.contents writer.old) (W.contents writer.new) result }
 {
     let task = words.task;
     match words.record_type {
@@ -140,7 +140,7 @@ fn run_file<
     reader: &mut I,
     writer: &mut W,
 ) -> Result<Status, Complaint>
-    ensures { IsFiled (IsAnswerTo (requests.File words.now)) (W.contents writer.old) (W.contents writer.new) result }
+    ensures { IsFileCommandRun (IsAnswerTo (requests.File words.now)) (W.contents writer.old) (W.contents writer.new) result }
 {
     let alloc = system.alloc;
     let files = system.files;
@@ -172,7 +172,7 @@ fn run_stat<W: Write, F: Files<File = File> + AllocGlobal, P: Progress>(
     words: &StatWords<'_>,
     writer: &mut W,
 ) -> Result<Status, Complaint>
-    ensures { IsFiled (IsAnswerTo (requests.Stat words.now)) (W.contents writer.old) (W.contents writer.new) result }
+    ensures { IsFileCommandRun (IsAnswerTo (requests.Stat words.now)) (W.contents writer.old) (W.contents writer.new) result }
 {
     if words.quiet {
         tell_stat::<W, F, Silent>(system.files, &Silent, words, writer)
@@ -208,8 +208,8 @@ fn outcome_of<'a, W: Write>(
     writer: &mut W,
 ) -> Outcome<'a>
     ensures asked { result.asked ≡ Some request.entry }
-    ensures ends { (old : Option (List ℕ)) → IsFiled (IsAnswerTo request.entry) old (W.contents writer.old) filed → IsFileRun (IsAnswerTo request.entry) old (W.contents writer.new) result.status }
-    ensures told { (old : Option (List ℕ)) → IsFiled (IsAnswerTo request.entry) old (W.contents writer.old) filed → IsComplaintTold old (W.contents writer.new) result.status result.complaint }
+    ensures ends { (old : Option (List ℕ)) → IsFileCommandRun (IsAnswerTo request.entry) old (W.contents writer.old) filed → IsFileRun (IsAnswerTo request.entry) old (W.contents writer.new) result.status }
+    ensures told { (old : Option (List ℕ)) → IsFileCommandRun (IsAnswerTo request.entry) old (W.contents writer.old) filed → IsComplaintTold old (W.contents writer.new) result.status result.complaint }
 {
     match filed {
         Ok(status) => Outcome {

@@ -2,7 +2,7 @@
 
 ghost use Rattle.words_core.specs.declared.request.Request.TheVariants as requests;
 ghost use Rattle.cvec.specs.Answers.{IsAnswerTo};
-ghost use Rattle.cvec.specs.Runs.{IsFiled};
+ghost use Rattle.cvec.specs.Runs.{IsFileCommandRun};
 
 use crate::access::{Access, Opened, open};
 use disk_core::FileDisk;
@@ -35,7 +35,7 @@ pub fn tell_stat<W: Write, F: Files<File = File> + AllocGlobal, P: Progress>(
     words: &StatWords<'_>,
     writer: &mut W,
 ) -> Result<Status, Complaint>
-    ensures { IsFiled (IsAnswerTo (requests.Stat words.now)) (W.contents writer.old) (W.contents writer.new) result }
+    ensures { IsFileCommandRun (IsAnswerTo (requests.Stat words.now)) (W.contents writer.old) (W.contents writer.new) result }
 {
     let Opened { disk, lock: _lock } = open(files, words.file, Access::Reads, Role::File)?;
     let disk = Watched::new(disk, progress);

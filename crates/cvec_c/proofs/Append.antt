@@ -25,7 +25,7 @@ use Rattle.segment_core.proofs.Written.{length-group_frame}
 use Rattle.cvec_c.specs.declared.stat.CvecStat.{CvecStat}
 use Rattle.cvec_c.specs.declared.status.Status.{Status}
 use Rattle.cvec_c.specs.Stat.{HasStat}
-use Rattle.cvec_c.specs.Append.{first_refusal, append_lines, IsSameTo, IsShutAt, limit_in, append_len}
+use Rattle.cvec_c.specs.Append.{first_status, append_lines, IsSameTo, IsShutAt, limit_in, append_len}
 
 -- ---- tests
 
@@ -33,7 +33,7 @@ abbrev AreClear : List (Bool × Status) → Type 0
 AreClear [] = Unit {0}
 AreClear (line ∷ lines) = (line.0 ≡ false) × AreClear lines
 
-clear_by_none : (lines : List (Bool × Status)) → first_refusal lines ≡ None → AreClear lines
+clear_by_none : (lines : List (Bool × Status)) → first_status lines ≡ None → AreClear lines
 clear_by_none [] is = tt
 clear_by_none ((true, status) ∷ lines) is = absurd cc
 clear_by_none ((false, status) ∷ lines) is = (refl, clear_by_none lines is)
@@ -51,7 +51,7 @@ positive n is = elim (cases_lt 0 n) [
   | inr none ↦ (let never = eqb-false n 0 is in absurd (never (omega arith)))
 ]
 
-pub allowed : (width : ℕ) (stat : CvecStat) (records room : ℕ) → first_refusal (append_lines width stat records room) ≡ None → IsAllowed width stat records
+pub allowed : (width : ℕ) (stat : CvecStat) (records room : ℕ) → first_status (append_lines width stat records room) ≡ None → IsAllowed width stat records
 allowed width stat records room is =
     let clear = clear_by_none (append_lines width stat records room) is in
     let behind = clear.1.1 in

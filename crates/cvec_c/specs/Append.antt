@@ -12,9 +12,9 @@ use Rattle.cvec_c.specs.Stat.{HasStat}
 -- ---- refusals
 
 -- what is answered at the first test that holds
-abbrev pub first_refusal : List (Bool × Status) → Option Status
-first_refusal [] = None
-first_refusal (line ∷ lines) = if line.0 then Some line.1 else first_refusal lines
+abbrev pub first_status : List (Bool × Status) → Option Status
+first_status [] = None
+first_status (line ∷ lines) = if line.0 then Some line.1 else first_status lines
 
 -- the bytes of a payload at most, in a file of this version
 abbrev pub limit_in : ℕ → ℕ

@@ -43,5 +43,5 @@ abbrev pub HasRecords : {R : Type 0} → Encoding R → List ℕ → List R → 
 HasRecords form image records = (format : Format) × (frames : List Frame) × HasVector format form image frames records
 
 -- why there is none, as it is told: the image's first fault, or want of memory
-abbrev pub IsToldOf : {R : Type 0} → Encoding R → List ℕ → ℕ → CvecFault → Type 0
-IsToldOf form image answer fault = (refusal : ScanFault) × IsRefused form image refusal × (answer ≡ code_of (status_of refusal)) × (fault ≡ told refusal)
+abbrev pub IsScanToldOf : {R : Type 0} → Encoding R → List ℕ → ℕ → CvecFault → Type 0
+IsScanToldOf form image answer fault = (refusal : ScanFault) × IsRefused form image refusal × (answer ≡ code_of (status_of refusal)) × (fault ≡ told refusal)

@@ -8,7 +8,7 @@ ghost use Rattle.segment_core.specs.declared.format.Format.{Format};
 ghost use Rattle.segment_core.specs.Frame.{frame_text};
 ghost use Rattle.segment_core.specs.Written.{group_frame};
 ghost use Rattle.cvec_c.specs.Status.{code_of};
-ghost use Rattle.cvec_c.specs.Append.{first_refusal, append_lines, append_len, AppendsTo};
+ghost use Rattle.cvec_c.specs.Append.{first_status, append_lines, append_len, AppendsTo};
 ghost use Rattle.cvec_c.specs.Records.{c_pair, c_flagged};
 
 use crate::records::{CvecFlagged, CvecPair};
@@ -23,7 +23,7 @@ const HEAD_LEN: u64 = (FRAME_HEAD_LEN + GROWTH_HEAD_LEN) as u64;
 
 /// Why so many records can't be appended, whatever memory there is.
 fn refusal<R: Record>(stat: &CvecStat, records: u64, room: u64) -> Option<Status>
-    ensures { result ≡ first_refusal (append_lines R.form.width stat.now records room) }
+    ensures { result ≡ first_status (append_lines R.form.width stat.now records room) }
 {
     let Some(format) = Format::from_version(stat.version) else {
         return Some(Status::Version);
@@ -78,7 +78,7 @@ fn append<R: Record>(
     out: &mut [u8],
     next: &mut CvecStat,
 ) -> u32
-    ensures answer { MatchOption (first_refusal (append_lines R.form.width stat.now (length records.now) (length out.old)))
+    ensures answer { MatchOption (first_status (append_lines R.form.width stat.now (length records.now) (length out.old)))
         ((result ≡ 0) ⊎ (result ≡ 6))
         (λ status. result ≡ code_of status) }
     ensures done { result ≡ 0 → AppendsTo R.form stat.now records.now (take (append_len R.form.width (length records.now)) out.new) next.new }
@@ -112,7 +112,7 @@ pub extern "C" fn cvec_append_u32(
     out: &mut [u8],
     next: &mut CvecStat,
 ) -> u32
-    ensures answer { MatchOption (first_refusal (append_lines 4 stat.now (length records.now) (length out.old)))
+    ensures answer { MatchOption (first_status (append_lines 4 stat.now (length records.now) (length out.old)))
         ((result ≡ 0) ⊎ (result ≡ 6))
         (λ status. result ≡ code_of status) }
     ensures done { result ≡ 0 → AppendsTo (unsigned w32) stat.now records.now (take (append_len 4 (length records.now)) out.new) next.new }
@@ -131,7 +131,7 @@ pub extern "C" fn cvec_append_u64(
     out: &mut [u8],
     next: &mut CvecStat,
 ) -> u32
-    ensures answer { MatchOption (first_refusal (append_lines 8 stat.now (length records.now) (length out.old)))
+    ensures answer { MatchOption (first_status (append_lines 8 stat.now (length records.now) (length out.old)))
         ((result ≡ 0) ⊎ (result ≡ 6))
         (λ status. result ≡ code_of status) }
     ensures done { result ≡ 0 → AppendsTo (unsigned w64) stat.now records.now (take (append_len 8 (length records.now)) out.new) next.new }
@@ -150,7 +150,7 @@ pub extern "C" fn cvec_append_i64(
     out: &mut [u8],
     next: &mut CvecStat,
 ) -> u32
-    ensures answer { MatchOption (first_refusal (append_lines 8 stat.now (length records.now) (length out.old)))
+    ensures answer { MatchOption (first_status (append_lines 8 stat.now (length records.now) (length out.old)))
         ((result ≡ 0) ⊎ (result ≡ 6))
         (λ status. result ≡ code_of status) }
     ensures done { result ≡ 0 → AppendsTo (signed w64) stat.now records.now (take (append_len 8 (length records.now)) out.new) next.new }
@@ -169,7 +169,7 @@ pub extern "C" fn cvec_append_pair(
     out: &mut [u8],
     next: &mut CvecStat,
 ) -> u32
-    ensures answer { MatchOption (first_refusal (append_lines 16 stat.now (length records.now) (length out.old)))
+    ensures answer { MatchOption (first_status (append_lines 16 stat.now (length records.now) (length out.old)))
         ((result ≡ 0) ⊎ (result ≡ 6))
         (λ status. result ≡ code_of status) }
     ensures done { result ≡ 0 → AppendsTo c_pair stat.now records.now (take (append_len 16 (length records.now)) out.new) next.new }
@@ -188,7 +188,7 @@ pub extern "C" fn cvec_append_flagged(
     out: &mut [u8],
     next: &mut CvecStat,
 ) -> u32
-    ensures answer { MatchOption (first_refusal (append_lines 9 stat.now (length records.now) (length out.old)))
+    ensures answer { MatchOption (first_status (append_lines 9 stat.now (length records.now) (length out.old)))
         ((result ≡ 0) ⊎ (result ≡ 6))
         (λ status. result ≡ code_of status) }
     ensures done { result ≡ 0 → AppendsTo c_flagged stat.now records.now (take (append_len 9 (length records.now)) out.new) next.new }

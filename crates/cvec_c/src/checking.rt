@@ -4,7 +4,7 @@ ghost use Rattle.std.specs.Prelude.{◌≡◌, ◌≢◌, List, MatchResult, ℕ
 ghost use Rattle.std.specs.Int.{w32, w64};
 ghost use Rattle.record_core.specs.Bytes.{unsigned, signed};
 ghost use Rattle.segment_core.specs.Fault.{IsRefused};
-ghost use Rattle.cvec_c.specs.Stat.{HasStat, IsToldOf};
+ghost use Rattle.cvec_c.specs.Stat.{HasStat, IsScanToldOf};
 ghost use Rattle.cvec_c.specs.declared.records.CvecPair.{CvecPair};
 ghost use Rattle.cvec_c.specs.declared.records.CvecFlagged.{CvecFlagged};
 ghost use Rattle.cvec_c.specs.Records.{c_pair, c_flagged};
@@ -29,7 +29,7 @@ fn stat_of<R: Record>(alloc: Global, image: &[u8]) -> Result<CvecStat, ScanFault
 /// Answers 0 where the image has a vector, and tells what it holds; else why it has none. What isn't told of stays.
 fn check<R: Record>(alloc: Global, image: &[u8], stat: &mut CvecStat, fault: &mut CvecFault) -> u32
     ensures done { result ≡ 0 → ((records : List R) × HasStat R.form image.now records stat.new) × (fault.new ≡ fault.old) }
-    ensures refused { result ≢ 0 → IsToldOf R.form image.now result fault.new × (stat.new ≡ stat.old) }
+    ensures refused { result ≢ 0 → IsScanToldOf R.form image.now result fault.new × (stat.new ≡ stat.old) }
 {
     match stat_of::<R>(alloc, image) {
         Ok(found) => {
@@ -52,7 +52,7 @@ pub extern "C" fn cvec_check_u32(
     fault: &mut CvecFault,
 ) -> u32
     ensures done { result ≡ 0 → ((records : List ℕ) × HasStat (unsigned w32) image.now records stat.new) × (fault.new ≡ fault.old) }
-    ensures refused { result ≢ 0 → IsToldOf (unsigned w32) image.now result fault.new × (stat.new ≡ stat.old) }
+    ensures refused { result ≢ 0 → IsScanToldOf (unsigned w32) image.now result fault.new × (stat.new ≡ stat.old) }
 {
     check::<u32>(alloc, image, stat, fault)
 }
@@ -66,7 +66,7 @@ pub extern "C" fn cvec_check_u64(
     fault: &mut CvecFault,
 ) -> u32
     ensures done { result ≡ 0 → ((records : List ℕ) × HasStat (unsigned w64) image.now records stat.new) × (fault.new ≡ fault.old) }
-    ensures refused { result ≢ 0 → IsToldOf (unsigned w64) image.now result fault.new × (stat.new ≡ stat.old) }
+    ensures refused { result ≢ 0 → IsScanToldOf (unsigned w64) image.now result fault.new × (stat.new ≡ stat.old) }
 {
     check::<u64>(alloc, image, stat, fault)
 }
@@ -80,7 +80,7 @@ pub extern "C" fn cvec_check_i64(
     fault: &mut CvecFault,
 ) -> u32
     ensures done { result ≡ 0 → ((records : List ℤ) × HasStat (signed w64) image.now records stat.new) × (fault.new ≡ fault.old) }
-    ensures refused { result ≢ 0 → IsToldOf (signed w64) image.now result fault.new × (stat.new ≡ stat.old) }
+    ensures refused { result ≢ 0 → IsScanToldOf (signed w64) image.now result fault.new × (stat.new ≡ stat.old) }
 {
     check::<i64>(alloc, image, stat, fault)
 }
@@ -94,7 +94,7 @@ pub extern "C" fn cvec_check_pair(
     fault: &mut CvecFault,
 ) -> u32
     ensures done { result ≡ 0 → ((records : List CvecPair) × HasStat c_pair image.now records stat.new) × (fault.new ≡ fault.old) }
-    ensures refused { result ≢ 0 → IsToldOf c_pair image.now result fault.new × (stat.new ≡ stat.old) }
+    ensures refused { result ≢ 0 → IsScanToldOf c_pair image.now result fault.new × (stat.new ≡ stat.old) }
 {
     check::<CvecPair>(alloc, image, stat, fault)
 }
@@ -108,7 +108,7 @@ pub extern "C" fn cvec_check_flagged(
     fault: &mut CvecFault,
 ) -> u32
     ensures done { result ≡ 0 → ((records : List CvecFlagged) × HasStat c_flagged image.now records stat.new) × (fault.new ≡ fault.old) }
-    ensures refused { result ≢ 0 → IsToldOf c_flagged image.now result fault.new × (stat.new ≡ stat.old) }
+    ensures refused { result ≢ 0 → IsScanToldOf c_flagged image.now result fault.new × (stat.new ≡ stat.old) }
 {
     check::<CvecFlagged>(alloc, image, stat, fault)
 }

@@ -4,7 +4,7 @@ ghost use Rattle.std.specs.Prelude.{◌≡◌, ◌≢◌, length, take, drop, Ma
 ghost use Rattle.std.specs.Int.{w32, w64};
 ghost use Rattle.record_core.specs.Bytes.{unsigned, signed};
 ghost use Rattle.cvec_c.specs.Status.{code_of};
-ghost use Rattle.cvec_c.specs.Append.{first_refusal};
+ghost use Rattle.cvec_c.specs.Append.{first_status};
 ghost use Rattle.cvec_c.specs.Empty.{empty_lines, Creates};
 ghost use Rattle.cvec_c.specs.Records.{c_pair, c_flagged};
 
@@ -17,7 +17,7 @@ use segment_core::{EMPTY_FILE_LEN, Format, HEADER_LEN, empty_file};
 /// Answers 0, and writes an empty file of this version over the front of `out`; `stat` is what is told of it. Else it
 /// answers which test fails first, and nothing changes.
 fn empty<R: Record>(version: u8, out: &mut [u8], stat: &mut CvecStat) -> u32
-    ensures answer { MatchOption (first_refusal (empty_lines version (length out.old))) (result ≡ 0) (λ status. result ≡ code_of status) }
+    ensures answer { MatchOption (first_status (empty_lines version (length out.old))) (result ≡ 0) (λ status. result ≡ code_of status) }
     ensures done { result ≡ 0 → Creates R.form (take 12 out.new) stat.new }
     ensures rest { drop 12 out.new ≡ drop 12 out.old }
     ensures refused { result ≢ 0 → (out.new ≡ out.old) × (stat.new ≡ stat.old) }
@@ -45,7 +45,7 @@ fn empty<R: Record>(version: u8, out: &mut [u8], stat: &mut CvecStat) -> u32
 /// Makes a file of u32, as `empty` says.
 #[unsafe(no_mangle)]
 pub extern "C" fn cvec_empty_u32(version: u8, out: &mut [u8], stat: &mut CvecStat) -> u32
-    ensures answer { MatchOption (first_refusal (empty_lines version (length out.old))) (result ≡ 0) (λ status. result ≡ code_of status) }
+    ensures answer { MatchOption (first_status (empty_lines version (length out.old))) (result ≡ 0) (λ status. result ≡ code_of status) }
     ensures done { result ≡ 0 → Creates (unsigned w32) (take 12 out.new) stat.new }
     ensures rest { drop 12 out.new ≡ drop 12 out.old }
     ensures refused { result ≢ 0 → (out.new ≡ out.old) × (stat.new ≡ stat.old) }
@@ -56,7 +56,7 @@ pub extern "C" fn cvec_empty_u32(version: u8, out: &mut [u8], stat: &mut CvecSta
 /// Makes a file of u64, as `empty` says.
 #[unsafe(no_mangle)]
 pub extern "C" fn cvec_empty_u64(version: u8, out: &mut [u8], stat: &mut CvecStat) -> u32
-    ensures answer { MatchOption (first_refusal (empty_lines version (length out.old))) (result ≡ 0) (λ status. result ≡ code_of status) }
+    ensures answer { MatchOption (first_status (empty_lines version (length out.old))) (result ≡ 0) (λ status. result ≡ code_of status) }
     ensures done { result ≡ 0 → Creates (unsigned w64) (take 12 out.new) stat.new }
     ensures rest { drop 12 out.new ≡ drop 12 out.old }
     ensures refused { result ≢ 0 → (out.new ≡ out.old) × (stat.new ≡ stat.old) }
@@ -67,7 +67,7 @@ pub extern "C" fn cvec_empty_u64(version: u8, out: &mut [u8], stat: &mut CvecSta
 /// Makes a file of i64, as `empty` says.
 #[unsafe(no_mangle)]
 pub extern "C" fn cvec_empty_i64(version: u8, out: &mut [u8], stat: &mut CvecStat) -> u32
-    ensures answer { MatchOption (first_refusal (empty_lines version (length out.old))) (result ≡ 0) (λ status. result ≡ code_of status) }
+    ensures answer { MatchOption (first_status (empty_lines version (length out.old))) (result ≡ 0) (λ status. result ≡ code_of status) }
     ensures done { result ≡ 0 → Creates (signed w64) (take 12 out.new) stat.new }
     ensures rest { drop 12 out.new ≡ drop 12 out.old }
     ensures refused { result ≢ 0 → (out.new ≡ out.old) × (stat.new ≡ stat.old) }
@@ -78,7 +78,7 @@ pub extern "C" fn cvec_empty_i64(version: u8, out: &mut [u8], stat: &mut CvecSta
 /// Makes a file of pair, as `empty` says.
 #[unsafe(no_mangle)]
 pub extern "C" fn cvec_empty_pair(version: u8, out: &mut [u8], stat: &mut CvecStat) -> u32
-    ensures answer { MatchOption (first_refusal (empty_lines version (length out.old))) (result ≡ 0) (λ status. result ≡ code_of status) }
+    ensures answer { MatchOption (first_status (empty_lines version (length out.old))) (result ≡ 0) (λ status. result ≡ code_of status) }
     ensures done { result ≡ 0 → Creates c_pair (take 12 out.new) stat.new }
     ensures rest { drop 12 out.new ≡ drop 12 out.old }
     ensures refused { result ≢ 0 → (out.new ≡ out.old) × (stat.new ≡ stat.old) }
@@ -89,7 +89,7 @@ pub extern "C" fn cvec_empty_pair(version: u8, out: &mut [u8], stat: &mut CvecSt
 /// Makes a file of flagged, as `empty` says.
 #[unsafe(no_mangle)]
 pub extern "C" fn cvec_empty_flagged(version: u8, out: &mut [u8], stat: &mut CvecStat) -> u32
-    ensures answer { MatchOption (first_refusal (empty_lines version (length out.old))) (result ≡ 0) (λ status. result ≡ code_of status) }
+    ensures answer { MatchOption (first_status (empty_lines version (length out.old))) (result ≡ 0) (λ status. result ≡ code_of status) }
     ensures done { result ≡ 0 → Creates c_flagged (take 12 out.new) stat.new }
     ensures rest { drop 12 out.new ≡ drop 12 out.old }
     ensures refused { result ≢ 0 → (out.new ≡ out.old) × (stat.new ≡ stat.old) }

@@ -9,7 +9,7 @@ ghost use Rattle.cvec_c.specs.declared.records.CvecPair.{CvecPair};
 ghost use Rattle.cvec_c.specs.declared.records.CvecFlagged.{CvecFlagged};
 ghost use Rattle.cvec_c.specs.Records.{c_pair, c_flagged};
 ghost use Rattle.cvec_c.specs.declared.stat.CvecStat.{CvecStat};
-ghost use Rattle.cvec_c.specs.Stat.{IsToldOf};
+ghost use Rattle.cvec_c.specs.Stat.{IsScanToldOf};
 ghost use Rattle.cvec_c.specs.Homes.{HasHomes, as_homes};
 
 use crate::records::{CvecFlagged, CvecPair};
@@ -72,7 +72,7 @@ fn homes<R: Record>(
     ensures done { result ≡ 0 → ((records : List R) × HasHomes R.form image.now records stat.new (as_homes (take count.new out.new))) × (fault.new ≡ fault.old) }
     ensures no_room { result ≡ 11 → (length out.old < count.new) × ((records : List R) × (holds : CvecStat) × (homes : List Home) × HasHomes R.form image.now records holds homes × (count.new ≡ length homes)) }
     ensures unchanged { result ≡ 11 → (out.new ≡ out.old) × (stat.new ≡ stat.old) × (fault.new ≡ fault.old) }
-    ensures refused { result ≢ 0 → result ≢ 11 → IsToldOf R.form image.now result fault.new × (out.new ≡ out.old) × (count.new ≡ count.old) × (stat.new ≡ stat.old) }
+    ensures refused { result ≢ 0 → result ≢ 11 → IsScanToldOf R.form image.now result fault.new × (out.new ≡ out.old) × (count.new ≡ count.old) × (stat.new ≡ stat.old) }
 {
     match homes_of::<R>(alloc, image) {
         Ok((found, homes)) => {
@@ -104,7 +104,7 @@ pub extern "C" fn cvec_homes_u32(
     ensures done { result ≡ 0 → ((records : List ℕ) × HasHomes (unsigned w32) image.now records stat.new (as_homes (take count.new out.new))) × (fault.new ≡ fault.old) }
     ensures no_room { result ≡ 11 → (length out.old < count.new) × ((records : List ℕ) × (holds : CvecStat) × (homes : List Home) × HasHomes (unsigned w32) image.now records holds homes × (count.new ≡ length homes)) }
     ensures unchanged { result ≡ 11 → (out.new ≡ out.old) × (stat.new ≡ stat.old) × (fault.new ≡ fault.old) }
-    ensures refused { result ≢ 0 → result ≢ 11 → IsToldOf (unsigned w32) image.now result fault.new × (out.new ≡ out.old) × (count.new ≡ count.old) × (stat.new ≡ stat.old) }
+    ensures refused { result ≢ 0 → result ≢ 11 → IsScanToldOf (unsigned w32) image.now result fault.new × (out.new ≡ out.old) × (count.new ≡ count.old) × (stat.new ≡ stat.old) }
 {
     homes::<u32>(alloc, image, out, count, stat, fault)
 }
@@ -122,7 +122,7 @@ pub extern "C" fn cvec_homes_u64(
     ensures done { result ≡ 0 → ((records : List ℕ) × HasHomes (unsigned w64) image.now records stat.new (as_homes (take count.new out.new))) × (fault.new ≡ fault.old) }
     ensures no_room { result ≡ 11 → (length out.old < count.new) × ((records : List ℕ) × (holds : CvecStat) × (homes : List Home) × HasHomes (unsigned w64) image.now records holds homes × (count.new ≡ length homes)) }
     ensures unchanged { result ≡ 11 → (out.new ≡ out.old) × (stat.new ≡ stat.old) × (fault.new ≡ fault.old) }
-    ensures refused { result ≢ 0 → result ≢ 11 → IsToldOf (unsigned w64) image.now result fault.new × (out.new ≡ out.old) × (count.new ≡ count.old) × (stat.new ≡ stat.old) }
+    ensures refused { result ≢ 0 → result ≢ 11 → IsScanToldOf (unsigned w64) image.now result fault.new × (out.new ≡ out.old) × (count.new ≡ count.old) × (stat.new ≡ stat.old) }
 {
     homes::<u64>(alloc, image, out, count, stat, fault)
 }
@@ -140,7 +140,7 @@ pub extern "C" fn cvec_homes_i64(
     ensures done { result ≡ 0 → ((records : List ℤ) × HasHomes (signed w64) image.now records stat.new (as_homes (take count.new out.new))) × (fault.new ≡ fault.old) }
     ensures no_room { result ≡ 11 → (length out.old < count.new) × ((records : List ℤ) × (holds : CvecStat) × (homes : List Home) × HasHomes (signed w64) image.now records holds homes × (count.new ≡ length homes)) }
     ensures unchanged { result ≡ 11 → (out.new ≡ out.old) × (stat.new ≡ stat.old) × (fault.new ≡ fault.old) }
-    ensures refused { result ≢ 0 → result ≢ 11 → IsToldOf (signed w64) image.now result fault.new × (out.new ≡ out.old) × (count.new ≡ count.old) × (stat.new ≡ stat.old) }
+    ensures refused { result ≢ 0 → result ≢ 11 → IsScanToldOf (signed w64) image.now result fault.new × (out.new ≡ out.old) × (count.new ≡ count.old) × (stat.new ≡ stat.old) }
 {
     homes::<i64>(alloc, image, out, count, stat, fault)
 }
@@ -158,7 +158,7 @@ pub extern "C" fn cvec_homes_pair(
     ensures done { result ≡ 0 → ((records : List CvecPair) × HasHomes c_pair image.now records stat.new (as_homes (take count.new out.new))) × (fault.new ≡ fault.old) }
     ensures no_room { result ≡ 11 → (length out.old < count.new) × ((records : List CvecPair) × (holds : CvecStat) × (homes : List Home) × HasHomes c_pair image.now records holds homes × (count.new ≡ length homes)) }
     ensures unchanged { result ≡ 11 → (out.new ≡ out.old) × (stat.new ≡ stat.old) × (fault.new ≡ fault.old) }
-    ensures refused { result ≢ 0 → result ≢ 11 → IsToldOf c_pair image.now result fault.new × (out.new ≡ out.old) × (count.new ≡ count.old) × (stat.new ≡ stat.old) }
+    ensures refused { result ≢ 0 → result ≢ 11 → IsScanToldOf c_pair image.now result fault.new × (out.new ≡ out.old) × (count.new ≡ count.old) × (stat.new ≡ stat.old) }
 {
     homes::<CvecPair>(alloc, image, out, count, stat, fault)
 }
@@ -176,7 +176,7 @@ pub extern "C" fn cvec_homes_flagged(
     ensures done { result ≡ 0 → ((records : List CvecFlagged) × HasHomes c_flagged image.now records stat.new (as_homes (take count.new out.new))) × (fault.new ≡ fault.old) }
     ensures no_room { result ≡ 11 → (length out.old < count.new) × ((records : List CvecFlagged) × (holds : CvecStat) × (homes : List Home) × HasHomes c_flagged image.now records holds homes × (count.new ≡ length homes)) }
     ensures unchanged { result ≡ 11 → (out.new ≡ out.old) × (stat.new ≡ stat.old) × (fault.new ≡ fault.old) }
-    ensures refused { result ≢ 0 → result ≢ 11 → IsToldOf c_flagged image.now result fault.new × (out.new ≡ out.old) × (count.new ≡ count.old) × (stat.new ≡ stat.old) }
+    ensures refused { result ≢ 0 → result ≢ 11 → IsScanToldOf c_flagged image.now result fault.new × (out.new ≡ out.old) × (count.new ≡ count.old) × (stat.new ≡ stat.old) }
 {
     homes::<CvecFlagged>(alloc, image, out, count, stat, fault)
 }

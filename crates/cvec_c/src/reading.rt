@@ -3,7 +3,7 @@
 ghost use Rattle.std.specs.Prelude.{◌≡◌, ◌≢◌, ◌-◌, List, min, ℕ, ℤ};
 ghost use Rattle.std.specs.Int.{w32, w64};
 ghost use Rattle.record_core.specs.Bytes.{unsigned, signed};
-ghost use Rattle.cvec_c.specs.Stat.{HasRecords, IsToldOf};
+ghost use Rattle.cvec_c.specs.Stat.{HasRecords, IsScanToldOf};
 ghost use Rattle.cvec_c.specs.Reading.{AreCopied};
 ghost use Rattle.cvec_c.specs.declared.records.CvecPair.{CvecPair};
 ghost use Rattle.cvec_c.specs.declared.records.CvecFlagged.{CvecFlagged};
@@ -39,7 +39,7 @@ fn read<R: Record>(
     fault: &mut CvecFault,
 ) -> u32
     ensures done { result ≡ 0 → ((records : List R) × HasRecords R.form image.now records × AreCopied records from out.old out.new count.new) × (fault.new ≡ fault.old) }
-    ensures refused { result ≢ 0 → IsToldOf R.form image.now result fault.new × (out.new ≡ out.old) × (count.new ≡ count.old) }
+    ensures refused { result ≢ 0 → IsScanToldOf R.form image.now result fault.new × (out.new ≡ out.old) × (count.new ≡ count.old) }
 {
     match scan::<R>(alloc, image) {
         Ok(scanned) => {
@@ -64,7 +64,7 @@ pub extern "C" fn cvec_read_u32(
     fault: &mut CvecFault,
 ) -> u32
     ensures done { result ≡ 0 → ((records : List ℕ) × HasRecords (unsigned w32) image.now records × AreCopied records from out.old out.new count.new) × (fault.new ≡ fault.old) }
-    ensures refused { result ≢ 0 → IsToldOf (unsigned w32) image.now result fault.new × (out.new ≡ out.old) × (count.new ≡ count.old) }
+    ensures refused { result ≢ 0 → IsScanToldOf (unsigned w32) image.now result fault.new × (out.new ≡ out.old) × (count.new ≡ count.old) }
 {
     read::<u32>(alloc, image, from, out, count, fault)
 }
@@ -80,7 +80,7 @@ pub extern "C" fn cvec_read_u64(
     fault: &mut CvecFault,
 ) -> u32
     ensures done { result ≡ 0 → ((records : List ℕ) × HasRecords (unsigned w64) image.now records × AreCopied records from out.old out.new count.new) × (fault.new ≡ fault.old) }
-    ensures refused { result ≢ 0 → IsToldOf (unsigned w64) image.now result fault.new × (out.new ≡ out.old) × (count.new ≡ count.old) }
+    ensures refused { result ≢ 0 → IsScanToldOf (unsigned w64) image.now result fault.new × (out.new ≡ out.old) × (count.new ≡ count.old) }
 {
     read::<u64>(alloc, image, from, out, count, fault)
 }
@@ -96,7 +96,7 @@ pub extern "C" fn cvec_read_i64(
     fault: &mut CvecFault,
 ) -> u32
     ensures done { result ≡ 0 → ((records : List ℤ) × HasRecords (signed w64) image.now records × AreCopied records from out.old out.new count.new) × (fault.new ≡ fault.old) }
-    ensures refused { result ≢ 0 → IsToldOf (signed w64) image.now result fault.new × (out.new ≡ out.old) × (count.new ≡ count.old) }
+    ensures refused { result ≢ 0 → IsScanToldOf (signed w64) image.now result fault.new × (out.new ≡ out.old) × (count.new ≡ count.old) }
 {
     read::<i64>(alloc, image, from, out, count, fault)
 }
@@ -112,7 +112,7 @@ pub extern "C" fn cvec_read_pair(
     fault: &mut CvecFault,
 ) -> u32
     ensures done { result ≡ 0 → ((records : List CvecPair) × HasRecords c_pair image.now records × AreCopied records from out.old out.new count.new) × (fault.new ≡ fault.old) }
-    ensures refused { result ≢ 0 → IsToldOf c_pair image.now result fault.new × (out.new ≡ out.old) × (count.new ≡ count.old) }
+    ensures refused { result ≢ 0 → IsScanToldOf c_pair image.now result fault.new × (out.new ≡ out.old) × (count.new ≡ count.old) }
 {
     read::<CvecPair>(alloc, image, from, out, count, fault)
 }
@@ -128,7 +128,7 @@ pub extern "C" fn cvec_read_flagged(
     fault: &mut CvecFault,
 ) -> u32
     ensures done { result ≡ 0 → ((records : List CvecFlagged) × HasRecords c_flagged image.now records × AreCopied records from out.old out.new count.new) × (fault.new ≡ fault.old) }
-    ensures refused { result ≢ 0 → IsToldOf c_flagged image.now result fault.new × (out.new ≡ out.old) × (count.new ≡ count.old) }
+    ensures refused { result ≢ 0 → IsScanToldOf c_flagged image.now result fault.new × (out.new ≡ out.old) × (count.new ≡ count.old) }
 {
     read::<CvecFlagged>(alloc, image, from, out, count, fault)
 }

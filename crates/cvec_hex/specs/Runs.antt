@@ -15,18 +15,18 @@ use Rattle.text_core.specs.Keyed.{pair_spelling, flagged_spelling}
 use Rattle.text_core.specs.Engines.{IsImageRun, IsShowRun}
 
 -- how the task's engine may end over records of these bytes and texts, and what it has written then
-abbrev pub IsTaskRun : {R : Type 0} → Task → Encoding R → Spelling R → List ℕ → Option (List ℕ) → Option (List ℕ) → Status → Type 0
-IsTaskRun Image form spelling input old new status = IsImageRun form spelling input old new status
-IsTaskRun Show form spelling input old new status = IsShowRun form spelling input old new status
+abbrev pub IsHexTaskRun : {R : Type 0} → Task → Encoding R → Spelling R → List ℕ → Option (List ℕ) → Option (List ℕ) → Status → Type 0
+IsHexTaskRun Image form spelling input old new status = IsImageRun form spelling input old new status
+IsHexTaskRun Show form spelling input old new status = IsShowRun form spelling input old new status
 
 -- the same over records of one of the program's types
 abbrev pub IsRunOn : RecordType → Task → List ℕ → Option (List ℕ) → Option (List ℕ) → Status → Type 0
-IsRunOn U32 task = IsTaskRun task (unsigned w32) (number_spelling 32)
-IsRunOn U64 task = IsTaskRun task (unsigned w64) (number_spelling 64)
-IsRunOn I64 task = IsTaskRun task (signed w64) signed_spelling
-IsRunOn Pair task = IsTaskRun task pair pair_spelling
-IsRunOn Flagged task = IsTaskRun task flagged flagged_spelling
+IsRunOn U32 task = IsHexTaskRun task (unsigned w32) (number_spelling 32)
+IsRunOn U64 task = IsHexTaskRun task (unsigned w64) (number_spelling 64)
+IsRunOn I64 task = IsHexTaskRun task (signed w64) signed_spelling
+IsRunOn Pair task = IsHexTaskRun task pair pair_spelling
+IsRunOn Flagged task = IsHexTaskRun task flagged flagged_spelling
 
 -- how the program may end that was asked for this
-abbrev pub IsRun : Request → List ℕ → Option (List ℕ) → Option (List ℕ) → Status → Type 0
-IsRun request = IsRunOn request.record_type request.task
+abbrev pub IsHexRun : Request → List ℕ → Option (List ℕ) → Option (List ℕ) → Status → Type 0
+IsHexRun request = IsRunOn request.record_type request.task

@@ -1,7 +1,7 @@
 //! The program: what its words ask for, done on its input and output.
 
 ghost use Rattle.std.specs.Prelude.{◌≡◌, ◌≢◌, IfSome};
-ghost use Rattle.cvec_hex.specs.Runs.{IsTaskRun, IsRun};
+ghost use Rattle.cvec_hex.specs.Runs.{IsHexTaskRun, IsHexRun};
 
 use crate::request::{RecordType, Request, Task};
 use record_core::{Flagged, Pair};
@@ -17,7 +17,7 @@ fn run_of<R: TextRecord, I: Read, W: Write>(
     writer: &mut W,
 ) -> Status
     ensures ends { IfSome (I.remaining reader.old) (λ input.
-        IsTaskRun task R.form R.spelling input (W.contents writer.old) (W.contents writer.new) result) }
+        IsHexTaskRun task R.form R.spelling input (W.contents writer.old) (W.contents writer.new) result) }
     ensures no_usage { result ≢ Status.Usage }
 {
     match task {
@@ -34,7 +34,7 @@ pub fn run<I: Read, W: Write>(
     writer: &mut W,
 ) -> Status
     ensures ends { IfSome (I.remaining reader.old) (λ input.
-        IsRun request input (W.contents writer.old) (W.contents writer.new) result) }
+        IsHexRun request input (W.contents writer.old) (W.contents writer.new) result) }
     ensures no_usage { result ≢ Status.Usage }
 {
     let task = request.task;

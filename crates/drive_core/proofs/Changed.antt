@@ -13,10 +13,10 @@ use Rattle.pen_core.specs.Refusals.{first_refusal, change_lines}
 use Rattle.vault_core.specs.Touched.{IsTouched}
 use Rattle.vault_core.specs.Vault.{VaultOf, list_of}
 use Rattle.vault_core.specs.Commands.{changed_frame}
-use Rattle.drive_core.specs.Given.{given}
+use Rattle.drive_core.specs.Given.{given_by_runs}
 use Rattle.drive_core.specs.Medium.{Medium}
 use Rattle.drive_core.specs.Step.{Step}
-use Rattle.drive_core.specs.World.{World, runs_of, frame_of}
+use Rattle.drive_core.specs.World.{World, piece_runs, frame_of}
 use Rattle.drive_core.specs.VaultTies.{IsExclusive}
 use Rattle.drive_core.proofs.Givens.{given_replaces}
 use Rattle.drive_core.proofs.PenTests.{pen_tests, all_false}
@@ -31,23 +31,23 @@ module _ {R D : Type 0} {m : Medium R D} {w : World R} {v : VaultOf R D} (tie : 
     (size : v.pen.broken ≡ false → v.pen.tally.size ≡ length (list_of v)) (rests : Holds m new new.pen.disk)
     (pieces : List (ℕ × List R)) (records : List R) (records_are : records ≡ joined (map (λ piece. piece.1) pieces)) where
   abbrev change : Command R
-  change = Change (runs_of pieces) records
+  change = Change (piece_runs pieces) records
 
   abbrev pub IsMade : Type 0
-  IsMade = IsTouched (given pieces) (runs_of pieces) (list_of v) (list_of new)
+  IsMade = IsTouched (given_by_runs pieces) (piece_runs pieces) (list_of v) (list_of new)
 
   made_is : first_refusal (pen_tests m.form v.pen change) ≡ None → IsMade
-      → (list_of new ≡ after_command (list_of v) change) × (changed_frame m.form (runs_of pieces) (list_of new) ≡ frame_of m.form change)
+      → (list_of new ≡ after_command (list_of v) change) × (changed_frame m.form (piece_runs pieces) (list_of new) ≡ frame_of m.form change)
   made_is allowed touched =
       let all = all_false (pen_tests m.form v.pen change) allowed in
-      let ordered = and_parts (list_all (λ (run : Run). nat_lt 0 run.count) (runs_of pieces)) (are_ascending 0 (runs_of pieces)) (not_false _ all.1.1.1.0) in
-      let inside : are_inside (length (list_of v)) (runs_of pieces) ≡ true = ap (λ n. are_inside n (runs_of pieces)) (sym (size all.0)) ∙ not_false _ all.1.1.1.1.0 in
+      let ordered = and_parts (list_all (λ (run : Run). nat_lt 0 run.count) (piece_runs pieces)) (are_ascending 0 (piece_runs pieces)) (not_false _ all.1.1.1.0) in
+      let inside : are_inside (length (list_of v)) (piece_runs pieces) ≡ true = ap (λ n. are_inside n (piece_runs pieces)) (sym (size all.0)) ∙ not_false _ all.1.1.1.1.0 in
       let both = given_replaces pieces (list_of v) (list_of new) ordered.1 inside touched in (
-        both.1 ∙ ap (λ rs. after_command (list_of v) (Change (runs_of pieces) rs)) (sym records_are),
-        ap (λ rs. frames.Change (runs_of pieces) (flat_map m.form.bytes_of rs)) (both.0 ∙ sym records_are ∙ sym (append-nil records)),
+        both.1 ∙ ap (λ rs. after_command (list_of v) (Change (piece_runs pieces) rs)) (sym records_are),
+        ap (λ rs. frames.Change (piece_runs pieces) (flat_map m.form.bytes_of rs)) (both.0 ∙ sym records_are ∙ sym (append-nil records)),
       )
 
   -- asked for by this step
   pub changes : (asked : Step R) → Asks m w new asked (Some change)
-      → IsWritten m w v new asked change (changed_frame m.form (runs_of pieces) (list_of new)) (change_lines v.pen (runs_of pieces)) IsMade
+      → IsWritten m w v new asked change (changed_frame m.form (piece_runs pieces) (list_of new)) (change_lines v.pen (piece_runs pieces)) IsMade
   changes asked asks = record { asks = asks; size = size; rests = rests; lines_are = refl; made_is = made_is }

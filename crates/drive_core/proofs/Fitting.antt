@@ -3,7 +3,7 @@ use Rattle.std.proofs.Common.{◌≡◌, ◌⊎◌, inl, inr, ℕ, zero, suc, �
 use Rattle.segment_core.specs.Written.{joined, payload_len}
 use Rattle.block_core.specs.Growth as block
 use Rattle.flush_core.specs.Group.{IsGreatest}
-use Rattle.drive_core.specs.World.{fitting, records_in}
+use Rattle.drive_core.specs.World.{fitting, command_records}
 use Rattle.drive_core.specs.Ties.{grow_of}
 
 -- ---- what one payload holds
@@ -92,7 +92,7 @@ drop-map f zero xs = refl
 drop-map f (suc t) [] = refl
 drop-map f (suc t) (x ∷ xs) = drop-map f t xs
 
-pub records-grown : {R : Type 0} (entries : List (block.Growth R)) → map records_in (map grow_of entries) ≡ map (λ e. e.records) entries
+pub records-grown : {R : Type 0} (entries : List (block.Growth R)) → map command_records (map grow_of entries) ≡ map (λ e. e.records) entries
 records-grown [] = refl
 records-grown (e ∷ entries) = ap (λ rest. e.records ∷ rest) (records-grown entries)
 

@@ -11,7 +11,7 @@ use Rattle.drive_core.specs.Medium.{Medium}
 use Rattle.drive_core.specs.Step.{Answer}
 use Rattle.drive_core.specs.Step as step
 use Rattle.drive_core.specs.World.{World, Growth, Hand, DiskOf, hand_of}
-use Rattle.drive_core.specs.Ties.{GrowingOf, IsGrowing, IsBehind, growths_in_hand, disk_of}
+use Rattle.drive_core.specs.Ties.{GrowingOf, IsGrowing, IsBehindStep, growths_in_hand, disk_of}
 use Rattle.drive_core.specs.GrowthTies.{GrowthStep}
 use Rattle.drive_core.proofs.Hands.{hand_unchanged}
 use Rattle.drive_core.proofs.PenFolds.{Plans, Opening, fold_answered, fold_refused, begun_disk, begun_job}
@@ -22,7 +22,7 @@ use Rattle.drive_core.proofs.Ties.{other_flusher, flushes_on, behind_of}
 module _ {R D : Type 0} {m : Medium R D} {w : World R} {phase : Growth} {g : GrowingOf R D} (tie : IsGrowing m w phase g)
     (new : FlusherOf R D) (pass_same : new.pass ≡ g.flusher.pass) (taken_same : new.taken ≡ g.flusher.taken) (settled_same : new.settled ≡ g.flusher.settled) where
   -- only the pen is another, and not its disk or its job
-  tied : (hand : Hand) → hand ≡ hand_of new.pen → new.pen.disk ≡ g.flusher.pen.disk → new.pen.job ≡ g.flusher.pen.job → IsBehind m (record w { hand = hand }) (record g { flusher = new })
+  tied : (hand : Hand) → hand ≡ hand_of new.pen → new.pen.disk ≡ g.flusher.pen.disk → new.pen.job ≡ g.flusher.pen.job → IsBehindStep m (record w { hand = hand }) (record g { flusher = new })
   tied hand hand_is disk job = behind_of (other_flusher tie w.phase phase.flusher phase.taken w.settled hand w.disk new tie.phase_is
       (flushes_on tie pass_same taken_same (let was = tie.flusher.job_brings in let same = ap growths_in_hand job in omega (arith, was, same, taken_same, settled_same))
       (tie.flusher.settled_is ∙ ap (λ n. phase.before + n) (sym settled_same)))

@@ -24,7 +24,7 @@ use Rattle.drive_core.specs.Step.{Answer}
 use Rattle.drive_core.specs.Step as step
 use Rattle.drive_core.specs.World.{World, Growth, Hand, hand_of, vector}
 use Rattle.drive_core.specs.World as worlds
-use Rattle.drive_core.specs.Ties.{GrowingOf, IsGrowing, IsBehind, growths_in_hand, disk_of}
+use Rattle.drive_core.specs.Ties.{GrowingOf, IsGrowing, IsBehindStep, growths_in_hand, disk_of}
 use Rattle.drive_core.specs.VaultTies.{IsExclusive}
 use Rattle.drive_core.specs.Phases.{PhaseStep}
 use Rattle.drive_core.proofs.Looked.{same-front}
@@ -203,4 +203,4 @@ module _ {R D : Type 0} {m : Medium R D} {w : World R} {phase : Growth} {g : Gro
   pub gather_refuses : {new : GrowingOf R D} {answer : Answer R} (fault : VaultFault) → new ≡ g → answer ≡ step.Refused (Vault fault) → IsGatherFault g.live g.seats g.flusher fault
       → PhaseStep m w g.flusher.pen.disk (hands.Growth new) step.Gather answer
   gather_refuses fault same is why = answered is (still_left (worlds.Growing phase) w tie.calm tie.phase_is (inr (Vault fault, gather_table fault why, refl, refl))
-      refl refl (ap (λ (x : GrowingOf R D). x.flusher.pen.disk) same) tie.calm (left_growth (subst (IsBehind m w) (sym same) (behind_of tie))))
+      refl refl (ap (λ (x : GrowingOf R D). x.flusher.pen.disk) same) tie.calm (left_growth (subst (IsBehindStep m w) (sym same) (behind_of tie))))

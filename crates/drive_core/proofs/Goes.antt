@@ -14,11 +14,11 @@ use Rattle.drive_core.specs.declared.fault.Fault.TheVariants.{Vault, Grow, Scan}
 use Rattle.vault_core.specs.declared.fault.VaultFault.TheVariants as vault
 use Rattle.drive_core.specs.Step.{Step, Answer}
 use Rattle.drive_core.specs.Step as step
-use Rattle.drive_core.specs.World.{World, Growth, Phase, Shut, Exclusive, Growing, vector, next_group, is_live, changed, changed_runs, resized, cleared}
+use Rattle.drive_core.specs.World.{World, Growth, Phase, Shut, Exclusive, Growing, vector, next_group, is_live, changed, changed_runs, resize_command, cleared}
 use Rattle.drive_core.specs.Outcome.{RefusedAt, elsewhere}
 use Rattle.drive_core.specs.GrowthRows.{with_group}
 use Rattle.drive_core.specs.ExclusiveRows.{IsCommand, TornAt}
-use Rattle.drive_core.specs.LaneRows.{IsLog, IsHome, log_due, home_due, IsFold, IsJobLogged, IsLogged, IsFoldHomed, IsHomed, IsFiled, HasBegun, broken_by}
+use Rattle.drive_core.specs.LaneRows.{IsLog, IsHome, log_fault_due, home_due, IsFold, IsJobLogged, IsLogged, IsFoldHomed, IsHomed, IsFiled, HasBegun, broken_by}
 use Rattle.drive_core.specs.Rows.{IsStep, PhaseRow, StrayRow, ExclusiveRow, GrowthRow, OfSeat, has_seat}
 use Rattle.drive_core.specs.Run.{HasCalls, LaneCalls, CommandCalls}
 use Rattle.drive_core.specs.Headline.{HasFile}
@@ -104,7 +104,7 @@ module _ {R : Type 0} (w w' : World R) (n : ℕ) (there : HasFile w.phase) where
     lane_refused due fault by = refused_at due (broken_by w) fault (λ is. to is refl refl refl there) by
 
     log_goes : (answer : Answer R) → LaneCalls answer n → IsLog w answer w' → Goes w w' n
-    log_goes answer calls row = by_outcome row (job_goes w.hand.job answer calls) (lane_refused (log_due w.hand))
+    log_goes answer calls row = by_outcome row (job_goes w.hand.job answer calls) (lane_refused (log_fault_due w.hand))
 
     filed_goes : (fold : FoldOf) (job : Option JobOf) (answer : Answer R) → IsFiled w fold job answer w' → Goes w w' n
     filed_goes fold None answer row = to row.1 refl refl refl there
@@ -132,7 +132,7 @@ module _ {R : Type 0} (w w' : World R) (n : ℕ) (there : HasFile w.phase) where
     exclusive_goes keeps (step.Share room seats) answer calls row = by_outcome row (λ ok. to ok.1 refl refl refl tt) (λ fault by. stays by)
     exclusive_goes keeps (step.Change start records) answer calls row = command_goes (changed start records) answer calls row
     exclusive_goes keeps (step.Changes pieces) answer calls row = elim row [ inl memory ↦ stays memory.2 | inr command ↦ command_goes (changed_runs pieces) answer calls command ]
-    exclusive_goes keeps (step.Resize size r) answer calls row = command_goes (resized (length (vector w)) size r) answer calls row
+    exclusive_goes keeps (step.Resize size r) answer calls row = command_goes (resize_command (length (vector w)) size r) answer calls row
     exclusive_goes keeps step.Clear answer calls row = command_goes (cleared (length (vector w))) answer calls row
     exclusive_goes keeps step.Listing answer calls row = by_outcome row (λ ok. stays ok.1) (λ fault by. stays by)
     exclusive_goes keeps step.Fold answer calls row = fold_row keeps answer row

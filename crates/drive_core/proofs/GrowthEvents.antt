@@ -10,7 +10,7 @@ use Rattle.drive_core.specs.Asked.{step_of}
 use Rattle.drive_core.specs.Medium.{Medium}
 use Rattle.drive_core.specs.Step.{Step, Answer}
 use Rattle.drive_core.specs.Step as step
-use Rattle.drive_core.specs.World.{World, Growth, DiskOf, vector, changed, changed_runs, resized, cleared}
+use Rattle.drive_core.specs.World.{World, Growth, DiskOf, vector, changed, changed_runs, resize_command, cleared}
 use Rattle.drive_core.specs.Rows.{GrowthRow, OfSeat, has_seat}
 use Rattle.drive_core.specs.Run.{HasCalls, CommandCalls}
 use Rattle.drive_core.specs.Ties.{GrowingOf, IsGrowing}
@@ -35,7 +35,7 @@ misplaced_calls w (step.Create format) = refl
 misplaced_calls w step.Open = refl
 misplaced_calls w (step.Change start records) = no_command (changed start records)
 misplaced_calls w (step.Changes pieces) = no_command (changed_runs pieces)
-misplaced_calls w (step.Resize n r) = no_command (resized (length (vector w)) n r)
+misplaced_calls w (step.Resize n r) = no_command (resize_command (length (vector w)) n r)
 misplaced_calls w step.Clear = no_command (cleared (length (vector w)))
 misplaced_calls w step.Log = refl
 misplaced_calls w step.Home = refl

@@ -7,7 +7,7 @@ use Rattle.segment_core.specs.Frame.{Frame, frame_text}
 use Rattle.segment_core.specs.Tally.{after}
 use Rattle.segment_core.specs.declared.tally.Tally.{Tally}
 use Rattle.pen_core.specs.PenOf.{PenOf, FoldOf}
-use Rattle.pen_core.specs.Pen.{IsUnchanged, BeginsFold, BeginsFrame, CountsSame, CountsDone, IsBrokenBy, HomesCalled, IsFiled, fold_behind}
+use Rattle.pen_core.specs.Pen.{IsUnchanged, BeginsFold, BeginsFrame, CountsSame, CountsDone, IsBrokenBy, HomesCalled, FilesFold, fold_behind}
 use Rattle.pen_core.specs.InHand.{called}
 use Rattle.pen_core.specs.declared.step.Step as pen_step
 use Rattle.pen_core.specs.declared.step.Step.TheVariants.{Body}
@@ -105,7 +105,7 @@ module _ {D : Type 0} (old new : PenOf D) where
     broken = broken i;
   }
 
-  pub hand_filed : (fold : FoldOf) → IsFiled fold old new → new.broken ≡ old.broken
+  pub hand_filed : (fold : FoldOf) → FilesFold fold old new → new.broken ≡ old.broken
       → hand_of new ≡ record (hand_of old) { fold = Some (record fold { stage = stages.Filed }); job = Some (record { frame = frames.Fold fold.count; step = Body }) }
   hand_filed fold by broken i = record {
     file = file_same by.shape_same by.gate_same by.tally_same i;

@@ -18,10 +18,10 @@ use Rattle.drive_core.specs.Rows.{StrayRow}
 use Rattle.drive_core.specs.Run.{Event, HasCalls, last}
 use Rattle.segment_core.specs.Command.{Command}
 use Rattle.drive_core.specs.declared.phase.Phase as phases
-use Rattle.drive_core.specs.World.{vector, changed, changed_runs, resized, cleared}
+use Rattle.drive_core.specs.World.{vector, changed, changed_runs, resize_command, cleared}
 use Rattle.drive_core.specs.Run.{CommandCalls}
 use Rattle.drive_core.specs.Driving.{IsDriver, DriverStep, HasRun}
-use Rattle.drive_core.specs.Phases.{disk_in, IsInHand, PhaseStep}
+use Rattle.drive_core.specs.Phases.{disk_in, IsPhaseInHand, PhaseStep}
 use Rattle.drive_core.specs.Ties.{Steps}
 use Rattle.drive_core.specs.VaultTies.{calls_between}
 use Rattle.drive_core.proofs.Steps.{answered, counted, still}
@@ -36,7 +36,7 @@ stray_calls w (step.Create format) number = refl
 stray_calls w step.Open number = refl
 stray_calls w (step.Change start records) number = stray_command (changed start records) number
 stray_calls w (step.Changes pieces) number = stray_command (changed_runs pieces) number
-stray_calls w (step.Resize n r) number = stray_command (resized (length (vector w)) n r) number
+stray_calls w (step.Resize n r) number = stray_command (resize_command (length (vector w)) n r) number
 stray_calls w step.Clear number = stray_command (cleared (length (vector w))) number
 stray_calls w step.Log number = refl
 stray_calls w step.Home number = refl
@@ -55,7 +55,7 @@ module _ {R D : Type 0} {m : Medium R D} {w : World R} where
   -- as the driver's step answers
   pub driver_steps : {phase new : phases.Phase R D} {asked : Step R} {answer : Answer R} {strayed strayed' : Option ℕ} → IsDriver m w phase strayed → strayed ≡ None
       → strayed' ≡ stray_in answer
-      → (IsInHand m w phase → PhaseStep m w (disk_in phase) new asked answer) → DriverStep m w (disk_in phase) new strayed' asked answer
+      → (IsPhaseInHand m w phase → PhaseStep m w (disk_in phase) new asked answer) → DriverStep m w (disk_in phase) new strayed' asked answer
   driver_steps tie none told steps =
       let s = steps (tie.goes_on none) in
       record {

@@ -15,13 +15,13 @@ use Rattle.vault_core.specs.declared.fault.VaultFault.TheVariants as vault
 use Rattle.vault_core.specs.Touched.{IsTouched}
 use Rattle.vault_core.specs.Vault.{VaultOf, list_of}
 use Rattle.vault_core.specs.Commands as commands
-use Rattle.vault_core.specs.Commands.{Stands, changed_frame}
+use Rattle.vault_core.specs.Commands.{StandsCommanded, changed_frame}
 use Rattle.drive_core.specs.declared.fault.Fault.TheVariants.{Vault}
-use Rattle.drive_core.specs.Given.{given, pieces_of}
+use Rattle.drive_core.specs.Given.{given_by_runs, pieces_of}
 use Rattle.drive_core.specs.Medium.{Medium}
 use Rattle.drive_core.specs.Step.{Step, Answer}
 use Rattle.drive_core.specs.Step as step
-use Rattle.drive_core.specs.World.{World, runs_of}
+use Rattle.drive_core.specs.World.{World, piece_runs}
 use Rattle.drive_core.specs.VaultTies.{IsExclusive, VaultStep}
 use Rattle.drive_core.proofs.Changed.{changes}
 use Rattle.drive_core.proofs.Steps.{answered}
@@ -35,7 +35,7 @@ module _ {R D : Type 0} {m : Medium R D} {w : World R} {v : VaultOf R D} (tie : 
   Says runs result = commands.IsCommand m.form m.keeps m.states m.faults (changed_frame m.form runs (list_of new)) (change_lines v.pen runs) v new result
 
   abbrev IsGiven : List (ℕ × List R) → List Run → Type 0
-  IsGiven pieces runs = IsTouched (given pieces) runs (list_of v) (list_of new)
+  IsGiven pieces runs = IsTouched (given_by_runs pieces) runs (list_of v) (list_of new)
 
   -- ---- of one run
 
@@ -58,7 +58,7 @@ module _ {R D : Type 0} {m : Medium R D} {w : World R} {v : VaultOf R D} (tie : 
   one_answers start (r ∷ records) is list says none = committed_steps tie (one start r records) (says (omega arith)) (list (omega arith)) is
 
   pub one_refuses : {answer : Answer R} (start : ℕ) (records : List R) (fault : VaultFault) → answer ≡ step.Refused (Vault fault)
-      → (0 < length records → Stands (IsGiven ((start, records) ∷ []) (one_run start (length records))) (new.blocks ≡ v.blocks) fault)
+      → (0 < length records → StandsCommanded (IsGiven ((start, records) ∷ []) (one_run start (length records))) (new.blocks ≡ v.blocks) fault)
       → (0 < length records → Says (one_run start (length records)) (Err fault))
       → (length records ≡ 0 → (new ≡ v) × commands.IsNothingFault v.pen fault) → VaultStep m w v new (step.Change start records) answer
   one_refuses start [] fault is list says none = nothing_refused tie (none refl).0 (λ answer w' n row calls. (row, calls)) (none refl).1 is
@@ -67,24 +67,24 @@ module _ {R D : Type 0} {m : Medium R D} {w : World R} {v : VaultOf R D} (tie : 
   -- ---- of several
 
   some : (piece : ℕ × List R) (pieces : List (ℕ × List R))
-      → WritesRuns (step.Changes (piece ∷ pieces)) (runs_of (piece ∷ pieces)) (joined (map (λ p. p.1) (piece ∷ pieces))) (IsGiven (piece ∷ pieces) (runs_of (piece ∷ pieces)))
+      → WritesRuns (step.Changes (piece ∷ pieces)) (piece_runs (piece ∷ pieces)) (joined (map (λ p. p.1) (piece ∷ pieces))) (IsGiven (piece ∷ pieces) (piece_runs (piece ∷ pieces)))
   some piece pieces = changes tie new size rests (piece ∷ pieces) (joined (map (λ p. p.1) (piece ∷ pieces))) refl (step.Changes (piece ∷ pieces)) (λ answer w' n row calls. (inr row, calls))
 
   some_answers : {answer : Answer R} (pieces : List (ℕ × List R)) → answer ≡ step.Fine
-      → (0 < length pieces → IsGiven pieces (runs_of pieces)) → (0 < length pieces → Says (runs_of pieces) (Ok tt))
+      → (0 < length pieces → IsGiven pieces (piece_runs pieces)) → (0 < length pieces → Says (piece_runs pieces) (Ok tt))
       → (length pieces ≡ 0 → (new ≡ v) × (v.pen.broken ≡ false)) → VaultStep m w v new (step.Changes pieces) answer
   some_answers [] is list says none = nothing_steps tie (none refl).0 (λ answer w' n row calls. (inr row, calls)) (none refl).1 is
   some_answers (piece ∷ pieces) is list says none = committed_steps tie (some piece pieces) (says (omega arith)) (list (omega arith)) is
 
   some_refuses : {answer : Answer R} (pieces : List (ℕ × List R)) (fault : VaultFault) → answer ≡ step.Refused (Vault fault)
-      → (0 < length pieces → Stands (IsGiven pieces (runs_of pieces)) (new.blocks ≡ v.blocks) fault)
-      → (0 < length pieces → Says (runs_of pieces) (Err fault))
+      → (0 < length pieces → StandsCommanded (IsGiven pieces (piece_runs pieces)) (new.blocks ≡ v.blocks) fault)
+      → (0 < length pieces → Says (piece_runs pieces) (Err fault))
       → (length pieces ≡ 0 → (new ≡ v) × commands.IsNothingFault v.pen fault) → VaultStep m w v new (step.Changes pieces) answer
   some_refuses [] fault is list says none = nothing_refused tie (none refl).0 (λ answer w' n row calls. (inr row, calls)) (none refl).1 is
   some_refuses (piece ∷ pieces) fault is list says none = failed_steps tie (some piece pieces) fault (says (omega arith)) (list (omega arith)) is
 
   -- by the list of their starts and lengths
-  module _ (pieces : List (ℕ × List R)) (list : List (ℕ × ℕ)) (same : runs_given list ≡ runs_of pieces) where
+  module _ (pieces : List (ℕ × List R)) (list : List (ℕ × ℕ)) (same : runs_given list ≡ piece_runs pieces) where
     as_long : length list ≡ length pieces
     as_long = sym (length-map list (λ (run : ℕ × ℕ). record { start = run.0; count = run.1 })) ∙ ap length same
         ∙ length-map pieces (λ (piece : ℕ × List R). record { start = piece.0; count = length piece.1 })
@@ -98,11 +98,11 @@ module _ {R D : Type 0} {m : Medium R D} {w : World R} {v : VaultOf R D} (tie : 
         (λ empty. none (omega (arith, empty, as_long)))
 
     pub runs_refuses : {answer : Answer R} (fault : VaultFault) → answer ≡ step.Refused (Vault fault)
-        → (0 < length list → Stands (IsGiven pieces (runs_given list)) (new.blocks ≡ v.blocks) fault)
+        → (0 < length list → StandsCommanded (IsGiven pieces (runs_given list)) (new.blocks ≡ v.blocks) fault)
         → (0 < length list → Says (runs_given list) (Err fault))
         → (length list ≡ 0 → (new ≡ v) × commands.IsNothingFault v.pen fault) → VaultStep m w v new (step.Changes pieces) answer
     runs_refuses fault is touched says none = some_refuses pieces fault is
-        (λ some. subst (λ runs. Stands (IsGiven pieces runs) (new.blocks ≡ v.blocks) fault) same (touched (omega (arith, some, as_long))))
+        (λ some. subst (λ runs. StandsCommanded (IsGiven pieces runs) (new.blocks ≡ v.blocks) fault) same (touched (omega (arith, some, as_long))))
         (λ some. subst (λ runs. Says runs (Err fault)) same (says (omega (arith, some, as_long))))
         (λ empty. none (omega (arith, empty, as_long)))
 

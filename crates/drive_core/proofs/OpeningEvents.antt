@@ -39,7 +39,7 @@ use Rattle.drive_core.specs.Run.{HasCalls}
 use Rattle.drive_core.specs.Headline.{HasFile, Rests}
 use Rattle.drive_core.specs.Ties.{growths_in_hand, disk_of}
 use Rattle.drive_core.specs.VaultTies.{IsExclusive}
-use Rattle.drive_core.specs.Phases.{IsShut, IsLeft, PhaseStep, disk_in}
+use Rattle.drive_core.specs.Phases.{IsPhaseShut, IsWorldLeft, PhaseStep, disk_in}
 use Rattle.drive_core.proofs.PhaseEvents.{still_left, left_exclusive, left_shut}
 use Rattle.drive_core.proofs.Steps.{at_phase, answered}
 use Rattle.drive_core.proofs.VaultEvents.{Holds, vault_rests}
@@ -48,14 +48,14 @@ use Rattle.drive_core.proofs.VaultEvents.{Holds, vault_rests}
 few_pieces : (len n : ℕ) → n ≤ calls_of len → len < 2 ^ 64 → n < 2 ^ 64
 few_pieces len n most short = omega (arith, most, short)
 
-module _ {R D : Type 0} {m : Medium R D} {w : World R} {disk : D} (tie : IsShut m w disk) where
+module _ {R D : Type 0} {m : Medium R D} {w : World R} {disk : D} (tie : IsPhaseShut m w disk) where
   abbrev calls_to : D → ℕ
   calls_to new = clock (m.states new) - clock (m.states disk)
 
   -- an event with device calls
   called : {new : code.Phase R D} {asked : Step R} {answer : Answer R} (w' : World R) → ShutRow m.form (m.keeps (disk_in new)) w asked answer w'
       → HasCalls w asked answer (calls_to (disk_in new)) → clock (m.states disk) < clock (m.states (disk_in new)) → calls_to (disk_in new) < 2 ^ 64
-      → w'.disk ≡ disk_of m.states m.faults (disk_in new) → w'.strayed ≡ stray_in answer → IsLeft m w' new → (m.keeps (disk_in new) → HasFile w'.phase → Rests m.form w')
+      → w'.disk ≡ disk_of m.states m.faults (disk_in new) → w'.strayed ≡ stray_in answer → IsWorldLeft m w' new → (m.keeps (disk_in new) → HasFile w'.phase → Rests m.form w')
       → PhaseStep m w disk new asked answer
   called {new} {asked} {answer} w' row calls some few behind stray left rests = record {
     after = w';
@@ -75,7 +75,7 @@ module _ {R D : Type 0} {m : Medium R D} {w : World R} {disk : D} (tie : IsShut 
   abbrev with_disk : D → World R
   with_disk new = record w { disk = disk_of m.states m.faults new }
 
-  still_shut : (new : D) → IsLeft m (with_disk new) (hands.Shut new)
+  still_shut : (new : D) → IsWorldLeft m (with_disk new) (hands.Shut new)
   still_shut new = left_shut (record { phase_is = tie.phase_is; calm = tie.calm; disk_is = refl })
 
   no_file : (new : D) → m.keeps new → HasFile (with_disk new).phase → Rests m.form (with_disk new)

@@ -26,7 +26,7 @@ use Rattle.drive_core.specs.Step.{Step, Answer}
 use Rattle.drive_core.specs.Step as step
 use Rattle.drive_core.specs.World.{World, Hand, DiskOf, hand_of, file_with, growths_in}
 use Rattle.drive_core.specs.Outcome.{elsewhere}
-use Rattle.drive_core.specs.LaneRows.{IsLog, IsHome, log_due, home_due, device_lines, home_calls, done, broken_by, IsJobLogged, IsLogged, IsFoldHomed, IsFiled, IsHomed}
+use Rattle.drive_core.specs.LaneRows.{IsLog, IsHome, log_fault_due, home_due, device_lines, home_calls, done, broken_by, IsJobLogged, IsLogged, IsFoldHomed, IsFiled, IsHomed}
 use Rattle.drive_core.specs.Run.{LaneCalls, RefusedCalls}
 use Rattle.drive_core.specs.Ties.{growths_in_hand, disk_of}
 use Rattle.drive_core.proofs.Hands.{hand_stepped, hand_broken, hand_done, hand_homed, hand_filed}
@@ -191,7 +191,7 @@ module _ {R D : Type 0} (m : Medium R D) (w : World R) (old new : PenOf D) (hand
         let cause : DiskFault = fault_of by.0.step in
         let one : log_due_calls ≡ 1 = calls_of_job by.1 by.2 in
         let failed = counted ∙ ap (λ f. m.faults old.disk + pens.failed_calls f) by.3 in
-        let due : log_due w.hand ≡ Some cause = ap log_due hand_is ∙ ap (option_map (λ (job : JobOf). fault_of job.step)) by.2 in
+        let due : log_fault_due w.hand ≡ Some cause = ap log_fault_due hand_is ∙ ap (option_map (λ (job : JobOf). fault_of job.step)) by.2 in
         let allows = device_fails w.hand (is_some w.hand.job) cause (broken_is ∙ by.1) (ap is_some (job_is ∙ by.2)) in
         subst LogRefused (sym by.3) (
           inr (Vault (vault.Pen (pen.Disk cause)), allows, refl, (due, has_failed failed, broken_world by.4 same)),

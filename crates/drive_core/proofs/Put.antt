@@ -18,7 +18,7 @@ use Rattle.drive_core.specs.declared.fault.Fault.TheVariants as told
 use Rattle.drive_core.specs.Medium.{Medium}
 use Rattle.drive_core.specs.Step.{Answer}
 use Rattle.drive_core.specs.Step as step
-use Rattle.drive_core.specs.World.{World, Growth, growths_of, vector}
+use Rattle.drive_core.specs.World.{World, Growth, phase_growths, vector}
 use Rattle.drive_core.specs.GrowthRows.{with_growth, receipt_of, IsPut}
 use Rattle.drive_core.specs.Ties.{GrowingOf, IsGrowing, AreSeated, IsSeat, grow_of}
 use Rattle.drive_core.specs.GrowthTies.{GrowthStep}
@@ -78,7 +78,7 @@ module _ {R D : Type 0} {m : Medium R D} {w : World R} {phase : Growth} {g : Gro
   met_same : (met tie.seats has_met).pass.entries ≡ m1.pass.entries
   met_same = learns_nothing tie.seats has_met (omega (arith, one_more))
 
-  count : length (growths_of w phase) ≡ length tie.entries
+  count : length (phase_growths w phase) ≡ length tie.entries
   count = growths_count tie
 
   vector_long : length (vector w) ≡ length (opening_of g.live) + total tie.entries
@@ -87,7 +87,7 @@ module _ {R D : Type 0} {m : Medium R D} {w : World R} {phase : Growth} {g : Gro
   answer_is : step.Grown receipt ≡ receipt_of w phase k records
   answer_is i = step.Grown (record { number = number_is i; start = start_is i; len = grown.len i; seat = seat_is i; serial = serial_is i })
     where
-      number_is : receipt.number ≡ length (growths_of w phase)
+      number_is : receipt.number ≡ length (phase_growths w phase)
       number_is = number ∙ tie.puts_is ∙ sym count
 
       start_is : receipt.start ≡ length (vector w)
@@ -102,7 +102,7 @@ module _ {R D : Type 0} {m : Medium R D} {w : World R} {phase : Growth} {g : Gro
   -- ---- the seats
 
   abbrev known_then : List ℕ
-  known_then = slice_set phase.known k (length (growths_of w phase) + 1)
+  known_then = slice_set phase.known k (length (phase_growths w phase) + 1)
 
   abbrev made_then : List ℕ
   made_then = slice_set phase.made k (slice_index phase.made k + 1)
@@ -173,7 +173,7 @@ module _ {R D : Type 0} {m : Medium R D} {w : World R} {phase : Growth} {g : Gro
   put_answers is in_room in_limit =
       let same = tie.room_is in
       let all = ap total entries_are ∙ total-push tie.entries entry in
-      let room = not_le phase.room (length (growths_of w phase)) (omega (arith, in_room, known_is, one_more, same, count)) in
+      let room = not_le phase.room (length (phase_growths w phase)) (omega (arith, in_room, known_is, one_more, same, count)) in
       let short = not_lt record_limit (length (vector w) + length records) (omega (arith, vector_long, all, in_limit)) in
       let w' : World R = with_growth w phase k records in
       answered is (quiet_steps tie w' (seat_row tie has_met.inside w' (step.Grown receipt) (IsPut m.form.width w phase k records (step.Grown receipt) w')

@@ -14,7 +14,7 @@ use Rattle.drive_core.specs.Line.{put_fault_of, Allows}
 use Rattle.drive_core.specs.Medium.{Medium}
 use Rattle.drive_core.specs.Step.{Answer}
 use Rattle.drive_core.specs.Step as step
-use Rattle.drive_core.specs.World.{World, Growth, growths_of, vector}
+use Rattle.drive_core.specs.World.{World, Growth, phase_growths, vector}
 use Rattle.drive_core.specs.Outcome.{struck, stray_in}
 use Rattle.drive_core.specs.GrowthRows.{IsPut, knowing, within}
 use Rattle.drive_core.specs.Ties.{GrowingOf, IsGrowing}
@@ -94,14 +94,14 @@ module _ {R D : Type 0} {m : Medium R D} {w : World R} {phase : Growth} {g : Gro
     calm_same i = record (within w kept_phase) { strayed = tie.calm i }
 
     -- what the book knows of the list, of which the seat knows all
-    long : length m1.pass.entries ≡ length (growths_of w phase)
+    long : length m1.pass.entries ≡ length (phase_growths w phase)
     long = ap length all_known ∙ sym (growths_count tie)
 
     size : size_of g.live m1 ≡ length (vector w)
     size = ap (λ es. length (opening_of g.live) + total es) all_known ∙ sym (ap length (vector_is tie) ∙ opening_long tie tie.entries)
 
-    has_room : length m1.pass.entries < g.live.directory.room → nat_le phase.room (length (growths_of w phase)) ≡ false
-    has_room less = not_le phase.room (length (growths_of w phase)) (let room = tie.room_is in omega (arith, less, long, room))
+    has_room : length m1.pass.entries < g.live.directory.room → nat_le phase.room (length (phase_growths w phase)) ≡ false
+    has_room less = not_le phase.room (length (phase_growths w phase)) (let room = tie.room_is in omega (arith, less, long, room))
 
     -- as the function answers: of a seat that knows all, or something strayed
     put_told : {answer : Answer R} (fault : GrowFault) → answer ≡ step.Refused (told.Grow (put_fault_of fault true g.puts)) → IsBookRefusal g.live m1 (length records) fault
@@ -109,7 +109,7 @@ module _ {R D : Type 0} {m : Medium R D} {w : World R} {phase : Growth} {g : Gro
     put_told grow.Closed is why = put_strays kept_hand g.puts is refl
     put_told (grow.Strayed n) is why = put_strays kept_hand n is refl
     put_told grow.Full is why =
-        let no_room = le-leb phase.room (length (growths_of w phase)) (let le = why.1 in let room = tie.room_is in omega (arith, le, long, room)) in
+        let no_room = le-leb phase.room (length (phase_growths w phase)) (let le = why.1 in let room = tie.room_is in omega (arith, le, long, room)) in
         refused_by grow.Full is refl (stops _ (told.Grow grow.Full) _ no_room) calm_same
     put_told grow.TooLong is why =
         let much = lt-ltb record_limit (length (vector w) + length records) (let more = why.2 in omega (arith, more, size)) in

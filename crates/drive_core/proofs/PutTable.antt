@@ -7,7 +7,7 @@ use Rattle.book_core.specs.declared.fault.GrowFault.TheVariants as grow
 use Rattle.drive_core.specs.declared.fault.Fault.{Fault}
 use Rattle.drive_core.specs.declared.fault.Fault.TheVariants as told
 use Rattle.drive_core.specs.Line.{Line, When, Might, Allows, is_grow_memory, is_strayed}
-use Rattle.drive_core.specs.World.{World, Growth, growths_of, vector}
+use Rattle.drive_core.specs.World.{World, Growth, phase_growths, vector}
 use Rattle.drive_core.specs.GrowthRows.{put_lines}
 use Rattle.drive_core.proofs.PenFolds.{not_lt}
 use Rattle.drive_core.proofs.Tables.{passes}
@@ -22,7 +22,7 @@ module _ {R : Type 0} {width : ℕ} (w : World R) (phase : Growth) (records : Li
   -- whether the growth fits the room and the list
   abbrev pub book_lines : List Line
   book_lines =
-      When (nat_le phase.room (length (growths_of w phase))) (told.Grow grow.Full)
+      When (nat_le phase.room (length (phase_growths w phase))) (told.Grow grow.Full)
       ∷ When (nat_lt record_limit (length (vector w) + length records)) (told.Grow grow.TooLong)
       ∷ Might is_grow_memory
       ∷ []

@@ -14,7 +14,7 @@ use Rattle.drive_core.specs.Outcome.{stray_in}
 use Rattle.drive_core.specs.GrowthRows.{within}
 use Rattle.drive_core.specs.Rows.{GrowthRow, OfSeat, has_seat}
 use Rattle.drive_core.specs.Run.{HasCalls}
-use Rattle.drive_core.specs.Ties.{GrowingOf, IsGrowing, IsBehind}
+use Rattle.drive_core.specs.Ties.{GrowingOf, IsGrowing, IsBehindStep}
 use Rattle.drive_core.specs.GrowthTies.{GrowthStep}
 use Rattle.drive_core.proofs.Seated.{knows}
 use Rattle.drive_core.proofs.Steps.{at_phase, answered, still}
@@ -40,7 +40,7 @@ of_seat w w' answer false Row is row = absurd cc
 
 module _ {R D : Type 0} {m : Medium R D} {w : World R} {phase : Growth} {g : GrowingOf R D} (tie : IsGrowing m w phase g) where
   pub quiet_steps : {g' : GrowingOf R D} {asked : Step R} {answer : Answer R} (w' : World R) → GrowthRow m.form (m.keeps g'.flusher.pen.disk) w phase asked answer w' → HasCalls w asked answer 0
-      → w'.disk ≡ w.disk → w'.strayed ≡ stray_in answer → IsBehind m w' g' → GrowthStep m w g' asked answer 0
+      → w'.disk ≡ w.disk → w'.strayed ≡ stray_in answer → IsBehindStep m w' g' → GrowthStep m w g' asked answer 0
   quiet_steps {g'} {asked} {answer} w' row calls same stray tied =
       still w' (at_phase m.form (m.keeps g'.flusher.pen.disk) w (Growing phase) asked answer w' tie.calm tie.phase_is row) calls same stray tied
 

@@ -12,12 +12,12 @@ use Rattle.pen_core.specs.Refusals.{group_lines, shrink_lines}
 use Rattle.vault_core.specs.declared.fault.VaultFault.{VaultFault}
 use Rattle.vault_core.specs.Vault.{VaultOf, list_of}
 use Rattle.vault_core.specs.Commands as commands
-use Rattle.vault_core.specs.Commands.{Stands}
+use Rattle.vault_core.specs.Commands.{StandsCommanded}
 use Rattle.drive_core.specs.declared.fault.Fault.TheVariants.{Vault}
 use Rattle.drive_core.specs.Medium.{Medium}
 use Rattle.drive_core.specs.Step.{Step, Answer}
 use Rattle.drive_core.specs.Step as step
-use Rattle.drive_core.specs.World.{World, resized, cleared}
+use Rattle.drive_core.specs.World.{World, resize_command, cleared}
 use Rattle.drive_core.specs.VaultTies.{IsExclusive, VaultStep}
 use Rattle.drive_core.proofs.PenFolds.{not_lt}
 use Rattle.drive_core.proofs.PenTests.{pen_tests}
@@ -37,16 +37,16 @@ module _ {R : Type 0} (r : R) where
   abbrev shrunk : ℕ → ℕ → Option (Command R)
   shrunk size n = if nat_lt n size then Some (Shrink n) else None
 
-  resized_up : (size n : ℕ) → size < n → resized size n r ≡ Some (Grow (replicate (n - size) r))
+  resized_up : (size n : ℕ) → size < n → resize_command size n r ≡ Some (Grow (replicate (n - size) r))
   resized_up size n more = ap (λ (b : Bool). if b then Some (Grow (replicate (n - size) r)) else shrunk size n) (lt-ltb size n more)
 
-  not_up : (size n : ℕ) → n ≤ size → resized size n r ≡ shrunk size n
+  not_up : (size n : ℕ) → n ≤ size → resize_command size n r ≡ shrunk size n
   not_up size n le = ap (λ (b : Bool). if b then Some (Grow (replicate (n - size) r)) else shrunk size n) (not_lt size n le)
 
-  resized_down : (size n : ℕ) → n < size → resized size n r ≡ Some (Shrink n)
+  resized_down : (size n : ℕ) → n < size → resize_command size n r ≡ Some (Shrink n)
   resized_down size n less = not_up size n (omega (arith, less)) ∙ ap (λ (b : Bool). if b then Some (Shrink n) else None) (lt-ltb n size less)
 
-  resized_same : (size n : ℕ) → n ≡ size → resized size n r ≡ None
+  resized_same : (size n : ℕ) → n ≡ size → resize_command size n r ≡ None
   resized_same size n same = not_up size n (omega (arith, same)) ∙ ap (λ (b : Bool). if b then Some (Shrink n) else None) (not_lt n size (omega (arith, same)))
 
 cleared_some : {R : Type 0} (size : ℕ) → 0 < size → cleared {R = R} size ≡ Some (Shrink 0)
@@ -73,8 +73,8 @@ module _ {R D : Type 0} {m : Medium R D} {w : World R} {v : VaultOf R D} (tie : 
     abbrev up_lines : List (Bool × PenFault)
     up_lines = group_lines v.pen (n - len) (8 + (n - len) * m.form.width)
 
-    asks : (command : Option (Command R)) → resized len n r ≡ command → Asks m w new (step.Resize n r) command
-    asks command is = subst (Asks m w new (step.Resize n r)) (ap (λ l. resized (length l) n r) tie.list_is ∙ is) (λ answer w' k row calls. (row, calls))
+    asks : (command : Option (Command R)) → resize_command len n r ≡ command → Asks m w new (step.Resize n r) command
+    asks command is = subst (Asks m w new (step.Resize n r)) (ap (λ l. resize_command (length l) n r) tie.list_is ∙ is) (λ answer w' k row calls. (row, calls))
 
     up_lines_are : up_lines ≡ pen_tests m.form v.pen (Grow copies)
     up_lines_are =
@@ -111,7 +111,7 @@ module _ {R D : Type 0} {m : Medium R D} {w : World R} {v : VaultOf R D} (tie : 
       ]
     ]
 
-    pub resize_refuses : {answer : Answer R} (fault : VaultFault) → answer ≡ step.Refused (Vault fault) → Stands IsResized (new.blocks ≡ v.blocks) fault
+    pub resize_refuses : {answer : Answer R} (fault : VaultFault) → answer ≡ step.Refused (Vault fault) → StandsCommanded IsResized (new.blocks ≡ v.blocks) fault
         → (len < n → Says (group_frame m.form (copies ∷ [])) up_lines (Err fault)) → (n < len → Says (frames.Shrink n) (shrink_lines v.pen n) (Err fault))
         → (n ≡ len → (new ≡ v) × commands.IsNothingFault v.pen fault) → VaultStep m w v new (step.Resize n r) answer
     resize_refuses fault is list says_up says_down nothing = elim (compared n len) [
@@ -150,7 +150,7 @@ module _ {R D : Type 0} {m : Medium R D} {w : World R} {v : VaultOf R D} (tie : 
     | inr none ↦ nothing_steps tie (nothing none).0 (asks_none none) (nothing none).1 is
   ]
 
-  pub clear_refuses : {answer : Answer R} (fault : VaultFault) → answer ≡ step.Refused (Vault fault) → Stands (list_of new ≡ []) (new.blocks ≡ v.blocks) fault
+  pub clear_refuses : {answer : Answer R} (fault : VaultFault) → answer ≡ step.Refused (Vault fault) → StandsCommanded (list_of new ≡ []) (new.blocks ≡ v.blocks) fault
       → (0 < length (list_of v) → Says (frames.Shrink 0) (shrink_lines v.pen 0) (Err fault))
       → (list_of v ≡ [] → (new ≡ v) × commands.IsNothingFault v.pen fault) → VaultStep m w v new step.Clear answer
   clear_refuses fault is list says nothing = elim (some_or_none (list_of v)) [

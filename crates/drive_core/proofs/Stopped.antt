@@ -15,7 +15,7 @@ use Rattle.book_core.specs.declared.fault.GrowFault.TheVariants as grow
 use Rattle.drive_core.specs.Line.{Line, When, Might, Allows, is_vault_memory}
 use Rattle.drive_core.specs.Step.{Step, Answer}
 use Rattle.drive_core.specs.Step as step
-use Rattle.drive_core.specs.World.{World, Growth, Phase, Shut, Exclusive, Growing, vector, changed, changed_runs, resized, cleared, is_live, next_group}
+use Rattle.drive_core.specs.World.{World, Growth, Phase, Shut, Exclusive, Growing, vector, changed, changed_runs, resize_command, cleared, is_live, next_group}
 use Rattle.drive_core.specs.ExclusiveRows.{IsCommand, IsChanges, share_lines, command_lines}
 use Rattle.drive_core.specs.GrowthRows.{take_lines}
 use Rattle.drive_core.specs.LaneRows.{fold_lines, device_lines, home_calls, IsLog, IsHome, IsFold}
@@ -60,7 +60,7 @@ module _ {R : Type 0} (w w' : World R) (n : ℕ) (there : HasFile w.phase) (brok
   refused_calls step.Open fault quiet calls = quiet.1 n calls
   refused_calls (step.Change start records) fault quiet calls = refused_command (changed start records) fault quiet calls
   refused_calls (step.Changes pieces) fault quiet calls = refused_command (changed_runs pieces) fault quiet calls
-  refused_calls (step.Resize size r) fault quiet calls = refused_command (resized (length (vector w)) size r) fault quiet calls
+  refused_calls (step.Resize size r) fault quiet calls = refused_command (resize_command (length (vector w)) size r) fault quiet calls
   refused_calls step.Clear fault quiet calls = refused_command (cleared (length (vector w))) fault quiet calls
   refused_calls step.Log fault quiet calls = quiet.0 1 n calls
   refused_calls step.Home fault quiet calls = quiet.0 1 n calls
@@ -132,7 +132,7 @@ module _ {R : Type 0} (w w' : World R) (n : ℕ) (there : HasFile w.phase) (brok
         table (step.Share room seats) answer (share_lines w.hand room seats) calls (λ given allows. first_line w.hand.broken _ given broken allows) (λ same. same) row
     exclusive_stops (step.Change start records) answer calls row = command_stops (step.Change start records) (changed start records) answer calls row
     exclusive_stops (step.Changes pieces) answer calls row = changes_stops pieces answer calls row
-    exclusive_stops (step.Resize size r) answer calls row = command_stops (step.Resize size r) (resized (length (vector w)) size r) answer calls row
+    exclusive_stops (step.Resize size r) answer calls row = command_stops (step.Resize size r) (resize_command (length (vector w)) size r) answer calls row
     exclusive_stops step.Clear answer calls row = command_stops step.Clear (cleared (length (vector w))) answer calls row
     exclusive_stops step.Listing answer calls row = elim row [ inl ok ↦ stays ok.1.1 calls | inr refused ↦ stays refused.3 calls ]
     exclusive_stops step.Fold answer calls row = fold_stops step.Fold answer calls row

@@ -24,9 +24,9 @@ use Rattle.drive_core.specs.Line.{Allows, of_flush}
 use Rattle.drive_core.specs.Medium.{Medium}
 use Rattle.drive_core.specs.Step.{Answer}
 use Rattle.drive_core.specs.Step as step
-use Rattle.drive_core.specs.World.{World, Growth, Growing, Hand, as_pen, fitting, waiting, next_group, records_in}
+use Rattle.drive_core.specs.World.{World, Growth, Growing, Hand, as_pen, fitting, waiting, next_group, command_records}
 use Rattle.drive_core.specs.GrowthRows.{with_group, take_lines, room_for_group}
-use Rattle.drive_core.specs.Ties.{GrowingOf, IsGrowing, IsBehind, grow_of, growths_in_hand, disk_of}
+use Rattle.drive_core.specs.Ties.{GrowingOf, IsGrowing, IsBehindStep, grow_of, growths_in_hand, disk_of}
 use Rattle.drive_core.specs.GrowthTies.{GrowthStep}
 use Rattle.drive_core.proofs.Fitting.{greatest_fits, take-drop, drop-map, records-grown, zero_or_more}
 use Rattle.drive_core.proofs.Hands.{hand_unchanged, hand_taken}
@@ -53,9 +53,9 @@ module _ {R D : Type 0} {m : Medium R D} {w : World R} {phase : Growth} {g : Gro
       let known : take phase.flusher tie.entries ≡ f.pass.entries = ap (λ n. take n tie.entries) tie.flusher.known_is ∙ tie.flusher.knows in
       let left : take n (drop phase.taken tie.entries) ≡ drop f.taken f.pass.entries
       = take-drop phase.taken phase.flusher tie.entries ∙ ap (drop phase.taken) known ∙ ap (λ t. drop t f.pass.entries) tie.flusher.taken_is in
-      ap (λ cs. map records_in (take n (drop phase.taken cs))) (growths_are tie)
-      ∙ ap (λ cs. map records_in (take n cs)) (drop-map grow_of phase.taken tie.entries)
-      ∙ ap (map records_in) (take-map grow_of n (drop phase.taken tie.entries))
+      ap (λ cs. map command_records (take n (drop phase.taken cs))) (growths_are tie)
+      ∙ ap (λ cs. map command_records (take n cs)) (drop-map grow_of phase.taken tie.entries)
+      ∙ ap (map command_records) (take-map grow_of n (drop phase.taken tie.entries))
       ∙ records-grown (take n (drop phase.taken tie.entries))
       ∙ ap (map (λ (e : block.Growth R). e.records)) left
 
@@ -110,9 +110,9 @@ module _ {R D : Type 0} {m : Medium R D} {w : World R} {phase : Growth} {g : Gro
     settled_is = tie.flusher.settled_is ∙ ap (λ n. phase.before + n) (sym settled_same)
 
     group_tie : (growths : List (List R)) → new.taken ≡ g.flusher.taken + length growths → phase.taken + length growths ≤ length tie.entries → g.flusher.pen.job ≡ None
-        → BeginsFrame (group_frame m.form growths) g.flusher.pen new.pen → (some : 0 < length growths) → IsBehind m (with_group m.form w phase growths) (record g { flusher = new })
+        → BeginsFrame (group_frame m.form growths) g.flusher.pen new.pen → (some : 0 < length growths) → IsBehindStep m (with_group m.form w phase growths) (record g { flusher = new })
     group_tie growths more within_all idle begun some =
-        subst (λ x. IsBehind m x (record g { flusher = new })) (sym (with_some growths some)) (behind_of
+        subst (λ x. IsBehindStep m x (record g { flusher = new })) (sym (with_some growths some)) (behind_of
         (other_flusher tie (Growing (record phase { taken = phase.taken + length growths })) phase.flusher (phase.taken + length growths) w.settled
         (record w.hand { job = Some (record { frame = group_frame m.form growths; step = Body }) }) w.disk new refl (record {
           knows = subst (λ (p : _). IsPrefix p.entries tie.entries) (sym pass_same) tie.flusher.knows;
@@ -133,7 +133,7 @@ module _ {R D : Type 0} {m : Medium R D} {w : World R} {phase : Growth} {g : Gro
             omega (arith, was, none, all, more, settled_same)
 
     -- nothing was begun
-    none_tie : IsUnchanged g.flusher.pen new.pen → new.taken ≡ g.flusher.taken → IsBehind m w (record g { flusher = new })
+    none_tie : IsUnchanged g.flusher.pen new.pen → new.taken ≡ g.flusher.taken → IsBehindStep m w (record g { flusher = new })
     none_tie same taken = behind_of (other_flusher tie w.phase phase.flusher phase.taken w.settled w.hand w.disk new tie.phase_is
         (flushes_on tie pass_same taken (let was = tie.flusher.job_brings in let job = ap growths_in_hand same.job_same in omega (arith, was, job, taken, settled_same)) settled_is)
         (tie.hand_is ∙ sym (hand_unchanged g.flusher.pen new.pen same)) (tie.disk_is ∙ ap (disk_of m.states m.faults) (sym same.disk_same)))

@@ -14,10 +14,10 @@ use Rattle.book_core.specs.Lists.{Seated, opening_of}
 use Rattle.book_core.proofs.Owns.{take-begins}
 use Rattle.flush_core.specs.Flusher.{FlusherOf, IsFlusherOf, OpensToSettled, list_to}
 use Rattle.drive_core.specs.Medium.{Medium}
-use Rattle.drive_core.specs.World.{World, Growth, Phase, Growing, Hand, DiskOf, hand_of, growths_of, vector, vector_at}
+use Rattle.drive_core.specs.World.{World, Growth, Phase, Growing, Hand, DiskOf, hand_of, phase_growths, vector, vector_at}
 use Rattle.drive_core.specs.Headline.{OpensToPrefix, Rests, Leaves}
 use Rattle.drive_core.specs.GrowthRows.{within}
-use Rattle.drive_core.specs.Ties.{GrowingOf, IsGrowing, AreSeated, IsFlushing, IsBehind, grow_of, growths_in_hand, disk_of}
+use Rattle.drive_core.specs.Ties.{GrowingOf, IsGrowing, AreSeated, IsFlushing, IsBehindStep, grow_of, growths_in_hand, disk_of}
 use Rattle.drive_core.proofs.Seats.{begins-le}
 
 drop-append : {X : Type 0} (xs ys : List X) → drop (length xs) (xs ++ ys) ≡ ys
@@ -35,12 +35,12 @@ module _ {R : Type 0} where
 
 module _ {R D : Type 0} {m : Medium R D} {w : World R} {phase : Growth} {g : GrowingOf R D} (tie : IsGrowing m w phase g) where
   -- the growths of the phase
-  pub growths_are : growths_of w phase ≡ map grow_of tie.entries
+  pub growths_are : phase_growths w phase ≡ map grow_of tie.entries
   growths_are =
       ap (λ n. drop n w.history) tie.growths.before_is ∙ ap (drop (length tie.growths.first)) tie.growths.history_is
       ∙ drop-append tie.growths.first (map grow_of tie.entries)
 
-  pub growths_count : length (growths_of w phase) ≡ length tie.entries
+  pub growths_count : length (phase_growths w phase) ≡ length tie.entries
   growths_count = ap length growths_are ∙ length-map tie.entries grow_of
 
   pub history_long : length w.history ≡ phase.before + length tie.entries
@@ -74,11 +74,11 @@ module _ {R D : Type 0} {m : Medium R D} {w : World R} {phase : Growth} {g : Gro
 
   -- ---- what stands behind a step
 
-  pub behind_of : IsBehind m w g
+  pub behind_of : IsBehindStep m w g
   behind_of = record { disk_is = tie.disk_is; goes_on = λ calm. (phase, tie) }
 
   -- something strayed: what is in hand may be anything but for the disk
-  pub strayed_behind : {g' : GrowingOf R D} (w' : World R) (n : ℕ) → g'.flusher.pen.disk ≡ g.flusher.pen.disk → w'.disk ≡ w.disk → w'.strayed ≡ Some n → IsBehind m w' g'
+  pub strayed_behind : {g' : GrowingOf R D} (w' : World R) (n : ℕ) → g'.flusher.pen.disk ≡ g.flusher.pen.disk → w'.disk ≡ w.disk → w'.strayed ≡ Some n → IsBehindStep m w' g'
   strayed_behind w' n disk same stray = record {
     disk_is = same ∙ tie.disk_is ∙ ap (disk_of m.states m.faults) (sym disk);
     goes_on = λ calm. absurd (is_some (sym stray ∙ calm));

@@ -19,7 +19,7 @@ use Rattle.vault_core.specs.declared.fault.VaultFault.{VaultFault}
 use Rattle.vault_core.specs.declared.fault.VaultFault.TheVariants as vault
 use Rattle.vault_core.specs.Vault.{VaultOf, list_of, OpensToEither}
 use Rattle.vault_core.specs.Commands as commands
-use Rattle.vault_core.specs.Commands.{IsStopped, Stands}
+use Rattle.vault_core.specs.Commands.{IsStopped, StandsCommanded}
 use Rattle.drive_core.specs.declared.fault.Fault.{Fault}
 use Rattle.drive_core.specs.declared.fault.Fault.TheVariants.{Vault}
 use Rattle.drive_core.specs.Line.{Allows, Might, is_vault_memory, is_disk, pen_table}
@@ -222,14 +222,14 @@ module _ {R D : Type 0} {m : Medium R D} {w : World R} {v new : VaultOf R D} {as
       vault_steps tie new (behind w.settled (hand_of new.pen)) n both.0 both.1 time (omega (arith, most)) (λ none. absurd (omega (arith, some, none))) refl tied
       (λ kept. leaves_either w.settled (says.model kept) is (says.images kept)) (λ kept. vault_rests tied kept written.rests)
 
-  torn_at : (fault : PenFault) (at : pen_step.Step) → fault ≡ pen.Disk (fault_of at) → Promised (Err (vault.Pen fault)) → Stands made (new.blocks ≡ v.blocks) (vault.Pen fault)
+  torn_at : (fault : PenFault) (at : pen_step.Step) → fault ≡ pen.Disk (fault_of at) → Promised (Err (vault.Pen fault)) → StandsCommanded made (new.blocks ≡ v.blocks) (vault.Pen fault)
       → first_refusal tests ≡ None → IsStopped frame at v.pen new.pen → VaultStep m w v new asked (step.Refused (Vault (vault.Pen fault)))
   torn_at fault at is promised list allowed stopped =
-      let made_is = written.made_is allowed (subst (λ f. Stands made (new.blocks ≡ v.blocks) (vault.Pen f)) is list) in
+      let made_is = written.made_is allowed (subst (λ f. StandsCommanded made (new.blocks ≡ v.blocks) (vault.Pen f)) is list) in
       let says = says_of (frame_of m.form command) made_is.1 (Err (vault.Pen (pen.Disk (fault_of at)))) (subst (λ f. Promised (Err (vault.Pen f))) is promised) in
       answered (ap (λ f. step.Refused (Vault (vault.Pen f))) is) (torn_steps at allowed (subst (λ f. IsStopped f at v.pen new.pen) made_is.1 stopped) made_is.0 says)
 
-  pub failed_steps : {answer : Answer R} (fault : VaultFault) → Promised (Err fault) → Stands made (new.blocks ≡ v.blocks) fault → answer ≡ step.Refused (Vault fault)
+  pub failed_steps : {answer : Answer R} (fault : VaultFault) → Promised (Err fault) → StandsCommanded made (new.blocks ≡ v.blocks) fault → answer ≡ step.Refused (Vault fault)
       → VaultStep m w v new asked answer
   failed_steps (vault.Unsettled number) promised list is = absurd promised.pen
   failed_steps vault.WrongPhase promised list is = absurd promised.pen

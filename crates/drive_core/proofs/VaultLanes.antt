@@ -127,7 +127,7 @@ module _ {R D : Type 0} {m : Medium R D} {w : World R} {v new : VaultOf R D} (ti
     broken_tie : new.pen.broken ≡ true → IsExclusive m behind new
     broken_tie broken = ticked_tie (λ kept. tie.sure_is (tick.model kept) ∙ sym (sure kept)) (λ on. absurd (differ (sym broken ∙ on)))
 
-    log_refuses : {answer : Answer R} (fault : VaultFault) → answer ≡ step.Refused (Vault fault) → commands.IsLaneFault lanes.Log v.pen new.pen fault
+    log_refuses : {answer : Answer R} (fault : VaultFault) → answer ≡ step.Refused (Vault fault) → commands.IsVaultLaneFault lanes.Log v.pen new.pen fault
         → clock (m.states new.pen.disk) ≡ clock (m.states v.pen.disk) + lane_calls lanes.Log v.pen → m.faults new.pen.disk ≡ m.faults v.pen.disk + commands.failed fault
         → VaultStep m w v new step.Log answer
     log_refuses (vault.Unsettled number) is why time counted = absurd why
@@ -138,7 +138,7 @@ module _ {R D : Type 0} {m : Medium R D} {w : World R} {v new : VaultOf R D} (ti
         let broken : new.pen.broken ≡ true = elim why [ inl was ↦ ap (λ (p : PenOf D). p.broken) was.2 ∙ was.1 | inr by ↦ by.4.broken ] in
         by_event n is time (due_few v.pen.broken v.pen.job) event.0 event.1 event.2 refl (broken_tie broken)
 
-    home_refuses : {answer : Answer R} (fault : VaultFault) → answer ≡ step.Refused (Vault fault) → commands.IsLaneFault lanes.Home v.pen new.pen fault
+    home_refuses : {answer : Answer R} (fault : VaultFault) → answer ≡ step.Refused (Vault fault) → commands.IsVaultLaneFault lanes.Home v.pen new.pen fault
         → clock (m.states new.pen.disk) ≡ clock (m.states v.pen.disk) + lane_calls lanes.Home v.pen → m.faults new.pen.disk ≡ m.faults v.pen.disk + commands.failed fault
         → VaultStep m w v new step.Home answer
     home_refuses (vault.Unsettled number) is why time counted = absurd why
@@ -149,7 +149,7 @@ module _ {R D : Type 0} {m : Medium R D} {w : World R} {v new : VaultOf R D} (ti
         let broken : new.pen.broken ≡ true = elim why [ inl was ↦ ap (λ (p : PenOf D). p.broken) was.2 ∙ was.1 | inr by ↦ by.5.broken ] in
         by_event n is time (home_few v.pen.broken v.pen.fold) event.0 event.1 event.2 refl (broken_tie broken)
 
-    pub lane_refuses : {answer : Answer R} (lane : Lane) (fault : VaultFault) → answer ≡ step.Refused (Vault fault) → commands.IsLaneFault lane v.pen new.pen fault
+    pub lane_refuses : {answer : Answer R} (lane : Lane) (fault : VaultFault) → answer ≡ step.Refused (Vault fault) → commands.IsVaultLaneFault lane v.pen new.pen fault
         → clock (m.states new.pen.disk) ≡ clock (m.states v.pen.disk) + lane_calls lane v.pen → m.faults new.pen.disk ≡ m.faults v.pen.disk + commands.failed fault
         → VaultStep m w v new (lane_step lane) answer
     lane_refuses lanes.Log fault is why time counted = log_refuses fault is why time counted
@@ -187,7 +187,7 @@ module _ {R D : Type 0} {m : Medium R D} {w : World R} {v : VaultOf R D} (tie : 
         answered is (still_steps tie new (record w { hand = hand_of new.pen }) (fold_answered w v.pen new.pen tie.hand_is (m.keeps new.pen.disk) planned opening begun by) refl disk refl
         (begun_tie disk (begun_job w v.pen new.pen tie.hand_is begun by) (λ on. was_whole begun by)))
 
-    pub fold_refuses : {answer : Answer R} (fault : VaultFault) → answer ≡ step.Refused (Vault fault) → commands.IsFoldFault v.pen fault → IsUnchanged v.pen new.pen
+    pub fold_refuses : {answer : Answer R} (fault : VaultFault) → answer ≡ step.Refused (Vault fault) → commands.IsVaultFoldFault v.pen fault → IsUnchanged v.pen new.pen
         → VaultStep m w v new step.Fold answer
     fold_refuses (vault.Unsettled number) is why same = absurd why
     fold_refuses vault.WrongPhase is why same = absurd why

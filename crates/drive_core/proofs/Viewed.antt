@@ -3,7 +3,7 @@ use Rattle.std.proofs.Common.{◌≡◌, inl, inr, ℕ, zero, suc, [], ◌∷◌
 use Rattle.std.proofs.lemmas.Option.{same_Some}
 use Rattle.pen_core.specs.declared.fault.PenFault.TheVariants as pen
 use Rattle.directory_core.specs.Chain.{joined}
-use Rattle.book_core.specs.Lists.{Seated, opening_of, list_of}
+use Rattle.book_core.specs.Lists.{Seated, opening_of, seat_list}
 use Rattle.drive_core.specs.declared.fault.Fault.TheVariants.{Vault}
 use Rattle.vault_core.specs.declared.fault.VaultFault.TheVariants as vault
 use Rattle.drive_core.specs.Medium.{Medium}
@@ -29,12 +29,12 @@ module _ {R D : Type 0} {m : Medium R D} {w : World R} {phase : Growth} {g : Gro
   same : record g { seats = slice_set g.seats k new } ≡ g
   same i = record g { seats = (ap (slice_set g.seats k) new_is ∙ set_same g.seats k seat at) i }
 
-  viewed : list_of g.live seat ≡ vector_at w phase (slice_index phase.known k)
+  viewed : seat_list g.live seat ≡ vector_at w phase (slice_index phase.known k)
   viewed =
       ap (λ es. opening_of g.live ++ joined es) (sym (tie.seats.each k seat at).knows) ∙ sym (list_at tie (length seat.pass.entries))
       ∙ ap (λ n. vector_at w phase n) (sym (known_at tie.seats k at))
 
-  pub view_answers : {answer : Answer R} (records : List R) → answer ≡ step.Listed records → records ≡ list_of g.live seat
+  pub view_answers : {answer : Answer R} (records : List R) → answer ≡ step.Listed records → records ≡ seat_list g.live seat
       → GrowthStep m w (record g { seats = slice_set g.seats k new }) (step.View k) answer 0
   view_answers records is list = same_hand same (answered is (quiet_steps tie w (seat_row tie inside w (step.Listed records) (IsView w phase k (step.Listed records) w)
       (inl (inr refl, (ap step.Listed (list ∙ viewed), refl)))) refl refl tie.calm (behind_of tie)))

@@ -10,7 +10,7 @@ use Rattle.segment_core.specs.Command.{Command}
 use Rattle.pen_core.specs.Refusals.{first_refusal}
 use Rattle.pen_core.specs.declared.fault.PenFault.{PenFault}
 use Rattle.pen_core.specs.declared.fault.PenFault.TheVariants.{OldFormat, Runs, OutOfRange, Unfolded}
-use Rattle.drive_core.specs.World.{World, start, vector, changed_runs, changed, resized, fitting}
+use Rattle.drive_core.specs.World.{World, start, vector, changed_runs, changed, resize_command, fitting}
 use Rattle.drive_core.specs.OpeningRows.{opened, empty_file}
 use Rattle.drive_core.specs.ExclusiveRows.{committed, tests_of}
 
@@ -23,7 +23,7 @@ behind w None = w
 behind w (Some command) = committed (unsigned w64) w command
 
 abbrev four : Format → World ℕ
-four format = behind (made format) (resized 0 4 5)
+four format = behind (made format) (resize_command 0 4 5)
 
 abbrev runs : Option (Command ℕ)
 runs = changed_runs ((0, 7 ∷ []) ∷ (2, 8 ∷ 9 ∷ []) ∷ [])
@@ -60,7 +60,7 @@ disordered = refl
 outside : first_of (four Two) (changed 3 (1 ∷ 2 ∷ [])) ≡ Some OutOfRange
 outside = refl
 
-unfolded : first_of (behind (four Two) runs) (resized 4 1 0) ≡ Some Unfolded
+unfolded : first_of (behind (four Two) runs) (resize_command 4 1 0) ≡ Some Unfolded
 unfolded = refl
 
 -- no run at all writes nothing

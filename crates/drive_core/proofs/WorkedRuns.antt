@@ -20,9 +20,9 @@ use Rattle.drive_core.specs.declared.fault.Fault.TheVariants.{Vault, Grow as InG
 use Rattle.drive_core.specs.Step.{Step, Answer}
 use Rattle.drive_core.specs.Step as step
 use Rattle.drive_core.specs.World.{World, Exclusive, no_hand, start}
-use Rattle.drive_core.specs.Outcome.{HasFailed}
+use Rattle.drive_core.specs.Outcome.{HasFailedCall}
 use Rattle.drive_core.specs.OpeningRows.{NotOpened}
-use Rattle.drive_core.specs.Run.{Event, AreOf}
+use Rattle.drive_core.specs.Run.{Event, AreEventsOf}
 use Rattle.drive_core.specs.Headline.{OpensToPrefix, LeavesPrefixes}
 
 -- ---- prefixes: an image without the growth is left just where the growth isn't settled
@@ -82,7 +82,7 @@ two_events w =
     ∷ []
 
 abbrev AreTwo : World ℕ → List ℕ → Type 0
-AreTwo w calls = AreOf (step.Clear ∷ step.Listing ∷ []) (step.Fine ∷ step.Listed [] ∷ []) calls (two_events w)
+AreTwo w calls = AreEventsOf (step.Clear ∷ step.Listing ∷ []) (step.Fine ∷ step.Listed [] ∷ []) calls (two_events w)
 
 two_are_of : (w : World ℕ) → AreTwo w (4 ∷ 0 ∷ [])
 two_are_of w = record { steps_are = refl; answers_are = refl; calls_are = refl }
@@ -100,10 +100,10 @@ two_not_fewer w are = absurd (let is = are.calls_are in cc)
 
 -- ---- failures: a call more has failed
 
-failed_once : (w : World ℕ) → HasFailed w (record w { disk = record w.disk { faults = w.disk.faults + 1 } })
+failed_once : (w : World ℕ) → HasFailedCall w (record w { disk = record w.disk { faults = w.disk.faults + 1 } })
 failed_once w = omega arith
 
-not_failed : (w : World ℕ) → HasFailed w w → ⊥
+not_failed : (w : World ℕ) → HasFailedCall w w → ⊥
 not_failed w failed = absurd (omega (arith, failed))
 
 -- ---- openings: what isn't opened is refused by the scan or by the disk

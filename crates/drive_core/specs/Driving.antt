@@ -6,9 +6,9 @@ use Rattle.drive_core.specs.declared.phase.Phase as code
 use Rattle.drive_core.specs.Medium.{Medium, medium}
 use Rattle.drive_core.specs.Step.{Step, Answer}
 use Rattle.drive_core.specs.World.{World}
-use Rattle.drive_core.specs.Run.{Event, Run, AreOf, last}
+use Rattle.drive_core.specs.Run.{Event, Run, AreEventsOf, last}
 use Rattle.drive_core.specs.Headline.{AllInner}
-use Rattle.drive_core.specs.Phases.{disk_in, IsInHand}
+use Rattle.drive_core.specs.Phases.{disk_in, IsPhaseInHand}
 use Rattle.drive_core.specs.Ties.{Steps, disk_of}
 use Rattle.drive_core.specs.VaultTies.{calls_between}
 
@@ -16,7 +16,7 @@ use Rattle.drive_core.specs.VaultTies.{calls_between}
 pub record IsDriver {R D : Type 0} (m : Medium R D) (w : World R) (phase : code.Phase R D) (strayed : Option ℕ) : Type 0 where
   pub strayed_is : w.strayed ≡ strayed
   pub disk_is : w.disk ≡ disk_of m.states m.faults (disk_in phase)
-  pub goes_on : strayed ≡ None → IsInHand m w phase
+  pub goes_on : strayed ≡ None → IsPhaseInHand m w phase
 
 -- from this world this step and answer lead to one that is tied to what is in hand then
 abbrev pub DriverStep : {R D : Type 0} → Medium R D → World R → D → code.Phase R D → Option ℕ → Step R → Answer R → Type 0
@@ -33,7 +33,7 @@ DriverSteps {R} form states faults keeps old strayed_old new strayed_new asked a
 -- From a world a run of these steps with these answers and counts leads to one that what is in hand is tied to.
 pub record HasRun {R : Type 0} (form : Encoding R) (keeps : Type 0) (Tied : World R → Type 0) (w : World R) (steps : List (Step R)) (answers : List (Answer R)) (calls : List ℕ) : Type 0 where
   pub events : List (Event R)
-  pub are_of : AreOf steps answers calls events
+  pub are_of : AreEventsOf steps answers calls events
   pub run : Run form keeps w events
   pub inner : keeps → AllInner form w events
   pub tied : Tied (last w events)

@@ -17,7 +17,7 @@ use Rattle.drive_core.specs.Line.{Line, When, Might, pen_table, is_vault_memory,
 use Rattle.drive_core.specs.Step.{Step, Answer}
 use Rattle.drive_core.specs.Step as step
 use Rattle.drive_core.specs.World.{World, Hand, as_pen, Growth, vector, frame_of, file_with, changed_runs}
-use Rattle.drive_core.specs.Outcome.{Outcome, HasFailed, elsewhere}
+use Rattle.drive_core.specs.Outcome.{Outcome, HasFailedCall, elsewhere}
 use Rattle.drive_core.specs.GrowthRows.{within}
 
 abbrev pub is_outside_limits : ℕ → ℕ → Bool
@@ -75,7 +75,7 @@ module _ {R : Type 0} (form : Encoding R) where
   }
 
   abbrev pub TornAt : World R → Command R → World R → Fault → Type 0
-  TornAt w command w' (Vault (vault.Pen (pen_fault.Disk fault))) = HasFailed w w' × ((at : pen_step.Step) × (fault ≡ fault_of at) × (w' ≡ elsewhere (torn w command at) w'))
+  TornAt w command w' (Vault (vault.Pen (pen_fault.Disk fault))) = HasFailedCall w w' × ((at : pen_step.Step) × (fault ≡ fault_of at) × (w' ≡ elsewhere (torn w command at) w'))
   TornAt w command w' (Vault other) = w' ≡ w
   TornAt w command w' (InGrow fault) = w' ≡ w
   TornAt w command w' (Scan fault) = w' ≡ w

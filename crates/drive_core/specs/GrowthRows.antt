@@ -14,7 +14,7 @@ use Rattle.vault_core.specs.declared.fault.VaultFault.TheVariants as vault
 use Rattle.drive_core.specs.Line.{Line, When, Might, pen_table, is_grow_memory, is_vault_memory, is_strayed}
 use Rattle.drive_core.specs.Step.{Step, Answer}
 use Rattle.drive_core.specs.Step as step
-use Rattle.drive_core.specs.World.{World, Hand, as_pen, Growth, Exclusive, Growing, vector, vector_at, growths_of, next_group}
+use Rattle.drive_core.specs.World.{World, Hand, as_pen, Growth, Exclusive, Growing, vector, vector_at, phase_growths, next_group}
 use Rattle.drive_core.specs.Outcome.{Outcome, struck}
 
 abbrev pub known_by : Growth → Option ℕ → ℕ
@@ -30,7 +30,7 @@ within w phase = record w { phase = Growing phase }
 
 -- a look may find any growth that was put
 abbrev pub MayKnow : {R : Type 0} → World R → Growth → Option ℕ → ℕ → Type 0
-MayKnow w phase pass n = (known_by phase pass ≤ n) × (n ≤ length (growths_of w phase))
+MayKnow w phase pass n = (known_by phase pass ≤ n) × (n ≤ length (phase_growths w phase))
 
 module _ {R : Type 0} (width : ℕ) where
   abbrev pub put_lines : World R → Growth → List R → List Line
@@ -40,7 +40,7 @@ module _ {R : Type 0} (width : ℕ) where
       ∷ Might is_grow_memory
       ∷ When phase.closed (InGrow grow.Closed)
       ∷ Might is_strayed
-      ∷ When (nat_le phase.room (length (growths_of w phase))) (InGrow grow.Full)
+      ∷ When (nat_le phase.room (length (phase_growths w phase))) (InGrow grow.Full)
       ∷ When (nat_lt record_limit (length (vector w) + length records)) (InGrow grow.TooLong)
       ∷ Might is_grow_memory
       ∷ []
@@ -57,7 +57,7 @@ module _ {R : Type 0} where
   abbrev pub with_growth : World R → Growth → ℕ → List R → World R
   with_growth w phase seat records = record w {
     phase = Growing (record phase {
-      known = slice_set phase.known seat (length (growths_of w phase) + 1);
+      known = slice_set phase.known seat (length (phase_growths w phase) + 1);
       made = slice_set phase.made seat (slice_index phase.made seat + 1);
     });
     history = w.history ++ Grow records ∷ [];
@@ -65,7 +65,7 @@ module _ {R : Type 0} where
 
   abbrev pub receipt_of : World R → Growth → ℕ → List R → Answer R
   receipt_of w phase seat records = step.Grown (record {
-    number = length (growths_of w phase);
+    number = length (phase_growths w phase);
     start = length (vector w);
     len = length records;
     seat = seat;

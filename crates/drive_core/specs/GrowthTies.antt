@@ -5,12 +5,12 @@ use Rattle.disk_core.specs.State.{State}
 use Rattle.drive_core.specs.Medium.{Medium, medium}
 use Rattle.drive_core.specs.Step.{Step, Answer}
 use Rattle.drive_core.specs.World.{World, Growth}
-use Rattle.drive_core.specs.Ties.{GrowingOf, IsGrowing, IsBehind, Steps}
+use Rattle.drive_core.specs.Ties.{GrowingOf, IsGrowing, IsBehindStep, Steps}
 use Rattle.drive_core.specs.VaultTies.{calls_between}
 
 -- from this world, with so many device calls, to what is in hand then
 abbrev pub GrowthStep : {R D : Type 0} → Medium R D → World R → GrowingOf R D → Step R → Answer R → ℕ → Type 0
-GrowthStep m w new asked answer calls = Steps m.form (m.keeps new.flusher.pen.disk) (λ w'. IsBehind m w' new) w asked answer calls
+GrowthStep m w new asked answer calls = Steps m.form (m.keeps new.flusher.pen.disk) (λ w'. IsBehindStep m w' new) w asked answer calls
 
 abbrev pub GrowthStepsOf : {R D : Type 0} → Encoding R → (D → List State) → (D → ℕ) → (D → Type 0) → GrowingOf R D → GrowingOf R D → Step R → Answer R → ℕ → Type 0
 GrowthStepsOf {R} form states faults keeps old new asked answer calls =

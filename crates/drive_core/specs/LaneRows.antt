@@ -47,8 +47,8 @@ lane_step lanes.Log = step.Log
 lane_step lanes.Home = step.Home
 
 -- how the device call that is due fails, if it does
-abbrev pub log_due : Hand → Option DiskFault
-log_due hand = option_map (λ job. fault_of job.step) hand.job
+abbrev pub log_fault_due : Hand → Option DiskFault
+log_fault_due hand = option_map (λ job. fault_of job.step) hand.job
 
 abbrev pub home_due : Hand → Option DiskFault
 home_due hand = option_map (λ fold. home_fault fold.stage) hand.fold
@@ -97,7 +97,7 @@ module _ {R : Type 0} where
   IsJobLogged w (Some job) answer w' = IsLogged w job (step_after job.step) answer w'
 
   abbrev pub IsLog : World R → Answer R → World R → Type 0
-  IsLog w answer w' = Outcome (device_lines w.hand (is_some w.hand.job)) answer (IsJobLogged w w.hand.job answer w') (RefusedAt w (log_due w.hand) (broken_by w) w')
+  IsLog w answer w' = Outcome (device_lines w.hand (is_some w.hand.job)) answer (IsJobLogged w w.hand.job answer w') (RefusedAt w (log_fault_due w.hand) (broken_by w) w')
 
   abbrev pub IsFiled : World R → FoldOf → Option JobOf → Answer R → World R → Type 0
   IsFiled w fold None answer w' =

@@ -25,7 +25,7 @@ use Rattle.drive_core.specs.Line.{Might, is_vault_memory, is_disk, is_exists, is
 use Rattle.drive_core.specs.Step.{Step, Answer}
 use Rattle.drive_core.specs.Step as step
 use Rattle.drive_core.specs.World.{World, Exclusive, File, Hand}
-use Rattle.drive_core.specs.Outcome.{Outcome, HasFailed, elsewhere}
+use Rattle.drive_core.specs.Outcome.{Outcome, HasFailedCall, elsewhere}
 
 -- with nothing in hand
 abbrev pub at_rest : File → Hand
@@ -61,7 +61,7 @@ module _ {R : Type 0} where
   HasTriedToMake keeps shape ended w w' = keeps → IsMaking shape ended w.disk.states w'.disk.states
 
   abbrev pub NotCreated : Type 0 → Shape → World R → World R → Fault → Type 0
-  NotCreated keeps shape w w' (Vault (vault.Pen (pen_fault.Disk fault))) = HasFailed w w' × HasTriedToMake keeps shape (Some (pen_fault.Disk fault)) w w' × (w' ≡ elsewhere w w')
+  NotCreated keeps shape w w' (Vault (vault.Pen (pen_fault.Disk fault))) = HasFailedCall w w' × HasTriedToMake keeps shape (Some (pen_fault.Disk fault)) w w' × (w' ≡ elsewhere w w')
   NotCreated keeps shape w w' (Vault (vault.Pen pen_fault.Exists)) = (keeps → IsExisting (bytes_of w.disk.states)) × HasTriedToMake keeps shape (Some pen_fault.Exists) w w' × (w' ≡ elsewhere w w')
   NotCreated keeps shape w w' (Vault other) = w' ≡ w
   NotCreated keeps shape w w' (InGrow fault) = ⊥
@@ -87,7 +87,7 @@ module _ {R : Type 0} (form : Encoding R) where
   HasTriedToOpen keeps ended w w' = keeps → IsOpening ended w.disk.states w'.disk.states
 
   abbrev pub NotOpened : Type 0 → World R → World R → Fault → Type 0
-  NotOpened keeps w w' (Vault (vault.Pen (pen_fault.Disk fault))) = HasFailed w w' × HasTriedToOpen keeps (Some (openings.Disk fault)) w w' × (w' ≡ elsewhere w w')
+  NotOpened keeps w w' (Vault (vault.Pen (pen_fault.Disk fault))) = HasFailedCall w w' × HasTriedToOpen keeps (Some (openings.Disk fault)) w w' × (w' ≡ elsewhere w w')
   NotOpened keeps w w' (Vault other) = ⊥
   NotOpened keeps w w' (InGrow fault) = ⊥
   NotOpened keeps w w' (Scan fault) = (keeps → IsRefused form (bytes_of w.disk.states) fault) × HasTriedToOpen keeps (Some (openings.Scan fault)) w w' × (w' ≡ elsewhere w w')

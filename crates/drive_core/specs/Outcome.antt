@@ -16,8 +16,8 @@ Outcome lines answer Accepted RefusedBy =
     (Allows lines None × Accepted) ⊎ ((fault : Fault) × Allows lines (Some fault) × (answer ≡ step.Refused fault) × RefusedBy fault)
 
 -- a device call failed, and was counted
-abbrev pub HasFailed : {R : Type 0} → World R → World R → Type 0
-HasFailed old new = old.disk.faults < new.disk.faults
+abbrev pub HasFailedCall : {R : Type 0} → World R → World R → Type 0
+HasFailedCall old new = old.disk.faults < new.disk.faults
 
 -- the growth that strayed, where the answer tells one
 abbrev pub stray_in : {R : Type 0} → Answer R → Option ℕ
@@ -34,7 +34,7 @@ module _ {R : Type 0} where
 
   -- what the failure of the device call that is due leaves, by its kind, and any other refusal
   abbrev pub RefusedAt : World R → Option DiskFault → World R → World R → Fault → Type 0
-  RefusedAt w due failed w' (Vault (vault.Pen (pen_fault.Disk fault))) = (due ≡ Some fault) × HasFailed w w' × (w' ≡ elsewhere failed w')
+  RefusedAt w due failed w' (Vault (vault.Pen (pen_fault.Disk fault))) = (due ≡ Some fault) × HasFailedCall w w' × (w' ≡ elsewhere failed w')
   RefusedAt w due failed w' (Vault other) = w' ≡ w
   RefusedAt w due failed w' (InGrow fault) = w' ≡ w
   RefusedAt w due failed w' (Scan fault) = w' ≡ w

@@ -17,28 +17,28 @@ disk_in (Exclusive vault) = vault.pen.disk
 disk_in (Growth growing) = growing.flusher.pen.disk
 
 -- no file is open
-pub record IsShut {R D : Type 0} (m : Medium R D) (w : World R) (disk : D) : Type 0 where
+pub record IsPhaseShut {R D : Type 0} (m : Medium R D) (w : World R) (disk : D) : Type 0 where
   pub phase_is : w.phase ≡ worlds.Shut
   pub calm : w.strayed ≡ None
   pub disk_is : w.disk ≡ disk_of m.states m.faults disk
 
 -- the world's phase is what is in hand
-abbrev pub IsInHand : {R D : Type 0} → Medium R D → World R → code.Phase R D → Type 0
-IsInHand m w (Shut disk) = IsShut m w disk
-IsInHand m w (Exclusive vault) = IsExclusive m w vault
-IsInHand m w (Growth growing) = (phase : worlds.Growth) × IsGrowing m w phase growing
+abbrev pub IsPhaseInHand : {R D : Type 0} → Medium R D → World R → code.Phase R D → Type 0
+IsPhaseInHand m w (Shut disk) = IsPhaseShut m w disk
+IsPhaseInHand m w (Exclusive vault) = IsExclusive m w vault
+IsPhaseInHand m w (Growth growing) = (phase : worlds.Growth) × IsGrowing m w phase growing
 
 -- Behind a step: the disk is the world's, and the rest too, unless something strayed.
-pub record IsLeft {R D : Type 0} (m : Medium R D) (w : World R) (phase : code.Phase R D) : Type 0 where
+pub record IsWorldLeft {R D : Type 0} (m : Medium R D) (w : World R) (phase : code.Phase R D) : Type 0 where
   pub disk_is : w.disk ≡ disk_of m.states m.faults (disk_in phase)
-  pub goes_on : w.strayed ≡ None → IsInHand m w phase
+  pub goes_on : w.strayed ≡ None → IsPhaseInHand m w phase
 
 -- From this world this step and answer lead to one that is tied to what is left.
 abbrev pub PhaseStep : {R D : Type 0} → Medium R D → World R → D → code.Phase R D → Step R → Answer R → Type 0
 PhaseStep m w old new asked answer =
-    Steps m.form (m.keeps (disk_in new)) (λ w'. IsLeft m w' new) w asked answer (calls_between (m.states old) (m.states (disk_in new)))
+    Steps m.form (m.keeps (disk_in new)) (λ w'. IsWorldLeft m w' new) w asked answer (calls_between (m.states old) (m.states (disk_in new)))
 
 -- so from each world that is tied to what was in hand
 abbrev pub PhaseSteps : {R D : Type 0} → Encoding R → (D → List State) → (D → ℕ) → (D → Type 0) → code.Phase R D → code.Phase R D → Step R → Answer R → Type 0
 PhaseSteps {R} form states faults keeps old new asked answer =
-    (w : World R) → IsInHand (medium form states faults keeps) w old → PhaseStep (medium form states faults keeps) w (disk_in old) new asked answer
+    (w : World R) → IsPhaseInHand (medium form states faults keeps) w old → PhaseStep (medium form states faults keeps) w (disk_in old) new asked answer

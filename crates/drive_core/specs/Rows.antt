@@ -6,7 +6,7 @@ use Rattle.drive_core.specs.declared.fault.Fault.TheVariants.{Vault, Grow as InG
 use Rattle.vault_core.specs.declared.fault.VaultFault.TheVariants as vault
 use Rattle.drive_core.specs.Step.{Step, Answer}
 use Rattle.drive_core.specs.Step as step
-use Rattle.drive_core.specs.World.{World, Growth, Phase, Shut, Exclusive, Growing, vector, changed, resized, cleared}
+use Rattle.drive_core.specs.World.{World, Growth, Phase, Shut, Exclusive, Growing, vector, changed, resize_command, cleared}
 use Rattle.drive_core.specs.GrowthRows.{IsPut, IsLook, IsView, IsSettled, IsTake, IsRaise, IsClose, IsGather}
 use Rattle.drive_core.specs.ExclusiveRows.{IsShare, IsCommand, IsChanges, IsListing}
 use Rattle.drive_core.specs.LaneRows.{IsFold, IsLog, IsHome}
@@ -35,7 +35,7 @@ module _ {R : Type 0} (form : Encoding R) where
   ExclusiveRow keeps w (step.Share room seats) answer w' = IsShare w room seats answer w'
   ExclusiveRow keeps w (step.Change start records) answer w' = IsCommand form w (changed start records) answer w'
   ExclusiveRow keeps w (step.Changes pieces) answer w' = IsChanges form w pieces answer w'
-  ExclusiveRow keeps w (step.Resize n r) answer w' = IsCommand form w (resized (length (vector w)) n r) answer w'
+  ExclusiveRow keeps w (step.Resize n r) answer w' = IsCommand form w (resize_command (length (vector w)) n r) answer w'
   ExclusiveRow keeps w step.Clear answer w' = IsCommand form w (cleared (length (vector w))) answer w'
   ExclusiveRow keeps w step.Listing answer w' = IsListing w answer w'
   ExclusiveRow keeps w step.Fold answer w' = IsFold keeps w answer w'

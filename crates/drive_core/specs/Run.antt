@@ -11,7 +11,7 @@ use Rattle.drive_core.specs.declared.fault.Fault.TheVariants.{Vault, Grow, Scan}
 use Rattle.vault_core.specs.declared.fault.VaultFault.TheVariants as vault
 use Rattle.drive_core.specs.Step.{Step, Answer}
 use Rattle.drive_core.specs.Step as step
-use Rattle.drive_core.specs.World.{World, vector, changed, changed_runs, resized, cleared}
+use Rattle.drive_core.specs.World.{World, vector, changed, changed_runs, resize_command, cleared}
 use Rattle.drive_core.specs.Rows.{IsStep}
 
 -- ---- the device calls of a step
@@ -64,7 +64,7 @@ module _ {R : Type 0} where
   HasCalls w step.Open answer n = OpenCalls answer n
   HasCalls w (step.Change start records) answer n = CommandCalls (changed start records) answer n
   HasCalls w (step.Changes pieces) answer n = CommandCalls (changed_runs pieces) answer n
-  HasCalls w (step.Resize size r) answer n = CommandCalls (resized (length (vector w)) size r) answer n
+  HasCalls w (step.Resize size r) answer n = CommandCalls (resize_command (length (vector w)) size r) answer n
   HasCalls w step.Clear answer n = CommandCalls (cleared {R = R} (length (vector w))) answer n
   HasCalls w step.Log answer n = LaneCalls answer n
   HasCalls w step.Home answer n = LaneCalls answer n
@@ -89,7 +89,7 @@ module _ {R : Type 0} (form : Encoding R) (keeps : Type 0) where
   Run w (e ∷ events) = IsEvent w e × Run e.after events
 
 -- these answers, with these counts of device calls, to these steps
-pub record AreOf {R : Type 0} (steps : List (Step R)) (answers : List (Answer R)) (calls : List ℕ) (events : List (Event R)) : Type 0 where
+pub record AreEventsOf {R : Type 0} (steps : List (Step R)) (answers : List (Answer R)) (calls : List ℕ) (events : List (Event R)) : Type 0 where
   pub steps_are : map (λ e. e.asked) events ≡ steps
   pub answers_are : map (λ e. e.answer) events ≡ answers
   pub calls_are : map (λ e. e.calls) events ≡ calls

@@ -97,7 +97,7 @@ pub record IsGrowing {R D : Type 0} (m : Medium R D) (w : World R) (phase : Grow
   pub disk_is : w.disk ≡ disk_of m.states m.faults g.flusher.pen.disk
 
 -- Behind a step: the disk is the world's, and the rest too, unless something strayed.
-pub record IsBehind {R D : Type 0} (m : Medium R D) (w : World R) (g : GrowingOf R D) : Type 0 where
+pub record IsBehindStep {R D : Type 0} (m : Medium R D) (w : World R) (g : GrowingOf R D) : Type 0 where
   pub disk_is : w.disk ≡ disk_of m.states m.faults g.flusher.pen.disk
   pub goes_on : w.strayed ≡ None → (phase : Growth) × IsGrowing m w phase g
 

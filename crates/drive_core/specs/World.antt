@@ -124,15 +124,15 @@ vector w = content w.base w.history
 abbrev pub vector_at : {R : Type 0} → World R → Growth → ℕ → List R
 vector_at w phase known = content w.base (take (phase.before + known) w.history)
 
-abbrev pub growths_of : {R : Type 0} → World R → Growth → List (Command R)
-growths_of w phase = drop phase.before w.history
+abbrev pub phase_growths : {R : Type 0} → World R → Growth → List (Command R)
+phase_growths w phase = drop phase.before w.history
 
 -- ---- what a group takes
 
-abbrev pub records_in : {R : Type 0} → Command R → List R
-records_in (Grow records) = records
-records_in (Shrink n) = []
-records_in (Change runs records) = records
+abbrev pub command_records : {R : Type 0} → Command R → List R
+command_records (Grow records) = records
+command_records (Shrink n) = []
+command_records (Change runs records) = records
 
 -- how many of these growths so many bytes hold, each with its length
 abbrev pub fitting : {R : Type 0} → ℕ → ℕ → List (List R) → ℕ
@@ -141,7 +141,7 @@ fitting width room (growth ∷ growths) = if nat_le (4 + length growth * width) 
 
 -- the growths that the flusher knows and has not taken
 abbrev pub waiting : {R : Type 0} → World R → Growth → List (List R)
-waiting w phase = map records_in (take (phase.flusher - phase.taken) (drop phase.taken (growths_of w phase)))
+waiting w phase = map command_records (take (phase.flusher - phase.taken) (drop phase.taken (phase_growths w phase)))
 
 -- the first of them, as many as one payload of the file holds
 abbrev pub next_group : {R : Type 0} → ℕ → World R → Growth → List (List R)
@@ -158,17 +158,17 @@ abbrev pub changed : {R : Type 0} → ℕ → List R → Option (Command R)
 changed start [] = None
 changed start (r ∷ records) = Some (Change (one_run start (length (r ∷ records))) (r ∷ records))
 
-abbrev pub runs_of : {R : Type 0} → List (ℕ × List R) → List Run
-runs_of pieces = map (λ piece. record { start = piece.0; count = length piece.1 }) pieces
+abbrev pub piece_runs : {R : Type 0} → List (ℕ × List R) → List Run
+piece_runs pieces = map (λ piece. record { start = piece.0; count = length piece.1 }) pieces
 
 -- several runs are one command
 abbrev pub changed_runs : {R : Type 0} → List (ℕ × List R) → Option (Command R)
 changed_runs [] = None
-changed_runs (piece ∷ pieces) = Some (Change (runs_of (piece ∷ pieces)) (joined (map (λ piece. piece.1) (piece ∷ pieces))))
+changed_runs (piece ∷ pieces) = Some (Change (piece_runs (piece ∷ pieces)) (joined (map (λ piece. piece.1) (piece ∷ pieces))))
 
 -- a resize upwards is one growth of copies; to the length that is there it writes nothing
-abbrev pub resized : {R : Type 0} → ℕ → ℕ → R → Option (Command R)
-resized size n r = if nat_lt size n then Some (Grow (replicate (n - size) r)) else if nat_lt n size then Some (Shrink n) else None
+abbrev pub resize_command : {R : Type 0} → ℕ → ℕ → R → Option (Command R)
+resize_command size n r = if nat_lt size n then Some (Grow (replicate (n - size) r)) else if nat_lt n size then Some (Shrink n) else None
 
 abbrev pub cleared : {R : Type 0} → ℕ → Option (Command R)
 cleared size = if nat_lt 0 size then Some (Shrink 0) else None

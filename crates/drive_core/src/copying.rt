@@ -1,7 +1,7 @@
 //! Lists in pieces, copied into one.
 
 ghost use Rattle.std.specs.Prelude.{◌≡◌, IfOk};
-ghost use Rattle.book_core.specs.Lists.{IsSeatOf, list_of};
+ghost use Rattle.book_core.specs.Lists.{IsSeatOf, seat_list};
 ghost use Rattle.vault_core.specs.Vault as vaults;
 
 use book_core::{Live, Seat};
@@ -18,7 +18,7 @@ pub(crate) fn copy_view<R: Record>(
 ) -> Result<Vec<R>, AllocError>
     requires of { IsSeatOf live.now seat.old }
     ensures same { seat.new ≡ seat.old }
-    ensures list { IfOk result (λ records. records.items ≡ list_of live.now seat.old) }
+    ensures list { IfOk result (λ records. records.items ≡ seat_list live.now seat.old) }
 {
     let mut records = Vec::new(alloc);
     for number in 0..live.piece_count(seat) {

@@ -7,7 +7,7 @@ ghost use Rattle.drive_core.specs.Given.{pieces_of};
 ghost use Rattle.drive_core.specs.LaneRows.{lane_step};
 ghost use Rattle.drive_core.specs.Step as step;
 ghost use Rattle.drive_core.specs.VaultTies.{VaultSteps};
-ghost use Rattle.drive_core.specs.World.{runs_of};
+ghost use Rattle.drive_core.specs.World.{piece_runs};
 
 use crate::copying::copy_list;
 use crate::fault::Fault;
@@ -106,7 +106,7 @@ pub(crate) fn change<R: Record, D: Disk, E: Threads + Sync>(
 
 /// The starts and lengths of runs.
 fn runs_given<R>(alloc: Global, runs: &[(u64, Vec<R>)]) -> Result<Vec<(u64, u64)>, AllocError>
-    ensures list { IfOk result (λ list. run_lists.runs_given list.items ≡ runs_of (pieces_of runs.now)) }
+    ensures list { IfOk result (λ list. run_lists.runs_given list.items ≡ piece_runs (pieces_of runs.now)) }
     ensures some { OnErr result (0 < length runs.now) }
 {
     let mut list = Vec::new(alloc);

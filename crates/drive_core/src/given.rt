@@ -1,14 +1,14 @@
 //! Records to which positions are changed.
 
 ghost use Rattle.std.specs.Prelude.{◌≡◌, ◌∷◌, [], ◌<◌, ◌^◌, ◌-◌, Option};
-ghost use Rattle.drive_core.specs.Given.{record_at};
+ghost use Rattle.drive_core.specs.Given.{run_record_at};
 
 use block_core::Touch;
 use record_core::Record;
 
 /// The record that a run of records from `start` on has at a position, if it reaches it.
 fn record_in<R: Copy>(start: u64, records: &[R], at: u64) -> Option<R>
-    ensures { result ≡ record_at (start, records.now) at }
+    ensures { result ≡ run_record_at (start, records.now) at }
 {
     if at < start {
         return None;
@@ -24,9 +24,9 @@ pub(crate) struct Given<'a, R: Record> {
 }
 
 impl<'a, R: Record> Touch<R> for Given<'a, R> {
-    ghost use Rattle.drive_core.specs.Given.{given};
+    ghost use Rattle.drive_core.specs.Given.{given_by_runs};
 
-    ghost one = { λ touch. given ((touch.start, touch.records.now) ∷ []) };
+    ghost one = { λ touch. given_by_runs ((touch.start, touch.records.now) ∷ []) };
 
     fn one(&self, at: u64, r: R) -> R {
         record_in(self.start, self.records, at).unwrap_or(r)
@@ -40,9 +40,9 @@ pub(crate) struct GivenRuns<'a, R: Record> {
 }
 
 impl<'a, R: Record> Touch<R> for GivenRuns<'a, R> {
-    ghost use Rattle.drive_core.specs.Given.{given, pieces_of};
+    ghost use Rattle.drive_core.specs.Given.{given_by_runs, pieces_of};
 
-    ghost one = { λ touch. given (pieces_of touch.runs.now) };
+    ghost one = { λ touch. given_by_runs (pieces_of touch.runs.now) };
 
     fn one(&self, at: u64, r: R) -> R {
         for (start, records) in self.runs {

@@ -4,7 +4,7 @@ use Rattle.std.specs.Prelude.{MatchOption}
 use Rattle.std.specs.Option.{option_copied}
 use Rattle.std.proofs.lemmas.List.{append_assoc, length-append}
 use Rattle.text_core.specs.Text.{joined_by}
-use Rattle.files_core.specs.Asked.{IsPart}
+use Rattle.files_core.specs.Asked.{IsWordPart}
 
 -- each word and a comma
 abbrev pub ended_words : {R : Type 0} → (R → List ℕ) → List R → List ℕ
@@ -78,7 +78,7 @@ word_ends (Some rest) words word whole = inr (rest.now, whole)
 -- the next word is a part of the text
 pub next_part : {R : Type 0} (text_of : R → List ℕ) (text words word : List ℕ) (records : List R) (after : Option (Bor (List ℕ)))
     → MatchOption after (words ≡ word) (λ rest. words ≡ word ++ 44 ∷ rest.now) → All (λ b. b ≢ 44) word → text ≡ ended_words text_of records ++ words
-    → IsPart text word
+    → IsWordPart text word
 next_part text_of text words word records after whole plain before = record {
   rest = words;
   begins = elim (words_begin text_of records words) [

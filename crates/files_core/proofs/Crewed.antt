@@ -13,7 +13,7 @@ use Rattle.book_core.specs.Lists.{own_of}
 use Rattle.pen_core.specs.Typed.{OpensTo}
 use Rattle.disk_core.specs.Moments.{LeavesOnly}
 use Rattle.vault_core.specs.Crewing.{HasCrewed, IsCrewFault, OpensToGrown, IsReason, crew_room, receipt_of}
-use Rattle.vault_core.specs.Gathering.{AreOf}
+use Rattle.vault_core.specs.Gathering.{AreOfPhase}
 use Rattle.vault_core.specs.declared.crewing.CrewFault.{CrewFault}
 use Rattle.vault_core.specs.declared.crewing.CrewFault.TheVariants as crew_faults
 use Rattle.vault_core.specs.declared.fault.VaultFault.{VaultFault}
@@ -170,7 +170,7 @@ module _ {R D : Type 0} (form : Encoding R) (keeps : D → Type 0) (states : D �
             flusher = g.flusher;
             room_is = refused.1 ∙ same_room _ _ _ _ so.counts_are so.growers_are;
             as_many = refused.3 ∙ so.growers_are;
-            parts = subst (λ d. AreOf (keeps d) g.live g.seats.items g.flusher) (sym gives.0) refused.5;
+            parts = subst (λ d. AreOfPhase (keeps d) g.live g.seats.items g.flusher) (sym gives.0) refused.5;
             disk_is = sym gives.0;
             made_are = refl;
             why = refused.6;

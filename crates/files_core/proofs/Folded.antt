@@ -13,18 +13,18 @@ use Rattle.pen_core.specs.Typed.{OpensTo}
 use Rattle.pen_core.proofs.Pieces.{bytes_stay}
 use Rattle.vault_core.specs.declared.fault.VaultFault.{VaultFault}
 use Rattle.vault_core.specs.declared.fault.VaultFault.TheVariants.{Pen, Unsettled, WrongPhase}
-use Rattle.vault_core.specs.Commands.{IsFoldFault, failed}
+use Rattle.vault_core.specs.Commands.{IsVaultFoldFault, failed}
 use Rattle.vault_core.specs.Vault.{VaultOf, MayHold, OpensToEither, list_of}
 use Rattle.segment_core.specs.Frame.{Fold}
 use Rattle.segment_core.specs.Tally.{after}
 use Rattle.segment_core.specs.declared.tally.Tally.{Tally}
 use Rattle.vault_core.specs.Settles.{IsFiledBy, IsIdle, IsOrderly, StandsInFile, with_fold, with_job}
-use Rattle.files_core.specs.Folding.{IsAllFolded, Stays}
+use Rattle.files_core.specs.Folding.{IsAllFolded, KeepsList}
 use Rattle.files_core.specs.Opened.{IsOpenedOn}
 use Rattle.files_core.proofs.Opened.{opened_list, opened_again, opens_same}
 
 -- a fold that was barred made no call
-pub none_failed : {D : Type 0} (pen : PenOf D) (fault : VaultFault) → IsFoldFault pen fault → failed fault ≡ 0
+pub none_failed : {D : Type 0} (pen : PenOf D) (fault : VaultFault) → IsVaultFoldFault pen fault → failed fault ≡ 0
 none_failed pen (Pen fault) (inl (inl broken)) = ap (λ f. failed (Pen f)) broken.0
 none_failed pen (Pen fault) (inl (inr (inl busy))) = ap (λ f. failed (Pen f)) busy.0
 none_failed pen (Pen fault) (inl (inr (inr full))) = ap (λ f. failed (Pen f)) full.0
@@ -91,7 +91,7 @@ module _ {R D : Type 0} (form : Encoding R) (keeps : D → Type 0) (states : D �
   -- a file that was scanned and opened, and whose list stays in all images
   pub stays_by : {faults : D → ℕ} (disk mid left : D) (v : VaultOf R D) → IsImage (now (states disk)) (bytes_of (states disk))
       → OnlySyncs (states disk) (states mid) → IsOpenedOn form keeps states faults mid v → keeps v.pen.disk
-      → LeavesOnly (states v.pen.disk) (states left) (MayHold form v) → Stays form states disk left
+      → LeavesOnly (states v.pen.disk) (states left) (MayHold form v) → KeepsList form states disk left
   stays_by disk mid left v reads first opened before leaves = record {
     records = list_of v;
     file = subst (λ bs. OpensTo form bs (list_of v)) (bytes_stay (states disk) (states mid) first) (opened_list form (bytes_of (states mid)) v.pen (list_of v) (opened.opened before));

@@ -4,7 +4,7 @@ use Rattle.std.specs.Io.KnownBytes.{Appends}
 use Rattle.files_core.specs.declared.ended.Ended.{Ended}
 use Rattle.files_core.specs.declared.ended.Ended.TheVariants.{Done, OutputFailed}
 use Rattle.files_core.specs.declared.fault.FileFault.{FileFault}
-use Rattle.files_core.specs.Ended.{EndsAs, Writes, WritesText}
+use Rattle.files_core.specs.Ended.{EndsAs, WritesAnswer, WritesText}
 use Rattle.vault_core.specs.Vault.{OpensToEither}
 use Rattle.std.specs.Io.KnownBytes.{Keeps}
 use Rattle.record_core.specs.Bytes.{Encoding}
@@ -44,9 +44,9 @@ told_text old new text (Err e) ended told appends = subst (WritesText old new te
 
 pub told_answer : {X E : Type 0} (old new : Option (List ℕ)) (text : List ℕ) (IsAnswer : List ℕ → Type 0) (written : Result X E) (ended : Ended)
     → MatchResult written (λ _. ended ≡ Done) (λ _. ended ≡ OutputFailed) → OnOk written (Appends old new text) → IsAnswer text
-    → Writes old new IsAnswer ended
-told_answer old new text IsAnswer (Ok x) ended told appends is = subst (Writes old new IsAnswer) (sym told) (text, is, appends)
-told_answer old new text IsAnswer (Err e) ended told appends is = subst (Writes old new IsAnswer) (sym told) tt
+    → WritesAnswer old new IsAnswer ended
+told_answer old new text IsAnswer (Ok x) ended told appends is = subst (WritesAnswer old new IsAnswer) (sym told) (text, is, appends)
+told_answer old new text IsAnswer (Err e) ended told appends is = subst (WritesAnswer old new IsAnswer) (sym told) tt
 
 -- the disk that is given back is the one that was kept
 pub same_keeps : {D : Type 0} (keeps : D → Type 0) (left own : D) → left ≡ own → keeps left → keeps own
@@ -67,9 +67,9 @@ done_ends done refused ended (inl is) holds = subst (EndsAs done refused) (sym i
 done_ends done refused ended (inr is) holds = subst (EndsAs done refused) (sym is) holds
 
 pub done_answer : (old new : Option (List ℕ)) (text : List ℕ) (IsAnswer : List ℕ → Type 0) (ended : Ended) → (ended ≡ Done) ⊎ (ended ≡ OutputFailed) → WritesText old new text ended
-    → IsAnswer text → Writes old new IsAnswer ended
-done_answer old new text IsAnswer ended (inl done) writes is = subst (Writes old new IsAnswer) (sym done) (text, is, subst (WritesText old new text) done writes)
-done_answer old new text IsAnswer ended (inr half) writes is = subst (Writes old new IsAnswer) (sym half) tt
+    → IsAnswer text → WritesAnswer old new IsAnswer ended
+done_answer old new text IsAnswer ended (inl done) writes is = subst (WritesAnswer old new IsAnswer) (sym done) (text, is, subst (WritesText old new text) done writes)
+done_answer old new text IsAnswer ended (inr half) writes is = subst (WritesAnswer old new IsAnswer) (sym half) tt
 
 -- no call had failed where its work is done
 pub told_counts : {D X E : Type 0} (faults : D → ℕ) (failed : Ended → ℕ) (disk left : D) (written : Result X E) (ended : Ended) → failed Done ≡ 0

@@ -28,13 +28,13 @@ IsNoNumber None = ⊥
 IsNoNumber (Some word) = (n : ℕ) → ¬ (IsNumber word n)
 
 -- the word has these records, one at least, with a comma between each two
-pub record AreRecords {R : Type 0} (spelling : Spelling R) (word : List ℕ) (records : List R) : Type 0 where
+pub record SpellsRecords {R : Type 0} (spelling : Spelling R) (word : List ℕ) (records : List R) : Type 0 where
   pub some : 0 < length records
   pub values : AllByRecursion spelling.is_value records
   pub text : word ≡ joined_by (codes ",") (map spelling.text_of records)
 
 -- The part stands in the word from its beginning or a comma on, up to the next comma or the end.
-pub record IsPart (word part : List ℕ) : Type 0 where
+pub record IsWordPart (word part : List ℕ) : Type 0 where
   pub rest : List ℕ
   pub begins : (word ≡ rest) ⊎ ((front : List ℕ) × (word ≡ front ++ 44 ∷ rest))
   pub ends : (rest ≡ part) ⊎ ((behind : List ℕ) × (rest ≡ part ++ 44 ∷ behind))
@@ -43,5 +43,5 @@ pub record IsPart (word part : List ℕ) : Type 0 where
 -- Such a word wasn't read: a part of it between two commas is no record, or there was no memory.
 abbrev pub IsRecordsRefusal : {R : Type 0} → Spelling R → List ℕ → FileFault → Type 0
 IsRecordsRefusal {R} spelling word fault =
-    ((fault ≡ Word Records) × ((part : List ℕ) × IsPart word part × ((r : R) → ¬ (IsRecord spelling part r))))
+    ((fault ≡ Word Records) × ((part : List ℕ) × IsWordPart word part × ((r : R) → ¬ (IsRecord spelling part r))))
     ⊎ (fault ≡ Input Memory)

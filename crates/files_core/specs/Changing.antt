@@ -9,10 +9,10 @@ use Rattle.pen_core.specs.Refusals.{group_lines, shrink_lines, change_lines, one
 use Rattle.pen_core.specs.Pen.{IsKept}
 use Rattle.pen_core.specs.Typed.{OpensTo}
 use Rattle.vault_core.specs.declared.fault.VaultFault.{VaultFault}
-use Rattle.vault_core.specs.Commands.{IsCommand, Stands, changed_frame, resized}
+use Rattle.vault_core.specs.Commands.{IsCommand, StandsCommanded, changed_frame, resized}
 use Rattle.vault_core.specs.Touched.{IsTouched}
 use Rattle.vault_core.specs.Vault.{VaultOf, OpensToEither, list_of}
-use Rattle.files_core.specs.Given.{given}
+use Rattle.files_core.specs.Given.{given_from}
 use Rattle.files_core.specs.declared.fault.FileFault.{FileFault}
 use Rattle.files_core.specs.declared.fault.FileFault.TheVariants.{Word, Input, Open, Vault, Grower, Upgrade}
 use Rattle.files_core.specs.Opened.{IsOpenedOn, IsNotOpened, LeavesBeforeOr}
@@ -41,12 +41,12 @@ module _ {R D : Type 0} (form : Encoding R) (keeps : D → Type 0) (states : D �
   -- to that or to the old one; behind another the list is the old one.
   pub record IsSetFault (start : ℕ) (records : List R) (v w : VaultOf R D) (fault : VaultFault) : Type 0 where
     pub command : IsCommand form keeps states faults (changed_frame form (one_run start (length records)) (list_of w)) (change_lines v.pen (one_run start (length records))) v w (Err fault)
-    pub list : Stands (IsTouched (given start records) (one_run start (length records)) (list_of v) (list_of w)) (w.blocks ≡ v.blocks) fault
+    pub list : StandsCommanded (IsTouched (given_from start records) (one_run start (length records)) (list_of v) (list_of w)) (w.blocks ≡ v.blocks) fault
 
   -- why a vault wasn't cleared
   pub record IsClearFault (v w : VaultOf R D) (fault : VaultFault) : Type 0 where
     pub command : IsCommand form keeps states faults (Shrink 0) (shrink_lines v.pen 0) v w (Err fault)
-    pub list : Stands (list_of w ≡ []) (w.blocks ≡ v.blocks) fault
+    pub list : StandsCommanded (list_of w ≡ []) (w.blocks ≡ v.blocks) fault
 
   -- why its length wasn't made n: more copies weren't appended, or records weren't taken away
   pub record IsResizeFault (n : ℕ) (r : R) (v w : VaultOf R D) (fault : VaultFault) : Type 0 where
@@ -54,7 +54,7 @@ module _ {R D : Type 0} (form : Encoding R) (keeps : D → Type 0) (states : D �
         (group_lines v.pen (n - length (list_of v)) (8 + (n - length (list_of v)) * form.width)) v w (Err fault)
     pub down : n < length (list_of v) → IsCommand form keeps states faults (Shrink n) (shrink_lines v.pen n) v w (Err fault)
     pub other : n ≡ length (list_of v) → ⊥
-    pub list : Stands (list_of w ≡ resized n r (list_of v)) (w.blocks ≡ v.blocks) fault
+    pub list : StandsCommanded (list_of w ≡ resized n r (list_of v)) (w.blocks ≡ v.blocks) fault
 
   -- ---- what was done
 
@@ -70,7 +70,7 @@ module _ {R D : Type 0} (form : Encoding R) (keeps : D → Type 0) (states : D �
 
   -- records were put in the place of those from a position on, as one change of just these
   pub record IsSet (start : ℕ) (records : List R) (v w : VaultOf R D) : Type 0 where
-    pub list : IsTouched (given start records) (one_run start (length records)) (list_of v) (list_of w)
+    pub list : IsTouched (given_from start records) (one_run start (length records)) (list_of v) (list_of w)
     pub command : IsCommand form keeps states faults (changed_frame form (one_run start (length records)) (list_of w)) (change_lines v.pen (one_run start (length records))) v w (Ok tt)
 
   -- its length was made n: by one growth of copies, by a shrink, or it was n already

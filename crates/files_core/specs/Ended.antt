@@ -12,10 +12,10 @@ EndsAs done refused OutputFailed = done
 EndsAs done refused (Refused fault) = refused fault
 
 -- What it has written: a whole answer, maybe a part of it, or nothing.
-abbrev pub Writes : Option (List ℕ) → Option (List ℕ) → (List ℕ → Type 0) → Ended → Type 0
-Writes old new IsAnswer Done = (text : List ℕ) × IsAnswer text × Appends old new text
-Writes old new IsAnswer OutputFailed = Unit {0}
-Writes old new IsAnswer (Refused fault) = Keeps old new
+abbrev pub WritesAnswer : Option (List ℕ) → Option (List ℕ) → (List ℕ → Type 0) → Ended → Type 0
+WritesAnswer old new IsAnswer Done = (text : List ℕ) × IsAnswer text × Appends old new text
+WritesAnswer old new IsAnswer OutputFailed = Unit {0}
+WritesAnswer old new IsAnswer (Refused fault) = Keeps old new
 
 -- the same, where the answer is one text
 abbrev pub WritesText : Option (List ℕ) → Option (List ℕ) → List ℕ → Ended → Type 0

@@ -14,14 +14,14 @@ upgrade_name (upgrade_faults.Old fault) = codes "old " ++ open_name fault
 upgrade_name upgrade_faults.NotOld = codes "not version 1"
 upgrade_name (upgrade_faults.New fault) = codes "new " ++ vault_name fault
 
-abbrev pub fault_name : FileFault → List ℕ
-fault_name (Word word) = codes "word"
-fault_name (Input refusal) = name_of refusal
-fault_name (Open fault) = open_name fault
-fault_name (Vault fault) = vault_name fault
-fault_name (Grower stopped) = grow_name stopped.fault
-fault_name (Upgrade fault) = upgrade_name fault
+abbrev pub file_fault_name : FileFault → List ℕ
+file_fault_name (Word word) = codes "word"
+file_fault_name (Input refusal) = name_of refusal
+file_fault_name (Open fault) = open_name fault
+file_fault_name (Vault fault) = vault_name fault
+file_fault_name (Grower stopped) = grow_name stopped.fault
+file_fault_name (Upgrade fault) = upgrade_name fault
 
 -- the line that is printed
 abbrev pub fault_line : FileFault → List ℕ
-fault_line fault = refused_line (fault_name fault)
+fault_line fault = refused_line (file_fault_name fault)

@@ -7,7 +7,7 @@ use Rattle.segment_core.specs.declared.vector.Scanned.{Scanned}
 use Rattle.segment_core.specs.Scanned.{IsScanOf}
 use Rattle.pen_core.specs.Typed.{OpensTo}
 use Rattle.vault_core.specs.declared.fault.VaultFault.{VaultFault}
-use Rattle.vault_core.specs.Commands.{IsFoldFault, failed}
+use Rattle.vault_core.specs.Commands.{IsVaultFoldFault, failed}
 use Rattle.vault_core.specs.Settles.{IsIdle, IsSettleFault}
 use Rattle.vault_core.specs.Vault.{VaultOf}
 use Rattle.pen_core.specs.Pen.{IsKept}
@@ -29,7 +29,7 @@ pub record IsFolded {R : Type 0} (form : Encoding R) (known : Type 0) (bytes tex
 
 -- why a vault wasn't folded: the fold wasn't begun, and nothing has changed, or it was, on the same disk, and a call of that failed
 abbrev pub IsFoldingFault : {D : Type 0} → PenOf D → PenOf D → VaultFault → Type 0
-IsFoldingFault {D} old new fault = (IsFoldFault old fault × (new.disk ≡ old.disk)) ⊎ ((mid : PenOf D) × (mid.disk ≡ old.disk) × IsSettleFault mid new fault)
+IsFoldingFault {D} old new fault = (IsVaultFoldFault old fault × (new.disk ≡ old.disk)) ⊎ ((mid : PenOf D) × (mid.disk ≡ old.disk) × IsSettleFault mid new fault)
 
 -- nothing is in hand, and no change is live
 abbrev pub IsAllFolded : {D : Type 0} → PenOf D → Type 0
@@ -57,7 +57,7 @@ failed_folding OutputFailed = 0
 failed_folding (Refused fault) = failed_fold fault
 
 -- The list of the file stays: each image opens to it.
-pub record Stays {R D : Type 0} (form : Encoding R) (states : D → List State) (disk left : D) : Type 0 where
+pub record KeepsList {R D : Type 0} (form : Encoding R) (states : D → List State) (disk left : D) : Type 0 where
   pub records : List R
   pub file : OpensTo form (bytes_of (states disk)) records
   pub images : LeavesBeforeOr (states disk) (states left) (λ image. OpensTo form image records)
@@ -76,7 +76,7 @@ module _ {R D : Type 0} (form : Encoding R) (keeps : D → Type 0) (states : D �
     pub disk_is : pen.disk ≡ left
     pub why : IsFoldingFault vault.pen pen fault
     pub faults_are : faults left ≡ faults disk + failed fault
-    pub stays : keeps left → Stays form states disk left
+    pub stays : keeps left → KeepsList form states disk left
 
   -- Why a file wasn't folded: at scanning or opening it, and then nothing was written; or by the vault.
   abbrev pub IsFoldRefusal : FileFault → Type 0

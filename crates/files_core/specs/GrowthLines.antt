@@ -10,23 +10,23 @@ use Rattle.text_core.specs.declared.refusal.Refusal.TheVariants as refusals
 use Rattle.text_core.specs.Refusals.{input_limit}
 
 -- a group of one growth
-abbrev pub alone : {R : Type 0} → List R → List (List R)
-alone growth = growth ∷ []
+abbrev pub lone_group : {R : Type 0} → List R → List (List R)
+lone_group growth = growth ∷ []
 
 -- The line is the text of this growth: a growth line is a group line of one growth.
 abbrev pub IsGrowthLineOf : {R : Type 0} → Spelling R → List ℕ → List R → Type 0
-IsGrowthLineOf spelling line growth = IsGroupLineOf spelling line (alone growth)
+IsGrowthLineOf spelling line growth = IsGroupLineOf spelling line (lone_group growth)
 
 abbrev pub IsGrowthLine : {R : Type 0} → Spelling R → List ℕ → Type 0
 IsGrowthLine {R} spelling line = (growth : List R) × IsGrowthLineOf spelling line growth
 
 -- the lines of the input are the texts of these growths, one each
 abbrev pub AreGrowthLines : {R : Type 0} → Spelling R → List ℕ → List (List R) → Type 0
-AreGrowthLines spelling input growths = AreGroupLines spelling input (map alone growths)
+AreGrowthLines spelling input growths = AreGroupLines spelling input (map lone_group growths)
 
 -- each growth fits one frame
-abbrev pub AllFit : {R : Type 0} → ℕ → List (List R) → Type 0
-AllFit {R} width growths = (k : ℕ) (growth : List R) → slice_get growths k ≡ Some growth → payload_len width (length growth) ≤ payload_limit
+abbrev pub AllGrowthsFit : {R : Type 0} → ℕ → List (List R) → Type 0
+AllGrowthsFit {R} width growths = (k : ℕ) (growth : List R) → slice_get growths k ≡ Some growth → payload_len width (length growth) ≤ payload_limit
 
 -- growth k is the first that doesn't fit
 pub record IsFirstTooLarge {R : Type 0} (width : ℕ) (growths : List (List R)) (k : ℕ) : Type 0 where

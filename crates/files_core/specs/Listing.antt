@@ -10,7 +10,7 @@ abbrev pub in_window : {R : Type 0} → Window → List R → List R
 in_window window records = take window.count (drop window.from records)
 
 -- the text has the records of the window of a vector, one a line: of the file's, where its bytes are known
-pub record IsListed {R : Type 0} (form : Encoding R) (text_of : R → List ℕ) (window : Window) (known : Type 0) (bytes text : List ℕ) : Type 0 where
+pub record IsWindowListed {R : Type 0} (form : Encoding R) (text_of : R → List ℕ) (window : Window) (known : Type 0) (bytes text : List ℕ) : Type 0 where
   pub records : List R
   pub file : known → OpensTo form bytes records
   pub lines : text ≡ record_lines text_of (in_window window records)

@@ -19,7 +19,7 @@ use Rattle.vault_core.specs.declared.crewing.CrewFault.TheVariants.{Share, Gathe
 use Rattle.vault_core.specs.declared.fault.VaultFault.{VaultFault}
 use Rattle.vault_core.specs.declared.fault.VaultFault.TheVariants.{Pen}
 use Rattle.vault_core.specs.Crewing.{OpensToGrown, IsReason, crew_room}
-use Rattle.vault_core.specs.Gathering.{AreOf, IsGatherFault}
+use Rattle.vault_core.specs.Gathering.{AreOfPhase, IsGatherFault}
 use Rattle.vault_core.specs.Sharing.{IsShareFault}
 use Rattle.vault_core.specs.Vault.{VaultOf, list_of}
 use Rattle.files_core.specs.declared.fault.FileFault.{FileFault}
@@ -71,8 +71,8 @@ pub record IsStopOf {R : Type 0} (width : ℕ) (growths : List (List R)) (grower
 
 -- Why so many growths weren't begun by so many growers over a vault: there is no grower, or there are too many growths; or a
 -- phase with room for them and a seat for each grower isn't begun over it.
-abbrev pub IsNotBegun : {R D : Type 0} → ℕ → ℕ → VaultOf R D → VaultFault → Type 0
-IsNotBegun count growers v fault = ((fault ≡ Pen TooLarge) × ((growers ≡ 0) ⊎ (2 ^ 32 ≤ count))) ⊎ IsShareFault v (crew_room (count_for count growers) growers) growers fault
+abbrev pub IsLoadNotBegun : {R D : Type 0} → ℕ → ℕ → VaultOf R D → VaultFault → Type 0
+IsLoadNotBegun count growers v fault = ((fault ≡ Pen TooLarge) × ((growers ≡ 0) ⊎ (2 ^ 32 ≤ count))) ⊎ IsShareFault v (crew_room (count_for count growers) growers) growers fault
 
 -- Why these growths gave no vault, though their phase was begun: it was of so many growers and had room for so many growths, these
 -- are what its flusher knows, whose disk is given back, and it wasn't ended.
@@ -82,7 +82,7 @@ pub record IsNotEnded {R D : Type 0} (keeps : D → Type 0) (count growers : ℕ
   pub flusher : FlusherOf R D
   pub room_is : live.directory.room ≡ crew_room (count_for count growers) growers
   pub as_many : length seats ≡ growers
-  pub parts : AreOf (keeps left) live seats flusher
+  pub parts : AreOfPhase (keeps left) live seats flusher
   pub disk_is : flusher.pen.disk ≡ left
   pub made_are : flusher.pass.entries ≡ made
   pub why : IsGatherFault live seats flusher fault
@@ -104,7 +104,7 @@ module _ {R D : Type 0} (form : Encoding R) (keeps : D → Type 0) (states : D �
   -- and the first of some growths.
   abbrev pub IsGrowthStop : List (List R) → ℕ → VaultOf R D → D → FileFault → Type 0
   IsGrowthStop growths growers v left (Vault fault) =
-      ((left ≡ v.pen.disk) × IsNotBegun (length growths) growers v fault)
+      ((left ≡ v.pen.disk) × IsLoadNotBegun (length growths) growers v fault)
       ⊎ ((made : List (Growth R)) × IsNotEnded keeps (length growths) growers left made fault
       × (keeps left → keeps v.pen.disk × LeavesOnly (states v.pen.disk) (states left) (OpensToGrown form (list_of v) made)))
   IsGrowthStop growths growers v left (Grower stopped) = (made : List (Growth R)) × AreDealt growths growers made × StandBehind v left made
@@ -134,7 +134,7 @@ pub record IsLoaded {R D : Type 0} (form : Encoding R) (keeps : D → Type 0) (s
 -- these may stand.
 abbrev pub IsVaultStop : {R D : Type 0} → Encoding R → (D → Type 0) → (D → List State) → (D → ℕ) → ℕ → ℕ → D → D → List (Growth R) → VaultFault → Type 0
 IsVaultStop {R} {D} form keeps states faults count growers disk left made fault =
-    ((v : VaultOf R D) × IsOpenedOn form keeps states faults disk v × (left ≡ v.pen.disk) × IsNotBegun count growers v fault)
+    ((v : VaultOf R D) × IsOpenedOn form keeps states faults disk v × (left ≡ v.pen.disk) × IsLoadNotBegun count growers v fault)
     ⊎ IsNotEnded keeps count growers left made fault
 
 -- Why not: at opening, and then nothing was written; or by the crew, and some growths may stand, or, behind a grower's fault,

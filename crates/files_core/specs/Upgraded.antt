@@ -5,7 +5,7 @@ use Rattle.disk_core.specs.State.{State}
 use Rattle.disk_core.specs.Calls.{bytes_of}
 use Rattle.segment_core.specs.declared.format.Format.TheVariants.{One, Two}
 use Rattle.segment_core.specs.Shape.{limit_of}
-use Rattle.vault_core.specs.Upgrading.{AreOldCalls, IsCopied, IsFileOf, IsUpgradeFault, failed_of_old}
+use Rattle.vault_core.specs.Upgrading.{AreOldCalls, IsCopied, IsFileOfFormat, IsUpgradeFault, failed_of_old}
 use Rattle.vault_core.specs.Vault.{VaultOf, list_of}
 use Rattle.files_core.specs.declared.ended.Ended.{Ended}
 use Rattle.files_core.specs.declared.ended.Ended.TheVariants.{Done, OutputFailed, Refused}
@@ -47,7 +47,7 @@ module _ {R D N : Type 0} (form : Encoding R) (keeps : D → Type 0) (states : D
     pub piece : ℕ
     pub greatest : IsGreatestPiece form.width piece
     pub vault : VaultOf R N
-    pub file : keeps left → IsFileOf One form (bytes_of (states old)) (list_of vault)
+    pub file : keeps left → IsFileOfFormat One form (bytes_of (states old)) (list_of vault)
     pub copied : IsCopied form keeps_new states_new faults_new piece (list_of vault) new (Ok vault)
     pub disk_is : vault.pen.disk ≡ left_new
     pub told : text ≡ upgraded_line (length (list_of vault))

@@ -2,7 +2,7 @@
 
 ghost use Rattle.std.specs.Prelude.{◌≡◌, ◌<◌, ◌-◌, ◌^◌, ◌⊎◌, ℕ, vec_len, MatchResult, IfOk, IfErr};
 ghost use Rattle.std.specs.Option.{option_copied};
-ghost use Rattle.files_core.specs.Asked.{IsNumber, IsNumberOr, IsNoNumber, IsRecord, AreRecords, IsRecordsRefusal};
+ghost use Rattle.files_core.specs.Asked.{IsNumber, IsNumberOr, IsNoNumber, IsRecord, SpellsRecords, IsRecordsRefusal};
 
 use crate::fault::{FileFault, Word};
 use std::alloc::Global;
@@ -54,7 +54,7 @@ pub fn read_record<R: TextRecord>(text: &[u8]) -> Result<R, FileFault>
 
 /// The records of a word, with a comma between each two.
 fn read_records<R: TextRecord>(alloc: Global, text: &[u8]) -> Result<Vec<R>, FileFault>
-    ensures read { IfOk result (λ records. AreRecords R.spelling text.now records.items) }
+    ensures read { IfOk result (λ records. SpellsRecords R.spelling text.now records.items) }
     ensures refused { IfErr result (IsRecordsRefusal R.spelling text.now) }
 {
     let mut records = Vec::new(alloc);
@@ -80,7 +80,7 @@ pub fn read_setting<R: TextRecord>(
     start: &[u8],
     records: &[u8],
 ) -> Result<Setting<R>, FileFault>
-    ensures read { IfOk result (λ setting. IsNumber start.now setting.start × AreRecords R.spelling records.now setting.records.items) }
+    ensures read { IfOk result (λ setting. IsNumber start.now setting.start × SpellsRecords R.spelling records.now setting.records.items) }
     ensures refused { IfErr result (λ fault. ((fault ≡ FileFault.Word Word.Start) × ((n : ℕ) → IsNumber start.now n → ⊥))
         ⊎ (((n : ℕ) × IsNumber start.now n) × IsRecordsRefusal R.spelling records.now fault)) }
 {

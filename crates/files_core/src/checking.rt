@@ -4,7 +4,7 @@ ghost use Rattle.std.specs.Prelude.{◌≡◌, ◌-◌, OnOk};
 ghost use Rattle.std.specs.Io.KnownBytes.{Appends};
 ghost use Rattle.disk_core.specs.Calls.{bytes_of};
 ghost use Rattle.files_core.specs.Checking.{IsChecked};
-ghost use Rattle.files_core.specs.Ended.{Writes};
+ghost use Rattle.files_core.specs.Ended.{WritesAnswer};
 ghost use Rattle.files_core.specs.Opened.{OnlyReads};
 ghost use Rattle.files_core.specs.Texts.{checked_front, checked_line};
 
@@ -52,7 +52,7 @@ fn write_checked<R, W: Write>(writer: &mut W, scanned: &Scanned<R>) -> io::Resul
 /// and 24 bytes for each group. Nothing is written to the file. Refused: `Open`, with the file's first fault.
 pub fn check<R: Record, D: Disk, W: Write>(alloc: Global, disk: D, writer: &mut W) -> (D, Ended)
     ensures reads { OnlyReads R.form D.keeps D.states D.faults disk result.0 result.1 }
-    ensures writes { Writes (W.contents writer.old) (W.contents writer.new) (IsChecked R.form (D.keeps result.0) (bytes_of (D.states disk))) result.1 }
+    ensures writes { WritesAnswer (W.contents writer.old) (W.contents writer.new) (IsChecked R.form (D.keeps result.0) (bytes_of (D.states disk))) result.1 }
 {
     let mut disk = disk;
     match scan_disk::<D, R>(alloc, &mut disk, &mut [0; PIECE_LEN]) {

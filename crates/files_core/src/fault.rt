@@ -3,7 +3,7 @@
 ghost use Rattle.std.specs.Prelude.{◌≡◌, ◌⊎◌, Some};
 ghost use Rattle.std.specs.Fmt.{DisplaysOnOk};
 ghost use Rattle.std.specs.Io.KnownBytes.{Appends};
-ghost use Rattle.files_core.specs.Faults.{upgrade_name, fault_name, fault_line};
+ghost use Rattle.files_core.specs.Faults.{upgrade_name, file_fault_name, fault_line};
 
 use book_core::GrowFault;
 use pen_core::OpenFault;
@@ -72,7 +72,7 @@ fn write_upgrade_fault<W: fmt::Write>(f: &mut fmt::Formatter<W>, fault: UpgradeF
 }
 
 impl Display for FileFault {
-    ghost output = { λ fault. Some (fault_name fault) };
+    ghost output = { λ fault. Some (file_fault_name fault) };
 
     fn fmt<W: fmt::Write>(&self, f: &mut fmt::Formatter<W>) -> fmt::Result {
         match *self {

@@ -3,14 +3,14 @@
 ghost use Rattle.std.specs.Prelude.{◌≡◌, ◌⊎◌, ◌+◌, ◌-◌, None, OnOk, IfOk, IfErr, MatchResult};
 ghost use Rattle.std.specs.Io.KnownBytes.{Appends};
 ghost use Rattle.disk_core.specs.Calls.{bytes_of};
-ghost use Rattle.files_core.specs.Ended.{EndsAs, Writes};
+ghost use Rattle.files_core.specs.Ended.{EndsAs, WritesAnswer};
 ghost use Rattle.disk_core.specs.Moments.{LeavesOnly};
 ghost use Rattle.segment_core.specs.Scanned.{IsScanOf};
 ghost use Rattle.segment_core.specs.declared.vector.Scanned.{Scanned};
 ghost use Rattle.pen_core.specs.Opening.{IsOpenRefusal, OnlySyncs, failed_openings};
 ghost use Rattle.vault_core.specs.Commands.{failed};
 ghost use Rattle.vault_core.specs.Vault.{MayHold, list_of};
-ghost use Rattle.files_core.specs.Folding.{IsAllFolded, IsFolded, IsFoldRefusal, IsFoldingFault, NoneLive, Stays, failed_folding};
+ghost use Rattle.files_core.specs.Folding.{IsAllFolded, IsFolded, IsFoldRefusal, IsFoldingFault, NoneLive, KeepsList, failed_folding};
 ghost use Rattle.files_core.specs.Texts.{folded_line};
 
 use crate::checking::{PIECE_LEN, live_changes};
@@ -70,11 +70,11 @@ fn write_folded<W: Write>(writer: &mut W, live: u64) -> io::Result<()>
 /// is read twice: its changes are counted, and it is opened. Refused: `Open`; then `Vault`, as `Vault::begin_fold` and
 /// `Vault::settle`.
 pub fn fold<R: Record, D: Disk, W: Write>(alloc: Global, disk: D, writer: &mut W) -> (D, Ended)
-    ensures stays { EndsAs (D.keeps result.0 → Stays R.form D.states disk result.0) (IsFoldRefusal R.form D.keeps D.states D.faults disk result.0) result.1 }
+    ensures stays { EndsAs (D.keeps result.0 → KeepsList R.form D.states disk result.0) (IsFoldRefusal R.form D.keeps D.states D.faults disk result.0) result.1 }
     ensures none_live { EndsAs (NoneLive D.keeps D.states result.0) (λ _. Unit {0}) result.1 }
     ensures faults { D.faults result.0 ≡ D.faults disk + failed_folding result.1 }
     ensures model { D.keeps result.0 → D.keeps disk }
-    ensures writes { Writes (W.contents writer.old) (W.contents writer.new) (IsFolded R.form (D.keeps result.0) (bytes_of (D.states disk))) result.1 }
+    ensures writes { WritesAnswer (W.contents writer.old) (W.contents writer.new) (IsFolded R.form (D.keeps result.0) (bytes_of (D.states disk))) result.1 }
 {
     let mut disk = disk;
     let live = match count_live::<R, D>(alloc, &mut disk) {

@@ -6,7 +6,7 @@ ghost use Rattle.block_core.specs.Length.{payload_len};
 ghost use Rattle.text_core.specs.Refusals.{input_limit};
 ghost use Rattle.text_core.specs.Words.{BringsRecord};
 ghost use Rattle.files_core.specs.declared.fault.FileFault.TheVariants as faults;
-ghost use Rattle.files_core.specs.GrowthLines.{AllFit, AreGrowthLines, IsFirstTooLarge, IsGrowthLine, IsGrowthLineOf, IsLinesRefusal};
+ghost use Rattle.files_core.specs.GrowthLines.{AllGrowthsFit, AreGrowthLines, IsFirstTooLarge, IsGrowthLine, IsGrowthLineOf, IsLinesRefusal};
 
 use crate::fault::FileFault;
 use record_core::{GROWTH_HEAD_LEN, PAYLOAD_LIMIT, width_of};
@@ -56,7 +56,7 @@ fn greatest_growth<R: TextRecord>() -> usize
 
 /// Whether each growth fits one frame. Refused: `TooLargeAtLine`, with the number, from 1, of the first that doesn't.
 pub(crate) fn check_sizes<R: TextRecord>(growths: &Growths<R>) -> Result<(), Refusal>
-    ensures { MatchResult result (λ _. AllFit R.form.width growths.now.0) (λ refusal. (k : ℕ) × IsFirstTooLarge R.form.width growths.now.0 k × (refusal ≡ Refusal.TooLargeAtLine (k + 1))) }
+    ensures { MatchResult result (λ _. AllGrowthsFit R.form.width growths.now.0) (λ refusal. (k : ℕ) × IsFirstTooLarge R.form.width growths.now.0 k × (refusal ≡ Refusal.TooLargeAtLine (k + 1))) }
 {
     let greatest = greatest_growth::<R>();
     for k in 0..growths.count() {
@@ -93,7 +93,7 @@ pub(crate) fn growths_of_lines<R: TextRecord>(
     alloc: Global,
     input: &[u8],
 ) -> Result<Growths<R>, Refusal>
-    ensures read { IfOk result (λ growths. AreGrowthLines R.spelling input.now growths.0 × AllFit R.form.width growths.0) }
+    ensures read { IfOk result (λ growths. AreGrowthLines R.spelling input.now growths.0 × AllGrowthsFit R.form.width growths.0) }
     ensures refused { IfErr result (IsLinesRefusal R.form.width R.spelling input.now) }
 {
     let growths = read_lines(alloc, input)?;
@@ -114,7 +114,7 @@ pub fn read_growth_lines<R: TextRecord, I: Read>(
 ) -> Result<Growths<R>, FileFault>
     ensures read { IfOk result (λ growths. IfSome (I.remaining reader.old) (λ input. AreGrowthLines R.spelling input growths.0)) }
     ensures within { IfOk result (λ _. IfSome (I.remaining reader.old) (λ input. length input ≤ input_limit)) }
-    ensures fit { IfOk result (λ growths. AllFit R.form.width growths.0) }
+    ensures fit { IfOk result (λ growths. AllGrowthsFit R.form.width growths.0) }
     ensures refused { IfErr result (λ fault. (refusal : Refusal) × (fault ≡ faults.Input refusal) × IfSome (I.remaining reader.old) (λ input. IsLinesRefusal R.form.width R.spelling input refusal)) }
 {
     let input = match read_input(alloc, reader) {

@@ -2,7 +2,7 @@
 
 ghost use Rattle.std.specs.Prelude.{◌≡◌, IfOk, IfNone, IsSome};
 ghost use Rattle.std.specs.NonZero.{non_zero_u32_get};
-ghost use Rattle.files_core.specs.GrowthLines.{AllFit};
+ghost use Rattle.files_core.specs.GrowthLines.{AllGrowthsFit};
 ghost use Rattle.files_core.specs.InputBlocks.{AreInputBlocks};
 
 use crate::gathering::{first_blocks, gather};
@@ -44,7 +44,7 @@ pub(crate) fn read_blocks<R: TextRecord>(
     block: NonZeroU32,
 ) -> Result<Blocks<R>, Refusal>
     ensures read { IfOk result (λ blocks. AreInputBlocks R.spelling (non_zero_u32_get block) input.now blocks.growths.0 blocks.lines) }
-    ensures fit { IfOk result (λ blocks. AllFit R.form.width blocks.growths.0) }
+    ensures fit { IfOk result (λ blocks. AllGrowthsFit R.form.width blocks.growths.0) }
 {
     let spelled = read_lines::<R>(alloc, input)?;
     let lines = spelled.count() as u64;

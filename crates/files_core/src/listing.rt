@@ -5,8 +5,8 @@ ghost use Rattle.std.specs.Io.KnownBytes.{Appends};
 ghost use Rattle.disk_core.specs.Calls.{bytes_of};
 ghost use Rattle.segment_core.specs.Written.{joined};
 ghost use Rattle.text_core.specs.Text.{record_lines};
-ghost use Rattle.files_core.specs.Ended.{Writes};
-ghost use Rattle.files_core.specs.Listing.{IsListed, in_window};
+ghost use Rattle.files_core.specs.Ended.{WritesAnswer};
+ghost use Rattle.files_core.specs.Listing.{IsWindowListed, in_window};
 ghost use Rattle.files_core.specs.Opened.{OnlyReads};
 
 use crate::asked::Window;
@@ -88,7 +88,7 @@ pub fn list<R: TextRecord, D: Disk, W: Write, P: Progress>(
     writer: &mut W,
 ) -> (D, Ended)
     ensures reads { OnlyReads R.form D.keeps D.states D.faults disk result.0 result.1 }
-    ensures writes { Writes (W.contents writer.old) (W.contents writer.new) (IsListed R.form R.spelling.text_of window.now (D.keeps result.0) (bytes_of (D.states disk))) result.1 }
+    ensures writes { WritesAnswer (W.contents writer.old) (W.contents writer.new) (IsWindowListed R.form R.spelling.text_of window.now (D.keeps result.0) (bytes_of (D.states disk))) result.1 }
 {
     let vault = match Vault::<R, D>::open(alloc, disk) {
         Ok(vault) => vault,

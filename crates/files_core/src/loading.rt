@@ -7,7 +7,7 @@ ghost use Rattle.block_core.specs.Growth.{Growth};
 ghost use Rattle.book_core.specs.declared.seat.Receipt.{Receipt};
 ghost use Rattle.directory_core.specs.Chain.{joined};
 ghost use Rattle.vault_core.specs.Vault.{list_of};
-ghost use Rattle.files_core.specs.Ended.{EndsAs, Writes, WritesText};
+ghost use Rattle.files_core.specs.Ended.{EndsAs, WritesAnswer, WritesText};
 ghost use Rattle.files_core.specs.Loading.{IsFirstStop, IsGivenUp, AreDealt, AreDealtBy, AllMade, StandBehind, IsGrowthStop, IsLoaded, IsLoadRefusal};
 ghost use Rattle.files_core.specs.Opened.{IsOpenedOn};
 ghost use Rattle.files_core.specs.Texts.{loaded_line};
@@ -197,7 +197,7 @@ fn load_opened<
     writer: &mut W,
 ) -> (D, Ended)
     ensures loaded { (disk : D) → IsOpenedOn R.form D.keeps D.states D.faults disk vault → EndsAs ((size : ℕ) × IsLoaded R.form D.keeps D.states growths.0 growers disk result.0 size) (IsLoadRefusal R.form D.keeps D.states D.faults growths.0 growers disk result.0) result.1 }
-    ensures writes { (disk : D) → IsOpenedOn R.form D.keeps D.states D.faults disk vault → Writes (W.contents writer.old) (W.contents writer.new) (λ text. (size : ℕ) × IsLoaded R.form D.keeps D.states growths.0 growers disk result.0 size × (text ≡ loaded_line (length growths.0) size)) result.1 }
+    ensures writes { (disk : D) → IsOpenedOn R.form D.keeps D.states D.faults disk vault → WritesAnswer (W.contents writer.old) (W.contents writer.new) (λ text. (size : ℕ) × IsLoaded R.form D.keeps D.states growths.0 growers disk result.0 size × (text ≡ loaded_line (length growths.0) size)) result.1 }
 {
     let count = growths.count() as u64;
     match grow_by::<R, S, D, G, E>(rt, alloc, vault, growths, growers, gate) {
@@ -229,7 +229,7 @@ pub fn load<
     writer: &mut W,
 ) -> (D, Ended)
     ensures loaded { EndsAs ((size : ℕ) × IsLoaded R.form D.keeps D.states growths.0 growers disk result.0 size) (IsLoadRefusal R.form D.keeps D.states D.faults growths.0 growers disk result.0) result.1 }
-    ensures writes { Writes (W.contents writer.old) (W.contents writer.new) (λ text. (size : ℕ) × IsLoaded R.form D.keeps D.states growths.0 growers disk result.0 size × (text ≡ loaded_line (length growths.0) size)) result.1 }
+    ensures writes { WritesAnswer (W.contents writer.old) (W.contents writer.new) (λ text. (size : ℕ) × IsLoaded R.form D.keeps D.states growths.0 growers disk result.0 size × (text ≡ loaded_line (length growths.0) size)) result.1 }
 {
     match Vault::<R, D>::open(alloc, disk) {
         Ok(vault) => load_opened::<R, S, D, W, G, E>(

@@ -6,7 +6,7 @@ ghost use Rattle.std.specs.Io.KnownBytes.{Appends};
 ghost use Rattle.disk_core.specs.Calls.{bytes_of};
 ghost use Rattle.pen_core.specs.Typed.{OpensTo};
 ghost use Rattle.vault_core.specs.Search.{IsFirst};
-ghost use Rattle.files_core.specs.Ended.{Writes};
+ghost use Rattle.files_core.specs.Ended.{WritesAnswer};
 ghost use Rattle.files_core.specs.Opened.{OnlyReads};
 ghost use Rattle.files_core.specs.Searching.{IsCounted, IsFound};
 ghost use Rattle.files_core.specs.Texts.{number_line, found_line};
@@ -48,7 +48,7 @@ pub fn count<R: TextRecord, D: Disk, W: Write, E: Threads + Sync>(
     writer: &mut W,
 ) -> (D, Ended)
     ensures reads { OnlyReads R.form D.keeps D.states D.faults disk result.0 result.1 }
-    ensures writes { Writes (W.contents writer.old) (W.contents writer.new) (IsCounted R.form R.Eq.eq wanted (D.keeps result.0) (bytes_of (D.states disk))) result.1 }
+    ensures writes { WritesAnswer (W.contents writer.old) (W.contents writer.new) (IsCounted R.form R.Eq.eq wanted (D.keeps result.0) (bytes_of (D.states disk))) result.1 }
 {
     let vault = match Vault::<R, D>::open(alloc, disk) {
         Ok(vault) => vault,
@@ -68,7 +68,7 @@ pub fn find<R: TextRecord, D: Disk, W: Write, E: Threads + Sync>(
     writer: &mut W,
 ) -> (D, Ended)
     ensures reads { OnlyReads R.form D.keeps D.states D.faults disk result.0 result.1 }
-    ensures writes { Writes (W.contents writer.old) (W.contents writer.new) (IsFound R.form R.Eq.eq wanted (D.keeps result.0) (bytes_of (D.states disk))) result.1 }
+    ensures writes { WritesAnswer (W.contents writer.old) (W.contents writer.new) (IsFound R.form R.Eq.eq wanted (D.keeps result.0) (bytes_of (D.states disk))) result.1 }
 {
     let vault = match Vault::<R, D>::open(alloc, disk) {
         Ok(vault) => vault,

@@ -2,12 +2,12 @@
 
 ghost use Rattle.std.specs.Prelude.{◌≡◌, ◌<◌, length, MatchResult};
 ghost use Rattle.pen_core.specs.Refusals.{change_lines, one_run};
-ghost use Rattle.vault_core.specs.Commands.{IsCommand, Stands, changed_frame};
+ghost use Rattle.vault_core.specs.Commands.{IsCommand, StandsCommanded, changed_frame};
 ghost use Rattle.vault_core.specs.Touched.{IsTouched};
 ghost use Rattle.vault_core.specs.Vault.{list_of};
 ghost use Rattle.files_core.specs.Changing.{HasWorked, IsSet, IsSetFault, IsWorkFault, Replaces};
 ghost use Rattle.files_core.specs.Ended.{EndsAs, WritesText};
-ghost use Rattle.files_core.specs.Given.{given};
+ghost use Rattle.files_core.specs.Given.{given_from};
 ghost use Rattle.files_core.specs.Texts.{ok_line};
 
 use crate::asked::Setting;
@@ -30,9 +30,9 @@ struct Given<'a, R: Record> {
 }
 
 impl<'a, R: Record> Touch<R> for Given<'a, R> {
-    ghost use Rattle.files_core.specs.Given.{given};
+    ghost use Rattle.files_core.specs.Given.{given_from};
 
-    ghost one = { λ touch. given touch.start touch.records.now };
+    ghost one = { λ touch. given_from touch.start touch.records.now };
 
     fn one(&self, at: u64, r: R) -> R {
         if at < self.start {
@@ -54,8 +54,8 @@ fn put<R: Record, D: Disk, E: Threads + Sync>(
 ) -> Result<(), VaultFault>
     requires { 0 < length records.now }
     ensures list { MatchResult result
-        (λ _. IsTouched (given start records.now) (one_run start (length records.now)) (list_of vault.old) (list_of vault.new))
-        (Stands (IsTouched (given start records.now) (one_run start (length records.now)) (list_of vault.old) (list_of vault.new)) (vault.new.blocks ≡ vault.old.blocks)) }
+        (λ _. IsTouched (given_from start records.now) (one_run start (length records.now)) (list_of vault.old) (list_of vault.new))
+        (StandsCommanded (IsTouched (given_from start records.now) (one_run start (length records.now)) (list_of vault.old) (list_of vault.new)) (vault.new.blocks ≡ vault.old.blocks)) }
     ensures command { IsCommand R.form D.keeps D.states D.faults (changed_frame R.form (one_run start (length records.now)) (list_of vault.new)) (change_lines vault.old.pen (one_run start (length records.now))) vault.old vault.new result }
 {
     let given = Given { start, records };
@@ -72,7 +72,7 @@ pub fn set<R: Record, D: Disk, W: Write, E: Threads + Sync>(
     writer: &mut W,
 ) -> (D, Ended)
     ensures set { EndsAs
-        (D.keeps result.0 → Replaces R.form D.states (IsTouched (given asked.now.start asked.now.records.items) (one_run asked.now.start (length asked.now.records.items))) disk result.0)
+        (D.keeps result.0 → Replaces R.form D.states (IsTouched (given_from asked.now.start asked.now.records.items) (one_run asked.now.start (length asked.now.records.items))) disk result.0)
         (IsWorkFault R.form D.keeps D.states D.faults (IsSetFault R.form D.keeps D.states D.faults asked.now.start asked.now.records.items) disk result.0) result.1 }
     ensures written { EndsAs (HasWorked R.form D.keeps D.states D.faults (IsSet R.form D.keeps D.states D.faults asked.now.start asked.now.records.items) disk result.0) (λ _. Unit {0}) result.1 }
     ensures model { D.keeps result.0 → D.keeps disk }

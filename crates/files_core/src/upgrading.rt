@@ -5,7 +5,7 @@ ghost use Rattle.std.specs.Io.KnownBytes.{Appends};
 ghost use Rattle.disk_core.specs.Calls.{bytes_of};
 ghost use Rattle.disk_core.specs.Moments.{clock};
 ghost use Rattle.pen_core.specs.Opening.{AreCallsDone, OnlySyncs};
-ghost use Rattle.files_core.specs.Ended.{EndsAs, Writes};
+ghost use Rattle.files_core.specs.Ended.{EndsAs, WritesAnswer};
 ghost use Rattle.files_core.specs.Texts.{upgraded_line};
 ghost use Rattle.files_core.specs.Upgraded.{AreCallsBefore, IsUpgraded, IsUpgradeRefusal, failed_upgrading};
 
@@ -40,7 +40,7 @@ pub fn upgrade_file<R: Record, D: Disk, N: Disk, W: Write>(
     ensures old_calls { (len : ℕ) × (D.keeps result.0 → len ≡ length (bytes_of (D.states old))) × EndsAs (AreCallsDone len (clock (D.states result.0) - clock (D.states old))) (AreCallsBefore len (clock (D.states result.0) - clock (D.states old))) result.2 }
     ensures old_faults { D.faults result.0 ≡ D.faults old + failed_upgrading result.2 }
     ensures upgraded { EndsAs ((text : List ℕ) × IsUpgraded R.form D.keeps D.states N.keeps N.states N.faults old new result.0 result.1 text) (IsUpgradeRefusal R.form D.keeps D.states N.keeps N.states N.faults old new result.0 result.1) result.2 }
-    ensures writes { Writes (W.contents writer.old) (W.contents writer.new) (IsUpgraded R.form D.keeps D.states N.keeps N.states N.faults old new result.0 result.1) result.2 }
+    ensures writes { WritesAnswer (W.contents writer.old) (W.contents writer.new) (IsUpgraded R.form D.keeps D.states N.keeps N.states N.faults old new result.0 result.1) result.2 }
 {
     // No record is wider than a header tells, so a piece has one.
     let _width = width_of::<R>();

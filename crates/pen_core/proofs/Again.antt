@@ -14,7 +14,7 @@ use Rattle.segment_core.proofs.Blanked.{all_blanked-all_blanked, length-text-bla
 use Rattle.segment_core.proofs.LastFrom.{option_or_cases}
 use Rattle.segment_core.proofs.Loose.{IsLoose_same, IsVectorOf_loose}
 use Rattle.segment_core.specs.Raw.{raw}
-use Rattle.pen_core.specs.Held.{Opens, Holds, IsBeingFolded, early_in, gate_of}
+use Rattle.pen_core.specs.Held.{Opens, HoldsFrames, IsBeingFolded, early_in, gate_of}
 
 pub gate_behind : (shape : Shape) (found frames : List Frame) → all_blanked found ≡ frames → length (text shape found) ≡ gate_of shape frames
 gate_behind shape found frames alike = sym (length-text-blanked shape found) ∙ ap (λ fs. length (text shape fs)) alike
@@ -74,9 +74,9 @@ folded_loose shape count frames j is =
 
 -- The same frames but for home bytes, and the same vector, in bytes that are the same but for loose ones.
 pub Holds-again : (shape : Shape) (frames : List Frame) (vector : List (List ℕ)) (base image : List ℕ)
-    → Holds shape frames vector base → gate_of shape frames ≤ length image
+    → HoldsFrames shape frames vector base → gate_of shape frames ≤ length image
     → ((j : ℕ) → j < gate_of shape frames → (IsLoose shape frames j → ⊥) → get_or image j 0 ≡ get_or base j 0)
-    → Holds shape frames vector image
+    → HoldsFrames shape frames vector image
 Holds-again shape frames vector base image has long same =
     let gate = gate_behind shape has.found frames has.alike in
     let again = IsVectorOf_loose shape.format (raw shape.width) base image has.found vector has.begins (record {
@@ -87,7 +87,7 @@ Holds-again shape frames vector base image has long same =
 
 -- and where the gate behind them is closed, such an image opens so
 pub Holds-opens : (shape : Shape) (frames : List Frame) (vector : List (List ℕ)) (image : List ℕ)
-    → Holds shape frames vector image → gate_of shape frames < length image → get_or image (gate_of shape frames) 0 ≢ 1
+    → HoldsFrames shape frames vector image → gate_of shape frames < length image → get_or image (gate_of shape frames) 0 ≢ 1
     → Opens shape frames vector image
 Holds-opens shape frames vector image has long closed =
     let gate = gate_behind shape has.found frames has.alike in

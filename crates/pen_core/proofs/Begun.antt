@@ -23,7 +23,7 @@ use Rattle.segment_core.proofs.Raw.{IsVectorOf_frame}
 use Rattle.segment_core.proofs.Payload.{length-frame_text}
 use Rattle.pen_core.specs.Step.{body_of}
 use Rattle.segment_core.specs.Raw.{raw}
-use Rattle.pen_core.specs.Held.{Holds, IsBeingFolded, early_in, gate_of}
+use Rattle.pen_core.specs.Held.{HoldsFrames, IsBeingFolded, early_in, gate_of}
 use Rattle.pen_core.specs.Vectors.{frames_with}
 use Rattle.segment_core.specs.Raw.{after_frame}
 use Rattle.pen_core.specs.Inside.{IsBodyOf}
@@ -53,7 +53,7 @@ nothing_folded shape frames j is =
 
 -- frames that bytes hold keep the rules, whatever their home bytes
 pub held_legal : (shape : Shape) (frames : List Frame) (vector : List (List ℕ)) (bytes : List ℕ)
-    → Holds shape frames vector bytes → AreLegal shape frames
+    → HoldsFrames shape frames vector bytes → AreLegal shape frames
 held_legal shape frames vector bytes has = same_legal has.found frames (sym (blank_again has.found frames has.alike)) shape has.begins.legal
 
 -- ---- the body
@@ -79,7 +79,7 @@ opened_text front body r gate is some =
     ∙ append_assoc front (1 ∷ []) (body ++ behind)
 
 module _ (count : ℕ) (shape : Shape) (frames : List Frame) (vector : List (List ℕ)) (s : State) (f : Frame)
-    (has : Holds shape frames vector s.seen) (there : gate_of shape frames < length s.seen) (whole : IsFrame shape f)
+    (has : HoldsFrames shape frames vector s.seen) (there : gate_of shape frames < length s.seen) (whole : IsFrame shape f)
     (may : MayFollow (tally_of frames) f) (hold : (fold : ℕ) → f ≡ Fold fold → HomesHold shape.format (raw shape.width) s.seen frames fold vector) where
   abbrev gate : ℕ
   gate = gate_of shape frames
@@ -132,7 +132,7 @@ module _ (count : ℕ) (shape : Shape) (frames : List Frame) (vector : List (Lis
       HomesHold_same shape.format (raw shape.width) s.seen image has.found fold vector (λ i place at. ap (λ c. Some c) (home_stays i place at))
       (HomesHold_blanked shape.format (raw shape.width) s.seen frames has.found fold vector (blank_again has.found frames has.alike) (hold fold is))
 
-  body_holds : Holds shape (frames_with frames f) (after_frame shape.width vector f) image
+  body_holds : HoldsFrames shape (frames_with frames f) (after_frame shape.width vector f) image
   body_holds =
       let begins = Begins_push shape image has.found f (0 ∷ tail) has.begins.legal whole may' image_is in
       let before =

@@ -7,7 +7,7 @@ use Rattle.disk_core.proofs.ImageLemmas.{length-overlay, get_or-overlay, touched
 use Rattle.segment_core.specs.declared.format.Shape.{Shape}
 use Rattle.segment_core.specs.Folding.{IsLoose}
 use Rattle.segment_core.specs.Frame.{Frame}
-use Rattle.pen_core.specs.Held.{Opens, Holds, IsBeingFolded, gate_of}
+use Rattle.pen_core.specs.Held.{Opens, HoldsFrames, IsBeingFolded, gate_of}
 use Rattle.pen_core.specs.Known.{PendingIsFolded, IsFileOf, IsShut, IsWritten, IsOnDisk, IsBeforeOrAfter}
 use Rattle.pen_core.proofs.Again.{Holds-again}
 use Rattle.pen_core.proofs.Held.{image_holds, images_shut, images_open, pending_push, not_pending, covered_inside, opened_at, opened_elsewhere}
@@ -15,7 +15,7 @@ use Rattle.pen_core.proofs.Held.{image_holds, images_shut, images_open, pending_
 -- ---- a write, whatever it has left a read
 
 module _ (shape : Shape) (count : ℕ) (frames : List Frame) (vector : List (List ℕ)) (s : State) (at len : ℕ) (seen : List ℕ) where
-  pub IsFileOf-touched : IsFileOf shape count frames vector s → Holds shape frames vector seen
+  pub IsFileOf-touched : IsFileOf shape count frames vector s → HoldsFrames shape frames vector seen
       → ((j : ℕ) → j < gate_of shape frames → at ≤ j → j < at + len → IsBeingFolded shape count frames j)
       → IsFileOf shape count frames vector (touched s at len seen)
   IsFileOf-touched file holds loose = record {
@@ -84,7 +84,7 @@ module _ (shape : Shape) (count : ℕ) (frames next : List Frame) (before after 
 
   -- the last byte of the body is the next gate
   pub written_after_body : PendingIsFolded shape count frames next s → gate_of shape next ≡ p + length body → 0 < length body
-      → get_or body (length body - 1) 0 ≢ 1 → Holds shape next after (overlay seen' p (1 ∷ []))
+      → get_or body (length body - 1) 0 ≢ 1 → HoldsFrames shape next after (overlay seen' p (1 ∷ []))
       → IsWritten shape count frames next after (written s (p + 1) body)
   written_after_body stays size some closed holds =
       let g = gate_seen in
@@ -119,7 +119,7 @@ module _ (shape : Shape) (count : ℕ) (frames next : List Frame) (before after 
       (touched_more s (p + 1) (length body) s.seen s.seen readable) image is
       (IsShut-touched shape count frames before s (p + 1) (length body) s.seen p shut refl (λ from upto. omega arith))
 
-  pub holds_of_body : (image : List ℕ) → IsImage (touched s (p + 1) (length body) s.seen) image → Holds shape frames before image
+  pub holds_of_body : (image : List ℕ) → IsImage (touched s (p + 1) (length body) s.seen) image → HoldsFrames shape frames before image
   holds_of_body image is =
       image_holds shape count frames before (touched s (p + 1) (length body) s.seen)
       (IsFileOf-touched shape count frames before s (p + 1) (length body) s.seen file file.holds
@@ -246,7 +246,7 @@ module _ (shape : Shape) (count : ℕ) (frames next : List Frame) (before after 
       (IsOnDisk-touched shape count frames before s g 1 s.seen next there (inl (omega arith)))
       (touched_more s g 1 s.seen s.seen readable) image is
 
-  pub holds_of_gate : (image : List ℕ) → IsImage (touched s g 1 s.seen) image → Holds shape frames before image
+  pub holds_of_gate : (image : List ℕ) → IsImage (touched s g 1 s.seen) image → HoldsFrames shape frames before image
   holds_of_gate image is =
       image_holds shape count frames before (touched s g 1 s.seen)
       (IsFileOf-touched shape count frames before s g 1 s.seen file file.holds (λ j lt from upto. absurd (omega arith)))

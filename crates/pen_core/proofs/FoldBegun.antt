@@ -24,8 +24,8 @@ use Rattle.segment_core.proofs.Blanked.{tally_from-blanked, home_of-blanked, cha
 use Rattle.segment_core.proofs.PlaceOf.{home_of_between, place_of_between, has_home, live_inside}
 use Rattle.pen_core.specs.Covered.{has, covers, IsCover}
 use Rattle.pen_core.specs.Folds.{laid, IsHomeWrite, IsFolding, IsWholeFold}
-use Rattle.pen_core.specs.Held.{Holds, early_of, gate_of}
-use Rattle.pen_core.specs.HomeRuns.{span_of, AreAscending, AreHomeRuns}
+use Rattle.pen_core.specs.Held.{HoldsFrames, early_of, gate_of}
+use Rattle.pen_core.specs.HomeRuns.{home_span, AreAscending, AreHomeRuns}
 use Rattle.pen_core.specs.Listed.{live_runs}
 use Rattle.pen_core.specs.PenOf.{HomeWrite}
 use Rattle.pen_core.specs.Values.{write_for, writes_for}
@@ -130,14 +130,14 @@ module _ (shape : Shape) (frames : List Frame) (cells : List (List ℕ)) (legal 
 
   -- each byte of a covered position's record is laid into its home
   byte_laid : (from i place m : ℕ) (runs : List Home) (bytes : List ℕ) → AreAscending from (tally_of frames).size runs
-      → AllByRecursion (IsAtHome shape frames) runs → covers i (map span_of runs) ≡ true
+      → AllByRecursion (IsAtHome shape frames) runs → covers i (map home_span runs) ≡ true
       → home_of shape frames i ≡ Some place → m < width → gate ≤ length bytes
       → get_or (laid (map write runs) bytes) (place + m) 0 ≡ get_or (get_or cells i []) m 0
   byte_laid from i place m [] bytes ascend homes covered is small long = absurd cc
   byte_laid from i place m (run ∷ runs) bytes ascend homes covered is small long =
       let fits = ends_below run homes.0 in
       let longer = length-overlay bytes run.place (write run).bytes (omega arith) in
-      elim (or_cases (has i (span_of run)) (covers i (map span_of runs)) covered) [
+      elim (or_cases (has i (home_span run)) (covers i (map home_span runs)) covered) [
         | inr later ↦ byte_laid (run.position + run.count) i place m runs (overlay bytes run.place (write run).bytes)
             ascend.1 homes.1 later is small (omega arith)
         | inl here ↦ (
@@ -157,7 +157,7 @@ module _ (shape : Shape) (frames : List Frame) (cells : List (List ℕ)) (legal 
 
   -- and so the whole record
   cell_laid : (i place : ℕ) (runs : List Home) (bytes : List ℕ) → AreAscending 0 (tally_of frames).size runs
-      → AllByRecursion (IsAtHome shape frames) runs → covers i (map span_of runs) ≡ true
+      → AllByRecursion (IsAtHome shape frames) runs → covers i (map home_span runs) ≡ true
       → home_of shape frames i ≡ Some place → i < length cells → gate ≤ length bytes
       → take width (drop place (laid (map write runs) bytes)) ≡ get_or cells i []
   cell_laid i place runs bytes ascend homes covered is lt long =
@@ -172,14 +172,14 @@ module _ (shape : Shape) (frames : List Frame) (cells : List (List ℕ)) (legal 
 
   homes_hold_laid : (count : ℕ) (runs : List Home) (bytes : List ℕ) → AreAscending 0 (tally_of frames).size runs
       → AllByRecursion (IsAtHome shape frames) runs
-      → ((i : ℕ) → is_some (change_of shape (tally_of frames).folded frames i) ≡ covers i (map span_of runs))
+      → ((i : ℕ) → is_some (change_of shape (tally_of frames).folded frames i) ≡ covers i (map home_span runs))
       → gate ≤ length bytes
       → HomesHold shape.format (raw width) (laid (map write runs) bytes) frames count cells
   homes_hold_laid count runs bytes ascend homes same long i some since =
       let told = some_told (change_of shape (tally_of frames).folded frames i) some in
       let inside = live_inside shape frames i told.0 legal told.1 in
       let home = has_home shape frames i legal inside in
-      let covered : covers i (map span_of runs) ≡ true = sym (same i) ∙ ap is_some told.1 in
+      let covered : covers i (map home_span runs) ≡ true = sym (same i) ∙ ap is_some told.1 in
       ap (option_and_then (record_in (raw width) (laid (map write runs) bytes))) home.1
       ∙ ap (λ c. Some c) (cell_laid i home.0 runs bytes ascend homes covered home.1 (omega arith) long)
       ∙ sym (slice_get-get_or cells i [] (omega arith))
@@ -189,7 +189,7 @@ module _ (shape : Shape) (frames : List Frame) (cells : List (List ℕ)) (legal 
       some_told (Some x) some = (x, refl)
 
   home_write : (count : ℕ) (run : Home) → IsAtHome shape frames run → 0 < width
-      → ((i : ℕ) → has i (span_of run) ≡ true → (told : ℕ) × (early_of shape count frames i ≡ Some told))
+      → ((i : ℕ) → has i (home_span run) ≡ true → (told : ℕ) × (early_of shape count frames i ≡ Some told))
       → IsHomeWrite shape count frames (write run)
   home_write count run home some covered =
       let row = row_fits 0 width run.count width home.some (omega arith) in
@@ -211,19 +211,19 @@ module _ (shape : Shape) (frames : List Frame) (cells : List (List ℕ)) (legal 
       }
 
   all_home_writes : (count : ℕ) (runs : List Home) → AllByRecursion (IsAtHome shape frames) runs → 0 < width
-      → ((i : ℕ) → covers i (map span_of runs) ≡ true → (told : ℕ) × (early_of shape count frames i ≡ Some told))
+      → ((i : ℕ) → covers i (map home_span runs) ≡ true → (told : ℕ) × (early_of shape count frames i ≡ Some told))
       → AllByRecursion (IsHomeWrite shape count frames) (map write runs)
   all_home_writes count [] homes some covered = tt
   all_home_writes count (run ∷ runs) homes some covered = (
-    home_write count run homes.0 some (λ i e. covered i (or_left (has i (span_of run)) (covers i (map span_of runs)) e)),
-    all_home_writes count runs homes.1 some (λ i e. covered i (or_right (has i (span_of run)) (covers i (map span_of runs)) e)),
+    home_write count run homes.0 some (λ i e. covered i (or_left (has i (home_span run)) (covers i (map home_span runs)) e)),
+    all_home_writes count runs homes.1 some (λ i e. covered i (or_right (has i (home_span run)) (covers i (map home_span runs)) e)),
   )
 
 -- ---- the vector of a file
 
 -- the bytes of each record have the width
 pub held_wide : (shape : Shape) (frames : List Frame) (vector : List (List ℕ)) (bytes : List ℕ)
-    → Holds shape frames vector bytes → All (HasWidth shape.width) vector
+    → HoldsFrames shape frames vector bytes → All (HasWidth shape.width) vector
 held_wide shape frames vector bytes has = All-from_get_or (HasWidth shape.width) vector [] (λ i lt. at i lt (place_of shape has.found i) refl)
   where
     at : (i : ℕ) → i < length vector → (o : Option ℕ) → place_of shape has.found i ≡ o → HasWidth shape.width (get_or vector i [])
@@ -249,7 +249,7 @@ SaysHomes-blanked shape frames homes says i lt =
 -- All changes are folded: once the writes of the cover's runs are done, each covered position has its record in its
 -- home bytes.
 module _ (shape : Shape) (frames : List Frame) (vector : List (List ℕ)) (homes : List Home) (cover : List (ℕ × ℕ))
-    (runs : List Home) (s : State) (some : 0 < shape.width) (has : Holds shape (all_blanked frames) vector s.seen)
+    (runs : List Home) (s : State) (some : 0 < shape.width) (has : HoldsFrames shape (all_blanked frames) vector s.seen)
     (are : SaysHomes shape frames homes)
     (is : IsCover (live_runs shape frames) cover) (at : AreHomeRuns shape.width (tally_of frames).size homes cover runs) where
   abbrev others : List Frame
@@ -258,14 +258,14 @@ module _ (shape : Shape) (frames : List Frame) (vector : List (List ℕ)) (homes
   tally : tally_of others ≡ tally_of frames
   tally = tally_from-blanked nothing frames
 
-  same_covered : (i : ℕ) → is_some (change_of shape (tally_of others).folded others i) ≡ covers i (map span_of runs)
+  same_covered : (i : ℕ) → is_some (change_of shape (tally_of others).folded others i) ≡ covers i (map home_span runs)
   same_covered i =
       ap (λ t. is_some (change_of shape t.folded others i)) tally
       ∙ ap is_some (change_of-blanked shape (tally_of frames).folded frames i)
       ∙ change_of-covers shape frames i
       ∙ sym (covers-home_runs shape.width (tally_of frames).size homes cover runs i at ∙ is.same i)
 
-  covered_early : (i : ℕ) → covers i (map span_of runs) ≡ true → (told : ℕ) × (early_of shape (tally_of frames).changes others i ≡ Some told)
+  covered_early : (i : ℕ) → covers i (map home_span runs) ≡ true → (told : ℕ) × (early_of shape (tally_of frames).changes others i ≡ Some told)
   covered_early i e =
       let told = told_is (change_of shape (tally_of others).folded others i) (same_covered i ∙ e) in
       (told.0, ap (λ t. early_of shape t.changes others i) (sym tally) ∙ early_of-all shape others i ∙ told.1)

@@ -18,8 +18,8 @@ use Rattle.pen_core.specs.declared.fold.Fold.{Fold}
 use Rattle.pen_core.specs.declared.step.Step.{Step}
 use Rattle.pen_core.specs.Covered.{covers, IsCover}
 use Rattle.pen_core.specs.Folds.{IsFolding, IsWholeFold}
-use Rattle.pen_core.specs.Held.{Holds}
-use Rattle.pen_core.specs.HomeRuns.{span_of, AreHomeRuns}
+use Rattle.pen_core.specs.Held.{HoldsFrames}
+use Rattle.pen_core.specs.HomeRuns.{home_span, AreHomeRuns}
 use Rattle.pen_core.specs.InHand.{frame_in_hand, write_of, IsPlanned}
 use Rattle.pen_core.specs.Listed.{live_runs, runs_ahead, IsListed}
 use Rattle.pen_core.specs.Values.{writes_for}
@@ -79,12 +79,12 @@ module _ {keeps : Type 0} {states : List State} {shape : Shape} {gate : ℕ} {ta
           let first = live_runs_cover shape frames listed.legal (subst (λ t. t.folded < t.changes) listed.tally_is live_change) in
           there runs first.0 (covers-home_runs shape.width tally.size homes.homes.items cover runs first.0 at ∙ file_cover.same first.0 ∙ first.1)
         where
-          there : (found : List Home) (i : ℕ) → covers i (map span_of found) ≡ true → 0 < length found
+          there : (found : List Home) (i : ℕ) → covers i (map home_span found) ≡ true → 0 < length found
           there [] i covered = absurd cc
           there (run ∷ found) i covered = omega arith
 
       pub IsFolding-pen : keeps → 0 < shape.width
-          → Holds shape (blanked_before shape gate (bytes_of states)) (vector_before shape gate (bytes_of states))
+          → HoldsFrames shape (blanked_before shape gate (bytes_of states)) (vector_before shape gate (bytes_of states))
           (now states).seen
           → IsFolding shape tally.changes (blanked_before shape gate (bytes_of states))
           (vector_before shape gate (bytes_of states))
@@ -96,10 +96,10 @@ module _ {keeps : Type 0} {states : List State} {shape : Shape} {gate : ℕ} {ta
           subst (λ fs. IsFolding shape tally.changes fs vector (writes_for (raw shape.width) vector runs) (now states)) (sym same)
           (subst (λ t. IsFolding shape t.changes (all_blanked frames) vector (writes_for (raw shape.width) vector runs) (now states)) (sym listed.tally_is)
           (IsFolding-begun shape frames vector homes.homes.items cover runs (now states) some
-          (subst (λ fs. Holds shape fs vector (now states).seen) same has) says_homes file_cover here))
+          (subst (λ fs. HoldsFrames shape fs vector (now states).seen) same has) says_homes file_cover here))
 
       IsWholeFold-pen : keeps → 0 < shape.width
-          → Holds shape (blanked_before shape gate (bytes_of states)) (vector_before shape gate (bytes_of states))
+          → HoldsFrames shape (blanked_before shape gate (bytes_of states)) (vector_before shape gate (bytes_of states))
           (now states).seen
           → IsWholeFold shape (blanked_before shape gate (bytes_of states)) (vector_before shape gate (bytes_of states))
           (writes_for (raw shape.width) (vector_before shape gate (bytes_of states)) runs)
@@ -109,7 +109,7 @@ module _ {keeps : Type 0} {states : List State} {shape : Shape} {gate : ℕ} {ta
           let here = subst (λ t. AreHomeRuns shape.width t.size homes.homes.items cover runs) listed.tally_is at in
           subst (λ fs. IsWholeFold shape fs vector (writes_for (raw shape.width) vector runs)) (sym same)
           (IsWholeFold-begun shape frames vector homes.homes.items cover runs (now states) some
-          (subst (λ fs. Holds shape fs vector (now states).seen) same has) says_homes file_cover here)
+          (subst (λ fs. HoldsFrames shape fs vector (now states).seen) same has) says_homes file_cover here)
 
       module _ {R : Type 0} (form : Encoding R) (records : List R) (made : List ℕ) (writes : List Write)
           (some : 0 < shape.width) (made_is : map (write_of made) writes ≡ writes_for form records runs) where
@@ -127,7 +127,7 @@ module _ {keeps : Type 0} {states : List State} {shape : Shape} {gate : ℕ} {ta
         made_of_vector same = made_is ∙ writes_for-raw form shape.width records runs ∙ ap (λ cells. writes_for (raw shape.width) cells runs) (sym same)
 
         pub folding_pen : keeps
-            → Holds shape (blanked_before shape gate (bytes_of states)) (vector_before shape gate (bytes_of states))
+            → HoldsFrames shape (blanked_before shape gate (bytes_of states)) (vector_before shape gate (bytes_of states))
             (now states).seen
             → vector_before shape gate (bytes_of states) ≡ map form.bytes_of records
             → IsFolding shape tally.changes (blanked_before shape gate (bytes_of states))
@@ -140,7 +140,7 @@ module _ {keeps : Type 0} {states : List State} {shape : Shape} {gate : ℕ} {ta
             (sym (made_of_vector same)) (IsFolding-pen model some has)
 
         pub whole_pen : keeps
-            → Holds shape (blanked_before shape gate (bytes_of states)) (vector_before shape gate (bytes_of states))
+            → HoldsFrames shape (blanked_before shape gate (bytes_of states)) (vector_before shape gate (bytes_of states))
             (now states).seen
             → vector_before shape gate (bytes_of states) ≡ map form.bytes_of records
             → IsWholeFold shape (blanked_before shape gate (bytes_of states)) (vector_before shape gate (bytes_of states)) (map (write_of made) writes)

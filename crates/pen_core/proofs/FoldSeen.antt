@@ -21,7 +21,7 @@ use Rattle.segment_core.specs.declared.found.Homes.{Homes}
 use Rattle.pen_core.specs.PenOf.{FoldOf, HomeWrite}
 use Rattle.pen_core.specs.Listed.{IsListed}
 use Rattle.pen_core.proofs.InHand.{no_fold_seen, filed_at}
-use Rattle.pen_core.specs.InHand.{write_of, left_of, first_write, in_stage, fold_of, has_call, is_unfolded, stage_after, left_after, done_after, called, writes_left, IsInHand, advanced, frame_in_hand, IsAtStage}
+use Rattle.pen_core.specs.InHand.{write_of, left_of, first_write, in_stage, fold_of, has_call, is_without_fold, stage_after, left_after, done_after, called, writes_left, IsInHand, advanced, frame_in_hand, IsAtStage}
 use Rattle.pen_core.specs.Inside.{job_of}
 
 -- ---- the writes that are left
@@ -44,34 +44,34 @@ left_next fold lt = firsts (write_of fold.bytes.items) fold.writes.items fold.do
 abbrev pub seen : Fold → FoldOf
 seen fold = record { count = fold.count; left = left_of fold; stage = fold.stage }
 
-seen_in : (stage : FoldStage) (f : FoldOf) → is_unfolded stage ≡ false → in_stage stage f ≡ Some f
+seen_in : (stage : FoldStage) (f : FoldOf) → is_without_fold stage ≡ false → in_stage stage f ≡ Some f
 seen_in stages.None f held = absurd cc
 seen_in (Home n) f held = refl
 seen_in Sync f held = refl
 seen_in Ready f held = refl
 seen_in Filed f held = refl
 
-pub fold_is_seen : (fold : Fold) → is_unfolded fold.stage ≡ false → fold_of fold ≡ Some (seen fold)
+pub fold_is_seen : (fold : Fold) → is_without_fold fold.stage ≡ false → fold_of fold ≡ Some (seen fold)
 fold_is_seen fold held = seen_in fold.stage (seen fold) held
 
-pub calls_held : (stage : FoldStage) → has_call stage ≡ true → is_unfolded stage ≡ false
+pub calls_held : (stage : FoldStage) → has_call stage ≡ true → is_without_fold stage ≡ false
 calls_held stages.None calls = absurd cc
 calls_held (Home n) calls = refl
 calls_held Sync calls = refl
 calls_held Ready calls = refl
 calls_held Filed calls = refl
 
-pub unfolded_at : (stage : FoldStage) → is_unfolded stage ≡ true → stage ≡ stages.None
+pub unfolded_at : (stage : FoldStage) → is_without_fold stage ≡ true → stage ≡ stages.None
 unfolded_at stages.None none = refl
 unfolded_at (Home n) none = absurd cc
 unfolded_at Sync none = absurd cc
 unfolded_at Ready none = absurd cc
 unfolded_at Filed none = absurd cc
 
-pub none_seen : (fold : Fold) → is_unfolded fold.stage ≡ true → fold_of fold ≡ None
+pub none_seen : (fold : Fold) → is_without_fold fold.stage ≡ true → fold_of fold ≡ None
 none_seen fold none = no_fold_seen fold (unfolded_at fold.stage none)
 
-pub ready_or_filed : (stage : FoldStage) → has_call stage ≡ false → is_unfolded stage ≡ false → (stage ≡ Ready) ⊎ (stage ≡ Filed)
+pub ready_or_filed : (stage : FoldStage) → has_call stage ≡ false → is_without_fold stage ≡ false → (stage ≡ Ready) ⊎ (stage ≡ Filed)
 ready_or_filed stages.None quiet held = absurd cc
 ready_or_filed (Home n) quiet held = absurd cc
 ready_or_filed Sync quiet held = absurd cc
@@ -79,7 +79,7 @@ ready_or_filed Ready quiet held = inl refl
 ready_or_filed Filed quiet held = inr refl
 
 pub ready_at : {D : Type 0} {keeps : D → Type 0} {states : D → List State} {pen : Inside D} → IsSound keeps states pen
-    → has_call pen.fold.stage ≡ false → is_unfolded pen.fold.stage ≡ false → pen.step ≡ None → pen.fold.stage ≡ Ready
+    → has_call pen.fold.stage ≡ false → is_without_fold pen.fold.stage ≡ false → pen.step ≡ None → pen.fold.stage ≡ Ready
 ready_at {pen = pen} sound quiet held idle = elim (ready_or_filed pen.fold.stage quiet held) [
   | inl ready ↦ ready
   | inr filed ↦ (
@@ -97,12 +97,12 @@ job_some shape bytes None some = absurd cc
 job_some shape bytes (Some step) some = refl
 
 -- behind a call
-still_held : (stage : FoldStage) → has_call stage ≡ true → is_unfolded (stage_after stage) ≡ false
+still_held : (stage : FoldStage) → has_call stage ≡ true → is_without_fold (stage_after stage) ≡ false
 still_held stages.None calls = absurd cc
 still_held (Home n) calls =
     elim (cases_Bool (nat_lt 1 n)) [
-      | inl more ↦ ap (λ b. is_unfolded (cond b (Home (n - 1)) Sync)) more
-      | inr last ↦ ap (λ b. is_unfolded (cond b (Home (n - 1)) Sync)) last
+      | inl more ↦ ap (λ b. is_without_fold (cond b (Home (n - 1)) Sync)) more
+      | inr last ↦ ap (λ b. is_without_fold (cond b (Home (n - 1)) Sync)) last
     ]
 still_held Sync calls = refl
 still_held Ready calls = absurd cc

@@ -19,7 +19,7 @@ use Rattle.segment_core.proofs.Push.{BeginsImage_before}
 use Rattle.segment_core.proofs.Blanked.{all_blanked-all_blanked, same_tally, same_gate}
 use Rattle.segment_core.proofs.HomesHold.{Appends, HomesHold_push, HomesHold_same, HomesHold_blanked}
 use Rattle.segment_core.proofs.Parsed.{frames_before-text}
-use Rattle.pen_core.specs.Held.{Holds, gate_of}
+use Rattle.pen_core.specs.Held.{HoldsFrames, gate_of}
 use Rattle.pen_core.specs.Vectors.{frames_with}
 use Rattle.pen_core.specs.PenOf.{HomeWrite}
 use Rattle.pen_core.specs.Folds.{laid, IsHomeWrite, IsFolding}
@@ -140,7 +140,7 @@ no_fold (Shrink n) appends fold is = absurd appends
 no_fold (Fold c) appends fold is = absurd appends
 
 module _ (shape : Shape) (count : ℕ) (frames : List Frame) (f : Frame) (vector then : List (List ℕ)) (bytes held : List ℕ)
-    (has : Holds shape frames vector bytes) (more : Holds shape (frames_with frames f) then bytes) (appends : Appends f)
+    (has : HoldsFrames shape frames vector bytes) (more : HoldsFrames shape (frames_with frames f) then bytes) (appends : Appends f)
     (from : (tally_of frames).folded ≤ count) (upto : count ≤ (tally_of frames).changes) where
   ends : Ends more.found frames (blanked f)
   ends = ends_with more.found frames (blanked f) more.alike
@@ -192,7 +192,7 @@ homes_behind shape count frames f (w ∷ left) legal appends all =
 
 pub folding_more : (shape : Shape) (count : ℕ) (frames : List Frame) (f : Frame) (vector then : List (List ℕ))
     (left : List HomeWrite) (s : State)
-    → Holds shape frames vector s.seen → Holds shape (frames_with frames f) then s.seen → Appends f
+    → HoldsFrames shape frames vector s.seen → HoldsFrames shape (frames_with frames f) then s.seen → Appends f
     → (tally_of frames).folded ≤ count
     → count ≤ (tally_of frames).changes → IsFolding shape count frames vector left s → IsFolding shape count (frames_with frames f) then left s
 folding_more shape count frames f vector then left s has more appends from upto fold = record {

@@ -6,7 +6,7 @@ use Rattle.std.proofs.lemmas.Bool.{cases_lt}
 use Rattle.std.proofs.lemmas.List.{append-nil, take_more, take_all, length-take-le}
 use Rattle.std.proofs.lemmas.List.Elements.{All-nil, All-push, All-set}
 use Rattle.segment_core.specs.declared.found.Home.{Home}
-use Rattle.pen_core.specs.HomeRuns.{positions_at, write_limit, IsAdjacent, IsHomeRun, AreAscending, Meets, AreGreatest, AreRuns, behind}
+use Rattle.pen_core.specs.HomeRuns.{positions_at, write_limit, IsAdjacent, IsHomeRun, AreAscending, Meets, AreGreatest, AreGreatestRuns, behind}
 use Rattle.pen_core.proofs.HomeRunSteps.{range-append, positions_at-append, ascending-push, ascending-to, moved}
 
 -- ---- the last item
@@ -104,8 +104,8 @@ module _ (width : ℕ) (runs : List Home) (last : Home) (some : 0 < length runs)
     longer_greatest greatest = greatest-last width init last (longer last n) refl refl (subst (AreGreatest width) were greatest)
 
     pub longer_runs : (home : ℕ → Option ℕ) (to : ℕ) (part : Home) → IsAdjacent width home part → Meets width last part
-        → n ≤ part.count → last.count + n ≤ 4096 → AreRuns width home to runs
-        → AreRuns width home (last.position + last.count + n) grown
+        → n ≤ part.count → last.count + n ≤ 4096 → AreGreatestRuns width home to runs
+        → AreGreatestRuns width home (last.position + last.count + n) grown
     longer_runs home to part adjacent meets fits few so_far =
         let each = subst (IsHomeRun width home) (sym is) (so_far.each (length runs - 1) last (omega arith)) in
         record {
@@ -158,9 +158,9 @@ module _ (width : ℕ) (part : Home) (done count : ℕ) (runs : List Home) where
   next_greatest : AreGreatest width (runs ++ behind width part done ∷ []) → AreGreatest width (runs ++ next ∷ [])
   next_greatest greatest = greatest-last width runs (behind width part done) next refl refl greatest
 
-  pub next_runs : (home : ℕ → Option ℕ) → AreRuns width home (part.position + done) runs → IsAdjacent width home part
+  pub next_runs : (home : ℕ → Option ℕ) → AreGreatestRuns width home (part.position + done) runs → IsAdjacent width home part
       → done + count ≤ part.count → 0 < count → count ≤ 4096 → AreGreatest width (runs ++ behind width part done ∷ [])
-      → AreRuns width home (part.position + (done + count)) (runs ++ next ∷ [])
+      → AreGreatestRuns width home (part.position + (done + count)) (runs ++ next ∷ [])
   next_runs home so_far adjacent fits some few greatest =
       let all : part.position + done + count ≡ part.position + (done + count) = omega arith in
       record {
@@ -174,9 +174,9 @@ module _ (width : ℕ) (part : Home) (done count : ℕ) (runs : List Home) where
       → AreGreatest width ((runs ++ next ∷ []) ++ behind width part (done + count) ∷ [])
   next_next greatest full = greatest-next width runs next (behind width part (done + count)) (next_greatest greatest) (λ meets. full)
 
-pub AreRuns-none : (width : ℕ) (home : ℕ → Option ℕ) → AreRuns width home 0 []
+pub AreRuns-none : (width : ℕ) (home : ℕ → Option ℕ) → AreGreatestRuns width home 0 []
 AreRuns-none width home = record { ascend = omega arith; each = All-nil (IsHomeRun width home); greatest = tt }
 
-pub AreRuns-to : (width : ℕ) (home : ℕ → Option ℕ) (to more : ℕ) (runs : List Home) → to ≤ more → AreRuns width home to runs
-    → AreRuns width home more runs
+pub AreRuns-to : (width : ℕ) (home : ℕ → Option ℕ) (to more : ℕ) (runs : List Home) → to ≤ more → AreGreatestRuns width home to runs
+    → AreGreatestRuns width home more runs
 AreRuns-to width home to more runs le so_far = record { ascend = ascending-to 0 to more runs so_far.ascend le; each = so_far.each; greatest = so_far.greatest }

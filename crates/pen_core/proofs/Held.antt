@@ -8,7 +8,7 @@ use Rattle.disk_core.specs.State.{State, has_place, is_within, overlay, IsImage}
 use Rattle.disk_core.proofs.ImageLemmas.{get_or-overlay}
 use Rattle.segment_core.specs.declared.format.Shape.{Shape}
 use Rattle.segment_core.specs.Frame.{Frame}
-use Rattle.pen_core.specs.Held.{Opens, Holds, IsBeingFolded, gate_of}
+use Rattle.pen_core.specs.Held.{Opens, HoldsFrames, IsBeingFolded, gate_of}
 use Rattle.pen_core.specs.Known.{IsFileOf, IsShut, IsWritten, IsOnDisk, IsBeforeOrAfter}
 use Rattle.pen_core.proofs.Again.{folded_loose, Holds-again, Holds-opens}
 
@@ -53,7 +53,7 @@ fast_kept s j L loose fast = elim (cases_Bool (is_within s.pending j)) [ inl is 
 module _ (shape : Shape) (count : ℕ) (frames : List Frame) (vector : List (List ℕ)) (s : State)
     (file : IsFileOf shape count frames vector s) (readable : IsImage s s.seen) (image : List ℕ) (is : IsImage s image) where
   -- an image holds what a read gives, up to the gate
-  pub image_holds : Holds shape frames vector image
+  pub image_holds : HoldsFrames shape frames vector image
   image_holds =
       Holds-again shape frames vector s.seen image file.holds (omega (arith, file.gate_synced, is.no_shorter)) (λ j lt fast.
       images_agree s image s.seen j is readable (omega (arith, file.gate_synced))

@@ -18,7 +18,7 @@ use Rattle.pen_core.specs.declared.step.Step.{Step}
 use Rattle.pen_core.specs.declared.stage.FoldStage.{FoldStage}
 use Rattle.pen_core.specs.declared.stage.FoldStage.TheVariants.{Home, Sync, Ready, Filed}
 use Rattle.pen_core.specs.declared.stage.FoldStage.TheVariants as stages
-use Rattle.pen_core.specs.Held.{Holds, gate_of}
+use Rattle.pen_core.specs.Held.{HoldsFrames, gate_of}
 use Rattle.pen_core.specs.Vectors.{frame_at, blanked_before, frames_with}
 use Rattle.pen_core.specs.Refusals.{fold_len}
 use Rattle.pen_core.specs.InHand.{in_stage, fold_of, left_of, IsPlanned, gate_then, IsUnfiled, frame_in_hand, IsInHand, IsAtStage, HomesAt, stage_ended, live_after, IsFold}
@@ -160,7 +160,7 @@ homes_alike shape fs vector fold s t Filed legal same at = tt
 
 homes_more : (shape : Shape) (fs : List Frame) (f : Frame) (vector then : List (List ℕ)) (fold : Fold) (s : State)
     (stage : FoldStage)
-    → Holds shape fs vector s.seen → Holds shape (frames_with fs f) then s.seen
+    → HoldsFrames shape fs vector s.seen → HoldsFrames shape (frames_with fs f) then s.seen
     → (IsInHand stage → (stage ≡ Filed → ⊥)
     → Appends f × ((tally_of fs).folded ≤ fold.count) × (fold.count ≤ (tally_of fs).changes))
     → HomesAt shape fs vector fold s stage → HomesAt shape (frames_with fs f) then fold s stage
@@ -236,8 +236,8 @@ module _ {keeps keeps' : Type 0} {states : List State} {shape : Shape} {gate : �
     frame = frame_at shape bytes
 
     pub fold_done : (then : List (List ℕ)) (tally_is : keeps → tally ≡ tally_of fs)
-        → (keeps' → Holds shape fs vector (bytes_of states))
-        → (keeps' → Holds shape (frames_with fs frame) then (bytes_of states))
+        → (keeps' → HoldsFrames shape fs vector (bytes_of states))
+        → (keeps' → HoldsFrames shape (frames_with fs frame) then (bytes_of states))
         → (keeps' → now new ≡ settled (bytes_of states))
         → (keeps' → blanked_before shape gate' (bytes_of new) ≡ frames_with fs frame)
         → (keeps' → vector_before shape gate' (bytes_of new) ≡ then) → IsFold keeps' new shape gate' next bytes None broken fold

@@ -13,7 +13,7 @@ use Rattle.segment_core.proofs.Payload.{length-frame_text}
 use Rattle.pen_core.specs.declared.pen.Pen.TheInside.{Inside}
 use Rattle.pen_core.specs.declared.step.Step.{Step}
 use Rattle.pen_core.specs.Fields.{count_open, IsSound}
-use Rattle.pen_core.specs.Held.{Holds, gate_of}
+use Rattle.pen_core.specs.Held.{HoldsFrames, gate_of}
 use Rattle.pen_core.specs.InHand.{frame_in_hand}
 use Rattle.pen_core.specs.Inside.{job_of, IsJob, IsMaybeJob, IsAtStep, Knows, IsPen}
 use Rattle.pen_core.specs.Known.{IsFileOf, IsShut}
@@ -249,12 +249,12 @@ module _ {D : Type 0} {keeps : D → Type 0} {states : D → List State} {pen : 
       pub settles_now : keeps new → now left ≡ settled (bytes_of old)
       settles_now model = let m = tick.back model in ap now (subst (λ st. Calls st p pen.bytes.items old left) (last_step step last) (at_gate m (call m)))
 
-      pub holds_now : keeps new → Holds pen.shape frames vector (bytes_of old)
+      pub holds_now : keeps new → HoldsFrames pen.shape frames vector (bytes_of old)
       holds_now model = (knows (tick.back model)).file.holds
 
       -- the job's frame stands already
-      pub holds_next : keeps new → Holds pen.shape following then (bytes_of old)
-      holds_next model = subst (λ s. Holds pen.shape following then s.seen) (settles_now model) (ended model).0.holds
+      pub holds_next : keeps new → HoldsFrames pen.shape following then (bytes_of old)
+      holds_next model = subst (λ s. HoldsFrames pen.shape following then s.seen) (settles_now model) (ended model).0.holds
 
       pub more_frames : keeps new → blanked_before pen.shape gate' (bytes_of left) ≡ following
       more_frames model = (done_seen model).frames_are

@@ -9,14 +9,14 @@ use Rattle.segment_core.specs.declared.tally.Tally.{Tally}
 use Rattle.segment_core.specs.Frame.{header}
 use Rattle.segment_core.specs.Tally.{nothing}
 use Rattle.segment_core.specs.Parsed.{vector_before}
-use Rattle.pen_core.specs.Held.{Holds, gate_of}
+use Rattle.pen_core.specs.Held.{HoldsFrames, gate_of}
 use Rattle.pen_core.specs.Vectors.{blanked_before}
 use Rattle.pen_core.specs.Inside.{Knows, IsPen}
 use Rattle.pen_core.proofs.Births.{empty_file}
 use Rattle.pen_core.proofs.Parsed.{SeenAs, seen_as}
 use Rattle.pen_core.proofs.Pens.{knows_rest}
 
-empty_holds : (shape : Shape) → Holds shape [] [] (empty_file shape)
+empty_holds : (shape : Shape) → HoldsFrames shape [] [] (empty_file shape)
 empty_holds shape = record {
   found = [];
   alike = refl;

@@ -10,7 +10,7 @@ use Rattle.segment_core.specs.Tally.{tally_of}
 use Rattle.segment_core.specs.Vector.{home_of}
 use Rattle.pen_core.specs.Covered.{has, covers}
 use Rattle.pen_core.specs.Folds.{IsWholeFold}
-use Rattle.pen_core.specs.HomeRuns.{span_of, IsHomeRun, AreAscending, IsApartFrom, AreGreatest}
+use Rattle.pen_core.specs.HomeRuns.{home_span, IsHomeRun, AreAscending, IsApartFrom, AreGreatest}
 use Rattle.pen_core.specs.PenOf.{HomeWrite}
 use Rattle.pen_core.specs.Values.{writes_for}
 use Rattle.pen_core.proofs.Covers.{has-true, true-has}
@@ -20,18 +20,18 @@ module _ (width : ℕ) (home : ℕ → Option ℕ) where
   Is = IsHomeRun width home
 
   abbrev covered : ℕ → List Home → Bool
-  covered i runs = covers i (map span_of runs)
+  covered i runs = covers i (map home_span runs)
 
   covered_from : (from to i : ℕ) (runs : List Home) → AreAscending from to runs → All Is runs → covered i runs ≡ true → from ≤ i
   covered_from from to i [] ascend each is = absurd cc
-  covered_from from to i (run ∷ runs) ascend each is = elim (or_cases (has i (span_of run)) (covered i runs) is) [
+  covered_from from to i (run ∷ runs) ascend each is = elim (or_cases (has i (home_span run)) (covered i runs) is) [
     | inl here ↦ (let b = has-true i run.position run.count here in omega (arith, ascend.0))
     | inr later ↦ (let rest = covered_from (run.position + run.count) to i runs ascend.1 (All-tail Is run runs each) later in omega (arith, ascend.0))
   ]
 
   first_is_covered : (run : Home) (runs : List Home) → Is run → covered run.position (run ∷ runs) ≡ true
   first_is_covered run runs is =
-      or_left (has run.position (span_of run)) (covered run.position runs)
+      or_left (has run.position (home_span run)) (covered run.position runs)
       (true-has run.position run.position run.count (omega arith) (omega (arith, is.some)))
 
   -- where the first position behind a run is covered by those behind it, and its home bytes are adjacent, it fills a write
@@ -41,7 +41,7 @@ module _ (width : ℕ) (home : ℕ → Option ℕ) where
   fills to p run [] ascend each is behind at apart = absurd cc
   fills to p run (next ∷ runs) ascend each is behind at apart =
       let first = All-head Is next runs each in
-      let begins : next.position ≤ p = elim (or_cases (has p (span_of next)) (covered p runs) is) [
+      let begins : next.position ≤ p = elim (or_cases (has p (home_span next)) (covered p runs) is) [
         | inl here ↦ (has-true p next.position next.count here).0
         | inr later ↦ (let rest = covered_from (next.position + next.count) to p runs ascend.1 (All-tail Is next runs each) later in omega arith)
       ] in
@@ -59,9 +59,9 @@ module _ (width : ℕ) (home : ℕ → Option ℕ) where
       let p : ℕ = run.position + run.count in
       let there : covered p (run ∷ runs) ≡ true =
       same p (omega arith)
-      ∙ or_left (has p (span_of other)) (covered p others)
+      ∙ or_left (has p (home_span other)) (covered p others)
       (true-has p other.position other.count (omega arith) (omega arith)) in
-      let behind : covered p runs ≡ true = elim (or_cases (has p (span_of run)) (covered p runs) there) [
+      let behind : covered p runs ≡ true = elim (or_cases (has p (home_span run)) (covered p runs) there) [
         | inl here ↦ (let b = has-true p run.position run.count here in absurd (omega (arith, b.1)))
         | inr later ↦ later
       ] in
@@ -78,8 +78,8 @@ module _ (width : ℕ) (home : ℕ → Option ℕ) where
       let here : run.place + 0 * width ≡ run.place = omega arith in
       is.adjacent run.position (omega arith) (omega (arith, is.some)) ∙ ap (λ n. Some (run.place + n * width)) none ∙ ap Some here
 
-  not_in : (run : Home) (i : ℕ) → run.position + run.count ≤ i → has i (span_of run) ≡ false
-  not_in run i le = false_from_ne_true (has i (span_of run)) (λ e. let b = has-true i run.position run.count e in omega (arith, b.1))
+  not_in : (run : Home) (i : ℕ) → run.position + run.count ≤ i → has i (home_span run) ≡ false
+  not_in run i le = false_from_ne_true (has i (home_span run)) (λ e. let b = has-true i run.position run.count e in omega (arith, b.1))
 
   one_list : (from to : ℕ) (xs ys : List Home) → AreAscending from to xs → AreAscending from to ys → All Is xs → All Is ys
       → AreGreatest width xs → AreGreatest width ys → ((i : ℕ) → from ≤ i → covered i xs ≡ covered i ys) → xs ≡ ys

@@ -30,7 +30,7 @@ use Rattle.segment_core.proofs.Payload.{length-frame_text}
 use Rattle.segment_core.proofs.Push.{length-text}
 use Rattle.segment_core.proofs.Raw.{IsVectorOf_raw}
 use Rattle.segment_core.proofs.ReadAs.{AreCellsOf_read}
-use Rattle.pen_core.specs.Held.{Holds, gate_of}
+use Rattle.pen_core.specs.Held.{HoldsFrames, gate_of}
 use Rattle.pen_core.specs.Known.{IsFileOf, IsShut}
 use Rattle.pen_core.specs.PenOf.{FoldOf}
 use Rattle.pen_core.specs.Inside.{pen_of, Knows, IsPen}
@@ -147,7 +147,7 @@ module _ {R : Type 0} (format : Format) (form : Encoding R) (front more : List â
       IsVectorOf_begins format (raw form.width) front image found cells begins_front begins
       (IsVectorOf_raw format form front found records back fits begins_front read.read)
 
-  holds : Holds shape frames cells image
+  holds : HoldsFrames shape frames cells image
   holds = record { found = found; alike = refl; begins = begins; read = read_raw }
 
   gate_is : p â‰¡ gate_of shape frames

@@ -7,7 +7,7 @@ use Rattle.segment_core.specs.Blanked.{all_blanked}
 use Rattle.segment_core.specs.Parsed.{frames_before, vector_before}
 use Rattle.segment_core.proofs.Payload.{frame_in-frame_text}
 use Rattle.segment_core.proofs.Parsed.{frames_before-text, vector_before-text}
-use Rattle.pen_core.specs.Held.{Holds, gate_of}
+use Rattle.pen_core.specs.Held.{HoldsFrames, gate_of}
 use Rattle.pen_core.specs.Vectors.{frame_at, blanked_before}
 use Rattle.pen_core.proofs.Again.{gate_behind}
 
@@ -22,7 +22,7 @@ pub record SeenAs (shape : Shape) (gate : ℕ) (frames : List Frame) (vector : L
   pub vector_is : vector_before shape gate bytes ≡ vector
 
 pub seen_as : (shape : Shape) (gate : ℕ) (frames : List Frame) (vector : List (List ℕ)) (bytes : List ℕ)
-    → gate ≡ gate_of shape frames → Holds shape frames vector bytes → SeenAs shape gate frames vector bytes
+    → gate ≡ gate_of shape frames → HoldsFrames shape frames vector bytes → SeenAs shape gate frames vector bytes
 seen_as shape gate frames vector bytes is has =
     let at = is ∙ sym (gate_behind shape has.found frames has.alike) in
     record {

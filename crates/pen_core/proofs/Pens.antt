@@ -13,7 +13,7 @@ use Rattle.segment_core.specs.Blanked.{blanked}
 use Rattle.segment_core.proofs.Push.{text_push, tally_from_push}
 use Rattle.segment_core.proofs.Blanked.{length-frame_text-blanked, after-blanked, tally_from-blanked}
 use Rattle.pen_core.specs.declared.step.Step.{Step}
-use Rattle.pen_core.specs.Held.{Holds, IsBeingFolded, gate_of}
+use Rattle.pen_core.specs.Held.{HoldsFrames, IsBeingFolded, gate_of}
 use Rattle.pen_core.specs.Known.{IsFileOf, IsShut}
 use Rattle.pen_core.specs.Vectors.{frame_at, frames_with}
 use Rattle.segment_core.specs.Raw.{after_frame}
@@ -36,7 +36,7 @@ gate_with shape frames frame =
 
 -- what holds the frames holds as many records
 pub held_size : (shape : Shape) (frames : List Frame) (vector : List (List ℕ)) (bytes : List ℕ)
-    → Holds shape frames vector bytes → (tally_of frames).size ≡ length vector
+    → HoldsFrames shape frames vector bytes → (tally_of frames).size ≡ length vector
 held_size shape frames vector bytes has =
     ap (λ fs. (tally_of fs).size) (sym has.alike) ∙ ap (λ t. t.size) (tally_from-blanked nothing has.found)
     ∙ sym has.read.size

@@ -23,7 +23,7 @@ use Rattle.segment_core.specs.Found.{AreHomesOf}
 use Rattle.segment_core.specs.Scanned.{IsScanOf}
 use Rattle.segment_core.specs.Scanner.{IsFed, IsLost, IsDecided, IsCutShort}
 use Rattle.segment_core.proofs.Fed.{fed_at, next_part}
-use Rattle.pen_core.specs.Opening.{HasTaken, HasRead, HasReadDisk, IsFoundOn, OnlySyncs, IsOpenRefusal, IsReadFault, AreCallsMadeBy, AreNeeded, AreReadsMade, calls_by, reads_of, pieces_front}
+use Rattle.pen_core.specs.Opening.{HasTaken, HasScanned, HasReadDisk, IsFoundOn, OnlySyncs, IsOpenRefusal, IsReadFault, AreCallsMadeBy, AreNeeded, AreReadsMade, calls_by, reads_of, pieces_front}
 use Rattle.pen_core.specs.declared.fault.OpenFault.{OpenFault}
 use Rattle.pen_core.specs.declared.fault.OpenFault.TheVariants.{Scan, Disk}
 use Rattle.pen_core.proofs.Births.{stays_only}
@@ -288,7 +288,7 @@ module _ (piece len n : ℕ) where
 module _ {R : Type 0} (form : Encoding R) (keeps : Type 0) (bytes : List ℕ) (len at : ℕ) (scanner : Scanner R)
     (taken : HasTaken form keeps bytes at scanner) (inside : at ≤ len) (short : len < 2 ^ 64) where
   -- all of it
-  pub read_all : len ≤ at → HasRead form keeps bytes len scanner
+  pub read_all : len ≤ at → HasScanned form keeps bytes len scanner
   read_all past = record {
     image = taken.image;
     inside = omega (arith, taken.size);
@@ -306,7 +306,7 @@ module _ {R : Type 0} (form : Encoding R) (keeps : Type 0) (bytes : List ℕ) (l
       nil_of (b ∷ more) none = absurd (omega arith)
 
   -- as much as tells the answer
-  pub read_enough : ((image more : List ℕ) → IsFed form image scanner → IsFed form (image ++ more) scanner) → HasRead form keeps bytes len scanner
+  pub read_enough : ((image more : List ℕ) → IsFed form image scanner → IsFed form (image ++ more) scanner) → HasScanned form keeps bytes len scanner
   read_enough decided = record {
     image = taken.image;
     inside = omega (arith, taken.size);
@@ -351,7 +351,7 @@ front_parts m n bytes more le =
 
 -- all of them were taken in, or as good as
 pub fed_front : {R : Type 0} (form : Encoding R) (keeps : Type 0) (bytes : List ℕ) (len : ℕ) (scanner : Scanner R)
-    → keeps → len ≤ length bytes → HasRead form keeps bytes len scanner → IsFed form (take len bytes) scanner
+    → keeps → len ≤ length bytes → HasScanned form keeps bytes len scanner → IsFed form (take len bytes) scanner
 fed_front form keeps bytes len scanner model long read =
     let rest = drop (length read.image) (take len bytes) in
     let whole : read.image ++ rest ≡ take len bytes =

@@ -5,7 +5,7 @@ use Rattle.std.proofs.lemmas.Bool.{false_from_ne_true}
 use Rattle.std.proofs.lemmas.List.Folds.{list_any-append}
 use Rattle.segment_core.specs.declared.found.Home.{Home}
 use Rattle.pen_core.specs.Covered.{has, covers}
-use Rattle.pen_core.specs.HomeRuns.{span_of, positions_in, positions_at, AreHomeRuns}
+use Rattle.pen_core.specs.HomeRuns.{home_span, positions_in, positions_at, AreHomeRuns}
 use Rattle.pen_core.proofs.Covers.{has-true, has-longer}
 
 abbrev is_at : ℕ → ℕ → Bool
@@ -28,13 +28,13 @@ in_positions i (run ∷ runs) =
     ∙ ap (λ b. b || list_any (is_at i) (positions_in runs)) (in_range i run.0 run.1)
     ∙ ap (λ b. has i run || b) (in_positions i runs)
 
-in_positions_at : (i : ℕ) (runs : List Home) → list_any (is_at i) (positions_at runs) ≡ covers i (map span_of runs)
+in_positions_at : (i : ℕ) (runs : List Home) → list_any (is_at i) (positions_at runs) ≡ covers i (map home_span runs)
 in_positions_at i [] = refl
 in_positions_at i (run ∷ runs) =
     list_any-append (is_at i) (range_with_len run.position run.count) (positions_at runs)
     ∙ ap (λ b. b || list_any (is_at i) (positions_at runs)) (in_range i run.position run.count)
-    ∙ ap (λ b. has i (span_of run) || b) (in_positions_at i runs)
+    ∙ ap (λ b. has i (home_span run) || b) (in_positions_at i runs)
 
 pub covers-home_runs : (width size : ℕ) (homes : List Home) (cover : List (ℕ × ℕ)) (runs : List Home) (i : ℕ)
-    → AreHomeRuns width size homes cover runs → covers i (map span_of runs) ≡ covers i cover
+    → AreHomeRuns width size homes cover runs → covers i (map home_span runs) ≡ covers i cover
 covers-home_runs width size homes cover runs i are = sym (in_positions_at i runs) ∙ ap (list_any (is_at i)) are.positions_are ∙ in_positions i cover

@@ -13,7 +13,7 @@ use Rattle.segment_core.specs.Frame.{Frame}
 use Rattle.pen_core.specs.declared.step.Step.{Step}
 use Rattle.pen_core.specs.declared.step.Step.TheVariants.{Body, BodySync, Gate, GateSync}
 use Rattle.pen_core.specs.Step.{step_after, body_of, Calls, FailsCall}
-use Rattle.pen_core.specs.Held.{Holds, gate_of}
+use Rattle.pen_core.specs.Held.{HoldsFrames, gate_of}
 use Rattle.pen_core.specs.Known.{IsFileOf, IsShut, IsBeforeOrAfter}
 use Rattle.pen_core.specs.Inside.{IsAtStep}
 use Rattle.pen_core.proofs.Held.{covered_inside, images_shut, images_open}
@@ -25,7 +25,7 @@ IsOpening step = (step ≡ Gate) ⊎ (step ≡ GateSync)
 
 -- a failed write behind the gate or at it leaves the file
 torn_file : (shape : Shape) (count : ℕ) (frames : List Frame) (vector : List (List ℕ)) (at len : ℕ) (s left : State)
-    → IsFileOf shape count frames vector s → IsTornWrite at len s left → Holds shape frames vector left.seen
+    → IsFileOf shape count frames vector s → IsTornWrite at len s left → HoldsFrames shape frames vector left.seen
     → gate_of shape frames ≤ at
     → IsFileOf shape count frames vector left
 torn_file shape count frames vector at len s left file torn holds past = record {

@@ -19,7 +19,7 @@ use Rattle.pen_core.specs.declared.stage.Ticked.TheVariants as ticks
 use Rattle.pen_core.specs.declared.stage.HomeTicked.TheVariants as home_ticks
 use Rattle.pen_core.specs.Held.{IsBeingFolded, early_of}
 use Rattle.pen_core.specs.PenOf.{PenOf, JobOf, FoldOf, HomeWrite}
-use Rattle.pen_core.specs.Pen.{MayBePending, LogTickCalls, LogTickFails, HomeTickCalls, HomesCalled, IsFiled, IsWaiting, CountsDone, FileGains, fold_stage}
+use Rattle.pen_core.specs.Pen.{MayBePending, LogTickCalls, LogTickFails, HomeTickCalls, HomesCalled, FilesFold, IsWaiting, CountsDone, FileGains, fold_stage}
 use Rattle.pen_core.proofs.Pens.{tally_with}
 
 abbrev shape : Shape
@@ -168,7 +168,7 @@ the_last_write old new is = is.fold_is
 the_sync : (old new : PenOf (Unit {0})) → HomesCalled (a_fold 1 Sync) old new → fold_stage new.fold ≡ Ready
 the_sync old new is = ap fold_stage is.fold_is
 
-filed : (old new : PenOf (Unit {0})) (fold : FoldOf) → IsFiled fold old new → (fold_stage old.fold ≡ Ready) × (fold_stage new.fold ≡ Filed)
+filed : (old new : PenOf (Unit {0})) (fold : FoldOf) → FilesFold fold old new → (fold_stage old.fold ≡ Ready) × (fold_stage new.fold ≡ Filed)
 filed old new fold is = (ap fold_stage is.fold_was ∙ is.ready, ap fold_stage is.fold_is)
 
 -- where a fold waits, there is a job

@@ -11,7 +11,7 @@ use Rattle.segment_core.specs.Tally.{tally_of}
 use Rattle.segment_core.specs.Vector.{home_of, change_of}
 use Rattle.pen_core.specs.Covered.{covers}
 use Rattle.pen_core.specs.Held.{IsBeingFolded, gate_of}
-use Rattle.pen_core.specs.HomeRuns.{span_of, AreRuns}
+use Rattle.pen_core.specs.HomeRuns.{home_span, AreGreatestRuns}
 use Rattle.pen_core.specs.PenOf.{HomeWrite}
 use Rattle.pen_core.specs.Values.{writes_for}
 
@@ -37,5 +37,5 @@ pub record IsFolding (shape : Shape) (count : ℕ) (frames : List Frame) (vector
 pub record IsWholeFold (shape : Shape) (frames : List Frame) (vector : List (List ℕ)) (left : List HomeWrite) : Type 0 where
   pub runs : List Home
   pub writes_are : left ≡ writes_for (raw shape.width) vector runs
-  pub covered : (i : ℕ) → covers i (map span_of runs) ≡ is_some (change_of shape (tally_of frames).folded frames i)
-  pub runs_are : AreRuns shape.width (home_of shape frames) (tally_of frames).size runs
+  pub covered : (i : ℕ) → covers i (map home_span runs) ≡ is_some (change_of shape (tally_of frames).folded frames i)
+  pub runs_are : AreGreatestRuns shape.width (home_of shape frames) (tally_of frames).size runs

@@ -16,7 +16,7 @@ pub record Opens (shape : Shape) (frames : List Frame) (vector : List (List ℕ)
   pub opened : HasVector shape.format (raw shape.width) image found vector
 
 -- The bytes begin with such frames, which leave this vector; anything may follow.
-pub record Holds (shape : Shape) (frames : List Frame) (vector : List (List ℕ)) (bytes : List ℕ) : Type 0 where
+pub record HoldsFrames (shape : Shape) (frames : List Frame) (vector : List (List ℕ)) (bytes : List ℕ) : Type 0 where
   pub found : List Frame
   pub alike : all_blanked found ≡ frames
   pub begins : BeginsImage shape bytes found

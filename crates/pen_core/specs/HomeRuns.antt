@@ -17,8 +17,8 @@ abbrev pub positions_at : List Home → List ℕ
 positions_at homes = flat_map (λ home. range_with_len home.position home.count) homes
 
 -- the first position of a run, and how many it has
-abbrev pub span_of : Home → ℕ × ℕ
-span_of run = (run.position, run.count)
+abbrev pub home_span : Home → ℕ × ℕ
+home_span run = (run.position, run.count)
 
 -- each position below the size has one home, whose bytes keep within the limit on gates; positions behind them may
 -- have homes too
@@ -59,7 +59,7 @@ AreGreatest width [] = Unit {0}
 AreGreatest width (run ∷ runs) = IsApartFrom width run runs × AreGreatest width runs
 
 -- the greatest runs, in ascending order, up to this position
-pub record AreRuns (width : ℕ) (home : ℕ → Option ℕ) (to : ℕ) (runs : List Home) : Type 0 where
+pub record AreGreatestRuns (width : ℕ) (home : ℕ → Option ℕ) (to : ℕ) (runs : List Home) : Type 0 where
   pub ascend : AreAscending 0 to runs
   pub each : All (IsHomeRun width home) runs
   pub greatest : AreGreatest width runs
@@ -77,4 +77,4 @@ behind width run n = record { position = run.position + n; place = run.place + n
 -- just the positions of the cover, in order, in the greatest runs
 pub record AreHomeRuns (width size : ℕ) (homes : List Home) (cover : List (ℕ × ℕ)) (runs : List Home) : Type 0 where
   pub positions_are : positions_at runs ≡ positions_in cover
-  pub runs_are : AreRuns width (home_among width homes) size runs
+  pub runs_are : AreGreatestRuns width (home_among width homes) size runs

@@ -77,12 +77,12 @@ home_fault stage = cause_due (due_at stage [])
 abbrev pub has_call : FoldStage → Bool
 has_call stage = is_some (due_at stage [])
 
-abbrev pub is_unfolded : FoldStage → Bool
-is_unfolded stages.None = true
-is_unfolded (Home n) = false
-is_unfolded Sync = false
-is_unfolded Ready = false
-is_unfolded Filed = false
+abbrev pub is_without_fold : FoldStage → Bool
+is_without_fold stages.None = true
+is_without_fold (Home n) = false
+is_without_fold Sync = false
+is_without_fold Ready = false
+is_without_fold Filed = false
 
 -- what comes next once it succeeded, how many writes are done, and which are left
 abbrev pub stage_after : FoldStage → FoldStage

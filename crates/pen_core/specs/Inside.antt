@@ -10,7 +10,7 @@ use Rattle.segment_core.specs.Tally.{after, tally_of, MayFollow}
 use Rattle.pen_core.specs.declared.step.Step.{Step}
 use Rattle.pen_core.specs.declared.step.Step.TheVariants.{Body, BodySync, Gate, GateSync}
 use Rattle.pen_core.specs.Step.{body_of}
-use Rattle.pen_core.specs.Held.{Holds, gate_of}
+use Rattle.pen_core.specs.Held.{HoldsFrames, gate_of}
 use Rattle.pen_core.specs.Known.{PendingIsFolded, IsFileOf, IsShut, IsWritten, IsOnDisk}
 use Rattle.pen_core.specs.Vectors.{frame_at, blanked_before, frames_with}
 use Rattle.segment_core.specs.Raw.{after_frame}
@@ -61,7 +61,7 @@ pub record IsBodyOf (shape : Shape) (count gate : ℕ) (frames next : List Frame
   pub size : gate_of shape next ≡ gate + length body
   pub closed : slice_index body (length body - 1) ≢ 1
   pub pending_is_folded : PendingIsFolded shape count frames next s
-  pub holds : Holds shape next after (overlay (overlay s.seen (gate + 1) body) gate (1 ∷ []))
+  pub holds : HoldsFrames shape next after (overlay (overlay s.seen (gate + 1) body) gate (1 ∷ []))
 
 -- how far the job's frame is, by the call that comes next
 abbrev pub IsAtStep : Shape → ℕ → ℕ → List Frame → List Frame → List (List ℕ) → List ℕ → Step → State → Type 0

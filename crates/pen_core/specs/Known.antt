@@ -4,7 +4,7 @@ use Rattle.std.specs.Prelude.{◌≡◌, ◌≢◌, ℕ, ◌<◌, ◌≤◌, Lis
 use Rattle.disk_core.specs.State.{State, is_within, overlay}
 use Rattle.segment_core.specs.declared.format.Shape.{Shape}
 use Rattle.segment_core.specs.Frame.{Frame}
-use Rattle.pen_core.specs.Held.{Opens, Holds, IsBeingFolded, gate_of}
+use Rattle.pen_core.specs.Held.{Opens, HoldsFrames, IsBeingFolded, gate_of}
 
 -- what is pending below the gate of some frames is being folded, also under these
 abbrev pub PendingIsFolded : Shape → ℕ → List Frame → List Frame → State → Type 0
@@ -12,7 +12,7 @@ PendingIsFolded shape count frames next s = (j : ℕ) → j < gate_of shape fram
 
 -- what stands up to the gate
 pub record IsFileOf (shape : Shape) (count : ℕ) (frames : List Frame) (vector : List (List ℕ)) (s : State) : Type 0 where
-  pub holds : Holds shape frames vector s.seen
+  pub holds : HoldsFrames shape frames vector s.seen
   pub gate_synced : gate_of shape frames < length s.synced
   pub pending_is_folded : PendingIsFolded shape count frames frames s
 
@@ -24,7 +24,7 @@ pub record IsShut (gate : ℕ) (s : State) : Type 0 where
 -- The job's frame is written behind the gate: with the gate open the file would be the next.
 pub record IsWritten (shape : Shape) (count : ℕ) (frames next : List Frame) (after : List (List ℕ)) (s : State) : Type 0 where
   pub longer : gate_of shape frames < gate_of shape next
-  pub holds : Holds shape next after (overlay s.seen (gate_of shape frames) (1 ∷ []))
+  pub holds : HoldsFrames shape next after (overlay s.seen (gate_of shape frames) (1 ∷ []))
   pub closed : slice_index s.seen (gate_of shape next) ≢ 1
   pub inside : gate_of shape next < length s.seen
   pub pending_is_folded : PendingIsFolded shape count frames next s

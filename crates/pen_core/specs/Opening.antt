@@ -69,7 +69,7 @@ pub record HasTaken {R : Type 0} (form : Encoding R) (keeps : Type 0) (bytes : L
 
 -- The scanner has taken in what was read of so many bytes: all, or as many as tell the answer, whatever follows them.
 -- Where the disk keeps the model, they are the first of these.
-pub record HasRead {R : Type 0} (form : Encoding R) (keeps : Type 0) (bytes : List ℕ) (len : ℕ) (scanner : Scanner R) : Type 0 where
+pub record HasScanned {R : Type 0} (form : Encoding R) (keeps : Type 0) (bytes : List ℕ) (len : ℕ) (scanner : Scanner R) : Type 0 where
   pub image : List ℕ
   pub inside : length image ≤ len
   pub short : len < 2 ^ 64
@@ -82,7 +82,7 @@ pub record HasRead {R : Type 0} (form : Encoding R) (keeps : Type 0) (bytes : Li
 -- on the disk.
 pub record HasReadDisk {R : Type 0} (form : Encoding R) (keeps : Type 0) (bytes : List ℕ) (states : List State) (scanner : Scanner R) : Type 0 where
   pub len : ℕ
-  pub read : HasRead form keeps bytes len scanner
+  pub read : HasScanned form keeps bytes len scanner
   pub long : keeps → len ≡ length bytes
   pub on_disk : keeps → now states ≡ settled bytes
 

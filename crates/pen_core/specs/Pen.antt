@@ -192,7 +192,7 @@ pub record HomesCalled {D : Type 0} (fold : FoldOf) (old new : PenOf D) : Type 0
   pub places_same : new.places ≡ old.places
 
 -- the frame of a fold whose homes are on the disk is the log job
-pub record IsFiled {D : Type 0} (fold : FoldOf) (old new : PenOf D) : Type 0 where
+pub record FilesFold {D : Type 0} (fold : FoldOf) (old new : PenOf D) : Type 0 where
   pub fold_was : old.fold ≡ Some fold
   pub ready : fold.stage ≡ folds.Ready
   pub idle : old.job ≡ None
@@ -215,7 +215,7 @@ pub record IsWaiting {D : Type 0} (fold : FoldOf) (old new : PenOf D) : Type 0 w
 abbrev pub IsHomeTicked : {D : Type 0} → PenOf D → PenOf D → HomeTicked → Type 0
 IsHomeTicked old new home_ticks.Idle = (old.fold ≡ None) × (new ≡ old)
 IsHomeTicked old new home_ticks.Step = (fold : FoldOf) × (has_call fold.stage ≡ true) × HomesCalled fold old new
-IsHomeTicked old new home_ticks.Filed = (fold : FoldOf) × IsFiled fold old new
+IsHomeTicked old new home_ticks.Filed = (fold : FoldOf) × FilesFold fold old new
 IsHomeTicked old new home_ticks.Waiting = (fold : FoldOf) × IsWaiting fold old new
 
 -- what a tick makes of the disk: what the call does that is due, the first write that is left, or their sync; else it

@@ -8,7 +8,7 @@ ghost use Rattle.pen_core.specs.Plan.{IsPlan};
 ghost use Rattle.disk_core.specs.Calls.{bytes_of};
 ghost use Rattle.disk_core.specs.Moments.{clock};
 ghost use Rattle.disk_core.specs.Fault.{IsCounted};
-ghost use Rattle.pen_core.specs.InHand.{fold_of, left_of, HomeCalls, FailsHomeCall, home_fault, advanced, CanCall, has_call, is_unfolded, stage_ended, live_after};
+ghost use Rattle.pen_core.specs.InHand.{fold_of, left_of, HomeCalls, FailsHomeCall, home_fault, advanced, CanCall, has_call, is_without_fold, stage_ended, live_after};
 ghost use Rattle.pen_core.specs.Refusals.{fold_len};
 
 use crate::covered::cover;
@@ -88,7 +88,7 @@ impl Fold {
 
     /// Whether none is in hand.
     pub(crate) fn is_none(&self) -> bool
-        ensures { result ≡ is_unfolded self.now.stage }
+        ensures { result ≡ is_without_fold self.now.stage }
     {
         matches!(self.stage, FoldStage::None)
     }

@@ -4,7 +4,7 @@ ghost use Rattle.std.specs.Prelude.{◌≡◌, ◌≤◌, ◌<◌, ◌+◌, ◌-
 ghost use Rattle.std.specs.List.{range_with_len};
 ghost use Rattle.segment_core.specs.Found.{home_among};
 ghost use Rattle.pen_core.specs.Covered.{StandApart};
-ghost use Rattle.pen_core.specs.HomeRuns.{positions_at, AreHomesTo, IsAdjacent, AreGreatest, AreRuns, IsBounded, behind, AreHomeRuns};
+ghost use Rattle.pen_core.specs.HomeRuns.{positions_at, AreHomesTo, IsAdjacent, AreGreatest, AreGreatestRuns, IsBounded, behind, AreHomeRuns};
 
 use segment_core::Home;
 use std::alloc::{AllocError, Global};
@@ -29,7 +29,7 @@ fn lengthen_last(part: Home, width: u64, runs: &mut [Home]) -> u64
     requires bounded { All (IsBounded width) runs.old }
     ensures some { result ≤ part.count }
     ensures positions { positions_at runs.new ≡ positions_at runs.old ++ range_with_len part.position result }
-    ensures runs { (home : ℕ → Option ℕ) → IsAdjacent width home part → AreRuns width home part.position runs.old → AreRuns width home (part.position + result) runs.new }
+    ensures runs { (home : ℕ → Option ℕ) → IsAdjacent width home part → AreGreatestRuns width home part.position runs.old → AreGreatestRuns width home (part.position + result) runs.new }
     ensures next { AreGreatest width runs.old → result < part.count → AreGreatest width (runs.new ++ behind width part result ∷ []) }
 {
     let Some(last) = runs.last_mut() else {
@@ -52,7 +52,7 @@ fn append_part(part: Home, width: u64, runs: &mut Vec<Home>) -> Result<(), Alloc
     requires short { part.position + part.count ≤ 2 ^ 32 }
     requires placed { 0 < part.count → part.place + part.count * width ≤ 2 ^ 48 }
     ensures positions { OnOk result (positions_at runs.new.items ≡ positions_at runs.old.items ++ range_with_len part.position part.count) }
-    ensures runs { OnOk result ((home : ℕ → Option ℕ) → IsAdjacent width home part → AreRuns width home part.position runs.old.items → AreRuns width home (part.position + part.count) runs.new.items) }
+    ensures runs { OnOk result ((home : ℕ → Option ℕ) → IsAdjacent width home part → AreGreatestRuns width home part.position runs.old.items → AreGreatestRuns width home (part.position + part.count) runs.new.items) }
 {
     let mut done = lengthen_last(part, width, runs);
     while done < part.count {
@@ -79,9 +79,9 @@ fn append_run(
     requires homes { AreHomesTo width size homes.now }
     requires some { from < to }
     requires inside { to ≤ size }
-    requires runs { AreRuns width (home_among width homes.now) from runs.old.items }
+    requires runs { AreGreatestRuns width (home_among width homes.now) from runs.old.items }
     ensures positions { OnOk result (positions_at runs.new.items ≡ positions_at runs.old.items ++ range_with_len from (to - from)) }
-    ensures runs { OnOk result (AreRuns width (home_among width homes.now) to runs.new.items) }
+    ensures runs { OnOk result (AreGreatestRuns width (home_among width homes.now) to runs.new.items) }
 {
     let mut at = from;
     for k in home_at(homes, from, size, width)..homes.len() {

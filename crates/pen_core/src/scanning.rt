@@ -7,7 +7,7 @@ ghost use Rattle.disk_core.specs.Moments.{LeavesOnly, clock};
 ghost use Rattle.record_core.specs.Bytes.{IsBytes};
 ghost use Rattle.segment_core.specs.Scanned.{IsScanOf};
 ghost use Rattle.segment_core.specs.Scanner.{IsFed, IsLost};
-ghost use Rattle.pen_core.specs.Opening.{OnlySyncs, IsOpenRefusal, IsReadFault, HasTaken, HasRead, HasReadDisk, IsFoundOn, failed_openings, reads_of, AreCallsDoneBy, AreCallsMadeBy, AreNeeded, AreReadsMade};
+ghost use Rattle.pen_core.specs.Opening.{OnlySyncs, IsOpenRefusal, IsReadFault, HasTaken, HasScanned, HasReadDisk, IsFoundOn, failed_openings, reads_of, AreCallsDoneBy, AreCallsMadeBy, AreNeeded, AreReadsMade};
 
 use crate::fault::OpenFault;
 use disk_core::{Disk, DiskFault};
@@ -69,7 +69,7 @@ fn feed_all<D: Disk, R: Record>(
     requires some { 0 < length piece.old }
     requires length { D.keeps disk.old → len ≤ length (bytes_of (D.states disk.old)) }
     requires begun { IsFed R.form [] scanner.old }
-    ensures read { OnOk result (HasRead R.form (D.keeps disk.new) (bytes_of (D.states disk.old)) len scanner.new) }
+    ensures read { OnOk result (HasScanned R.form (D.keeps disk.new) (bytes_of (D.states disk.old)) len scanner.new) }
     ensures refused { D.keeps disk.new → IfErr result (λ fault. (more : List ℕ)
         → IsOpenRefusal R.form (take len (bytes_of (D.states disk.old)) ++ more) fault) }
     ensures same { D.keeps disk.new → now (D.states disk.new) ≡ now (D.states disk.old) }

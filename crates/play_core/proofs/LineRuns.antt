@@ -9,7 +9,7 @@ use Rattle.text_core.specs.Text.{Spelling, AreWords, HasOneValue}
 use Rattle.text_core.specs.Numbers.{number_spelling, one_decimal}
 use Rattle.play_core.specs.LineWords.{StartsWithNone}
 use Rattle.drive_core.specs.Given.{pieces_of}
-use Rattle.play_core.specs.LineRuns.{IsRun, IsPushed, AreRuns, run_words, barred_words, runs_words}
+use Rattle.play_core.specs.LineRuns.{IsLineRun, IsPushed, AreLineRuns, run_words, barred_words, runs_words}
 use Rattle.text_core.proofs.Small.{push_all}
 use Rattle.text_core.proofs.Joins.{not_bar}
 
@@ -43,7 +43,7 @@ same_records spelling (r ∷ rs) (s ∷ ss) t u one values others none free is =
 
 -- the first word is no number
 pub no_number_first : {R : Type 0} (spelling : Spelling R) (words tail : List (List ℕ)) (run : ℕ × List R) → StartsWithNone (number_spelling 64) words
-    → IsRun spelling run → words ≢ run_words spelling.text_of run ++ tail
+    → IsLineRun spelling run → words ≢ run_words spelling.text_of run ++ tail
 no_number_first spelling words tail run none so is = none run.0 (map spelling.text_of run.1 ++ tail) so.small is
 
 no_record_here : {R : Type 0} (spelling : Spelling R) (words tail : List (List ℕ)) (records : List R) → 0 < length records
@@ -53,11 +53,11 @@ no_record_here spelling words tail (r ∷ records) some values none is = none r 
 
 -- a number, and no record behind it
 pub no_record_behind : {R : Type 0} (spelling : Spelling R) (words left tail : List (List ℕ)) (n : ℕ) (run : ℕ × List R) → words ≡ decimal n ∷ left
-    → StartsWithNone spelling left → IsRun spelling run → words ≢ run_words spelling.text_of run ++ tail
+    → StartsWithNone spelling left → IsLineRun spelling run → words ≢ run_words spelling.text_of run ++ tail
 no_record_behind spelling words left tail n run cut none so is =
     no_record_here spelling left tail run.1 so.some so.values none (tail_is (decimal n) (decimal run.0) left (map spelling.text_of run.1 ++ tail) (sym cut ∙ is))
 
-same_run : {R : Type 0} (spelling : Spelling R) (a b : ℕ × List R) (t u : List (List ℕ)) → HasOneValue spelling → IsRun spelling a → IsRun spelling b
+same_run : {R : Type 0} (spelling : Spelling R) (a b : ℕ × List R) (t u : List (List ℕ)) → HasOneValue spelling → IsLineRun spelling a → IsLineRun spelling b
     → StartsWithNone spelling t → StartsWithNone spelling u
     → run_words spelling.text_of a ++ t ≡ run_words spelling.text_of b ++ u → (a ≡ b) × (t ≡ u)
 same_run spelling a b t u one of_a of_b none free is =
@@ -72,7 +72,7 @@ none_of_nothing spelling r more value is = cc is
 
 -- more stands behind a run than its records
 pub more_behind : {R : Type 0} (spelling : Spelling R) (words left : List (List ℕ)) (run other : ℕ × List R) → HasOneValue spelling
-    → words ≡ run_words spelling.text_of run ++ left → left ≢ [] → IsRun spelling run → StartsWithNone spelling left → IsRun spelling other
+    → words ≡ run_words spelling.text_of run ++ left → left ≢ [] → IsLineRun spelling run → StartsWithNone spelling left → IsLineRun spelling other
     → words ≢ run_words spelling.text_of other
 more_behind spelling words left run other one cut some so none so_other is =
     some (same_run spelling run other left [] one so so_other none (none_of_nothing spelling) (sym cut ∙ is ∙ sym (append-nil (run_words spelling.text_of other)))).1
@@ -89,17 +89,17 @@ none_of_bars spelling (run ∷ runs) law =
 pub record Ahead {R : Type 0} (spelling : Spelling R) (done all : List (ℕ × List R)) (left : List (List ℕ)) : Type 0 where
   pub others : List (ℕ × List R)
   pub parts : all ≡ done ++ others
-  pub each : AllByRecursion (IsRun spelling) others
+  pub each : AllByRecursion (IsLineRun spelling) others
   pub words_are : left ≡ flat_map (barred_words spelling.text_of) others
 
 -- these runs are read, and these words are left
 pub record HasRuns {R : Type 0} (spelling : Spelling R) (words : List (List ℕ)) (done : List (ℕ × List R)) (left : List (List ℕ)) : Type 0 where
-  pub runs : AreRuns spelling done
+  pub runs : AreLineRuns spelling done
   pub so_far : words ≡ runs_words spelling.text_of done ++ left
-  pub only : (all : List (ℕ × List R)) → AreRuns spelling all → words ≡ runs_words spelling.text_of all → Ahead spelling done all left
+  pub only : (all : List (ℕ × List R)) → AreLineRuns spelling all → words ≡ runs_words spelling.text_of all → Ahead spelling done all left
 
 start_ahead : {R : Type 0} (spelling : Spelling R) (words left : List (List ℕ)) (run : ℕ × List R) (all : List (ℕ × List R)) → AreWords spelling
-    → HasOneValue spelling → IsRun spelling run → StartsWithNone spelling left → words ≡ run_words spelling.text_of run ++ left → AreRuns spelling all
+    → HasOneValue spelling → IsLineRun spelling run → StartsWithNone spelling left → words ≡ run_words spelling.text_of run ++ left → AreLineRuns spelling all
     → words ≡ runs_words spelling.text_of all → Ahead spelling (run ∷ []) all left
 start_ahead spelling words left run [] law one so none cut are is = let some = are.some in absurd (omega (arith, some))
 start_ahead spelling words left run (other ∷ more) law one so none cut are is =
@@ -107,7 +107,7 @@ start_ahead spelling words left run (other ∷ more) law one so none cut are is 
     record { others = more; parts = ap (λ r. r ∷ more) (sym same.0); each = are.each.1; words_are = same.1 }
 
 pub HasRuns_start : {R : Type 0} (spelling : Spelling R) (words left : List (List ℕ)) (run : ℕ × List R) → AreWords spelling → HasOneValue spelling
-    → IsRun spelling run → StartsWithNone spelling left → words ≡ run_words spelling.text_of run ++ left → HasRuns spelling words (run ∷ []) left
+    → IsLineRun spelling run → StartsWithNone spelling left → words ≡ run_words spelling.text_of run ++ left → HasRuns spelling words (run ∷ []) left
 HasRuns_start spelling words left run law one so none cut = record {
   runs = record { some = omega arith; each = (so, tt) };
   so_far = cut ∙ ap (λ (ws : List (List ℕ)). ws ++ left) (sym (append-nil (run_words spelling.text_of run)));
@@ -129,8 +129,8 @@ words_more spelling (first ∷ done) run left some =
 
 -- behind a bar
 ahead_behind : {R : Type 0} (spelling : Spelling R) (word : List ℕ) (behind : List (List ℕ)) (others : List (ℕ × List R))
-    → AllByRecursion (IsRun spelling) others → word ∷ behind ≡ flat_map (barred_words spelling.text_of) others
-    → (run : ℕ × List R) × (more : List (ℕ × List R)) × (others ≡ run ∷ more) × IsRun spelling run × AllByRecursion (IsRun spelling) more
+    → AllByRecursion (IsLineRun spelling) others → word ∷ behind ≡ flat_map (barred_words spelling.text_of) others
+    → (run : ℕ × List R) × (more : List (ℕ × List R)) × (others ≡ run ∷ more) × IsLineRun spelling run × AllByRecursion (IsLineRun spelling) more
     × (word ≡ codes "|") × (behind ≡ run_words spelling.text_of run ++ flat_map (barred_words spelling.text_of) more)
 ahead_behind spelling word behind [] each is = cc is
 ahead_behind spelling word behind (run ∷ more) each is =
@@ -139,7 +139,7 @@ ahead_behind spelling word behind (run ∷ more) each is =
 
 more_ahead : {R : Type 0} (spelling : Spelling R) (done all : List (ℕ × List R)) (word : List ℕ) (left behind after : List (List ℕ))
     (run : ℕ × List R)
-    → AreWords spelling → HasOneValue spelling → left ≡ word ∷ behind → IsRun spelling run → StartsWithNone spelling after
+    → AreWords spelling → HasOneValue spelling → left ≡ word ∷ behind → IsLineRun spelling run → StartsWithNone spelling after
     → behind ≡ run_words spelling.text_of run ++ after
     → Ahead spelling done all left → Ahead spelling (done ++ run ∷ []) all after
 more_ahead spelling done all word left behind after run law one cut so none read ahead =
@@ -154,13 +154,13 @@ more_ahead spelling done all word left behind after run law one cut so none read
 
 pub HasRuns_more : {R : Type 0} (spelling : Spelling R) (words : List (List ℕ)) (done : List (ℕ × List R)) (word : List ℕ)
     (left behind after : List (List ℕ)) (run : ℕ × List R)
-    → AreWords spelling → HasOneValue spelling → left ≡ word ∷ behind → word ≡ codes "|" → IsRun spelling run → StartsWithNone spelling after
+    → AreWords spelling → HasOneValue spelling → left ≡ word ∷ behind → word ≡ codes "|" → IsLineRun spelling run → StartsWithNone spelling after
     → behind ≡ run_words spelling.text_of run ++ after
     → HasRuns spelling words done left → HasRuns spelling words (done ++ run ∷ []) after
 HasRuns_more spelling words done word left behind after run law one cut bar so none read before = record {
   runs = record {
     some = let len = length-append done (run ∷ []) in omega (arith, len);
-    each = push_all (IsRun spelling) done run before.runs.each so;
+    each = push_all (IsLineRun spelling) done run before.runs.each so;
   };
   so_far =
       before.so_far
@@ -183,20 +183,20 @@ HasRuns_next spelling words old new word left behind after law one cut bar so be
 -- ---- no runs
 
 pub no_bar : {R : Type 0} (spelling : Spelling R) (words : List (List ℕ)) (done all : List (ℕ × List R)) (word : List ℕ) (left behind : List (List ℕ))
-    → left ≡ word ∷ behind → word ≢ codes "|" → HasRuns spelling words done left → AreRuns spelling all → words ≢ runs_words spelling.text_of all
+    → left ≡ word ∷ behind → word ≢ codes "|" → HasRuns spelling words done left → AreLineRuns spelling all → words ≢ runs_words spelling.text_of all
 no_bar spelling words done all word left behind cut other so are is =
     let ahead = so.only all are is in other (ahead_behind spelling word behind ahead.others ahead.each (sym cut ∙ ahead.words_are)).5
 
 pub no_run : {R : Type 0} (spelling : Spelling R) (words : List (List ℕ)) (done all : List (ℕ × List R)) (word : List ℕ) (left behind : List (List ℕ))
-    → left ≡ word ∷ behind → ((run : ℕ × List R) (tail : List (List ℕ)) → IsRun spelling run → behind ≢ run_words spelling.text_of run ++ tail)
-    → HasRuns spelling words done left → AreRuns spelling all → words ≢ runs_words spelling.text_of all
+    → left ≡ word ∷ behind → ((run : ℕ × List R) (tail : List (List ℕ)) → IsLineRun spelling run → behind ≢ run_words spelling.text_of run ++ tail)
+    → HasRuns spelling words done left → AreLineRuns spelling all → words ≢ runs_words spelling.text_of all
 no_run spelling words done all word left behind cut none so are is =
     let ahead = so.only all are is in
     let next = ahead_behind spelling word behind ahead.others ahead.each (sym cut ∙ ahead.words_are) in
     none next.0 (flat_map (barred_words spelling.text_of) next.1) next.3 next.6
 
 pub no_first : {R : Type 0} (spelling : Spelling R) (words : List (List ℕ)) (all : List (ℕ × List R))
-    → ((run : ℕ × List R) (tail : List (List ℕ)) → IsRun spelling run → words ≢ run_words spelling.text_of run ++ tail) → AreRuns spelling all
+    → ((run : ℕ × List R) (tail : List (List ℕ)) → IsLineRun spelling run → words ≢ run_words spelling.text_of run ++ tail) → AreLineRuns spelling all
     → words ≢ runs_words spelling.text_of all
 no_first spelling words [] none are is = let some = are.some in absurd (omega (arith, some))
 no_first spelling words (run ∷ more) none are is = none run (flat_map (barred_words spelling.text_of) more) are.each.0 is

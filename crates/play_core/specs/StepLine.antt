@@ -13,7 +13,7 @@ use Rattle.play_core.specs.declared.verb.Verb.{Verb}
 use Rattle.play_core.specs.declared.verb.Verb.TheVariants as verbs
 use Rattle.text_core.specs.Text.{Spelling}
 use Rattle.play_core.specs.LineWords.{words_of}
-use Rattle.play_core.specs.LineRuns.{IsRun, AreRuns, run_words, runs_words}
+use Rattle.play_core.specs.LineRuns.{IsLineRun, AreLineRuns, run_words, runs_words}
 use Rattle.play_core.specs.Verbs.{verb_word}
 
 -- what a line asks for: a step, or a crash that leaves this image
@@ -55,7 +55,7 @@ module _ {R : Type 0} where
 
   -- a number and records
   abbrev pub WithRun : Spelling R → List (List ℕ) → Asked R → (ℕ → List R → Step R) → Type 0
-  WithRun spelling words asked step = (run : ℕ × List R) × IsRun spelling run × (words ≡ run_words spelling.text_of run) × (asked ≡ Does (step run.0 run.1))
+  WithRun spelling words asked step = (run : ℕ × List R) × IsLineRun spelling run × (words ≡ run_words spelling.text_of run) × (asked ≡ Does (step run.0 run.1))
 
   -- what a verb asks for with these words
   abbrev pub Asks : Spelling R → Verb → List (List ℕ) → Asked R → Type 0
@@ -71,7 +71,7 @@ module _ {R : Type 0} where
   Asks spelling verbs.Close words asked = Alone words asked Close
   Asks spelling verbs.Gather words asked = Alone words asked Gather
   Asks spelling verbs.Change words asked = WithRun spelling words asked Change
-  Asks spelling verbs.Changes words asked = (runs : List (ℕ × List R)) × AreRuns spelling runs × (words ≡ runs_words spelling.text_of runs) × (asked ≡ Does (Changes runs))
+  Asks spelling verbs.Changes words asked = (runs : List (ℕ × List R)) × AreLineRuns spelling runs × (words ≡ runs_words spelling.text_of runs) × (asked ≡ Does (Changes runs))
   Asks spelling verbs.Resize words asked = (size : ℕ) × (r : R) × (size < 2 ^ 64) × spelling.is_value r × (words ≡ decimal size ∷ spelling.text_of r ∷ []) × (asked ≡ Does (Resize size r))
   Asks spelling verbs.Clear words asked = Alone words asked Clear
   Asks spelling verbs.List words asked = Alone words asked Listing

@@ -4,7 +4,7 @@ ghost use Rattle.std.specs.Prelude.{◌≡◌, ◌≢◌, ℕ, List, [], ◌++�
 ghost use Rattle.std.specs.List.{AllByRecursion};
 ghost use Rattle.drive_core.specs.Given.{pieces_of};
 ghost use Rattle.play_core.specs.LineWords.{words_left, StartsWithNone};
-ghost use Rattle.play_core.specs.LineRuns.{IsRun, IsPushed, AreRuns, run_words, runs_words};
+ghost use Rattle.play_core.specs.LineRuns.{IsLineRun, IsPushed, AreLineRuns, run_words, runs_words};
 
 use crate::line_words::{is_ended, next_value, next_word};
 use std::alloc::{AllocError, Global};
@@ -32,9 +32,9 @@ fn read_some<'a, R: TextRecord>(
     alloc: Global,
     text: Option<&'a [u8]>,
 ) -> Result<(u64, Vec<R>, Option<&'a [u8]>), LineFault>
-    ensures read { IfOk result (λ read. IsRun R.spelling (read.0, read.1.items) × (words_left text.entry ≡ run_words R.spelling.text_of (read.0, read.1.items) ++ words_left read.2)) }
+    ensures read { IfOk result (λ read. IsLineRun R.spelling (read.0, read.1.items) × (words_left text.entry ≡ run_words R.spelling.text_of (read.0, read.1.items) ++ words_left read.2)) }
     ensures all { IfOk result (λ read. StartsWithNone R.spelling (words_left read.2)) }
-    ensures bad { result ≡ Err LineFault.Bad → (run : ℕ × List R) (tail : List (List ℕ)) → IsRun R.spelling run → words_left text.entry ≢ run_words R.spelling.text_of run ++ tail }
+    ensures bad { result ≡ Err LineFault.Bad → (run : ℕ × List R) (tail : List (List ℕ)) → IsLineRun R.spelling run → words_left text.entry ≢ run_words R.spelling.text_of run ++ tail }
 {
     let Some((number, behind)) = next_value::<u64>(text) else {
         return Err(LineFault::Bad);
@@ -51,8 +51,8 @@ pub fn read_run<R: TextRecord>(
     alloc: Global,
     text: Option<&[u8]>,
 ) -> Result<(u64, Vec<R>), LineFault>
-    ensures read { IfOk result (λ run. IsRun R.spelling (run.0, run.1.items) × (words_left text.entry ≡ run_words R.spelling.text_of (run.0, run.1.items))) }
-    ensures bad { result ≡ Err LineFault.Bad → (run : ℕ × List R) → IsRun R.spelling run → words_left text.entry ≢ run_words R.spelling.text_of run }
+    ensures read { IfOk result (λ run. IsLineRun R.spelling (run.0, run.1.items) × (words_left text.entry ≡ run_words R.spelling.text_of (run.0, run.1.items))) }
+    ensures bad { result ≡ Err LineFault.Bad → (run : ℕ × List R) → IsLineRun R.spelling run → words_left text.entry ≢ run_words R.spelling.text_of run }
 {
     let (number, records, rest) = read_some(alloc, text)?;
     if !is_ended(rest) {
@@ -68,7 +68,7 @@ fn push_run<'a, R: TextRecord>(
     text: Option<&'a [u8]>,
 ) -> Result<Option<&'a [u8]>, LineFault>
     ensures read { IfOk result (λ rest. IsPushed R.spelling (words_left text.entry) (pieces_of runs.old.items) (pieces_of runs.new.items) (words_left rest)) }
-    ensures bad { result ≡ Err LineFault.Bad → (run : ℕ × List R) (tail : List (List ℕ)) → IsRun R.spelling run → words_left text.entry ≢ run_words R.spelling.text_of run ++ tail }
+    ensures bad { result ≡ Err LineFault.Bad → (run : ℕ × List R) (tail : List (List ℕ)) → IsLineRun R.spelling run → words_left text.entry ≢ run_words R.spelling.text_of run ++ tail }
 {
     let (start, records, rest) = read_some(alloc, text)?;
     runs.push((start, records))?;
@@ -82,8 +82,8 @@ fn read_into<R: TextRecord>(
     text: Option<&[u8]>,
 ) -> Result<(), LineFault>
     requires { runs.old.items ≡ [] }
-    ensures read { OnOk result (AreRuns R.spelling (pieces_of runs.new.items) × (words_left text.entry ≡ runs_words R.spelling.text_of (pieces_of runs.new.items))) }
-    ensures bad { result ≡ Err LineFault.Bad → (runs : List (ℕ × List R)) → AreRuns R.spelling runs → words_left text.entry ≢ runs_words R.spelling.text_of runs }
+    ensures read { OnOk result (AreLineRuns R.spelling (pieces_of runs.new.items) × (words_left text.entry ≡ runs_words R.spelling.text_of (pieces_of runs.new.items))) }
+    ensures bad { result ≡ Err LineFault.Bad → (runs : List (ℕ × List R)) → AreLineRuns R.spelling runs → words_left text.entry ≢ runs_words R.spelling.text_of runs }
 {
     let mut rest = push_run(runs, alloc, text)?;
     while let Some((word, behind)) = next_word(rest) {
@@ -100,8 +100,8 @@ pub fn read_runs<R: TextRecord>(
     alloc: Global,
     text: Option<&[u8]>,
 ) -> Result<Vec<(u64, Vec<R>)>, LineFault>
-    ensures read { IfOk result (λ runs. AreRuns R.spelling (pieces_of runs.items) × (words_left text.entry ≡ runs_words R.spelling.text_of (pieces_of runs.items))) }
-    ensures bad { result ≡ Err LineFault.Bad → (runs : List (ℕ × List R)) → AreRuns R.spelling runs → words_left text.entry ≢ runs_words R.spelling.text_of runs }
+    ensures read { IfOk result (λ runs. AreLineRuns R.spelling (pieces_of runs.items) × (words_left text.entry ≡ runs_words R.spelling.text_of (pieces_of runs.items))) }
+    ensures bad { result ≡ Err LineFault.Bad → (runs : List (ℕ × List R)) → AreLineRuns R.spelling runs → words_left text.entry ≢ runs_words R.spelling.text_of runs }
 {
     let mut runs = Vec::new(alloc);
     read_into(&mut runs, alloc, text)?;

@@ -20,7 +20,7 @@ use Rattle.vault_core.specs.Vault.{VaultOf}
 use Rattle.vault_core.specs.Sharing.{Shares, IsShareFault, IsNotShared, IsTooLarge}
 use Rattle.serve_core.specs.declared.fault.ServeFault.{ServeFault}
 use Rattle.serve_core.specs.declared.fault.ServeFault.TheVariants.{Open, Share, Thread, Flush}
-use Rattle.serve_core.specs.Serving.{IsShareRefusal, IsStop, IsServeRefusal, CountsFailed, ComesBack, IsPhaseLeft, failed_calls}
+use Rattle.serve_core.specs.Serving.{IsShareRefusal, IsFlusherStop, IsServeRefusal, CountsFailed, ComesBack, IsPhaseLeft, serve_failures}
 
 -- a pen that rests may begin a job
 ready : {D : Type 0} (width size : ℕ) (pen : PenOf D) → IsAtRest width size pen → first_refusal (ready_lines pen) ≡ None
@@ -50,7 +50,7 @@ none_served vault width size clients seats (vaults.Unsettled number) rest is of 
 none_served vault width size clients seats vaults.WrongPhase rest is of = absurd of
 
 -- why a flusher stopped whose pen wasn't broken
-pub stopped : {R D : Type 0} (width : ℕ) (old new : FlusherOf R D) (fault : FlushFault) → old.pen.broken ≡ false → IsServeFault width old new fault → IsStop width new fault
+pub stopped : {R D : Type 0} (width : ℕ) (old new : FlusherOf R D) (fault : FlushFault) → old.pen.broken ≡ false → IsServeFault width old new fault → IsFlusherStop width new fault
 stopped width old new (flushes.Pen pens.Broken) whole is = absurd (cc)
 stopped width old new (flushes.Pen pens.Busy) whole is = absurd is
 stopped width old new (flushes.Pen pens.OldFormat) whole is = absurd is
@@ -96,7 +96,7 @@ module _ {R D X : Type 0} (form : Encoding R) (keeps : D → Type 0) (states : D
   same_disk : ended.flusher ≡ begun → left ≡ vault.pen.disk
   same_disk is = ended.disk_is ∙ ap (λ (f : FlusherOf R D). f.pen.disk) is ∙ ap (λ (p : PenOf D). p.disk) shares.pen
 
-  pub phase_counts : CountsFailed failed_calls (faults vault.pen.disk) (faults left) result
+  pub phase_counts : CountsFailed serve_failures (faults vault.pen.disk) (faults left) result
   phase_counts = by_result result ended.comes
     where
       before : faults begun.pen.disk ≡ faults vault.pen.disk
@@ -106,7 +106,7 @@ module _ {R D X : Type 0} (form : Encoding R) (keeps : D → Type 0) (states : D
       after = ap faults ended.disk_is
 
       by_result : {X : Type 0} (result : Result X ServeFault) → ComesBack form keeps states faults live begun ended.flusher result
-          → CountsFailed failed_calls (faults vault.pen.disk) (faults left) result
+          → CountsFailed serve_failures (faults vault.pen.disk) (faults left) result
       by_result (Ok x) comes = after ∙ comes.counts ∙ before
       by_result (Err (Open fault)) comes = absurd comes
       by_result (Err (Share (vaults.Pen fault))) comes = let is = ap faults (same_disk comes.1) in omega (arith, is)

@@ -18,9 +18,9 @@ use Rattle.serve_core.specs.declared.refusal.Refusal.TheVariants as refusals
 use Rattle.serve_core.specs.declared.talking.TalkEnd.{TalkEnd}
 use Rattle.serve_core.specs.declared.talking.TalkEnd.TheVariants.{Ended, Gone, Refused, OutputFailed, Memory}
 use Rattle.serve_core.specs.Answers.{answer_bytes}
-use Rattle.serve_core.specs.Talks.{IsBlock, HasRecords, IsRecordsRefusal, IsOfRecords, IsGrowthRefusal, IsOfGrowth}
+use Rattle.serve_core.specs.Talks.{IsBlock, IsBlockOfRecords, IsGrowRefusal, IsOfRecords, IsGrowthRefusal, IsOfGrowth}
 use Rattle.serve_core.specs.Talks.{AllBelow, IsNextOf, HasUnsettled, AreExchanges, Exchange, IsExchange, IsOfRequest, IsDone, IsUntold, TalkGoesOn, AllGoOn, EndsTalk, EndsSo, HasTalked, asked, told, told_of}
-use Rattle.serve_core.specs.Requests.{IsHead, head_of}
+use Rattle.serve_core.specs.Requests.{IsRequestHead, head_of}
 use Rattle.serve_core.specs.declared.request.Head.{Head}
 use Rattle.serve_core.specs.declared.request.Request.{Request}
 use Rattle.serve_core.specs.declared.answer.Answer.{Answer}
@@ -232,7 +232,7 @@ module _ {R : Type 0} (form : Encoding R) (live : Phase R) (seat : Seated R) (in
 -- a request with this head was answered so
 pub some_exchange : {R X : Type 0} (form : Encoding R) (live : Phase R) (old new : Seated R) (head block : List ℕ) (numbers : Head)
     (request : Request) (records : X → List R) (result : Option (Answer × X))
-    → IsHead head numbers → numbers ≡ head_of request → IfSome result (λ r. IsOfRequest form live request block old new r.0 (records r.1))
+    → IsRequestHead head numbers → numbers ≡ head_of request → IfSome result (λ r. IsOfRequest form live request block old new r.0 (records r.1))
     → IfSome result (λ r. IsExchange form live old (record { head = head; block = block; answer = r.0; records = records r.1 }) new)
 some_exchange form live old new head block numbers request records None is of told = tt
 some_exchange form live old new head block numbers request records (Some r) is of told = record { numbers = numbers; head = is; told = inr (record { request = request; is = of; told = told }) }
@@ -240,10 +240,10 @@ some_exchange form live old new head block numbers request records (Some r) is o
 -- the records are those of a block
 module _ {R : Type 0} (form : Encoding R) (live : Phase R) (count : ℕ) (block : List ℕ) (records : List R) (bytes : IsBlock form.width count block)
     (len : length records ≡ count) (are : AreRecords form block records) where
-  abbrev has : HasRecords form count block
+  abbrev has : IsBlockOfRecords form count block
   has = record { bytes = bytes; records = records; len = len; are = are }
 
-  refused_so : (refusal : Refusal) (seat : Seated R) → IsRecordsRefusal live (length records) seat refusal → IsGrowthRefusal form live count block seat refusal
+  refused_so : (refusal : Refusal) (seat : Seated R) → IsGrowRefusal live (length records) seat refusal → IsGrowthRefusal form live count block seat refusal
   refused_so refusals.UnknownKind seat why = absurd why
   refused_so refusals.StrayNumber seat why = absurd why
   refused_so refusals.NoRecord seat why = absurd why
@@ -251,10 +251,10 @@ module _ {R : Type 0} (form : Encoding R) (live : Phase R) (count : ℕ) (block 
   refused_so refusals.BadRecord seat why = absurd why
   refused_so refusals.NoMemory seat why = absurd why
   refused_so refusals.Memory seat why = bytes
-  refused_so refusals.Closed seat why = (has, subst (λ n. IsRecordsRefusal live n seat refusals.Closed) len why)
-  refused_so refusals.Full seat why = (has, subst (λ n. IsRecordsRefusal live n seat refusals.Full) len why)
-  refused_so refusals.TooLong seat why = (has, subst (λ n. IsRecordsRefusal live n seat refusals.TooLong) len why)
-  refused_so refusals.Strayed seat why = (has, subst (λ n. IsRecordsRefusal live n seat refusals.Strayed) len why)
+  refused_so refusals.Closed seat why = (has, subst (λ n. IsGrowRefusal live n seat refusals.Closed) len why)
+  refused_so refusals.Full seat why = (has, subst (λ n. IsGrowRefusal live n seat refusals.Full) len why)
+  refused_so refusals.TooLong seat why = (has, subst (λ n. IsGrowRefusal live n seat refusals.TooLong) len why)
+  refused_so refusals.Strayed seat why = (has, subst (λ n. IsGrowRefusal live n seat refusals.Strayed) len why)
   refused_so refusals.Ended seat why = absurd why
   refused_so refusals.Broken seat why = absurd why
 

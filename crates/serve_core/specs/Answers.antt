@@ -11,24 +11,24 @@ use Rattle.serve_core.specs.declared.answer.Answer.{Answer}
 use Rattle.serve_core.specs.declared.answer.Answer.TheVariants as answers
 use Rattle.serve_core.specs.declared.answer.Numbers.{Numbers}
 
-abbrev pub code_of : Refusal → ℕ
-code_of UnknownKind = 1
-code_of StrayNumber = 2
-code_of NoRecord = 3
-code_of TooMany = 4
-code_of BadRecord = 5
-code_of NoMemory = 6
-code_of Memory = 7
-code_of Closed = 8
-code_of Full = 9
-code_of TooLong = 10
-code_of Strayed = 11
-code_of Ended = 12
-code_of Broken = 13
+abbrev pub refusal_code : Refusal → ℕ
+refusal_code UnknownKind = 1
+refusal_code StrayNumber = 2
+refusal_code NoRecord = 3
+refusal_code TooMany = 4
+refusal_code BadRecord = 5
+refusal_code NoMemory = 6
+refusal_code Memory = 7
+refusal_code Closed = 8
+refusal_code Full = 9
+refusal_code TooLong = 10
+refusal_code Strayed = 11
+refusal_code Ended = 12
+refusal_code Broken = 13
 
 -- a conversation ends behind the first six
 abbrev pub ends_talk : Refusal → Bool
-ends_talk refusal = nat_lt (code_of refusal) 7
+ends_talk refusal = nat_lt (refusal_code refusal) 7
 
 abbrev pub refusal_of_growth : GrowFault → Refusal
 refusal_of_growth faults.Closed = Closed
@@ -45,7 +45,7 @@ numbers_of (answers.Grown number start) = record { status = 0; first = number; s
 numbers_of (answers.Settled growths) = record { status = 0; first = growths; second = 0 }
 numbers_of (answers.Looked size settled) = record { status = 0; first = size; second = settled }
 numbers_of (answers.Piece start) = record { status = 0; first = start; second = 0 }
-numbers_of (answers.Refused refusal) = record { status = code_of refusal; first = 0; second = 0 }
+numbers_of (answers.Refused refusal) = record { status = refusal_code refusal; first = 0; second = 0 }
 
 -- Its 24 bytes, status, count of the records, and the two numbers; then those of the records.
 abbrev pub answer_bytes : {R : Type 0} → Encoding R → Answer → List R → List ℕ

@@ -8,7 +8,7 @@ use Rattle.serve_core.specs.declared.refusal.Refusal.{Refusal}
 use Rattle.serve_core.specs.declared.refusal.Refusal.TheVariants as refusals
 
 -- The numbers of these 16 bytes, each with its lowest byte first: kind, count, start.
-pub record IsHead (bytes : List ℕ) (head : Head) : Type 0 where
+pub record IsRequestHead (bytes : List ℕ) (head : Head) : Type 0 where
   pub len : length bytes ≡ 16
   pub kind : head.kind ≡ from_le_bytes w32 (take 4 bytes)
   pub count : head.count ≡ from_le_bytes w32 (take 4 (drop 4 bytes))

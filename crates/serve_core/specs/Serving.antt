@@ -64,12 +64,12 @@ IsShareRefusal clients other = ⊥
 
 -- Why a flusher stopped before all was settled: the file has no room for the next group or there was no memory for it, a
 -- call of the device failed, or the growth behind those that it knows strayed.
-abbrev pub IsStop : {R D : Type 0} → ℕ → FlusherOf R D → FlushFault → Type 0
-IsStop width f (flushes.Pen pens.FileFull) = (f.pen.job ≡ None) × IsNotBegun width f pens.FileFull
-IsStop width f (flushes.Pen pens.Memory) = (f.pen.job ≡ None) × IsNotBegun width f pens.Memory
-IsStop width f (flushes.Pen (pens.Disk cause)) = f.pen.broken ≡ true
-IsStop width f (flushes.Strayed number) = (f.pen.job ≡ None) × (number ≡ length f.pass.entries)
-IsStop width f other = ⊥
+abbrev pub IsFlusherStop : {R D : Type 0} → ℕ → FlusherOf R D → FlushFault → Type 0
+IsFlusherStop width f (flushes.Pen pens.FileFull) = (f.pen.job ≡ None) × IsNotBegun width f pens.FileFull
+IsFlusherStop width f (flushes.Pen pens.Memory) = (f.pen.job ≡ None) × IsNotBegun width f pens.Memory
+IsFlusherStop width f (flushes.Pen (pens.Disk cause)) = f.pen.broken ≡ true
+IsFlusherStop width f (flushes.Strayed number) = (f.pen.job ≡ None) × (number ≡ length f.pass.entries)
+IsFlusherStop width f other = ⊥
 
 -- The flusher that stopped so over that disk: it has settled so many growths, and whatever the disk may leave opens to what
 -- the flusher has in the file.
@@ -78,7 +78,7 @@ pub record HasStopped {R D : Type 0} (form : Encoding R) (keeps : D → Type 0) 
   pub disk_is : left ≡ flusher.pen.disk
   pub settled_is : settled ≡ flusher.settled
   pub file : keeps left → (image : List ℕ) → IsImage (now (states left)) image → OpensToJob form flusher image
-  pub why : IsStop form.width flusher fault
+  pub why : IsFlusherStop form.width flusher fault
 
 -- Why so many clients weren't served, or what they grew wasn't settled; that the file wasn't opened is told by what is left.
 abbrev pub IsServeRefusal : {R D : Type 0} → Encoding R → (D → Type 0) → (D → List State) → ℕ → D → ℕ → ServeFault → Type 0
@@ -127,8 +127,8 @@ pub record IsOpenedFrom {R D : Type 0} (form : Encoding R) (keeps : D → Type 0
   pub sure : keeps vault.pen.disk → vault.sure ≡ list_of vault
 
 -- how many calls of the device have failed where this is answered
-abbrev pub failed_calls : ServeFault → ℕ
-failed_calls (Open fault) = failed_openings fault
-failed_calls (Share fault) = 0
-failed_calls Thread = 0
-failed_calls (Flush fault) = failed fault
+abbrev pub serve_failures : ServeFault → ℕ
+serve_failures (Open fault) = failed_openings fault
+serve_failures (Share fault) = 0
+serve_failures Thread = 0
+serve_failures (Flush fault) = failed fault

@@ -10,7 +10,7 @@ use Rattle.book_core.specs.declared.fault.GrowFault.TheVariants as faults
 use Rattle.book_core.specs.declared.mark.MarkState.{MarkState}
 use Rattle.book_core.specs.declared.mark.MarkState.TheVariants as states
 use Rattle.book_core.specs.declared.seat.Receipt.{Receipt}
-use Rattle.book_core.specs.Lists.{Phase, Seated, HasJustItsOwn, IsRestOfPiece, list_of, seat_pieces}
+use Rattle.book_core.specs.Lists.{Phase, Seated, HasJustItsOwn, IsRestOfPiece, seat_list, seat_pieces}
 use Rattle.book_core.specs.Growing.{Grown, SeatLearns, SeatIsTold, IsBookRefusal, IsStray, size_of}
 use Rattle.serve_core.specs.declared.refusal.Refusal.{Refusal}
 use Rattle.serve_core.specs.declared.refusal.Refusal.TheVariants as refusals
@@ -21,7 +21,7 @@ use Rattle.serve_core.specs.declared.answer.Answer.{Answer}
 use Rattle.serve_core.specs.declared.answer.Answer.TheVariants as answers
 use Rattle.serve_core.specs.declared.talking.TalkEnd.{TalkEnd}
 use Rattle.serve_core.specs.declared.talking.TalkEnd.TheVariants.{Ended, Gone, Refused, OutputFailed, Memory}
-use Rattle.serve_core.specs.Requests.{IsHead, head_of, IsNoRequest}
+use Rattle.serve_core.specs.Requests.{IsRequestHead, head_of, IsNoRequest}
 use Rattle.serve_core.specs.Answers.{answer_bytes, ends_talk}
 
 -- why a request may not be of so many records
@@ -49,7 +49,7 @@ pub record IsBlock (width count : ℕ) (block : List ℕ) : Type 0 where
   pub bytes : length block ≡ count * width
 
 -- the bytes are just so many records
-pub record HasRecords {R : Type 0} (form : Encoding R) (count : ℕ) (block : List ℕ) : Type 0 where
+pub record IsBlockOfRecords {R : Type 0} (form : Encoding R) (count : ℕ) (block : List ℕ) : Type 0 where
   pub bytes : IsBlock form.width count block
   pub records : List R
   pub len : length records ≡ count
@@ -62,13 +62,13 @@ IsUnread form count block refusals.Memory = Unit {0}
 IsUnread form count block other = ⊥
 
 -- why so many records aren't grown, told a seat that is then this
-abbrev pub IsRecordsRefusal : {R : Type 0} → Phase R → ℕ → Seated R → Refusal → Type 0
-IsRecordsRefusal live n seat refusals.Memory = Unit {0}
-IsRecordsRefusal live n seat refusals.Closed = IsBookRefusal live seat n faults.Closed
-IsRecordsRefusal live n seat refusals.Full = IsBookRefusal live seat n faults.Full
-IsRecordsRefusal live n seat refusals.TooLong = IsBookRefusal live seat n faults.TooLong
-IsRecordsRefusal live n seat refusals.Strayed = (k : ℕ) × IsBookRefusal live seat n (faults.Strayed k)
-IsRecordsRefusal live n seat other = ⊥
+abbrev pub IsGrowRefusal : {R : Type 0} → Phase R → ℕ → Seated R → Refusal → Type 0
+IsGrowRefusal live n seat refusals.Memory = Unit {0}
+IsGrowRefusal live n seat refusals.Closed = IsBookRefusal live seat n faults.Closed
+IsGrowRefusal live n seat refusals.Full = IsBookRefusal live seat n faults.Full
+IsGrowRefusal live n seat refusals.TooLong = IsBookRefusal live seat n faults.TooLong
+IsGrowRefusal live n seat refusals.Strayed = (k : ℕ) × IsBookRefusal live seat n (faults.Strayed k)
+IsGrowRefusal live n seat other = ⊥
 
 -- Why a growth of so many records by these bytes isn't made, told a seat that is then this. Of the first three no bytes were
 -- read; of the last four the book refused records that are some.
@@ -78,17 +78,17 @@ IsGrowthRefusal form live count block seat refusals.TooMany = (payload_limit < p
 IsGrowthRefusal form live count block seat refusals.NoMemory = IsBlockLength form.width count × (block ≡ [])
 IsGrowthRefusal form live count block seat refusals.BadRecord = IsBlock form.width count block × IsUnread form count block refusals.BadRecord
 IsGrowthRefusal form live count block seat refusals.Memory = IsBlock form.width count block
-IsGrowthRefusal form live count block seat refusals.Closed = HasRecords form count block × IsRecordsRefusal live count seat refusals.Closed
-IsGrowthRefusal form live count block seat refusals.Full = HasRecords form count block × IsRecordsRefusal live count seat refusals.Full
-IsGrowthRefusal form live count block seat refusals.TooLong = HasRecords form count block × IsRecordsRefusal live count seat refusals.TooLong
-IsGrowthRefusal form live count block seat refusals.Strayed = HasRecords form count block × IsRecordsRefusal live count seat refusals.Strayed
+IsGrowthRefusal form live count block seat refusals.Closed = IsBlockOfRecords form count block × IsGrowRefusal live count seat refusals.Closed
+IsGrowthRefusal form live count block seat refusals.Full = IsBlockOfRecords form count block × IsGrowRefusal live count seat refusals.Full
+IsGrowthRefusal form live count block seat refusals.TooLong = IsBlockOfRecords form count block × IsGrowRefusal live count seat refusals.TooLong
+IsGrowthRefusal form live count block seat refusals.Strayed = IsBlockOfRecords form count block × IsGrowRefusal live count seat refusals.Strayed
 IsGrowthRefusal form live count block seat other = ⊥
 
 -- What a seat is told of a growth of so many records by these bytes: it made one growth, of just the records that the bytes
 -- are, and is told its number and its start; or it made none, and is told why.
 abbrev pub IsOfGrowth : {R : Type 0} → Encoding R → Phase R → ℕ → List ℕ → Seated R → Seated R → Answer → Type 0
 IsOfGrowth {R} form live count block old new (answers.Grown number start) =
-    (has : HasRecords form count block)
+    (has : IsBlockOfRecords form count block)
     × (receipt : Receipt) × Grown live old new has.records receipt × (receipt.number ≡ number) × (receipt.start ≡ start)
 IsOfGrowth form live count block old new (answers.Refused refusal) = SeatLearns old new × IsGrowthRefusal form live count block new refusal
 IsOfGrowth form live count block old new other = ⊥
@@ -96,7 +96,7 @@ IsOfGrowth form live count block old new other = ⊥
 -- what a seat is told of a growth by these records
 abbrev pub IsOfRecords : {R : Type 0} → Phase R → List R → Seated R → Seated R → Answer → Type 0
 IsOfRecords live records old new (answers.Grown number start) = (receipt : Receipt) × Grown live old new records receipt × (receipt.number ≡ number) × (receipt.start ≡ start)
-IsOfRecords live records old new (answers.Refused refusal) = SeatLearns old new × IsRecordsRefusal live (length records) new refusal
+IsOfRecords live records old new (answers.Refused refusal) = SeatLearns old new × IsGrowRefusal live (length records) new refusal
 IsOfRecords live records old new other = ⊥
 
 -- no more is settled: the server has ended, or the file refused
@@ -129,7 +129,7 @@ IsOfLooking live old new other = ⊥
 abbrev pub IsOfReading : {R : Type 0} → Encoding R → Phase R → ℕ → ℕ → Seated R → Seated R → Answer → List R → Type 0
 IsOfReading {R} form live start count old new (answers.Piece at) records =
     (at ≡ start) × (new ≡ old) × IsBlockLength form.width count
-    × (((length (list_of live old) ≤ start) × (records ≡ [])) ⊎ ((rest : List R) × IsRestOfPiece (seat_pieces live old) start rest × (records ≡ take count rest)))
+    × (((length (seat_list live old) ≤ start) × (records ≡ [])) ⊎ ((rest : List R) × IsRestOfPiece (seat_pieces live old) start rest × (records ≡ take count rest)))
 IsOfReading form live start count old new (answers.Refused refusal) records = (new ≡ old) × (records ≡ []) × IsCountRefusal form.width count refusal
 IsOfReading form live start count old new other records = ⊥
 
@@ -169,7 +169,7 @@ pub record IsAnswered {R : Type 0} (form : Encoding R) (live : Phase R) (head : 
 
 pub record IsExchange {R : Type 0} (form : Encoding R) (live : Phase R) (old : Seated R) (e : Exchange R) (new : Seated R) : Type 0 where
   pub numbers : Head
-  pub head : IsHead e.head numbers
+  pub head : IsRequestHead e.head numbers
   pub told : IsTurnedAway numbers old e new ⊎ IsAnswered form live numbers old e new
 
 -- one request was read and done

@@ -1,7 +1,7 @@
 //! Why a client's request is refused.
 
 ghost use Rattle.std.specs.Prelude.{◌≡◌};
-ghost use Rattle.serve_core.specs.Answers.{code_of, ends_talk, refusal_of_growth};
+ghost use Rattle.serve_core.specs.Answers.{refusal_code, ends_talk, refusal_of_growth};
 
 use book_core::GrowFault;
 use std::error::Error;
@@ -42,7 +42,7 @@ pub enum Refusal {
 impl Refusal {
     /// The number that stands for it in an answer.
     pub fn code(self) -> u32
-        ensures { result ≡ code_of self }
+        ensures { result ≡ refusal_code self }
     {
         match self {
             Refusal::UnknownKind => 1,

@@ -1,7 +1,7 @@
 //! What a client asks: a head of 16 bytes, and behind that of a growth its records.
 
 ghost use Rattle.std.specs.Prelude.{◌≡◌, ◌<◌, MatchResult};
-ghost use Rattle.serve_core.specs.Requests.{IsHead, head_of, IsNoRequest};
+ghost use Rattle.serve_core.specs.Requests.{IsRequestHead, head_of, IsNoRequest};
 
 use crate::refusal::Refusal;
 
@@ -38,7 +38,7 @@ impl Head {
     /// The numbers of these bytes, each with its lowest byte first: the kind in bytes 0 to 3, the count in 4 to 7, the start
     /// in 8 to 15.
     pub fn of(bytes: &[u8; HEAD_LEN]) -> Head
-        ensures { IsHead bytes.now result }
+        ensures { IsRequestHead bytes.now result }
     {
         let [a, b, c, d, e, f, g, h, i, j, k, l, m, n, o, p] = *bytes;
         Head {

@@ -29,7 +29,7 @@ use Rattle.stat_core.specs.declared.outline.Outline.TheVariants.{Group, Change, 
 use Rattle.stat_core.specs.declared.summary.Summary.{Summary}
 use Rattle.stat_core.specs.Outline.{IsOutlined, HasNumber, outline_of, outline_kind, outline_len}
 use Rattle.stat_core.specs.Summary.{begun, grown, summary_of, counted_from, summary_of_frames, tally_in}
-use Rattle.stat_core.specs.Walked.{AreOutlined, Counts, IsSummaryOf, IsRefusal, TellsFrames}
+use Rattle.stat_core.specs.Walked.{AreOutlined, Counts, IsSummaryOf, IsStatRefusal, TellsFrames}
 use Rattle.stat_core.specs.declared.fault.StatFault.{StatFault}
 use Rattle.stat_core.specs.declared.fault.StatFault.TheVariants.{Disk, Header, Frame as FrameFault}
 use Rattle.stat_core.proofs.Counted.{grown_gate}
@@ -272,7 +272,7 @@ one_shape a b image p q =
     shape_at format width = record { format = format; width = width }
 
 -- the answer of a file that has frames
-pub answer_of_frames : (image : List ℕ) (result : Result Summary StatFault) → MatchResult result (IsSummaryOf image) (IsRefusal image) → TellsFrames image result
+pub answer_of_frames : (image : List ℕ) (result : Result Summary StatFault) → MatchResult result (IsSummaryOf image) (IsStatRefusal image) → TellsFrames image result
 answer_of_frames image (Ok s) is = λ shape all wide small has.
     let sound = sound_header shape.format shape.width image all small has in
     let same = one_shape is.shape shape image is.sound sound in

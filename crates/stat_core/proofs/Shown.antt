@@ -3,11 +3,11 @@ use Rattle.std.proofs.Common.{◌≡◌, ◌≤◌, ℕ, ◌+◌, ◌-◌, min, 
 use Rattle.std.proofs.lemmas.List.{drop-take, take-take, drop-drop, take-append-drop, length-drop, length-take-le}
 use Rattle.stat_core.specs.declared.window.Window.{Window}
 use Rattle.segment_core.specs.FrameHead.{IsFrontOf}
-use Rattle.stat_core.specs.Window.{Holds, IsWithin}
+use Rattle.stat_core.specs.Window.{HoldsWindow, IsWithin}
 
 -- the same place in the buffer and in the file
 same_bytes : (image buffer : List ℕ) (window : Window) (at n : ℕ)
-    → Holds image buffer window → window.start ≤ at → at + n ≤ window.start + window.len
+    → HoldsWindow image buffer window → window.start ≤ at → at + n ≤ window.start + window.len
     → take n (drop (at - window.start) buffer) ≡ take n (drop at image)
 same_bytes image buffer window at n holds starts reaches =
     let k : ℕ = at - window.start in
@@ -20,7 +20,7 @@ same_bytes image buffer window at n holds starts reaches =
 
 pub shown_front : (image buffer : List ℕ) (window : Window) (at bytes n : ℕ)
     → length image ≡ bytes → at ≤ bytes → n ≡ min 14 (bytes - at) → IsWithin (length buffer) at bytes window
-    → Holds image buffer window
+    → HoldsWindow image buffer window
     → IsFrontOf (drop at image) (take n (drop (at - window.start) buffer)) (bytes - at)
 shown_front image buffer window at bytes n size inside is within holds =
     let starts = within.starts in

@@ -42,10 +42,10 @@ pub record IsFaultBehind (image : List ℕ) (fault : ScanFault) (s : Summary) : 
   pub counts : Counts shape image s
   pub fails : frame_fault shape s.gate (tally_in s) (drop s.gate image) ≡ Some fault
 
-abbrev pub IsRefusal : List ℕ → StatFault → Type 0
-IsRefusal image (Disk fault) = Unit {0}
-IsRefusal image (Header fault) = IsHeaderFault image fault
-IsRefusal image (FrameFault fault before) = IsFaultBehind image fault before
+abbrev pub IsStatRefusal : List ℕ → StatFault → Type 0
+IsStatRefusal image (Disk fault) = Unit {0}
+IsStatRefusal image (Header fault) = IsHeaderFault image fault
+IsStatRefusal image (FrameFault fault before) = IsFaultBehind image fault before
 
 -- A file that has frames by the format's own definition is told of by these, and is refused by the disk alone.
 abbrev pub TellsFrames : List ℕ → Result Summary StatFault → Type 0

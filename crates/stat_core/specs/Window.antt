@@ -6,8 +6,8 @@ use Rattle.segment_core.specs.FrameHead.{front_len}
 use Rattle.stat_core.specs.declared.window.Window.{Window}
 
 -- the buffer begins with this part of the image
-abbrev pub Holds : List ℕ → List ℕ → Window → Type 0
-Holds image buffer window = take window.len buffer ≡ take window.len (drop window.start image)
+abbrev pub HoldsWindow : List ℕ → List ℕ → Window → Type 0
+HoldsWindow image buffer window = take window.len buffer ≡ take window.len (drop window.start image)
 
 -- the buffer's part has all that is looked at of a frame whose gate is at a place
 pub record IsWithin (room at bytes : ℕ) (window : Window) : Type 0 where

@@ -7,8 +7,8 @@ ghost use Rattle.segment_core.specs.Fault.{IsSound};
 ghost use Rattle.stat_core.specs.Calls.{failed_in, AreCalls};
 ghost use Rattle.stat_core.specs.Next.{IsNextOutline, IsSized};
 ghost use Rattle.stat_core.specs.Summary.{tally_in, AreFew};
-ghost use Rattle.stat_core.specs.Walked.{IsSummaryOf, IsRefusal, TellsFrames};
-ghost use Rattle.stat_core.specs.Window.{Holds, IsWithin, OnlyReads};
+ghost use Rattle.stat_core.specs.Walked.{IsSummaryOf, IsStatRefusal, TellsFrames};
+ghost use Rattle.stat_core.specs.Window.{HoldsWindow, IsWithin, OnlyReads};
 
 use crate::fault::StatFault;
 use crate::outline::{Outline, read_outline};
@@ -28,7 +28,7 @@ fn next_outline(
     requires inside { summary.gate ≤ summary.bytes }
     requires within { IsWithin (length buffer.now) summary.gate summary.bytes window }
     ensures sized { IfOk result (λ next. MatchOption next (Unit {0}) (IsSized shape (tally_in summary) (summary.bytes - summary.gate))) }
-    ensures next { (image : List ℕ) → length image ≡ summary.bytes → Holds image buffer.now window
+    ensures next { (image : List ℕ) → length image ≡ summary.bytes → HoldsWindow image buffer.now window
         → IsNextOutline shape summary.gate (tally_in summary) (drop summary.gate image) result }
 {
     let at = (summary.gate - window.start) as usize;
@@ -45,7 +45,7 @@ fn walk<D: Disk>(disk: &mut D, shape: Shape, bytes: u64) -> Result<Summary, Stat
     requires length { D.keeps disk.old → bytes ≡ length (bytes_of (D.states disk.old)) }
     requires sound { D.keeps disk.old → IsSound shape.width shape.format (bytes_of (D.states disk.old)) }
     ensures few { IfOk result AreFew }
-    ensures is { D.keeps disk.new → MatchResult result (IsSummaryOf (bytes_of (D.states disk.old))) (IsRefusal (bytes_of (D.states disk.old))) }
+    ensures is { D.keeps disk.new → MatchResult result (IsSummaryOf (bytes_of (D.states disk.old))) (IsStatRefusal (bytes_of (D.states disk.old))) }
     ensures only_reads { D.keeps disk.new → OnlyReads (D.states disk.old) (D.states disk.new) }
     ensures calls { (before : ℕ) → before + 2 ≡ clock (D.states disk.old) → AreCalls before (clock (D.states disk.new)) result }
     ensures faults { MatchResult result
@@ -80,7 +80,7 @@ fn walk<D: Disk>(disk: &mut D, shape: Shape, bytes: u64) -> Result<Summary, Stat
 fn read_header<D: Disk>(disk: &mut D, bytes: u64) -> Result<Shape, StatFault>
     requires length { D.keeps disk.old → bytes ≡ length (bytes_of (D.states disk.old)) }
     ensures wide { IfOk result (λ shape. (0 < shape.width) × (shape.width < 2 ^ 16) × (11 ≤ bytes)) }
-    ensures is { D.keeps disk.new → MatchResult result (λ shape. IsSound shape.width shape.format (bytes_of (D.states disk.old))) (IsRefusal (bytes_of (D.states disk.old))) }
+    ensures is { D.keeps disk.new → MatchResult result (λ shape. IsSound shape.width shape.format (bytes_of (D.states disk.old))) (IsStatRefusal (bytes_of (D.states disk.old))) }
     ensures same { D.keeps disk.old → Stays (D.states disk.old) (D.states disk.new) }
     ensures time { clock (D.states disk.new) ≡ clock (D.states disk.old) + 1 }
     ensures calls { (before : ℕ) → before + 1 ≡ clock (D.states disk.old) → IfErr result (λ fault. AreCalls before (clock (D.states disk.new)) (Err fault)) }
@@ -103,7 +103,7 @@ fn read_header<D: Disk>(disk: &mut D, bytes: u64) -> Result<Shape, StatFault>
 /// Counts the frames of the file on the disk, by the first bytes of each.
 fn read_frames<D: Disk>(disk: &mut D) -> Result<Summary, StatFault>
     ensures few { IfOk result AreFew }
-    ensures is { D.keeps disk.new → MatchResult result (IsSummaryOf (bytes_of (D.states disk.old))) (IsRefusal (bytes_of (D.states disk.old))) }
+    ensures is { D.keeps disk.new → MatchResult result (IsSummaryOf (bytes_of (D.states disk.old))) (IsStatRefusal (bytes_of (D.states disk.old))) }
     ensures only_reads { D.keeps disk.new → OnlyReads (D.states disk.old) (D.states disk.new) }
     ensures calls { AreCalls (clock (D.states disk.old)) (clock (D.states disk.new)) result }
     ensures faults { MatchResult result
@@ -135,7 +135,7 @@ fn read_frames<D: Disk>(disk: &mut D) -> Result<Summary, StatFault>
 /// at most one more for each frame.
 pub fn summarize<D: Disk>(disk: &mut D) -> Result<Summary, StatFault>
     ensures few { IfOk result AreFew }
-    ensures is { D.keeps disk.new → MatchResult result (IsSummaryOf (bytes_of (D.states disk.old))) (IsRefusal (bytes_of (D.states disk.old))) }
+    ensures is { D.keeps disk.new → MatchResult result (IsSummaryOf (bytes_of (D.states disk.old))) (IsStatRefusal (bytes_of (D.states disk.old))) }
     ensures frames { D.keeps disk.new → TellsFrames (bytes_of (D.states disk.old)) result }
     ensures only_reads { D.keeps disk.new → OnlyReads (D.states disk.old) (D.states disk.new) }
     ensures calls { AreCalls (clock (D.states disk.old)) (clock (D.states disk.new)) result }

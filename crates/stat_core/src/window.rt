@@ -4,7 +4,7 @@ ghost use Rattle.std.specs.Prelude.{◌≡◌, ◌≤◌, ◌<◌, ◌+◌, ◌-
 ghost use Rattle.disk_core.specs.Calls.{bytes_of};
 ghost use Rattle.disk_core.specs.Moments.{clock};
 ghost use Rattle.segment_core.specs.FrameHead.{front_len};
-ghost use Rattle.stat_core.specs.Window.{Holds, IsWithin, OnlyReads};
+ghost use Rattle.stat_core.specs.Window.{HoldsWindow, IsWithin, OnlyReads};
 
 use disk_core::{Disk, DiskFault};
 use segment_core::FRONT_LEN;
@@ -40,9 +40,9 @@ pub(crate) fn slide<D: Disk>(
     requires inside { at ≤ bytes }
     requires room { front_len ≤ length buffer.old }
     requires within { (window.len ≤ length buffer.old) × (window.start + window.len ≤ bytes) }
-    requires holds { D.keeps disk.old → Holds (bytes_of (D.states disk.old)) buffer.old window }
+    requires holds { D.keeps disk.old → HoldsWindow (bytes_of (D.states disk.old)) buffer.old window }
     ensures within { IfOk result (IsWithin (length buffer.old) at bytes) }
-    ensures holds { D.keeps disk.new → IfOk result (Holds (bytes_of (D.states disk.old)) buffer.new) }
+    ensures holds { D.keeps disk.new → IfOk result (HoldsWindow (bytes_of (D.states disk.old)) buffer.new) }
     ensures only_reads { D.keeps disk.new → OnlyReads (D.states disk.old) (D.states disk.new) }
     ensures calls { clock (D.states disk.new) ≤ clock (D.states disk.old) + 1 }
     ensures made { clock (D.states disk.old) ≤ clock (D.states disk.new) }

@@ -10,7 +10,7 @@ use Rattle.pen_core.specs.declared.stage.FoldStage.{FoldStage}
 use Rattle.pen_core.specs.declared.stage.FoldStage.TheVariants as stages
 use Rattle.pen_core.specs.PenOf.{PenOf, JobOf, FoldOf}
 use Rattle.pen_core.specs.InHand.{has_call, stage_after}
-use Rattle.pen_core.specs.Pen.{IsFiled, IsWaiting, HomesCalled, fold_behind, log_left, fold_stage, calls_due, home_calls_due}
+use Rattle.pen_core.specs.Pen.{FilesFold, IsWaiting, HomesCalled, fold_behind, log_left, fold_stage, calls_due, home_calls_due}
 use Rattle.pen_core.proofs.Settled.{steps_left-after}
 use Rattle.flush_core.specs.declared.lane.Lane.{Lane}
 use Rattle.flush_core.specs.declared.lane.Lane.TheVariants as lanes
@@ -108,7 +108,7 @@ lane_calls-ticked lanes.Home old new ticks.Step whole ticked =
     omega (arith, due, was, is, fold_calls-after fold.stage ticked.1, ap log_left called.job_same)
 lane_calls-ticked lanes.Home old new ticks.Done whole ticked = absurd ticked
 lane_calls-ticked lanes.Home old new ticks.Filed whole ticked =
-    let filed : IsFiled ticked.0 old new = ticked.1 in
+    let filed : FilesFold ticked.0 old new = ticked.1 in
     let due : home_calls_due old.broken old.fold ≡ 0 = ap (λ b. home_calls_due b old.fold) whole ∙ ap (home_calls_due false) filed.fold_was ∙ ap calls_in filed.ready in
     let was : fold_calls (fold_stage old.fold) ≡ 4 = ap (λ f. fold_calls (fold_stage f)) filed.fold_was ∙ ap fold_calls filed.ready in
     let is : fold_calls (fold_stage new.fold) ≡ 0 = ap (λ f. fold_calls (fold_stage f)) filed.fold_is in

@@ -9,7 +9,7 @@ use Rattle.pen_core.specs.declared.stage.FoldStage.TheVariants as stages
 use Rattle.pen_core.specs.PenOf.{PenOf, JobOf, FoldOf}
 use Rattle.pen_core.specs.InHand.{has_call, stage_after, called}
 use Rattle.pen_core.specs.Vectors.{frames_with}
-use Rattle.pen_core.specs.Pen.{CountsSame, CountsDone, FileSame, FileGains, IsFiled, HomesCalled, fold_behind, next_job}
+use Rattle.pen_core.specs.Pen.{CountsSame, CountsDone, FileSame, FileGains, FilesFold, HomesCalled, fold_behind, next_job}
 use Rattle.flush_core.specs.declared.lane.Lane.{Lane}
 use Rattle.flush_core.specs.declared.lane.Lane.TheVariants as lanes
 use Rattle.flush_core.specs.declared.lane.Tick.{Tick}
@@ -92,7 +92,7 @@ module _ {D : Type 0} where
           ∙ (with_stage-after more fold.stage fold.count (with_job more old.job before) has
           ∙ sym (ap (λ (f : Option FoldOf). with_fold more f (with_job more old.job before)) homes.fold_was))))
 
-      then-filed : (fold : FoldOf) → IsFiled fold old new → behind ≡ before → with_fold more new.fold (with_job more new.job behind) ≡ with_fold more old.fold (with_job more old.job before)
+      then-filed : (fold : FoldOf) → FilesFold fold old new → behind ≡ before → with_fold more new.fold (with_job more new.job behind) ≡ with_fold more old.fold (with_job more old.job before)
       then-filed fold filed same =
           ap (λ (f : Option FoldOf). with_fold more f (with_job more new.job behind)) filed.fold_is
           ∙ (ap (λ (j : Option JobOf). with_job more j behind) filed.job_is
@@ -142,7 +142,7 @@ module _ {D : Type 0} where
           orderly : (job : Option JobOf) → IfSome old.job (λ k. IsFiledBy k.frame old.fold) → IfSome new.job (λ k. IsFiledBy k.frame new.fold)
           orderly job o = subst (λ (j : Option JobOf). IfSome j (λ k. IsFiledBy k.frame new.fold)) (sym homes.job_same) (filed old.job o)
 
-      carries-filed : (fold : FoldOf) → IsFiled fold old new → (keeps → FileSame old new) → CarriesOn keeps old new
+      carries-filed : (fold : FoldOf) → FilesFold fold old new → (keeps → FileSame old new) → CarriesOn keeps old new
       carries-filed fold filed file = record {
         shape_same = filed.shape_same;
         orderly = λ o. subst (λ (j : Option JobOf). IfSome j (λ k. IsFiledBy k.frame new.fold)) (sym filed.job_is) (subst (IsFiledBy (Fold fold.count)) (sym filed.fold_is) refl);

@@ -25,7 +25,7 @@ use Rattle.vault_core.specs.declared.fault.VaultFault.{VaultFault}
 use Rattle.vault_core.specs.Vault.{VaultOf, IsVault, OpensToEither, list_of, vault_of}
 use Rattle.pen_core.specs.Settled.{IsLogSettled, IsLogFault, frames_after, frames_and}
 use Rattle.pen_core.specs.Vectors.{frames_with}
-use Rattle.vault_core.specs.Commands.{IsBegun, IsCommand, IsStopFault, Stands, calls_if}
+use Rattle.vault_core.specs.Commands.{IsBegun, IsCommand, IsStopFault, StandsCommanded, calls_if}
 use Rattle.vault_core.proofs.Kept.{before, done_sure, done_pen, failed_sure, failed_pen, failed_stands, stopped, command_images, sure_same}
 
 -- ---- tests
@@ -46,7 +46,7 @@ pub quiet : (lines : List (Bool × PenFault)) (fault : PenFault) → AreQuiet li
 quiet lines fault are why = quiet_first lines are (first_refusal lines) refl fault why
 
 -- what was stands behind a fault that is none of a call
-pub stands_was : (made was : Type 0) (fault : PenFault) → failed_calls fault ≡ 0 → was → Stands made was (Pen fault)
+pub stands_was : (made was : Type 0) (fault : PenFault) → failed_calls fault ≡ 0 → was → StandsCommanded made was (Pen fault)
 stands_was made was faults.Broken none it = it
 stands_was made was faults.Busy none it = it
 stands_was made was faults.OldFormat none it = it
@@ -109,9 +109,9 @@ stop_fault mid new fault whole why = elim why [
 ]
 
 -- what a commit that stopped has made stands
-pub stands_made : (made was : Type 0) (result : Result (Unit {0}) VaultFault) → IfErr result IsStopFault → made → MatchResult result (λ _. made) (Stands made was)
+pub stands_made : (made was : Type 0) (result : Result (Unit {0}) VaultFault) → IfErr result IsStopFault → made → MatchResult result (λ _. made) (StandsCommanded made was)
 stands_made made was (Ok done) stops it = it
-stands_made made was (Err fault) stops it = subst (Stands made was) (sym stops.1) it
+stands_made made was (Err fault) stops it = subst (StandsCommanded made was) (sym stops.1) it
 
 -- ---- begun
 

@@ -10,7 +10,7 @@ use Rattle.book_core.specs.Lists.{Phase, Seated, IsSeatOf, opening_of}
 use Rattle.book_core.specs.Beginning.{IsNewSeat}
 use Rattle.book_core.specs.Growing.{Grown, SeatLearns, IsBookRefusal, growth_of}
 use Rattle.book_core.proofs.Owns.{push_get}
-use Rattle.vault_core.specs.Crewing.{HasGrown, IsGrowerFault, IsBlockFault, IsStop, MayStarve, receipt_of}
+use Rattle.vault_core.specs.Crewing.{HasGrown, IsGrowerFault, IsBlockFault, StopsGrower, MayStarve, receipt_of}
 
 nothing_there : {X : Type 0} (xs : List X) (k : ℕ) (x : X) → xs ≡ [] → slice_get xs k ≡ Some x → ⊥
 nothing_there xs k x none is = let at : None ≡ Some x = sym (ap (λ (ys : List _). slice_get ys k) none) ∙ is in grind arith
@@ -30,7 +30,7 @@ module _ {R : Type 0} (width : ℕ) (live : Phase R) (count : ℕ) (block : ℕ 
   module _ (old : Seated R) (receipts : List Receipt) (grown : HasGrown width live count block id old receipts None) where
     -- it stops
     pub stopped : (new : Seated R) (fault : GrowFault) → IsSeatOf live new → new.id ≡ old.id → new.made ≡ old.made
-        → IsStop width live count block new fault → HasGrown width live count block id new receipts (Some fault)
+        → StopsGrower width live count block new fault → HasGrown width live count block id new receipts (Some fault)
     stopped new fault of same made stop = record {
       of = of;
       id_is = same ∙ grown.id_is;
@@ -56,7 +56,7 @@ module _ {R : Type 0} (width : ℕ) (live : Phase R) (count : ℕ) (block : ℕ 
 
     module _ (new : Seated R) (of : IsSeatOf live new) (records : List R) (is : records ≡ block (length old.made)) (lt : length old.made < count) where
       -- by the book
-      named : new.made ≡ old.made → (fault : GrowFault) → IsGrowerFault width live new (length records) fault → IsStop width live count block new fault
+      named : new.made ≡ old.made → (fault : GrowFault) → IsGrowerFault width live new (length records) fault → StopsGrower width live count block new fault
       named made fault why = inr (
         subst (λ (n : ℕ). n < count) (sym (ap length made)) lt,
         subst (λ (n : ℕ). IsGrowerFault width live new n fault) (ap length (is ∙ ap (λ (es : List (Growth R)). block (length es)) (sym made))) why,

@@ -21,7 +21,7 @@ use Rattle.flush_core.specs.Flusher.{FlusherOf}
 use Rattle.vault_core.proofs.Prefixes.{begins-le}
 use Rattle.vault_core.specs.Vault.{VaultOf, list_of}
 use Rattle.vault_core.specs.Gathering.{IsWhole, HasId}
-use Rattle.vault_core.specs.Crewing.{HasCome, IsStop, IsReason, IsHome, AreHome, IsCrewed, SentOf, AreSent, receipt_of, crew_room, IsStrayFor}
+use Rattle.vault_core.specs.Crewing.{HasCome, StopsGrower, IsReason, IsHome, AreHome, IsCrewed, SentOf, AreSent, receipt_of, crew_room, IsStrayFor}
 
 some_is : {X : Type 0} (x y : X) → Some x ≡ Some y → x ≡ y
 some_is x y is = cc
@@ -152,7 +152,7 @@ module _ {R : Type 0} (width : ℕ) (live : Phase R) (count : ℕ → ℕ) (bloc
             | inr foreign ↦ absurd (no_foreign there.seat f.pass.entries m (begins k lt) (ap (λ (id : ℕ). own_of id f.pass.entries) there.come.grown.id_is ∙ own) foreign)
           ]
 
-      reason : (k : ℕ) (lt : k < n) (fault : GrowFault) → IsStop width live (count k) (block k) (home.each k lt).seat fault
+      reason : (k : ℕ) (lt : k < n) (fault : GrowFault) → StopsGrower width live (count k) (block k) (home.each k lt).seat fault
           → IsReason width (crew_room count n) (length (list_of new)) (count k) (block k) k f.pass.entries (length (home.each k lt).seat.made) fault
       reason k lt Closed (inl starved) = absurd (let is = starved.0 in cc)
       reason k lt Closed (inr why) = why.0
@@ -174,7 +174,7 @@ module _ {R : Type 0} (width : ℕ) (live : Phase R) (count : ℕ → ℕ) (bloc
       reason-at k lt fault is =
           let there = home.each k lt in
           let same : there.fault ≡ Some fault = some_is there.fault (Some fault) (sym there.fault_is ∙ is) in
-          let why = subst (λ (o : Option GrowFault). IfSome o (IsStop width live (count k) (block k) there.seat)) same there.come.grown.fault_is in
+          let why = subst (λ (o : Option GrowFault). IfSome o (StopsGrower width live (count k) (block k) there.seat)) same there.come.grown.fault_is in
           subst (λ (m : ℕ). IsReason width (crew_room count n) (length (list_of new)) (count k) (block k) k f.pass.entries m fault) (sym (ap length (own-is k lt))) (reason k lt fault why)
 
       pub crewed : IsCrewed width count block may_stop n old new receipts faults f.pass.entries

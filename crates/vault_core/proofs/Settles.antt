@@ -25,8 +25,8 @@ use Rattle.vault_core.specs.declared.fault.VaultFault.{VaultFault}
 use Rattle.vault_core.specs.declared.fault.VaultFault.TheVariants.{Pen, Unsettled, WrongPhase}
 use Rattle.pen_core.specs.Typed.{OpensTo}
 use Rattle.vault_core.specs.Vault.{VaultOf, MayHold, OpensToEither, list_of}
-use Rattle.vault_core.specs.Commands.{IsLaneFault}
-use Rattle.vault_core.specs.Settles.{CarriesOn, fold_ticks, work_left, HasAdvanced, IsSettleFault, Settles, fold_calls, calls_left}
+use Rattle.vault_core.specs.Commands.{IsVaultLaneFault}
+use Rattle.vault_core.specs.Settles.{CarriesOn, fold_ticks, work_left, HasAdvanced, IsSettleFault, HasTicked, fold_calls, calls_left}
 use Rattle.pen_core.proofs.Settled.{log_left-step}
 use Rattle.vault_core.proofs.Carried.{carries-trans}
 
@@ -40,14 +40,14 @@ module _ {R D : Type 0} (form : Encoding R) (keeps : D → Type 0) (states : D �
     | inr after ↦ inr (subst (λ records. OpensTo form image records) (ap joined same) after)
   ]
 
-  join_images : (old mid new : VaultOf R D) → Settles form keeps states faults old mid → keeps mid.pen.disk
+  join_images : (old mid new : VaultOf R D) → HasTicked form keeps states faults old mid → keeps mid.pen.disk
       → LeavesOnly (states mid.pen.disk) (states new.pen.disk) (MayHold form mid)
       → LeavesOnly (states old.pen.disk) (states new.pen.disk) (MayHold form old)
   join_images old mid new goes model images =
       LeavesOnly-join (states old.pen.disk) (states mid.pen.disk) (states new.pen.disk) (MayHold form old) (goes.images model)
       (LeavesOnly-weaker (states mid.pen.disk) (states new.pen.disk) (MayHold form mid) (MayHold form old) (holds_list old mid goes.blocks_same (goes.sure model)) images)
 
-  module _ (old mid new : VaultOf R D) (so_far : (mid ≡ old) ⊎ Settles form keeps states faults old mid) where
+  module _ (old mid new : VaultOf R D) (so_far : (mid ≡ old) ⊎ HasTicked form keeps states faults old mid) where
     pub settles_images : (keeps new.pen.disk → keeps mid.pen.disk)
         → (keeps new.pen.disk → LeavesOnly (states mid.pen.disk) (states new.pen.disk) (MayHold form mid)) → keeps new.pen.disk
         → LeavesOnly (states old.pen.disk) (states new.pen.disk) (MayHold form old)
@@ -103,7 +103,7 @@ module _ {R D : Type 0} (form : Encoding R) (keeps : D → Type 0) (states : D �
         → (mid.pen.broken ≡ false) × (new.pen.broken ≡ false)
         → clock (states new.pen.disk) + calls_left new.pen ≤ clock (states mid.pen.disk) + calls_left mid.pen
         → faults new.pen.disk ≡ faults mid.pen.disk
-        → (keeps new.pen.disk → keeps mid.pen.disk) → (keeps mid.pen.disk → keeps new.pen.disk) → Settles form keeps states faults old new
+        → (keeps new.pen.disk → keeps mid.pen.disk) → (keeps mid.pen.disk → keeps new.pen.disk) → HasTicked form keeps states faults old new
     settles_more images carries blocks sure whole time calls model goes_on = record {
       images = settles_images model images;
       carries = settles_carries model carries;

@@ -82,10 +82,10 @@ StandsBehind made was faults.Memory = was
 StandsBehind made was faults.Exists = was
 StandsBehind made was (faults.Disk cause) = made
 
-abbrev pub Stands : Type 0 → Type 0 → VaultFault → Type 0
-Stands made was (Pen fault) = StandsBehind made was fault
-Stands made was (Unsettled number) = ⊥
-Stands made was WrongPhase = ⊥
+abbrev pub StandsCommanded : Type 0 → Type 0 → VaultFault → Type 0
+StandsCommanded made was (Pen fault) = StandsBehind made was fault
+StandsCommanded made was (Unsettled number) = ⊥
+StandsCommanded made was WrongPhase = ⊥
 
 -- how many calls of the device failed where this is answered
 abbrev pub failed : VaultFault → ℕ
@@ -119,16 +119,16 @@ resized n v records = take n records ++ replicate (n - length records) v
 
 -- ---- folds
 
-abbrev pub IsFoldFault : {D : Type 0} → PenOf D → VaultFault → Type 0
-IsFoldFault pen (Pen fault) = IsFoldRefusal pen fault
-IsFoldFault pen (Unsettled number) = ⊥
-IsFoldFault pen WrongPhase = ⊥
+abbrev pub IsVaultFoldFault : {D : Type 0} → PenOf D → VaultFault → Type 0
+IsVaultFoldFault pen (Pen fault) = IsFoldRefusal pen fault
+IsVaultFoldFault pen (Unsettled number) = ⊥
+IsVaultFoldFault pen WrongPhase = ⊥
 
-abbrev pub IsLaneFault : {D : Type 0} → Lane → PenOf D → PenOf D → VaultFault → Type 0
-IsLaneFault Log old new (Pen fault) = IsTickFault old new fault
-IsLaneFault Home old new (Pen fault) = IsHomeFault old new fault
-IsLaneFault lane old new (Unsettled number) = ⊥
-IsLaneFault lane old new WrongPhase = ⊥
+abbrev pub IsVaultLaneFault : {D : Type 0} → Lane → PenOf D → PenOf D → VaultFault → Type 0
+IsVaultLaneFault Log old new (Pen fault) = IsTickFault old new fault
+IsVaultLaneFault Home old new (Pen fault) = IsHomeFault old new fault
+IsVaultLaneFault lane old new (Unsettled number) = ⊥
+IsVaultLaneFault lane old new WrongPhase = ⊥
 
 -- what a tick makes of the file: the last one of a job brings its frame into it
 abbrev pub FileLogTicked : {D : Type 0} → PenOf D → PenOf D → Tick → Type 0
@@ -155,7 +155,7 @@ pub record IsCommand {R D : Type 0} (form : Encoding R) (keeps : D → Type 0) (
   pub sure : keeps new.pen.disk → MatchResult result (λ _. new.sure ≡ list_of new) (λ _. new.sure ≡ old.sure)
   pub images : keeps new.pen.disk → MatchResult result
       (λ _. LeavesOnly (states old.pen.disk) (states new.pen.disk) (OpensToEither form old.sure (list_of new)))
-      (Stands (LeavesOnly (states old.pen.disk) (states new.pen.disk) (OpensToEither form old.sure (list_of new))) (new.pen.disk ≡ old.pen.disk))
+      (StandsCommanded (LeavesOnly (states old.pen.disk) (states new.pen.disk) (OpensToEither form old.sure (list_of new))) (new.pen.disk ≡ old.pen.disk))
   pub time : MatchResult result
       (λ _. clock (states new.pen.disk) ≡ clock (states old.pen.disk) + 4)
       (λ fault. clock (states new.pen.disk) ≡ clock (states old.pen.disk) + calls_made new.pen fault)

@@ -20,7 +20,7 @@ use Rattle.vault_core.specs.declared.crewing.CrewFault.{CrewFault}
 use Rattle.vault_core.specs.declared.crewing.CrewFault.TheVariants.{Share, Gather}
 use Rattle.vault_core.specs.Vault.{VaultOf, list_of}
 use Rattle.vault_core.specs.Sharing.{IsShareFault}
-use Rattle.vault_core.specs.Gathering.{AreOf, IsGatherFault}
+use Rattle.vault_core.specs.Gathering.{AreOfPhase, IsGatherFault}
 
 -- ---- sources
 
@@ -31,11 +31,11 @@ IsSourceFault width n fresh.TooLarge = payload_limit < payload_len width n
 IsSourceFault width n fresh.Memory = Unit {0}
 
 -- for each grower the records of its blocks
-abbrev pub growths_of : {R : Type 0} → List (Vec (Vec R)) → List (List (List R))
-growths_of lists = map (λ blocks. records_of blocks.items) lists
+abbrev pub grower_growths : {R : Type 0} → List (Vec (Vec R)) → List (List (List R))
+grower_growths lists = map (λ blocks. records_of blocks.items) lists
 
-abbrev pub count_in : {R : Type 0} → List (List (List R)) → ℕ → ℕ
-count_in growths grower = length (get_or growths grower [])
+abbrev pub grower_count : {R : Type 0} → List (List (List R)) → ℕ → ℕ
+grower_count growths grower = length (get_or growths grower [])
 
 abbrev pub block_in : {R : Type 0} → List (List (List R)) → ℕ → ℕ → List R
 block_in growths grower k = get_or (get_or growths grower []) k []
@@ -77,8 +77,8 @@ MayStarve count m = (m < count) ⊎ (m ≡ 0)
 
 -- why a grower stopped: memory was refused, that of its thread among it; or the growth of the block that comes next wasn't
 -- made
-abbrev pub IsStop : {R : Type 0} → ℕ → Phase R → ℕ → (ℕ → List R) → Seated R → GrowFault → Type 0
-IsStop width live count block seat fault =
+abbrev pub StopsGrower : {R : Type 0} → ℕ → Phase R → ℕ → (ℕ → List R) → Seated R → GrowFault → Type 0
+StopsGrower width live count block seat fault =
     ((fault ≡ Memory) × MayStarve count (length seat.made))
     ⊎ ((length seat.made < count) × IsGrowerFault width live seat (length (block (length seat.made))) fault)
 
@@ -90,7 +90,7 @@ pub record HasGrown {R : Type 0} (width : ℕ) (live : Phase R) (count : ℕ) (b
   pub few : length seat.made ≤ count
   pub blocks_are : (k : ℕ) (growth : Growth R) → slice_get seat.made k ≡ Some growth → growth.records ≡ block k
   pub receipts_are : receipts ≡ map (receipt_of (length (opening_of live))) seat.made
-  pub fault_is : IfSome fault (IsStop width live count block seat)
+  pub fault_is : IfSome fault (StopsGrower width live count block seat)
 
 -- It has come home: all of its growths are made, unless it stopped by a fault, or its gate might stop it before the next one.
 pub record HasCome {R : Type 0} (width : ℕ) (live : Phase R) (count : ℕ) (block : ℕ → List R) (may_stop : ℕ → Type 0) (id : ℕ) (seat : Seated R)
@@ -200,5 +200,5 @@ abbrev pub IsCrewFault : {R D : Type 0} → Encoding R → (D → Type 0) → (D
 IsCrewFault form keeps states vault room n (Share back fault) = (back ≡ vault) × IsShareFault vault room n fault
 IsCrewFault form keeps states vault room n (Gather g) =
     (g.live.blocks ≡ vault.blocks) × (g.live.directory.room ≡ room) × (g.live.seat_count ≡ n) × (length g.seats.items ≡ n)
-    × (keeps g.flusher.pen.disk → keeps vault.pen.disk) × AreOf (keeps g.flusher.pen.disk) g.live g.seats.items g.flusher × IsGatherFault g.live g.seats.items g.flusher g.fault
+    × (keeps g.flusher.pen.disk → keeps vault.pen.disk) × AreOfPhase (keeps g.flusher.pen.disk) g.live g.seats.items g.flusher × IsGatherFault g.live g.seats.items g.flusher g.fault
     × (keeps g.flusher.pen.disk → LeavesOnly (states vault.pen.disk) (states g.flusher.pen.disk) (OpensToGrown form (list_of vault) g.flusher.pass.entries))

@@ -114,7 +114,7 @@ IsSettleFault old new (Unsettled number) = ⊥
 IsSettleFault old new WrongPhase = ⊥
 
 -- a stretch of ticks, none of which failed
-pub record Settles {R D : Type 0} (form : Encoding R) (keeps : D → Type 0) (states : D → List State) (faults : D → ℕ) (old new : VaultOf R D) : Type 0 where
+pub record HasTicked {R D : Type 0} (form : Encoding R) (keeps : D → Type 0) (states : D → List State) (faults : D → ℕ) (old new : VaultOf R D) : Type 0 where
   pub images : keeps new.pen.disk → LeavesOnly (states old.pen.disk) (states new.pen.disk) (MayHold form old)
   pub carries : CarriesOn (keeps new.pen.disk) old.pen new.pen
   pub blocks_same : new.blocks ≡ old.blocks

@@ -30,8 +30,8 @@ use Rattle.vault_core.specs.Vault.{VaultOf, OpensToEither, list_of}
 -- ---- what is copied
 
 -- the bytes are a file of this version, and these are its records
-abbrev pub IsFileOf : {R : Type 0} → Format → Encoding R → List ℕ → List R → Type 0
-IsFileOf format form bytes records = (frames : List Frame) × HasVector format form bytes frames records
+abbrev pub IsFileOfFormat : {R : Type 0} → Format → Encoding R → List ℕ → List R → Type 0
+IsFileOfFormat format form bytes records = (frames : List Frame) × HasVector format form bytes frames records
 
 -- in how many growths so many records are copied: each has a piece of them, the last one maybe fewer
 abbrev pub growth_count : ℕ → ℕ → ℕ
@@ -130,9 +130,9 @@ pub record IsCopied {R D : Type 0} (form : Encoding R) (keeps : D → Type 0) (s
 -- Why nothing was upgraded, by what the old file is, with what is left of the new disk.
 abbrev pub IsUpgradeFault : {R E : Type 0} → Encoding R → Type 0 → List ℕ → (E → Type 0) → (E → List State) → (E → ℕ) → ℕ → E → E → UpgradeFault → Type 0
 IsUpgradeFault form known bytes keeps states failures piece new left (Old fault) = (known → IsOpenRefusal form bytes fault) × (left ≡ new)
-IsUpgradeFault {R} form known bytes keeps states failures piece new left NotOld = (known → (records : List R) × IsFileOf Two form bytes records) × (left ≡ new)
+IsUpgradeFault {R} form known bytes keeps states failures piece new left NotOld = (known → (records : List R) × IsFileOfFormat Two form bytes records) × (left ≡ new)
 IsUpgradeFault {R} form known bytes keeps states failures piece new left (New (Pen fault)) =
-    (records : List R) × (known → IsFileOf One form bytes records) × IsCopied form keeps states failures piece records new (Err (left, fault))
+    (records : List R) × (known → IsFileOfFormat One form bytes records) × IsCopied form keeps states failures piece records new (Err (left, fault))
 IsUpgradeFault form known bytes keeps states failures piece new left (New (Unsettled number)) = ⊥
 IsUpgradeFault form known bytes keeps states failures piece new left (New WrongPhase) = ⊥
 

@@ -6,7 +6,7 @@ ghost use Rattle.segment_core.specs.Runs.{runs_given};
 ghost use Rattle.segment_core.specs.Written.{joined};
 ghost use Rattle.segment_core.specs.Tally.{are_ascending, are_inside};
 ghost use Rattle.book_core.specs.Lists.{records_of, IsRestOfPiece};
-ghost use Rattle.vault_core.specs.Parts.{IsPart, AreParts, IsCut, Fill, block_at, slice_of, spans_of, span_of};
+ghost use Rattle.vault_core.specs.Parts.{IsPart, AreParts, IsCutIntoRuns, Fill, block_at, slice_of, spans_of, span_of};
 ghost use Rattle.vault_core.specs.Blocks.{AreEnds};
 ghost use Rattle.vault_core.specs.Touched.{IsTouched};
 
@@ -215,7 +215,7 @@ impl<R: Record> Blocks<R> {
     /// Cuts runs of positions, by start and count, where the blocks end.
     pub(crate) fn cut(&self, runs: &[(u64, u64)], parts: &mut Vec<Part>) -> Result<(), AllocError>
         requires { are_inside (length (joined self.now)) (runs_given runs.now) ≡ true }
-        ensures { OnOk result (AreParts self.now parts.new.items × IsCut (runs_given runs.now) (spans_of parts.new.items)) }
+        ensures { OnOk result (AreParts self.now parts.new.items × IsCutIntoRuns (runs_given runs.now) (spans_of parts.new.items)) }
     {
         parts.clear();
         for k in 0..runs.len() {

@@ -9,7 +9,7 @@ ghost use Rattle.record_core.specs.Limits.{record_limit};
 ghost use Rattle.book_core.specs.Lists.{records_of, joined_pieces, opening_of, StandInList};
 ghost use Rattle.flush_core.specs.Flusher.{IsFlusherOf, FlusherLearns};
 ghost use Rattle.vault_core.specs.Vault.{list_of};
-ghost use Rattle.vault_core.specs.Gathering.{AreOf, AreDistinct, IsWhole, IsGatherFault, MayGather, made_by, most_known};
+ghost use Rattle.vault_core.specs.Gathering.{AreOfPhase, AreDistinct, IsWhole, IsGatherFault, MayGather, made_by, most_known};
 
 use crate::blocks::Blocks;
 use crate::fault::VaultFault;
@@ -148,7 +148,7 @@ fn copy_growths<R: Record, D: Disk>(
 
 /// Gives the seats up: what each knows is found to begin what the flusher knows, and what it was told is settled.
 fn take_in_all<R: Record, D: Disk>(live: &Live<R>, flusher: &mut Flusher<R, D>, seats: Vec<Seat<R>>)
-    requires of { AreOf (D.keeps flusher.old.pen.disk) live.now seats.items flusher.old }
+    requires of { AreOfPhase (D.keeps flusher.old.pen.disk) live.now seats.items flusher.old }
     requires known { All (λ seat. length seat.pass.entries ≤ length flusher.old.pass.entries) seats.items }
     ensures learns { FlusherLearns flusher.old flusher.new }
     ensures entries { flusher.new.pass.entries ≡ flusher.old.pass.entries }
@@ -193,7 +193,7 @@ pub fn gather<R: Record, D: Disk>(
     seats: Vec<Seat<R>>,
     flusher: Flusher<R, D>,
 ) -> Result<Vault<R, D>, Gathering<R, D>>
-    requires { AreOf (D.keeps flusher.pen.disk) live seats.items flusher }
+    requires { AreOfPhase (D.keeps flusher.pen.disk) live seats.items flusher }
     ensures list { IfOk result (λ vault. list_of vault ≡ opening_of live ++ joined flusher.pass.entries) }
     ensures pen { IfOk result (λ vault. vault.pen ≡ flusher.pen) }
     ensures told { IfOk result (λ vault. D.keeps vault.pen.disk → (image : List ℕ) → IsImage (now (D.states vault.pen.disk)) image → OpensTo R.form image (list_of vault)) }

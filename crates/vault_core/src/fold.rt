@@ -6,7 +6,7 @@ ghost use Rattle.pen_core.specs.Folds.{IsWholeFold};
 ghost use Rattle.pen_core.specs.Pen.{FileSame, IsFoldAnswer, IsUnchanged};
 ghost use Rattle.flush_core.specs.Refusals.{IsLaneTicked, lane_calls};
 ghost use Rattle.vault_core.specs.Vault.{MayHold, list_of};
-ghost use Rattle.vault_core.specs.Commands.{failed, FileLaneTicked, IsFoldFault, IsLaneFault};
+ghost use Rattle.vault_core.specs.Commands.{failed, FileLaneTicked, IsVaultFoldFault, IsVaultLaneFault};
 ghost use Rattle.vault_core.specs.Settles.{CarriesOn, HasAdvanced, IsIdle, IsSettleFault, StandsInFile, calls_left};
 
 use crate::fault::VaultFault;
@@ -25,7 +25,7 @@ impl<R: Record, D: Disk> Vault<R, D> {
     pub fn begin_fold(&mut self) -> Result<bool, VaultFault>
         ensures begun { IfOk result (λ begun. IsFoldAnswer self.old.pen self.new.pen begun) }
         ensures plans { D.keeps self.old.pen.disk → OnOk result (IfSome self.new.pen.fold (λ fold. IsWholeFold self.old.pen.shape self.old.pen.frames self.old.pen.vector fold.left)) }
-        ensures refused { IfErr result (λ fault. IsFoldFault self.old.pen fault) }
+        ensures refused { IfErr result (λ fault. IsVaultFoldFault self.old.pen fault) }
         ensures unchanged { OnErr result (IsUnchanged self.old.pen self.new.pen) }
         ensures list { (self.new.blocks ≡ self.old.blocks) × (self.new.sure ≡ self.old.sure) }
     {
@@ -54,7 +54,7 @@ impl<R: Record, D: Disk> Vault<R, D> {
         ensures file { D.keeps self.new.pen.disk → MatchResult result (λ tick. FileLaneTicked lane self.old.pen self.new.pen tick) (λ _. FileSame self.old.pen self.new.pen) }
         ensures list { self.new.blocks ≡ self.old.blocks }
         ensures sure { D.keeps self.new.pen.disk → MatchResult result (λ _. self.new.sure ≡ list_of self.new) (λ _. self.new.sure ≡ self.old.sure) }
-        ensures refused { IfErr result (λ fault. IsLaneFault lane self.old.pen self.new.pen fault) }
+        ensures refused { IfErr result (λ fault. IsVaultLaneFault lane self.old.pen self.new.pen fault) }
         ensures whole { OnOk result ((self.old.pen.broken ≡ false) × (self.new.pen.broken ≡ false)) }
         ensures time { clock (D.states self.new.pen.disk) ≡ clock (D.states self.old.pen.disk) + lane_calls lane self.old.pen }
         ensures faults { MatchResult result

@@ -5,7 +5,7 @@
 //! that wraps this one may ask for these.
 
 ghost use Rattle.std.specs.Prelude.{◌≡◌, ◌<◌, ◌≤◌, ◌^◌, ◌⊎◌, ℕ, length, All, HoldsAt, vec_len, MatchOption};
-ghost use Rattle.vault_core.specs.Crewing.{growths_of, count_in, block_in};
+ghost use Rattle.vault_core.specs.Crewing.{grower_growths, grower_count, block_in};
 
 use crate::source::Source;
 use block_core::{Fresh, FreshFault};
@@ -51,9 +51,9 @@ impl<'a, R: Record> Lists<'a, R> {
 impl<'a> Source<u32> for Lists<'a, u32> {
     ghost growers_of = { λ s. length s.lists.now };
 
-    ghost count_of = { λ s grower. count_in (growths_of s.lists.now) grower };
+    ghost count_of = { λ s grower. grower_count (grower_growths s.lists.now) grower };
 
-    ghost block_of = { λ s grower k. block_in (growths_of s.lists.now) grower k };
+    ghost block_of = { λ s grower k. block_in (grower_growths s.lists.now) grower k };
 
     fn growers(&self) -> u16 {
         self.lists.len() as u16
@@ -71,9 +71,9 @@ impl<'a> Source<u32> for Lists<'a, u32> {
 impl<'a> Source<u64> for Lists<'a, u64> {
     ghost growers_of = { λ s. length s.lists.now };
 
-    ghost count_of = { λ s grower. count_in (growths_of s.lists.now) grower };
+    ghost count_of = { λ s grower. grower_count (grower_growths s.lists.now) grower };
 
-    ghost block_of = { λ s grower k. block_in (growths_of s.lists.now) grower k };
+    ghost block_of = { λ s grower k. block_in (grower_growths s.lists.now) grower k };
 
     fn growers(&self) -> u16 {
         self.lists.len() as u16
@@ -91,9 +91,9 @@ impl<'a> Source<u64> for Lists<'a, u64> {
 impl<'a> Source<i64> for Lists<'a, i64> {
     ghost growers_of = { λ s. length s.lists.now };
 
-    ghost count_of = { λ s grower. count_in (growths_of s.lists.now) grower };
+    ghost count_of = { λ s grower. grower_count (grower_growths s.lists.now) grower };
 
-    ghost block_of = { λ s grower k. block_in (growths_of s.lists.now) grower k };
+    ghost block_of = { λ s grower k. block_in (grower_growths s.lists.now) grower k };
 
     fn growers(&self) -> u16 {
         self.lists.len() as u16
@@ -111,9 +111,9 @@ impl<'a> Source<i64> for Lists<'a, i64> {
 impl<'a> Source<Pair> for Lists<'a, Pair> {
     ghost growers_of = { λ s. length s.lists.now };
 
-    ghost count_of = { λ s grower. count_in (growths_of s.lists.now) grower };
+    ghost count_of = { λ s grower. grower_count (grower_growths s.lists.now) grower };
 
-    ghost block_of = { λ s grower k. block_in (growths_of s.lists.now) grower k };
+    ghost block_of = { λ s grower k. block_in (grower_growths s.lists.now) grower k };
 
     fn growers(&self) -> u16 {
         self.lists.len() as u16
@@ -131,9 +131,9 @@ impl<'a> Source<Pair> for Lists<'a, Pair> {
 impl<'a> Source<Flagged> for Lists<'a, Flagged> {
     ghost growers_of = { λ s. length s.lists.now };
 
-    ghost count_of = { λ s grower. count_in (growths_of s.lists.now) grower };
+    ghost count_of = { λ s grower. grower_count (grower_growths s.lists.now) grower };
 
-    ghost block_of = { λ s grower k. block_in (growths_of s.lists.now) grower k };
+    ghost block_of = { λ s grower k. block_in (grower_growths s.lists.now) grower k };
 
     fn growers(&self) -> u16 {
         self.lists.len() as u16

@@ -4,7 +4,7 @@ ghost use Rattle.std.specs.Prelude.{◌≡◌, ◌+◌, ◌-◌, ◌*◌, ◌<�
 ghost use Rattle.segment_core.specs.Frame.{Shrink};
 ghost use Rattle.segment_core.specs.Written.{group_frame, payload_len};
 ghost use Rattle.pen_core.specs.Refusals.{first_refusal, group_lines, shrink_lines};
-ghost use Rattle.vault_core.specs.Commands.{IsCommand, IsNothingFault, Stands, resized};
+ghost use Rattle.vault_core.specs.Commands.{IsCommand, IsNothingFault, StandsCommanded, resized};
 ghost use Rattle.vault_core.specs.Vault.{list_of};
 
 use crate::committing::commit;
@@ -31,7 +31,7 @@ impl<R: Record, D: Disk> Vault<R, D> {
         requires { 0 < more }
         ensures blocks { MatchResult result
             (λ _. self.new.blocks ≡ self.old.blocks ++ replicate more v ∷ [])
-            (Stands (self.new.blocks ≡ self.old.blocks ++ replicate more v ∷ []) (self.new.blocks ≡ self.old.blocks)) }
+            (StandsCommanded (self.new.blocks ≡ self.old.blocks ++ replicate more v ∷ []) (self.new.blocks ≡ self.old.blocks)) }
         ensures command { IsCommand R.form D.keeps D.states D.faults (group_frame R.form (replicate more v ∷ [])) (group_lines self.old.pen more (8 + more * R.form.width)) self.old self.new result }
     {
         if let Err(fault) = self.pen.ready_growth::<R>(more) {
@@ -54,7 +54,7 @@ impl<R: Record, D: Disk> Vault<R, D> {
     pub(crate) fn shrink(&mut self, n: u64) -> Result<(), VaultFault>
         ensures list { MatchResult result
             (λ _. list_of self.new ≡ take n (list_of self.old))
-            (Stands (list_of self.new ≡ take n (list_of self.old)) (self.new.blocks ≡ self.old.blocks)) }
+            (StandsCommanded (list_of self.new ≡ take n (list_of self.old)) (self.new.blocks ≡ self.old.blocks)) }
         ensures command { IsCommand R.form D.keeps D.states D.faults (Shrink n) (shrink_lines self.old.pen n) self.old self.new result }
     {
         if let Err(fault) = self.pen.begin_shrink(n) {
@@ -73,7 +73,7 @@ impl<R: Record, D: Disk> Vault<R, D> {
     pub fn resize(&mut self, n: u64, v: R) -> Result<(), VaultFault>
         ensures list { MatchResult result
             (λ _. list_of self.new ≡ resized n v (list_of self.old))
-            (Stands (list_of self.new ≡ resized n v (list_of self.old)) (self.new.blocks ≡ self.old.blocks)) }
+            (StandsCommanded (list_of self.new ≡ resized n v (list_of self.old)) (self.new.blocks ≡ self.old.blocks)) }
         ensures up { length (list_of self.old) < n → IsCommand R.form D.keeps D.states D.faults (group_frame R.form (replicate (n - length (list_of self.old)) v ∷ [])) (group_lines self.old.pen (n - length (list_of self.old)) (8 + (n - length (list_of self.old)) * R.form.width)) self.old self.new result }
         ensures down { n < length (list_of self.old) → IsCommand R.form D.keeps D.states D.faults (Shrink n) (shrink_lines self.old.pen n) self.old self.new result }
         ensures nothing { n ≡ length (list_of self.old) → (self.new ≡ self.old) × MatchResult result (λ _. self.old.pen.broken ≡ false) (IsNothingFault self.old.pen) }
@@ -92,7 +92,7 @@ impl<R: Record, D: Disk> Vault<R, D> {
     pub fn clear(&mut self) -> Result<(), VaultFault>
         ensures list { MatchResult result
             (λ _. list_of self.new ≡ [])
-            (Stands (list_of self.new ≡ []) (self.new.blocks ≡ self.old.blocks)) }
+            (StandsCommanded (list_of self.new ≡ []) (self.new.blocks ≡ self.old.blocks)) }
         ensures command { 0 < length (list_of self.old) → IsCommand R.form D.keeps D.states D.faults (Shrink 0) (shrink_lines self.old.pen 0) self.old self.new result }
         ensures nothing { list_of self.old ≡ [] → (self.new ≡ self.old) × MatchResult result (λ _. self.old.pen.broken ≡ false) (IsNothingFault self.old.pen) }
     {

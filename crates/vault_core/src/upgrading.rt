@@ -10,7 +10,7 @@ ghost use Rattle.segment_core.specs.Raw.{AreCellsOf};
 ghost use Rattle.pen_core.specs.Births.{IsNew, IsEmpty};
 ghost use Rattle.pen_core.specs.Opening.{OnlySyncs};
 ghost use Rattle.pen_core.specs.Pen.{IsKept, failed_calls};
-ghost use Rattle.vault_core.specs.Upgrading.{AreOldCalls, HasWritten, IsCopied, IsCopyStop, IsFileOf, IsUpgradeFault, OpensToCopied, failed_of_old, growth_count};
+ghost use Rattle.vault_core.specs.Upgrading.{AreOldCalls, HasWritten, IsCopied, IsCopyStop, IsFileOfFormat, IsUpgradeFault, OpensToCopied, failed_of_old, growth_count};
 ghost use Rattle.vault_core.specs.Vault.{list_of};
 
 use crate::blocks::Blocks;
@@ -125,7 +125,7 @@ pub fn upgrade<R: Record, D: Disk, E: Disk>(
     ensures old_stays { MatchResult result
         (λ r. D.keeps r.0 → OnlySyncs (D.states old) (D.states r.0))
         (λ r. D.keeps r.0 → OnlySyncs (D.states old) (D.states r.0)) }
-    ensures upgraded { IfOk result (λ r. (D.keeps r.0 → IsFileOf One R.form (bytes_of (D.states old)) (list_of r.1))
+    ensures upgraded { IfOk result (λ r. (D.keeps r.0 → IsFileOfFormat One R.form (bytes_of (D.states old)) (list_of r.1))
         × IsCopied R.form E.keeps E.states E.faults piece (list_of r.1) new (Ok r.1)) }
     ensures refused { IfErr result (λ r. IsUpgradeFault R.form (D.keeps r.0) (bytes_of (D.states old)) E.keeps E.states E.faults piece new r.1 r.2) }
     ensures old_calls { MatchResult result

@@ -2,7 +2,7 @@
 
 ghost use Rattle.std.specs.Prelude.{◌++◌, OnOk, option_map};
 ghost use Rattle.std.specs.Io.KnownBytes.{Appends};
-ghost use Rattle.words_core.specs.Usage.{fault_line, usage_text};
+ghost use Rattle.words_core.specs.Usage.{usage_fault_line, usage_text};
 
 use std::io;
 use std::io::Write;
@@ -39,7 +39,7 @@ echo '1 2 | 3' | cvec image u64
 
 /// Writes what is wrong with the words as a line, where something is.
 fn write_fault<W: Write>(writer: &mut W, fault: Option<&str>) -> io::Result<()>
-    ensures { OnOk result (Appends (W.contents writer.old) (W.contents writer.new) (fault_line (option_map (λ s. s.now) fault.entry))) }
+    ensures { OnOk result (Appends (W.contents writer.old) (W.contents writer.new) (usage_fault_line (option_map (λ s. s.now) fault.entry))) }
 {
     match fault {
         Some(fault) => {

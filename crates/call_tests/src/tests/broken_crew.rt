@@ -4,7 +4,7 @@
 ghost use Rattle.std.specs.Prelude.{All, IfOk, IfSome};
 ghost use Rattle.book_core.specs.Lists.{IsSeatOf};
 ghost use Rattle.flush_core.specs.Flusher.{IsFlusherOf};
-ghost use Rattle.vault_core.specs.Gathering.{AreOf};
+ghost use Rattle.vault_core.specs.Gathering.{AreOfPhase};
 
 use super::crews::Open;
 use book_core::{Live, Seat};
@@ -104,7 +104,7 @@ fn end_broken<D: Disk + Drop>(
     mut flusher: Flusher<u64, D>,
     mut seats: Vec<Seat<u64>>,
 ) -> Option<Left<D>>
-    requires { AreOf (D.keeps flusher.pen.disk) live.now seats.items flusher }
+    requires { AreOfPhase (D.keeps flusher.pen.disk) live.now seats.items flusher }
 {
     let told = tell_last(alloc, live, &mut flusher, &mut seats)?;
     take_last_in(live, &mut flusher, &mut seats);
@@ -136,7 +136,7 @@ fn tell_last<D: Disk>(
 
 /// The same of the parts that a crew hands back.
 fn end_parts<D: Disk + Drop>(alloc: Global, parts: Gathering<u64, D>) -> Option<Left<D>>
-    requires { AreOf (D.keeps parts.flusher.pen.disk) parts.live parts.seats.items parts.flusher }
+    requires { AreOfPhase (D.keeps parts.flusher.pen.disk) parts.live parts.seats.items parts.flusher }
 {
     let Gathering {
         live,
@@ -154,7 +154,7 @@ fn parts_of<D: Disk + Send + Drop, E: Threads + Wait + Sync>(
     vault: Vault<u64, D>,
     growths: &[Vec<Vec<u64>>],
 ) -> Result<Option<Gathering<u64, D>>, Fail>
-    ensures { IfOk result (λ parts. IfSome parts (λ parts. AreOf (D.keeps parts.flusher.pen.disk) parts.live parts.seats.items parts.flusher)) }
+    ensures { IfOk result (λ parts. IfSome parts (λ parts. AreOfPhase (D.keeps parts.flusher.pen.disk) parts.live parts.seats.items parts.flusher)) }
 {
     let Some(source) = Lists::try_new(growths) else {
         return Err(Fail::from("too many"));

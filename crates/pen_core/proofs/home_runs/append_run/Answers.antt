@@ -3,7 +3,7 @@ use Rattle.std.specs.List.{range_with_len}
 use Rattle.std.proofs.lemmas.List.{get_or_default}
 use Rattle.segment_core.specs.declared.found.Home.{Home}
 use Rattle.segment_core.specs.Found.{home_among}
-use Rattle.pen_core.specs.HomeRuns.{positions_at, AreRuns}
+use Rattle.pen_core.specs.HomeRuns.{positions_at, AreGreatestRuns}
 use Rattle.pen_core.proofs.HomeRunSteps.{turn-to, turn-next, turn-last, ranges-join, first_or_in, part_placed, IsAdjacent-part, all_bounded}
 use Rattle.pen_core.proofs.home_runs.append_run.Goals as goal
 
@@ -86,7 +86,7 @@ loop-k-preserved c =
           ∙ ap (λ ps. positions_at c.args.runs.now.items ++ ps)
           (ranges-join c.args.from c.loop-k.at (c.min-end.result - c.loop-k.at) l.from
           ∙ ap (λ n. range_with_len c.args.from (n - c.args.from)) to);
-      runs_are = subst (λ n. AreRuns width (home_among width homes) n c.append_part.new.runs.items) to
+      runs_are = subst (λ n. AreGreatestRuns width (home_among width homes) n c.append_part.new.runs.items) to
           (made.runs (home_among width homes)
           (IsAdjacent-part width c.requires.homes.end homes k blank c.loop-k.at c.min-end.result turn c.loop-k-test.true
           here.0 (omega arith))
@@ -103,4 +103,4 @@ pub returns-clause-runs : goal.returns-clause-runs
 returns-clause-runs c =
     let l = c.loop-k.invariant in
     let done : c.loop-k.at ≡ c.args.to = omega (arith, l.to, l.all (omega (arith, c.loop-k-test.false))) in
-    subst (λ n. AreRuns c.args.width (home_among c.args.width c.args.homes.now) n c.loop-k.runs.items) done l.runs_are
+    subst (λ n. AreGreatestRuns c.args.width (home_among c.args.width c.args.homes.now) n c.loop-k.runs.items) done l.runs_are

@@ -4,7 +4,7 @@ use Rattle.stat_core.specs.Summary.{begun, tally_in, AreFew}
 use Rattle.stat_core.specs.declared.outline.Outline.{Outline}
 use Rattle.stat_core.specs.Next.{IsNextOutline, IsSized}
 use Rattle.stat_core.specs.Walked.{Counts}
-use Rattle.stat_core.specs.Window.{Holds}
+use Rattle.stat_core.specs.Window.{HoldsWindow}
 use Rattle.stat_core.proofs.Counted.{few_begun, few_grown, grown_frames, count_none, count_more, grown_gate, grown_bytes}
 use Rattle.stat_core.proofs.OnlyRead.{reads_nothing, reads_on}
 use Rattle.stat_core.proofs.walking.walk.Goals as goal
@@ -48,7 +48,7 @@ loop-window-preserved g c =
     let gate = ap (λ t. t.gate) is ∙ grown_gate c.args.shape s outline in
     let holds =
     λ (model : g.D.Disk.keeps c.slide.new.disk).
-    subst (λ (image : List ℕ). Holds image c.slide.new.buffer c.in-Ok.window)
+    subst (λ (image : List ℕ). HoldsWindow image c.slide.new.buffer c.in-Ok.window)
     (ap (λ t. t.seen) (let reads = inv.reads (c.slide.ensures.model model) in reads.same))
     (c.in-Ok.ensures.holds model) in
     record {

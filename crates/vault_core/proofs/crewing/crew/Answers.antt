@@ -1,7 +1,7 @@
 use Rattle.std.proofs.Common.{◌≡◌, ℕ, ◌+◌, List, map, Vec, refl, sym, ap, subst, ◌∙◌, arith, rules}
 use Rattle.pen_core.specs.PenOf.{PenOf}
 use Rattle.book_core.specs.declared.seat.Receipt.{Receipt}
-use Rattle.vault_core.specs.Gathering.{AreOf}
+use Rattle.vault_core.specs.Gathering.{AreOfPhase}
 use Rattle.vault_core.specs.Crewing.{AreHome}
 use Rattle.vault_core.proofs.Homes.{all-of, crewed}
 use Rattle.vault_core.proofs.Served.{served_first, is_back}
@@ -48,7 +48,7 @@ returns-in-Err-gather-clause-refused g c =
     let source = c.args.source.now in
     let e = c.in-Err-gather.ensures in
     let back = e.back in
-    let of : AreOf (g.D.Disk.keeps c.run_phase-flusher.result.0.pen.disk) c.in-Ok-share.begun.0 c.run_phase-flusher.result.1.seats.items c.run_phase-flusher.result.0 = record {
+    let of : AreOfPhase (g.D.Disk.keeps c.run_phase-flusher.result.0.pen.disk) c.in-Ok-share.begun.0 c.run_phase-flusher.result.1.seats.items c.run_phase-flusher.result.0 = record {
       all_of = all-of g.R.Record.form.width c.in-Ok-share.begun.0 (g.S.Source.count_of source) (g.S.Source.block_of source)
           (g.G.Gate.may_stop c.args.gate.now) _ c.run_phase-flusher.result.1.seats.items _ _ c.run_phase-flusher.ensures.home;
       flusher_of = c.run_phase-flusher.ensures.flusher;

@@ -1,4 +1,4 @@
-use Rattle.book_core.specs.Lists.{seat_pieces, list_of}
+use Rattle.book_core.specs.Lists.{seat_pieces, seat_list}
 use Rattle.book_core.proofs.PieceLists.{left_from}
 use Rattle.book_core.proofs.live.Live.pieces_from.Goals as goal
 
@@ -7,5 +7,5 @@ returns-clause-list g c =
     let live = c.args.self.now in
     let seat = c.args.seat.now in
     rw c.unwrap_or-next.ensures
-    (left_from (seat_pieces live seat) (list_of live seat) c.args.i c.piece_count-count.result c.find.result
+    (left_from (seat_pieces live seat) (seat_list live seat) c.args.i c.piece_count-count.result c.find.result
     c.piece_count-count.ensures.joined c.piece_count-count.ensures.count c.find.ensures)
