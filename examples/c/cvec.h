@@ -39,7 +39,7 @@ enum cvec_status {
     CVEC_NO_ROOM = 11,     /* the memory that was passed is too small */
     CVEC_NO_FRAME = 12,    /* no whole open frame begins there */
     /* of cvec_file.c alone */
-    CVEC_EXISTS = 32,      /* there is a file already */
+    CVEC_EXISTS = 32,      /* something is there already */
     CVEC_IN_USE = 33,      /* open already by cvec_create or cvec_open, in this process too, or locked (flock) otherwise */
     CVEC_BROKEN = 34,      /* a write or a sync has failed on this file before. Open it again; after a sync, restart first */
     CVEC_DISK_OPEN = 35,   /* a call of the system failed, errno says why: open, or flock */
@@ -207,8 +207,8 @@ typedef struct cvec_file {
     size_t room;
 } cvec_file;
 
-/* Makes a file of version 1, and syncs its folder. What is there stays: CVEC_EXISTS; but for at most CVEC_EMPTY_LEN bytes
- * that are no file yet (CVEC_UNBORN), which are overwritten. Where it is refused *file is closed. */
+/* Makes a file of version 1, and syncs its folder. What is there stays: CVEC_EXISTS; but for what a stopped creation of this
+ * type leaves, at most CVEC_EMPTY_LEN bytes, each 0 or that of the empty file. Where it is refused *file is closed. */
 uint32_t cvec_create(cvec_file *file, const char *path, cvec_type type);
 
 /* Opens a file and checks it: CVEC_DONE, or why not, as cvec_check_TYPE and the system's calls answer. Nothing is

@@ -204,18 +204,25 @@ static uint32_t load(int fd, struct image *image) {
     return answer;
 }
 
-/* ---- a file that is made: a sync, a look whether there is one, its first byte shut, and a commit at place 0 */
+/* ---- a file that is made: a sync, a look what is there, its first byte shut, and a commit at place 0 */
 
-static uint32_t shut_first(int fd) {
+/* Whether this is nothing but what a stopped creation leaves: each byte 0, or the one that the empty file gets. */
+static bool is_vacant(const uint8_t *there, size_t len, const uint8_t *empty) {
+    for (size_t at = 0; at < len; at++)
+        if (there[at] != 0 && there[at] != empty[at]) return false;
+    return len < 2 || there[0] != open_gate;
+}
+
+static uint32_t shut_first(int fd, const uint8_t *empty) {
     uint64_t len = 0;
-    uint8_t first = 0;
+    uint8_t there[CVEC_EMPTY_LEN];
     uint32_t answer = length_of(fd, &len);
     if (answer != CVEC_DONE) return answer;
     if (len > CVEC_EMPTY_LEN) return CVEC_EXISTS;
-    if (len < 2) return write_synced(fd, 0, &closed_gate, 1);
-    answer = read_at(fd, 0, &first, 1);
+    answer = read_at(fd, 0, there, (size_t)len);
     if (answer != CVEC_DONE) return answer;
-    return first == open_gate ? CVEC_EXISTS : CVEC_DONE;
+    if (!is_vacant(there, (size_t)len, empty)) return CVEC_EXISTS;
+    return len < 2 ? write_synced(fd, 0, &closed_gate, 1) : CVEC_DONE;
 }
 
 static uint32_t make(cvec_file *file, const char *path, cvec_type type) {
@@ -224,7 +231,7 @@ static uint32_t make(cvec_file *file, const char *path, cvec_type type) {
     if (answer == CVEC_DONE) answer = sync_folder(path);
     if (answer == CVEC_DONE) answer = empty_file(type, bytes, sizeof bytes, &file->stat);
     if (answer == CVEC_DONE) answer = sync_data(file->fd);
-    if (answer == CVEC_DONE) answer = shut_first(file->fd);
+    if (answer == CVEC_DONE) answer = shut_first(file->fd, bytes);
     if (answer == CVEC_DONE) answer = commit(file->fd, 0, bytes, sizeof bytes);
     return answer;
 }

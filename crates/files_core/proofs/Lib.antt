@@ -10,3 +10,4 @@ pub mod Commas
 pub mod Standing
 pub mod Fronts
 pub mod Blocks
+pub mod WorkedVacant

@@ -8,6 +8,7 @@ pub mod Opened
 pub mod Searching
 pub mod Changing
 pub mod Creating
+pub mod Vacant
 pub mod Listing
 pub mod Checking
 pub mod Watched

@@ -26,6 +26,7 @@ mod searching;
 mod setting;
 mod sounding;
 mod upgrading;
+mod vacant;
 mod watched;
 
 pub use appended::Appended;
@@ -46,4 +47,5 @@ pub use searching::{count, find};
 pub use setting::set;
 pub use sounding::sound_front;
 pub use upgrading::upgrade_file;
+pub use vacant::is_vacant;
 pub use watched::Watched;

@@ -1,0 +1,35 @@
+-- What a file may be made over, worked by hand: a file of version 1 whose records have 8 bytes.
+use Rattle.std.proofs.Common.{◌≡◌, ◌<◌, ◌≤◌, ◌⊎◌, ◌∷◌, [], ℕ, zero, suc, inl, inr, refl, lit≤, lit<, arith}
+use Rattle.std.specs.Prelude.{codes, slice_index}
+use Rattle.segment_core.specs.declared.format.Shape.{Shape}
+use Rattle.segment_core.specs.declared.format.Format.TheVariants.{One}
+use Rattle.files_core.specs.Vacant.{IsVacant}
+
+abbrev shape : Shape
+shape = record { format = One; width = 8 }
+
+-- nothing, and a front that is closed with a byte that isn't there yet
+nothing : IsVacant shape []
+nothing = record { short = lit≤ tt; each = λ i lt. absurd (omega (arith, lt)) }
+
+a_front : IsVacant shape (0 ∷ 67 ∷ 0 ∷ [])
+a_front = record { short = lit≤ tt; each = at } where
+  at : (i : ℕ) → i < 3 → (slice_index (0 ∷ 67 ∷ 0 ∷ []) i ≡ 0) ⊎ (slice_index (0 ∷ 67 ∷ 0 ∷ []) i ≡ slice_index (1 ∷ 67 ∷ 86 ∷ []) i)
+  at zero lt = inl refl
+  at (suc zero) lt = inr refl
+  at (suc (suc zero)) lt = inl refl
+  at (suc (suc (suc n))) lt = absurd (omega (arith, lt))
+
+-- twelve bytes of somebody, one byte of his, and the last byte where the gate of an empty file stands
+a_text : IsVacant shape (codes "secret=abc1\n") → ⊥
+a_text vacant = elim (vacant.each 0 (lit< tt)) [ inl none ↦ (let e : 115 ≡ 0 = none in omega (arith, e)) | inr made ↦ (let e : 115 ≡ 1 = made in omega (arith, e)) ]
+
+one_byte : IsVacant shape (115 ∷ []) → ⊥
+one_byte vacant = elim (vacant.each 0 (lit< tt)) [ inl none ↦ (let e : 115 ≡ 0 = none in omega (arith, e)) | inr made ↦ (let e : 115 ≡ 1 = made in omega (arith, e)) ]
+
+an_open_gate : IsVacant shape (0 ∷ 0 ∷ 0 ∷ 0 ∷ 0 ∷ 0 ∷ 0 ∷ 0 ∷ 0 ∷ 0 ∷ 0 ∷ 1 ∷ []) → ⊥
+an_open_gate vacant = elim (vacant.each 11 (lit< tt)) [ inl none ↦ (let e : 1 ≡ 0 = none in omega (arith, e)) | inr made ↦ (let e : 1 ≡ 0 = made in omega (arith, e)) ]
+
+-- thirteen closed bytes are more than an empty file has
+too_long : IsVacant shape (0 ∷ 0 ∷ 0 ∷ 0 ∷ 0 ∷ 0 ∷ 0 ∷ 0 ∷ 0 ∷ 0 ∷ 0 ∷ 0 ∷ 0 ∷ []) → ⊥
+too_long vacant = let short : 13 ≤ 12 = vacant.short in omega (arith, short)

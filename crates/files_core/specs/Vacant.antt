@@ -1,0 +1,14 @@
+-- What a file may be made over.
+use Rattle.std.specs.Prelude.{◌≡◌, ◌⊎◌, ◌≤◌, ◌++◌, ◌∷◌, [], ℕ, List, length, slice_index, EachIndex}
+use Rattle.segment_core.specs.declared.format.Shape.{Shape}
+use Rattle.segment_core.specs.Frame.{header, closed_gate}
+
+-- Each byte is 0, or the one that stands there in the other list.
+abbrev pub IsZeroOrOf : List ℕ → List ℕ → Type 0
+IsZeroOrOf made bytes = EachIndex bytes (λ i. (slice_index bytes i ≡ 0) ⊎ (slice_index bytes i ≡ slice_index made i))
+
+-- Nothing stands there but what a creation of an empty file leaves that was stopped: no more bytes than that file has, each of
+-- them 0 or the one that it gets.
+pub record IsVacant (shape : Shape) (bytes : List ℕ) : Type 0 where
+  pub short : length bytes ≤ 12
+  pub each : IsZeroOrOf (header shape ++ closed_gate ∷ []) bytes

@@ -1,0 +1,45 @@
+//! Whether a file may be made where something stands.
+
+ghost use Rattle.std.specs.Prelude.{◌≡◌, ◌↔◌, ◌≤◌, ◌+◌, length, IsTrue, IfOk, MatchResult};
+ghost use Rattle.disk_core.specs.Calls.{bytes_of};
+ghost use Rattle.disk_core.specs.Moments.{LeavesOnly};
+ghost use Rattle.disk_core.specs.State.{now, IsImage};
+ghost use Rattle.segment_core.specs.Shape.{shape_of};
+ghost use Rattle.files_core.specs.Vacant.{IsZeroOrOf, IsVacant};
+
+use disk_core::{Disk, DiskFault};
+use record_core::{Record, width_of};
+use segment_core::{EMPTY_FILE_LEN, Format, empty_file};
+
+/// Whether each byte is 0, or the one that stands there in `made`.
+fn is_zero_or_of(made: &[u8], bytes: &[u8]) -> bool
+    requires { length bytes.now ≤ length made.now }
+    ensures { IsTrue result ↔ IsZeroOrOf made.now bytes.now }
+{
+    for (at, byte) in bytes.iter().enumerate() {
+        if *byte != 0 && *byte != made[at] {
+            return false;
+        }
+    }
+    true
+}
+
+/// Whether nothing stands on the disk but what a stopped creation of such a file leaves: no more bytes than an empty file
+/// has, each of them 0 or the one that it gets. Anything else is somebody's, and a creation would write over a part of it. The
+/// disk is only read.
+pub fn is_vacant<R: Record, D: Disk>(disk: &mut D, format: Format) -> Result<bool, DiskFault>
+    ensures vacant { D.keeps disk.new → IfOk result (λ vacant. IsTrue vacant ↔ IsVacant (shape_of format R.form) (bytes_of (D.states disk.old))) }
+    ensures same { D.keeps disk.new → now (D.states disk.new) ≡ now (D.states disk.old) }
+    ensures images { D.keeps disk.new → LeavesOnly (D.states disk.old) (D.states disk.new) (IsImage (now (D.states disk.old))) }
+    ensures faults { MatchResult result (λ _. D.faults disk.new ≡ D.faults disk.old) (λ _. D.faults disk.new ≡ D.faults disk.old + 1) }
+    ensures model { D.keeps disk.new → D.keeps disk.old }
+{
+    let len = disk.len()?;
+    if len > EMPTY_FILE_LEN as u64 {
+        return Ok(false);
+    }
+    let mut bytes = [0; EMPTY_FILE_LEN];
+    let front = &mut bytes[..len as usize];
+    disk.read_at(0, front)?;
+    Ok(is_zero_or_of(&empty_file(format, width_of::<R>() as u16), front))
+}
