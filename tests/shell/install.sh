@@ -80,7 +80,7 @@ a_c_program_is_built_by_cmake() (
     for version in 0.1 1.999 2.0; do
         sed -i "s/find_package(cvec.*/find_package(cvec $version REQUIRED)/" "$work/CMakeLists.txt"
         if cmake -S "$work" -B "$work/other" "-DCMAKE_PREFIX_PATH=$prefix" >"$work/log" 2>&1; then exit 1; fi
-        grep -q 'not compatible' "$work/log"
+        grep -q 'that is compatible' "$work/log"
     done
 )
 
