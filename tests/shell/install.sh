@@ -29,28 +29,63 @@ the_installed_program_runs() (
     cmp "$program" "$prefix/bin/cvec"
 )
 
-# A page has all words of the help, in their order.
+# The page of this name below a folder has all words of the help, in their order, and nothing that man complains about.
+has_the_help() {
+    MANWIDTH=1000 man --warnings=all --no-hyphenation --no-justification -E ascii -M "$1" "$2" >"$out" 2>"$err"
+    [ ! -s "$err" ]
+    grep '^ ' "$out" >"$work/told"
+    case $(words_of "$work/told") in
+    *"$(words_of "$work/help")"*) ;;
+    *) sed "s/^/$2: /" "$work/told" && exit 1 ;;
+    esac
+}
+
 each_command_has_a_manual_page() (
     can_install && has man 'the manual' || exit $is_skipped
     installs_once
-    pages=$prefix/share/man/man1
+    pages=$prefix/share/man
     [ "$(commands | wc -l)" -ge 17 ]
     { echo cvec.1 && commands | sed 's/.*/cvec-&.1/'; } | sort >"$work/wanted"
-    ls "$pages" | sort | cmp - "$work/wanted"
-    for page in cvec $(commands | sed 's/^/cvec-/'); do
-        if [ "$page" = cvec ]; then
-            "$program" --help 2>&1 | sed 's/^usage: //' >"$work/help"
-        else
-            "$program" "${page#cvec-}" --help >"$work/help"
-        fi
-        MANWIDTH=1000 man --warnings=all --no-hyphenation --no-justification -E ascii -M "$prefix/share/man" "$page" >"$out" 2>"$err"
-        [ ! -s "$err" ]
-        grep '^ ' "$out" >"$work/told"
-        case $(words_of "$work/told") in
-        *"$(words_of "$work/help")"*) ;;
-        *) sed "s/^/$page: /" "$work/told" && exit 1 ;;
-        esac
+    ls "$pages/man1" | sort | cmp - "$work/wanted"
+    "$program" --help 2>&1 | sed 's/^usage: //' >"$work/help"
+    has_the_help "$pages" cvec
+    for command in $(commands); do
+        "$program" "$command" --help >"$work/help"
+        has_the_help "$pages" "cvec-$command"
+        grep -qF "cvec-$command - $("$program" --help 2>&1 | sed -n "s/^$command .*   *//p")" "$out"
     done
+)
+
+# A program that only seems one writes what roff takes for something else.
+a_manual_page_has_any_character() (
+    has man 'the manual' || exit $is_skipped
+    mkdir -p "$work/man/man1"
+    cat >"$work/help" <<'HELP'
+cvec odd TYPE [--a='b']
+
+.so it begins, 'and so', "so" \fBor\fR \n, `so` ^ ~ -- -1
+'and a quote
+..
+
+  $ cvec odd '\n'
+  .5
+
+.a   table   of
+'three   columns   \(dq
+
+Refused: a-b, .c.
+HELP
+    printf 'usage: cvec COMMAND\n\nodd TYPE [--a='"'b'"']   does \\- "it", .or not\n' >"$work/usage"
+    printf '#!/bin/sh\n[ "$1" = odd ] && exec cat "%s"\n[ "$1" != --version ] || exec echo cvec 1.0\ncat "%s" >&2\nexit 2\n' \
+        "$work/help" "$work/usage" >"$work/cvec"
+    chmod +x "$work/cvec"
+    "$top/tools/manual" "$work/cvec" "$work/man/man1"
+    has_the_help "$work/man" cvec-odd
+    grep -qx " *'three   columns   .*" "$out"
+    # Debian's man shows a dash for a hyphen too, others don't.
+    grep -qxF 'cvec odd TYPE [\-\-a=\(aqb\(aq]' "$work/man/man1/cvec-odd.1"
+    sed 's/^usage: //' "$work/usage" >"$work/help"
+    has_the_help "$work/man" cvec
 )
 
 a_c_program_is_built_by_pkg_config() (
@@ -152,17 +187,17 @@ an_uninstall_takes_away_what_was_installed() (
 a_package_is_made_below_destdir() (
     can_install || exit $is_skipped
     installs_once
-    (umask 077 && make_there install PREFIX=/opt/cvec/ "DESTDIR=$work/package")
-    [ "$(ls "$work/package")" = opt ]
-    [ ! -e /opt/cvec ]
+    package=$work/package there=$work/there
+    (umask 077 && make_there install "PREFIX=$there/" "DESTDIR=$package")
+    [ ! -e "$there" ]
     found_in "$prefix" >"$work/wanted"
-    found_in "$work/package/opt/cvec" | diff "$work/wanted" -
-    if grep -rlF "$work" "$work/package"; then exit 1; fi
-    grep -qx 'prefix=/opt/cvec' "$work/package/opt/cvec/lib/pkgconfig/cvec.pc"
-    [ -z "$(find "$work/package/opt" ! -perm -444)" ]
-    [ -z "$(find "$work/package/opt" -type d ! -perm -111)" ]
-    make_there uninstall PREFIX=/opt/cvec "DESTDIR=$work/package"
-    [ -z "$(ls -R "$work/package/opt" | grep cvec.)" ]
+    found_in "$package$there" | diff "$work/wanted" -
+    if grep -rlF "$package" "$package"; then exit 1; fi
+    grep -qx "prefix=$there" "$package$there/lib/pkgconfig/cvec.pc"
+    [ -z "$(find "$package$there" ! -perm -444)" ]
+    [ -z "$(find "$package$there" -type d ! -perm -111)" ]
+    make_there uninstall "PREFIX=$there" "DESTDIR=$package"
+    [ ! -e "$package$there" ]
 )
 
 # An older install had a page and a folder more, and other bytes in a file.
@@ -259,7 +294,7 @@ nothing_is_installed_where_not_all_can_be_made() (
 a_prefix_is_a_whole_path() (
     has make 'an install' || exit $is_skipped
     for word in '' out '~/out' '/tmp/a"b' '/tmp/a\b'; do
-        if make_there install "PREFIX=$word" 2>"$err"; then exit 1; fi
+        if make_there install "PREFIX=$word" "DESTDIR=$work/there" 2>"$err"; then exit 1; fi
         tells 'install: PREFIX '
     done
 )
