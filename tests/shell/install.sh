@@ -94,7 +94,8 @@ a_c_program_is_built_by_pkg_config() (
     export PKG_CONFIG_PATH="$prefix/lib/pkgconfig"
     for program_in_c in use append_blocks; do
         cp "$c/$program_in_c.c" "$work"
-        eval "cc -std=c99 -Wall -Wextra -Werror -o '$work/$program_in_c' '$work/$program_in_c.c' $(pkg-config --cflags --libs cvec)"
+        eval "cc -std=c99 -Wall -Wextra -Werror -o '$work/$program_in_c' '$work/$program_in_c.c' \
+            $(pkg-config --cflags --libs cvec)"
     done
     "$work/use" "$work/file" >"$out"
     [ "$(tr '\n' ' ' <"$out")" = '5 7 11 13 ' ]

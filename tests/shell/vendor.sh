@@ -14,7 +14,8 @@ seeming_repositories() {
         mkdir -p "$from/crates/$name/src"
         echo "$name at one" >"$from/crates/$name/src/lib.rt"
     done
-    printf '# lowest first\nlow: thiserror # text\nmiddle staticlib: low clap\nhigh: low middle\nbeside: low\n' >"$from/crates.txt"
+    printf '%s\n' '# lowest first' 'low: thiserror # text' 'middle staticlib: low clap' 'high: low middle' 'beside: low' \
+        >"$from/crates.txt"
     in_git init
     in_git add .
     in_git commit -m one
@@ -117,7 +118,7 @@ what_cannot_be_brought_changes_nothing() (
 # The crate is compiled without proofs: what was brought is all that it takes.
 a_program_takes_a_crate_that_was_brought() (
     has git 'crates at a tag' && has rt 'a crate that was brought' || exit $is_skipped
-    git -C "$top" rev-parse --quiet --verify HEAD >/dev/null || lacks 'there is no git history to take crates from' || exit $is_skipped
+    git -C "$top" rev-parse --quiet --verify HEAD >/dev/null || lacks 'there is no git history of crates' || exit $is_skipped
     there=$work/there
     mkdir -p "$there/crates/app/src"
     echo 'app: record_core' >"$there/crates.txt"
