@@ -1,6 +1,6 @@
 use Rattle.std.proofs.Common.{◌≡◌, codes, ap, inl, rules}
 use Rattle.text_core.proofs.Small.{nil_from_test, some_from_test}
-use Rattle.text_core.proofs.group_line.take_word.Goals as goal
+use Rattle.image_core.proofs.group_line.take_word.Goals as goal
 
 pub returns-then-not-is_begun-clause-bad : goal.returns-then-not-is_begun-clause-bad
 returns-then-not-is_begun-clause-bad g c = λ bad.

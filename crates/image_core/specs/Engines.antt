@@ -13,7 +13,9 @@ use Rattle.text_core.specs.declared.status.Status.TheVariants.{Done, Refused, Ou
 use Rattle.text_core.specs.GroupLine.{AreGroupLines}
 use Rattle.text_core.specs.HexLine.{IsHexLine}
 use Rattle.text_core.specs.Text.{Spelling, ended_line, record_lines}
-use Rattle.text_core.specs.Refusals.{refusal_line, input_limit, IsInputRefusal, IsImageRefusal, IsShowRefusal}
+use Rattle.text_core.specs.Refusals.{refusal_line, input_limit, IsInputRefusal}
+use Rattle.image_core.specs.declared.fault.ShowFault.{ShowFault}
+use Rattle.image_core.specs.Refusals.{IsImageRefusal, IsShowRefusal, show_fault_line}
 
 -- the file of the groups that the input spells
 abbrev pub IsFileOfLines : {R : Type 0} → Encoding R → Spelling R → List ℕ → List ℕ → Type 0
@@ -53,7 +55,7 @@ WritesVector {R} form spelling input old new =
 
 abbrev pub WritesShowRefusal : {R : Type 0} → Encoding R → List ℕ → Option (List ℕ) → Option (List ℕ) → Type 0
 WritesShowRefusal form input old new =
-    (refusal : Refusal) × IsShowRefusal form input refusal × (IsInputRefusal input refusal ⊎ (length input ≤ input_limit)) × Appends old new (refusal_line refusal)
+    (fault : ShowFault) × IsShowRefusal form input fault × Appends old new (show_fault_line fault)
 
 -- how a show engine may end, and what it has written then
 abbrev pub IsShowRun : {R : Type 0} → Encoding R → Spelling R → List ℕ → Option (List ℕ) → Option (List ℕ) → Status → Type 0

@@ -9,7 +9,7 @@ use Rattle.segment_core.specs.declared.format.Format.TheVariants.{One}
 use Rattle.segment_core.specs.Frame.{frame_text}
 use Rattle.segment_core.specs.Written.{group_frame, payload_len, AllFit}
 use Rattle.segment_core.proofs.Written.{AllFit_push, text_more}
-use Rattle.text_core.specs.Drafts.{IsDraft}
+use Rattle.image_core.specs.Drafts.{IsDraft}
 
 pub IsDraft_push : {R : Type 0} (form : Encoding R) (groups : List (List (List R))) (group : List (List R)) (file new : List ℕ) (too_large : Option ℕ)
     → is_some too_large ≡ false → new ≡ file ++ frame_text One (group_frame form group) → payload_len form.width group ≤ payload_limit

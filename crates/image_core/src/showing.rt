@@ -1,28 +1,25 @@
 //! The engine that lists the records of a segment file.
 
-ghost use Rattle.std.specs.Prelude.{◌≡◌, ◌≢◌, IfSome, IfOk, IfErr};
-ghost use Rattle.text_core.specs.Engines.{WritesVector, WritesShowRefusal, IsVectorOfHex};
-ghost use Rattle.text_core.specs.Refusals.{IsShowRefusal};
+ghost use Rattle.std.specs.Prelude.{◌≡◌, ◌≢◌, ◌≤◌, length, IfSome, IfOk, IfErr};
+ghost use Rattle.image_core.specs.Engines.{WritesVector, WritesShowRefusal, IsVectorOfHex};
+ghost use Rattle.text_core.specs.Refusals.{input_limit};
+ghost use Rattle.image_core.specs.Refusals.{IsShowRefusal};
 
-use crate::hex_line::bytes_of_hex_line;
-use crate::input::read_input;
-use crate::output::write_records;
-use crate::refusal::{Refusal, refuse};
-use crate::status::Status;
-use crate::text::TextRecord;
+use crate::fault::{ShowFault, refuse_show};
 use segment_core::scan;
 use std::alloc::Global;
 use std::io::{Read, Write};
+use text_core::{Status, TextRecord, bytes_of_hex_line, read_input, write_records};
 
 /// The vector of the image whose hex the input is.
-fn records_of_hex<R: TextRecord>(alloc: Global, input: &[u8]) -> Result<Vec<R>, Refusal>
+fn records_of_hex<R: TextRecord>(alloc: Global, input: &[u8]) -> Result<Vec<R>, ShowFault>
     ensures found { IfOk result (λ records. IsVectorOfHex R.form input.now records.items) }
-    ensures refused { IfErr result (IsShowRefusal R.form input.now) }
+    ensures refused { length input.now ≤ input_limit → IfErr result (IsShowRefusal R.form input.now) }
 {
     let bytes = bytes_of_hex_line(alloc, input)?;
     match scan::<R>(alloc, bytes.as_slice()) {
         Ok(scanned) => Ok(scanned.records),
-        Err(fault) => Err(Refusal::Scan(fault)),
+        Err(fault) => Err(ShowFault::Scan(fault)),
     }
 }
 
@@ -41,13 +38,13 @@ pub fn show<R: TextRecord, I: Read, W: Write>(
 {
     let answer = match read_input(alloc, reader) {
         Ok(input) => records_of_hex::<R>(alloc, input.as_slice()),
-        Err(refusal) => Err(refusal),
+        Err(refusal) => Err(ShowFault::Input(refusal)),
     };
     match answer {
         Ok(records) => match write_records(records.as_slice(), writer) {
             Ok(()) => Status::Done,
             Err(_) => Status::OutputFailed,
         },
-        Err(refusal) => refuse(writer, refusal),
+        Err(fault) => refuse_show(writer, fault),
     }
 }

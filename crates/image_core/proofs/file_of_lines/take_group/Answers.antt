@@ -1,7 +1,7 @@
 use Rattle.std.proofs.Common.{sym, ◌∙◌}
 use Rattle.segment_core.specs.declared.format.Format.TheVariants.{One}
-use Rattle.text_core.proofs.Drafts.{IsDraft_push, IsDraft_refused}
-use Rattle.text_core.proofs.file_of_lines.take_group.Goals as goal
+use Rattle.image_core.proofs.Drafts.{IsDraft_push, IsDraft_refused}
+use Rattle.image_core.proofs.file_of_lines.take_group.Goals as goal
 
 pub returns-in-Ok : goal.returns-in-Ok
 returns-in-Ok g c =

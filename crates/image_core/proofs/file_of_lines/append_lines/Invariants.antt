@@ -1,7 +1,7 @@
 use Rattle.std.proofs.Common.{◌≡◌, List, length}
-use Rattle.text_core.specs.Drafts.{IsDraft}
+use Rattle.image_core.specs.Drafts.{IsDraft}
 use Rattle.text_core.proofs.LineGroups.{HasGroups}
-use Rattle.text_core.proofs.file_of_lines.append_lines.Given as goal
+use Rattle.image_core.proofs.file_of_lines.append_lines.Given as goal
 
 abbrev pub invariant-lines : goal.invariant-lines
 invariant-lines g l =

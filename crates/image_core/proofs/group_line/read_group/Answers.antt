@@ -3,7 +3,7 @@ use Rattle.std.specs.Option.{option_copied}
 use Rattle.text_core.proofs.Joins.{words_in, words_next}
 use Rattle.text_core.proofs.Small.{err_is, nil_from_test, some_from_test}
 use Rattle.text_core.proofs.GroupLines.{Reads_start, Reads_word, stray_is_bad, unfinished_is_bad, read_whole}
-use Rattle.text_core.proofs.group_line.read_group.Goals as goal
+use Rattle.image_core.proofs.group_line.read_group.Goals as goal
 
 pub loop-rest-init : goal.loop-rest-init
 loop-rest-init g c =

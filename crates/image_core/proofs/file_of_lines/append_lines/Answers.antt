@@ -1,7 +1,7 @@
 use Rattle.std.proofs.Common.{◌≡◌, ◌+◌, [], ◌∷◌, ◌++◌, length, refl, ap, arith, Err}
 use Rattle.std.proofs.lemmas.List.{length-append}
 use Rattle.text_core.proofs.LineGroups.{HasGroups_start, HasGroups_next, HasGroups_all, first_bad_group}
-use Rattle.text_core.proofs.file_of_lines.append_lines.Goals as goal
+use Rattle.image_core.proofs.file_of_lines.append_lines.Goals as goal
 
 pub lines-init : goal.lines-init
 lines-init g c = ([], HasGroups_start g.R.TextRecord.spelling c.args.input.now, refl, c.requires)

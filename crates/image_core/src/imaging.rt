@@ -1,16 +1,12 @@
 //! The engine that makes a segment file of group lines.
 
 ghost use Rattle.std.specs.Prelude.{◌≡◌, ◌≢◌, IfSome};
-ghost use Rattle.text_core.specs.Engines.{WritesImage, WritesImageRefusal};
+ghost use Rattle.image_core.specs.Engines.{WritesImage, WritesImageRefusal};
 
 use crate::file_of_lines::file_of_lines;
-use crate::hex_line::write_hex_line;
-use crate::input::read_input;
-use crate::refusal::refuse;
-use crate::status::Status;
-use crate::text::TextRecord;
 use std::alloc::Global;
 use std::io::{Read, Write};
+use text_core::{Status, TextRecord, read_input, refuse, write_hex_line};
 
 /// Reads group lines, one group each, and writes the hex of their segment file as one line. Of an input that
 /// is refused only the line of the refusal is written.

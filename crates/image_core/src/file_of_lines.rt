@@ -1,18 +1,16 @@
 //! The segment file of the groups that an input's lines spell.
 
 ghost use Rattle.std.specs.Prelude.{◌≡◌, ◌+◌, List, ◌∷◌, ◌++◌, [], length, OnOk, IfOk, IfErr};
-ghost use Rattle.text_core.specs.Engines.{IsFileOfLines};
+ghost use Rattle.image_core.specs.Engines.{IsFileOfLines};
 ghost use Rattle.text_core.specs.GroupLine.{AreGroupLines};
-ghost use Rattle.text_core.specs.Refusals.{IsImageRefusal};
-ghost use Rattle.text_core.specs.Drafts.{IsDraft};
+ghost use Rattle.image_core.specs.Refusals.{IsImageRefusal};
+ghost use Rattle.image_core.specs.Drafts.{IsDraft};
 
-use crate::group_line::{LineFault, read_group};
-use crate::line::next_line;
-use crate::refusal::Refusal;
-use crate::text::TextRecord;
+use crate::group_line::read_group;
 use record_core::PAYLOAD_LIMIT;
 use segment_core::{Format, GroupFault, Growths, append_group, append_header, append_last_gate};
 use std::alloc::{AllocError, Global};
+use text_core::{LineFault, Refusal, TextRecord, next_line};
 
 /// Appends the group of this line, counted from 1, if all before it were appended, or else keeps the file. The
 /// first line whose group is too large is noted.
