@@ -23,7 +23,7 @@ use Rattle.text_core.specs.Numbers.{number_spelling}
 use Rattle.text_core.specs.SignedNumbers.{signed_spelling}
 use Rattle.text_core.specs.Keyed.{pair_spelling, flagged_spelling}
 use Rattle.text_core.specs.Refusals.{refusal_line}
-use Rattle.text_core.specs.Engines.{IsImageRun, IsShowRun}
+use Rattle.image_core.specs.Engines.{IsImageRun, IsShowRun}
 use Rattle.play_core.specs.Playing.{IsPlayRun}
 
 -- how the task's engine may end over records of these bytes and texts, and what it has written then

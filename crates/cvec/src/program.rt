@@ -10,6 +10,7 @@ ghost use Rattle.cvec.specs.Runs.{IsTaskRun, IsProgramRun, IsAskedRun, IsFileRun
 use crate::filing::Filing;
 use crate::telling::tell_stat;
 use files_core::{Dealt, Progress, Silent, refuse_file};
+use image_core::{image, show};
 use play_core::play;
 use record_core::{Flagged, Pair};
 use sentences::Complaint;
@@ -20,7 +21,7 @@ use std::io::{Read, Write};
 use std::rt::Files;
 use std::sync::Wait;
 use std::thread::Threads;
-use text_core::{Refusal, Status, TextRecord, image, refuse, show, write_line};
+use text_core::{Refusal, Status, TextRecord, refuse, write_line};
 use words_core::{FileWords, RecordType, Request, StatWords, Task, WordsFault, read_words};
 
 /// What the program has of the system beside its input and output.

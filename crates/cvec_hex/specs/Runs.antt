@@ -12,7 +12,7 @@ use Rattle.text_core.specs.Text.{Spelling}
 use Rattle.text_core.specs.Numbers.{number_spelling}
 use Rattle.text_core.specs.SignedNumbers.{signed_spelling}
 use Rattle.text_core.specs.Keyed.{pair_spelling, flagged_spelling}
-use Rattle.text_core.specs.Engines.{IsImageRun, IsShowRun}
+use Rattle.image_core.specs.Engines.{IsImageRun, IsShowRun}
 
 -- how the task's engine may end over records of these bytes and texts, and what it has written then
 abbrev pub IsHexTaskRun : {R : Type 0} → Task → Encoding R → Spelling R → List ℕ → Option (List ℕ) → Option (List ℕ) → Status → Type 0

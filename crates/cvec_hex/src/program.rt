@@ -4,10 +4,11 @@ ghost use Rattle.std.specs.Prelude.{◌≡◌, ◌≢◌, IfSome};
 ghost use Rattle.cvec_hex.specs.Runs.{IsHexTaskRun, IsHexRun};
 
 use crate::request::{RecordType, Request, Task};
+use image_core::{image, show};
 use record_core::{Flagged, Pair};
 use std::alloc::Global;
 use std::io::{Read, Write};
-use text_core::{Status, TextRecord, image, show};
+use text_core::{Status, TextRecord};
 
 /// Does the task on records of one type.
 fn run_of<R: TextRecord, I: Read, W: Write>(

@@ -1,13 +1,11 @@
 -- Lines that are gathered into growths, one by one.
-use Rattle.std.proofs.Common.{◌≡◌, ℕ, zero, suc, ◌+◌, ◌*◌, ◌<◌, ◌≤◌, ◌⊎◌, inl, inr, List, [], ◌∷◌, ◌++◌, length, map, take, refl, sym, ap, subst, ◌∙◌, arith, Some}
+use Rattle.std.proofs.Common.{◌≡◌, ℕ, zero, suc, ◌+◌, ◌*◌, ◌<◌, ◌≤◌, min, List, [], ◌∷◌, ◌++◌, length, map, take, refl, sym, ap, subst, ◌∙◌, arith, Some}
 use Rattle.std.specs.Prelude.{Option, None, IfNone, slice_get}
 use Rattle.std.specs.List.{AllByRecursion}
 use Rattle.std.proofs.lemmas.Grind.{flat_map-append}
 use Rattle.std.proofs.Math.Nat.{add-mul}
 use Rattle.std.proofs.lemmas.List.{append_assoc, append-nil, length-append, length-map, map-append, take_all}
 use Rattle.segment_core.specs.Written.{joined}
-use Rattle.text_core.specs.Text.{Spelling}
-use Rattle.files_core.specs.InputBlocks.{AreInputBlocks}
 use Rattle.files_core.specs.LineBlocks.{AreLineBlocks, last_growth}
 
 pub joined_push : {X : Type 0} (front : List (List X)) (last : List X) → joined (front ++ last ∷ []) ≡ joined front ++ last
@@ -140,7 +138,11 @@ blocks_of_one block lines one = subst (λ n. AreLineBlocks n lines lines) (sym o
 
 -- ---- how many lines blocks have
 
-each_long : {R : Type 0} (block : ℕ) (whole : List (List (List R))) → AllByRecursion (λ (of : List (List R)). length of ≡ block) whole → length (joined whole) ≡ length whole * block
+-- so many, as far as that is told
+pub counts_on : (most told n all : ℕ) → told ≡ min most n → min most (told + all) ≡ min most (n + all)
+counts_on most told n all is = omega arith
+
+pub each_long : {R : Type 0} (block : ℕ) (whole : List (List (List R))) → AllByRecursion (λ (of : List (List R)). length of ≡ block) whole → length (joined whole) ≡ length whole * block
 each_long block [] each = omega arith
 each_long block (first ∷ others) each =
     let long : length (joined (first ∷ others)) ≡ length first + length (joined others) = length-append first (joined others) in
@@ -150,36 +152,6 @@ each_long block (first ∷ others) each =
     let here : length first ≡ block = each.0 in
     let all : length (joined (first ∷ others)) ≡ (length others + 1) * block = omega (arith, long, rest, times, here) in
     all ∙ ap (λ n. n * block) (sym one)
-
-last_count : {R : Type 0} (left : List (List R)) → ((length left ≡ 0) × (length (last_growth left) ≡ 0)) ⊎ ((0 < length left) × (length (last_growth left) ≡ 1))
-last_count [] = inl (refl, refl)
-last_count (line ∷ lines) = inr (omega arith, refl)
-
-lines_between : (block whole left last lines growths : ℕ) → left < block → lines ≡ whole * block + left → growths ≡ whole + last
-    → ((left ≡ 0) × (last ≡ 0)) ⊎ ((0 < left) × (last ≡ 1)) → (lines ≤ growths * block) × (growths * block < lines + block)
-lines_between block whole left last lines growths fewer lines_are growths_are (inl none) =
-    let same : growths ≡ whole = omega (arith, none.1) in
-    let product : growths * block ≡ whole * block = ap (λ n. n * block) same in
-    (omega (arith, none.0, product), omega (arith, none.0, product))
-lines_between block whole left last lines growths fewer lines_are growths_are (inr some) =
-    let one : growths ≡ whole + 1 = omega (arith, some.1) in
-    let product : growths * block ≡ whole * block + 1 * block = ap (λ n. n * block) one ∙ add-mul whole 1 block in
-    (omega (arith, some.0, product), omega (arith, some.0, product))
-
--- each growth has a block of them, but that the last may have fewer
-pub lines_of_blocks : {R : Type 0} (block : ℕ) (lines growths : List (List R)) → AreLineBlocks block lines growths
-    → (length lines ≤ length growths * block) × (length growths * block < length lines + block)
-lines_of_blocks block lines growths so =
-    lines_between block (length so.whole) (length so.left) (length (last_growth so.left)) (length lines) (length growths) so.fewer
-    (ap length so.lines_are ∙ length-append (joined so.whole) so.left ∙ ap (λ n. n + length so.left) (each_long block so.whole so.each))
-    (ap length so.growths_are ∙ length-append (map joined so.whole) (last_growth so.left) ∙ ap (λ n. n + length (last_growth so.left)) (length-map so.whole joined))
-    (last_count so.left)
-
-pub lines_of_input : {R : Type 0} (spelling : Spelling R) (block : ℕ) (input : List ℕ) (growths : List (List R)) (count : ℕ)
-    → AreInputBlocks spelling block input growths count → (count ≤ length growths * block) × (length growths * block < count + block)
-lines_of_input spelling block input growths count so =
-    let both = lines_of_blocks block so.lines growths so.gathered in
-    (omega (arith, both.0, so.count_is), omega (arith, both.1, so.count_is))
 
 -- where nothing is refused
 pub where_none : {X P : Type 0} (refusal : Option X) → refusal ≡ None → IfNone refusal P → P

@@ -7,7 +7,12 @@ pub mod Crewed
 pub mod Windows
 pub mod Folded
 pub mod Commas
+pub mod WholeBlocks
+pub mod FirstBlocks
+pub mod OneGrower
 pub mod Standing
 pub mod Fronts
 pub mod Blocks
+mod WorkedInputs
+mod WorkedFiles
 pub mod WorkedVacant

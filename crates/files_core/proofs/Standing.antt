@@ -1,10 +1,10 @@
 -- Growths that are appended as they are read.
-use Rattle.std.proofs.Common.{◌≡◌, ◌⊎◌, ℕ, suc, ◌+◌, ◌-◌, ◌*◌, ◌^◌, ◌<◌, ◌≤◌, min, Bool, List, [], ◌∷◌, ◌++◌}
-use Rattle.std.proofs.Common.{length, take, All, Result, Ok, Err, IfOk, MatchResult, zero-add, inl, inr, refl, sym, ap, subst, ◌∙◌, arith}
+use Rattle.std.proofs.Common.{◌≡◌, ◌⊎◌, ℕ, zero, suc, ◌+◌, ◌-◌, ◌*◌, ◌^◌, ◌<◌, ◌≤◌, min, Bool, List, [], ◌∷◌, ◌++◌}
+use Rattle.std.proofs.Common.{length, map, take, get_or, slice_get, All, Option, Some, Result, Ok, Err, IfOk, MatchResult, zero-add, inl, inr, refl, sym, ap, subst, ◌∙◌, arith}
 use Rattle.std.specs.Prelude.{cond}
 use Rattle.std.proofs.Math.Nat.{add-mul}
 use Rattle.std.proofs.lemmas.Bool.{eq-eqb}
-use Rattle.std.proofs.lemmas.List.{append_assoc, append-nil, length-append, take-append-le}
+use Rattle.std.proofs.lemmas.List.{append_assoc, append-nil, length-append, length-map, map-append, take-append-le, take_all}
 use Rattle.std.proofs.lemmas.List.Concat.{flat_map-append}
 use Rattle.std.proofs.lemmas.List.Elements.{All-head, All-tail}
 use Rattle.record_core.specs.Bytes.{Encoding}
@@ -22,16 +22,25 @@ use Rattle.vault_core.specs.Crewing.{OpensToGrown, IsReason, crew_room}
 use Rattle.vault_core.specs.Vault.{VaultOf, MayHold, list_of}
 use Rattle.files_core.specs.declared.appended.Appended.{Appended}
 use Rattle.files_core.specs.declared.ended.Ended.{Ended}
-use Rattle.files_core.specs.declared.ended.Ended.TheVariants.{Done, OutputFailed, Refused}
+use Rattle.files_core.specs.declared.ended.Ended.TheVariants.{Done, OutputFailed}
+use Rattle.files_core.specs.declared.ended.Ended.TheVariants as ends
 use Rattle.files_core.specs.Ended.{EndsAs}
 use Rattle.files_core.specs.declared.fault.FileFault.{FileFault}
 use Rattle.files_core.specs.declared.fault.FileFault.TheVariants as faults
 use Rattle.files_core.specs.declared.fault.Stopped.{Stopped}
-use Rattle.files_core.specs.Appending.{AreLinesOf, AreLinesWithin, AreOfBlocks, GrowsTo, HasAppended, HasAppendedAll, HasGone, IsAppendRefusal}
-use Rattle.files_core.specs.Appending.{IsBatchStop, IsLast, IsSettled, IsStopTold, StandBehindList, GrowthsStand, StopsAt}
+use Rattle.text_core.specs.Text.{Spelling}
+use Rattle.files_core.specs.declared.batches.Rest.{Rest}
+use Rattle.files_core.specs.declared.batches.Rest.TheVariants.{Nothing}
+use Rattle.files_core.specs.Appending.{AreAllTold, AreOfBlocks, GrowsTo, HasAppended, HasAppendedAll, HasGone, IsAppendRefusal, each_records}
+use Rattle.files_core.specs.Appending.{IsBatchStop, IsSettled, IsStopTold, StandBehindList, GrowthsStand, StopsAt}
+use Rattle.files_core.specs.Batches.{AreReadSo, IsBatch}
 use Rattle.files_core.specs.Dealt.{count_for, dealt}
+use Rattle.files_core.specs.InputBlocks.{AreFirstBlocks, AreOfAllLines, AreOfFirstLines}
 use Rattle.files_core.specs.Loading.{AreDealt, AllMade, StandBehind, IsGrowthStop, IsStopOf}
 use Rattle.files_core.specs.Opened.{IsOpenedOn}
+use Rattle.files_core.proofs.Blocks.{counts_on}
+use Rattle.files_core.proofs.FirstBlocks.{read_all, some_read, then_first}
+use Rattle.files_core.proofs.OneGrower.{all_dealt, dealt_first, made_by_one, made_first}
 use Rattle.files_core.proofs.Opened.{done_ends, opened_list, opened_then, opens_same}
 
 -- ---- growths behind others
@@ -76,64 +85,11 @@ behind_grown form list mid one two image is grown = record {
       grown.opens;
 }
 
--- so many, as far as that is told
-pub counts_on : (most told n all : ℕ) → told ≡ min most n → min most (told + all) ≡ min most (n + all)
-counts_on most told n all is = omega arith
-
 -- those of whole blocks, and the lines of more of them
 pub lines_on : (most block told n more all : ℕ) → told ≡ min most (n * block) → all ≡ min most (told + more * block) → all ≡ min most ((n + more) * block)
 lines_on most block told n more all is then =
     let both : (n + more) * block ≡ n * block + more * block = add-mul n more block in
     omega arith
-
--- the lines behind others, of which the last growth may have fewer than a block
-pub is_last : (block before all lines growths : ℕ) → all ≡ min (2 ^ 64 - 1) (before + growths * block) → AreLinesWithin block growths lines → IsLast block before lines all
-is_last block before all lines growths is within = (omega (arith, within.0), omega (arith, within.0, within.1))
-
-pub saturates : (block before lines whole told : ℕ) → told ≡ min (before + lines) (2 ^ 64 - 1) → IsLast block before lines whole → (told ≤ whole) × (whole < told + block)
-saturates block before lines whole told is last = (omega (arith, last.0), omega (arith, last.1))
-
--- ---- one grower's growths are all
-
-own_first : {R : Type 0} (made : List (Growth R)) → All (λ growth. growth.seat < 1) made → own_of 0 made ≡ made
-own_first [] all = refl
-own_first (growth ∷ made) all =
-    let here : growth.seat < 1 = All-head (λ (g : Growth _). g.seat < 1) growth made all in
-    let first : growth.seat ≡ 0 = omega arith in
-    ap (λ (b : Bool). cond b (growth ∷ own_of 0 made) (own_of 0 made)) (eq-eqb growth.seat 0 first)
-    ∙ ap (λ gs. growth ∷ gs) (own_first made (All-tail (λ (g : Growth _). g.seat < 1) growth made all))
-
-all_for_one : (n : ℕ) → count_for n 1 0 ≡ n
-all_for_one n = omega arith
-
--- one that stopped had growths left to make, or none were made
-growths_left : {R : Type 0} (width room size count : ℕ) (block : ℕ → List R) (id : ℕ) (growths : List (Growth R)) (m : ℕ) (fault : GrowFault)
-    → IsReason width room size count block id growths m fault → (m < count) ⊎ (m ≡ 0)
-growths_left width room size count block id growths m grow_faults.Closed why = inl why
-growths_left width room size count block id growths m grow_faults.Full why = inl why.0
-growths_left width room size count block id growths m grow_faults.TooLong why = inl why.0
-growths_left width room size count block id growths m (grow_faults.Strayed k) why = inl why.0
-growths_left width room size count block id growths m grow_faults.Memory why = why
-growths_left width room size count block id growths m grow_faults.Empty why = inl why.0
-growths_left width room size count block id growths m grow_faults.TooLarge why = inl why.0
-
-behind_own : (line made all grower : ℕ) → grower < 1 → all < 2 ^ 64 → (made < count_for all 1 grower) ⊎ (made ≡ 0)
-    → line ≡ min (2 ^ 64 - 1) (made * 1 + (grower + 1)) → line - 1 ≡ made
-behind_own line made all grower one few (inl less) is = omega arith
-behind_own line made all grower one few (inr none) is = omega arith
-
--- its line tells how many it made
-made_by_one : {R : Type 0} (width : ℕ) (batch : List (List R)) (own : List (Growth R)) (stopped : Stopped) → length batch < 2 ^ 64
-    → AreDealt batch 1 own → IsStopOf width batch 1 own stopped → stopped.line - 1 ≡ length own
-made_by_one width batch own stopped few own_are stop =
-    let first : stopped.grower ≡ 0 = omega (arith, stop.inside) in
-    let mine : length (own_of stopped.grower own) ≡ length own = ap (λ (k : ℕ). length (own_of k own)) first ∙ ap length (own_first own own_are.by_growers) in
-    behind_own stopped.line (length (own_of stopped.grower own)) (length batch) stopped.grower stop.inside few
-    (growths_left width (crew_room (count_for (length batch) 1) 1) stopped.size (count_for (length batch) 1 stopped.grower)
-    (dealt batch 1 stopped.grower) stopped.grower own (length (own_of stopped.grower own)) stopped.fault stop.why) stop.line_is ∙ mine
-
-all_counted : {R : Type 0} (growths : List (List R)) (made : List (Growth R)) → AreDealt growths 1 made → AllMade growths 1 made → length made ≡ length growths
-all_counted growths made dealt all = ap length (sym (own_first made dealt.by_growers)) ∙ all 0 (omega arith) ∙ all_for_one (length growths)
 
 module _ {R D : Type 0} (form : Encoding R) (keeps : D → Type 0) (states : D → List State) where
   list_on : (was mid : List R) (one two : List (Growth R)) → mid ≡ was ++ joined one → mid ++ joined two ≡ was ++ joined (one ++ two)
@@ -152,7 +108,7 @@ module _ {R D : Type 0} (form : Encoding R) (keeps : D → Type 0) (states : D �
   pub grows_to : (growths : List (List R)) (v w : VaultOf R D)
       → (made : List (Growth R)) × AreDealt growths 1 made × AllMade growths 1 made × StandBehind form keeps states v w.pen.disk made
       × (list_of w ≡ list_of v ++ joined made)
-      → (made : List (Growth R)) × GrowsTo form keeps states v w made × (length made ≡ length growths)
+      → (made : List (Growth R)) × GrowsTo form keeps states v w made × (each_records made ≡ growths)
   grows_to growths v w grown = (
     grown.0,
     record {
@@ -161,7 +117,7 @@ module _ {R D : Type 0} (form : Encoding R) (keeps : D → Type 0) (states : D �
       settled = λ model image is. subst (OpensTo form image) (sym grown.4) (grown.3.settled model image is);
       model = grown.3.model;
     },
-    all_counted growths grown.0 grown.1 grown.2,
+    all_dealt growths grown.0 grown.1 grown.2,
   )
 
   pub stops_by : (growths : List (List R)) (v : VaultOf R D) (left : D) (fault : FileFault) → IsSettled form keeps states v
@@ -201,49 +157,76 @@ module _ {R D : Type 0} (form : Encoding R) (keeps : D → Type 0) (states : D �
     model = λ model. first.model (then.model model);
   }
 
-  pub gone_nowhere : (block : ℕ) (v : VaultOf R D) (appended : Appended) → IsSettled form keeps states v → appended.growths ≡ 0 → appended.lines ≡ 0
-      → appended.size ≡ length (list_of v)
-      → HasGone form keeps states block v v appended
-  gone_nowhere block v appended settled none no_line size = record { made = []; goes = grows_nowhere v settled; size_is = size; growths_are = none; lines_are = no_line ∙ no_block }
+  pub gone_nowhere : (IsMade : List (List R) → Type 0) (block : ℕ) (v : VaultOf R D) (appended : Appended) → IsMade [] → IsSettled form keeps states v
+      → appended.growths ≡ 0 → appended.lines ≡ 0 → appended.size ≡ length (list_of v) → HasGone form keeps states IsMade block v v appended
+  gone_nowhere IsMade block v appended made settled none no_line size = record {
+    made = [];
+    goes = grows_nowhere v settled;
+    records_are = made;
+    size_is = size;
+    growths_are = none;
+    lines_are = no_line ∙ no_block;
+  }
     where
       no_block : 0 ≡ min (2 ^ 64 - 1) (0 * block)
       no_block = omega arith
 
-  pub gone_further : (block : ℕ) (v mid w : VaultOf R D) (before after : Appended) (growths : List (List R)) → HasGone form keeps states block v mid before
-      → (made : List (Growth R)) × GrowsTo form keeps states mid w made × (length made ≡ length growths)
+  -- behind growths that are so, those of a batch
+  abbrev GoesOn : (IsMade IsMadeThen : List (List R) → Type 0) → ℕ → Appended → List (List R) → Type 0
+  GoesOn IsMade IsMadeThen block before growths =
+      (one : List (List R)) → before.lines ≡ min (2 ^ 64 - 1) (length one * block) → IsMade one → IsMadeThen (one ++ growths)
+
+  pub gone_further : (IsMade IsMadeThen : List (List R) → Type 0) (block : ℕ) (v mid w : VaultOf R D) (before after : Appended) (growths : List (List R))
+      → HasGone form keeps states IsMade block v mid before → GoesOn IsMade IsMadeThen block before growths
+      → (made : List (Growth R)) × GrowsTo form keeps states mid w made × (each_records made ≡ growths)
       → after.size ≡ length (list_of w) → after.growths ≡ min (2 ^ 64 - 1) (before.growths + length growths) → after.lines ≡ min (2 ^ 64 - 1) (before.lines + length growths * block)
-      → HasGone form keeps states block v w after
-  gone_further block v mid w before after growths gone then size is lines = record {
+      → HasGone form keeps states IsMadeThen block v w after
+  gone_further IsMade IsMadeThen block v mid w before after growths gone on then size is lines = record {
     made = gone.made ++ then.0;
     goes = grows_further v mid w gone.made then.0 gone.goes then.1;
+    records_are = subst IsMadeThen (sym records) (on (each_records gone.made) (gone.lines_are ∙ ap (λ n. min (2 ^ 64 - 1) (n * block)) (sym (length-map gone.made (λ growth. growth.records)))) gone.records_are);
     size_is = size;
     growths_are = is ∙ counts_on (2 ^ 64 - 1) before.growths (length gone.made) (length growths) gone.growths_are ∙ ap (min (2 ^ 64 - 1)) count;
     lines_are = lines_on (2 ^ 64 - 1) block before.lines (length gone.made) (length growths) after.lines gone.lines_are lines ∙ ap (λ n. min (2 ^ 64 - 1) (n * block)) count;
   }
     where
+      records : each_records (gone.made ++ then.0) ≡ each_records gone.made ++ growths
+      records = map-append (λ growth. growth.records) gone.made then.0 ∙ ap (λ gs. each_records gone.made ++ gs) then.2
+
       count : length gone.made + length growths ≡ length (gone.made ++ then.0)
-      count = ap (λ n. length gone.made + n) (sym then.2) ∙ sym (length-append gone.made then.0)
+      count = ap (λ n. length gone.made + n) (ap length (sym then.2) ∙ length-map then.0 (λ growth. growth.records)) ∙ sym (length-append gone.made then.0)
 
   -- the same, where so many growths and records are counted
-  pub gone_counted : (block : ℕ) (v mid w : VaultOf R D) (before after : Appended) (growths : List (List R)) (count size : ℕ) → HasGone form keeps states block v mid before
-      → (made : List (Growth R)) × GrowsTo form keeps states mid w made × (length made ≡ length growths)
+  pub gone_counted : (IsMade IsMadeThen : List (List R) → Type 0) (block : ℕ) (v mid w : VaultOf R D) (before after : Appended) (growths : List (List R)) (count size : ℕ)
+      → HasGone form keeps states IsMade block v mid before → GoesOn IsMade IsMadeThen block before growths
+      → (made : List (Growth R)) × GrowsTo form keeps states mid w made × (each_records made ≡ growths)
       → count ≡ length growths → size ≡ length (list_of w) → after.size ≡ size → after.growths ≡ min (2 ^ 64 - 1) (before.growths + count)
-      → after.lines ≡ min (2 ^ 64 - 1) (before.lines + count * block) → HasGone form keeps states block v w after
-  gone_counted block v mid w before after growths count size gone then counted sized size_is growths_are lines_are =
-      gone_further block v mid w before after growths gone then (size_is ∙ sized)
+      → after.lines ≡ min (2 ^ 64 - 1) (before.lines + count * block) → HasGone form keeps states IsMadeThen block v w after
+  gone_counted IsMade IsMadeThen block v mid w before after growths count size gone on then counted sized size_is growths_are lines_are =
+      gone_further IsMade IsMadeThen block v mid w before after growths gone on then (size_is ∙ sized)
       (growths_are ∙ ap (λ n. min (2 ^ 64 - 1) (before.growths + n)) counted)
       (lines_are ∙ ap (λ n. min (2 ^ 64 - 1) (before.lines + n * block)) counted)
 
   -- what was gone to is gone on with
-  pub gone_same : {X : Type 0} (block : ℕ) (v w : VaultOf R D) (before after : Appended) (result : Result (VaultOf R D) X) → HasGone form keeps states block v w before
-      → IfOk result (λ new. (new ≡ w) × (after ≡ before)) → IfOk result (λ new. HasGone form keeps states block v new after)
-  gone_same block v w before after (Err x) gone same = same
-  gone_same block v w before after (Ok new) gone same = subst (λ u. HasGone form keeps states block v u after) (sym same.0) (subst (HasGone form keeps states block v w) (sym same.1) gone)
+  pub gone_same : {X : Type 0} (Why : Type 0) (IsMade IsMadeThen : List (List R) → Type 0) (block : ℕ) (v w : VaultOf R D) (before after : Appended) (result : Result (VaultOf R D) X)
+      → HasGone form keeps states IsMade block v w before → (Why → (gs : List (List R)) → IsMade gs → IsMadeThen gs)
+      → IfOk result (λ new. (new ≡ w) × (after ≡ before) × Why) → IfOk result (λ new. HasGone form keeps states IsMadeThen block v new after)
+  gone_same Why IsMade IsMadeThen block v w before after (Err x) gone turn same = same
+  gone_same Why IsMade IsMadeThen block v w before after (Ok new) gone turn same =
+      subst (λ u. HasGone form keeps states IsMadeThen block v u after) (sym same.0) (subst (HasGone form keeps states IsMadeThen block v w) (sym same.1) (record {
+        made = gone.made;
+        goes = gone.goes;
+        records_are = turn same.2 (each_records gone.made) gone.records_are;
+        size_is = gone.size_is;
+        growths_are = gone.growths_are;
+        lines_are = gone.lines_are;
+      }))
 
   -- what was gone to is given back
-  pub stands_now : (block : ℕ) (v w : VaultOf R D) (left : D) (appended : Appended) → HasGone form keeps states block v w appended → left ≡ w.pen.disk
-      → (made : List (Growth R)) × StandBehindList form keeps states v left appended made [] × AreOfBlocks block appended made
-  stands_now block v w left appended gone same = (
+  pub stands_now : (IsMade IsMadeThen : List (List R) → Type 0) (block : ℕ) (v w : VaultOf R D) (left : D) (appended : Appended) → ((gs : List (List R)) → IsMade gs → IsMadeThen gs)
+      → HasGone form keeps states IsMade block v w appended → left ≡ w.pen.disk
+      → (made : List (Growth R)) × StandBehindList form keeps states v left appended made [] × AreOfBlocks block appended made × IsMadeThen (each_records made)
+  stands_now IsMade IsMadeThen block v w left appended turn gone same = (
     gone.made,
     subst (λ d. StandBehindList form keeps states v d appended gone.made []) (sym same) (record {
       images = λ model. subst (λ gs. LeavesOnly (states v.pen.disk) (states w.pen.disk) (OpensToGrown form (list_of v) gs)) (sym (append-nil gone.made)) (gone.goes.images model);
@@ -252,23 +235,26 @@ module _ {R D : Type 0} (form : Encoding R) (keeps : D → Type 0) (states : D �
       growths_are = gone.growths_are;
     }),
     gone.lines_are,
+    turn (each_records gone.made) gone.records_are,
   )
 
   -- all of it, where the last growth may be of fewer lines
-  pub stands_last : (block : ℕ) (v w : VaultOf R D) (left : D) (appended told : Appended) → HasGone form keeps states block v w appended → left ≡ w.pen.disk → told.size ≡ appended.size
-      → told.growths ≡ appended.growths
-      → (told.lines ≤ appended.lines) × (appended.lines < told.lines + block) → (made : List (Growth R)) × StandBehindList form keeps states v left told made [] × AreLinesOf block told made
-  stands_last block v w left appended told gone same size growths lines =
-      let now = stands_now block v w left appended gone same in (
+  pub stands_last : (spelling : Spelling R) (block : ℕ) (known coming : Option (List ℕ)) (counted : ℕ) (rest : Rest) (v w : VaultOf R D) (left : D) (appended told : Appended)
+      → HasGone form keeps states (AreReadSo spelling block known coming counted rest) block v w appended → rest ≡ Nothing → left ≡ w.pen.disk → told.size ≡ appended.size
+      → told.growths ≡ appended.growths → told.lines ≡ counted
+      → (made : List (Growth R)) × StandBehindList form keeps states v left told made [] × AreAllTold spelling block known told made
+  stands_last spelling block known coming counted rest v w left appended told gone is same size growths lines =
+      let now = stands_now (AreReadSo spelling block known coming counted rest) (AreReadSo spelling block known coming counted rest) block v w left appended (λ gs so. so) gone same in
+      let all = read_all spelling block known coming counted (each_records now.0) rest is now.3 in (
         now.0,
         record { images = now.1.images; settled = now.1.settled; size_is = size ∙ now.1.size_is; growths_are = growths ∙ now.1.growths_are },
-        record { no_more = omega (arith, lines.0, now.2); no_less = omega (arith, lines.1, now.2) },
+        (all.0, all.1, lines ∙ all.2),
       )
 
-  stands_with : (block : ℕ) (batch : List (List R)) (v mid : VaultOf R D) (left : D) (appended : Appended) (fault : FileFault)
-      (gone : HasGone form keeps states block v mid appended) (stops : StopsAt form keeps states batch mid left fault)
+  stands_with : (IsMade : List (List R) → Type 0) (block : ℕ) (batch : List (List R)) (v mid : VaultOf R D) (left : D) (appended : Appended) (fault : FileFault)
+      (gone : HasGone form keeps states IsMade block v mid appended) (stops : StopsAt form keeps states batch mid left fault)
       → StandBehindList form keeps states v left appended gone.made stops.more
-  stands_with block batch v mid left appended fault gone stops = record {
+  stands_with IsMade block batch v mid left appended fault gone stops = record {
     images = λ model. leaves_further v mid left gone.made stops.more gone.goes (stops.model model) (stops.images model);
     settled = λ model image is. subst (λ (rs : List R). OpensToGrown form rs stops.more image) gone.goes.list ((stops.images model).newest image is);
     size_is = gone.size_is ∙ ap length gone.goes.list;
@@ -276,8 +262,10 @@ module _ {R D : Type 0} (form : Encoding R) (keeps : D → Type 0) (states : D �
   }
 
   -- a grower stopped behind that: what it made stands too
-  module _ (block : ℕ) (batch : List (List R)) (v mid : VaultOf R D) (left : D) (before after : Appended) (stopped : Stopped) (told : FileFault)
-      (few : length batch < 2 ^ 64) (gone : HasGone form keeps states block v mid before)
+  module _ (spelling : Spelling R) (block : ℕ) (known coming more : Option (List ℕ)) (batch : List (List R)) (lines : ℕ) (rest : Rest)
+      (v mid : VaultOf R D) (left : D) (before after : Appended) (stopped : Stopped) (told : FileFault)
+      (few : length batch < 2 ^ 64) (read : IsBatch spelling block coming more batch lines rest)
+      (gone : HasGone form keeps states (AreFirstBlocks spelling block known coming) block v mid before)
       (stops : StopsAt form keeps states batch mid left (faults.Grower stopped))
       (tells : IsStopTold block before (faults.Grower stopped) after told) where
     count_own : stopped.line - 1 ≡ length stops.more
@@ -318,22 +306,36 @@ module _ {R D : Type 0} (form : Encoding R) (keeps : D → Type 0) (states : D �
       why = stops.settled.3.why;
     }
 
-    stopped_grower : HasAppended form keeps states block v left after (Err told)
-    stopped_grower = subst (λ fault. HasAppended form keeps states block v left after (Err fault)) (sym tells.3) (gone.made ++ stops.more, stands_all, lines_all, batch_stop)
+    records_all : AreOfFirstLines spelling block known (each_records (gone.made ++ stops.more))
+    records_all =
+        let first = made_first form.width batch stops.more stopped stops.settled.2 stops.settled.3 in
+        let short : length stops.more ≤ length batch = elim first [ inl less ↦ omega (arith, less) | inr none ↦ omega (arith, none) ] in
+        let own : each_records stops.more ≡ take (length stops.more) batch = dealt_first batch stops.more stops.settled.2 short in
+        subst (λ gs. AreOfFirstLines spelling block known gs)
+        (sym (map-append (λ growth. growth.records) gone.made stops.more ∙ ap (λ gs. each_records gone.made ++ gs) own))
+        (then_first spelling block known coming (each_records gone.made) (take (length stops.more) batch) gone.records_are
+        (some_read spelling block coming more batch lines (length stops.more) rest first read))
+
+    stopped_grower : HasAppended form keeps states spelling block known v left after (Err told)
+    stopped_grower = subst (λ fault. HasAppended form keeps states spelling block known v left after (Err fault)) (sym tells.3)
+        (gone.made ++ stops.more, stands_all, lines_all, records_all, batch_stop)
 
   -- a crew stopped behind that
-  pub stopped_with : (block : ℕ) (batch : List (List R)) (v mid : VaultOf R D) (left : D) (before after : Appended) (fault told : FileFault) → length batch < 2 ^ 64
-      → HasGone form keeps states block v mid before → StopsAt form keeps states batch mid left fault
-      → IsStopTold block before fault after told → HasAppended form keeps states block v left after (Err told)
-  stopped_with block batch v mid left before after (faults.Vault fault) told few gone stops tells =
-      subst (λ f. HasAppended form keeps states block v left after (Err f)) (sym tells.1)
-      (subst (λ a. HasAppended form keeps states block v left a (Err (faults.Vault fault))) (sym tells.0)
-      (gone.made, stops.more, stands_with block batch v mid left before (faults.Vault fault) gone stops, gone.lines_are))
-  stopped_with block batch v mid left before after (faults.Grower stopped) told few gone stops tells = stopped_grower block batch v mid left before after stopped told few gone stops tells
-  stopped_with block batch v mid left before after (faults.Open fault) told few gone stops tells = absurd stops.by_crew
-  stopped_with block batch v mid left before after (faults.Word word) told few gone stops tells = absurd stops.by_crew
-  stopped_with block batch v mid left before after (faults.Input refusal) told few gone stops tells = absurd stops.by_crew
-  stopped_with block batch v mid left before after (faults.Upgrade fault) told few gone stops tells = absurd stops.by_crew
+  module _ (spelling : Spelling R) (block : ℕ) (known coming more : Option (List ℕ)) (batch : List (List R)) (lines : ℕ) (rest : Rest)
+      (v mid : VaultOf R D) (left : D) (before after : Appended) where
+    pub stopped_with : (fault told : FileFault) → length batch < 2 ^ 64 → IsBatch spelling block coming more batch lines rest
+        → HasGone form keeps states (AreFirstBlocks spelling block known coming) block v mid before → StopsAt form keeps states batch mid left fault
+        → IsStopTold block before fault after told → HasAppended form keeps states spelling block known v left after (Err told)
+    stopped_with (faults.Vault fault) told few read gone stops tells =
+        subst (λ f. HasAppended form keeps states spelling block known v left after (Err f)) (sym tells.1)
+        (subst (λ a. HasAppended form keeps states spelling block known v left a (Err (faults.Vault fault))) (sym tells.0)
+        (gone.made, stops.more, stands_with (AreFirstBlocks spelling block known coming) block batch v mid left before (faults.Vault fault) gone stops, gone.lines_are, (coming, gone.records_are)))
+    stopped_with (faults.Grower stopped) told few read gone stops tells =
+        stopped_grower spelling block known coming more batch lines rest v mid left before after stopped told few read gone stops tells
+    stopped_with (faults.Open fault) told few read gone stops tells = absurd stops.by_crew
+    stopped_with (faults.Word word) told few read gone stops tells = absurd stops.by_crew
+    stopped_with (faults.Input refusal) told few read gone stops tells = absurd stops.by_crew
+    stopped_with (faults.Upgrade fault) told few read gone stops tells = absurd stops.by_crew
 
   -- ---- of a file
 
@@ -344,7 +346,7 @@ module _ {R D : Type 0} (form : Encoding R) (keeps : D → Type 0) (states : D �
       let mine = subst keeps (sym same) model in
       opens_same form v.sure (list_of v) (list_of v) image (sure model) refl (may mine image (subst (λ d. IsImage (now (states d)) image) (sym same) is))
 
-  module _ (failures : D → ℕ) (block : ℕ) (disk left : D) (v : VaultOf R D) (appended : Appended)
+  module _ (failures : D → ℕ) (spelling : Spelling R) (block : ℕ) (known : Option (List ℕ)) (disk left : D) (v : VaultOf R D) (appended : Appended)
       (opened : IsOpenedOn form keeps states failures disk v) (back : keeps left → keeps v.pen.disk) where
     growths_stand : (made more : List (Growth R)) → StandBehindList form keeps states v left appended made more → keeps left → GrowthsStand form states disk left appended made more
     growths_stand made more stands model = record {
@@ -356,22 +358,22 @@ module _ {R D : Type 0} (form : Encoding R) (keeps : D → Type 0) (states : D �
       growths_are = stands.growths_are;
     }
 
-    pub appended_all : HasAppended form keeps states block v left appended (Ok tt) → HasAppendedAll form keeps states block disk left appended
+    pub appended_all : HasAppended form keeps states spelling block known v left appended (Ok tt) → HasAppendedAll form keeps states spelling block known disk left appended
     appended_all has = (has.0, growths_stand has.0 [] has.1, has.2)
 
-    pub appended_some : (fault : FileFault) → HasAppended form keeps states block v left appended (Err fault) → IsAppendRefusal form keeps states failures block disk left appended fault
+    pub appended_some : (fault : FileFault) → HasAppended form keeps states spelling block known v left appended (Err fault) → IsAppendRefusal form keeps states failures spelling block known disk left appended fault
     unfolding growths_stand
-    appended_some (faults.Input refusal) has = (has.0, growths_stand has.0 [] has.1, has.2)
-    appended_some (faults.Vault fault) has = (has.0, has.1, growths_stand has.0 has.1 has.2, has.3)
-    appended_some (faults.Grower stopped) has = (has.0, growths_stand has.0 [] has.1, has.2, has.3)
+    appended_some (faults.Input refusal) has = (has.0, growths_stand has.0 [] has.1, has.2, has.3)
+    appended_some (faults.Vault fault) has = (has.0, has.1, growths_stand has.0 has.1 has.2, has.3, has.4)
+    appended_some (faults.Grower stopped) has = (has.0, growths_stand has.0 [] has.1, has.2, has.3, has.4)
     appended_some (faults.Open fault) has = absurd has
     appended_some (faults.Word word) has = absurd has
     appended_some (faults.Upgrade fault) has = absurd has
 
-    pub appended_ends : (done : Result (Unit {0}) FileFault) (ended : Ended) → MatchResult done (λ _. (ended ≡ Done) ⊎ (ended ≡ OutputFailed)) (λ fault. ended ≡ Refused fault)
-        → HasAppended form keeps states block v left appended done
-        → EndsAs (HasAppendedAll form keeps states block disk left appended) (IsAppendRefusal form keeps states failures block disk left appended) ended
+    pub appended_ends : (done : Result (Unit {0}) FileFault) (ended : Ended) → MatchResult done (λ _. (ended ≡ Done) ⊎ (ended ≡ OutputFailed)) (λ fault. ended ≡ ends.Refused fault)
+        → HasAppended form keeps states spelling block known v left appended done
+        → EndsAs (HasAppendedAll form keeps states spelling block known disk left appended) (IsAppendRefusal form keeps states failures spelling block known disk left appended) ended
     appended_ends (Ok all) ended told has =
-        done_ends (HasAppendedAll form keeps states block disk left appended) (IsAppendRefusal form keeps states failures block disk left appended) ended told (appended_all has)
+        done_ends (HasAppendedAll form keeps states spelling block known disk left appended) (IsAppendRefusal form keeps states failures spelling block known disk left appended) ended told (appended_all has)
     appended_ends (Err fault) ended told has =
-        subst (EndsAs (HasAppendedAll form keeps states block disk left appended) (IsAppendRefusal form keeps states failures block disk left appended)) (sym told) (appended_some fault has)
+        subst (EndsAs (HasAppendedAll form keeps states spelling block known disk left appended) (IsAppendRefusal form keeps states failures spelling block known disk left appended)) (sym told) (appended_some fault has)

@@ -1,5 +1,5 @@
 -- Growths that are appended as they are read.
-use Rattle.std.specs.Prelude.{◌≡◌, ℕ, ◌+◌, ◌-◌, ◌*◌, ◌^◌, ◌<◌, ◌≤◌, min, List, [], ◌++◌, length, Result, Ok, Err}
+use Rattle.std.specs.Prelude.{◌≡◌, ℕ, ◌+◌, ◌-◌, ◌*◌, ◌^◌, ◌<◌, ◌≤◌, min, List, [], ◌++◌, length, map, Option, Result, Ok, Err}
 use Rattle.record_core.specs.Bytes.{Encoding}
 use Rattle.disk_core.specs.State.{State, now, IsImage}
 use Rattle.disk_core.specs.Calls.{bytes_of}
@@ -9,10 +9,12 @@ use Rattle.directory_core.specs.Chain.{joined}
 use Rattle.pen_core.specs.Typed.{OpensTo}
 use Rattle.vault_core.specs.Crewing.{OpensToGrown}
 use Rattle.vault_core.specs.Vault.{VaultOf, list_of}
+use Rattle.text_core.specs.Text.{Spelling}
 use Rattle.files_core.specs.declared.appended.Appended.{Appended}
 use Rattle.files_core.specs.declared.fault.FileFault.{FileFault}
 use Rattle.files_core.specs.declared.fault.FileFault.TheVariants.{Word, Input, Open, Vault, Grower, Upgrade}
 use Rattle.files_core.specs.declared.fault.Stopped.{Stopped}
+use Rattle.files_core.specs.InputBlocks.{AreOfAllLines, AreOfFirstLines}
 use Rattle.files_core.specs.Loading.{AreDealt, IsStopOf, IsStopReason}
 use Rattle.files_core.specs.Opened.{IsNotOpened, LeavesBeforeOr}
 
@@ -39,18 +41,14 @@ nothing_appended = record { growths = 0; lines = 0; size = 0 }
 abbrev pub AreOfBlocks : {R : Type 0} → ℕ → Appended → List (Growth R) → Type 0
 AreOfBlocks block appended made = appended.lines ≡ min (2 ^ 64 - 1) (length made * block)
 
--- they are, but that the last growth may be of fewer lines
-pub record AreLinesOf {R : Type 0} (block : ℕ) (appended : Appended) (made : List (Growth R)) : Type 0 where
-  pub no_more : appended.lines ≤ min (2 ^ 64 - 1) (length made * block)
-  pub no_less : min (2 ^ 64 - 1) (length made * block) < appended.lines + block
+-- the records of each growth
+abbrev pub each_records : {R : Type 0} → List (Growth R) → List (List R)
+each_records made = map (λ growth. growth.records) made
 
--- so many lines are of so many growths, of which the last one may have fewer than a block
-abbrev pub AreLinesWithin : ℕ → ℕ → ℕ → Type 0
-AreLinesWithin block growths lines = (lines ≤ growths * block) × (growths * block < lines + block)
-
--- so many lines behind others are all, where those of whole blocks would be as many as that
-abbrev pub IsLast : ℕ → ℕ → ℕ → ℕ → Type 0
-IsLast block before lines whole = (min (2 ^ 64 - 1) (before + lines) ≤ whole) × (whole < min (2 ^ 64 - 1) (before + lines) + block)
+-- the growths are those of all lines of an input, and these are told
+abbrev pub AreAllTold : {R : Type 0} → Spelling R → ℕ → Option (List ℕ) → Appended → List (Growth R) → Type 0
+AreAllTold spelling block input appended made =
+    (count : ℕ) × AreOfAllLines spelling block input (each_records made) count × (appended.lines ≡ min (2 ^ 64 - 1) count)
 
 -- The one grower of a batch stopped: it had made the first growths of the batch, all that stands is told, and its next growth,
 -- that of the line behind those that are told, wasn't made for this reason.
@@ -125,39 +123,51 @@ module _ {R D : Type 0} (form : Encoding R) (keeps : D → Type 0) (states : D �
     pub size_is : appended.size ≡ length (list_of v ++ joined made)
     pub growths_are : appended.growths ≡ min (2 ^ 64 - 1) (length made)
 
-  -- so far these growths were made, each of a whole block, and are told
-  pub record HasGone (block : ℕ) (v w : VaultOf R D) (appended : Appended) : Type 0 where
+  -- so far these growths were made, whose records are so, and are told, each as one of a whole block
+  pub record HasGone (IsMade : List (List R) → Type 0) (block : ℕ) (v w : VaultOf R D) (appended : Appended) : Type 0 where
     pub made : List (Growth R)
     pub goes : GrowsTo v w made
+    pub records_are : IsMade (each_records made)
     pub size_is : appended.size ≡ length (list_of w)
     pub growths_are : appended.growths ≡ min (2 ^ 64 - 1) (length made)
     pub lines_are : AreOfBlocks block appended made
 
-  -- all growths that stand are told, unless a crew stopped without a vault; behind each refusal each of them is of a whole block
-  abbrev pub HasAppended : ℕ → VaultOf R D → D → Appended → Result (Unit {0}) FileFault → Type 0
-  HasAppended block v left appended (Ok all) = (made : List (Growth R)) × StandBehindList v left appended made [] × AreLinesOf block appended made
-  HasAppended block v left appended (Err (Input refusal)) = (made : List (Growth R)) × StandBehindList v left appended made [] × AreOfBlocks block appended made
-  HasAppended block v left appended (Err (Vault fault)) = (made more : List (Growth R)) × StandBehindList v left appended made more × AreOfBlocks block appended made
-  HasAppended block v left appended (Err (Grower stopped)) =
+  -- All growths that stand are told, unless a crew stopped without a vault; they are those of all lines of the input. Behind each
+  -- refusal those that are told are of its first lines, each of a whole block.
+  abbrev pub HasAppended : Spelling R → ℕ → Option (List ℕ) → VaultOf R D → D → Appended → Result (Unit {0}) FileFault → Type 0
+  HasAppended spelling block input v left appended (Ok all) =
+      (made : List (Growth R)) × StandBehindList v left appended made [] × AreAllTold spelling block input appended made
+  HasAppended spelling block input v left appended (Err (Input refusal)) =
+      (made : List (Growth R)) × StandBehindList v left appended made [] × AreOfBlocks block appended made × AreOfFirstLines spelling block input (each_records made)
+  HasAppended spelling block input v left appended (Err (Vault fault)) =
+      (made more : List (Growth R)) × StandBehindList v left appended made more × AreOfBlocks block appended made
+      × AreOfFirstLines spelling block input (each_records made)
+  HasAppended spelling block input v left appended (Err (Grower stopped)) =
       (made : List (Growth R)) × StandBehindList v left appended made [] × AreOfBlocks block appended made
-      × IsBatchStop form.width appended made stopped
-  HasAppended block v left appended (Err (Open fault)) = ⊥
-  HasAppended block v left appended (Err (Word word)) = ⊥
-  HasAppended block v left appended (Err (Upgrade fault)) = ⊥
+      × AreOfFirstLines spelling block input (each_records made) × IsBatchStop form.width appended made stopped
+  HasAppended spelling block input v left appended (Err (Open fault)) = ⊥
+  HasAppended spelling block input v left appended (Err (Word word)) = ⊥
+  HasAppended spelling block input v left appended (Err (Upgrade fault)) = ⊥
 
-  -- all that stands in the file is told
-  abbrev pub HasAppendedAll : ℕ → D → D → Appended → Type 0
-  HasAppendedAll block disk left appended = (made : List (Growth R)) × (keeps left → GrowthsStand form states disk left appended made []) × AreLinesOf block appended made
+  -- All that stands behind the old list is told: the growths of all lines of the input, whose lines are told too.
+  abbrev pub HasAppendedAll : Spelling R → ℕ → Option (List ℕ) → D → D → Appended → Type 0
+  HasAppendedAll spelling block input disk left appended =
+      (made : List (Growth R)) × (keeps left → GrowthsStand form states disk left appended made []) × AreAllTold spelling block input appended made
 
-  -- where it was refused: at opening, and then nothing was written; at a line, or by a grower, and all that stands is told; or by
-  -- the vault, and what was begun behind that may stand too
-  abbrev pub IsAppendRefusal : (D → ℕ) → ℕ → D → D → Appended → FileFault → Type 0
-  IsAppendRefusal faults block disk left appended (Open fault) = (appended ≡ nothing_appended) × IsNotOpened form keeps states faults disk left fault
-  IsAppendRefusal faults block disk left appended (Input refusal) = (made : List (Growth R)) × (keeps left → GrowthsStand form states disk left appended made []) × AreOfBlocks block appended made
-  IsAppendRefusal faults block disk left appended (Vault fault) =
-      (made more : List (Growth R)) × (keeps left → GrowthsStand form states disk left appended made more) × AreOfBlocks block appended made
-  IsAppendRefusal faults block disk left appended (Grower stopped) =
+  -- Where it was refused: at opening, and then nothing was written; at a line, or by a grower, and all that stands is told; or by
+  -- the vault, and what was begun behind that may stand too. What is told are growths of the first lines of the input, each of a
+  -- whole block.
+  abbrev pub IsAppendRefusal : (D → ℕ) → Spelling R → ℕ → Option (List ℕ) → D → D → Appended → FileFault → Type 0
+  IsAppendRefusal faults spelling block input disk left appended (Open fault) =
+      (appended ≡ nothing_appended) × IsNotOpened form keeps states faults disk left fault
+  IsAppendRefusal faults spelling block input disk left appended (Input refusal) =
       (made : List (Growth R)) × (keeps left → GrowthsStand form states disk left appended made []) × AreOfBlocks block appended made
-      × IsBatchStop form.width appended made stopped
-  IsAppendRefusal faults block disk left appended (Word word) = ⊥
-  IsAppendRefusal faults block disk left appended (Upgrade fault) = ⊥
+      × AreOfFirstLines spelling block input (each_records made)
+  IsAppendRefusal faults spelling block input disk left appended (Vault fault) =
+      (made more : List (Growth R)) × (keeps left → GrowthsStand form states disk left appended made more) × AreOfBlocks block appended made
+      × AreOfFirstLines spelling block input (each_records made)
+  IsAppendRefusal faults spelling block input disk left appended (Grower stopped) =
+      (made : List (Growth R)) × (keeps left → GrowthsStand form states disk left appended made []) × AreOfBlocks block appended made
+      × AreOfFirstLines spelling block input (each_records made) × IsBatchStop form.width appended made stopped
+  IsAppendRefusal faults spelling block input disk left appended (Word word) = ⊥
+  IsAppendRefusal faults spelling block input disk left appended (Upgrade fault) = ⊥

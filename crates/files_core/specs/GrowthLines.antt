@@ -43,5 +43,4 @@ IsLinesRefusal {R} width spelling input (refusals.TooLargeAtLine n) =
 IsLinesRefusal width spelling input refusals.InputTooLong = input_limit < length input
 IsLinesRefusal width spelling input refusals.Input = Unit {0}
 IsLinesRefusal width spelling input refusals.Memory = Unit {0}
-IsLinesRefusal width spelling input (refusals.Scan fault) = ⊥
 IsLinesRefusal width spelling input refusals.NotHex = ⊥

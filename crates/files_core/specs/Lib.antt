@@ -18,5 +18,6 @@ pub mod Upgraded
 pub mod GrowthLines
 pub mod LineBlocks
 pub mod InputBlocks
+pub mod Batches
 pub mod Loading
 pub mod Appending

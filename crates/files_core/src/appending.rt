@@ -1,11 +1,14 @@
 //! `append`: growths of an input of any length, committed as they are read.
 
-ghost use Rattle.std.specs.Prelude.{◌≡◌, ℕ, List, length, IfOk, IfErr};
+ghost use Rattle.std.specs.Prelude.{◌≡◌, ◌+◌, ◌-◌, ◌^◌, min, ℕ, List, Option, IfOk, IfErr};
+ghost use Rattle.std.specs.Io.KnownBytes.{prepend_known};
 ghost use Rattle.std.specs.NonZero.{non_zero_u32_get};
 ghost use Rattle.block_core.specs.Growth.{Growth};
 ghost use Rattle.vault_core.specs.Vault.{VaultOf, list_of};
-ghost use Rattle.files_core.specs.Appending.{AreLinesWithin, GrowsTo, HasAppended, HasAppendedAll, HasGone, IsAppendRefusal, IsLast, IsSettled, StopsAt};
+ghost use Rattle.files_core.specs.Appending.{GrowsTo, HasAppended, HasAppendedAll, HasGone, IsAppendRefusal, IsSettled, StopsAt, each_records};
+ghost use Rattle.files_core.specs.Batches.{AreReadSo, IsBatch};
 ghost use Rattle.files_core.specs.Ended.{EndsAs, WritesText};
+ghost use Rattle.files_core.specs.InputBlocks.{AreFirstBlocks};
 ghost use Rattle.files_core.specs.Opened.{IsOpenedOn};
 ghost use Rattle.files_core.specs.Texts.{appended_line};
 
@@ -17,7 +20,6 @@ use crate::fault::FileFault;
 use crate::loading::grow_by;
 use crate::progress::Progress;
 use disk_core::Disk;
-use record_core::Record;
 use segment_core::Growths;
 use std::alloc::Global;
 use std::io::{Read, Write};
@@ -40,7 +42,7 @@ fn append_growths<
     growths: Growths<R>,
 ) -> Result<Vault<R, D>, (D, FileFault)>
     requires { IsSettled R.form D.keeps D.states vault }
-    ensures on { IfOk result (λ new. (made : List (Growth R)) × GrowsTo R.form D.keeps D.states vault new made × (length made ≡ length growths.0)) }
+    ensures on { IfOk result (λ new. (made : List (Growth R)) × GrowsTo R.form D.keeps D.states vault new made × (each_records made ≡ growths.0)) }
     ensures stops { IfErr result (λ r. StopsAt R.form D.keeps D.states growths.0 vault r.0 r.1) }
 {
     if growths.count() == 0 {
@@ -54,17 +56,17 @@ fn append_growths<
 
 /// What comes behind a batch that stands in a vault, with so many lines behind others: the vault, where more is to be read;
 /// else its disk, and how it is over.
-fn go_on<R: Record, D: Disk>(
+fn go_on<R: TextRecord, D: Disk>(
     vault: Vault<R, D>,
     rest: Rest,
     before: u64,
     lines: u64,
     appended: &mut Appended,
 ) -> Result<Vault<R, D>, (D, Result<(), FileFault>)>
-    ensures on { IfOk result (λ new. (new ≡ vault) × (appended.new ≡ appended.old)) }
-    ensures over { (block : ℕ) → (v : VaultOf R D) → HasGone R.form D.keeps D.states block v vault appended.old
-        → (rest ≡ Rest.Nothing → IsLast block before lines appended.old.lines)
-        → IfErr result (λ r. HasAppended R.form D.keeps D.states block v r.0 appended.new r.1) }
+    ensures on { IfOk result (λ new. (new ≡ vault) × (appended.new ≡ appended.old) × (rest ≡ Rest.More)) }
+    ensures over { (block : ℕ) → (v : VaultOf R D) → (input coming : Option (List ℕ))
+        → HasGone R.form D.keeps D.states (AreReadSo R.spelling block input coming (min (2 ^ 64 - 1) (before + lines)) rest) block v vault appended.old
+        → IfErr result (λ r. HasAppended R.form D.keeps D.states R.spelling block input v r.0 appended.new r.1) }
     ensures disk { IfErr result (λ r. r.0 ≡ vault.pen.disk) }
 {
     match rest {
@@ -99,12 +101,13 @@ fn append_batch<
     progress: &P,
     appended: &mut Appended,
 ) -> Result<Vault<R, D>, (D, Result<(), FileFault>)>
-    requires settled { IsSettled R.form D.keeps D.states vault }
-    requires last { batch.rest ≡ Rest.Nothing → AreLinesWithin (non_zero_u32_get block) (length batch.growths.0) batch.lines }
-    ensures on { (v : VaultOf R D) → HasGone R.form D.keeps D.states (non_zero_u32_get block) v vault appended.old
-        → IfOk result (λ new. HasGone R.form D.keeps D.states (non_zero_u32_get block) v new appended.new) }
-    ensures over { (v : VaultOf R D) → HasGone R.form D.keeps D.states (non_zero_u32_get block) v vault appended.old
-        → IfErr result (λ r. HasAppended R.form D.keeps D.states (non_zero_u32_get block) v r.0 appended.new r.1) }
+    requires { IsSettled R.form D.keeps D.states vault }
+    ensures on { (v : VaultOf R D) → (input coming left : Option (List ℕ)) → IsBatch R.spelling (non_zero_u32_get block) coming left batch.growths.0 batch.lines batch.rest
+        → HasGone R.form D.keeps D.states (AreFirstBlocks R.spelling (non_zero_u32_get block) input coming) (non_zero_u32_get block) v vault appended.old
+        → IfOk result (λ new. HasGone R.form D.keeps D.states (AreFirstBlocks R.spelling (non_zero_u32_get block) input left) (non_zero_u32_get block) v new appended.new) }
+    ensures over { (v : VaultOf R D) → (input coming left : Option (List ℕ)) → IsBatch R.spelling (non_zero_u32_get block) coming left batch.growths.0 batch.lines batch.rest
+        → HasGone R.form D.keeps D.states (AreFirstBlocks R.spelling (non_zero_u32_get block) input coming) (non_zero_u32_get block) v vault appended.old
+        → IfErr result (λ r. HasAppended R.form D.keeps D.states R.spelling (non_zero_u32_get block) input v r.0 appended.new r.1) }
     ensures model { IfErr result (λ r. D.keeps r.0 → D.keeps vault.pen.disk) }
 {
     let Batch {
@@ -125,7 +128,7 @@ fn append_batch<
 }
 
 /// Appends the growths of the lines of an input of any length to a vault, some blocks of lines after the other. The buffer
-/// holds what was read, and is empty before.
+/// holds what was read and isn't in a growth yet.
 fn append_all<
     R: TextRecord,
     S: Deck<R> + Drop,
@@ -143,7 +146,7 @@ fn append_all<
     progress: &P,
 ) -> (D, Appended, Result<(), FileFault>)
     requires { IsSettled R.form D.keeps D.states vault }
-    ensures stands { HasAppended R.form D.keeps D.states (non_zero_u32_get block) vault result.0 result.1 result.2 }
+    ensures stands { HasAppended R.form D.keeps D.states R.spelling (non_zero_u32_get block) (prepend_known buffer.old.items (I.remaining reader.old)) vault result.0 result.1 result.2 }
     ensures model { D.keeps result.0 → D.keeps vault.pen.disk }
 {
     let mut vault = vault;
@@ -180,7 +183,7 @@ fn append_opened<
     writer: &mut W,
 ) -> (D, Appended, Ended)
     requires { D.keeps vault.pen.disk → vault.sure ≡ list_of vault }
-    ensures stands { (disk : D) → IsOpenedOn R.form D.keeps D.states D.faults disk vault → EndsAs (HasAppendedAll R.form D.keeps D.states (non_zero_u32_get block) disk result.0 result.1) (IsAppendRefusal R.form D.keeps D.states D.faults (non_zero_u32_get block) disk result.0 result.1) result.2 }
+    ensures stands { (disk : D) → IsOpenedOn R.form D.keeps D.states D.faults disk vault → EndsAs (HasAppendedAll R.form D.keeps D.states R.spelling (non_zero_u32_get block) (I.remaining reader.old) disk result.0 result.1) (IsAppendRefusal R.form D.keeps D.states D.faults R.spelling (non_zero_u32_get block) (I.remaining reader.old) disk result.0 result.1) result.2 }
     ensures model { D.keeps result.0 → D.keeps vault.pen.disk }
     ensures writes { WritesText (W.contents writer.old) (W.contents writer.new) (appended_line result.1.growths result.1.size) result.2 }
 {
@@ -226,7 +229,7 @@ pub fn append<
     progress: &P,
     writer: &mut W,
 ) -> (D, Appended, Ended)
-    ensures stands { EndsAs (HasAppendedAll R.form D.keeps D.states (non_zero_u32_get block) disk result.0 result.1) (IsAppendRefusal R.form D.keeps D.states D.faults (non_zero_u32_get block) disk result.0 result.1) result.2 }
+    ensures stands { EndsAs (HasAppendedAll R.form D.keeps D.states R.spelling (non_zero_u32_get block) (I.remaining reader.old) disk result.0 result.1) (IsAppendRefusal R.form D.keeps D.states D.faults R.spelling (non_zero_u32_get block) (I.remaining reader.old) disk result.0 result.1) result.2 }
     ensures model { D.keeps result.0 → D.keeps disk }
     ensures writes { WritesText (W.contents writer.old) (W.contents writer.new) (appended_line result.1.growths result.1.size) result.2 }
 {

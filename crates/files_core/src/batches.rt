@@ -1,8 +1,9 @@
 //! Lines that are read a batch after the other.
 
-ghost use Rattle.std.specs.Prelude.{◌≡◌, None, length};
+ghost use Rattle.std.specs.Prelude.{◌≡◌, ◌≤◌, drop, length, MatchOption};
+ghost use Rattle.std.specs.Io.KnownBytes.{prepend_known};
 ghost use Rattle.std.specs.NonZero.{non_zero_u32_get};
-ghost use Rattle.files_core.specs.Appending.{AreLinesWithin};
+ghost use Rattle.files_core.specs.Batches.{IsBatch, IsFilled, IsWholeLen};
 
 use crate::gathering::whole_blocks;
 use crate::line_blocks::{Blocks, Front, read_front};
@@ -32,7 +33,7 @@ pub(crate) enum Rest {
 impl Rest {
     /// The same, unless a line that was read is refused.
     fn or_refused(self, refusal: Option<Refusal>) -> Rest
-        ensures { result ≡ Rest.Nothing → refusal ≡ None }
+        ensures { MatchOption refusal (result ≡ self) (λ r. result ≡ Rest.Refused r) }
     {
         match refusal {
             Some(refusal) => Rest::Refused(refusal),
@@ -60,7 +61,9 @@ pub(crate) fn behind(lines: u64, refusal: Refusal) -> Refusal {
 }
 
 /// Reads into the buffer until it has a batch more and ends in or behind a line that it has whole.
-fn fill<I: Read>(reader: &mut I, buffer: &mut Vec<u8>) -> Rest {
+fn fill<I: Read>(reader: &mut I, buffer: &mut Vec<u8>) -> Rest
+    ensures { IsFilled (I.remaining reader.old) (I.remaining reader.new) buffer.old.items buffer.new.items result }
+{
     let mut piece = [0u8; PIECE_LEN];
     let mut fresh: usize = 0;
     for _ in 0..=INPUT_LIMIT {
@@ -84,6 +87,25 @@ fn fill<I: Read>(reader: &mut I, buffer: &mut Vec<u8>) -> Rest {
     Rest::Unread(Refusal::InputTooLong)
 }
 
+/// How many bytes of a buffer are of lines that have come: all, where nothing is to come, else those of whole blocks.
+fn whole_len(buffer: &[u8], block: NonZeroU32, rest: Rest) -> usize
+    ensures within { result ≤ length buffer.now }
+    ensures whole { IsWholeLen (non_zero_u32_get block) buffer.now result rest }
+{
+    match rest {
+        Rest::Nothing => buffer.len(),
+        _ => whole_blocks(buffer, block),
+    }
+}
+
+/// Takes so many bytes from the front of a buffer.
+fn drop_front(buffer: &mut Vec<u8>, len: usize)
+    requires { len ≤ length buffer.old.items }
+    ensures { buffer.new.items ≡ drop len buffer.old.items }
+{
+    buffer.drain(..len);
+}
+
 /// Reads some blocks of lines behind those that were read, and their growths.
 pub(crate) fn read_batch<R: TextRecord, I: Read>(
     alloc: Global,
@@ -91,15 +113,12 @@ pub(crate) fn read_batch<R: TextRecord, I: Read>(
     buffer: &mut Vec<u8>,
     block: NonZeroU32,
 ) -> Batch<R>
-    ensures { result.rest ≡ Rest.Nothing → AreLinesWithin (non_zero_u32_get block) (length result.growths.0) result.lines }
+    ensures { IsBatch R.spelling (non_zero_u32_get block) (prepend_known buffer.old.items (I.remaining reader.old)) (prepend_known buffer.new.items (I.remaining reader.new)) result.growths.0 result.lines result.rest }
 {
     let rest = fill(reader, buffer);
-    let len = match rest {
-        Rest::Nothing => buffer.len(),
-        _ => whole_blocks(buffer, block),
-    };
+    let len = whole_len(buffer, block, rest);
     let Front { blocks, refusal } = read_front::<R>(alloc, &buffer[..len], block);
-    buffer.drain(..len);
+    drop_front(buffer, len);
     let Blocks { growths, lines } = blocks;
     Batch {
         growths,

@@ -1,7 +1,8 @@
 //! Lines that are gathered: so many of them are a block.
 
-ghost use Rattle.std.specs.Prelude.{◌≡◌, ◌<◌, ◌≤◌, ◌++◌, [], length, OnOk, IfOk};
+ghost use Rattle.std.specs.Prelude.{◌≡◌, ◌<◌, ◌≤◌, ◌++◌, [], length, take, OnOk, IfOk};
 ghost use Rattle.std.specs.NonZero.{non_zero_u32_get};
+ghost use Rattle.files_core.specs.Batches.{EndsWithLf, HasWholeBlocks};
 ghost use Rattle.files_core.specs.LineBlocks.{AreLineBlocks};
 
 use segment_core::Growths;
@@ -73,7 +74,8 @@ pub(crate) fn gather<R: Copy>(
 
 /// How many bytes the whole lines have.
 fn whole_lines(buffer: &[u8]) -> usize
-    ensures { result ≤ length buffer.now }
+    ensures within { result ≤ length buffer.now }
+    ensures ends { EndsWithLf (take result buffer.now) }
 {
     let mut len = buffer.len();
     while len > 0 && buffer[len - 1] != b'\n' {
@@ -84,7 +86,8 @@ fn whole_lines(buffer: &[u8]) -> usize
 
 /// How many bytes the whole blocks have, each of so many lines, that stand within the first lines, so many at most.
 pub(crate) fn first_blocks(buffer: &[u8], block: NonZeroU32, most: u64) -> usize
-    ensures { result ≤ length buffer.now }
+    ensures within { result ≤ length buffer.now }
+    ensures whole { HasWholeBlocks (non_zero_u32_get block) (take result buffer.now) }
 {
     let size = block.get();
     let mut lines: u64 = 0;
@@ -108,7 +111,8 @@ pub(crate) fn first_blocks(buffer: &[u8], block: NonZeroU32, most: u64) -> usize
 
 /// How many bytes the whole blocks have, each of so many lines.
 pub(crate) fn whole_blocks(buffer: &[u8], block: NonZeroU32) -> usize
-    ensures { result ≤ length buffer.now }
+    ensures within { result ≤ length buffer.now }
+    ensures whole { HasWholeBlocks (non_zero_u32_get block) (take result buffer.now) }
 {
     if block.get() == 1 {
         return whole_lines(buffer);

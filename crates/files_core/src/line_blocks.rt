@@ -1,9 +1,9 @@
 //! Lines of records, gathered: a growth for so many lines.
 
-ghost use Rattle.std.specs.Prelude.{◌≡◌, IfOk, IfNone, IsSome};
+ghost use Rattle.std.specs.Prelude.{◌≡◌, IfOk, Some, IsSome, MatchOption};
 ghost use Rattle.std.specs.NonZero.{non_zero_u32_get};
 ghost use Rattle.files_core.specs.GrowthLines.{AllGrowthsFit};
-ghost use Rattle.files_core.specs.InputBlocks.{AreInputBlocks};
+ghost use Rattle.files_core.specs.InputBlocks.{AreInputBlocks, AreOfFirstLines};
 
 use crate::gathering::{first_blocks, gather};
 use crate::growth_lines::{check_sizes, read_lines};
@@ -78,7 +78,8 @@ fn read_before<R: TextRecord>(
     block: NonZeroU32,
     refusal: Refusal,
 ) -> Front<R>
-    ensures { IsSome result.refusal }
+    ensures refused { IsSome result.refusal }
+    ensures first { AreOfFirstLines R.spelling (non_zero_u32_get block) (Some input.now) result.blocks.growths.0 }
 {
     let mut refusal = refusal;
     let mut len = input.len();
@@ -106,7 +107,7 @@ fn read_before<R: TextRecord>(
 
 /// The growths that the lines spell, up to the first block that has none.
 pub(crate) fn read_front<R: TextRecord>(alloc: Global, input: &[u8], block: NonZeroU32) -> Front<R>
-    ensures read { IfNone result.refusal (AreInputBlocks R.spelling (non_zero_u32_get block) input.now result.blocks.growths.0 result.blocks.lines) }
+    ensures { MatchOption result.refusal (AreInputBlocks R.spelling (non_zero_u32_get block) input.now result.blocks.growths.0 result.blocks.lines) (λ refusal. AreOfFirstLines R.spelling (non_zero_u32_get block) (Some input.now) result.blocks.growths.0) }
 {
     match read_blocks::<R>(alloc, input, block) {
         Ok(blocks) => Front {

@@ -1,29 +1,27 @@
 -- No job, or no fold, is in hand: the memory for one may have grown, and hold other bytes.
-use Rattle.std.proofs.Common.{◌≡◌, ℕ, Bool, List, Option, None, refl, sym, subst, ◌∙◌}
+use Rattle.std.proofs.Common.{◌≡◌, ℕ, List, None, refl, sym, subst, ◌∙◌}
 use Rattle.disk_core.specs.State.{State}
-use Rattle.segment_core.specs.declared.format.Shape.{Shape}
 use Rattle.segment_core.specs.declared.tally.Tally.{Tally}
 use Rattle.pen_core.specs.declared.fold.Fold.{Fold}
 use Rattle.pen_core.specs.declared.pen.Pen.TheInside.{Inside}
-use Rattle.pen_core.specs.Fields.{count_open, seen_as, IsSound}
+use Rattle.pen_core.specs.Fields.{log_of, count_open, seen_as, IsSoundPen}
 use Rattle.pen_core.specs.declared.stage.FoldStage.{FoldStage}
 use Rattle.pen_core.specs.declared.stage.FoldStage.TheVariants as stages
-use Rattle.pen_core.specs.declared.step.Step.{Step}
+use Rattle.pen_core.specs.PenLog.{PenLog}
 use Rattle.pen_core.specs.PenOf.{FoldOf}
-use Rattle.pen_core.specs.InHand.{IsFold, IsInHand, fold_of, in_stage}
+use Rattle.pen_core.specs.InHand.{HasFold, IsInHand, fold_of, in_stage}
 use Rattle.pen_core.specs.Inside.{IsPen}
-use Rattle.pen_core.specs.Listed.{IsListed}
+use Rattle.pen_core.specs.Listed.{HasLists}
 use Rattle.pen_core.specs.Pen.{open_count, IsUnchanged}
 use Rattle.pen_core.proofs.InHand.{fold_same, no_fold_at, no_fold_seen, pen_unfolded}
 use Rattle.pen_core.proofs.Listed.{listed_same}
 
-pub pen_same : {count : ℕ} {keeps : Type 0} {states : List State} {shape : Shape} {gate : ℕ} {tally next : Tally} {bytes : List ℕ}
-    {o : Option Step} {broken : Bool} → IsPen count keeps states shape gate tally next bytes o broken → o ≡ None
-    → (bytes' : List ℕ) → IsPen count keeps states shape gate tally next bytes' o broken
-pen_same {count} {keeps} {states} {shape} {gate} {tally} {next} {bytes} {o} {broken} pen idle bytes' =
-    let rests : IsPen count keeps states shape gate tally next bytes None broken =
-    subst (λ s. IsPen count keeps states shape gate tally next bytes s broken) idle pen in
-    let made : IsPen count keeps states shape gate tally next bytes' None broken = record {
+pub pen_same : {count : ℕ} {keeps : Type 0} {states : List State} {log : PenLog} {next : Tally} → IsPen count keeps states log next
+    → log.step ≡ None → (bytes : List ℕ) → IsPen count keeps states (record log { bytes = bytes }) next
+pen_same {count} {keeps} {states} {log} {next} pen idle bytes =
+    let rests : IsPen count keeps states (record log { step = None }) next =
+    subst (λ step. IsPen count keeps states (record log { step = step }) next) idle pen in
+    let made : IsPen count keeps states (record log { bytes = bytes; step = None }) next = record {
       wide = rests.wide;
       gate_fits = rests.gate_fits;
       size_fits = rests.size_fits;
@@ -41,13 +39,13 @@ pen_same {count} {keeps} {states} {shape} {gate} {tally} {next} {bytes} {o} {bro
             stands = k.stands;
           });
     } in
-    subst (λ s. IsPen count keeps states shape gate tally next bytes' s broken) (sym idle) made
+    subst (λ step. IsPen count keeps states (record log { bytes = bytes; step = step }) next) (sym idle) made
 
 -- no job is in hand: the memory for one may have grown, and hold other bytes
-pub at_rest : {D : Type 0} {keeps : D → Type 0} {states : D → List State} {pen : Inside D} → IsSound keeps states pen
+pub at_rest : {D : Type 0} {keeps : D → Type 0} {states : D → List State} {pen : Inside D} → IsSoundPen keeps states pen
     → (then : Inside D) → pen.step ≡ None → then.homes.homes.items ≡ pen.homes.homes.items
     → then.homes.live.items ≡ pen.homes.live.items
-    → IsSound keeps states (record pen { bytes = then.bytes; homes = then.homes })
+    → IsSoundPen keeps states (record pen { bytes = then.bytes; homes = then.homes })
 at_rest sound then idle homes_same live_same = record {
   job = pen_same sound.job idle then.bytes.items;
   lists = listed_same sound.lists idle then.bytes.items then.homes homes_same live_same;
@@ -56,10 +54,10 @@ at_rest sound then idle homes_same live_same = record {
 
 -- all parts of it
 pub sound : {D : Type 0} {keeps : D → Type 0} {states : D → List State} {pen : Inside D}
-    → IsPen (count_open pen) (keeps pen.disk) (states pen.disk) pen.shape pen.gate pen.tally pen.next pen.bytes.items pen.step pen.broken
-    × IsListed (keeps pen.disk) (states pen.disk) pen.shape pen.gate pen.tally pen.bytes.items pen.step pen.homes pen.live pen.fold
-    × IsFold (keeps pen.disk) (states pen.disk) pen.shape pen.gate pen.tally pen.bytes.items pen.step pen.broken pen.fold
-    → IsSound keeps states pen
+    → IsPen (count_open pen) (keeps pen.disk) (states pen.disk) (log_of pen) pen.next
+    × HasLists (keeps pen.disk) (states pen.disk) (log_of pen) pen.homes pen.live pen.fold
+    × HasFold (keeps pen.disk) (states pen.disk) (log_of pen) pen.fold
+    → IsSoundPen keeps states pen
 sound parts = record { job = parts.0; lists = parts.1; fold = parts.2 }
 
 -- ---- no fold
@@ -74,18 +72,18 @@ unfolded fold none = at fold.stage _ none
     at stages.Ready f none = absurd cc
     at stages.Filed f none = absurd cc
 
-module _ {D : Type 0} {keeps : D → Type 0} {states : D → List State} {pen : Inside D} (sound : IsSound keeps states pen) (fold : Fold)
+module _ {D : Type 0} {keeps : D → Type 0} {states : D → List State} {pen : Inside D} (sound : IsSoundPen keeps states pen) (fold : Fold)
     (none : fold_of pen.fold ≡ None) (same : fold.stage ≡ pen.fold.stage) where
   still : fold.stage ≡ stages.None
   still = same ∙ unfolded pen.fold none
 
   -- the memory for a fold holds others
-  pub pen_unbegun : IsSound keeps states (record pen { fold = fold })
+  pub pen_unbegun : IsSoundPen keeps states (record pen { fold = fold })
   pen_unbegun =
       let lists = sound.lists in
       record {
-        job = pen_unfolded (keeps pen.disk) (states pen.disk) pen.shape pen.gate pen.tally pen.next pen.bytes.items pen.step pen.broken fold still
-            (subst (λ stage. IsPen (open_count stage pen.fold.count) (keeps pen.disk) (states pen.disk) pen.shape pen.gate pen.tally pen.next pen.bytes.items pen.step pen.broken)
+        job = pen_unfolded fold still
+            (subst (λ stage. IsPen (open_count stage pen.fold.count) (keeps pen.disk) (states pen.disk) (log_of pen) pen.next)
             (unfolded pen.fold none) sound.job);
         lists = record {
           frames = lists.frames;
@@ -97,7 +95,7 @@ module _ {D : Type 0} {keeps : D → Type 0} {states : D → List State} {pen : 
           runs_are = λ held. absurd (subst IsInHand still held);
           same = lists.same;
         };
-        fold = no_fold_at (keeps pen.disk) (states pen.disk) pen.shape pen.gate pen.tally pen.bytes.items pen.step pen.broken fold still;
+        fold = no_fold_at (keeps pen.disk) (states pen.disk) (log_of pen) fold still;
       }
 
   pub unbegun_seen : IsUnchanged (seen_as states pen) (seen_as states (record pen { fold = fold }))

@@ -17,17 +17,17 @@ use Rattle.segment_core.specs.Found.{pairs_of, live_of}
 use Rattle.segment_core.specs.Tally.{after, is_miscounted, MayFollow}
 use Rattle.segment_core.specs.Raw.{raw, after_frame}
 use Rattle.segment_core.specs.Folding.{HomesHold}
-use Rattle.segment_core.specs.Parsed.{vector_before}
 use Rattle.pen_core.specs.declared.pen.Pen.TheInside.{Inside}
-use Rattle.pen_core.specs.Fields.{IsSound}
+use Rattle.pen_core.specs.Fields.{log_of, IsSoundPen}
 use Rattle.pen_core.specs.declared.step.Step.TheVariants.{Body}
 use Rattle.pen_core.specs.declared.stage.FoldStage.TheVariants.{Ready, Filed}
 use Rattle.pen_core.specs.Step.{body_of}
-use Rattle.pen_core.specs.Vectors.{frame_at, blanked_before, frames_with}
+use Rattle.pen_core.specs.PenLog.{PenLog, frames_read, vector_read}
+use Rattle.pen_core.specs.Vectors.{frame_at, frames_with}
 use Rattle.pen_core.specs.Folds.{laid, IsFolding}
-use Rattle.pen_core.specs.InHand.{left_of, write_of, IsUnfiled, gate_then, frame_in_hand, IsInHand, IsAtStage, HomesAt, IsFold}
+use Rattle.pen_core.specs.InHand.{left_of, write_of, IsUnfiled, gate_then, frame_in_hand, IsInHand, IsAtStage, HomesAt, HasFold}
 use Rattle.pen_core.specs.Inside.{IsBodyOf, IsAtStep, Knows, IsPen}
-use Rattle.pen_core.specs.Listed.{Lists, IsListed}
+use Rattle.pen_core.specs.Listed.{Lists, HasLists}
 use Rattle.pen_core.specs.Pen.{open_count}
 use Rattle.pen_core.proofs.Begun.{body_is, nothing_folded}
 use Rattle.pen_core.proofs.Parsed.{frame_at-text}
@@ -44,7 +44,7 @@ drop_whole (x ∷ xs) n is = ap (λ k. drop k (x ∷ xs)) is ∙ drop_whole xs (
 -- What a tick knows that makes the frame of a fold the job: then the pen has the frame's bytes, and that fold. Each disk
 -- that keeps the model reads as an image.
 pub record Files {D : Type 0} (keeps : D → Type 0) (states : D → List State) (pen then : Inside D) : Type 0 where
-  pub sound : IsSound keeps states pen
+  pub sound : IsSoundPen keeps states pen
   pub going : pen.broken ≡ false
   pub idle : pen.step ≡ None
   pub ready : pen.fold.stage ≡ Ready
@@ -61,10 +61,14 @@ module _ {D : Type 0} {keeps : D → Type 0} {states : D → List State} {pen th
   old = states pen.disk
 
   abbrev frames : List Frame
-  frames = blanked_before pen.shape pen.gate (bytes_of old)
+  frames = frames_read old (log_of pen)
 
   abbrev vector : List (List ℕ)
-  vector = vector_before pen.shape pen.gate (bytes_of old)
+  vector = vector_read old (log_of pen)
+
+  -- then
+  abbrev log : PenLog
+  log = record (log_of pen) { bytes = then.bytes.items; step = Some Body }
 
   abbrev f : Frame
   f = kinds.Fold pen.fold.count
@@ -103,14 +107,10 @@ module _ {D : Type 0} {keeps : D → Type 0} {states : D → List State} {pen th
   pub filed_frame : frame_at pen.shape then.bytes.items ≡ f
   filed_frame = ap (frame_at pen.shape) spelled ∙ frame_at-text pen.shape f (0 ∷ []) framed
 
-  knows : keeps pen.disk → Knows 0 pen.shape pen.gate pen.tally frames vector pen.bytes.items None pen.broken (now old)
+  knows : keeps pen.disk → Knows 0 (record (log_of pen) { step = None }) frames vector (now old)
   knows model =
-      subst (λ step. Knows 0 pen.shape pen.gate pen.tally frames vector pen.bytes.items step pen.broken (now old)) files.idle
-      (subst
-      (λ st.
-      Knows (open_count st pen.fold.count) pen.shape pen.gate pen.tally frames vector pen.bytes.items pen.step
-      pen.broken (now old))
-      files.ready (files.sound.job.knows model))
+      subst (λ step. Knows 0 (record (log_of pen) { step = step }) frames vector (now old)) files.idle
+      (subst (λ st. Knows (open_count st pen.fold.count) (log_of pen) frames vector (now old)) files.ready (files.sound.job.knows model))
 
   -- the homes are on the disk
   held : (model : keeps pen.disk) → HomesHold pen.shape.format (raw pen.shape.width) (bytes_of old) frames pen.fold.count vector
@@ -149,13 +149,9 @@ module _ {D : Type 0} {keeps : D → Type 0} {states : D → List State} {pen th
   room : pen.gate + 14 < 2 ^ 48
   room = subst (λ g. g + 14 < 2 ^ 48) (ap (gate_then pen.gate pen.bytes.items) files.idle) waiting.room
 
-  filed_job : IsPen (open_count then.fold.stage then.fold.count) (keeps pen.disk) old pen.shape pen.gate pen.tally next' then.bytes.items (Some Body) pen.broken
+  filed_job : IsPen (open_count then.fold.stage then.fold.count) (keeps pen.disk) old log next'
   filed_job =
-      subst
-      (λ st.
-      IsPen (open_count st then.fold.count) (keeps pen.disk) old pen.shape pen.gate pen.tally next' then.bytes.items
-      (Some Body) pen.broken)
-      (sym files.filed) (record {
+      subst (λ st. IsPen (open_count st then.fold.count) (keeps pen.disk) old log next') (sym files.filed) (record {
         wide = files.sound.job.wide;
         gate_fits = files.sound.job.gate_fits;
         size_fits = files.sound.job.size_fits;
@@ -170,11 +166,10 @@ module _ {D : Type 0} {keeps : D → Type 0} {states : D → List State} {pen th
         };
         knows =
             λ model. let k = knows model in
-            knows_at pen.shape pen.gate pen.tally frames vector then.bytes.items (now old) k.gate_is k.tally_is Body pen.broken
-            k.file (at_body model) (files.reads pen.disk model);
+            knows_at log frames vector (now old) k.gate_is k.tally_is Body k.file (at_body model) (files.reads pen.disk model);
       })
 
-  filed_fold : IsFold (keeps pen.disk) old pen.shape pen.gate pen.tally then.bytes.items (Some Body) pen.broken then.fold
+  filed_fold : HasFold (keeps pen.disk) old log then.fold
   filed_fold = record {
     counts =
         subst (IsAtStage pen.shape pen.gate pen.tally then.bytes.items (Some Body) then.fold) (sym files.filed) (
@@ -184,7 +179,7 @@ module _ {D : Type 0} {keeps : D → Type 0} {states : D → List State} {pen th
     homes = λ model whole'. subst (HomesAt pen.shape frames vector then.fold (now old)) (sym files.filed) tt;
   }
 
-  filed_lists : IsListed (keeps pen.disk) old pen.shape pen.gate pen.tally then.bytes.items (Some Body) pen.homes pen.live then.fold
+  filed_lists : HasLists (keeps pen.disk) old log pen.homes pen.live then.fold
   filed_lists =
       let ahead : Some f ≡ frame_in_hand pen.shape then.bytes.items (Some Body) = sym (ap (λ g. Some g) filed_frame) in
       let rests : Lists pen.shape files.sound.lists.frames None pen.homes pen.live =
@@ -219,5 +214,5 @@ module _ {D : Type 0} {keeps : D → Type 0} {states : D → List State} {pen th
       same_count count is = cc
 
   -- the frame is the job
-  pub pen_filed : IsSound keeps states (record pen { next = next'; bytes = then.bytes; step = Some Body; fold = then.fold })
+  pub pen_filed : IsSoundPen keeps states (record pen { next = next'; bytes = then.bytes; step = Some Body; fold = then.fold })
   pen_filed = record { job = filed_job; lists = filed_lists; fold = filed_fold }

@@ -11,7 +11,7 @@ use Rattle.segment_core.specs.Frame.{Frame}
 use Rattle.segment_core.specs.Frame as kinds
 use Rattle.pen_core.specs.declared.fold.Fold.{Fold}
 use Rattle.pen_core.specs.declared.pen.Pen.TheInside.{Inside}
-use Rattle.pen_core.specs.Fields.{IsSound}
+use Rattle.pen_core.specs.Fields.{IsSoundPen}
 use Rattle.pen_core.specs.declared.fold.Write.{Write}
 use Rattle.pen_core.specs.declared.step.Step.{Step}
 use Rattle.pen_core.specs.declared.stage.FoldStage.{FoldStage}
@@ -19,7 +19,8 @@ use Rattle.pen_core.specs.declared.stage.FoldStage.TheVariants.{Home, Sync, Read
 use Rattle.pen_core.specs.declared.stage.FoldStage.TheVariants as stages
 use Rattle.segment_core.specs.declared.found.Homes.{Homes}
 use Rattle.pen_core.specs.PenOf.{FoldOf, HomeWrite}
-use Rattle.pen_core.specs.Listed.{IsListed}
+use Rattle.pen_core.specs.Listed.{HasLists}
+use Rattle.pen_core.specs.PenLog.{PenLog}
 use Rattle.pen_core.proofs.InHand.{no_fold_seen, filed_at}
 use Rattle.pen_core.specs.InHand.{write_of, left_of, first_write, in_stage, fold_of, has_call, is_without_fold, stage_after, left_after, done_after, called, writes_left, IsInHand, advanced, frame_in_hand, IsAtStage}
 use Rattle.pen_core.specs.Inside.{job_of}
@@ -78,7 +79,7 @@ ready_or_filed Sync quiet held = absurd cc
 ready_or_filed Ready quiet held = inl refl
 ready_or_filed Filed quiet held = inr refl
 
-pub ready_at : {D : Type 0} {keeps : D → Type 0} {states : D → List State} {pen : Inside D} → IsSound keeps states pen
+pub ready_at : {D : Type 0} {keeps : D → Type 0} {states : D → List State} {pen : Inside D} → IsSoundPen keeps states pen
     → has_call pen.fold.stage ≡ false → is_without_fold pen.fold.stage ≡ false → pen.step ≡ None → pen.fold.stage ≡ Ready
 ready_at {pen = pen} sound quiet held idle = elim (ready_or_filed pen.fold.stage quiet held) [
   | inl ready ↦ ready
@@ -117,7 +118,7 @@ left_called shape gate tally bytes o fold Sync calls at = refl
 left_called shape gate tally bytes o fold Ready calls at = absurd cc
 left_called shape gate tally bytes o fold Filed calls at = absurd cc
 
-pub called_seen : {D : Type 0} {keeps : D → Type 0} {states : D → List State} {pen : Inside D} → IsSound keeps states pen
+pub called_seen : {D : Type 0} {keeps : D → Type 0} {states : D → List State} {pen : Inside D} → IsSoundPen keeps states pen
     → has_call pen.fold.stage ≡ true → fold_of (advanced pen.fold) ≡ Some (called (seen pen.fold))
 called_seen {pen = pen} sound calls =
     let fold = pen.fold in
@@ -125,9 +126,8 @@ called_seen {pen = pen} sound calls =
     ∙ ap (λ left. Some (record { count = fold.count; left = left; stage = stage_after fold.stage }))
     (left_called pen.shape pen.gate pen.tally pen.bytes.items pen.step fold fold.stage calls sound.fold.counts)
 
-pub listed_called : {keeps : Type 0} {states : List State} {shape : Shape} {gate : ℕ} {tally : Tally} {bytes : List ℕ} {o : Option Step}
-    {homes : Homes} {live : ℕ} {fold : Fold} → has_call fold.stage ≡ true
-    → IsListed keeps states shape gate tally bytes o homes live fold → IsListed keeps states shape gate tally bytes o homes live (advanced fold)
+pub listed_called : {keeps : Type 0} {states : List State} {log : PenLog} {homes : Homes} {live : ℕ} {fold : Fold}
+    → has_call fold.stage ≡ true → HasLists keeps states log homes live fold → HasLists keeps states log homes live (advanced fold)
 listed_called {fold = fold} calls listed = record {
   frames = listed.frames;
   legal = listed.legal;
@@ -160,6 +160,6 @@ left_at shape gate tally bytes o fold Ready at = left_long fold ∙ omega (arith
 left_at shape gate tally bytes o fold Filed at = left_long fold ∙ omega (arith, at.1)
 
 -- as many writes are left as the stage tells
-pub left_told : {D : Type 0} {keeps : D → Type 0} {states : D → List State} {pen : Inside D} → IsSound keeps states pen
+pub left_told : {D : Type 0} {keeps : D → Type 0} {states : D → List State} {pen : Inside D} → IsSoundPen keeps states pen
     → IfSome (fold_of pen.fold) (λ f. length f.left ≡ writes_left f.stage)
 left_told {pen = pen} sound = left_at pen.shape pen.gate pen.tally pen.bytes.items pen.step pen.fold pen.fold.stage sound.fold.counts

@@ -139,9 +139,8 @@ no_fold (Change runs bytes) appends fold is = absurd cc
 no_fold (Shrink n) appends fold is = absurd appends
 no_fold (Fold c) appends fold is = absurd appends
 
-module _ (shape : Shape) (count : ℕ) (frames : List Frame) (f : Frame) (vector then : List (List ℕ)) (bytes held : List ℕ)
-    (has : HoldsFrames shape frames vector bytes) (more : HoldsFrames shape (frames_with frames f) then bytes) (appends : Appends f)
-    (from : (tally_of frames).folded ≤ count) (upto : count ≤ (tally_of frames).changes) where
+module _ (shape : Shape) (count : ℕ) (frames : List Frame) (f : Frame) (vector then : List (List ℕ)) (bytes : List ℕ)
+    (has : HoldsFrames shape frames vector bytes) (more : HoldsFrames shape (frames_with frames f) then bytes) (appends : Appends f) where
   ends : Ends more.found frames (blanked f)
   ends = ends_with more.found frames (blanked f) more.alike
 
@@ -158,9 +157,10 @@ module _ (shape : Shape) (count : ℕ) (frames : List Frame) (f : Frame) (vector
       begins_before : BeginsImage shape bytes ends.init
       begins_before = BeginsImage_before shape bytes ends.init ends.end begins
 
-  pub HomesHold_more : HomesHold shape.format (raw shape.width) held frames count vector
+  pub HomesHold_more : (held : List ℕ) → (tally_of frames).folded ≤ count → count ≤ (tally_of frames).changes
+      → HomesHold shape.format (raw shape.width) held frames count vector
       → HomesHold shape.format (raw shape.width) held (frames_with frames f) count then
-  HomesHold_more hold =
+  HomesHold_more held from upto hold =
       let tally = same_tally has.found frames (sym (blank_again has.found frames has.alike)) in
       let read = subst (λ fs. IsVectorOf shape.format (raw shape.width) bytes fs vector) init_is has.read in
       let read' = subst (λ fs. IsVectorOf shape.format (raw shape.width) bytes fs then) ends.is more.read in
@@ -196,7 +196,7 @@ pub folding_more : (shape : Shape) (count : ℕ) (frames : List Frame) (f : Fram
     → (tally_of frames).folded ≤ count
     → count ≤ (tally_of frames).changes → IsFolding shape count frames vector left s → IsFolding shape count (frames_with frames f) then left s
 folding_more shape count frames f vector then left s has more appends from upto fold = record {
-  homes_hold = HomesHold_more shape count frames f vector then s.seen (laid left s.seen) has more appends from upto fold.homes_hold;
+  homes_hold = HomesHold_more shape count frames f vector then s.seen has more appends (laid left s.seen) from upto fold.homes_hold;
   into_homes = homes_behind shape count frames f left (held_legal shape frames vector s.seen has) appends fold.into_homes;
 }
 

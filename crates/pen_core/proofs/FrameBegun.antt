@@ -8,15 +8,15 @@ use Rattle.segment_core.specs.Layout.{IsFrame}
 use Rattle.segment_core.specs.Tally.{after, MayFollow}
 use Rattle.pen_core.specs.declared.step.Step.TheVariants.{Body}
 use Rattle.pen_core.specs.Step.{body_of}
-use Rattle.pen_core.specs.Vectors.{frame_at, blanked_before, frames_with}
+use Rattle.pen_core.specs.PenLog.{PenLog, frames_read, vector_read}
+use Rattle.pen_core.specs.Vectors.{frame_at, frames_with}
 use Rattle.segment_core.specs.Raw.{after_frame}
-use Rattle.segment_core.specs.Parsed.{vector_before}
 use Rattle.pen_core.specs.Inside.{IsBodyOf, IsAtStep, Knows, IsPen}
 use Rattle.pen_core.proofs.BeingFolded.{IsBeingFolded_push}
 use Rattle.pen_core.proofs.Parsed.{frame_at-text}
 use Rattle.pen_core.proofs.Pens.{knows_at}
 use Rattle.pen_core.specs.declared.pen.Pen.TheInside.{Inside}
-use Rattle.pen_core.specs.Fields.{seen_as, count_open, IsSound}
+use Rattle.pen_core.specs.Fields.{log_of, seen_as, count_open, IsSoundPen}
 use Rattle.pen_core.specs.InHand.{fold_of}
 use Rattle.pen_core.specs.Listed.{homes_entered, runs_entered}
 use Rattle.pen_core.specs.Pen.{BeginsFrame, IsUnchanged}
@@ -29,7 +29,7 @@ use Rattle.pen_core.proofs.Listed.{listed_begun}
 -- What a begin rests on: then the pen has the frame's bytes, and lists that tell of it. Each disk that keeps the model
 -- reads as an image.
 pub record Begins {D : Type 0} (keeps : D → Type 0) (states : D → List State) (pen then : Inside D) (frame : Frame) : Type 0 where
-  pub sound : IsSound keeps states pen
+  pub sound : IsSoundPen keeps states pen
   pub going : pen.broken ≡ false
   pub idle : pen.step ≡ None
   pub reads : (disk : D) → keeps disk → IsImage (now (states disk)) (bytes_of (states disk))
@@ -47,16 +47,22 @@ module _ {D : Type 0} {keeps : D → Type 0} {states : D → List State} {pen th
   old = states pen.disk
 
   abbrev frames : List Frame
-  frames = blanked_before pen.shape pen.gate (bytes_of old)
+  frames = frames_read old (log_of pen)
 
   abbrev vector : List (List ℕ)
-  vector = vector_before pen.shape pen.gate (bytes_of old)
+  vector = vector_read old (log_of pen)
+
+  -- then
+  abbrev log : PenLog
+  log = record (log_of pen) { bytes = then.bytes.items; step = Some Body }
 
   pub begun_frame : frame_at pen.shape then.bytes.items ≡ frame
   begun_frame = ap (frame_at pen.shape) begins.spelled ∙ frame_at-text pen.shape frame (0 ∷ []) begins.framed
 
-  knows : keeps pen.disk → Knows (count_open pen) pen.shape pen.gate pen.tally frames vector pen.bytes.items None pen.broken (now old)
-  knows model = subst (λ step. Knows (count_open pen) pen.shape pen.gate pen.tally frames vector pen.bytes.items step pen.broken (now old)) begins.idle (begins.sound.job.knows model)
+  knows : keeps pen.disk → Knows (count_open pen) (record (log_of pen) { step = None }) frames vector (now old)
+  knows model =
+      subst (λ step. Knows (count_open pen) (record (log_of pen) { step = step }) frames vector (now old)) begins.idle
+      (begins.sound.job.knows model)
 
   at_body : (model : keeps pen.disk)
       → IsAtStep pen.shape (count_open pen) pen.gate frames (frames_with frames (frame_at pen.shape then.bytes.items))
@@ -81,7 +87,7 @@ module _ {D : Type 0} {keeps : D → Type 0} {states : D → List State} {pen th
             (sym k.gate_is) made,
       ))
 
-  begun_job : IsPen (count_open pen) (keeps pen.disk) old pen.shape pen.gate pen.tally then.next then.bytes.items (Some Body) pen.broken
+  begun_job : IsPen (count_open pen) (keeps pen.disk) old log then.next
   begun_job = record {
     wide = begins.sound.job.wide;
     gate_fits = begins.sound.job.gate_fits;
@@ -100,12 +106,12 @@ module _ {D : Type 0} {keeps : D → Type 0} {states : D → List State} {pen th
     };
     knows =
         λ model. let k = knows model in
-        knows_at pen.shape pen.gate pen.tally frames vector then.bytes.items (now old) k.gate_is k.tally_is Body pen.broken k.file (at_body model)
+        knows_at log frames vector (now old) k.gate_is k.tally_is Body k.file (at_body model)
         (begins.reads pen.disk model);
   }
 
   -- the frame is in hand
-  pub pen_begun : IsSound keeps states (record pen { next = then.next; bytes = then.bytes; step = Some Body; homes = then.homes })
+  pub pen_begun : IsSoundPen keeps states (record pen { next = then.next; bytes = then.bytes; step = Some Body; homes = then.homes })
   pen_begun = record {
     job = begun_job;
     lists = listed_begun begins.sound.lists begins.idle then.bytes.items then.homes frame Body begun_frame begins.no_fold

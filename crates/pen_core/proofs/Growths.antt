@@ -21,7 +21,7 @@ use Rattle.segment_core.proofs.ReadAs.{AreCellsOf_group}
 use Rattle.segment_core.proofs.Written.{long_growth, sum-lengths, length-group_frame}
 use Rattle.pen_core.specs.Vectors.{frame_at}
 use Rattle.pen_core.specs.declared.pen.Pen.TheInside.{Inside}
-use Rattle.pen_core.specs.Fields.{IsSound}
+use Rattle.pen_core.specs.Fields.{IsSoundPen}
 use Rattle.pen_core.specs.InHand.{fold_of}
 use Rattle.pen_core.specs.Listed.{homes_entered}
 use Rattle.pen_core.specs.Refusals.{fold_len}
@@ -78,7 +78,7 @@ module _ {R : Type 0} (form : Encoding R) (shape : Shape) (tally : Tally) (growt
 
 -- What growths are begun from.
 pub record Grows {R D : Type 0} (form : Encoding R) (keeps : D → Type 0) (states : D → List State) (pen then : Inside D) (growths : List (List R)) : Type 0 where
-  pub sound : IsSound keeps states pen
+  pub sound : IsSoundPen keeps states pen
   pub going : pen.broken ≡ false
   pub idle : pen.step ≡ None
   pub reads : (disk : D) → keeps disk → IsImage (now (states disk)) (bytes_of (states disk))

@@ -10,17 +10,17 @@ use Rattle.disk_core.specs.Moments.{LeavesOnly}
 use Rattle.disk_core.proofs.CallLemmas.{LeavesOnly-write, LeavesOnly-sync}
 use Rattle.segment_core.specs.Frame.{Frame}
 use Rattle.segment_core.specs.Frame as kinds
-use Rattle.segment_core.specs.Parsed.{vector_before}
 use Rattle.pen_core.specs.declared.fold.Fold.{Fold}
 use Rattle.pen_core.specs.declared.step.Step.{Step}
 use Rattle.pen_core.specs.declared.stage.FoldStage.{FoldStage}
 use Rattle.pen_core.specs.declared.stage.FoldStage.TheVariants.{Home, Sync, Ready, Filed}
 use Rattle.pen_core.specs.declared.stage.FoldStage.TheVariants as stages
 use Rattle.pen_core.specs.Held.{IsBeingFolded, gate_of}
-use Rattle.pen_core.specs.Vectors.{frame_at, blanked_before}
+use Rattle.pen_core.specs.PenLog.{PenLog, frames_read, vector_read}
+use Rattle.pen_core.specs.Vectors.{frame_at}
 use Rattle.pen_core.specs.Folds.{IsFolding}
-use Rattle.pen_core.specs.InHand.{left_of, first_write, has_call, stage_after, done_after, advanced, HomeCalls, FailsHomeCall, CanCall, IsPlanned, IsUnfiled, frame_in_hand, IsAtStage, HomesAt, IsFold}
-use Rattle.pen_core.specs.Inside.{job_of, Knows, IsPen}
+use Rattle.pen_core.specs.InHand.{left_of, first_write, has_call, stage_after, done_after, advanced, HomeCalls, FailsHomeCall, CanCall, IsPlanned, IsUnfiled, frame_in_hand, IsAtStage, HomesAt, HasFold}
+use Rattle.pen_core.specs.Inside.{job_in, Knows, IsPen}
 use Rattle.pen_core.specs.Pen.{OpensWith, open_count}
 use Rattle.pen_core.proofs.BeingFolded.{IsBeingFolded_push}
 use Rattle.pen_core.proofs.Begun.{held_legal}
@@ -31,24 +31,24 @@ use Rattle.pen_core.proofs.FoldSeen.{rest_of, left_next, listed_called}
 use Rattle.pen_core.proofs.HomeTick.{Later, write_images, written_knows, torn_knows, synced_knows, same_knows, home_count, can_call}
 use Rattle.pen_core.proofs.InHand.{fold_broken}
 use Rattle.pen_core.proofs.Listed.{listed_stays}
-use Rattle.pen_core.specs.Fields.{IsSound}
+use Rattle.pen_core.specs.Fields.{log_of, IsSoundPen}
 use Rattle.pen_core.specs.declared.pen.Pen.TheInside.{Inside}
 
 -- What a tick knows that makes the call. Each disk that keeps the model reads as an image.
 pub record HomeCall {D : Type 0} (keeps : D → Type 0) (states : D → List State) (pen : Inside D) (new : D) : Type 0 where
-  pub sound : IsSound keeps states pen
+  pub sound : IsSoundPen keeps states pen
   pub going : pen.broken ≡ false
   pub calls : has_call pen.fold.stage ≡ true
   pub back : keeps new → keeps pen.disk
   pub reads : (disk : D) → keeps disk → IsImage (now (states disk)) (bytes_of (states disk))
 
 abbrev pub home_call : {D : Type 0} {keeps : D → Type 0} {states : D → List State} {pen : Inside D} {new : D}
-    → IsSound keeps states pen → pen.broken ≡ false → has_call pen.fold.stage ≡ true → (keeps new → keeps pen.disk)
+    → IsSoundPen keeps states pen → pen.broken ≡ false → has_call pen.fold.stage ≡ true → (keeps new → keeps pen.disk)
     → ((disk : D) → keeps disk → IsImage (now (states disk)) (bytes_of (states disk))) → HomeCall keeps states pen new
 home_call sound going calls back reads = record { sound = sound; going = going; calls = calls; back = back; reads = reads }
 
 -- what is asked of the call
-pub may_call : {D : Type 0} {keeps : D → Type 0} {states : D → List State} {pen : Inside D} → IsSound keeps states pen
+pub may_call : {D : Type 0} {keeps : D → Type 0} {states : D → List State} {pen : Inside D} → IsSoundPen keeps states pen
     → has_call pen.fold.stage ≡ true
     → CanCall pen.gate pen.fold pen.fold.stage
 may_call {pen = pen} sound calls = can_call pen.shape pen.gate pen.tally pen.bytes.items pen.step pen.fold pen.fold.stage calls sound.fold.counts
@@ -61,13 +61,16 @@ module _ {D : Type 0} {keeps : D → Type 0} {states : D → List State} {pen : 
   left = states new
 
   abbrev frames : List Frame
-  frames = blanked_before pen.shape pen.gate (bytes_of old)
+  frames = frames_read old (log_of pen)
 
   abbrev vector : List (List ℕ)
-  vector = vector_before pen.shape pen.gate (bytes_of old)
+  vector = vector_read old (log_of pen)
+
+  abbrev OpensSo : List ℕ → Type 0
+  OpensSo = OpensWith pen.shape frames vector (job_in (log_of pen))
 
   abbrev KnowsSo : ℕ → Bool → State → Type 0
-  KnowsSo n b t = Knows n pen.shape pen.gate pen.tally frames vector pen.bytes.items pen.step b t
+  KnowsSo n b t = Knows n (record (log_of pen) { broken = b }) frames vector t
 
   abbrev AtStage : Fold → FoldStage → Type 0
   AtStage fold stage = IsAtStage pen.shape pen.gate pen.tally pen.bytes.items pen.step fold stage
@@ -82,8 +85,7 @@ module _ {D : Type 0} {keeps : D → Type 0} {states : D → List State} {pen : 
       → KnowsSo n pen.broken (now old) → (p : Option Step)
       → ((count : ℕ) → frame_in_hand pen.shape pen.bytes.items p ≡ Some (kinds.Fold count) → ⊥)
       → (m : keeps pen.disk)
-      → Later pen.fold.count pen.shape pen.gate pen.tally frames vector pen.bytes.items (now old) (tick.reads pen.disk m) at
-      ws below folded p
+      → Later pen.fold.count (log_of pen) frames vector (now old) (tick.reads pen.disk m) at ws below folded p
   later at ws below folded n k None other m = tt
   later at ws below folded n k (Some step) other m =
       λ j from upto.
@@ -106,25 +108,23 @@ module _ {D : Type 0} {keeps : D → Type 0} {states : D → List State} {pen : 
       → KnowsSo (open_count stage pen.fold.count) pen.broken (now old)
       → (r : Result T DiskFault) → OnOk r (HomeCalls stage (left_of pen.fold) old left)
       → OnErr r (FailsHomeCall stage (left_of pen.fold) old left)
-      → LeavesOnly old left (OpensWith pen.shape frames vector (job_of pen.shape pen.bytes.items pen.step))
+      → LeavesOnly old left OpensSo
   leaves_at m stages.None calls at homes k r done failed = absurd cc
   leaves_at m Ready calls at homes k r done failed = absurd cc
   leaves_at m Filed calls at homes k r done failed = absurd cc
   leaves_at m (Home n) calls at homes k r done failed =
       let w = first_write (left_of pen.fold) in
       let into = (next_write m n at homes).into_homes.0 in
-      LeavesOnly-write old left (OpensWith pen.shape frames vector (job_of pen.shape pen.bytes.items pen.step)) r w.place w.bytes done failed
-      (write_images pen.fold.count pen.shape pen.gate pen.tally frames vector pen.bytes.items (now old)
-      (tick.reads pen.disk m) w.place w.bytes into.below_gate into.folded pen.step pen.broken
+      LeavesOnly-write old left OpensSo r w.place w.bytes done failed
+      (write_images pen.fold.count (log_of pen) frames vector (now old) (tick.reads pen.disk m) w.place w.bytes into.below_gate into.folded pen.step pen.broken
       (later w.place w.bytes into.below_gate into.folded pen.fold.count k pen.step unfiled m) k tick.going)
   leaves_at m Sync calls at homes k r done failed =
-      LeavesOnly-sync old left (OpensWith pen.shape frames vector (job_of pen.shape pen.bytes.items pen.step)) r done failed
-      (tick.reads pen.disk m) k.images_open
+      LeavesOnly-sync old left OpensSo r done failed (tick.reads pen.disk m) k.images_open
 
   pub home_leaves : {T : Type 0} (r : Result T DiskFault)
       → (keeps pen.disk → OnOk r (HomeCalls pen.fold.stage (left_of pen.fold) old left))
       → (keeps new → OnErr r (FailsHomeCall pen.fold.stage (left_of pen.fold) old left)) → keeps new
-      → LeavesOnly old left (OpensWith pen.shape frames vector (job_of pen.shape pen.bytes.items pen.step))
+      → LeavesOnly old left OpensSo
   home_leaves r done failed model =
       let m = tick.back model in
       leaves_at m pen.fold.stage tick.calls tick.sound.fold.counts (tick.sound.fold.homes m tick.going)
@@ -144,15 +144,13 @@ module _ {D : Type 0} {keeps : D → Type 0} {states : D → List State} {pen : 
       let into = (next_write m n at homes).into_homes.0 in
       let made : now left ≡ written (now old) w.place w.bytes = ap now call in
       subst (λ c. KnowsSo c pen.broken (now left)) (sym (home_count n pen.fold.count)) (subst (λ t. KnowsSo pen.fold.count pen.broken t) (sym made)
-      (written_knows pen.fold.count pen.shape pen.gate pen.tally frames vector pen.bytes.items (now old)
-      (tick.reads pen.disk m) w.place w.bytes into.below_gate into.folded pen.step pen.broken
+      (written_knows pen.fold.count (log_of pen) frames vector (now old) (tick.reads pen.disk m) w.place w.bytes into.below_gate into.folded pen.step pen.broken
       (later w.place w.bytes into.below_gate into.folded pen.fold.count k pen.step unfiled m) k tick.going
       (subst (λ t. IsImage t t.seen) made readable)))
   done_at m Sync calls at homes k readable call =
       let made : now left ≡ settled (bytes_of old) = ap now call in
       subst (λ t. KnowsSo 0 pen.broken t) (sym made)
-      (synced_knows 0 pen.shape pen.gate pen.tally frames vector pen.bytes.items (now old) (tick.reads pen.disk m)
-      pen.fold.count pen.step pen.broken k tick.going)
+      (synced_knows 0 (log_of pen) frames vector (now old) (tick.reads pen.disk m) pen.fold.count pen.step pen.broken k tick.going)
 
   failed_at : (m : keeps pen.disk) (stage : FoldStage) → has_call stage ≡ true → AtStage pen.fold stage
       → HomesAt pen.shape frames vector pen.fold (now old) stage
@@ -166,19 +164,17 @@ module _ {D : Type 0} {keeps : D → Type 0} {states : D → List State} {pen : 
       let into = (next_write m n at homes).into_homes.0 in
       let made : now left ≡ call.0 = ap now call.1 in
       subst (λ t. KnowsSo pen.fold.count true t) (sym made)
-      (torn_knows pen.fold.count pen.shape pen.gate pen.tally frames vector pen.bytes.items (now old) (tick.reads pen.disk m)
-      w.place w.bytes into.below_gate into.folded pen.step pen.broken
+      (torn_knows pen.fold.count (log_of pen) frames vector (now old) (tick.reads pen.disk m) w.place w.bytes into.below_gate into.folded pen.step pen.broken
       (later w.place w.bytes into.below_gate into.folded pen.fold.count k pen.step unfiled m) k tick.going call.0 call.2
       (subst (λ t. IsImage t t.seen) made readable))
   failed_at m Sync calls at homes k readable call =
       let made : now left ≡ now old = ap now call in
       subst (λ t. KnowsSo pen.fold.count true t) (sym made)
-      (same_knows 0 pen.shape pen.gate pen.tally frames vector pen.bytes.items (now old) (tick.reads pen.disk m)
-      pen.fold.count pen.step pen.broken k)
+      (same_knows 0 (log_of pen) frames vector (now old) (tick.reads pen.disk m) pen.fold.count pen.step pen.broken k)
 
   -- the frames and the vector are read as they were
   again : (n : ℕ) (b : Bool) → (keeps new → KnowsSo n b (now left))
-      → IsPen n (keeps new) left pen.shape pen.gate pen.tally pen.next pen.bytes.items pen.step b
+      → IsPen n (keeps new) left (record (log_of pen) { broken = b }) pen.next
   again n b made = record {
     wide = tick.sound.job.wide;
     gate_fits = tick.sound.job.gate_fits;
@@ -189,16 +185,12 @@ module _ {D : Type 0} {keeps : D → Type 0} {states : D → List State} {pen : 
     knows = λ model. (
         let k = made model in
         let seen = seen_as pen.shape pen.gate frames vector (bytes_of left) k.gate_is k.file.holds in
-        subst
-        (λ fs.
-        Knows n pen.shape pen.gate pen.tally fs (vector_before pen.shape pen.gate (bytes_of left)) pen.bytes.items
-        pen.step b (now left))
-        (sym seen.frames_are)
-        (subst (λ v. Knows n pen.shape pen.gate pen.tally frames v pen.bytes.items pen.step b (now left))
-        (sym seen.vector_is) k));
+        let log : PenLog = record (log_of pen) { broken = b } in
+        subst (λ fs. Knows n log fs (vector_read left log) (now left)) (sym seen.frames_are)
+        (subst (λ v. Knows n log frames v (now left)) (sym seen.vector_is) k));
   }
 
-  stays : (n : ℕ) (b : Bool) → (keeps new → KnowsSo n b (now left)) → keeps new → FileStays pen.shape pen.gate old left
+  stays : (n : ℕ) (b : Bool) → (keeps new → KnowsSo n b (now left)) → keeps new → FileStays old left (log_of pen)
   stays n b made model =
       let k = made model in
       let seen = seen_as pen.shape pen.gate frames vector (bytes_of left) k.gate_is k.file.holds in
@@ -213,17 +205,17 @@ module _ {D : Type 0} {keeps : D → Type 0} {states : D → List State} {pen : 
         failed_at m pen.fold.stage tick.calls tick.sound.fold.counts (tick.sound.fold.homes m tick.going)
         (tick.sound.job.knows m) (tick.reads new model) (fails model)
 
-    broken_job : IsPen (open_count pen.fold.stage pen.fold.count) (keeps new) left pen.shape pen.gate pen.tally pen.next pen.bytes.items pen.step true
+    broken_job : IsPen (open_count pen.fold.stage pen.fold.count) (keeps new) left (record (log_of pen) { broken = true }) pen.next
     broken_job = again (open_count pen.fold.stage pen.fold.count) true broken_knows
 
-    pub broken_stays : keeps new → FileStays pen.shape pen.gate old left
+    pub broken_stays : keeps new → FileStays old left (log_of pen)
     broken_stays = stays (open_count pen.fold.stage pen.fold.count) true broken_knows
 
     -- the pen is broken
-    pub home_broken : IsSound keeps states (record pen { disk = new; broken = true })
+    pub home_broken : IsSoundPen keeps states (record pen { disk = new; broken = true })
     home_broken = record {
       job = broken_job;
-      lists = listed_stays tick.sound.lists (keeps new) left pen.step refl tick.back broken_stays;
+      lists = listed_stays tick.sound.lists (keeps new) left pen.step true refl tick.back broken_stays;
       fold = fold_broken tick.sound.fold tick.back left;
     }
 
@@ -236,11 +228,10 @@ module _ {D : Type 0} {keeps : D → Type 0} {states : D → List State} {pen : 
         done_at m pen.fold.stage tick.calls tick.sound.fold.counts (tick.sound.fold.homes m tick.going)
         (tick.sound.job.knows m) (tick.reads new model) (call m)
 
-    called_job : IsPen (open_count (advanced pen.fold).stage (advanced pen.fold).count) (keeps new) left pen.shape pen.gate
-        pen.tally pen.next pen.bytes.items pen.step pen.broken
+    called_job : IsPen (open_count (advanced pen.fold).stage (advanced pen.fold).count) (keeps new) left (log_of pen) pen.next
     called_job = again (open_count (stage_after pen.fold.stage) pen.fold.count) pen.broken called_knows
 
-    pub called_stays : keeps new → FileStays pen.shape pen.gate old left
+    pub called_stays : keeps new → FileStays old left (log_of pen)
     called_stays = stays (open_count (stage_after pen.fold.stage) pen.fold.count) pen.broken called_knows
 
     waits : (fold' : Fold) → fold'.count ≡ pen.fold.count → fold'.writes ≡ pen.fold.writes → fold'.bytes ≡ pen.fold.bytes
@@ -326,26 +317,22 @@ module _ {D : Type 0} {keeps : D → Type 0} {states : D → List State} {pen : 
         folding_seen pen.shape pen.fold.count frames vector (left_of pen.fold) (now old) (now left) (sym (ap bytes_of call))
         homes
 
-    called_fold : IsFold (keeps new) left pen.shape pen.gate pen.tally pen.bytes.items pen.step pen.broken (advanced pen.fold)
+    called_fold : HasFold (keeps new) left (log_of pen) (advanced pen.fold)
     called_fold = record {
       counts = counts_at pen.fold.stage tick.calls tick.sound.fold.counts (advanced pen.fold) refl refl refl refl refl;
       homes = λ model whole'. (
           let m = tick.back model in
           let same = called_stays model in
-          subst
-          (λ fs.
-          HomesAt pen.shape fs (vector_before pen.shape pen.gate (bytes_of left)) (advanced pen.fold) (now left)
-          (stage_after pen.fold.stage))
-          (sym same.frames_same)
-          (subst (λ v. HomesAt pen.shape frames v (advanced pen.fold) (now left) (stage_after pen.fold.stage))
-          (sym same.vector_same)
+          let stage = stage_after pen.fold.stage in
+          subst (λ fs. HomesAt pen.shape fs (vector_read left (log_of pen)) (advanced pen.fold) (now left) stage) (sym same.frames_same)
+          (subst (λ v. HomesAt pen.shape frames v (advanced pen.fold) (now left) stage) (sym same.vector_same)
           (homes_at m pen.fold.stage tick.calls tick.sound.fold.counts (tick.sound.fold.homes m tick.going) (call m))));
     }
 
     -- the fold goes on
-    pub home_called : IsSound keeps states (record pen { disk = new; fold = advanced pen.fold })
+    pub home_called : IsSoundPen keeps states (record pen { disk = new; fold = advanced pen.fold })
     home_called = record {
       job = called_job;
-      lists = listed_called tick.calls (listed_stays tick.sound.lists (keeps new) left pen.step refl tick.back called_stays);
+      lists = listed_called tick.calls (listed_stays tick.sound.lists (keeps new) left pen.step pen.broken refl tick.back called_stays);
       fold = called_fold;
     }

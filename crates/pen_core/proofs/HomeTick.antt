@@ -15,6 +15,7 @@ use Rattle.pen_core.specs.declared.stage.FoldStage.TheVariants.{Home, Sync, Read
 use Rattle.pen_core.specs.declared.stage.FoldStage.TheVariants as stages
 use Rattle.pen_core.specs.Held.{IsBeingFolded, gate_of}
 use Rattle.pen_core.specs.Known.{IsFileOf, IsShut}
+use Rattle.pen_core.specs.PenLog.{PenLog}
 use Rattle.pen_core.specs.Vectors.{frame_at, frames_with}
 use Rattle.pen_core.specs.InHand.{has_call, stage_after, CanCall, IsAtStage}
 use Rattle.pen_core.specs.Inside.{job_of, IsAtStep, Knows}
@@ -27,67 +28,66 @@ use Rattle.pen_core.proofs.Pens.{knows_rest, knows_at}
 
 -- ---- what is known of the disk
 
-module _ (count : ℕ) (shape : Shape) (gate : ℕ) (tally : Tally) (frames : List Frame) (vector : List (List ℕ))
-    (bytes : List ℕ) (s : State) (readable : IsImage s s.seen) where
+module _ (count : ℕ) (log : PenLog) (frames : List Frame) (vector : List (List ℕ)) (s : State) (readable : IsImage s s.seen) where
   abbrev following : List Frame
-  following = frames_with frames (frame_at shape bytes)
+  following = frames_with frames (frame_at log.shape log.bytes)
 
   abbrev then : List (List ℕ)
-  then = after_frame shape.width vector (frame_at shape bytes)
+  then = after_frame log.shape.width vector (frame_at log.shape log.bytes)
 
   abbrev KnowsAs : ℕ → Option Step → Bool → State → Type 0
-  KnowsAs n o broken t = Knows n shape gate tally frames vector bytes o broken t
+  KnowsAs n o broken t = Knows n (record log { step = o; broken = broken }) frames vector t
 
-  shut : {n : ℕ} (broken : Bool) → KnowsAs n None broken s → broken ≡ false → IsShut (gate_of shape frames) s
+  shut : {n : ℕ} (broken : Bool) → KnowsAs n None broken s → broken ≡ false → IsShut (gate_of log.shape frames) s
   shut broken k whole = subst (λ g. IsShut g s) k.gate_is (k.stands whole)
 
   at_step : {n : ℕ} (step : Step) (broken : Bool) → KnowsAs n (Some step) broken s → broken ≡ false
-      → IsAtStep shape n (gate_of shape frames) frames following then bytes step s
-  at_step {n} step broken k whole = subst (λ g. IsAtStep shape n g frames following then bytes step s) k.gate_is (k.stands whole)
+      → IsAtStep log.shape n (gate_of log.shape frames) frames following then log.bytes step s
+  at_step {n} step broken k whole = subst (λ g. IsAtStep log.shape n g frames following then log.bytes step s) k.gate_is (k.stands whole)
 
   -- ---- a home write
 
-  module _ (at : ℕ) (ws : List ℕ) (below : at + length ws ≤ gate_of shape frames)
-      (folded : (j : ℕ) → at ≤ j → j < at + length ws → IsBeingFolded shape count frames j) where
+  module _ (at : ℕ) (ws : List ℕ) (below : at + length ws ≤ gate_of log.shape frames)
+      (folded : (j : ℕ) → at ≤ j → j < at + length ws → IsBeingFolded log.shape count frames j) where
     -- also once a job in hand is done
     abbrev pub Later : Option Step → Type 0
     Later None = Unit {0}
-    Later (Some step) = (j : ℕ) → at ≤ j → j < at + length ws → IsBeingFolded shape count following j
+    Later (Some step) = (j : ℕ) → at ≤ j → j < at + length ws → IsBeingFolded log.shape count following j
 
     pub write_images : (o : Option Step) (broken : Bool) → Later o → KnowsAs count o broken s → broken ≡ false
         → (image : List ℕ) → IsImage (touched s at (length ws) s.seen) image
-        → OpensWith shape frames vector (job_of shape bytes o) image
+        → OpensWith log.shape frames vector (job_of log.shape log.bytes o) image
     write_images None broken later k whole image is =
-        images_of_home_shut shape count frames vector s at ws k.file readable below folded (shut broken k whole) image is
+        images_of_home_shut log.shape count frames vector s at ws k.file readable below folded (shut broken k whole) image is
     write_images (Some step) broken later k whole image is =
-        home_images shape count frames following vector then bytes s at ws k.file readable below folded later step
+        home_images log.shape count frames following vector then log.bytes s at ws k.file readable below folded later step
         (at_step step broken k whole) image is
 
     pub written_knows : (o : Option Step) (broken : Bool) → Later o → KnowsAs count o broken s → broken ≡ false
         → IsImage (written s at ws) (written s at ws).seen → KnowsAs count o broken (written s at ws)
     written_knows None broken later k whole readable' =
-        knows_rest shape gate tally frames vector bytes (written s at ws) k.gate_is k.tally_is broken
-        (file_after_home shape count frames vector s at ws k.file readable below folded)
+        knows_rest (record log { broken = broken }) frames vector (written s at ws) k.gate_is k.tally_is
+        (file_after_home log.shape count frames vector s at ws k.file readable below folded)
         (subst (λ g. IsShut g (written s at ws)) (sym k.gate_is)
-        (shut_after_home shape count frames vector s at ws k.file readable below folded (shut broken k whole)))
+        (shut_after_home log.shape count frames vector s at ws k.file readable below folded (shut broken k whole)))
         readable'
     written_knows (Some step) broken later k whole readable' =
-        knows_at shape gate tally frames vector bytes (written s at ws) k.gate_is k.tally_is step broken
-        (file_after_home shape count frames vector s at ws k.file readable below folded)
-        (subst (λ g. IsAtStep shape count g frames following then bytes step (written s at ws)) (sym k.gate_is)
-        (step_after_home shape count frames following vector then bytes s at ws k.file readable below folded later step
+        knows_at (record log { broken = broken }) frames vector (written s at ws) k.gate_is k.tally_is step
+        (file_after_home log.shape count frames vector s at ws k.file readable below folded)
+        (subst (λ g. IsAtStep log.shape count g frames following then log.bytes step (written s at ws)) (sym k.gate_is)
+        (step_after_home log.shape count frames following vector then log.bytes s at ws k.file readable below folded later step
         (at_step step broken k whole)))
         readable'
 
-    torn_file : IsFileOf shape count frames vector s → (left : State) → IsTornWrite at (length ws) s left
-        → IsImage left left.seen → IsFileOf shape count frames vector left
+    torn_file : IsFileOf log.shape count frames vector s → (left : State) → IsTornWrite at (length ws) s left
+        → IsImage left left.seen → IsFileOf log.shape count frames vector left
     torn_file file left torn readable' = record {
       holds =
-          image_holds shape count frames vector (touched s at (length ws) s.seen)
-          (IsFileOf-touched shape count frames vector s at (length ws) s.seen file file.holds
+          image_holds log.shape count frames vector (touched s at (length ws) s.seen)
+          (IsFileOf-touched log.shape count frames vector s at (length ws) s.seen file file.holds
           (λ j lt from upto. folded j from upto))
           (touched_more s at (length ws) s.seen s.seen readable) left.seen (torn_images at (length ws) s left s.seen left.seen torn readable');
-      gate_synced = subst (λ bs. gate_of shape frames < length bs) (sym torn.synced) file.gate_synced;
+      gate_synced = subst (λ bs. gate_of log.shape frames < length bs) (sym torn.synced) file.gate_synced;
       pending_is_folded = λ j lt is. elim (cases_Bool (is_within s.pending j)) [
         | inl old ↦ file.pending_is_folded j lt old
         | inr out ↦ elim (cases_Bool (has_place (record { at = at; len = length ws }) j)) [
@@ -107,11 +107,11 @@ module _ (count : ℕ) (shape : Shape) (gate : ℕ) (tally : Tally) (frames : Li
           tally_is = k.tally_is;
           file = torn_file k.file left torn readable';
           images_open = λ image is. write_images o broken later k whole image (torn_images at (length ws) s left s.seen image torn is);
-          gate_pending = λ is. elim (cases_Bool (is_within s.pending gate)) [
+          gate_pending = λ is. elim (cases_Bool (is_within s.pending log.gate)) [
             | inl old ↦ k.gate_pending old
-            | inr out ↦ elim (cases_Bool (has_place (record { at = at; len = length ws }) gate)) [
-              | inl new ↦ (let i = covered_inside at (length ws) gate new in absurd (omega (arith, i.0, i.1)))
-              | inr apart ↦ absurd (both_ways (is_within left.pending gate) (torn.pending gate out apart) is)
+            | inr out ↦ elim (cases_Bool (has_place (record { at = at; len = length ws }) log.gate)) [
+              | inl new ↦ (let i = covered_inside at (length ws) log.gate new in absurd (omega (arith, i.0, i.1)))
+              | inr apart ↦ absurd (both_ways (is_within left.pending log.gate) (torn.pending log.gate out apart) is)
             ]
           ];
           stands = λ none. absurd cc;
@@ -121,16 +121,16 @@ module _ (count : ℕ) (shape : Shape) (gate : ℕ) (tally : Tally) (frames : Li
 
   pub synced_knows : (n : ℕ) (o : Option Step) (broken : Bool) → KnowsAs n o broken s → broken ≡ false → KnowsAs 0 o broken (settled s.seen)
   synced_knows n None broken k whole =
-      knows_rest shape gate tally frames vector bytes (settled s.seen) k.gate_is k.tally_is broken
-      (settled_file shape n frames frames vector vector bytes s.seen
-      (file_after_sync shape n frames frames vector vector s readable k.file))
-      (shut_after_sync shape n frames frames vector vector s readable gate (k.stands whole)) (settled_image s.seen)
+      knows_rest (record log { broken = broken }) frames vector (settled s.seen) k.gate_is k.tally_is
+      (settled_file log.shape n frames frames vector vector log.bytes s.seen
+      (file_after_sync log.shape n frames frames vector vector s readable k.file))
+      (shut_after_sync log.shape n frames frames vector vector s readable log.gate (k.stands whole)) (settled_image s.seen)
   synced_knows n (Some step) broken k whole =
-      knows_at shape gate tally frames vector bytes (settled s.seen) k.gate_is k.tally_is step broken
-      (settled_file shape n frames following vector then bytes s.seen
-      (file_after_sync shape n frames following vector then s readable k.file))
-      (subst (λ g. IsAtStep shape 0 g frames following then bytes step (settled s.seen)) (sym k.gate_is)
-      (step_after_sync shape n frames following vector then bytes step s readable (at_step step broken k whole)))
+      knows_at (record log { broken = broken }) frames vector (settled s.seen) k.gate_is k.tally_is step
+      (settled_file log.shape n frames following vector then log.bytes s.seen
+      (file_after_sync log.shape n frames following vector then s readable k.file))
+      (subst (λ g. IsAtStep log.shape 0 g frames following then log.bytes step (settled s.seen)) (sym k.gate_is)
+      (step_after_sync log.shape n frames following vector then log.bytes step s readable (at_step step broken k whole)))
       (settled_image s.seen)
 
   -- it failed

@@ -24,7 +24,7 @@ use Rattle.pen_core.specs.HomeRuns.{AreHomesTo}
 use Rattle.pen_core.specs.Inside.{IsMaybeJob}
 use Rattle.pen_core.specs.InHand.{frame_in_hand}
 use Rattle.pen_core.specs.declared.pen.Pen.TheInside.{Inside}
-use Rattle.pen_core.specs.Fields.{IsSound}
+use Rattle.pen_core.specs.Fields.{IsSoundPen}
 use Rattle.pen_core.specs.Listed.{homes_ahead, Lists}
 use Rattle.pen_core.specs.Vectors.{frame_at}
 use Rattle.pen_core.specs.declared.step.Step.{Step}
@@ -133,7 +133,7 @@ may_come shape frames gate tally next bytes (Some step) gate_is tally_is job f i
       fits = omega arith;
     })
 
-pub AreHomesTo-pen : {D : Type 0} {keeps : D → Type 0} {states : D → List State} {pen : Inside D} → IsSound keeps states pen → pen.gate ≤ 2 ^ 48
+pub AreHomesTo-pen : {D : Type 0} {keeps : D → Type 0} {states : D → List State} {pen : Inside D} → IsSoundPen keeps states pen → pen.gate ≤ 2 ^ 48
     → AreHomesTo pen.shape.width pen.tally.size pen.homes.homes.items
 AreHomesTo-pen {pen = pen} sound fits =
     let listed = sound.lists in

@@ -1,5 +1,5 @@
 -- A fold in hand, on a pen's fields: behind begins, ticks of the log, and its own calls.
-use Rattle.std.proofs.Common.{◌≡◌, ℕ, ◌+◌, ◌-◌, ◌≤◌, ◌<◌, ◌⊎◌, ◌^◌, Bool, true, List, [], ◌∷◌, ◌++◌, length, Option, Some, None, refl, sym, ap, subst, ◌∙◌, arith, inl, inr}
+use Rattle.std.proofs.Common.{◌≡◌, ℕ, ◌+◌, ◌-◌, ◌≤◌, ◌<◌, ◌⊎◌, ◌^◌, true, List, [], ◌∷◌, ◌++◌, length, Option, Some, None, refl, sym, ap, subst, ◌∙◌, arith, inl, inr}
 use Rattle.std.specs.List.{AllByRecursion}
 use Rattle.std.proofs.lemmas.Bool.{ltb-false}
 use Rattle.std.proofs.lemmas.List.{length-append}
@@ -10,7 +10,6 @@ use Rattle.segment_core.specs.declared.tally.Tally.{Tally}
 use Rattle.segment_core.specs.Frame.{Frame, Group, Change, Shrink, frame_text}
 use Rattle.segment_core.specs.Frame as kinds
 use Rattle.segment_core.specs.Tally.{after, tally_of, MayFollow, AreLegal}
-use Rattle.segment_core.specs.Parsed.{vector_before}
 use Rattle.segment_core.proofs.HomesHold.{Appends}
 use Rattle.pen_core.specs.declared.fold.Fold.{Fold}
 use Rattle.pen_core.specs.declared.fold.Write.{Write}
@@ -19,26 +18,22 @@ use Rattle.pen_core.specs.declared.stage.FoldStage.{FoldStage}
 use Rattle.pen_core.specs.declared.stage.FoldStage.TheVariants.{Home, Sync, Ready, Filed}
 use Rattle.pen_core.specs.declared.stage.FoldStage.TheVariants as stages
 use Rattle.pen_core.specs.Held.{HoldsFrames, gate_of}
-use Rattle.pen_core.specs.Vectors.{frame_at, blanked_before, frames_with}
+use Rattle.pen_core.specs.PenLog.{PenLog, frames_read, vector_read, job_over}
+use Rattle.pen_core.specs.Vectors.{frame_at, frames_with}
 use Rattle.pen_core.specs.Refusals.{fold_len}
-use Rattle.pen_core.specs.InHand.{in_stage, fold_of, left_of, IsPlanned, gate_then, IsUnfiled, frame_in_hand, IsInHand, IsAtStage, HomesAt, stage_ended, live_after, IsFold}
+use Rattle.pen_core.specs.InHand.{in_stage, fold_of, left_of, IsPlanned, gate_then, IsUnfiled, frame_in_hand, IsInHand, IsAtStage, HomesAt, stage_ended, live_after, HasFold}
 use Rattle.pen_core.specs.Inside.{IsPen}
 use Rattle.pen_core.specs.Pen.{open_count}
 use Rattle.pen_core.proofs.Folds.{LaidAlike, folding_alike, folding_seen, folding_more}
 
 -- ---- no fold
 
-pub no_fold_at : (keeps : Type 0) (states : List State) (shape : Shape) (gate : ℕ) (tally : Tally) (bytes : List ℕ)
-    (o : Option Step) (broken : Bool) (fold : Fold)
-    → fold.stage ≡ stages.None → IsFold keeps states shape gate tally bytes o broken fold
-no_fold_at keeps states shape gate tally bytes o broken fold at = record {
-  counts = subst (IsAtStage shape gate tally bytes o fold) (sym at) tt;
-  homes =
-      λ model whole.
-      subst
-      (HomesAt shape (blanked_before shape gate (bytes_of states)) (vector_before shape gate (bytes_of states)) fold
-      (now states))
-      (sym at) tt;
+pub no_fold_at : (keeps : Type 0) (states : List State) (log : PenLog) (fold : Fold)
+    → fold.stage ≡ stages.None → HasFold keeps states log fold
+no_fold_at keeps states log fold at = record {
+  counts = subst (IsAtStage log.shape log.gate log.tally log.bytes log.step fold) (sym at) tt;
+  homes = λ model whole.
+      subst (HomesAt log.shape (frames_read states log) (vector_read states log) fold (now states)) (sym at) tt;
 }
 
 pub fold_len_at : (stage : FoldStage) (fold : Fold) → IsInHand stage → fold.stage ≡ stage → fold_len (fold_of fold) ≡ 14
@@ -48,12 +43,11 @@ fold_len_at Sync fold held at = ap (λ st. fold_len (in_stage st (record { count
 fold_len_at Ready fold held at = ap (λ st. fold_len (in_stage st (record { count = fold.count; left = left_of fold; stage = fold.stage }))) at
 fold_len_at Filed fold held at = ap (λ st. fold_len (in_stage st (record { count = fold.count; left = left_of fold; stage = fold.stage }))) at
 
-pub pen_unfolded : (keeps : Type 0) (states : List State) (shape : Shape) (gate : ℕ) (tally next : Tally) (bytes : List ℕ)
-    (o : Option Step) (broken : Bool) (fold : Fold)
-    → fold.stage ≡ stages.None → IsPen 0 keeps states shape gate tally next bytes o broken
-    → IsPen (open_count fold.stage fold.count) keeps states shape gate tally next bytes o broken
-pen_unfolded keeps states shape gate tally next bytes o broken fold at pen =
-    subst (λ st. IsPen (open_count st fold.count) keeps states shape gate tally next bytes o broken) (sym at) pen
+pub pen_unfolded : {keeps : Type 0} {states : List State} {log : PenLog} {next : Tally} (fold : Fold)
+    → fold.stage ≡ stages.None → IsPen 0 keeps states log next
+    → IsPen (open_count fold.stage fold.count) keeps states log next
+pen_unfolded {keeps} {states} {log} {next} fold at pen =
+    subst (λ st. IsPen (open_count st fold.count) keeps states log next) (sym at) pen
 
 pub no_fold_seen : (fold : Fold) → fold.stage ≡ stages.None → fold_of fold ≡ None
 no_fold_seen fold at = ap (λ st. in_stage st (record { count = fold.count; left = left_of fold; stage = fold.stage })) at
@@ -111,39 +105,38 @@ filed_at shape gate tally bytes o fold at is = (subst (IsAtStage shape gate tall
 
 -- ---- a job is begun
 
-pub fold_begun : {keeps : Type 0} {states : List State} {shape : Shape} {gate : ℕ} {tally : Tally} {bytes bytes' : List ℕ}
-    {o : Option Step} {broken : Bool} {fold : Fold} {step : Step}
-    → IsFold keeps states shape gate tally bytes o broken fold → (f : Frame) → o ≡ None
-    → bytes' ≡ frame_text shape.format f ++ 0 ∷ []
-    → gate + length (frame_text shape.format f) + fold_len (fold_of fold) < 2 ^ 48
-    → IsFold keeps states shape gate tally bytes' (Some step) broken fold
-fold_begun {keeps} {states} {shape} {gate} {tally} {bytes} {bytes'} {o} {broken} {fold} {step} is f idle spelled room =
+pub fold_begun : {keeps : Type 0} {states : List State} {log : PenLog} {bytes : List ℕ} {fold : Fold} {step : Step}
+    → HasFold keeps states log fold → (f : Frame) → log.step ≡ None
+    → bytes ≡ frame_text log.shape.format f ++ 0 ∷ []
+    → log.gate + length (frame_text log.shape.format f) + fold_len (fold_of fold) < 2 ^ 48
+    → HasFold keeps states (record log { bytes = bytes; step = Some step }) fold
+fold_begun {keeps} {states} {log} {bytes} {fold} {step} is f idle spelled room =
     let unfiled : fold.stage ≡ Filed → ⊥ =
     λ filed.
-    (let clash : None ≡ Some (kinds.Fold fold.count) = sym (ap (frame_in_hand shape bytes) idle)
-    ∙ filed_at shape gate tally bytes o fold is.counts filed in
+    (let clash : None ≡ Some (kinds.Fold fold.count) = sym (ap (frame_in_hand log.shape log.bytes) idle)
+    ∙ filed_at log.shape log.gate log.tally log.bytes log.step fold is.counts filed in
     absurd cc) in
-    let long = ap length spelled ∙ length-append (frame_text shape.format f) (0 ∷ []) in
+    let long = ap length spelled ∙ length-append (frame_text log.shape.format f) (0 ∷ []) in
     record {
       counts =
-          stage_on shape gate gate tally tally bytes bytes' o (Some step) fold fold.stage is.counts
+          stage_on log.shape log.gate log.gate log.tally log.tally log.bytes bytes log.step (Some step) fold fold.stage is.counts
           (λ filed. absurd (unfiled filed)) refl (omega arith) (omega arith)
           (λ held out. let len = fold_len_at fold.stage fold held refl in omega arith);
       homes = is.homes;
     }
 
 -- no job is in hand: its bytes may be others
-pub fold_same : {keeps : Type 0} {states : List State} {shape : Shape} {gate : ℕ} {tally : Tally} {bytes : List ℕ} {o : Option Step}
-    {broken : Bool} {fold : Fold} → IsFold keeps states shape gate tally bytes o broken fold → o ≡ None
-    → (bytes' : List ℕ) → IsFold keeps states shape gate tally bytes' o broken fold
-fold_same {keeps} {states} {shape} {gate} {tally} {bytes} {o} {broken} {fold} is idle bytes' =
-    let none : (bs : List ℕ) → frame_in_hand shape bs o ≡ None = λ bs. ap (frame_in_hand shape bs) idle in
+pub fold_same : {keeps : Type 0} {states : List State} {log : PenLog} {fold : Fold} → HasFold keeps states log fold
+    → log.step ≡ None → (bytes : List ℕ) → HasFold keeps states (record log { bytes = bytes }) fold
+fold_same {keeps} {states} {log} {fold} is idle bytes =
+    let none : (bs : List ℕ) → frame_in_hand log.shape bs log.step ≡ None = λ bs. ap (frame_in_hand log.shape bs) idle in
     record {
       counts =
-          stage_on shape gate gate tally tally bytes bytes' o o fold fold.stage is.counts
-          (λ filed. none bytes' ∙ sym (none bytes)) refl (omega arith) (omega arith)
-          (λ held out. let w = (room_of shape gate tally bytes o fold fold.stage is.counts held out).room in
-          subst (λ g. g + 14 < 2 ^ 48) (ap (gate_then gate bytes) idle ∙ sym (ap (gate_then gate bytes') idle)) w);
+          stage_on log.shape log.gate log.gate log.tally log.tally log.bytes bytes log.step log.step fold fold.stage is.counts
+          (λ filed. none bytes ∙ sym (none log.bytes)) refl (omega arith) (omega arith)
+          (λ held out.
+          let w = (room_of log.shape log.gate log.tally log.bytes log.step fold fold.stage is.counts held out).room in
+          subst (λ g. g + 14 < 2 ^ 48) (ap (gate_then log.gate log.bytes) idle ∙ sym (ap (gate_then log.gate bytes) idle)) w);
       homes = is.homes;
     }
 
@@ -195,78 +188,80 @@ same_folded tally (Change runs bytes) no_fold = refl
 same_folded tally (Shrink n) no_fold = refl
 same_folded tally (kinds.Fold c) no_fold = absurd (no_fold c refl)
 
-module _ {keeps keeps' : Type 0} {states : List State} {shape : Shape} {gate : ℕ} {tally : Tally} {bytes : List ℕ} {o : Option Step}
-    {broken : Bool} {fold : Fold} (is : IsFold keeps states shape gate tally bytes o broken fold) (back : keeps' → keeps) (new : List State) where
+module _ {keeps keeps' : Type 0} {states : List State} {log : PenLog} {fold : Fold} (is : HasFold keeps states log fold)
+    (back : keeps' → keeps) (new : List State) where
   abbrev fs : List Frame
-  fs = blanked_before shape gate (bytes_of states)
+  fs = frames_read states log
 
   abbrev vector : List (List ℕ)
-  vector = vector_before shape gate (bytes_of states)
+  vector = vector_read states log
+
+  abbrev frame : Frame
+  frame = frame_at log.shape log.bytes
+
+  -- the room that a fold has which waits while a step of the job is next
+  room_then : (step : Step) → log.step ≡ Some step → IsInHand fold.stage → (fold.stage ≡ Filed → ⊥)
+      → gate_then log.gate log.bytes (Some step) + 14 < 2 ^ 48
+  room_then step at held out =
+      subst (λ g. g + 14 < 2 ^ 48) (ap (gate_then log.gate log.bytes) at)
+      (room_of log.shape log.gate log.tally log.bytes log.step fold fold.stage is.counts held out).room
 
   -- a step of the job's calls
-  pub fold_stays : (step behind : Step) → o ≡ Some step → (keeps' → AreLegal shape fs)
-      → (keeps' → LaidAlike (gate_of shape fs) (bytes_of states) (bytes_of new))
-      → (keeps' → blanked_before shape gate (bytes_of new) ≡ fs)
-      → (keeps' → vector_before shape gate (bytes_of new) ≡ vector)
-      → IsFold keeps' new shape gate tally bytes (Some behind) broken fold
+  pub fold_stays : (step behind : Step) → log.step ≡ Some step → (keeps' → AreLegal log.shape fs)
+      → (keeps' → LaidAlike (gate_of log.shape fs) (bytes_of states) (bytes_of new))
+      → (keeps' → frames_read new log ≡ fs) → (keeps' → vector_read new log ≡ vector)
+      → HasFold keeps' new (record log { step = Some behind }) fold
   fold_stays step behind at legal same frames_same vector_same =
-      let there : frame_in_hand shape bytes (Some behind) ≡ frame_in_hand shape bytes o = sym (ap (frame_in_hand shape bytes) at) in
+      let there : frame_in_hand log.shape log.bytes (Some behind) ≡ frame_in_hand log.shape log.bytes log.step =
+      sym (ap (frame_in_hand log.shape log.bytes) at) in
       record {
-        counts = stage_on shape gate gate tally tally bytes bytes o (Some behind) fold fold.stage is.counts (λ filed. there) refl (omega arith) (omega arith)
-            (λ held out.
-            subst (λ g. g + 14 < 2 ^ 48) (ap (gate_then gate bytes) at)
-            (room_of shape gate tally bytes o fold fold.stage is.counts held out).room);
-        homes =
-            λ model whole.
-            subst (λ gs. HomesAt shape gs (vector_before shape gate (bytes_of new)) fold (now new) fold.stage)
-            (sym (frames_same model))
-            (subst (λ v. HomesAt shape fs v fold (now new) fold.stage) (sym (vector_same model))
-            (homes_alike shape fs vector fold (now states) (now new) fold.stage (legal model) (same model) (is.homes (back model) whole)));
+        counts =
+            stage_on log.shape log.gate log.gate log.tally log.tally log.bytes log.bytes log.step (Some behind) fold fold.stage
+            is.counts (λ filed. there) refl (omega arith) (omega arith) (room_then step at);
+        homes = λ model whole.
+            subst (λ gs. HomesAt log.shape gs (vector_read new log) fold (now new) fold.stage) (sym (frames_same model))
+            (subst (λ v. HomesAt log.shape fs v fold (now new) fold.stage) (sym (vector_same model))
+            (homes_alike log.shape fs vector fold (now states) (now new) fold.stage (legal model) (same model)
+            (is.homes (back model) whole)));
       }
 
   -- one that failed
-  pub fold_broken : IsFold keeps' new shape gate tally bytes o true fold
+  pub fold_broken : HasFold keeps' new (record log { broken = true }) fold
   fold_broken = record { counts = is.counts; homes = λ model whole. absurd cc }
 
   -- the job is done, and isn't the fold's own
-  module _ (gate' : ℕ) (step : Step) (at : o ≡ Some step) (next : Tally) (may : MayFollow tally (frame_at shape bytes))
-      (next_is : next ≡ after tally (frame_at shape bytes)) (moved : gate' ≡ gate + (length bytes - 1))
-      (unfiled : fold.stage ≡ Filed → ⊥) (no_fold : (c : ℕ) → frame_at shape bytes ≡ kinds.Fold c → ⊥) where
-    abbrev frame : Frame
-    frame = frame_at shape bytes
-
-    pub fold_done : (then : List (List ℕ)) (tally_is : keeps → tally ≡ tally_of fs)
-        → (keeps' → HoldsFrames shape fs vector (bytes_of states))
-        → (keeps' → HoldsFrames shape (frames_with fs frame) then (bytes_of states))
+  module _ (gate : ℕ) (step : Step) (at : log.step ≡ Some step) (next : Tally) (may : MayFollow log.tally frame)
+      (next_is : next ≡ after log.tally frame) (moved : gate ≡ log.gate + (length log.bytes - 1))
+      (unfiled : fold.stage ≡ Filed → ⊥) (no_fold : (c : ℕ) → frame ≡ kinds.Fold c → ⊥) where
+    pub fold_done : (then : List (List ℕ)) (tally_is : keeps → log.tally ≡ tally_of fs)
+        → (keeps' → HoldsFrames log.shape fs vector (bytes_of states))
+        → (keeps' → HoldsFrames log.shape (frames_with fs frame) then (bytes_of states))
         → (keeps' → now new ≡ settled (bytes_of states))
-        → (keeps' → blanked_before shape gate' (bytes_of new) ≡ frames_with fs frame)
-        → (keeps' → vector_before shape gate' (bytes_of new) ≡ then) → IsFold keeps' new shape gate' next bytes None broken fold
+        → (keeps' → frames_read new (job_over log gate next) ≡ frames_with fs frame)
+        → (keeps' → vector_read new (job_over log gate next) ≡ then) → HasFold keeps' new (job_over log gate next) fold
     fold_done then tally_is has more settles frames_are vector_is = record {
       counts =
-          stage_on shape gate gate' tally next bytes bytes o None fold fold.stage is.counts (λ filed. absurd (unfiled filed))
-          (ap (λ t. t.folded) next_is ∙ same_folded tally frame no_fold)
-          (subst (λ t. tally.changes ≤ t.changes) (sym next_is) (more_changes tally frame)) (omega arith)
-          (λ held out.
-          let w = subst (λ g. g + 14 < 2 ^ 48) (ap (gate_then gate bytes) at)
-          (room_of shape gate tally bytes o fold fold.stage is.counts held out).room in
-          omega arith);
+          stage_on log.shape log.gate gate log.tally next log.bytes log.bytes log.step None fold fold.stage is.counts
+          (λ filed. absurd (unfiled filed))
+          (ap (λ t. t.folded) next_is ∙ same_folded log.tally frame no_fold)
+          (subst (λ t. log.tally.changes ≤ t.changes) (sym next_is) (more_changes log.tally frame)) (omega arith)
+          (λ held out. let w = room_then step at held out in omega arith);
       homes = λ model whole. (
           let m = back model in
-          let made = homes_more shape fs frame vector then fold (now states) fold.stage (has model) (more model)
+          let made = homes_more log.shape fs frame vector then fold (now states) fold.stage (has model) (more model)
           (λ held out. (
-          let w = room_of shape gate tally bytes o fold fold.stage is.counts held out in
+          let w = room_of log.shape log.gate log.tally log.bytes log.step fold fold.stage is.counts held out in
           let live = w.live in
           let upto = w.upto in (
-            appends_live tally frame may no_fold (omega arith),
+            appends_live log.tally frame may no_fold (omega arith),
             subst (λ t. t.folded ≤ fold.count) (tally_is m) (omega arith),
             subst (λ t. fold.count ≤ t.changes) (tally_is m) (omega arith),
           )))
           (is.homes m whole) in
           let seen : (now states).seen ≡ (now new).seen = sym (ap (λ s. s.seen) (settles model)) in
-          subst (λ gs. HomesAt shape gs (vector_before shape gate' (bytes_of new)) fold (now new) fold.stage)
-          (sym (frames_are model))
-          (subst (λ v. HomesAt shape (frames_with fs frame) v fold (now new) fold.stage) (sym (vector_is model))
-          (homes_seen shape (frames_with fs frame) then fold (now states) (now new) fold.stage seen made)));
+          subst (λ gs. HomesAt log.shape gs (vector_read new (job_over log gate next)) fold (now new) fold.stage) (sym (frames_are model))
+          (subst (λ v. HomesAt log.shape (frames_with fs frame) v fold (now new) fold.stage) (sym (vector_is model))
+          (homes_seen log.shape (frames_with fs frame) then fold (now states) (now new) fold.stage seen made)));
     }
       where
         homes_seen : (shape : Shape) (gs : List Frame) (v : List (List ℕ)) (fold : Fold) (s t : State) (stage : FoldStage)

@@ -2,21 +2,20 @@
 use Rattle.std.proofs.Common.{◌≡◌, ℕ, ◌+◌, ◌-◌, ◌<◌, List, length, Option, Some, None, inl, inr, refl, sym, ap, subst, ◌∙◌}
 use Rattle.std.proofs.lemmas.Option.{same_Some}
 use Rattle.disk_core.specs.State.{State}
-use Rattle.disk_core.specs.Calls.{bytes_of}
 use Rattle.segment_core.specs.Frame.{Frame, Group, Change, Shrink}
 use Rattle.segment_core.specs.Frame as kinds
 use Rattle.segment_core.specs.Found.{home_among, AreInTurn}
 use Rattle.segment_core.specs.Raw.{after_frame}
-use Rattle.segment_core.specs.Parsed.{vector_before}
 use Rattle.pen_core.specs.declared.pen.Pen.TheInside.{Inside}
 use Rattle.pen_core.specs.declared.stage.FoldStage.TheVariants.{Filed}
 use Rattle.pen_core.specs.declared.step.Step.{Step}
 use Rattle.pen_core.specs.Step.{step_after, Calls}
-use Rattle.pen_core.specs.InHand.{fold_of, frame_in_hand, stage_ended, live_after, IsFold}
+use Rattle.pen_core.specs.InHand.{fold_of, frame_in_hand, stage_ended, live_after, HasFold}
 use Rattle.pen_core.specs.Inside.{IsJob, IsMaybeJob, IsPen}
-use Rattle.pen_core.specs.Listed.{IsListed}
+use Rattle.pen_core.specs.Listed.{HasLists}
 use Rattle.pen_core.specs.PenOf.{FoldOf}
-use Rattle.pen_core.specs.Fields.{IsSound}
+use Rattle.pen_core.specs.Fields.{log_of, IsSoundPen}
+use Rattle.pen_core.specs.PenLog.{PenLog, vector_read, job_over}
 use Rattle.pen_core.specs.Pen.{open_count, fold_behind}
 use Rattle.pen_core.specs.Vectors.{frame_at}
 use Rattle.pen_core.proofs.AtRest.{pen_same}
@@ -58,24 +57,27 @@ module _ {D : Type 0} {keeps : D → Type 0} {states : D → List State} {pen : 
   no_fold : (pen.fold.stage ≡ Filed → ⊥) → (count : ℕ) → frame ≡ kinds.Fold count → ⊥
   no_fold unfiled count at = unfiled (tick.sound.lists.filed count (in_hand ∙ ap (λ g. Some g) at)).0
 
-  last_job : IsPen (open_count then.fold.stage then.fold.count) (keeps new) (states new) pen.shape then.gate pen.next pen.next then.bytes.items None pen.broken
+  abbrev ended_log : PenLog
+  ended_log = record (job_over (log_of pen) then.gate pen.next) { bytes = then.bytes.items }
+
+  last_job : IsPen (open_count then.fold.stage then.fold.count) (keeps new) (states new) ended_log pen.next
   last_job =
-      subst (λ n. IsPen n (keeps new) (states new) pen.shape then.gate pen.next pen.next then.bytes.items None pen.broken)
+      subst (λ n. IsPen n (keeps new) (states new) ended_log pen.next)
       (open_ended pen.fold then.fold end.ended end.same)
       (pen_same (done_job tick end.call then.gate end.moved end.last) refl then.bytes.items)
 
-  last_lists : IsListed (keeps new) (states new) pen.shape then.gate pen.next then.bytes.items None then.homes then.live then.fold
+  last_lists : HasLists (keeps new) (states new) ended_log then.homes then.live then.fold
   last_lists =
       let further = gate_moved tick end.call then.gate end.moved end.last in
       let more = more_frames tick end.call then.gate end.moved end.last in
-      let made : IsListed (keeps new) (states new) pen.shape then.gate pen.next pen.bytes.items None then.homes then.live
-      then.fold =
+      let over : PenLog = job_over (log_of pen) then.gate pen.next in
+      let made : HasLists (keeps new) (states new) over then.homes then.live then.fold =
       elim (is_filed pen.fold.stage) [
         | inl filed ↦ listed_folded tick.sound.lists step tick.is pen.next tick.sound.job.job (keeps new) (states new) then.gate then.homes then.live
             tick.sound.job.folded_counted further tick.back more end.turn end.each end.all then.fold filed (folds filed) (end.ended ∙ ap stage_ended filed)
             (end.left ∙ ap (λ stage. live_after stage pen.fold.runs pen.homes.live.items) filed)
         | inr unfiled ↦ subst
-            (λ f. IsListed (keeps new) (states new) pen.shape then.gate pen.next pen.bytes.items None then.homes then.live f)
+            (λ f. HasLists (keeps new) (states new) over then.homes then.live f)
             (sym (end.same unfiled))
             (listed_done tick.sound.lists step tick.is pen.next tick.sound.job.job (keeps new) (states new) then.gate then.homes then.live
             tick.sound.job.folded_counted further tick.back more end.turn end.each end.all unfiled
@@ -84,24 +86,23 @@ module _ {D : Type 0} {keeps : D → Type 0} {states : D → List State} {pen : 
       ] in
       listed_same made refl then.bytes.items then.homes refl refl
 
-  last_fold : IsFold (keeps new) (states new) pen.shape then.gate pen.next then.bytes.items None pen.broken then.fold
+  last_fold : HasFold (keeps new) (states new) ended_log then.fold
   last_fold = elim (is_filed pen.fold.stage) [
-    | inl filed ↦ no_fold_at (keeps new) (states new) pen.shape then.gate pen.next then.bytes.items None pen.broken then.fold
-        (end.ended ∙ ap stage_ended filed)
+    | inl filed ↦ no_fold_at (keeps new) (states new) ended_log then.fold (end.ended ∙ ap stage_ended filed)
     | inr unfiled ↦ (
-        let done : IsFold (keeps new) (states new) pen.shape then.gate pen.next pen.bytes.items None pen.broken pen.fold =
+        let done : HasFold (keeps new) (states new) (job_over (log_of pen) then.gate pen.next) pen.fold =
         fold_done tick.sound.fold tick.back (states new) then.gate step tick.is pen.next job.may_follow job.next_is
         (end.moved ∙ ap (λ b. pen.gate + (length b - 1)) tick.value) unfiled (no_fold unfiled)
-        (after_frame pen.shape.width (vector_before pen.shape pen.gate (bytes_of (states pen.disk))) frame)
+        (after_frame pen.shape.width (vector_read (states pen.disk) (log_of pen)) frame)
         (tally_now tick) (holds_now tick end.call then.gate end.moved end.last) (holds_next tick end.call then.gate end.moved end.last)
         (settles_now tick end.call then.gate end.moved end.last) (more_frames tick end.call then.gate end.moved end.last)
         (vector_then tick end.call then.gate end.moved end.last) in
-        subst (λ f. IsFold (keeps new) (states new) pen.shape then.gate pen.next then.bytes.items None pen.broken f) (sym (end.same unfiled))
+        subst (λ f. HasFold (keeps new) (states new) ended_log f) (sym (end.same unfiled))
         (fold_same done refl then.bytes.items))
   ]
 
   -- the job is done
-  pub log_last : IsSound keeps states (record pen {
+  pub log_last : IsSoundPen keeps states (record pen {
     disk = new;
     gate = then.gate;
     tally = pen.next;

@@ -1,10 +1,9 @@
 -- The lists that a pen keeps of its file: of a new file, with a job entered, and once the job is done.
-use Rattle.std.proofs.Common.{◌≡◌, ℕ, ◌+◌, ◌-◌, ◌*◌, ◌≤◌, ◌<◌, List, [], ◌∷◌, ◌++◌, length, map, take, drop, sum, Option, Some, None, refl, sym, ap, subst, ◌∙◌, arith}
+use Rattle.std.proofs.Common.{◌≡◌, ℕ, ◌+◌, ◌-◌, ◌*◌, ◌≤◌, ◌<◌, Bool, List, [], ◌∷◌, ◌++◌, length, map, take, drop, sum, Option, Some, None, refl, sym, ap, subst, ◌∙◌, arith}
 use Rattle.std.specs.List.{flat_map}
 use Rattle.std.proofs.lemmas.Bool.{ltb-false}
 use Rattle.std.proofs.lemmas.List.{append-nil, length-append, length-drop, length-map, map_push, flat_map_more, take-append-le, take-append-drop, drop_at}
 use Rattle.disk_core.specs.State.{State}
-use Rattle.disk_core.specs.Calls.{bytes_of}
 use Rattle.record_core.specs.Bytes.{Encoding}
 use Rattle.segment_core.specs.declared.format.Shape.{Shape}
 use Rattle.segment_core.specs.declared.found.Home.{Home}
@@ -28,9 +27,10 @@ use Rattle.pen_core.specs.declared.stage.FoldStage.TheVariants.{Filed}
 use Rattle.pen_core.specs.declared.stage.FoldStage.TheVariants as stages
 use Rattle.pen_core.specs.InHand.{frame_in_hand, IsInHand}
 use Rattle.pen_core.specs.Held.{gate_of}
-use Rattle.pen_core.specs.Vectors.{frame_at, blanked_before, frames_with}
+use Rattle.pen_core.specs.PenLog.{PenLog, frames_read, job_over}
+use Rattle.pen_core.specs.Vectors.{frame_at, frames_with}
 use Rattle.pen_core.specs.Inside.{IsJob, IsMaybeJob}
-use Rattle.pen_core.specs.Listed.{homes_entered, runs_entered, live_runs, Lists, IsListed}
+use Rattle.pen_core.specs.Listed.{homes_entered, runs_entered, live_runs, Lists, HasLists}
 use Rattle.segment_core.proofs.Written.{sum-lengths}
 use Rattle.pen_core.proofs.Whole.{FileStays}
 
@@ -158,54 +158,56 @@ take_live shape frames (Fold count) n few no_fold le = absurd (no_fold count ref
 -- ---- on a pen's fields
 
 -- no frame
-pub listed_new : (keeps : Type 0) (states : List State) (shape : Shape) (bytes : List ℕ) (homes : Homes) (fold : folds.Fold)
+pub listed_new : (keeps : Type 0) (states : List State) (log : PenLog) (homes : Homes) (fold : folds.Fold)
+    → log.gate ≡ 11 → log.tally ≡ nothing → log.step ≡ None
     → fold.stage ≡ stages.None → homes.homes.items ≡ [] → homes.live.items ≡ []
-    → (keeps → blanked_before shape 11 (bytes_of states) ≡ [])
-    → IsListed keeps states shape 11 nothing bytes None homes 0 fold
-listed_new keeps states shape bytes homes fold at none idle empty = record {
+    → (keeps → frames_read states log ≡ []) → HasLists keeps states log homes 0 fold
+listed_new keeps states log homes fold gate tally rest at none idle empty = record {
   frames = [];
   legal = tt;
-  gate_is = refl;
-  tally_is = refl;
-  lists = record { told = []; are_homes = record { in_turn = refl; each = λ i lt. absurd (omega arith) }; homes_are = none; live_is = idle; counted = refl };
-  filed = λ count is. absurd cc;
+  gate_is = gate;
+  tally_is = tally;
+  lists =
+      subst (λ o. Lists log.shape [] (frame_in_hand log.shape log.bytes o) homes 0) (sym rest)
+      (record { told = []; are_homes = record { in_turn = refl; each = λ i lt. absurd (omega arith) }; homes_are = none; live_is = idle; counted = refl });
+  filed = λ count is. (let clash = sym (ap (frame_in_hand log.shape log.bytes) rest) ∙ is in absurd cc);
   runs_are = λ in_hand. absurd (subst IsInHand at in_hand);
   same = empty;
 }
 
-module _ {keeps : Type 0} {states : List State} {shape : Shape} {gate : ℕ} {tally : Tally} {bytes : List ℕ} {o : Option Step}
-    {homes : Homes} {live : ℕ} {fold : folds.Fold} (listed : IsListed keeps states shape gate tally bytes o homes live fold) where
+module _ {keeps : Type 0} {states : List State} {log : PenLog} {homes : Homes} {live : ℕ} {fold : folds.Fold}
+    (listed : HasLists keeps states log homes live fold) where
   -- a call of the disk that leaves the frames, or none
-  pub listed_stays : (keeps' : Type 0) (new : List State) (o' : Option Step)
-      → frame_in_hand shape bytes o' ≡ frame_in_hand shape bytes o → (keeps' → keeps)
-      → (keeps' → FileStays shape gate states new) → IsListed keeps' new shape gate tally bytes o' homes live fold
-  listed_stays keeps' new o' same back stays = record {
+  pub listed_stays : (keeps' : Type 0) (new : List State) (o : Option Step) (broken : Bool)
+      → frame_in_hand log.shape log.bytes o ≡ frame_in_hand log.shape log.bytes log.step → (keeps' → keeps)
+      → (keeps' → FileStays states new log) → HasLists keeps' new (record log { step = o; broken = broken }) homes live fold
+  listed_stays keeps' new o broken same back stays = record {
     frames = listed.frames;
     legal = listed.legal;
     gate_is = listed.gate_is;
     tally_is = listed.tally_is;
-    lists = subst (λ f. Lists shape listed.frames f homes live) (sym same) listed.lists;
+    lists = subst (λ f. Lists log.shape listed.frames f homes live) (sym same) listed.lists;
     filed = λ count is. listed.filed count (sym same ∙ is);
     runs_are = listed.runs_are;
     same = λ model. (stays model).frames_same ∙ listed.same (back model);
   }
 
   -- no job is in hand: the job's bytes and memory may be others
-  module _ (idle : o ≡ None) (bytes' : List ℕ) (homes' : Homes) where
-    at_rest : Lists shape listed.frames None homes live
-    at_rest = subst (λ step. Lists shape listed.frames (frame_in_hand shape bytes step) homes live) idle listed.lists
+  module _ (idle : log.step ≡ None) (bytes : List ℕ) (homes' : Homes) where
+    at_rest : Lists log.shape listed.frames None homes live
+    at_rest = subst (λ step. Lists log.shape listed.frames (frame_in_hand log.shape log.bytes step) homes live) idle listed.lists
 
     pub listed_same : homes'.homes.items ≡ homes.homes.items → homes'.live.items ≡ homes.live.items
-        → IsListed keeps states shape gate tally bytes' o homes' live fold
+        → HasLists keeps states (record log { bytes = bytes }) homes' live fold
     listed_same homes_same live_same =
-        let none : frame_in_hand shape bytes' o ≡ None = ap (frame_in_hand shape bytes') idle in
+        let none : frame_in_hand log.shape bytes log.step ≡ None = ap (frame_in_hand log.shape bytes) idle in
         record {
           frames = listed.frames;
           legal = listed.legal;
           gate_is = listed.gate_is;
           tally_is = listed.tally_is;
           lists =
-              subst (λ f. Lists shape listed.frames f homes' live) (sym none)
+              subst (λ f. Lists log.shape listed.frames f homes' live) (sym none)
               (record {
                 told = at_rest.told;
                 are_homes = at_rest.are_homes;
@@ -219,26 +221,26 @@ module _ {keeps : Type 0} {states : List State} {shape : Shape} {gate : ℕ} {ta
         }
 
     -- a job that is no fold is entered
-    pub listed_begun : (f : Frame) (step : Step) → frame_at shape bytes' ≡ f → ((count : ℕ) → f ≡ Fold count → ⊥)
-        → homes'.homes.items ≡ homes.homes.items ++ homes_entered gate tally.size f
+    pub listed_begun : (f : Frame) (step : Step) → frame_at log.shape bytes ≡ f → ((count : ℕ) → f ≡ Fold count → ⊥)
+        → homes'.homes.items ≡ homes.homes.items ++ homes_entered log.gate log.tally.size f
         → homes'.live.items ≡ homes.live.items ++ runs_entered f
-        → IsListed keeps states shape gate tally bytes' (Some step) homes' live fold
+        → HasLists keeps states (record log { bytes = bytes; step = Some step }) homes' live fold
     listed_begun f step at no_fold homes_more live_more =
-        let ahead : Some f ≡ frame_in_hand shape bytes' (Some step) = ap (λ g. Some g) (sym at) in
+        let ahead : Some f ≡ frame_in_hand log.shape bytes (Some step) = ap (λ g. Some g) (sym at) in
         let told = at_rest.homes_are ∙ append-nil at_rest.told in
-        let runs = at_rest.live_is ∙ append-nil (live_runs shape listed.frames) in
+        let runs = at_rest.live_is ∙ append-nil (live_runs log.shape listed.frames) in
         record {
           frames = listed.frames;
           legal = listed.legal;
           gate_is = listed.gate_is;
           tally_is = listed.tally_is;
-          lists = subst (λ g. Lists shape listed.frames g homes' live) ahead (record {
+          lists = subst (λ g. Lists log.shape listed.frames g homes' live) ahead (record {
             told = at_rest.told;
             are_homes = at_rest.are_homes;
             homes_are =
-                homes_more ∙ ap (λ hs. hs ++ homes_entered gate tally.size f) told
-                ∙ ap (λ g. at_rest.told ++ homes_entered g tally.size f) listed.gate_is
-                ∙ ap (λ t. at_rest.told ++ homes_entered (gate_of shape listed.frames) t.size f) listed.tally_is;
+                homes_more ∙ ap (λ hs. hs ++ homes_entered log.gate log.tally.size f) told
+                ∙ ap (λ g. at_rest.told ++ homes_entered g log.tally.size f) listed.gate_is
+                ∙ ap (λ t. at_rest.told ++ homes_entered (gate_of log.shape listed.frames) t.size f) listed.tally_is;
             live_is = live_more ∙ ap (λ rs. rs ++ runs_entered f) runs;
             counted = at_rest.counted;
           });
@@ -248,15 +250,16 @@ module _ {keeps : Type 0} {states : List State} {shape : Shape} {gate : ℕ} {ta
         }
 
   -- the job is done
-  module _ (step : Step) (is : o ≡ Some step) (next : Tally) (job : IsMaybeJob shape gate tally next bytes o) where
+  module _ (step : Step) (is : log.step ≡ Some step) (next : Tally)
+      (job : IsMaybeJob log.shape log.gate log.tally next log.bytes log.step) where
     abbrev frame : Frame
-    frame = frame_at shape bytes
+    frame = frame_at log.shape log.bytes
 
-    job_is : IsJob shape gate tally next bytes
-    job_is = subst (λ s. IsMaybeJob shape gate tally next bytes s) is job
+    job_is : IsJob log.shape log.gate log.tally next log.bytes
+    job_is = subst (λ s. IsMaybeJob log.shape log.gate log.tally next log.bytes s) is job
 
-    in_hand : Lists shape listed.frames (Some frame) homes live
-    in_hand = subst (λ s. Lists shape listed.frames (frame_in_hand shape bytes s) homes live) is listed.lists
+    in_hand : Lists log.shape listed.frames (Some frame) homes live
+    in_hand = subst (λ s. Lists log.shape listed.frames (frame_in_hand log.shape log.bytes s) homes live) is listed.lists
 
     may : MayFollow (tally_of listed.frames) frame
     may = subst (λ t. MayFollow t frame) listed.tally_is job_is.may_follow
@@ -267,14 +270,13 @@ module _ {keeps : Type 0} {states : List State} {shape : Shape} {gate : ℕ} {ta
     -- what the cut of the homes asks for
     pub homes_in_turn : (all : ℕ) × (next.size ≤ all) × AreInTurn 0 homes.homes.items all
     homes_in_turn =
-        let turn = in_turn_ahead shape listed.frames frame homes live in_hand may in
+        let turn = in_turn_ahead log.shape listed.frames frame homes live in_hand may in
         (turn.0, subst (λ t. t.size ≤ turn.0) (sym next_is) turn.1, turn.2)
 
-    module _ (keeps' : Type 0) (new : List State) (gate' : ℕ) (homes' : Homes) (live' : ℕ)
-        (few : tally.folded ≤ tally.changes) (moved : gate' ≡ gate + length (frame_text shape.format frame))
+    module _ (keeps' : Type 0) (new : List State) (gate : ℕ) (homes' : Homes) (live' : ℕ)
+        (few : log.tally.folded ≤ log.tally.changes) (moved : gate ≡ log.gate + length (frame_text log.shape.format frame))
         (back : keeps' → keeps)
-        (more : keeps'
-        → blanked_before shape gate' (bytes_of new) ≡ frames_with (blanked_before shape gate (bytes_of states)) frame)
+        (more : keeps' → frames_read new (job_over log gate next) ≡ frames_with (frames_read states log) frame)
         (turn : AreInTurn 0 homes'.homes.items next.size)
         (each : (width i : ℕ) → i < next.size → home_among width homes'.homes.items i ≡ home_among width homes.homes.items i)
         (all : live' ≡ length homes'.live.items) where
@@ -284,30 +286,32 @@ module _ {keeps : Type 0} {states : List State} {shape : Shape} {gate : ℕ} {ta
       size : next.size ≡ (after (tally_of listed.frames) frame).size
       size = ap (λ t. t.size) next_is
 
-      here : gate' ≡ gate_of shape (listed.frames ++ frame ∷ [])
+      here : gate ≡ gate_of log.shape (listed.frames ++ frame ∷ [])
       here =
-          moved ∙ ap (λ g. g + length (frame_text shape.format frame)) listed.gate_is
+          moved ∙ ap (λ g. g + length (frame_text log.shape.format frame)) listed.gate_is
           ∙ sym
-          (ap length (text_push shape listed.frames frame)
-          ∙ length-append (text shape listed.frames) (frame_text shape.format frame))
+          (ap length (text_push log.shape listed.frames frame)
+          ∙ length-append (text log.shape listed.frames) (frame_text log.shape.format frame))
 
-      then_blank : keeps' → blanked_before shape gate' (bytes_of new) ≡ all_blanked (listed.frames ++ frame ∷ [])
-      then_blank model = more model ∙ ap (λ bs. bs ++ blanked frame ∷ []) (listed.same (back model)) ∙ sym (map_push blanked listed.frames frame)
+      then_blank : keeps' → frames_read new (job_over log gate next) ≡ all_blanked (listed.frames ++ frame ∷ [])
+      then_blank model =
+          more model ∙ ap (λ bs. bs ++ blanked frame ∷ []) (listed.same (back model))
+          ∙ sym (map_push blanked listed.frames frame)
 
       -- a frame that is no fold's: a fold in hand counts as before
-      pub listed_done : (fold.stage ≡ Filed → ⊥) → (IsInHand fold.stage → fold.count ≤ tally.changes)
-          → homes'.live.items ≡ homes.live.items → IsListed keeps' new shape gate' next bytes None homes' live' fold
+      pub listed_done : (fold.stage ≡ Filed → ⊥) → (IsInHand fold.stage → fold.count ≤ log.tally.changes)
+          → homes'.live.items ≡ homes.live.items → HasLists keeps' new (job_over log gate next) homes' live' fold
       listed_done unfiled upto same =
           let no_fold : (count : ℕ) → frame ≡ Fold count → ⊥ =
-          λ count is'. unfiled (listed.filed count (ap (frame_in_hand shape bytes) is ∙ ap (λ g. Some g) is')).0 in
-          let counted = live_counted shape listed.frames in
+          λ count is'. unfiled (listed.filed count (ap (frame_in_hand log.shape log.bytes) is ∙ ap (λ g. Some g) is')).0 in
+          let counted = live_counted log.shape listed.frames in
           record {
             frames = listed.frames ++ frame ∷ [];
-            legal = AreLegalFrom_push shape nothing listed.frames frame listed.legal job_is.whole may;
+            legal = AreLegalFrom_push log.shape nothing listed.frames frame listed.legal job_is.whole may;
             gate_is = here;
             tally_is = next_is ∙ sym after_is;
             lists =
-                lists_done shape listed.frames frame homes homes' live live' in_hand may
+                lists_done log.shape listed.frames frame homes homes' live live' in_hand may
                 (subst (λ t. t.folded ≤ t.changes) listed.tally_is few) no_fold
                 (subst (AreInTurn 0 homes'.homes.items) size turn)
                 (λ width i lt. each width i (subst (λ n. i < n) (sym size) lt)) same all;
@@ -316,12 +320,13 @@ module _ {keeps : Type 0} {states : List State} {shape : Shape} {gate : ℕ} {ta
                 let bound : fold.count ≤ (tally_of listed.frames).changes = subst (λ t. fold.count ≤ t.changes) listed.tally_is (upto held) in
                 let folded : next.folded ≡ (tally_of listed.frames).folded =
                 ap (λ t. t.folded) next_is ∙ after_unfolded (tally_of listed.frames) frame no_fold in
-                listed.runs_are held ∙ ap (λ t. length (flat_map pairs_of (take (fold.count - t.folded) (live_of shape listed.frames)))) listed.tally_is
+                let counts : Tally → ℕ = λ t. length (flat_map pairs_of (take (fold.count - t.folded) (live_of log.shape listed.frames))) in
+                listed.runs_are held ∙ ap counts listed.tally_is
                 ∙ sym
-                (ap (λ n. length (flat_map pairs_of (take (fold.count - n) (live_of shape (listed.frames ++ frame ∷ [])))))
+                (ap (λ n. length (flat_map pairs_of (take (fold.count - n) (live_of log.shape (listed.frames ++ frame ∷ [])))))
                 folded
                 ∙ ap (λ cs. length (flat_map pairs_of cs))
-                (take_live shape listed.frames frame (fold.count - (tally_of listed.frames).folded)
+                (take_live log.shape listed.frames frame (fold.count - (tally_of listed.frames).folded)
                 (subst (λ t. t.folded ≤ t.changes) listed.tally_is few) no_fold (omega arith))));
             same = then_blank;
           }
@@ -329,14 +334,15 @@ module _ {keeps : Type 0} {states : List State} {shape : Shape} {gate : ℕ} {ta
       -- the fold's own: its changes are live no more
       pub listed_folded : (fold' : folds.Fold) → fold.stage ≡ Filed → frame ≡ Fold fold.count → fold'.stage ≡ stages.None
           → homes'.live.items ≡ drop fold.runs homes.live.items
-          → IsListed keeps' new shape gate' next bytes None homes' live' fold'
+          → HasLists keeps' new (job_over log gate next) homes' live' fold'
       listed_folded fold' at folds ended dropped =
           let f : Frame = Fold fold.count in
-          let lists : Lists shape listed.frames (Some f) homes live = subst (λ g. Lists shape listed.frames (Some g) homes live) folds in_hand in
+          let lists : Lists log.shape listed.frames (Some f) homes live =
+          subst (λ g. Lists log.shape listed.frames (Some g) homes live) folds in_hand in
           let may' : MayFollow (tally_of listed.frames) f = subst (MayFollow (tally_of listed.frames)) folds may in
           let bounds = fold_bounds (tally_of listed.frames) f fold.count refl may'.counted in
           let t : Tally = tally_of listed.frames in
-          let lived : List Seen = live_of shape listed.frames in
+          let lived : List Seen = live_of log.shape listed.frames in
           let n : ℕ = fold.count - t.folded in
           let parts : flat_map pairs_of lived ≡ flat_map pairs_of (take n lived) ++ flat_map pairs_of (drop n lived) =
           ap (flat_map pairs_of) (sym (take-append-drop n lived))
@@ -344,23 +350,25 @@ module _ {keeps : Type 0} {states : List State} {shape : Shape} {gate : ℕ} {ta
           let runs : fold.runs ≡ length (flat_map pairs_of (take n lived)) =
           listed.runs_are (subst IsInHand (sym at) tt)
           ∙ ap (λ u. length (flat_map pairs_of (take (fold.count - u.folded) lived))) listed.tally_is in
-          let left : homes'.live.items ≡ live_runs shape (listed.frames ++ f ∷ []) =
-          dropped ∙ ap (drop fold.runs) (lists.live_is ∙ append-nil (live_runs shape listed.frames) ∙ parts)
+          let left : homes'.live.items ≡ live_runs log.shape (listed.frames ++ f ∷ []) =
+          dropped ∙ ap (drop fold.runs) (lists.live_is ∙ append-nil (live_runs log.shape listed.frames) ∙ parts)
           ∙ drop_at (flat_map pairs_of (take n lived)) (flat_map pairs_of (drop n lived)) fold.runs (sym runs)
-          ∙ sym (ap (flat_map pairs_of) (live_of_fold shape listed.frames fold.count bounds.0)) in
+          ∙ sym (ap (flat_map pairs_of) (live_of_fold log.shape listed.frames fold.count bounds.0)) in
+          let size' : next.size ≡ (after t f).size = size ∙ ap (λ g. (after t g).size) folds in
           record {
             frames = listed.frames ++ frame ∷ [];
-            legal = AreLegalFrom_push shape nothing listed.frames frame listed.legal job_is.whole may;
+            legal = AreLegalFrom_push log.shape nothing listed.frames frame listed.legal job_is.whole may;
             gate_is = here;
             tally_is = next_is ∙ sym after_is;
-            lists = subst (λ g. Lists shape (listed.frames ++ g ∷ []) None homes' live') (sym folds) (record {
+            lists = subst (λ g. Lists log.shape (listed.frames ++ g ∷ []) None homes' live') (sym folds) (record {
               told = homes'.homes.items;
-              are_homes = AreHomes_same shape listed.frames f lists.told homes'.homes.items (λ i p u. refl) (omega arith) lists.are_homes
-                  (subst (AreInTurn 0 homes'.homes.items) (size ∙ ap (λ g. (after t g).size) folds) turn)
-                  (λ i lt. each shape.width i (subst (λ m. i < m) (sym (size ∙ ap (λ g. (after t g).size) folds)) lt)
-                  ∙ ap (λ hs. home_among shape.width hs i) (lists.homes_are ∙ append-nil lists.told));
+              are_homes =
+                  AreHomes_same log.shape listed.frames f lists.told homes'.homes.items (λ i p u. refl) (omega arith) lists.are_homes
+                  (subst (AreInTurn 0 homes'.homes.items) size' turn)
+                  (λ i lt. each log.shape.width i (subst (λ m. i < m) (sym size') lt)
+                  ∙ ap (λ hs. home_among log.shape.width hs i) (lists.homes_are ∙ append-nil lists.told));
               homes_are = sym (append-nil homes'.homes.items);
-              live_is = left ∙ sym (append-nil (live_runs shape (listed.frames ++ f ∷ [])));
+              live_is = left ∙ sym (append-nil (live_runs log.shape (listed.frames ++ f ∷ [])));
               counted = all ∙ ap length left;
             });
             filed = λ count clash. absurd cc;

@@ -6,20 +6,20 @@ use Rattle.disk_core.specs.State.{State, now, settled, IsImage}
 use Rattle.disk_core.specs.Calls.{bytes_of}
 use Rattle.disk_core.specs.Moments.{LeavesOnly}
 use Rattle.segment_core.specs.Frame.{Frame, frame_text}
-use Rattle.segment_core.specs.Parsed.{vector_before}
 use Rattle.segment_core.specs.Raw.{after_frame}
 use Rattle.segment_core.specs.Tally.{after, tally_of, AreLegal}
 use Rattle.segment_core.proofs.Payload.{length-frame_text}
 use Rattle.pen_core.specs.declared.pen.Pen.TheInside.{Inside}
 use Rattle.pen_core.specs.declared.step.Step.{Step}
-use Rattle.pen_core.specs.Fields.{count_open, IsSound}
+use Rattle.pen_core.specs.Fields.{log_of, count_open, IsSoundPen}
 use Rattle.pen_core.specs.Held.{HoldsFrames, gate_of}
 use Rattle.pen_core.specs.InHand.{frame_in_hand}
 use Rattle.pen_core.specs.Inside.{job_of, IsJob, IsMaybeJob, IsAtStep, Knows, IsPen}
 use Rattle.pen_core.specs.Known.{IsFileOf, IsShut}
 use Rattle.pen_core.specs.Pen.{OpensWith}
 use Rattle.pen_core.specs.Step.{step_after, Calls, FailsCall}
-use Rattle.pen_core.specs.Vectors.{frame_at, blanked_before, frames_with}
+use Rattle.pen_core.specs.PenLog.{PenLog, frames_read, vector_read, job_over}
+use Rattle.pen_core.specs.Vectors.{frame_at, frames_with}
 use Rattle.pen_core.proofs.Begun.{held_legal}
 use Rattle.pen_core.proofs.Folds.{LaidAlike}
 use Rattle.pen_core.proofs.InHand.{fold_broken, fold_stays}
@@ -32,7 +32,7 @@ use Rattle.pen_core.proofs.Whole.{FileStays, after_size, after_changes, after_fo
 -- What a tick knows that makes the call: the bytes are those that it was given. Each disk that keeps the model reads as
 -- an image.
 pub record LogCall {D : Type 0} (keeps : D → Type 0) (states : D → List State) (pen : Inside D) (new : D) (step : Step) : Type 0 where
-  pub sound : IsSound keeps states pen
+  pub sound : IsSoundPen keeps states pen
   pub going : pen.broken ≡ false
   pub is : pen.step ≡ Some step
   pub given : List ℕ
@@ -41,7 +41,7 @@ pub record LogCall {D : Type 0} (keeps : D → Type 0) (states : D → List Stat
   pub reads : (disk : D) → keeps disk → IsImage (now (states disk)) (bytes_of (states disk))
 
 abbrev pub log_call : {D : Type 0} {keeps : D → Type 0} {states : D → List State} {pen : Inside D} {new : D} {step : Step} {given : List ℕ}
-    → IsSound keeps states pen → pen.broken ≡ false → pen.step ≡ Some step → given ≡ pen.bytes.items → (keeps new → keeps pen.disk)
+    → IsSoundPen keeps states pen → pen.broken ≡ false → pen.step ≡ Some step → given ≡ pen.bytes.items → (keeps new → keeps pen.disk)
     → ((disk : D) → keeps disk → IsImage (now (states disk)) (bytes_of (states disk))) → LogCall keeps states pen new step
 log_call {D} {keeps} {states} {pen} {new} {step} {given} sound going is value back reads =
     record { sound = sound; going = going; is = is; given = given; value = value; back = back; reads = reads }
@@ -61,10 +61,10 @@ module _ {D : Type 0} {keeps : D → Type 0} {states : D → List State} {pen : 
   FailsSo = FailsCall step pen.gate tick.given old left
 
   abbrev frames : List Frame
-  frames = blanked_before pen.shape pen.gate (bytes_of old)
+  frames = frames_read old (log_of pen)
 
   abbrev vector : List (List ℕ)
-  vector = vector_before pen.shape pen.gate (bytes_of old)
+  vector = vector_read old (log_of pen)
 
   abbrev frame : Frame
   frame = frame_at pen.shape pen.bytes.items
@@ -79,7 +79,7 @@ module _ {D : Type 0} {keeps : D → Type 0} {states : D → List State} {pen : 
   p = gate_of pen.shape frames
 
   abbrev KnowsAs : List Frame → List (List ℕ) → Option Step → Bool → State → Type 0
-  KnowsAs fs cells due broken s = Knows (count_open pen) pen.shape pen.gate pen.tally fs cells pen.bytes.items due broken s
+  KnowsAs fs cells due broken s = Knows (count_open pen) (record (log_of pen) { step = due; broken = broken }) fs cells s
 
   abbrev At : ℕ → Step → State → Type 0
   At gate due s = IsAtStep pen.shape (count_open pen) gate frames following then pen.bytes.items due s
@@ -138,7 +138,7 @@ module _ {D : Type 0} {keeps : D → Type 0} {states : D → List State} {pen : 
   failed_seen : (model : keeps new) → FailsSo → SeenAs pen.shape pen.gate frames vector (bytes_of left)
   failed_seen model call = seen_as pen.shape pen.gate frames vector (bytes_of left) (knows (tick.back model)).gate_is (failed model call).file.holds
 
-  broken_job : (keeps new → FailsSo) → IsPen (count_open pen) (keeps new) left pen.shape pen.gate pen.tally pen.next pen.bytes.items pen.step true
+  broken_job : (keeps new → FailsSo) → IsPen (count_open pen) (keeps new) left (record (log_of pen) { broken = true }) pen.next
   broken_job call = record {
     wide = tick.sound.job.wide;
     gate_fits = tick.sound.job.gate_fits;
@@ -151,20 +151,19 @@ module _ {D : Type 0} {keeps : D → Type 0} {states : D → List State} {pen : 
         let k = knows (tick.back model) in
         let made : KnowsAs frames vector pen.step true (now left) =
         subst (λ s. KnowsAs frames vector s true (now left)) (sym tick.is)
-        (knows_broken pen.shape pen.gate pen.tally frames vector pen.bytes.items (now left) k.gate_is k.tally_is step
-        (failed model (call model))) in
-        subst (λ fs. KnowsAs fs (vector_before pen.shape pen.gate (bytes_of left)) pen.step true (now left))
+        (knows_broken (log_of pen) frames vector (now left) k.gate_is k.tally_is step (failed model (call model))) in
+        subst (λ fs. KnowsAs fs (vector_read left (log_of pen)) pen.step true (now left))
         (sym seen.frames_are) (subst (λ v. KnowsAs frames v pen.step true (now left)) (sym seen.vector_is) made));
   }
 
-  pub broken_file : (keeps new → FailsSo) → keeps new → FileStays pen.shape pen.gate old left
+  pub broken_file : (keeps new → FailsSo) → keeps new → FileStays old left (log_of pen)
   broken_file call model = let seen = failed_seen model (call model) in record { frames_same = seen.frames_are; vector_same = seen.vector_is }
 
   -- the pen is broken
-  pub log_broken : (keeps new → FailsSo) → IsSound keeps states (record pen { disk = new; broken = true })
+  pub log_broken : (keeps new → FailsSo) → IsSoundPen keeps states (record pen { disk = new; broken = true })
   log_broken call = record {
     job = broken_job call;
-    lists = listed_stays tick.sound.lists (keeps new) left pen.step refl tick.back (broken_file call);
+    lists = listed_stays tick.sound.lists (keeps new) left pen.step true refl tick.back (broken_file call);
     fold = fold_broken tick.sound.fold tick.back left;
   }
 
@@ -190,8 +189,7 @@ module _ {D : Type 0} {keeps : D → Type 0} {states : D → List State} {pen : 
         (omega (arith, (knows m).file.gate_synced, (tick.reads pen.disk m).no_shorter)) (at_gate m (call m))
 
     next_job : (behind : Step) → step_after step ≡ Some behind
-        → IsPen (count_open pen) (keeps new) left pen.shape pen.gate pen.tally pen.next pen.bytes.items (Some behind)
-        pen.broken
+        → IsPen (count_open pen) (keeps new) left (record (log_of pen) { step = Some behind }) pen.next
     next_job behind after_it = record {
       wide = tick.sound.job.wide;
       gate_fits = tick.sound.job.gate_fits;
@@ -206,35 +204,36 @@ module _ {D : Type 0} {keeps : D → Type 0} {states : D → List State} {pen : 
           let stands = went_on behind after_it model in
           let at' : At pen.gate behind (now left) = subst (λ g. At g behind (now left)) (sym k.gate_is) stands.at in
           let made : KnowsAs frames vector (Some behind) pen.broken (now left) =
-          knows_at pen.shape pen.gate pen.tally frames vector pen.bytes.items (now left) k.gate_is k.tally_is behind
-          pen.broken stands.file at' (tick.reads new model) in
-          subst (λ fs. KnowsAs fs (vector_before pen.shape pen.gate (bytes_of left)) (Some behind) pen.broken (now left))
+          knows_at (log_of pen) frames vector (now left) k.gate_is k.tally_is behind stands.file at' (tick.reads new model) in
+          subst (λ fs. KnowsAs fs (vector_read left (log_of pen)) (Some behind) pen.broken (now left))
           (sym seen.frames_are)
           (subst (λ v. KnowsAs frames v (Some behind) pen.broken (now left)) (sym seen.vector_is) made));
     }
 
-    pub next_file : (behind : Step) → step_after step ≡ Some behind → keeps new → FileStays pen.shape pen.gate old left
+    pub next_file : (behind : Step) → step_after step ≡ Some behind → keeps new → FileStays old left (log_of pen)
     next_file behind after_it model = let seen = next_seen behind after_it model in record { frames_same = seen.frames_are; vector_same = seen.vector_is }
 
     -- the next call is due
-    pub log_next : (behind : Step) → step_after step ≡ Some behind → IsSound keeps states (record pen { disk = new; step = Some behind })
+    pub log_next : (behind : Step) → step_after step ≡ Some behind → IsSoundPen keeps states (record pen { disk = new; step = Some behind })
     log_next behind after_it =
         let stays = next_file behind after_it in
         record {
           job = next_job behind after_it;
-          lists = listed_stays tick.sound.lists (keeps new) left (Some behind) (sym (ap (frame_in_hand pen.shape pen.bytes.items) tick.is)) tick.back stays;
+          lists =
+              listed_stays tick.sound.lists (keeps new) left (Some behind) pen.broken
+              (sym (ap (frame_in_hand pen.shape pen.bytes.items) tick.is)) tick.back stays;
           fold = fold_stays tick.sound.fold tick.back left step behind tick.is (λ model. legal_now (tick.back model)) bytes_alike
               (λ model. (stays model).frames_same) (λ model. (stays model).vector_same);
         }
 
-    module _ (gate' : ℕ) (moved : gate' ≡ pen.gate + (length tick.given - 1)) (last : step_after step ≡ None) where
+    module _ (gate : ℕ) (moved : gate ≡ pen.gate + (length tick.given - 1)) (last : step_after step ≡ None) where
       -- the bytes end with the next gate
-      pub gate_moved : gate' ≡ pen.gate + length (frame_text pen.shape.format frame)
+      pub gate_moved : gate ≡ pen.gate + length (frame_text pen.shape.format frame)
       gate_moved =
           let all = ap length (tick.value ∙ job.spelled) ∙ length-append (frame_text pen.shape.format frame) (0 ∷ []) in
           omega arith
 
-      next_gate : keeps pen.disk → gate' ≡ gate_of pen.shape following
+      next_gate : keeps pen.disk → gate ≡ gate_of pen.shape following
       next_gate m = gate_moved ∙ ap (λ g. g + length (frame_text pen.shape.format frame)) (knows m).gate_is ∙ sym (gate_with pen.shape frames frame)
 
       ended : keeps new → IsFileOf pen.shape (count_open pen) following then (now left) × IsShut (gate_of pen.shape following) (now left)
@@ -243,8 +242,8 @@ module _ {D : Type 0} {keeps : D → Type 0} {states : D → List State} {pen : 
           tick_done pen.shape (count_open pen) frames following vector then pen.bytes.items step old left
           (at m) (tick.reads pen.disk m) (at_gate m (call m)) last
 
-      done_seen : keeps new → SeenAs pen.shape gate' following then (bytes_of left)
-      done_seen model = seen_as pen.shape gate' following then (bytes_of left) (next_gate (tick.back model)) (ended model).0.holds
+      done_seen : keeps new → SeenAs pen.shape gate following then (bytes_of left)
+      done_seen model = seen_as pen.shape gate following then (bytes_of left) (next_gate (tick.back model)) (ended model).0.holds
 
       pub settles_now : keeps new → now left ≡ settled (bytes_of old)
       settles_now model = let m = tick.back model in ap now (subst (λ st. Calls st p pen.bytes.items old left) (last_step step last) (at_gate m (call m)))
@@ -256,13 +255,13 @@ module _ {D : Type 0} {keeps : D → Type 0} {states : D → List State} {pen : 
       pub holds_next : keeps new → HoldsFrames pen.shape following then (bytes_of old)
       holds_next model = subst (λ s. HoldsFrames pen.shape following then s.seen) (settles_now model) (ended model).0.holds
 
-      pub more_frames : keeps new → blanked_before pen.shape gate' (bytes_of left) ≡ following
+      pub more_frames : keeps new → frames_read left (job_over (log_of pen) gate pen.next) ≡ following
       more_frames model = (done_seen model).frames_are
 
-      pub vector_then : keeps new → vector_before pen.shape gate' (bytes_of left) ≡ then
+      pub vector_then : keeps new → vector_read left (job_over (log_of pen) gate pen.next) ≡ then
       vector_then model = (done_seen model).vector_is
 
-      pub done_job : IsPen (count_open pen) (keeps new) left pen.shape gate' pen.next pen.next pen.bytes.items None pen.broken
+      pub done_job : IsPen (count_open pen) (keeps new) left (job_over (log_of pen) gate pen.next) pen.next
       done_job =
           let may = job.may_follow in
           let size = after_size pen.tally frame tick.sound.job.size_fits may in
@@ -278,7 +277,7 @@ module _ {D : Type 0} {keeps : D → Type 0} {states : D → List State} {pen : 
             wide = tick.sound.job.wide;
             gate_fits = omega arith;
             size_fits = subst (λ t. t.size ≤ 2 ^ 32) (sym counted) size;
-            changes_fit = subst (λ t. t.changes ≤ gate') (sym counted) (omega arith);
+            changes_fit = subst (λ t. t.changes ≤ gate) (sym counted) (omega arith);
             folded_counted = subst (λ t. t.folded ≤ t.changes) (sym counted) folded;
             job = tt;
             knows = λ model. (
@@ -287,19 +286,10 @@ module _ {D : Type 0} {keeps : D → Type 0} {states : D → List State} {pen : 
                 let seen = done_seen model in
                 let done = ended model in
                 let tally_is : pen.next ≡ tally_of following = counted ∙ ap (λ t. after t frame) k.tally_is ∙ sym (tally_with frames frame) in
-                let made : Knows (count_open pen) pen.shape gate' pen.next following then pen.bytes.items None pen.broken
-                (now left) =
-                knows_rest pen.shape gate' pen.next following then pen.bytes.items (now left) (next_gate m) tally_is
-                pen.broken done.0 (subst (λ g. IsShut g (now left)) (sym (next_gate m)) done.1)
-                (tick.reads new model) in
-                subst
-                (λ fs.
-                Knows (count_open pen) pen.shape gate' pen.next fs (vector_before pen.shape gate' (bytes_of left))
-                pen.bytes.items None pen.broken (now left))
-                (sym seen.frames_are)
-                (subst
-                (λ v.
-                Knows (count_open pen) pen.shape gate' pen.next following v pen.bytes.items None pen.broken
-                (now left))
-                (sym seen.vector_is) made));
+                let log : PenLog = job_over (log_of pen) gate pen.next in
+                let made : Knows (count_open pen) log following then (now left) =
+                knows_rest log following then (now left) (next_gate m) tally_is done.0
+                (subst (λ g. IsShut g (now left)) (sym (next_gate m)) done.1) (tick.reads new model) in
+                subst (λ fs. Knows (count_open pen) log fs (vector_read left log) (now left)) (sym seen.frames_are)
+                (subst (λ v. Knows (count_open pen) log following v (now left)) (sym seen.vector_is) made));
           }

@@ -22,7 +22,6 @@ use Rattle.segment_core.specs.Image.{BeginsImage, HasFrames}
 use Rattle.segment_core.specs.Vector.{place_of, record_in, IsVectorOf, HasVector}
 use Rattle.segment_core.specs.Blanked.{all_blanked}
 use Rattle.segment_core.specs.Raw.{raw, AreReadAs}
-use Rattle.segment_core.specs.Parsed.{vector_before}
 use Rattle.segment_core.proofs.Blanked.{tally_from-blanked}
 use Rattle.segment_core.proofs.Fed.{frames_more}
 use Rattle.segment_core.proofs.OneMore.{IsVectorOf_begins}
@@ -32,13 +31,14 @@ use Rattle.segment_core.proofs.Raw.{IsVectorOf_raw}
 use Rattle.segment_core.proofs.ReadAs.{AreCellsOf_read}
 use Rattle.pen_core.specs.Held.{HoldsFrames, gate_of}
 use Rattle.pen_core.specs.Known.{IsFileOf, IsShut}
+use Rattle.pen_core.specs.PenLog.{PenLog, frames_read, vector_read}
 use Rattle.pen_core.specs.PenOf.{FoldOf}
-use Rattle.pen_core.specs.Inside.{pen_of, Knows, IsPen}
+use Rattle.pen_core.specs.Inside.{Knows, IsPen}
 use Rattle.pen_core.specs.Opening.{IsOpened, IsFoundOn}
 use Rattle.pen_core.specs.declared.fold.Fold.{Fold}
 use Rattle.pen_core.specs.declared.stage.FoldStage.TheVariants as stages
 use Rattle.pen_core.specs.InHand.{IsInHand}
-use Rattle.pen_core.specs.Listed.{live_runs, Lists, IsListed}
+use Rattle.pen_core.specs.Listed.{live_runs, Lists, HasLists}
 use Rattle.pen_core.proofs.Again.{gate_behind}
 use Rattle.pen_core.proofs.Parsed.{SeenAs, seen_as}
 use Rattle.pen_core.proofs.Pens.{knows_rest}
@@ -177,10 +177,11 @@ module _ {R : Type 0} (format : Format) (form : Encoding R) (front more : List �
   seen : SeenAs shape p frames cells image
   seen = seen_as shape p frames cells image gate_is holds
 
-  known_file : (bytes : List ℕ) → Knows 0 shape p (tally_of found) frames cells bytes None false (settled image)
+  known_file : (bytes : List ℕ)
+      → Knows 0 (record { shape = shape; gate = p; tally = tally_of found; bytes = bytes; step = None; broken = false }) frames cells (settled image)
   known_file bytes =
-      knows_rest shape p (tally_of found) frames cells bytes (settled image) gate_is (sym (tally_from-blanked nothing found))
-      false file_is shut (settled_image image)
+      knows_rest (record { shape = shape; gate = p; tally = tally_of found; bytes = bytes; step = None; broken = false })
+      frames cells (settled image) gate_is (sym (tally_from-blanked nothing found)) file_is shut (settled_image image)
 
 -- ---- a pen's fields
 
@@ -245,20 +246,26 @@ module _ {R : Type 0} {form : Encoding R} {keeps : Type 0} {states : List State}
       (subst (λ (bs : List ℕ). SeenAs file (length (text file found)) (all_blanked found) (map form.bytes_of records) bs)
       (sym (seen_same model)) (seen named form on.image (more model) found records back on.fits on.scan.vector)))
 
-  has_known : (bytes : List ℕ) → keeps → Knows 0 told scanned.gate tally (all_blanked found) (map form.bytes_of records) bytes None false (now states)
+  -- what the pen counts then
+  abbrev log : List ℕ → PenLog
+  log bytes = record { shape = told; gate = scanned.gate; tally = tally; bytes = bytes; step = None; broken = false }
+
+  abbrev KnowsNow : PenLog → Type 0
+  KnowsNow counts = Knows 0 counts (all_blanked found) (map form.bytes_of records) (now states)
+
+  has_known : (bytes : List ℕ) → keeps → KnowsNow (log bytes)
   has_known bytes model =
-      subst (λ s. Knows 0 s scanned.gate tally (all_blanked found) (map form.bytes_of records) bytes None false (now states)) (sym shape_same)
-      (subst (λ g. Knows 0 file g tally (all_blanked found) (map form.bytes_of records) bytes None false (now states)) (sym gate_same)
-      (subst (λ t. Knows 0 file (length (text file found)) t (all_blanked found) (map form.bytes_of records) bytes None false (now states)) (sym tally_same)
+      subst (λ s. KnowsNow (record (log bytes) { shape = s })) (sym shape_same)
+      (subst (λ g. KnowsNow (record (log bytes) { shape = file; gate = g })) (sym gate_same)
+      (subst (λ t. KnowsNow (record (log bytes) { shape = file; gate = length (text file found); tally = t })) (sym tally_same)
       (subst
       (λ s.
-      Knows 0 file (length (text file found)) (tally_of found) (all_blanked found) (map form.bytes_of records)
-      bytes None false s)
+      Knows 0 (record (log bytes) { shape = file; gate = length (text file found); tally = tally_of found })
+      (all_blanked found) (map form.bytes_of records) s)
       (sym (on.on_disk model).1)
       (known_file named form on.image (more model) found records back on.fits on.scan.vector bytes))))
 
-  pub opened_pen : (next : Tally) (bytes : List ℕ) → (1 ≤ form.width) × (form.width < 2 ^ 16)
-      → IsPen 0 keeps states told scanned.gate tally next bytes None false
+  pub opened_pen : (next : Tally) (bytes : List ℕ) → (1 ≤ form.width) × (form.width < 2 ^ 16) → IsPen 0 keeps states (log bytes) next
   opened_pen next bytes wide =
       let placed = inside_front named form on.image [] found records back on.fits on.scan.vector in
       let long = length-text file found in
@@ -274,16 +281,12 @@ module _ {R : Type 0} {form : Encoding R} {keeps : Type 0} {states : List State}
         job = tt;
         knows = λ model. (
             let seen = has_seen model in
-            subst
-            (λ fs.
-            Knows 0 told scanned.gate tally fs (vector_before told scanned.gate (bytes_of states)) bytes None false
-            (now states))
-            (sym seen.frames_are)
-            (subst (λ v. Knows 0 told scanned.gate tally (all_blanked found) v bytes None false (now states)) (sym seen.vector_is) (has_known bytes model)));
+            subst (λ fs. Knows 0 (log bytes) fs (vector_read states (log bytes)) (now states)) (sym seen.frames_are)
+            (subst (λ v. Knows 0 (log bytes) (all_blanked found) v (now states)) (sym seen.vector_is) (has_known bytes model)));
       }
 
   pub opened_lists : (bytes : List ℕ) (live : ℕ) (fold : Fold) → fold.stage ≡ stages.None → live ≡ length homes.live.items
-      → IsListed keeps states told scanned.gate tally bytes None homes live fold
+      → HasLists keeps states (log bytes) homes live fold
   opened_lists bytes live fold at all = record {
     frames = found;
     legal = subst (λ s. AreLegalFrom s nothing found) (sym shape_same) legal;
@@ -302,7 +305,20 @@ module _ {R : Type 0} {form : Encoding R} {keeps : Type 0} {states : List State}
   }
 
   pub opened_as : {D : Type 0} (disk : D) (bytes : List ℕ) (room places : ℕ) (fold : Option FoldOf) → keeps
-      → IsOpened form (bytes_of states) (pen_of states disk told scanned.gate tally bytes room None false places fold)
+      → IsOpened form (bytes_of states)
+      (record {
+        disk = disk;
+        shape = told;
+        frames = frames_read states (log bytes);
+        vector = vector_read states (log bytes);
+        job = None;
+        fold = fold;
+        broken = false;
+        tally = tally;
+        gate = scanned.gate;
+        room = room;
+        places = places;
+      })
       records
   opened_as disk bytes room places fold model =
       let seen = has_seen model in
@@ -316,7 +332,7 @@ module _ {R : Type 0} {form : Encoding R} {keeps : Type 0} {states : List State}
         shape_is = shape_same;
         frames_are = seen.frames_are;
         cells_are =
-            AreCellsOf_read form (vector_before told scanned.gate (bytes_of states)) records seen.vector_is
+            AreCellsOf_read form (vector_read states (log bytes)) records seen.vector_is
             (subst (λ cells. AreReadAs form cells records) (sym seen.vector_is)
             (AreReadAs_same named form (on.image ++ more model) found (map form.bytes_of records) records
             (read_raw named form on.image (more model) found records back on.fits on.scan.vector)

@@ -38,25 +38,32 @@ IsBytes-append front behind first then i = elim (cases_lt i (length front)) [
   | inr ge ↦ (let at = get_or-append_right front behind (length front) i 0 refl ge in let small = then (i - length front) in omega arith)
 ]
 
-module _ {R : Type 0} (form : Encoding R) (keeps keeps' : Type 0) (bytes : List ℕ) (at n : ℕ) (piece : List ℕ)
-    (old new : Scanner R) (taken : HasTaken form keeps bytes at old) (back : keeps' → keeps)
-    (value : keeps' → piece ≡ slice_range bytes at (at + n)) (fed : IsFed form (taken.image ++ piece) new) where
+-- What the feeding of one piece more knows.
+pub record FedMore {R : Type 0} (form : Encoding R) (keeps keeps' : Type 0) (bytes : List ℕ) (at n : ℕ) (piece : List ℕ) (old new : Scanner R) : Type 0 where
+  pub taken : HasTaken form keeps bytes at old
+  pub back : keeps' → keeps
+  pub value : keeps' → piece ≡ slice_range bytes at (at + n)
+  pub fed : IsFed form (taken.image ++ piece) new
+
+module _ {R : Type 0} {form : Encoding R} {keeps keeps' : Type 0} {bytes : List ℕ} {at n : ℕ} {piece : List ℕ}
+    {old new : Scanner R} (one : FedMore form keeps keeps' bytes at n piece old new) where
   abbrev image : List ℕ
-  image = taken.image ++ piece
+  image = one.taken.image ++ piece
 
   joined : keeps' → image ≡ take (at + n) bytes
   joined model =
-      ap (λ (bs : List ℕ). bs ++ piece) (taken.is (back model)) ∙ ap (λ (bs : List ℕ). take at bytes ++ bs) (value model)
+      ap (λ (bs : List ℕ). bs ++ piece) (one.taken.is (one.back model))
+      ∙ ap (λ (bs : List ℕ). take at bytes ++ bs) (one.value model)
       ∙ next_part [] bytes at n
 
   -- what is taken in behind one piece more
   pub taken_more : length piece ≡ n → at + n < 2 ^ 64 → IsBytes piece → HasTaken form keeps' bytes (at + n) new
   taken_more size short fits = record {
     image = image;
-    size = omega (arith, length-append taken.image piece, taken.size);
+    size = omega (arith, length-append one.taken.image piece, one.taken.size);
     short = short;
-    fits = IsBytes-append taken.image piece taken.fits fits;
-    fed = fed;
+    fits = IsBytes-append one.taken.image piece one.taken.fits fits;
+    fed = one.fed;
     is = joined;
   }
 
@@ -64,7 +71,7 @@ module _ {R : Type 0} (form : Encoding R) (keeps keeps' : Type 0) (bytes : List 
   pub lost_behind : keeps' → IsLost new → (more : List ℕ) → IsRefused form (take (at + n) bytes ++ more) Memory
   lost_behind model lost more =
       subst (λ (bs : List ℕ). IsRefused form (bs ++ more) Memory) (joined model)
-      (fed_at form image new (stages.Refused Memory) lost fed more)
+      (fed_at form image new (stages.Refused Memory) lost one.fed more)
 
 -- the same of all that was taken in
 pub lost_here : {R : Type 0} (form : Encoding R) (image : List ℕ) (scanner : Scanner R) → IsFed form image scanner

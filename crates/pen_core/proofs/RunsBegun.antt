@@ -35,7 +35,7 @@ use Rattle.pen_core.specs.Vectors.{frame_at}
 use Rattle.pen_core.specs.Inside.{job_of}
 use Rattle.pen_core.proofs.Begins.{no_step}
 use Rattle.pen_core.specs.declared.pen.Pen.TheInside.{Inside}
-use Rattle.pen_core.specs.Fields.{IsSound}
+use Rattle.pen_core.specs.Fields.{IsSoundPen}
 use Rattle.pen_core.proofs.FrameBegun.{Begins, begun_frame}
 use Rattle.pen_core.specs.InHand.{fold_of}
 
@@ -131,50 +131,9 @@ runs_again : (runs : List (ℕ × ℕ)) → map (λ run. (run.start, run.count))
 runs_again [] = refl
 runs_again (run ∷ runs) = ap (λ rs. (run.0, run.1) ∷ rs) (runs_again runs)
 
-module _ {R : Type 0} (form : Encoding R) {shape : Shape} {gate : ℕ} {tally : Tally} {runs : List Run}
-    (pieces : List (List R)) (wide : 1 ≤ shape.width) (short : tally.size ≤ 2 ^ 32) (width : form.width ≡ shape.width)
-    (size_of : (r : R) → length (form.bytes_of r) ≡ form.width)
-    (some : 0 < length runs) (filled : length (joined pieces) ≡ records_of_runs runs) {broken busy : Bool}
-    (allowed : Allows broken busy shape gate tally runs) where
-  abbrev frame : Frame
-  frame = change_frame form runs pieces
-
-  payload : length (payload_of shape.format frame) ≡ change_len shape runs
-  payload = length-change_frame shape.format form runs pieces size_of filled ∙ ap (λ w. change_len (record { format = shape.format; width = w }) runs) width
-
-  pub change_framed : IsFrame shape frame
-  change_framed =
-      let limit = limit_small shape.format in
-      let fits = allowed.fits in
-      let least = mul-le (records_of_runs runs) 1 (records_of_runs runs) shape.width (omega arith) wide in
-      record {
-        wide = omega arith;
-        small = omega (arith, payload);
-        layout = (
-          allowed.young shape.format refl some,
-          are_runs tally.size runs short (omega arith) allowed.each allowed.inside,
-          length-flat_map_bytes form (joined pieces) size_of ∙ ap (λ n. n * form.width) filled ∙ ap (λ w. records_of_runs runs * w) width,
-        );
-      }
-
-  pub change_follows : MayFollow tally frame
-  change_follows =
-      record {
-        ordered = not_from_true (are_ascending 0 runs) allowed.ordered;
-        inside = not_from_true (are_inside tally.size runs) allowed.inside;
-        folded = refl;
-        counted = refl;
-        short = refl;
-      }
-
-  pub change_text_len : length (frame_text shape.format frame) ≡ 6 + change_len shape runs
-  change_text_len = length-frame_text shape.format frame ∙ ap (λ n. 6 + n) payload
-
--- ---- begun
-
 -- What a change is begun from.
 pub record Changes {R D : Type 0} (form : Encoding R) (keeps : D → Type 0) (states : D → List State) (pen then : Inside D) (runs : List (ℕ × ℕ)) (pieces : List (List R)) : Type 0 where
-  pub sound : IsSound keeps states pen
+  pub sound : IsSoundPen keeps states pen
   pub reads : (disk : D) → keeps disk → IsImage (now (states disk)) (bytes_of (states disk))
   pub space : pen.gate + (6 + change_len pen.shape (runs_given runs)) + fold_len (fold_of pen.fold) < 2 ^ 48
   pub allowed : Allows pen.broken (is_some (job_of pen.shape pen.bytes.items pen.step)) pen.shape pen.gate pen.tally (runs_given runs)
@@ -193,29 +152,65 @@ module _ {R D : Type 0} {form : Encoding R} {keeps : D → Type 0} {states : D �
   abbrev given : List Run
   given = runs_given runs
 
+  abbrev frame : Frame
+  frame = change_frame form given pieces
+
   counted : 0 < length given
   counted = let some = changes.some in omega (arith, length-runs_given runs)
 
-  pub change_begins : Begins keeps states pen then (change_frame form given pieces)
-  change_begins =
+  payload : length (payload_of pen.shape.format frame) ≡ change_len pen.shape given
+  payload =
+      length-change_frame pen.shape.format form given pieces changes.size_of changes.filled
+      ∙ ap (λ w. change_len (record { format = pen.shape.format; width = w }) given) changes.width
+
+  change_framed : IsFrame pen.shape frame
+  change_framed =
+      let allowed = changes.allowed in
       let wide = changes.sound.job.wide.0 in
       let short = changes.sound.job.size_fits in
+      let some = counted in
+      let width = changes.width in
+      let limit = limit_small pen.shape.format in
+      let fits = allowed.fits in
+      let least = mul-le (records_of_runs given) 1 (records_of_runs given) pen.shape.width (omega arith) wide in
       record {
-        sound = changes.sound;
-        going = changes.allowed.whole;
-        idle = no_step pen.shape pen.bytes.items pen.step changes.allowed.idle;
-        reads = changes.reads;
-        spelled = changes.spelled;
-        framed = change_framed form pieces wide short changes.width changes.size_of counted changes.filled changes.allowed;
-        follows = change_follows form pieces wide short changes.width changes.size_of counted changes.filled changes.allowed;
-        counted = changes.next_is;
-        no_fold = λ count is. absurd cc;
-        room =
-            let space = changes.space in
-            omega (arith, change_text_len form pieces wide short changes.width changes.size_of counted changes.filled changes.allowed);
-        homes_more = ap (λ v. v.items) changes.homes_same ∙ sym (append-nil pen.homes.homes.items);
-        runs_more = changes.runs_more ∙ ap (λ rs. pen.homes.live.items ++ rs) (sym (runs_again runs));
+        wide = omega arith;
+        small = omega (arith, payload);
+        layout = (
+          allowed.young pen.shape.format refl some,
+          are_runs pen.tally.size given short (omega arith) allowed.each allowed.inside,
+          length-flat_map_bytes form (joined pieces) changes.size_of ∙ ap (λ n. n * form.width) changes.filled
+              ∙ ap (λ w. records_of_runs given * w) width,
+        );
       }
+
+  change_follows : MayFollow pen.tally frame
+  change_follows = record {
+    ordered = not_from_true (are_ascending 0 given) changes.allowed.ordered;
+    inside = not_from_true (are_inside pen.tally.size given) changes.allowed.inside;
+    folded = refl;
+    counted = refl;
+    short = refl;
+  }
+
+  change_text_len : length (frame_text pen.shape.format frame) ≡ 6 + change_len pen.shape given
+  change_text_len = length-frame_text pen.shape.format frame ∙ ap (λ n. 6 + n) payload
+
+  pub change_begins : Begins keeps states pen then frame
+  change_begins = record {
+    sound = changes.sound;
+    going = changes.allowed.whole;
+    idle = no_step pen.shape pen.bytes.items pen.step changes.allowed.idle;
+    reads = changes.reads;
+    spelled = changes.spelled;
+    framed = change_framed;
+    follows = change_follows;
+    counted = changes.next_is;
+    no_fold = λ count is. absurd cc;
+    room = let space = changes.space in omega (arith, change_text_len);
+    homes_more = ap (λ v. v.items) changes.homes_same ∙ sym (append-nil pen.homes.homes.items);
+    runs_more = changes.runs_more ∙ ap (λ rs. pen.homes.live.items ++ rs) (sym (runs_again runs));
+  }
 
   -- the records behind it are those with the runs replaced
   pub change_tells : (vector : List (List ℕ)) (records : List R) → AreCellsOf form vector records

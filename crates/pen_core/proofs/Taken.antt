@@ -1,9 +1,8 @@
 -- A fold is begun, on a pen's fields.
-use Rattle.std.proofs.Common.{◌≡◌, ℕ, ◌+◌, ◌-◌, ◌≤◌, ◌<◌, Bool, true, List, [], ◌∷◌, ◌++◌, length, map, take, drop, All, Option, Some, None, refl, sym, ap, subst, ◌∙◌, arith}
+use Rattle.std.proofs.Common.{◌≡◌, ℕ, ◌+◌, ◌-◌, ◌≤◌, ◌<◌, true, List, [], ◌∷◌, ◌++◌, length, map, take, drop, All, Option, Some, None, refl, sym, ap, subst, ◌∙◌, arith}
 use Rattle.std.specs.List.{flat_map}
 use Rattle.std.proofs.lemmas.List.{length-append, length-map, take-append-le, append-nil}
 use Rattle.disk_core.specs.State.{State, now}
-use Rattle.disk_core.specs.Calls.{bytes_of}
 use Rattle.record_core.specs.Bytes.{Encoding}
 use Rattle.segment_core.specs.declared.format.Shape.{Shape}
 use Rattle.segment_core.specs.declared.found.Home as Home_
@@ -13,9 +12,8 @@ use Rattle.segment_core.specs.Frame as kinds
 use Rattle.segment_core.specs.Reading.{Seen}
 use Rattle.segment_core.specs.Found.{pairs_of, live_of}
 use Rattle.segment_core.specs.Raw.{after_frame}
-use Rattle.segment_core.specs.Parsed.{vector_before}
 use Rattle.pen_core.specs.declared.pen.Pen.TheInside.{Inside}
-use Rattle.pen_core.specs.Fields.{seen_as, vector_read, IsSound}
+use Rattle.pen_core.specs.Fields.{log_of, seen_as, IsSoundPen}
 use Rattle.pen_core.specs.declared.fold.Fold.{Fold}
 use Rattle.pen_core.specs.declared.step.Step.{Step}
 use Rattle.pen_core.specs.declared.step.Step.TheVariants.{Body, BodySync, Gate, GateSync}
@@ -23,13 +21,14 @@ use Rattle.pen_core.specs.declared.stage.FoldStage.{FoldStage}
 use Rattle.pen_core.specs.declared.stage.FoldStage.TheVariants.{Home, Sync, Ready, Filed}
 use Rattle.pen_core.specs.declared.stage.FoldStage.TheVariants as stages
 use Rattle.pen_core.specs.Known.{PendingIsFolded, IsFileOf, IsWritten}
-use Rattle.pen_core.specs.Vectors.{frame_at, blanked_before, frames_with}
+use Rattle.pen_core.specs.PenLog.{PenLog, frames_read, vector_read}
+use Rattle.pen_core.specs.Vectors.{frame_at, frames_with}
 use Rattle.pen_core.specs.Plan.{IsPlan}
 use Rattle.pen_core.specs.Values.{write_for}
 use Rattle.pen_core.specs.Folds.{IsFolding, IsWholeFold}
-use Rattle.pen_core.specs.InHand.{write_of, left_of, in_stage, gate_then, IsAtStage, HomesAt, IsFold}
+use Rattle.pen_core.specs.InHand.{write_of, left_of, in_stage, gate_then, IsAtStage, HomesAt, HasFold}
 use Rattle.pen_core.specs.Inside.{job_of, IsMaybeJob, IsAtStep, Stands, IsPen}
-use Rattle.pen_core.specs.Listed.{IsListed}
+use Rattle.pen_core.specs.Listed.{HasLists}
 use Rattle.pen_core.specs.PenOf.{FoldOf}
 use Rattle.pen_core.specs.Pen.{open_count, job_len, IsReadyToFold}
 use Rattle.pen_core.proofs.Begun.{nothing_folded}
@@ -88,31 +87,28 @@ stands_more shape count gate frames vector bytes (Some step) s at =
     let frame = frame_at shape bytes in
     step_more shape count gate frames (frames_with frames frame) (after_frame shape.width vector frame) bytes step s at
 
-pub pen_more : (count : ℕ) (keeps : Type 0) (states : List State) (shape : Shape) (gate : ℕ) (tally next : Tally)
-    (bytes : List ℕ) (o : Option Step) (broken : Bool)
-    → IsPen 0 keeps states shape gate tally next bytes o broken
-    → IsPen count keeps states shape gate tally next bytes o broken
-pen_more count keeps states shape gate tally next bytes o broken pen =
-    let frames = blanked_before shape gate (bytes_of states) in
-    let vector = vector_before shape gate (bytes_of states) in
-    record {
-      wide = pen.wide;
-      gate_fits = pen.gate_fits;
-      size_fits = pen.size_fits;
-      changes_fit = pen.changes_fit;
-      folded_counted = pen.folded_counted;
-      job = pen.job;
-      knows = λ model. (
-          let k = pen.knows model in
-          record {
-            gate_is = k.gate_is;
-            tally_is = k.tally_is;
-            file = file_more shape count frames vector (now states) k.file;
-            images_open = k.images_open;
-            gate_pending = k.gate_pending;
-            stands = λ whole. stands_more shape count gate frames vector bytes o (now states) (k.stands whole);
-          });
-    }
+pub pen_more : (count : ℕ) {keeps : Type 0} {states : List State} {log : PenLog} {next : Tally} → IsPen 0 keeps states log next
+    → IsPen count keeps states log next
+pen_more count {states = states} {log = log} pen = record {
+  wide = pen.wide;
+  gate_fits = pen.gate_fits;
+  size_fits = pen.size_fits;
+  changes_fit = pen.changes_fit;
+  folded_counted = pen.folded_counted;
+  job = pen.job;
+  knows = λ model. (
+      let k = pen.knows model in
+      let frames : List Frame = frames_read states log in
+      let vector : List (List ℕ) = vector_read states log in
+      record {
+        gate_is = k.gate_is;
+        tally_is = k.tally_is;
+        file = file_more log.shape count frames vector (now states) k.file;
+        images_open = k.images_open;
+        gate_pending = k.gate_pending;
+        stands = λ whole. stands_more log.shape count log.gate frames vector log.bytes log.step (now states) (k.stands whole);
+      });
+}
 
 take_whole : {A : Type 0} (xs : List A) (n : ℕ) → n ≡ length xs → take n xs ≡ xs
 take_whole xs n is = ap (λ ys. take n ys) (sym (append-nil xs)) ∙ take-append-le n xs [] (omega arith) ∙ all xs n is
@@ -161,12 +157,12 @@ length_left fold first = let long = left_long fold in omega arith
 
 -- What a fold is begun from.
 pub record Takes {R D : Type 0} (form : Encoding R) (records : List R) (keeps : D → Type 0) (states : D → List State) (pen : Inside D) (fold : Fold) : Type 0 where
-  pub sound : IsSound keeps states pen
+  pub sound : IsSoundPen keeps states pen
   pub ready : IsReadyToFold (seen_as states pen) true
   pub plan : IsPlan form records pen.shape.width pen.tally.size (take pen.live pen.homes.live.items) pen.homes.homes.items fold
   pub size_of : (r : R) → length (form.bytes_of r) ≡ pen.shape.width
   pub all : length records ≡ pen.tally.size
-  pub values : keeps pen.disk → vector_read states pen ≡ map form.bytes_of records
+  pub values : keeps pen.disk → vector_read (states pen.disk) (log_of pen) ≡ map form.bytes_of records
   pub spelled : fold.frame.items ≡ frame_text pen.shape.format (kinds.Fold pen.tally.changes) ++ 0 ∷ []
   pub at : fold.stage ≡ Home (length fold.writes.items)
   pub count_is : fold.count ≡ pen.tally.changes
@@ -181,13 +177,19 @@ module _ {R D : Type 0} {form : Encoding R} {records : List R} {keeps : D → Ty
   none : pen.fold.stage ≡ stages.None
   none = unseen_at pen.fold.stage (record { count = pen.fold.count; left = left_of pen.fold; stage = pen.fold.stage }) takes.ready.1
 
-  closed : IsPen 0 (keeps pen.disk) old pen.shape pen.gate pen.tally pen.next pen.bytes.items pen.step pen.broken
-  closed = subst (λ st. IsPen (open_count st pen.fold.count) (keeps pen.disk) old pen.shape pen.gate pen.tally pen.next pen.bytes.items pen.step pen.broken) none takes.sound.job
+  abbrev frames : List Frame
+  frames = frames_read old (log_of pen)
 
-  pen_taken : IsPen (open_count fold.stage fold.count) (keeps pen.disk) old pen.shape pen.gate pen.tally pen.next pen.bytes.items pen.step pen.broken
-  pen_taken = pen_more (open_count fold.stage fold.count) (keeps pen.disk) old pen.shape pen.gate pen.tally pen.next pen.bytes.items pen.step pen.broken closed
+  abbrev vector : List (List ℕ)
+  vector = vector_read old (log_of pen)
 
-  listed_taken : IsListed (keeps pen.disk) old pen.shape pen.gate pen.tally pen.bytes.items pen.step pen.homes pen.live fold
+  closed : IsPen 0 (keeps pen.disk) old (log_of pen) pen.next
+  closed = subst (λ st. IsPen (open_count st pen.fold.count) (keeps pen.disk) old (log_of pen) pen.next) none takes.sound.job
+
+  pen_taken : IsPen (open_count fold.stage fold.count) (keeps pen.disk) old (log_of pen) pen.next
+  pen_taken = pen_more (open_count fold.stage fold.count) closed
+
+  listed_taken : HasLists (keeps pen.disk) old (log_of pen) pen.homes pen.live fold
   listed_taken =
       let counted = live_counted pen.shape takes.sound.lists.frames in
       let lived : List Seen = live_of pen.shape takes.sound.lists.frames in
@@ -211,7 +213,7 @@ module _ {R D : Type 0} {form : Encoding R} {records : List R} {keeps : D → Ty
       let same = ap length takes.plan.writes_are in
       omega (arith, length-map fold.writes.items (write_of fold.bytes.items), length-map takes.plan.runs (write_for form records))
 
-  fold_taken : IsFold (keeps pen.disk) old pen.shape pen.gate pen.tally pen.bytes.items pen.step pen.broken fold
+  fold_taken : HasFold (keeps pen.disk) old (log_of pen) fold
   fold_taken = record {
     counts = subst (IsAtStage pen.shape pen.gate pen.tally pen.bytes.items pen.step fold) (sym takes.at) (
       record {
@@ -227,49 +229,31 @@ module _ {R D : Type 0} {form : Encoding R} {records : List R} {keeps : D → Ty
       omega arith,
       some_writes,
     );
-    homes =
-        λ model whole.
-        subst
-        (HomesAt pen.shape (blanked_before pen.shape pen.gate (bytes_of old)) (vector_before pen.shape pen.gate (bytes_of old)) fold
-        (now old))
-        (sym takes.at)
-        (folding_now model);
+    homes = λ model whole. subst (HomesAt pen.shape frames vector fold (now old)) (sym takes.at) (folding_now model);
   }
     where
-      folding_now : (model : keeps pen.disk)
-          → HomesAt pen.shape (blanked_before pen.shape pen.gate (bytes_of old)) (vector_before pen.shape pen.gate (bytes_of old)) fold
-          (now old) (Home (length fold.writes.items))
+      folding_now : (model : keeps pen.disk) → HomesAt pen.shape frames vector fold (now old) (Home (length fold.writes.items))
       folding_now model =
           let made =
           folding_pen takes.sound.lists takes.plan.cover takes.plan.covered takes.plan.runs
           takes.plan.at_home form records fold.bytes.items fold.writes.items (omega (arith, takes.sound.job.wide.0)) takes.plan.writes_are
           model (closed.knows model).file.holds (takes.values model) in
-          subst
-          (λ n.
-          IsFolding pen.shape n (blanked_before pen.shape pen.gate (bytes_of old)) (vector_before pen.shape pen.gate (bytes_of old))
-          (left_of fold) (now old))
-          (sym takes.count_is)
+          subst (λ n. IsFolding pen.shape n frames vector (left_of fold) (now old)) (sym takes.count_is)
           (subst
           (λ d.
-          IsFolding pen.shape pen.tally.changes (blanked_before pen.shape pen.gate (bytes_of old))
-          (vector_before pen.shape pen.gate (bytes_of old))
-          (map (write_of fold.bytes.items) (drop d fold.writes.items)) (now old))
+          IsFolding pen.shape pen.tally.changes frames vector (map (write_of fold.bytes.items) (drop d fold.writes.items)) (now old))
           (sym takes.first) made)
 
   pub some_left : 0 < length (left_of fold)
   some_left = let some = some_writes in omega (arith, length_left fold takes.first)
 
-  pub pen_takes : IsSound keeps states (record pen { fold = fold })
+  pub pen_takes : IsSoundPen keeps states (record pen { fold = fold })
   pen_takes = record { job = pen_taken; lists = listed_taken; fold = fold_taken }
 
   -- where the disk keeps the model
-  pub whole_taken : keeps pen.disk → IsWholeFold pen.shape (blanked_before pen.shape pen.gate (bytes_of old)) (vector_before pen.shape pen.gate (bytes_of old)) (left_of fold)
+  pub whole_taken : keeps pen.disk → IsWholeFold pen.shape frames vector (left_of fold)
   whole_taken model =
-      subst
-      (λ d.
-      IsWholeFold pen.shape (blanked_before pen.shape pen.gate (bytes_of old)) (vector_before pen.shape pen.gate (bytes_of old))
-      (map (write_of fold.bytes.items) (drop d fold.writes.items)))
-      (sym takes.first)
+      subst (λ d. IsWholeFold pen.shape frames vector (map (write_of fold.bytes.items) (drop d fold.writes.items))) (sym takes.first)
       (whole_pen takes.sound.lists takes.plan.cover takes.plan.covered takes.plan.runs takes.plan.at_home form
       records fold.bytes.items fold.writes.items (omega (arith, takes.sound.job.wide.0)) takes.plan.writes_are model
       (closed.knows model).file.holds (takes.values model))

@@ -1,13 +1,12 @@
 -- What is known of a pen's disk between two calls, and what a call of the log leaves of the bytes and the counts.
-use Rattle.std.proofs.Common.{◌≡◌, ℕ, ◌+◌, ◌≤◌, ◌<◌, ◌⊎◌, inl, ◌^◌, Bool, true, List, [], ◌∷◌, length, sum, Option, None, refl, sym, ap, subst, ◌∙◌, arith}
+use Rattle.std.proofs.Common.{◌≡◌, ℕ, ◌+◌, ◌≤◌, ◌<◌, ◌⊎◌, inl, ◌^◌, true, List, [], ◌∷◌, length, sum, None, refl, sym, ap, subst, ◌∙◌, arith}
 use Rattle.std.proofs.lemmas.Bool.{ltb-false, or_parts}
-use Rattle.std.specs.Prelude.{nat_lt, vec_capacity}
-use Rattle.disk_core.specs.State.{State, now, overlay}
+use Rattle.std.specs.Prelude.{nat_lt}
+use Rattle.disk_core.specs.State.{State, overlay}
 use Rattle.disk_core.proofs.ImageLemmas.{length-overlay, get_or-overlay}
 use Rattle.disk_core.specs.Calls.{bytes_of}
 use Rattle.disk_core.specs.Moments.{LeavesOnly}
 use Rattle.disk_core.proofs.JoinedMoments.{LeavesOnly-start}
-use Rattle.segment_core.specs.declared.format.Shape.{Shape}
 use Rattle.segment_core.specs.declared.tally.Tally.{Tally}
 use Rattle.segment_core.specs.Frame.{Frame, Group, Change, Shrink, frame_text}
 use Rattle.segment_core.specs.Frame as kinds
@@ -16,18 +15,16 @@ use Rattle.pen_core.specs.declared.step.Step.{Step}
 use Rattle.pen_core.specs.declared.step.Step.TheVariants.{Body, BodySync, Gate, GateSync}
 use Rattle.pen_core.specs.Step.{step_after, body_of, Calls}
 use Rattle.pen_core.specs.Held.{IsBeingFolded}
-use Rattle.pen_core.specs.Vectors.{blanked_before}
-use Rattle.segment_core.specs.Parsed.{vector_before}
-use Rattle.pen_core.specs.declared.fold.Fold.{Fold}
+use Rattle.pen_core.specs.PenLog.{PenLog, frames_read, vector_read}
 use Rattle.pen_core.specs.declared.stage.FoldStage.{FoldStage}
 use Rattle.pen_core.specs.declared.stage.FoldStage.TheVariants.{Home, Sync, Ready, Filed}
 use Rattle.pen_core.specs.declared.stage.FoldStage.TheVariants as stages
 use Rattle.pen_core.specs.PenOf.{FoldOf}
-use Rattle.pen_core.specs.InHand.{in_stage, fold_of, left_of}
-use Rattle.pen_core.specs.Fields.{seen_as, IsSound}
+use Rattle.pen_core.specs.InHand.{in_stage, left_of}
+use Rattle.pen_core.specs.Fields.{log_of, seen_as, IsSoundPen}
 use Rattle.pen_core.specs.declared.pen.Pen.TheInside.{Inside}
 use Rattle.pen_core.specs.Pen.{MayOpen, MayBeOpening, IsBrokenBy, open_count, fold_count, IsKept}
-use Rattle.pen_core.specs.Inside.{job_of, pen_of, IsPen}
+use Rattle.pen_core.specs.Inside.{job_in}
 use Rattle.pen_core.proofs.Folds.{LaidAlike}
 use Rattle.pen_core.proofs.Pens.{held_size, told_pending}
 
@@ -41,38 +38,26 @@ fold_count_is Sync fold at = ap (λ st. open_count st fold.count) at
 fold_count_is Ready fold at = ap (λ st. open_count st fold.count) at
 fold_count_is Filed fold at = ap (λ st. open_count st fold.count) at
 
-module _ (fold : Fold) (keeps : Type 0) (states : List State) (shape : Shape) (gate : ℕ) (tally next : Tally)
-    (bytes : List ℕ) (o : Option Step) (broken : Bool)
-    (pen : IsPen (open_count fold.stage fold.count) keeps states shape gate tally next bytes o broken) (model : keeps) where
-  pub pen_kept : {D : Type 0} (disk : D) (room : ℕ) → {places : ℕ}
-      → IsKept states (pen_of states disk shape gate tally bytes room o broken places (fold_of fold))
-  pen_kept disk room =
-      let knows = pen.knows model in
+module _ {D : Type 0} {keeps : D → Type 0} {states : D → List State} {pen : Inside D} (sound : IsSoundPen keeps states pen) (model : keeps pen.disk) where
+  pub sound_kept : IsKept (states pen.disk) (seen_as states pen)
+  sound_kept =
+      let knows = sound.job.knows model in
+      let seen : FoldOf = record { count = pen.fold.count; left = left_of pen.fold; stage = pen.fold.stage } in
       record {
         images_open = knows.images_open;
-        pending_is_told =
-            λ j is.
+        pending_is_told = λ j is.
             subst
-            (λ n. (gate < j)
-            ⊎ (((j ≡ gate) × MayBeOpening (job_of shape bytes o))
-            ⊎ IsBeingFolded shape n (blanked_before shape gate (bytes_of states)) j))
-            (sym
-            (fold_count_is fold.stage (record { count = fold.count; left = left_of fold; stage = fold.stage }) refl))
-            (told_pending shape gate tally (blanked_before shape gate (bytes_of states))
-            (vector_before shape gate (bytes_of states)) bytes o broken (now states) knows j is);
+            (λ n. (pen.gate < j)
+            ⊎ (((j ≡ pen.gate) × MayBeOpening (job_in (log_of pen)))
+            ⊎ IsBeingFolded pen.shape n (frames_read (states pen.disk) (log_of pen)) j))
+            (sym (fold_count_is pen.fold.stage seen refl)) (told_pending knows j is);
         gate_is = knows.gate_is;
         tally_is = knows.tally_is;
         size_is =
             ap (λ t. t.size) knows.tally_is
-            ∙ held_size shape (blanked_before shape gate (bytes_of states)) (vector_before shape gate (bytes_of states))
-            (bytes_of states) knows.file.holds;
+            ∙ held_size pen.shape (frames_read (states pen.disk) (log_of pen)) (vector_read (states pen.disk) (log_of pen))
+            (bytes_of (states pen.disk)) knows.file.holds;
       }
-
-module _ {D : Type 0} {keeps : D → Type 0} {states : D → List State} {pen : Inside D} (sound : IsSound keeps states pen) (model : keeps pen.disk) where
-  pub sound_kept : IsKept (states pen.disk) (seen_as states pen)
-  sound_kept =
-      pen_kept pen.fold (keeps pen.disk) (states pen.disk) pen.shape pen.gate pen.tally pen.next pen.bytes.items pen.step pen.broken
-      sound.job model pen.disk (vec_capacity pen.bytes)
 
   -- where no call is made
   pub sound_idle : LeavesOnly (states pen.disk) (states pen.disk) (MayOpen (seen_as states pen))
@@ -146,6 +131,6 @@ last_step BodySync is = absurd cc
 last_step Gate is = absurd cc
 last_step GateSync is = refl
 
-pub record FileStays (shape : Shape) (gate : ℕ) (states new : List State) : Type 0 where
-  pub frames_same : blanked_before shape gate (bytes_of new) ≡ blanked_before shape gate (bytes_of states)
-  pub vector_same : vector_before shape gate (bytes_of new) ≡ vector_before shape gate (bytes_of states)
+pub record FileStays (states new : List State) (log : PenLog) : Type 0 where
+  pub frames_same : frames_read new log ≡ frames_read states log
+  pub vector_same : vector_read new log ≡ vector_read states log

@@ -3,14 +3,12 @@ use Rattle.std.specs.Prelude.{◌≡◌, ℕ, ◌+◌, ◌-◌, ◌<◌, ◌≤�
 use Rattle.std.specs.List.{AllByRecursion}
 use Rattle.std.specs.Option.{is_some}
 use Rattle.disk_core.specs.State.{State, now}
-use Rattle.disk_core.specs.Calls.{bytes_of}
 use Rattle.disk_core.specs.declared.fault.DiskFault.{DiskFault}
 use Rattle.disk_core.specs.declared.fault.DiskFault.TheVariants as disk_faults
 use Rattle.segment_core.specs.declared.format.Shape.{Shape}
 use Rattle.segment_core.specs.declared.tally.Tally.{Tally}
 use Rattle.segment_core.specs.Frame.{Frame, frame_text}
 use Rattle.segment_core.specs.Frame as frames
-use Rattle.segment_core.specs.Parsed.{vector_before}
 use Rattle.pen_core.specs.declared.fold.Fold.{Fold}
 use Rattle.pen_core.specs.declared.fold.Write.{Write}
 use Rattle.pen_core.specs.declared.step.Step.{Step}
@@ -20,7 +18,8 @@ use Rattle.pen_core.specs.declared.stage.FoldStage.TheVariants as stages
 use Rattle.pen_core.specs.Call.{Call, Makes, Fails, cause_of}
 use Rattle.pen_core.specs.Call as calls
 use Rattle.pen_core.specs.PenOf.{FoldOf, HomeWrite}
-use Rattle.pen_core.specs.Vectors.{frame_at, blanked_before}
+use Rattle.pen_core.specs.PenLog.{PenLog, frames_read, vector_read}
+use Rattle.pen_core.specs.Vectors.{frame_at}
 use Rattle.pen_core.specs.Folds.{IsFolding}
 
 -- ---- what a fold is seen as
@@ -191,13 +190,11 @@ HomesAt shape fs vector fold s Sync = IsFolding shape fold.count fs vector (left
 HomesAt shape fs vector fold s Ready = IsFolding shape fold.count fs vector (left_of fold) s
 HomesAt shape fs vector fold s Filed = Unit {0}
 
-pub record IsFold (keeps : Type 0) (states : List State) (shape : Shape) (gate : ℕ) (tally : Tally) (bytes : List ℕ)
-    (step : Option Step) (broken : Bool) (fold : Fold) : Type 0 where
-  pub counts : IsAtStage shape gate tally bytes step fold fold.stage
+pub record HasFold (keeps : Type 0) (states : List State) (log : PenLog) (fold : Fold) : Type 0 where
+  pub counts : IsAtStage log.shape log.gate log.tally log.bytes log.step fold fold.stage
   -- until a call fails
-  pub homes : keeps → broken ≡ false
-      → HomesAt shape (blanked_before shape gate (bytes_of states)) (vector_before shape gate (bytes_of states)) fold
-      (now states) fold.stage
+  pub homes : keeps → log.broken ≡ false
+      → HomesAt log.shape (frames_read states log) (vector_read states log) fold (now states) fold.stage
 
 -- ---- the end of a fold, where its frame was the job
 

@@ -1,7 +1,6 @@
 -- A pen by its fields.
-use Rattle.std.specs.Prelude.{◌≡◌, ◌≢◌, ℕ, ◌+◌, ◌-◌, ◌<◌, ◌≤◌, ◌^◌, List, [], ◌∷◌, ◌++◌, length, Option, Some, None, Bool, true, false, slice_index}
+use Rattle.std.specs.Prelude.{◌≡◌, ◌≢◌, ℕ, ◌+◌, ◌-◌, ◌<◌, ◌≤◌, ◌^◌, List, [], ◌∷◌, ◌++◌, length, Option, Some, None, true, false, slice_index}
 use Rattle.disk_core.specs.State.{State, now, IsImage, is_within, overlay}
-use Rattle.disk_core.specs.Calls.{bytes_of}
 use Rattle.segment_core.specs.declared.format.Shape.{Shape}
 use Rattle.segment_core.specs.declared.tally.Tally.{Tally}
 use Rattle.segment_core.specs.Frame.{Frame, frame_text}
@@ -12,32 +11,18 @@ use Rattle.pen_core.specs.declared.step.Step.TheVariants.{Body, BodySync, Gate, 
 use Rattle.pen_core.specs.Step.{body_of}
 use Rattle.pen_core.specs.Held.{HoldsFrames, gate_of}
 use Rattle.pen_core.specs.Known.{PendingIsFolded, IsFileOf, IsShut, IsWritten, IsOnDisk}
-use Rattle.pen_core.specs.Vectors.{frame_at, blanked_before, frames_with}
+use Rattle.pen_core.specs.Vectors.{frame_at, frames_with}
 use Rattle.segment_core.specs.Raw.{after_frame}
-use Rattle.segment_core.specs.Parsed.{vector_before}
-use Rattle.pen_core.specs.PenOf.{PenOf, JobOf, FoldOf}
+use Rattle.pen_core.specs.PenLog.{PenLog, frames_read, vector_read}
+use Rattle.pen_core.specs.PenOf.{JobOf}
 use Rattle.pen_core.specs.Pen.{OpensWith, MayBeOpening}
 
 abbrev pub job_of : Shape → List ℕ → Option Step → Option JobOf
 job_of shape bytes None = None
 job_of shape bytes (Some step) = Some (record { frame = frame_at shape bytes; step = step })
 
--- The frames and the vector are those that a read gives, cut at the gate.
-abbrev pub pen_of : {D : Type 0} → List State → D → Shape → ℕ → Tally → List ℕ → ℕ → Option Step → Bool → ℕ → Option FoldOf
-    → PenOf D
-pen_of states disk shape gate tally bytes room step broken places fold = record {
-  disk = disk;
-  shape = shape;
-  frames = blanked_before shape gate (bytes_of states);
-  vector = vector_before shape gate (bytes_of states);
-  job = job_of shape bytes step;
-  fold = fold;
-  broken = broken;
-  tally = tally;
-  gate = gate;
-  room = room;
-  places = places;
-}
+abbrev pub job_in : PenLog → Option JobOf
+job_in log = job_of log.shape log.bytes log.step
 
 -- ---- what the pen counts itself
 
@@ -78,25 +63,21 @@ Stands shape count gate frames vector bytes (Some step) s =
     IsAtStep shape count gate frames (frames_with frames frame) (after_frame shape.width vector frame) bytes step s
 
 -- What a pen knows of its disk. The count is that of a fold whose homes may be pending, 0 where there is none.
-pub record Knows (count : ℕ) (shape : Shape) (gate : ℕ) (tally : Tally) (frames : List Frame) (vector : List (List ℕ))
-    (bytes : List ℕ) (step : Option Step) (broken : Bool) (s : State) : Type 0 where
-  pub gate_is : gate ≡ gate_of shape frames
-  pub tally_is : tally ≡ tally_of frames
-  pub file : IsFileOf shape count frames vector s
-  pub images_open : (image : List ℕ) → IsImage s image → OpensWith shape frames vector (job_of shape bytes step) image
-  pub gate_pending : is_within s.pending gate ≡ true → MayBeOpening (job_of shape bytes step)
+pub record Knows (count : ℕ) (log : PenLog) (frames : List Frame) (vector : List (List ℕ)) (s : State) : Type 0 where
+  pub gate_is : log.gate ≡ gate_of log.shape frames
+  pub tally_is : log.tally ≡ tally_of frames
+  pub file : IsFileOf log.shape count frames vector s
+  pub images_open : (image : List ℕ) → IsImage s image → OpensWith log.shape frames vector (job_in log) image
+  pub gate_pending : is_within s.pending log.gate ≡ true → MayBeOpening (job_in log)
   -- until a call fails
-  pub stands : broken ≡ false → Stands shape count gate frames vector bytes step s
+  pub stands : log.broken ≡ false → Stands log.shape count log.gate frames vector log.bytes log.step s
 
 -- The invariant.
-pub record IsPen (count : ℕ) (keeps : Type 0) (states : List State) (shape : Shape) (gate : ℕ) (tally next : Tally)
-    (bytes : List ℕ) (step : Option Step) (broken : Bool) : Type 0 where
-  pub wide : (1 ≤ shape.width) × (shape.width < 2 ^ 16)
-  pub gate_fits : gate < 2 ^ 64
-  pub size_fits : tally.size ≤ 2 ^ 32
-  pub changes_fit : tally.changes ≤ gate
-  pub folded_counted : tally.folded ≤ tally.changes
-  pub job : IsMaybeJob shape gate tally next bytes step
-  pub knows : keeps
-      → Knows count shape gate tally (blanked_before shape gate (bytes_of states))
-      (vector_before shape gate (bytes_of states)) bytes step broken (now states)
+pub record IsPen (count : ℕ) (keeps : Type 0) (states : List State) (log : PenLog) (next : Tally) : Type 0 where
+  pub wide : (1 ≤ log.shape.width) × (log.shape.width < 2 ^ 16)
+  pub gate_fits : log.gate < 2 ^ 64
+  pub size_fits : log.tally.size ≤ 2 ^ 32
+  pub changes_fit : log.tally.changes ≤ log.gate
+  pub folded_counted : log.tally.folded ≤ log.tally.changes
+  pub job : IsMaybeJob log.shape log.gate log.tally next log.bytes log.step
+  pub knows : keeps → Knows count log (frames_read states log) (vector_read states log) (now states)

@@ -3,6 +3,7 @@ pub mod Step
 pub mod Held
 pub mod Vectors
 pub mod PenOf
+pub mod PenLog
 pub mod Known
 pub mod Refusals
 pub mod Pen

@@ -3,21 +3,18 @@
 use Rattle.std.specs.Prelude.{◌≡◌, ℕ, ◌+◌, ◌-◌, ◌*◌, List, [], ◌∷◌, ◌++◌, length, map, take, sum, Option, Some, None}
 use Rattle.std.specs.List.{flat_map}
 use Rattle.disk_core.specs.State.{State}
-use Rattle.disk_core.specs.Calls.{bytes_of}
 use Rattle.segment_core.specs.declared.format.Shape.{Shape}
 use Rattle.segment_core.specs.declared.found.Home.{Home}
 use Rattle.segment_core.specs.declared.found.Homes.{Homes}
-use Rattle.segment_core.specs.declared.tally.Tally.{Tally}
 use Rattle.segment_core.specs.Frame.{Frame, Group, Change, Shrink}
 use Rattle.segment_core.specs.Frame as kinds
 use Rattle.segment_core.specs.Tally.{tally_of, AreLegal}
 use Rattle.segment_core.specs.Blanked.{all_blanked}
 use Rattle.segment_core.specs.Found.{AreHomes, pairs_of, live_of}
-use Rattle.pen_core.specs.declared.step.Step.{Step}
 use Rattle.pen_core.specs.declared.fold.Fold.{Fold}
 use Rattle.pen_core.specs.declared.stage.FoldStage.TheVariants.{Filed}
 use Rattle.pen_core.specs.Held.{gate_of}
-use Rattle.pen_core.specs.Vectors.{blanked_before}
+use Rattle.pen_core.specs.PenLog.{PenLog, frames_read}
 use Rattle.pen_core.specs.InHand.{frame_in_hand, IsInHand}
 
 -- what a frame that begins behind a file of so many bytes and records enters among the homes
@@ -56,14 +53,15 @@ pub record Lists (shape : Shape) (frames : List Frame) (ahead : Option Frame) (h
 
 -- What the lists of a pen are, whatever its disk: there are frames which it has committed, and of which they tell.
 -- Where the disk keeps the model, the file has these frames.
-pub record IsListed (keeps : Type 0) (states : List State) (shape : Shape) (gate : ℕ) (tally : Tally) (bytes : List ℕ)
-    (step : Option Step) (homes : Homes) (live : ℕ) (fold : Fold) : Type 0 where
+pub record HasLists (keeps : Type 0) (states : List State) (log : PenLog) (homes : Homes) (live : ℕ) (fold : Fold) : Type 0 where
   pub frames : List Frame
-  pub legal : AreLegal shape frames
-  pub gate_is : gate ≡ gate_of shape frames
-  pub tally_is : tally ≡ tally_of frames
-  pub lists : Lists shape frames (frame_in_hand shape bytes step) homes live
+  pub legal : AreLegal log.shape frames
+  pub gate_is : log.gate ≡ gate_of log.shape frames
+  pub tally_is : log.tally ≡ tally_of frames
+  pub lists : Lists log.shape frames (frame_in_hand log.shape log.bytes log.step) homes live
   -- the frame of a fold is the job of a fold in hand alone
-  pub filed : (count : ℕ) → frame_in_hand shape bytes step ≡ Some (kinds.Fold count) → (fold.stage ≡ Filed) × (count ≡ fold.count)
-  pub runs_are : IsInHand fold.stage → fold.runs ≡ length (flat_map pairs_of (take (fold.count - tally.folded) (live_of shape frames)))
-  pub same : keeps → blanked_before shape gate (bytes_of states) ≡ all_blanked frames
+  pub filed : (count : ℕ) → frame_in_hand log.shape log.bytes log.step ≡ Some (kinds.Fold count)
+      → (fold.stage ≡ Filed) × (count ≡ fold.count)
+  pub runs_are : IsInHand fold.stage
+      → fold.runs ≡ length (flat_map pairs_of (take (fold.count - log.tally.folded) (live_of log.shape frames)))
+  pub same : keeps → frames_read states log ≡ all_blanked frames

@@ -43,11 +43,11 @@ impl<D: Disk> Model for Pen<D> {
 
     ghost Value = { PenOf D };
 
-    ghost use Rattle.pen_core.specs.Fields.{seen_as, IsSound};
+    ghost use Rattle.pen_core.specs.Fields.{seen_as, IsSoundPen};
 
     ghost view = { λ pen. seen_as D.states pen };
 
-    ghost invariant = { λ pen. IsSound D.keeps D.states pen };
+    ghost invariant = { λ pen. IsSoundPen D.keeps D.states pen };
 }
 
 impl<D: Disk> Pen<D> {

@@ -20,7 +20,6 @@ IsPlayRefusal spelling input refusals.InputTooLong = input_limit < length input
 IsPlayRefusal spelling input refusals.Input = Unit {0}
 IsPlayRefusal spelling input refusals.Memory = Unit {0}
 IsPlayRefusal spelling input (refusals.TooLargeAtLine n) = ⊥
-IsPlayRefusal spelling input (refusals.Scan fault) = ⊥
 IsPlayRefusal spelling input refusals.NotHex = ⊥
 
 -- the input's lines ask for a script, and this is what is written for it

@@ -1,6 +1,7 @@
 -- A change as it is written: its runs one by one, and its frame.
-use Rattle.std.proofs.Common.{◌≡◌, ℕ, ◌+◌, ◌*◌, ◌<◌, ◌≤◌, List, [], ◌∷◌, ◌++◌, length, take, get_or, zero, suc, sym, ap, ◌∙◌, append_assoc, arith}
+use Rattle.std.proofs.Common.{◌≡◌, ℕ, ◌+◌, ◌*◌, ◌<◌, ◌≤◌, cond, Result, Ok, Err, OnOk, List, [], ◌∷◌, ◌++◌, length, take, get_or, zero, suc, sym, ap, ◌∙◌, append_assoc, arith}
 use Rattle.std.specs.List.{flat_map}
+use Rattle.std.specs.Prelude.{is_ok}
 use Rattle.std.specs.Int.{w32, to_le_bytes}
 use Rattle.std.proofs.lemmas.List.{length-append, length-map, length-take-le, map_more, flat_map_more}
 use Rattle.record_core.specs.Bytes.{Encoding}
@@ -73,3 +74,10 @@ change_appended format form runs pieces len file headed written done size_of fil
     c ∙ ap (λ (bs : List ℕ). bs ++ bytes) (b ∙ ap (λ (bs : List ℕ). bs ++ text) a)
     ∙ regroup file (1 ∷ 2 ∷ to_le_bytes w32 len) text bytes
     ∙ ap (λ n. file ++ ((1 ∷ 2 ∷ to_le_bytes w32 n) ++ (text ++ bytes))) payload_is
+
+-- a frame whose payload is one number, behind its head
+pub number_appended : {E : Type 0} (r : Result (Unit {0}) E) (file headed new head number : List ℕ) → headed ≡ file ++ head
+    → new ≡ cond (is_ok r) (headed ++ number) headed → OnOk r (new ≡ file ++ (head ++ number))
+number_appended (Ok done) file headed new head number first is =
+    is ∙ ap (λ (bs : List ℕ). bs ++ number) first ∙ append_assoc file head number
+number_appended (Err error) file headed new head number first is = tt

@@ -1,6 +1,6 @@
 -- The fields of a frame, as a reader finds them in the payload.
-use Rattle.std.proofs.Common.{◌≡◌, ℕ, ◌+◌, ◌-◌, ◌*◌, ◌/◌, ◌<◌, ◌≤◌, true, false, List, [], ◌++◌, length, drop, get_or, Option, Some, None, Err, refl, sym, ap, subst, ◌∙◌, append_assoc, arith}
-use Rattle.std.specs.Prelude.{slice_get, sum, MatchOption}
+use Rattle.std.proofs.Common.{◌≡◌, ℕ, ◌+◌, ◌-◌, ◌*◌, ◌/◌, ◌<◌, ◌≤◌, true, false, List, [], ◌∷◌, ◌++◌, length, drop, get_or, Option, Some, None, Ok, Err, refl, sym, ap, subst, ◌∙◌, append_assoc, arith}
+use Rattle.std.specs.Prelude.{slice_get, sum, MatchOption, IfSome, IfNone}
 use Rattle.std.specs.List.{flat_map}
 use Rattle.std.specs.Int.{w32, to_le_bytes}
 use Rattle.std.proofs.lemmas.List.{append-nil, drop_at, length-append}
@@ -17,7 +17,7 @@ use Rattle.segment_core.specs.Frame.{Frame, Group, Change, Shrink, Fold, number_
 use Rattle.segment_core.specs.Kind.{kind_byte}
 use Rattle.segment_core.specs.Layout.{u32_at, count_in, lengths_in, run_count_in, runs_in, frame_in, is_group_layout, is_layout}
 use Rattle.segment_core.specs.Fault.{first_line, frame_lines, is_closed}
-use Rattle.segment_core.specs.Reading.{IsNext, IsRead, IsShort, BeginsWith, lengths_of, runs_of, record_bytes_of, record_count, head_len}
+use Rattle.segment_core.specs.Reading.{Seen, IsNext, IsRead, IsShort, BeginsWith, lengths_of, runs_of, record_bytes_of, record_count, head_len}
 use Rattle.segment_core.proofs.Numbers.{u32_at-drop, length-numbers_in, get_or-numbers_in, length-numbers_text}
 use Rattle.segment_core.proofs.RunRows.{length-runs_text, length-runs_from, run_read, run_read-drop, slice_get-runs_from}
 use Rattle.segment_core.proofs.Lines.{frame_lines-frame_text, is_closed-frame_text}
@@ -142,3 +142,30 @@ pub none_unread : (shape : Shape) (p : ℕ) (bytes : List ℕ) (frame : Frame) (
 none_unread shape p bytes frame Short some next begins = none_where_short shape p bytes frame some next begins
 none_unread shape p bytes frame (Fault fault) some next begins =
     none_where_faulty shape p bytes frame fault (ap (λ (bs : List ℕ). first_line (frame_lines shape p bs)) (sym (append-nil bytes)) ∙ (next []).1) begins
+
+-- ---- the next frame, where its version is known
+
+-- no frame begins where there is no byte
+pub none_without_bytes : (shape : Shape) (bytes : List ℕ) (frame : Frame) → length bytes ≡ 0 → BeginsWith shape bytes frame → ⊥
+none_without_bytes shape [] frame none begins = let clash = begins.text.1 in absurd cc
+none_without_bytes shape (b ∷ bytes) frame none begins = absurd (omega arith)
+
+pub seen_next : (version : ℕ) (shape : Shape) (at : ℕ) (bytes : List ℕ) (frame : Option Seen) → version_of shape.format ≡ version
+    → IsNext shape at bytes (Ok frame)
+    → IfSome frame (λ seen. (version_of seen.shape.format ≡ version) × (seen.at ≡ at) × (seen.shape.width ≡ shape.width)
+    × BeginsWith seen.shape bytes seen.frame)
+seen_next version shape at bytes None known next = tt
+seen_next version shape at bytes (Some seen) known next = (
+  ap (λ s. version_of s.format) next.1 ∙ known,
+  next.0,
+  ap (λ s. s.width) next.1,
+  subst (λ s. BeginsWith s bytes seen.frame) (sym next.1) next.2,
+)
+
+pub none_next : (version : ℕ) (shape : Shape) (at : ℕ) (bytes : List ℕ) (frame : Option Seen) → version_of shape.format ≡ version
+    → IsNext shape at bytes (Ok frame)
+    → IfNone frame ((format : Format) → version_of format ≡ version → (f : Frame)
+    → BeginsWith (record { format = format; width = shape.width }) bytes f → ⊥)
+none_next version shape at bytes None known next = λ format is f begins.
+    none_behind_closed (record { format = format; width = shape.width }) bytes f next begins
+none_next version shape at bytes (Some seen) known next = tt

@@ -59,3 +59,14 @@ module _ (shape : Shape) (w limit told behind rest : ℕ) (wide : 0 < w) (w_is :
       most c w told (behind / full) (behind % full) (rest / w) wide (omega arith) (omega arith) n can.groups
       (omega arith) (subst (λ k. n ≤ can.groups * k) (sym c_is) can.in_groups)
       (subst (λ k. 12 + can.groups * 14 + n * k ≤ told) (sym w_is) can.in_bytes)
+
+-- so many records are no more than the bytes
+pub room_fits : (bytes c w : ℕ) → 0 < w → bytes / (14 + c * w) * c + (bytes % (14 + c * w) - 14) / w ≤ bytes
+room_fits bytes c w wide =
+    let full : ℕ = 14 + c * w in
+    let q : ℕ = bytes / (14 + c * w) in
+    let last : ℕ = (bytes % (14 + c * w) - 14) / w in
+    let each : 1 * c ≤ w * c = mul-le-mul_right c (omega arith) in
+    let groups : c * q ≤ (14 + c * w) * q = mul-le-mul_right q (omega arith) in
+    let rest : 1 * last ≤ w * last = mul-le-mul_right last (omega arith) in
+    omega arith

@@ -9,4 +9,3 @@ pub mod Reading
 pub mod LineLemmas
 pub mod LineGroups
 pub mod GroupLines
-pub mod Drafts

@@ -9,6 +9,4 @@ pub mod GroupLine
 pub mod Words
 pub mod HexLine
 pub mod Refusals
-pub mod Drafts
-pub mod Engines
 pub mod Status

@@ -1,19 +1,11 @@
 -- The names of refusals, and when each of them is right.
-use Rattle.std.specs.Prelude.{◌≡◌, ℕ, ◌+◌, ◌<◌, List, ◌++◌, length, codes, decimal}
-use Rattle.record_core.specs.Bytes.{Encoding}
-use Rattle.segment_core.specs.declared.fault.ImageFault.TheVariants as image_faults
-use Rattle.segment_core.specs.Written.{IsImageRefused}
-use Rattle.segment_core.specs.Fault.{IsRefused}
-use Rattle.segment_core.specs.Names.{scan_name}
+use Rattle.std.specs.Prelude.{ℕ, ◌<◌, List, ◌++◌, length, codes, decimal}
 use Rattle.text_core.specs.declared.refusal.Refusal.{Refusal}
 use Rattle.text_core.specs.declared.refusal.Refusal.TheVariants as refusals
-use Rattle.text_core.specs.GroupLine.{AreGroupLines, IsGroupLine}
 use Rattle.text_core.specs.HexLine.{IsHexLine}
-use Rattle.text_core.specs.Lines.{IsFirstBadLine}
-use Rattle.text_core.specs.Text.{Spelling, ended_line}
+use Rattle.text_core.specs.Text.{ended_line}
 
 abbrev pub name_of : Refusal → List ℕ
-name_of (refusals.Scan fault) = scan_name fault
 name_of (refusals.Line n) = codes "line " ++ decimal n
 name_of (refusals.TooLargeAtLine n) = codes "too large at line " ++ decimal n
 name_of refusals.NotHex = codes "not hex"
@@ -37,21 +29,9 @@ abbrev pub IsInputRefusal : List ℕ → Refusal → Type 0
 IsInputRefusal input refusals.InputTooLong = input_limit < length input
 IsInputRefusal input refusals.Input = Unit {0}
 IsInputRefusal input refusals.Memory = Unit {0}
-IsInputRefusal input (refusals.Scan fault) = ⊥
 IsInputRefusal input (refusals.Line n) = ⊥
 IsInputRefusal input (refusals.TooLargeAtLine n) = ⊥
 IsInputRefusal input refusals.NotHex = ⊥
-
--- an input of group lines was refused
-abbrev pub IsImageRefusal : {R : Type 0} → Encoding R → Spelling R → List ℕ → Refusal → Type 0
-IsImageRefusal form spelling input (refusals.Line n) = IsFirstBadLine (IsGroupLine spelling) input n
-IsImageRefusal {R} form spelling input (refusals.TooLargeAtLine n) =
-    (groups : List (List (List R))) × (k : ℕ) × AreGroupLines spelling input groups × IsImageRefused form.width groups (image_faults.TooLarge k) × (n ≡ k + 1)
-IsImageRefusal form spelling input refusals.InputTooLong = input_limit < length input
-IsImageRefusal form spelling input refusals.Input = Unit {0}
-IsImageRefusal form spelling input refusals.Memory = Unit {0}
-IsImageRefusal form spelling input (refusals.Scan fault) = ⊥
-IsImageRefusal form spelling input refusals.NotHex = ⊥
 
 -- a hex line was refused
 abbrev pub IsHexRefusal : List ℕ → Refusal → Type 0
@@ -61,14 +41,3 @@ IsHexRefusal input refusals.InputTooLong = ⊥
 IsHexRefusal input refusals.Input = ⊥
 IsHexRefusal input (refusals.Line n) = ⊥
 IsHexRefusal input (refusals.TooLargeAtLine n) = ⊥
-IsHexRefusal input (refusals.Scan fault) = ⊥
-
--- an input of hex was refused
-abbrev pub IsShowRefusal : {R : Type 0} → Encoding R → List ℕ → Refusal → Type 0
-IsShowRefusal form input (refusals.Scan fault) = (bytes : List ℕ) × IsHexLine input bytes × IsRefused form bytes fault
-IsShowRefusal form input refusals.NotHex = (bytes : List ℕ) → ¬ (IsHexLine input bytes)
-IsShowRefusal form input refusals.InputTooLong = input_limit < length input
-IsShowRefusal form input refusals.Input = Unit {0}
-IsShowRefusal form input refusals.Memory = Unit {0}
-IsShowRefusal form input (refusals.Line n) = ⊥
-IsShowRefusal form input (refusals.TooLargeAtLine n) = ⊥

@@ -6,7 +6,6 @@ ghost use Rattle.text_core.specs.Refusals.{name_of, refused_line, refusal_line};
 
 use crate::number::write_number;
 use crate::status::Status;
-use segment_core::ScanFault;
 use std::alloc::AllocError;
 use std::fmt::{self, Display};
 use std::io::{self, Write};
@@ -14,8 +13,6 @@ use std::io::{self, Write};
 /// Why an engine refuses.
 #[derive(Clone, Copy, Debug, PartialEq, Eq)]
 pub enum Refusal {
-    /// The image has no vector.
-    Scan(ScanFault),
     /// This line, counted from 1, is the first that isn't of the engine's form.
     Line(u64),
     /// The group of this line, counted from 1, is the first that is larger than a frame may be.
@@ -45,7 +42,6 @@ impl Display for Refusal {
 
     fn fmt<W: fmt::Write>(&self, f: &mut fmt::Formatter<W>) -> fmt::Result {
         let name = match *self {
-            Refusal::Scan(fault) => return Display::fmt(&fault, f),
             Refusal::Line(n) => return write!(f, "line {n}"),
             Refusal::TooLargeAtLine(n) => return write!(f, "too large at line {n}"),
             Refusal::NotHex => "not hex",

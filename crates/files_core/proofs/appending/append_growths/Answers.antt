@@ -1,4 +1,5 @@
 use Rattle.std.proofs.Common.{[], sym, ◌∙◌}
+use Rattle.std.proofs.lemmas.List.{nil_from_length}
 use Rattle.files_core.proofs.Standing.{grows_nowhere, grows_to, stops_by}
 use Rattle.files_core.proofs.appending.append_growths.Goals as goal
 
@@ -9,4 +10,4 @@ pub returns-in-Err-clause-stops : goal.returns-in-Err-clause-stops
 returns-in-Err-clause-stops g c = stops_by g.R.Record.form g.D.Disk.keeps g.D.Disk.states c.args.growths.0 c.args.vault c.in-Err.stopped.0 c.in-Err.stopped.1 c.requires c.in-Err.ensures.stopped
 
 pub returns-then-count-eq0-clause-on : goal.returns-then-count-eq0-clause-on
-returns-then-count-eq0-clause-on g c = ([], grows_nowhere g.R.Record.form g.D.Disk.keeps g.D.Disk.states c.args.vault c.requires, sym c.if-count-eq0.true ∙ c.count.ensures)
+returns-then-count-eq0-clause-on g c = ([], grows_nowhere g.R.Record.form g.D.Disk.keeps g.D.Disk.states c.args.vault c.requires, sym (nil_from_length c.args.growths.0 (sym c.count.ensures ∙ c.if-count-eq0.true)))

@@ -1,5 +1,9 @@
+use Rattle.std.proofs.Common.{ap, subst, ◌∙◌}
+use Rattle.std.specs.Io.KnownBytes.{prepend_known}
 use Rattle.std.specs.NonZero.{non_zero_u32_get}
+use Rattle.files_core.specs.Appending.{HasAppended}
 use Rattle.files_core.proofs.Standing.{appended_ends, sure_settled}
+use Rattle.files_core.proofs.WholeBlocks.{nothing_held}
 use Rattle.files_core.proofs.appending.append_opened.Goals as goal
 
 pub append_all-disk-requires-after_bounds : goal.append_all-disk-requires-after_bounds
@@ -8,6 +12,10 @@ append_all-disk-requires-after_bounds g c κs within =
 
 pub returns-clause-stands : goal.returns-clause-stands
 returns-clause-stands g c disk opened =
-    appended_ends g.R.Record.form g.D.Disk.keeps g.D.Disk.states g.D.Disk.faults (non_zero_u32_get c.args.block)
+    let known = g.I.Read.remaining c.args.reader.now in
+    appended_ends g.R.Record.form g.D.Disk.keeps g.D.Disk.states g.D.Disk.faults g.R.TextRecord.spelling (non_zero_u32_get c.args.block) known
     disk c.append_all-disk.result.0 c.args.vault c.append_all-disk.result.1 opened c.append_all-disk.ensures.model
-    c.append_all-disk.result.2 c.tell_appended.result c.tell_appended.ensures.ends c.append_all-disk.ensures.stands
+    c.append_all-disk.result.2 c.tell_appended.result c.tell_appended.ensures.ends
+    (subst (λ i. HasAppended g.R.Record.form g.D.Disk.keeps g.D.Disk.states g.R.TextRecord.spelling (non_zero_u32_get c.args.block) i c.args.vault
+    c.append_all-disk.result.0 c.append_all-disk.result.1 c.append_all-disk.result.2)
+    (nothing_held known _ c.new-buffer.ensures.items) c.append_all-disk.ensures.stands)

@@ -1,5 +1,5 @@
-use Rattle.std.proofs.Common.{◌≡◌, ◌+◌, ◌++◌, ◌∷◌, [], List, map, take, ℕ, sym, ap, ◌∙◌, append_assoc}
-use Rattle.std.proofs.lemmas.List.{take_more}
+use Rattle.std.proofs.Common.{◌≡◌, ◌≤◌, ◌+◌, ◌++◌, ◌∷◌, [], List, length, map, take, ℕ, sym, ap, ◌∙◌, append_assoc, arith}
+use Rattle.std.proofs.lemmas.List.{take_more, take_all}
 use Rattle.std.proofs.lemmas.Option.{slice_get_within, get_or_from_slice_get}
 use Rattle.segment_core.specs.Frame.{Run}
 use Rattle.segment_core.specs.Reading.{runs_of}
@@ -18,3 +18,9 @@ loop-k-preserved c =
     ∙ ap (λ (ps : List (ℕ × ℕ)). ps ++ c.run.result ∷ []) c.loop-k.invariant
     ∙ append_assoc c.args.runs.now.items (map pair_of (take c.loop-k.k runs)) (c.run.result ∷ [])
     ∙ ap (λ (ps : List (ℕ × ℕ)). c.args.runs.now.items ++ ps) (sym (pairs_more runs c.loop-k.k run more))
+
+pub returns : goal.returns
+returns c =
+    let runs : List Run = runs_of c.args.change.now.frame in
+    let past : length runs ≤ c.loop-k.k = omega (arith, c.runs-k-end.ensures, c.loop-k-test.false) in
+    c.loop-k.invariant ∙ ap (λ rs. c.args.runs.now.items ++ map pair_of rs) (take_all c.loop-k.k runs past)

@@ -1,4 +1,6 @@
-use Rattle.std.proofs.Common.{◌*◌, length, ap, arith}
+use Rattle.std.proofs.Common.{◌*◌, ◌≤◌, length, ap, ◌∙◌, arith}
+use Rattle.std.proofs.lemmas.List.{take_all}
+use Rattle.segment_core.specs.Written.{payload_len}
 use Rattle.segment_core.proofs.Written.{payload_len_more, growth_within, long_growth}
 use Rattle.segment_core.proofs.group.payload_size.Goals as goal
 
@@ -24,3 +26,9 @@ loop-k-preserved g c =
     let product = ap (λ w. length c.growth-records.result.now * w) c.width_of-width.ensures.is in
     let so_far = c.loop-k.invariant.so_far in
     record { so_far = omega arith; small = c.if-len-limit.false }
+
+pub returns : goal.returns
+returns g c =
+    let growths = g.G.GrowthList.growths c.args.group.now in
+    let past : length growths ≤ c.loop-k.k = omega (arith, c.count-k-end.ensures, c.loop-k-test.false) in
+    (c.loop-k.invariant.so_far ∙ ap (payload_len g.R.Record.form.width) (take_all c.loop-k.k growths past), c.loop-k.invariant.small)

@@ -1,12 +1,16 @@
-use Rattle.std.proofs.Common.{Err, None, false, inl, inr, refl, ap, arith}
+use Rattle.std.proofs.Common.{ℕ, List, Err, None, false, inl, inr, refl, ap, arith}
 use Rattle.segment_core.specs.declared.format.Shape.{Shape}
 use Rattle.segment_core.specs.Tally.{nothing}
+use Rattle.pen_core.specs.PenLog.{PenLog}
 use Rattle.pen_core.proofs.NewPen.{new_frames, new_vector, new_pen}
 use Rattle.pen_core.proofs.InHand.{no_fold_at, no_fold_seen, pen_unfolded}
 use Rattle.pen_core.proofs.Listed.{listed_new}
 use Rattle.pen_core.proofs.Whole.{sound_kept}
 use Rattle.pen_core.proofs.AtRest.{sound}
 use Rattle.pen_core.proofs.pen.Pen.create_as.Goals as goal
+
+abbrev new_log : Shape → List ℕ → PenLog
+new_log shape bytes = record { shape = shape; gate = 11; tally = nothing; bytes = bytes; step = None; broken = false }
 
 -- memory was refused
 pub returns-in_default : goal.returns-in_default
@@ -54,15 +58,14 @@ invariant_of-result g c =
     let new = c.make.new.disk in
     let keeps = g.D.Disk.keeps new in
     let states = g.D.Disk.states new in
-    let shape : Shape = record { format = c.args.format; width = c.args.width } in
-    let bytes = c.in-Ok.bytes.items in
+    let log = new_log (record { format = c.args.format; width = c.args.width }) c.in-Ok.bytes.items in
     let done = c.in_default-make.ensures.done in
     sound (
-      pen_unfolded keeps states shape 11 nothing nothing bytes None false c.none.result c.none.ensures
-          (new_pen keeps states shape nothing bytes done (c.requires, c.ranges.width.fits)),
-      listed_new keeps states shape bytes c.new.result c.none.result c.none.ensures c.new.ensures.homes c.new.ensures.live
-          (new_frames keeps states shape nothing bytes done),
-      no_fold_at keeps states shape 11 nothing bytes None false c.none.result c.none.ensures,
+      pen_unfolded c.none.result c.none.ensures
+          (new_pen keeps states log refl refl refl done (c.requires, c.ranges.width.fits)),
+      listed_new keeps states log c.new.result c.none.result refl refl refl c.none.ensures c.new.ensures.homes
+          c.new.ensures.live (new_frames keeps states log refl refl refl done),
+      no_fold_at keeps states log c.none.result c.none.ensures,
     )
 
 pub returns : goal.returns
@@ -70,8 +73,7 @@ returns g c =
     let new = c.make.new.disk in
     let keeps = g.D.Disk.keeps new in
     let states = g.D.Disk.states new in
-    let shape : Shape = record { format = c.args.format; width = c.args.width } in
-    let bytes = c.in-Ok.bytes.items in
+    let log = new_log (record { format = c.args.format; width = c.args.width }) c.in-Ok.bytes.items in
     let made = c.in_default-make.ensures in
     record {
       created = record {
@@ -83,8 +85,8 @@ returns g c =
         whole = refl;
       };
       file = λ model. record {
-        frames_are = new_frames keeps states shape nothing bytes made.done model;
-        vector_is = new_vector keeps states shape nothing bytes made.done model;
+        frames_are = new_frames keeps states log refl refl refl made.done model;
+        vector_is = new_vector keeps states log refl refl refl made.done model;
       };
       kept = sound_kept (invariant_of-result g c);
       born = made.born;

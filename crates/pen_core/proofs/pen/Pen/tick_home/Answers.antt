@@ -3,7 +3,7 @@ use Rattle.std.proofs.Common.{◌∙◌, arith, Some, inr, refl, sym, ap, subst}
 use Rattle.pen_core.specs.declared.fault.PenFault.TheVariants.{Disk}
 use Rattle.pen_core.specs.declared.step.Step.TheVariants.{Body}
 use Rattle.pen_core.specs.declared.stage.FoldStage.TheVariants.{Filed}
-use Rattle.pen_core.specs.Fields.{IsSound}
+use Rattle.pen_core.specs.Fields.{IsSoundPen}
 use Rattle.pen_core.specs.InHand.{fold_of}
 use Rattle.pen_core.specs.Inside.{job_of}
 use Rattle.pen_core.proofs.Filed.{Files, filed_frame, pen_filed}
@@ -82,7 +82,7 @@ returns-in-Err-clause-file g c =
 pub invariant_of-self-then-has_call : goal.invariant_of-self-then-has_call
 invariant_of-self-then-has_call g c =
     let tick = made g (goal.at.invariant_of-self-then-has_call g c).After-call in
-    subst (λ f. IsSound g.D.Disk.keeps g.D.Disk.states (record c.self.inside { disk = c.call.new.disk; fold = f })) (sym c.advance.ensures)
+    subst (λ f. IsSoundPen g.D.Disk.keeps g.D.Disk.states (record c.self.inside { disk = c.call.new.disk; fold = f })) (sym c.advance.ensures)
     (home_called tick c.in_default.ensures.done)
 
 pub returns-then-has_call-clause-images : goal.returns-then-has_call-clause-images

@@ -8,3 +8,9 @@ run_at-start-requires-clause-inside c =
     let r = c.self.inside in
     let below = subst (λ (s : Seen). c.args.k < length (runs_of s.frame)) (sym c.self.view_is) c.requires in
     (is_run_of r.at r.shape r.heads r.records r.payload.now r.kind c.args.k c.self.invariant below).inside
+
+pub run_at-start-requires-clause-counted : goal.run_at-start-requires-clause-counted
+run_at-start-requires-clause-counted c =
+    let r = c.self.inside in
+    let below = subst (λ (s : Seen). c.args.k < length (runs_of s.frame)) (sym c.self.view_is) c.requires in
+    (is_run_of r.at r.shape r.heads r.records r.payload.now r.kind c.args.k c.self.invariant below).counted

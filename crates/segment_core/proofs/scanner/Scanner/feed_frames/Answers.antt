@@ -1,4 +1,6 @@
-use Rattle.std.proofs.Common.{◌+◌, ◌-◌, ◌≤◌, List, ◌++◌, ℕ, length, take, drop, sym, ap, subst, ◌∙◌, arith}
+use Rattle.std.proofs.Common.{◌≡◌, ◌+◌, ◌-◌, ◌≤◌, true, List, [], ◌∷◌, ◌++◌, ℕ, length, take, drop, refl, sym, ap, subst, ◌∙◌, arith}
+use Rattle.std.specs.Prelude.{◌==◌, vec_len}
+use Rattle.std.proofs.lemmas.Bool.{eqb-true}
 use Rattle.std.proofs.lemmas.List.{length-append, length-take-le}
 use Rattle.std.proofs.lemmas.Result.{err_from_is_err_and}
 use Rattle.segment_core.specs.Scanner.{IsOn}
@@ -78,3 +80,12 @@ loop-used-preserved g c =
 
 pub returns-clause-ok : goal.returns-clause-ok
 returns-clause-ok g c = λ image goes. on_used g.R.Record.form image c.args.piece.now c.loop-used.used c.loop-used.self (c.loop-used.invariant.on image goes) c.loop-used-test.false
+
+no_bytes : (bytes : List ℕ) (n : ℕ) → n ≡ length bytes → (n == 0) ≡ true → bytes ≡ []
+no_bytes [] n is none = refl
+no_bytes (b ∷ bytes) n is none = let zero = eqb-true n 0 none in absurd (omega arith)
+
+pub take-requires-clause-none : goal.take-requires-clause-none
+take-requires-clause-none g c κs within =
+    let pending = c.loop-used.self.pending in
+    no_bytes pending.items (vec_len pending) pending.ok.0 (sym c.is_empty.ensures ∙ c.if-is_empty.true)

@@ -1,0 +1,341 @@
+# What `make install` puts below a prefix: the program, its manual, and the library for callers in C, Python and Rust.
+
+# ---- all of it, installed once, beside the folder of a test's files and below a name with a blank
+
+prefix="$work-installed/a prefix"
+
+make_there() { make -s --no-print-directory -C "$top" "$@"; }
+
+can_install() { has make 'an install' && has_c; }
+
+installs_once() { [ -e "$prefix/share/cvec/files" ] || make_there install "PREFIX=$prefix"; }
+
+# The words of a text, with one blank between each two.
+words_of() { printf ' %s ' "$(tr -s ' \n' '  ' <"$1" | sed 's/^ *//; s/ *$//')"; }
+
+# What `find` finds below this folder, but for the folder.
+found_in() { (cd "$1" && find . ! -name . | sort); }
+
+commands() { { "$program" --help 2>&1 || :; } | sed -n '3,/^$/s/^\([a-z]\{1,\}\) .*/\1/p'; }
+
+# ---- what is installed
+
+the_installed_program_runs() (
+    can_install || exit $is_skipped
+    installs_once
+    cd /
+    echo 5 | env -i "$prefix/bin/cvec" image u64 >"$out"
+    [ "$(cat "$out")" = "$five" ]
+    cmp "$program" "$prefix/bin/cvec"
+)
+
+# The page of this name below a folder has all words of the help, in their order, and nothing that man complains about.
+has_the_help() {
+    MANWIDTH=1000 man --warnings=all --no-hyphenation --no-justification -E ascii -M "$1" "$2" >"$out" 2>"$err"
+    [ ! -s "$err" ]
+    grep '^ ' "$out" >"$work/told"
+    case $(words_of "$work/told") in
+    *"$(words_of "$work/help")"*) ;;
+    *) sed "s/^/$2: /" "$work/told" && exit 1 ;;
+    esac
+}
+
+each_command_has_a_manual_page() (
+    can_install && has man 'the manual' || exit $is_skipped
+    installs_once
+    pages=$prefix/share/man
+    [ "$(commands | wc -l)" -ge 17 ]
+    { echo cvec.1 && commands | sed 's/.*/cvec-&.1/'; } | sort >"$work/wanted"
+    ls "$pages/man1" | sort | cmp - "$work/wanted"
+    "$program" --help 2>&1 | sed 's/^usage: //' >"$work/help"
+    has_the_help "$pages" cvec
+    for command in $(commands); do
+        "$program" "$command" --help >"$work/help"
+        has_the_help "$pages" "cvec-$command"
+        grep -qF "cvec-$command - $("$program" --help 2>&1 | sed -n "s/^$command .*   *//p")" "$out"
+    done
+)
+
+# A program that only seems one writes what roff takes for something else.
+a_manual_page_has_any_character() (
+    has man 'the manual' || exit $is_skipped
+    mkdir -p "$work/man/man1"
+    cat >"$work/help" <<'HELP'
+cvec odd TYPE [--a='b']
+
+.so it begins, 'and so', "so" \fBor\fR \n, `so` ^ ~ -- -1
+'and a quote
+..
+
+  $ cvec odd '\n'
+  .5
+
+.a   table   of
+'three   columns   \(dq
+
+Refused: a-b, .c.
+HELP
+    printf 'usage: cvec COMMAND\n\nodd TYPE [--a='"'b'"']   does \\- "it", .or not\n' >"$work/usage"
+    printf '#!/bin/sh\n[ "$1" = odd ] && exec cat "%s"\n[ "$1" != --version ] || exec echo cvec 1.0\ncat "%s" >&2\nexit 2\n' \
+        "$work/help" "$work/usage" >"$work/cvec"
+    chmod +x "$work/cvec"
+    "$top/tools/manual" "$work/cvec" "$work/man/man1"
+    has_the_help "$work/man" cvec-odd
+    grep -qx " *'three   columns   .*" "$out"
+    # Debian's man shows a dash for a hyphen too, others don't.
+    grep -qxF 'cvec odd TYPE [\-\-a=\(aqb\(aq]' "$work/man/man1/cvec-odd.1"
+    sed 's/^usage: //' "$work/usage" >"$work/help"
+    has_the_help "$work/man" cvec
+)
+
+a_c_program_is_built_by_pkg_config() (
+    can_install && has pkg-config 'the library for C' || exit $is_skipped
+    installs_once
+    export PKG_CONFIG_PATH="$prefix/lib/pkgconfig"
+    for program_in_c in use append_blocks; do
+        cp "$c/$program_in_c.c" "$work"
+        eval "cc -std=c99 -Wall -Wextra -Werror -o '$work/$program_in_c' '$work/$program_in_c.c' \
+            $(pkg-config --cflags --libs cvec)"
+    done
+    "$work/use" "$work/file" >"$out"
+    [ "$(tr '\n' ' ' <"$out")" = '5 7 11 13 ' ]
+    is_shown_as_written u64 "$work/file"
+    [ "cvec $(pkg-config --modversion cvec)" = "$("$program" --version | head -n 1)" ]
+)
+
+a_c_program_is_built_by_cmake() (
+    can_install && has cmake 'a CMake project' || exit $is_skipped
+    installs_once
+    cp "$c/use.c" "$work"
+    shown_in use/install.md cmake >"$work/CMakeLists.txt"
+    cmake -S "$work" -B "$work/built" "-DCMAKE_PREFIX_PATH=$prefix" >"$work/log"
+    cmake --build "$work/built" >>"$work/log"
+    "$work/built/use" "$work/file" >"$out"
+    [ "$(tr '\n' ' ' <"$out")" = '5 7 11 13 ' ]
+    # No other first number of the version serves, and no later one.
+    for version in 0.1 1.999 2.0; do
+        sed -i "s/find_package(cvec.*/find_package(cvec $version REQUIRED)/" "$work/CMakeLists.txt"
+        if cmake -S "$work" -B "$work/other" "-DCMAKE_PREFIX_PATH=$prefix" >"$work/log" 2>&1; then exit 1; fi
+        grep -q 'that is compatible' "$work/log"
+    done
+)
+
+a_python_program_finds_the_installed_modules() (
+    can_install && has python3 'the modules of Python' || exit $is_skipped
+    installs_once
+    cp "$top/examples/python/use.py" "$work"
+    cat >"$work/client.py" <<'CLIENT'
+import sys
+import cvec, cvec_client
+sys.exit(0 if all(it.__file__.startswith(sys.argv[1]) for it in (cvec, cvec_client)) else "they are found elsewhere")
+CLIENT
+    unset CVEC_LIBRARY
+    export PYTHONPATH="$prefix/lib/python3/dist-packages" PYTHONDONTWRITEBYTECODE=1
+    python3 "$work/client.py" "$prefix/"
+    python3 "$work/use.py" "$work/file" >"$out"
+    [ "$(tr '\n' ' ' <"$out")" = '5 7 11 13 ' ]
+    is_shown_as_written u64 "$work/file"
+)
+
+a_rust_program_is_built_by_rustc() (
+    can_install && has rustc 'the library for plain Rust' || exit $is_skipped
+    installs_once
+    rust=$prefix/share/cvec/rust
+    rustc --edition 2024 -D warnings --crate-type rlib --crate-name cvec -L "native=$prefix/lib" -l static=cvec \
+        -o "$work/libcvec.rlib" "$rust/cvec.rs"
+    rustc --edition 2024 -D warnings -o "$work/use" "$rust/use.rs" --extern "cvec=$work/libcvec.rlib"
+    "$work/use" "$work/file" >"$out"
+    [ "$(tr '\n' ' ' <"$out")" = '5 7 11 13 ' ]
+)
+
+a_rust_program_is_built_by_cargo() (
+    can_install && has cargo 'a crate of plain Rust' || exit $is_skipped
+    installs_once
+    mkdir "$work/src"
+    cp "$top/examples/rust/use.rs" "$work/src/main.rs"
+    {
+        printf '[package]\nname = "use"\nedition = "2024"\n[dependencies]\n'
+        printf 'cvec = { path = "%s" }\n' "$prefix/share/cvec/rust"
+    } >"$work/Cargo.toml"
+    cargo build --quiet --offline --manifest-path "$work/Cargo.toml" --target-dir "$work/target"
+    "$work/target/debug/use" "$work/file" >"$out"
+    [ "$(tr '\n' ' ' <"$out")" = '5 7 11 13 ' ]
+)
+
+# ---- where, over what, and how it is taken away
+
+# What stood there stays: a file, and a folder with nothing in it. What Python keeps of the modules goes.
+an_uninstall_takes_away_what_was_installed() (
+    can_install && has python3 'the modules of Python' || exit $is_skipped
+    mkdir -p "$work/there/include" "$work/there/lib/pkgconfig"
+    echo other >"$work/there/include/other.h"
+    found_in "$work/there" >"$work/before"
+    make_there install "PREFIX=$work/there"
+    unset PYTHONDONTWRITEBYTECODE PYTHONPYCACHEPREFIX
+    PYTHONPATH=$work/there/lib/python3/dist-packages python3 -c 'import cvec, cvec_client'
+    [ -d "$work/there/lib/python3/dist-packages/__pycache__" ]
+    make_there uninstall "PREFIX=$work/there"
+    found_in "$work/there" | diff "$work/before" -
+    # Nor is there the prefix, where an install has made it.
+    make_there install "PREFIX=$work/there/new"
+    make_there uninstall "PREFIX=$work/there/new"
+    found_in "$work/there" | diff "$work/before" -
+    if make_there uninstall "PREFIX=$work/there" 2>"$err"; then exit 1; fi
+    tells "nothing is installed at $work/there"
+)
+
+# Everything lies below DESTDIR, no file has its name, and all is for anybody to read.
+a_package_is_made_below_destdir() (
+    can_install || exit $is_skipped
+    installs_once
+    package=$work/package there=$work/there
+    (umask 077 && make_there install "PREFIX=$there/" "DESTDIR=$package")
+    [ ! -e "$there" ]
+    found_in "$prefix" >"$work/wanted"
+    found_in "$package$there" | diff "$work/wanted" -
+    if grep -rlF "$package" "$package"; then exit 1; fi
+    grep -qx "prefix=$there" "$package$there/lib/pkgconfig/cvec.pc"
+    [ -z "$(find "$package$there" ! -perm -444)" ]
+    [ -z "$(find "$package$there" -type d ! -perm -111)" ]
+    make_there uninstall "PREFIX=$there" "DESTDIR=$package"
+    [ ! -e "$package$there" ]
+)
+
+# An older install had a page and a folder more, and other bytes in a file.
+an_older_install_is_replaced() (
+    can_install || exit $is_skipped
+    installs_once
+    cp -R "$prefix" "$work/there"
+    mkdir "$work/there/lib/old"
+    : >"$work/there/lib/old/file" >"$work/there/share/man/man1/cvec-old.1" >"$work/there/include/cvec.h"
+    printf '%s\n' lib/old/ lib/old/file share/man/man1/cvec-old.1 >>"$work/there/share/cvec/files"
+    chmod -w "$work/there/bin/cvec"
+    make_there install "PREFIX=$work/there"
+    sed -i "s|$prefix|$work/there|" "$work/there/lib/pkgconfig/cvec.pc"
+    found_in "$prefix" >"$work/wanted"
+    found_in "$work/there" | diff "$work/wanted" -
+    cmp "$c/cvec.h" "$work/there/include/cvec.h"
+    make_there uninstall "PREFIX=$work/there"
+    [ ! -e "$work/there" ]
+)
+
+# The list of the files, the fifth file or the last list can't be put in its place.
+an_install_that_is_cut_off_is_put_right() (
+    can_install || exit $is_skipped
+    installs_once
+    found_in "$prefix" >"$work/wanted"
+    mkdir "$work/tools"
+    printf '#!/bin/sh\necho >>"%s"\n[ "$(wc -l <"%s")" -ne "$FAILS" ] || exit 1\nexec /bin/mv "$@"\n' \
+        "$work/moves" "$work/moves" >"$work/tools/mv"
+    chmod +x "$work/tools/mv"
+    cuts_off() {
+        : >"$work/moves"
+        if FAILS=$1 PATH=$work/tools:$PATH make_there install "PREFIX=$work/there" 2>"$err"; then exit 1; fi
+        tells "not all is installed at $work/there"
+    }
+    cuts_off 1
+    [ ! -e "$work/there" ]
+    for fails in 6 $(($(grep -vc '/$' "$prefix/share/cvec/files") + 2)); do
+        cuts_off "$fails"
+        cp -R "$work/there" "$work/cut"
+        make_there install "PREFIX=$work/there"
+        found_in "$work/there" | diff "$work/wanted" -
+        for it in there cut; do
+            make_there uninstall "PREFIX=$work/$it"
+            [ ! -e "$work/$it" ]
+        done
+    done
+)
+
+nothing_of_others_is_overwritten() (
+    can_install || exit $is_skipped
+    refuses_to_install() {
+        cp -a "$work/there" "$work/before"
+        if make_there install "PREFIX=$work/there" 2>"$err"; then exit 1; fi
+        tells "$work/there/$1: nothing was installed"
+        diff -r --no-dereference "$work/before" "$work/there"
+        rm -rf "$work/there" "$work/before"
+        mkdir -p "$work/there/bin"
+    }
+    mkdir -p "$work/there/bin"
+    echo other >"$work/there/bin/cvec"
+    refuses_to_install 'bin/cvec is there, and no install has put it there'
+    ln -s other "$work/there/bin/cvec"
+    refuses_to_install 'bin/cvec is there, and no install has put it there'
+    mkdir "$work/there/bin/cvec"
+    refuses_to_install 'bin/cvec is a folder'
+    echo other >"$work/there/share"
+    refuses_to_install 'share is no folder'
+)
+
+# ---- what is refused, and what is built first
+
+make_alone_tells_what_there_is() (
+    has make 'an install' || exit $is_skipped
+    make_there >"$out"
+    for words in 'make build' 'make install' 'make uninstall' 'PREFIX is /usr/local' DESTDIR docs/use/install.md; do
+        grep -qF "$words" "$out"
+    done
+)
+
+nothing_is_installed_where_not_all_can_be_made() (
+    can_install || exit $is_skipped
+    fails_to_install() {
+        if make_there install "PREFIX=$work/there" "$@" 2>"$err"; then exit 1; fi
+        [ ! -e "$work/there" ]
+    }
+    fails_to_install CC=false
+    PATH=/usr/bin:/bin
+    if ! command -v rt; then
+        fails_to_install
+        tells 'there is no toolchain (rt)'
+    fi
+)
+
+a_prefix_is_a_whole_path() (
+    has make 'an install' || exit $is_skipped
+    for word in '' out '~/out' '/tmp/a"b' '/tmp/a\b'; do
+        if make_there install "PREFIX=$word" "DESTDIR=$work/there" 2>"$err"; then exit 1; fi
+        tells 'install: PREFIX '
+    done
+)
+
+# 'rt' only seems one, and tells what it was asked for.
+an_older_library_is_built_again() (
+    has make 'an install' || exit $is_skipped
+    there=$work/there
+    mkdir -p "$there/bin" "$there/crates/low/src" "$there/crates/beside/src" "$there/crates/cvec_c/out"
+    cp -R "$top/Makefile" "$top/tools" "$there"
+    printf 'low: clap\nbeside: low\ncvec_c staticlib: low\n' >"$there/crates.txt"
+    printf '#!/bin/sh\n' >"$there/cvec"
+    cat >"$there/bin/rt" <<RT
+#!/bin/sh
+echo "\$@" >>"$work/asked"
+echo 'a fault of the build'
+[ ! -e broken ] && : >out/libcvec_c.a
+RT
+    chmod +x "$there/cvec" "$there/bin/rt"
+    touch -d '1 hour ago' "$there/crates/low/src/lib.rt"
+    builds() {
+        : >"$work/asked"
+        status=0
+        PATH=$there/bin:$PATH make -s -C "$there" build 2>"$err" || status=$?
+        [ "$(cat "$work/asked")" = "$1" ]
+    }
+    builds lib
+    builds ''
+    touch -d '1 hour' "$there/crates/beside/src/lib.rt"
+    builds ''
+    touch -d '1 hour' "$there/crates/low/src/lib.rt"
+    builds lib
+    [ "$status" -eq 0 ]
+    : >"$there/crates/cvec_c/broken"
+    builds lib
+    [ "$status" -ne 0 ]
+    tells 'a fault of the build'
+    tells 'the library for C was not built'
+    echo 'exit 1' >"$there/cvec"
+    builds ''
+    [ "$status" -ne 0 ]
+    tells 'there is no program to install'
+)

@@ -1,0 +1,10 @@
+# A version serves who asks for the same first number, and for no later version.
+set(PACKAGE_VERSION @VERSION@)
+string(REGEX MATCH "^[0-9]+" _cvec_major "${PACKAGE_VERSION}")
+if(PACKAGE_FIND_VERSION VERSION_EQUAL PACKAGE_VERSION)
+  set(PACKAGE_VERSION_EXACT TRUE)
+endif()
+if(PACKAGE_FIND_VERSION VERSION_LESS_EQUAL PACKAGE_VERSION AND PACKAGE_FIND_VERSION_MAJOR EQUAL _cvec_major)
+  set(PACKAGE_VERSION_COMPATIBLE TRUE)
+endif()
+unset(_cvec_major)
