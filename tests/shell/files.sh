@@ -70,6 +70,23 @@ files_that_cannot_be_used_are_told() (
     was_refused 'not a segment' "$work/n.cv"
 )
 
+create_leaves_the_bytes_of_others() (
+    for bytes in 'secret=abc1\n' s '\0CVECSEG\1\10\0\1' '\0CVECSEG\1\4\0\0' '\0\0\0\0\0\0\0\0\0\0\0\0\0'; do
+        printf "$bytes" >"$work/n.cv"
+        cp "$work/n.cv" "$work/was"
+        run create u64 "$work/n.cv"
+        was_refused exists 'other bytes; it is as it was'
+        cmp "$work/was" "$work/n.cv"
+    done
+    for bytes in '' '\0' '\1' '\0CVEC' '\0\0VEC\0EG\1\0\0\0' '\0CVECSEG\1\10\0\0'; do
+        printf "$bytes" >"$work/n.cv"
+        run create u64 "$work/n.cv"
+        did 'created\n'
+        run check u64 "$work/n.cv"
+        did 'ok version 1 width 8 size 0 frames 0 live 0\n'
+    done
+)
+
 who_may_not_use_a_file_is_told() (
     a_changed_file
     chmod 755 "$work"

@@ -12,10 +12,10 @@ use crate::serving::{fault_of, pipes_of, write_served};
 use disk_core::{Disk, FileDisk};
 use files_core::{
     Deck, Ended, FileFault, Progress, Watched, Window, append, check, clear, count, create, find,
-    fold, list, load, read_growth_lines, read_record, read_resizing, read_setting, read_window,
+    fold, is_vacant, list, load, read_growth_lines, read_record, read_resizing, read_setting, read_window,
     resize, set, sound_front, upgrade_file,
 };
-use pen_core::OpenFault;
+use pen_core::{OpenFault, PenFault};
 use segment_core::{Format, ScanFault};
 use sentences::{Complaint, Role};
 use serve_core::{ServeFault, serve};
@@ -27,7 +27,7 @@ use std::rt::Files;
 use std::sync::Wait;
 use std::thread::Threads;
 use text_core::{Status, TextRecord};
-use vault_core::UpgradeFault;
+use vault_core::{UpgradeFault, VaultFault};
 use words_core::FileTask;
 
 /// How a command ended whose engine ended so.
@@ -81,6 +81,16 @@ fn status_on<R: TextRecord, D: Disk + Drop>(
     }
 }
 
+/// The disk, where such a file may be made on it: nothing stands there, or what a stopped creation leaves.
+fn vacant<R: TextRecord>(disk: FileDisk, format: Format) -> Result<FileDisk, PenFault> {
+    let mut disk = disk;
+    match is_vacant::<R, FileDisk>(&mut disk, format) {
+        Ok(true) => Ok(disk),
+        Ok(false) => Err(PenFault::Exists),
+        Err(fault) => Err(PenFault::Disk(fault)),
+    }
+}
+
 /// A command over a file, and who is told how far it is.
 #[derive(Drop)]
 pub struct Filing<'a, F, P> {
@@ -109,6 +119,10 @@ impl<'a, F: Files<File = File> + AllocGlobal, P: Progress + Sync> Filing<'a, F, 
         ensures { IsFileCommandRun (IsAnswer R.spelling (tasks.Create format)) (W.contents writer.old) (W.contents writer.new) result }
     {
         let Opened { disk, lock: _lock } = self.open(Access::Makes)?;
+        let disk = match vacant::<R>(disk, format) {
+            Ok(disk) => disk,
+            Err(fault) => return Err(Complaint::Fault(FileFault::Vault(VaultFault::Pen(fault)))),
+        };
         let (_disk, ended) = create::<R, FileDisk, W>(self.alloc, disk, format, writer);
         status_of(ended)
     }

@@ -12,7 +12,7 @@ use vault_core::VaultFault;
 fn about_pen(fault: PenFault) -> &'static str {
     match fault {
         PenFault::Exists =>
-            "there is a vector in this file already; it is as it was; remove it, or name another file",
+            "there is something in this file already, a vector or other bytes; it is as it was; remove it, or name another file",
         PenFault::Unfolded =>
             "changes are live, and with them it can't become shorter; it is as it was; `cvec fold` first",
         PenFault::OutOfRange =>
