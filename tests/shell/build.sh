@@ -124,6 +124,25 @@ the_libraries_are_built_in_their_order() (
     [ -d "$there/crates/middle/out/rlib" ]
 )
 
+# The number of a process's session, of which Linux shares the processors among all that there are.
+session_of() { cut -d ' ' -f 6 /proc/"$1"/stat; }
+
+# Two libraries side by side, in this session: the one that begins the longer chain has the processors.
+the_longest_chain_has_the_processors() (
+    [ "$(nproc)" -gt 1 ] || lacks 'one processor builds one library at a time' || exit $is_skipped
+    seeming_repository
+    printf 'long: clap\nshort: clap\ncvec: long short\n' >"$there/crates.txt"
+    mkdir -p "$there/crates/long/src" "$there/crates/short/src"
+    seq 100 >"$there/crates/long/src/lib.rt"
+    seq 10 >"$there/crates/short/src/lib.rt"
+    touch -d '1 hour ago' "$there"/crates/*/src/lib.rt "$there/crates.txt"
+    sed -i "1a nice >'$there'/nice_of_\"\${PWD##*/}\"; cut -d ' ' -f 6 /proc/\$\$/stat >>'$there/sessions'; sleep 1" "$there/bin/rt"
+    with_toolchain
+    [ "$(cat "$out")" = 'made with word' ]
+    [ "$(cat "$there/nice_of_long")" -lt "$(cat "$there/nice_of_short")" ]
+    [ "$(sort -u "$there/sessions")" = "$(session_of self)" ]
+)
+
 a_library_that_fails_is_told_and_not_left() (
     seeming_repository
     of_three_crates

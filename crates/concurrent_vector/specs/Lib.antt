@@ -9,5 +9,5 @@ pub use Rattle.flush_core.specs.Serving
 pub use Rattle.vault_core.specs.Vault
 pub use Rattle.vault_core.specs.Sharing
 pub use Rattle.vault_core.specs.Gathering
-pub use Rattle.vault_core.specs.Crewing
-pub use Rattle.vault_core.specs.Search
+pub use Rattle.crew_core.specs.Crewing
+pub use Rattle.search_core.specs.Search

@@ -2,6 +2,7 @@
 
 use block_core::FreshFault;
 use book_core::{GrowFault, SettleFault};
+use crew_core::CrewFault;
 use directory_core::DirFault;
 use disk_core::{Disk, DiskFault};
 use flush_core::FlushFault;
@@ -11,7 +12,7 @@ use std::alloc::{AllocError, AllocFailed};
 use std::io;
 use std::thread::SpawnError;
 use thiserror::Error;
-use vault_core::{CrewFault, Gathering, UpgradeFault, VaultFault};
+use vault_core::{Gathering, UpgradeFault, VaultFault};
 
 /// Any refusal of the vector's calls, and of the system's that a program makes beside them. `?` makes it of each of theirs,
 /// and lets go what the call handed back beside it.

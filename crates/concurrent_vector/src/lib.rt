@@ -28,6 +28,7 @@ pub use book_core::{
     Appender, Begun, GrowFault, Live, Mark, MarkState, Receipt, Records, SEAT_LIMIT, Seat,
     SettleFault, Snapshot, Writer,
 };
+pub use crew_core::{CrewFault, Crewed, Gate, Lists, Source, crew};
 pub use directory_core::{DirFault, GROWTH_LIMIT, Pass};
 pub use disk_core::{
     Blow, Choice, Disk, DiskFault, FileDisk, FuseDisk, ImageLength, PendingBytes, RamDisk,
@@ -36,8 +37,8 @@ pub use fault::Fault;
 pub use flush_core::{FlushFault, Flusher, Lane, Tick};
 pub use pen_core::{FoldStage, OpenFault, PenFault, Stage};
 pub use record_core::{Flagged, PAYLOAD_LIMIT, Pair, RECORD_LIMIT, Record};
+pub use search_core::{Equals, Pick, count_where, find_first};
 pub use segment_core::{Format, ScanFault};
 pub use vault_core::{
-    CrewFault, Crewed, Equals, Gate, Gathering, Lists, Pick, Pieces, Source, UpgradeFault, Vault,
-    VaultFault, count_where, crew, find_first, gather, greatest_piece, upgrade,
+    Gathering, Pieces, UpgradeFault, Vault, VaultFault, gather, greatest_piece, upgrade,
 };

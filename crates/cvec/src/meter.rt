@@ -1,11 +1,11 @@
 //! How far long work is, for a terminal.
 
 use book_core::Receipt;
+use crew_core::Gate;
 use files_core::Progress;
 use std::io::{self, Write};
 use std::sync::atomic::{AtomicBool, AtomicU64, Ordering};
 use std::time::Instant;
-use vault_core::Gate;
 
 /// The milliseconds between two lines at least.
 const PAUSE: u64 = 100;

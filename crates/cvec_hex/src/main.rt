@@ -24,15 +24,18 @@ This is the small program that serves until cvec is built, which tells what is w
 ";
 
 fn main(rt: HostRuntime) -> ExitCode {
-    let status = match env::args(&rt) {
-        Ok(words) => match words.skip(1).collect::<Vec<String>>(rt.alloc()) {
-            Ok(words) => answer(&rt, request_of(words.as_slice())),
-            Err(_) => refuse(&mut io::writer(&rt), Refusal::Memory),
-        },
+    let status = match words_of(&rt) {
+        Ok(words) => answer(&rt, request_of(words.as_slice())),
         Err(error) if error.kind() == ErrorKind::InvalidData => answer(&rt, None),
         Err(_) => refuse(&mut io::writer(&rt), Refusal::Memory),
     };
     ExitCode::from(status.code())
+}
+
+/// The words that the program was started with, behind its name. An error: one of them is no UTF-8
+/// (`InvalidData`), or memory was refused.
+fn words_of(rt: &HostRuntime) -> io::Result<Vec<String>> {
+    Ok(env::args(rt)?.skip(1).collect(rt.alloc())?)
 }
 
 /// Does what is asked for on standard input and output, or tells how the program is used.
@@ -47,10 +50,14 @@ fn answer(rt: &HostRuntime, asked: Option<Request>) -> Status {
     };
     let status = run(alloc, request, &mut rt.stdin(), &mut output);
     if status == Status::OutputFailed {
-        // What couldn't be written is in the buffer still, and a further try tells why.
-        if let Err(error) = output.flush() {
-            let _ = eprintln!(rt; "cvec: standard output: {error}");
-        }
+        tell_failed_write(rt, &mut output);
     }
     status
+}
+
+/// Tells why output failed: what couldn't be written is in the buffer still, and a further try tells why.
+fn tell_failed_write<W: Write>(rt: &HostRuntime, output: &mut W) {
+    if let Err(error) = output.flush() {
+        let _ = eprintln!(rt; "cvec: standard output: {error}");
+    }
 }

@@ -12,13 +12,13 @@ use Rattle.book_core.specs.declared.fault.GrowFault.{GrowFault}
 use Rattle.book_core.specs.Lists.{own_of}
 use Rattle.pen_core.specs.Typed.{OpensTo}
 use Rattle.disk_core.specs.Moments.{LeavesOnly}
-use Rattle.vault_core.specs.Crewing.{HasCrewed, IsCrewFault, OpensToGrown, IsReason, crew_room, receipt_of}
 use Rattle.vault_core.specs.Gathering.{AreOfPhase}
-use Rattle.vault_core.specs.declared.crewing.CrewFault.{CrewFault}
-use Rattle.vault_core.specs.declared.crewing.CrewFault.TheVariants as crew_faults
 use Rattle.vault_core.specs.declared.fault.VaultFault.{VaultFault}
-use Rattle.vault_core.specs.Sharing.{IsShareFault}
+use Rattle.vault_core.specs.Sharing.{IsShareFault, OpensToGrown}
 use Rattle.vault_core.specs.Vault.{VaultOf, list_of}
+use Rattle.crew_core.specs.Crewing.{HasCrewed, IsCrewFault, IsReason, crew_room, receipt_of}
+use Rattle.crew_core.specs.declared.crewing.CrewFault.{CrewFault}
+use Rattle.crew_core.specs.declared.crewing.CrewFault.TheVariants as crew_faults
 use Rattle.files_core.specs.Dealt.{count_for, dealt}
 use Rattle.files_core.specs.declared.fault.FileFault.{FileFault}
 use Rattle.files_core.specs.declared.fault.Stopped.{Stopped}

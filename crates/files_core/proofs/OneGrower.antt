@@ -8,7 +8,7 @@ use Rattle.block_core.specs.Growth.{Growth}
 use Rattle.book_core.specs.Lists.{own_of}
 use Rattle.book_core.specs.declared.fault.GrowFault.{GrowFault}
 use Rattle.book_core.specs.declared.fault.GrowFault.TheVariants as grow_faults
-use Rattle.vault_core.specs.Crewing.{IsReason, crew_room}
+use Rattle.crew_core.specs.Crewing.{IsReason, crew_room}
 use Rattle.files_core.specs.declared.fault.Stopped.{Stopped}
 use Rattle.files_core.specs.Appending.{each_records}
 use Rattle.files_core.specs.Dealt.{count_for, dealt}

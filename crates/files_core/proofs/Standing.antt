@@ -18,8 +18,9 @@ use Rattle.book_core.specs.declared.fault.GrowFault.{GrowFault}
 use Rattle.book_core.specs.declared.fault.GrowFault.TheVariants as grow_faults
 use Rattle.directory_core.specs.Chain.{joined}
 use Rattle.pen_core.specs.Typed.{OpensTo}
-use Rattle.vault_core.specs.Crewing.{OpensToGrown, IsReason, crew_room}
+use Rattle.vault_core.specs.Sharing.{OpensToGrown}
 use Rattle.vault_core.specs.Vault.{VaultOf, MayHold, list_of}
+use Rattle.crew_core.specs.Crewing.{IsReason, crew_room}
 use Rattle.files_core.specs.declared.appended.Appended.{Appended}
 use Rattle.files_core.specs.declared.ended.Ended.{Ended}
 use Rattle.files_core.specs.declared.ended.Ended.TheVariants.{Done, OutputFailed}

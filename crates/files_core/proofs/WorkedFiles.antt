@@ -22,7 +22,7 @@ use Rattle.pen_core.specs.Typed.{OpensTo}
 use Rattle.pen_core.proofs.Typed.{OpensTo_same}
 use Rattle.pen_core.specs.Pen.{MayOpen, OpensWith}
 use Rattle.pen_core.specs.PenOf.{PenOf}
-use Rattle.vault_core.specs.Crewing.{OpensToGrown}
+use Rattle.vault_core.specs.Sharing.{OpensToGrown}
 use Rattle.vault_core.specs.Vault.{OpensToEither}
 use Rattle.files_core.specs.declared.appended.Appended.{Appended}
 use Rattle.files_core.specs.Appending.{GrowthsStand, each_records}

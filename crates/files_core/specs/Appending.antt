@@ -7,7 +7,7 @@ use Rattle.disk_core.specs.Moments.{LeavesOnly}
 use Rattle.block_core.specs.Growth.{Growth}
 use Rattle.directory_core.specs.Chain.{joined}
 use Rattle.pen_core.specs.Typed.{OpensTo}
-use Rattle.vault_core.specs.Crewing.{OpensToGrown}
+use Rattle.vault_core.specs.Sharing.{OpensToGrown}
 use Rattle.vault_core.specs.Vault.{VaultOf, list_of}
 use Rattle.text_core.specs.Text.{Spelling}
 use Rattle.files_core.specs.declared.appended.Appended.{Appended}

@@ -14,14 +14,14 @@ use Rattle.book_core.specs.Lists.{Phase, Seated, own_of}
 use Rattle.flush_core.specs.Flusher.{FlusherOf}
 use Rattle.pen_core.specs.Typed.{OpensTo}
 use Rattle.pen_core.specs.declared.fault.PenFault.TheVariants.{TooLarge}
-use Rattle.vault_core.specs.declared.crewing.CrewFault.{CrewFault}
-use Rattle.vault_core.specs.declared.crewing.CrewFault.TheVariants.{Share, Gather}
 use Rattle.vault_core.specs.declared.fault.VaultFault.{VaultFault}
 use Rattle.vault_core.specs.declared.fault.VaultFault.TheVariants.{Pen}
-use Rattle.vault_core.specs.Crewing.{OpensToGrown, IsReason, crew_room}
 use Rattle.vault_core.specs.Gathering.{AreOfPhase, IsGatherFault}
-use Rattle.vault_core.specs.Sharing.{IsShareFault}
+use Rattle.vault_core.specs.Sharing.{IsShareFault, OpensToGrown}
 use Rattle.vault_core.specs.Vault.{VaultOf, list_of}
+use Rattle.crew_core.specs.declared.crewing.CrewFault.{CrewFault}
+use Rattle.crew_core.specs.declared.crewing.CrewFault.TheVariants.{Share, Gather}
+use Rattle.crew_core.specs.Crewing.{IsReason, crew_room}
 use Rattle.files_core.specs.declared.fault.FileFault.{FileFault}
 use Rattle.files_core.specs.declared.fault.Stopped.{Stopped}
 use Rattle.files_core.specs.declared.fault.FileFault.TheVariants.{Word, Input, Open, Vault, Grower, Upgrade}

@@ -3,7 +3,7 @@ use Rattle.std.specs.Prelude.{◌≡◌, ℕ, List, Bool, Option}
 use Rattle.std.specs.List.{count_by}
 use Rattle.record_core.specs.Bytes.{Encoding}
 use Rattle.pen_core.specs.Typed.{OpensTo}
-use Rattle.vault_core.specs.Search.{IsFirst}
+use Rattle.search_core.specs.Search.{IsFirst}
 use Rattle.files_core.specs.Texts.{number_line, found_line}
 
 module _ {R : Type 0} (form : Encoding R) (eq : R → R → Bool) (wanted : R) (known : Type 0) (bytes text : List ℕ) where

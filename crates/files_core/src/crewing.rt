@@ -5,10 +5,10 @@ ghost use Rattle.files_core.specs.Dealt.{count_for, dealt};
 
 use block_core::{Fresh, FreshFault};
 use book_core::Receipt;
+use crew_core::{Gate, Source};
 use record_core::Record;
 use segment_core::Growths;
 use std::alloc::Global;
-use vault_core::{Gate, Source};
 
 /// A source that is made of growths: growth `k`, counted from 0, is for grower `k` modulo the number of growers.
 pub trait Deck<R: Record>: Source<R> {

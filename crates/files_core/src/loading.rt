@@ -16,6 +16,7 @@ use crate::crewing::Deck;
 use crate::ended::Ended;
 use crate::fault::{FileFault, Stopped};
 use book_core::GrowFault;
+use crew_core::{CrewFault, Crewed, Gate, Source, crew};
 use disk_core::Disk;
 use flush_core::Flusher;
 use pen_core::PenFault;
@@ -27,7 +28,7 @@ use std::io::Write;
 use std::sync::Wait;
 use std::thread::Threads;
 use text_core::{write_line, write_numbered};
-use vault_core::{CrewFault, Crewed, Gate, Gathering, Source, Vault, VaultFault, crew};
+use vault_core::{Gathering, Vault, VaultFault};
 
 fn write_loaded<W: Write>(writer: &mut W, growths: u64, size: u64) -> io::Result<()>
     ensures { OnOk result (known.Appends (W.contents writer.old) (W.contents writer.new) (loaded_line growths size)) }

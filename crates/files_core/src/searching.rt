@@ -5,7 +5,7 @@ ghost use Rattle.std.specs.List.{count_by};
 ghost use Rattle.std.specs.Io.KnownBytes.{Appends};
 ghost use Rattle.disk_core.specs.Calls.{bytes_of};
 ghost use Rattle.pen_core.specs.Typed.{OpensTo};
-ghost use Rattle.vault_core.specs.Search.{IsFirst};
+ghost use Rattle.search_core.specs.Search.{IsFirst};
 ghost use Rattle.files_core.specs.Ended.{WritesAnswer};
 ghost use Rattle.files_core.specs.Opened.{OnlyReads};
 ghost use Rattle.files_core.specs.Searching.{IsCounted, IsFound};
@@ -14,12 +14,13 @@ ghost use Rattle.files_core.specs.Texts.{number_line, found_line};
 use crate::ended::Ended;
 use crate::fault::FileFault;
 use disk_core::Disk;
+use search_core::Equals;
 use std::alloc::Global;
 use std::io;
 use std::io::Write;
 use std::thread::Threads;
 use text_core::{TextRecord, write_line, write_number};
-use vault_core::{Equals, Vault};
+use vault_core::Vault;
 
 /// Writes a number and an LF.
 fn write_number_line<W: Write>(writer: &mut W, n: u64) -> io::Result<()>

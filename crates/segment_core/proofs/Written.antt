@@ -177,3 +177,9 @@ pub group_at : {R : Type 0} (groups : List (Vec (Vec R))) (k : ℕ) (d : Vec (Ve
 group_at [] k d lt = absurd (omega arith)
 group_at (group ∷ groups) zero d lt = refl
 group_at (group ∷ groups) (suc k) d lt = group_at groups k d (omega arith)
+
+pub growth_got : {R : Type 0} (growths : List (Vec R)) (k : ℕ) (d : Vec R) → k < length growths
+    → slice_get (growths_of growths) k ≡ Some (get_or growths k d).items
+growth_got [] k d lt = absurd (omega arith)
+growth_got (growth ∷ growths) zero d lt = refl
+growth_got (growth ∷ growths) (suc k) d lt = growth_got growths k d (omega arith)

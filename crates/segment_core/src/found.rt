@@ -178,25 +178,9 @@ impl<R: Record> Found<R> {
         }
     }
 
-    /// The vector, once a closed gate has ended the frames: the live changes are laid over the records, in
-    /// their order. The fault is that of the least position whose bytes are no record.
-    pub(crate) fn finish(self) -> Result<Vec<R>, ScanFault>
-        requires { (format : Format) × (frames : List Frame) × IsFound R.form format frames self }
-        ensures { (format : Format) (frames : List Frame) (image : List ℕ) → IsFound R.form format frames self → BeginsWithText (shape_of format R.form) image frames
-            → MatchResult result (λ records. IsVectorOf format R.form image frames records.items) (IsNoVector format R.form image frames) }
-    {
-        let Found {
-            mut records,
-            mut notes,
-            live,
-            ..
-        } = self;
-        lay_live(&live, &mut records, &mut notes)?;
-        Ok(records)
-    }
-
-    /// The same, and where the records stand.
-    pub(crate) fn finish_with(self) -> Result<(Vec<R>, Homes), ScanFault>
+    /// The vector, once a closed gate has ended the frames, and where the records stand: the live changes are laid over
+    /// the records, in their order. The fault is that of the least position whose bytes are no record.
+    pub(crate) fn finish(self) -> Result<(Vec<R>, Homes), ScanFault>
         requires { (format : Format) × (frames : List Frame) × IsFound R.form format frames self }
         ensures vector { (format : Format) (frames : List Frame) (image : List ℕ) → IsFound R.form format frames self → BeginsWithText (shape_of format R.form) image frames
             → MatchResult result (λ answer. IsVectorOf format R.form image frames answer.0.items) (IsNoVector format R.form image frames) }

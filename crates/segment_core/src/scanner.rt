@@ -289,24 +289,8 @@ impl<R: Record> Scanner<R> {
         ensures answer { (image : List ℕ) → IsFed R.form image self → MatchResult result (IsScanOf R.form image) (IsRefused R.form image) }
         ensures lost { IsLost self → result ≡ Err ScanFault.Memory }
     {
-        self.check_end()?;
-        let Walk {
-            shape,
-            at,
-            frames,
-            tally,
-            found,
-        } = self.walk;
-        let records = found.finish()?;
-        Ok(Scanned {
-            version: shape.format.version(),
-            width: shape.width as u16,
-            records,
-            frames,
-            changes: tally.changes,
-            folded: tally.folded,
-            gate: at as u64,
-        })
+        let (scanned, _) = self.end_with()?;
+        Ok(scanned)
     }
 
     /// The same, and where the records stand.
@@ -325,7 +309,7 @@ impl<R: Record> Scanner<R> {
             tally,
             found,
         } = self.walk;
-        let (records, homes) = found.finish_with()?;
+        let (records, homes) = found.finish()?;
         let scanned = Scanned {
             version: shape.format.version(),
             width: shape.width as u16,

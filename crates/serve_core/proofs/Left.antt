@@ -15,8 +15,7 @@ use Rattle.book_core.specs.Lists.{Phase, joined_pieces}
 use Rattle.flush_core.specs.Flusher.{FlusherOf, IsFlusherOf, OpensToFirst, OpensToJob}
 use Rattle.flush_core.specs.Serving.{Serves}
 use Rattle.vault_core.specs.Vault.{VaultOf, MayHold, list_of}
-use Rattle.vault_core.specs.Sharing.{Shares}
-use Rattle.vault_core.specs.Crewing.{OpensToGrown}
+use Rattle.vault_core.specs.Sharing.{Shares, OpensToGrown}
 use Rattle.serve_core.specs.declared.fault.ServeFault.{ServeFault}
 use Rattle.serve_core.specs.declared.fault.ServeFault.TheVariants.{Open, Share, Thread, Flush}
 use Rattle.serve_core.specs.Serving.{IsServed, IsAllServed, OpensBehind, IsLeft, ComesBack, IsPhaseLeft}

@@ -21,7 +21,7 @@ use Rattle.flush_core.specs.Refusals.{IsNotBegun, failed}
 use Rattle.vault_core.specs.declared.fault.VaultFault.{VaultFault}
 use Rattle.vault_core.specs.declared.fault.VaultFault.TheVariants.{Pen}
 use Rattle.vault_core.specs.Vault.{VaultOf, list_of}
-use Rattle.vault_core.specs.Crewing.{OpensToGrown}
+use Rattle.vault_core.specs.Sharing.{OpensToGrown}
 use Rattle.serve_core.specs.declared.fault.ServeFault.{ServeFault}
 use Rattle.serve_core.specs.declared.fault.ServeFault.TheVariants.{Open, Share, Thread, Flush}
 

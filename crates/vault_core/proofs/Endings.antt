@@ -42,14 +42,23 @@ module _ {R : Type 0} where
   has-id (s ∷ ss) id (inl same) = (zero, omega arith, sym same)
   has-id (s ∷ ss) id (inr rest) = let there = has-id ss id rest in (suc there.0, (let lt = there.1 in omega arith), there.2)
 
+  -- all growths were made by the seats, each once, where they made as many as there are
+  module _ (seats : List (Seated R)) (es : List (Growth R)) (distinct : AreDistinct seats) (as_many : made_by seats ≡ length es)
+      (stand : All StandInList seats) (begin : All (λ s. IsPrefix s.pass.entries es) seats) where
+    few : AllByRecursion (MadeFew es) seats
+    few = recursion_from_All (MadeFew es) seats (λ k d lt. made_few es (get_or seats k d) (begin k d lt) (stand k d lt))
+
+    exactly : AllByRecursion (MadeAll es) seats × AllByRecursion (λ e. IsOneOf seats e.seat) es
+    exactly = exact seats es (apart seats distinct) few as_many
+
+    pub by_seats : All (λ growth. HasId growth.seat seats) es
+    by_seats k d lt = has-id seats (get_or es k d).seat (All-from_recursion (λ (e : Growth R). IsOneOf seats e.seat) es exactly.1 k d lt)
+
+    pub made_once : All (λ seat. own_of seat.id es ≡ seat.made) seats
+    made_once k d lt = made_all es (get_or seats k d) (begin k d lt) (stand k d lt) (All-from_recursion (MadeAll es) seats exactly.0 k d lt)
+
   module _ {D : Type 0} (live : Phase R) (seats : List (Seated R)) (f : FlusherOf R D) (may : MayGather live seats f)
       (stand : All StandInList seats) (begin : All (λ s. IsPrefix s.pass.entries f.pass.entries) seats) (chained : IsChained f.pass.entries) where
-    few : AllByRecursion (MadeFew f.pass.entries) seats
-    few = recursion_from_All (MadeFew f.pass.entries) seats (λ k d lt. made_few f.pass.entries (get_or seats k d) (begin k d lt) (stand k d lt))
-
-    exactly : AllByRecursion (MadeAll f.pass.entries) seats × AllByRecursion (λ e. IsOneOf seats e.seat) f.pass.entries
-    exactly = exact seats f.pass.entries (apart seats may.all.distinct) few (may.all.add_up ∙ may.known)
-
     pub whole : IsWhole live seats f
     whole = record {
       pen_whole = may.whole;
@@ -57,6 +66,6 @@ module _ {R : Type 0} where
       settled = may.settled;
       longest = begin;
       chained = chained;
-      by_seats = λ k d lt. has-id seats (get_or f.pass.entries k d).seat (All-from_recursion (λ (e : Growth R). IsOneOf seats e.seat) f.pass.entries exactly.1 k d lt);
-      made_once = λ k d lt. made_all f.pass.entries (get_or seats k d) (begin k d lt) (stand k d lt) (All-from_recursion (MadeAll f.pass.entries) seats exactly.0 k d lt);
+      by_seats = by_seats seats f.pass.entries may.all.distinct (may.all.add_up ∙ may.known) stand begin;
+      made_once = made_once seats f.pass.entries may.all.distinct (may.all.add_up ∙ may.known) stand begin;
     }

@@ -5,8 +5,8 @@ use Rattle.std.specs.Iterator.{Yields, YieldsFirstRef}
 use Rattle.std.proofs.lemmas.List.{length-append, append-nil}
 use Rattle.std.proofs.lemmas.List.Concat.{flat_map-append}
 use Rattle.segment_core.specs.Written.{joined}
-use Rattle.vault_core.specs.Search.{records_in, LendsFew, LendsAll, LendsUntil, IsFirst}
-use Rattle.vault_core.proofs.Firsts.{first_before}
+use Rattle.search_core.specs.Search.{records_in, LendsFew, LendsAll, LendsUntil, IsFirst}
+use Rattle.search_core.proofs.Firsts.{first_before}
 
 abbrev steps : {R : Type 0} → List (List R) → Option (Bor (List R)) → List (List R) → Type 0
 steps {R} = YieldsFirstRef {A = List R} (λ (pieces : List (List R)). pieces)

@@ -6,8 +6,6 @@ pub mod Cuts
 pub mod Ends
 pub mod Commands
 pub mod Changes
-pub mod Counts
-mod Firsts
 pub mod Lent
 pub mod Grows
 pub mod Shrinks
@@ -16,12 +14,9 @@ pub mod Carried
 pub mod Settles
 pub mod CallsLeft
 mod Accounts
-mod Prefixes
-mod Endings
-mod Handed
-mod Growers
-mod Homes
-mod Served
+pub mod Prefixes
+pub mod Endings
+pub mod Handed
 mod Copies
 mod Vaults
 pub mod CopyCounts

@@ -1,18 +1,15 @@
--- Worked values of what contracts say of lengths, touches, searches and crews.
-use Rattle.std.proofs.Common.{◌≡◌, ◌≢◌, ℕ, zero, suc, ◌+◌, ◌*◌, Bool, true, false, true≢false, List, [], ◌∷◌, length, max, Bor, Option, Some, None, refl, sym, ap, ◌∙◌, arith}
-use Rattle.std.specs.Prelude.{nat_eq, slice_get}
+-- Worked values of what contracts say of lengths, touches, work in hand and seats.
+use Rattle.std.proofs.Common.{◌≡◌, ℕ, ◌+◌, ◌*◌, true, false, true≢false, List, [], ◌∷◌, length, Some, refl, sym, arith}
+use Rattle.std.specs.Prelude.{slice_get}
 use Rattle.segment_core.specs.Frame.{Run}
 use Rattle.pen_core.specs.declared.stage.FoldStage.TheVariants as stages
 use Rattle.pen_core.specs.PenOf.{PenOf}
 use Rattle.pen_core.specs.Pen.{log_left, fold_stage}
-use Rattle.block_core.specs.Growth.{Growth}
 use Rattle.book_core.specs.Lists.{Seated}
 use Rattle.vault_core.specs.Commands.{resized}
 use Rattle.vault_core.specs.Touched.{cover, taken_at, IsTouched}
 use Rattle.vault_core.specs.Settles.{work_left, calls_left, fold_ticks, fold_calls}
 use Rattle.vault_core.specs.Gathering.{most_known, made_by}
-use Rattle.vault_core.specs.Search.{IsFirst, IsFirstSlice}
-use Rattle.vault_core.specs.Crewing.{counts_to, receipt_of}
 
 -- ---- lengths
 
@@ -87,41 +84,3 @@ module _ {R : Type 0} (first second : Seated R) where
 
   made_together : length first.made ≡ 3 → length second.made ≡ 1 → made_by (first ∷ second ∷ []) ≡ 4
   made_together three one = omega (arith, three, one)
-
--- ---- searches
-
-abbrev fours : ℕ → Bool
-fours r = nat_eq r 4
-
-first_four : IsFirst fours (1 ∷ 4 ∷ 4 ∷ []) (Some 1)
-first_four = (refl, refl)
-
-not_the_second : IsFirst fours (1 ∷ 4 ∷ 4 ∷ []) (Some 2) → ⊥
-not_the_second first = absurd (omega (arith, first.0))
-
-not_none : IsFirst fours (1 ∷ 4 ∷ 4 ∷ []) None → ⊥
-not_none none = absurd (omega (arith, none))
-
-no_four : IsFirst fours (1 ∷ 2 ∷ []) None
-no_four = refl
-
-module _ (front back : Bor (List ℕ)) (one : front.now ≡ 1 ∷ []) (four : back.now ≡ 4 ∷ 4 ∷ []) where
-  first_slice : IsFirstSlice fours (front ∷ back ∷ []) (Some 1)
-  first_slice = (rw one refl, rw four (omega arith))
-
-  no_slice : IsFirstSlice fours (front ∷ []) None
-  no_slice = rw one refl
-
-  not_the_back : IsFirstSlice fours (back ∷ back ∷ []) (Some 1) → ⊥
-  not_the_back first = absurd (let two : 2 ≡ 0 = sym (rw four refl) ∙ first.0 in omega arith)
-
--- ---- crews
-
-counted : counts_to (λ grower. grower + 1) 3 ≡ 6
-counted = refl
-
-counted_none : counts_to (λ grower. grower + 1) 0 ≡ 0
-counted_none = refl
-
-receipt : receipt_of {R = ℕ} 10 (record { number = 1; start = 3; seat = 2; serial = 4; records = 7 ∷ 8 ∷ [] }) ≡ record { number = 1; start = 13; len = 2; seat = 2; serial = 4 }
-receipt = refl

@@ -5,9 +5,7 @@ pub mod Vault
 pub mod Making
 pub mod Commands
 pub mod Settles
-pub mod Search
 pub mod Sharing
 pub mod Gathering
-pub mod Crewing
 pub mod Upgrading
 pub mod Names

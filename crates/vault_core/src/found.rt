@@ -2,14 +2,13 @@
 
 ghost use Rattle.std.specs.Prelude.{◌≡◌};
 ghost use Rattle.std.specs.List.{count_by};
-ghost use Rattle.vault_core.specs.Search.{IsFirst};
+ghost use Rattle.search_core.specs.Search.{IsFirst};
 ghost use Rattle.vault_core.specs.Vault.{list_of};
 
-use crate::picking::Pick;
-use crate::search::{count_where, find_first};
 use crate::vault::Vault;
 use disk_core::Disk;
 use record_core::Record;
+use search_core::{Pick, count_where, find_first};
 use std::thread::Threads;
 
 impl<R: Record, D: Disk> Vault<R, D> {

@@ -1,5 +1,6 @@
 //! A crew grows in threads beside one another.
 
+use crew_core::{Crewed, Gate, Lists};
 use super::crews::grow;
 use book_core::Receipt;
 use disk_core::RamDisk;
@@ -8,7 +9,6 @@ use std::sync::Wait;
 use std::sync::atomic::{AtomicU64, Ordering};
 use std::test::Fail;
 use std::thread::Threads;
-use vault_core::{Crewed, Gate, Lists};
 
 /// A gate at which each of two growers waits for the other, and that notes their receipts.
 #[derive(Drop)]

@@ -6,6 +6,7 @@ ghost use Rattle.book_core.specs.Lists.{IsSeatOf};
 ghost use Rattle.flush_core.specs.Flusher.{IsFlusherOf};
 ghost use Rattle.vault_core.specs.Gathering.{AreOfPhase};
 
+use crew_core::{CrewFault, Lists, crew};
 use super::crews::Open;
 use book_core::{Live, Seat};
 use disk_core::{Blow, Choice, Disk, FuseDisk, ImageLength, PendingBytes, RamDisk};
@@ -15,7 +16,7 @@ use std::alloc::{AllocError, Global};
 use std::sync::Wait;
 use std::test::Fail;
 use std::thread::Threads;
-use vault_core::{CrewFault, Gathering, Lists, Vault, crew};
+use vault_core::{Gathering, Vault};
 
 /// How many growths each of the two growers makes, of two equal records that no other growth has.
 const GROWTHS: u64 = 12;

@@ -1,6 +1,7 @@
 //! A crew commits growths in a thread beside its growers, and not behind them.
 
 use book_core::Receipt;
+use crew_core::{Gate, Lists, crew};
 use disk_core::{Disk, DiskFault, RamDisk};
 use segment_core::Format;
 use std::alloc::{AllocError, Global};
@@ -8,7 +9,7 @@ use std::sync::Wait;
 use std::sync::atomic::{AtomicU64, Ordering};
 use std::test::Fail;
 use std::thread::Threads;
-use vault_core::{Gate, Lists, Vault, crew};
+use vault_core::Vault;
 
 /// A disk over another that counts its syncs where others see it.
 #[derive(Drop)]

@@ -4,13 +4,14 @@ ghost use Rattle.std.specs.Prelude.{◌≡◌, ◌+◌, ◌*◌, ◌^◌, ◌∷
 
 use block_core::{Fresh, FreshFault};
 use book_core::{GrowFault, Receipt};
+use crew_core::{Crewed, Gate, Source, crew};
 use disk_core::RamDisk;
 use segment_core::Format;
 use std::alloc::Global;
 use std::sync::Wait;
 use std::test::Fail;
 use std::thread::Threads;
-use vault_core::{Crewed, Gate, Source, Vault, crew};
+use vault_core::Vault;
 
 /// A gate that lets all pass.
 #[derive(Drop)]

@@ -2,6 +2,7 @@
 
 ghost use Rattle.std.specs.Prelude.{true, false};
 
+use search_core::Pick;
 use super::crews::new_vault;
 use block_core::Touch;
 use disk_core::RamDisk;
@@ -10,7 +11,7 @@ use std::sync::Wait;
 use std::sync::atomic::{AtomicU64, Ordering};
 use std::test::Fail;
 use std::thread::Threads;
-use vault_core::{Pick, Vault};
+use vault_core::Vault;
 
 /// Notes whether two threads were inside at one time.
 #[derive(Drop)]

@@ -2,6 +2,7 @@
 
 ghost use Rattle.std.specs.Prelude.{◌+◌, ◌*◌, ◌%◌, ◌^◌};
 
+use crew_core::{Lists, Source, crew};
 use super::crews::{Open, new_vault};
 use block_core::Touch;
 use disk_core::RamDisk;
@@ -10,7 +11,7 @@ use std::alloc::{AllocError, Global};
 use std::sync::Wait;
 use std::test::Fail;
 use std::thread::Threads;
-use vault_core::{Lists, Source, Vault, VaultFault, crew};
+use vault_core::{Vault, VaultFault};
 
 /// The record and ten times its place, which wrap.
 struct Raised;

@@ -8,8 +8,8 @@ use Rattle.segment_core.proofs.found.Found.finish.Goals as goal
 pub lay_live-requires-clause-wide : goal.lay_live-requires-clause-wide
 lay_live-requires-clause-wide g c κs within = live_wide g.R.Record.form c.requires.0 c.requires.1 c.args.self c.requires.2
 
-pub returns-in_err-lay_live : goal.returns-in_err-lay_live
-returns-in_err-lay_live g c = λ format frames image is begins. (
+pub returns-in_err-lay_live-clause-vector : goal.returns-in_err-lay_live-clause-vector
+returns-in_err-lay_live-clause-vector g c = λ format frames image is begins. (
     let form = g.R.Record.form in
     let p = err_from_is_err_and c.from_residual.result c.from_residual.ensures.1 in
     let same : length c.lay_live.new.records ≡ length c.args.self.records.items = search rules in
@@ -19,8 +19,8 @@ returns-in_err-lay_live g c = λ format frames image is begins. (
       | inr memory ↦ inr memory
     ]))
 
-pub returns : goal.returns
-returns g c = λ format frames image is begins. (
+pub returns-clause-vector : goal.returns-clause-vector
+returns-clause-vector g c = λ format frames image is begins. (
     let form = g.R.Record.form in
     let same : length c.lay_live.new.records ≡ length c.args.self.records.items = search rules in
     let len : c.args.self.records.len ≡ length c.args.self.records.items = search rules in

@@ -1,4 +1,4 @@
-use Rattle.std.proofs.Common.{ap}
+use Rattle.std.proofs.Common.{ap, arith}
 use Rattle.std.proofs.lemmas.Result.{err_from_is_err_and}
 use Rattle.segment_core.specs.declared.tally.Tally.{Tally}
 use Rattle.segment_core.proofs.Fed.{is_whole, refused_at_end}
@@ -30,3 +30,9 @@ returns-clause-answer g c = λ image fed. (
       },
       c.in_ok-records.ensures.homes c.args.self.walk.shape.format ended.frames ended.behind.found,
     ))
+
+pub overflow_cast-scanned : goal.overflow_cast-scanned
+overflow_cast-scanned g c =
+    let laws = g.met.R.Record g.world.𝓛 g.world.𝓜 g.world.𝓡 ((λ s x. x), (λ x. x), (λ x. x), λ x. x) in
+    let ended = c.in_ok-check_end.ensures.answer c.requires.0 c.requires.1 in
+    omega (arith, ended.behind.width_is, laws.width_in_range.1)

@@ -2,7 +2,7 @@ use Rattle.std.proofs.Crossing.{crosses}
 use denote.Param.Send.{sendable}
 use Rattle.std.proofs.Common.{refl, subst}
 use Rattle.segment_core.specs.Written.{joined}
-use Rattle.vault_core.specs.Search.{IsFirst}
+use Rattle.search_core.specs.Search.{IsFirst}
 use Rattle.vault_core.proofs.Lent.{lends_few, lends_first}
 use Rattle.vault_core.proofs.vault.Vault.find_first.Goals as goal
 

@@ -1,0 +1,4 @@
+mod Growers
+mod Homes
+mod Served
+mod Worked

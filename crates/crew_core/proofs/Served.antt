@@ -1,0 +1,48 @@
+-- What a crash may leave while a phase is served.
+use Rattle.std.proofs.Common.{◌≡◌, ℕ, ◌+◌, ◌≤◌, false, ◌++◌, List, length, take, refl, sym, ap, subst, ◌∙◌, arith}
+use Rattle.record_core.specs.Bytes.{Encoding}
+use Rattle.disk_core.specs.State.{State, IsImage, now}
+use Rattle.disk_core.specs.Moments.{LeavesOnly}
+use Rattle.disk_core.proofs.JoinedMoments.{LeavesOnly-weaker}
+use Rattle.pen_core.specs.PenOf.{PenOf}
+use Rattle.pen_core.specs.Typed.{OpensTo}
+use Rattle.directory_core.specs.Chain.{joined}
+use Rattle.book_core.specs.Lists.{Phase, opening_of, joined_pieces}
+use Rattle.flush_core.specs.Flusher.{FlusherOf, IsFlusherOf, OpensToFirst}
+use Rattle.flush_core.specs.Serving.{Serves}
+use Rattle.vault_core.specs.Vault.{VaultOf, list_of}
+use Rattle.vault_core.specs.Sharing.{OpensToGrown}
+use Rattle.crew_core.specs.Crewing.{IsBack}
+
+-- it opens to the vault's list and the first growths that the flusher knows in the end
+module _ {R D : Type 0} (form : Encoding R) (keeps : D → Type 0) (states : D → List State) (vault : VaultOf R D) (live : Phase R)
+    (begun served : FlusherOf R D) (blocks : live.blocks ≡ vault.blocks) (pen : begun.pen ≡ vault.pen)
+    (of : IsFlusherOf (keeps served.pen.disk) live served) (goes : Serves form keeps states begun served) where
+  kept_first : keeps served.pen.disk → (image : List ℕ) → OpensToFirst form begun.settled served image → OpensToGrown form (list_of vault) served.pass.entries image
+  kept_first now image kept =
+      let opening : served.opening ≡ list_of vault = of.opening now ∙ ap joined_pieces blocks in
+      record {
+        count = kept.count;
+        known = kept.known;
+        opens = subst (λ (before : List R). OpensTo form image (before ++ joined (take kept.count served.pass.entries))) opening kept.opens;
+      }
+
+  pub served_first : (last : PenOf D) → last ≡ served.pen → keeps last.disk → LeavesOnly (states vault.pen.disk) (states last.disk) (OpensToGrown form (list_of vault) served.pass.entries)
+  served_first last same now =
+      let still : keeps served.pen.disk = subst (λ (p : PenOf D). keeps p.disk) same now in
+      let leaves : LeavesOnly (states begun.pen.disk) (states served.pen.disk) (OpensToGrown form (list_of vault) served.pass.entries) =
+      LeavesOnly-weaker (states begun.pen.disk) (states served.pen.disk) (OpensToFirst form begun.settled served)
+      (OpensToGrown form (list_of vault) served.pass.entries) (kept_first still) (goes.images still) in
+      subst (λ (p : PenOf D). LeavesOnly (states vault.pen.disk) (states p.disk) (OpensToGrown form (list_of vault) served.pass.entries)) (sym same)
+      (subst (λ (p : PenOf D). LeavesOnly (states p.disk) (states served.pen.disk) (OpensToGrown form (list_of vault) served.pass.entries)) pen leaves)
+
+-- the vault that comes back has the pen with which serving ended
+module _ {R D : Type 0} (form : Encoding R) (keeps : D → Type 0) (states : D → List State) (vault : VaultOf R D) (begun served : FlusherOf R D)
+    (pen : begun.pen ≡ vault.pen) (goes : Serves form keeps states begun served) where
+  pub is_back : (back : VaultOf R D) → back.pen ≡ served.pen → served.pen.broken ≡ false
+      → (keeps back.pen.disk → (image : List ℕ) → IsImage (now (states back.pen.disk)) image → OpensTo form image (list_of back)) → IsBack form keeps states vault back
+  is_back back same whole told = record {
+    whole = ap (λ (p : PenOf D). p.broken) same ∙ whole;
+    settled = told;
+    model = λ kept. subst (λ (p : PenOf D). keeps p.disk) pen (goes.model (subst (λ (p : PenOf D). keeps p.disk) same kept));
+  }

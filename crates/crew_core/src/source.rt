@@ -1,0 +1,57 @@
+//! What the growers of a crew grow by, and what they ask and tell.
+
+ghost use Rattle.std.specs.Prelude.{◌≡◌, ◌<◌, ℕ, List, length, false, IfSome, MatchResult};
+ghost use Rattle.crew_core.specs.Crewing.{IsSourceFault};
+
+use block_core::{Fresh, FreshFault};
+use book_core::Receipt;
+use record_core::Record;
+use std::alloc::Global;
+
+/// For each of some growers a list of blocks, by which it grows.
+pub trait Source<R: Record>: Sync {
+    ghost growers_of: { Self → ℕ };
+
+    ghost count_of: { Self → ℕ → ℕ };
+
+    ghost block_of: { Self → ℕ → ℕ → List R };
+
+    /// How many growers there are.
+    fn growers(&self) -> u16
+        ensures { result ≡ growers_of self.now };
+
+    /// How many blocks a grower has.
+    fn count(&self, grower: u16) -> u32
+        requires { grower < growers_of self.now }
+        ensures { result ≡ count_of self.now grower };
+
+    /// A grower's block of that number. A crew doesn't ask for one whose records are lent.
+    fn block(&self, alloc: Global, grower: u16, k: u32) -> Result<Fresh<R>, FreshFault>
+        requires grower { grower < growers_of self.now }
+        requires k { k < count_of self.now grower }
+        ensures { MatchResult result
+            (λ fresh. fresh ≡ block_of self.now grower k)
+            (IsSourceFault R.form.width (length (block_of self.now grower k))) };
+
+    /// The records of a grower's block of that number, where the source lends them: a crew copies these into a block.
+    fn records(&self, _grower: u16, _k: u32) -> Option<&[R]>
+        requires grower { _grower < growers_of self.now }
+        requires k { _k < count_of self.now _grower }
+        ensures { IfSome result (λ records. records.now ≡ block_of self.now _grower _k) }
+    {
+        None
+    }
+}
+
+/// What a grower asks before each of its growths, and tells after it. Both may be called from many threads at once.
+pub trait Gate: Sync {
+    /// Whether it may stop a grower before its growth of that number.
+    ghost may_stop: { Self → ℕ → ℕ → Type 0 };
+
+    /// Whether the grower may make its growth of that number; if not, it stops.
+    fn before(&self, grower: u16, k: u32) -> bool
+        ensures { result ≡ false → may_stop self.now grower k };
+
+    /// It was made.
+    fn after(&self, grower: u16, receipt: &Receipt);
+}
