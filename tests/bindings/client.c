@@ -3,6 +3,7 @@
 #define _GNU_SOURCE 1
 #include "cvec_client.h"
 
+#include <errno.h>
 #include <fcntl.h>
 #include <inttypes.h>
 #include <signal.h>
@@ -126,7 +127,9 @@ static void start(void) {
     snprintf(type, sizeof type, "%s", next_word());
     char *file = next_word();
     memset(&server, (int)untouched, sizeof server);
-    puts(cvec_server_start(&server, program, type, file, (int)number()) ? "no server" : "done");
+    errno = 0;
+    if (cvec_server_start(&server, program, type, file, (int)number())) printf("no server: %s\n", strerror(errno));
+    else puts("done");
 }
 
 /* The server has ended when this returns, and is still to be waited for. */
