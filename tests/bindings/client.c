@@ -151,6 +151,17 @@ static void leave(void) {
     close(it->requests);
 }
 
+/* A seat that has ended may be ended again: its numbers are those of other descriptors then, and are left alone. */
+static void end(void) {
+    struct cvec_seat *it = seat();
+    int fault = cvec_seat_end(it), others[2];
+    for (int k = 0; k < 2; k++) others[k] = open("/dev/null", O_RDONLY | O_CLOEXEC);
+    if (cvec_seat_end(it) != 0) puts("it has no second end");
+    for (int k = 0; k < 2; k++)
+        if (close(others[k]) != 0) puts("it has closed what isn't its own");
+    if (!is_refused(fault, untouched, untouched)) puts("done");
+}
+
 static void wait_for_server(void) {
     int status = cvec_server_wait(&server);
     if (status < 0) puts("killed");
@@ -167,9 +178,8 @@ static void follow(char *line) {
     else if (!strcmp(word, "look")) look();
     else if (!strcmp(word, "read")) read_records();
     else if (!strcmp(word, "leave")) leave();
-    else if (!strcmp(word, "end")) {
-        if (!is_refused(cvec_seat_end(seat()), untouched, untouched)) puts("done");
-    } else if (!strcmp(word, "kill")) kill_server();
+    else if (!strcmp(word, "end")) end();
+    else if (!strcmp(word, "kill")) kill_server();
     else if (!strcmp(word, "wait")) wait_for_server();
     else if (!strcmp(word, "sh")) {
         fflush(stdout);
