@@ -1,6 +1,6 @@
 -- Worked images of what C is told: the numbers and the homes of a file, a file that is made or appended to, a frame, copied
 -- records and the numbers of refusals, each with the nearest that it must not be told.
-use Rattle.std.proofs.Common.{◌≡◌, ◌≢◌, ℕ, zero, suc, ◌+◌, ◌-◌, ◌^◌, ◌<◌, ◌≤◌, inl, inr, Bool, true, false, List, [], ◌∷◌, ◌++◌, length, take, drop, Option, Some, None, refl, sym, ap, subst, ◌∙◌, arith, length-append}
+use Rattle.std.proofs.Common.{◌≡◌, ℕ, zero, suc, ◌+◌, ◌^◌, ◌<◌, inl, inr, List, [], ◌∷◌, ◌++◌, length, drop, Option, Some, None, refl, sym, ap, subst, ◌∙◌, arith, length-append}
 use Rattle.std.specs.Prelude.{slice_get}
 use Rattle.std.specs.Int.{w64, to_le_bytes}
 use Rattle.record_core.specs.Bytes.{Encoding, unsigned}
@@ -11,20 +11,18 @@ use Rattle.segment_core.specs.declared.found.Home.{Home}
 use Rattle.segment_core.specs.declared.format.Format.{Format}
 use Rattle.segment_core.specs.declared.format.Format.TheVariants.{One, Two}
 use Rattle.segment_core.specs.declared.format.Shape.{Shape}
-use Rattle.segment_core.specs.Shape.{version_of, shape_of, format_in}
-use Rattle.segment_core.specs.Frame.{Frame, Group, Change, text, frame_text}
-use Rattle.segment_core.specs.Layout.{u32_at, u64_at, is_group_layout, is_change_layout}
+use Rattle.segment_core.specs.Shape.{version_of, shape_of}
+use Rattle.segment_core.specs.Frame.{Frame, Group, text, frame_text}
 use Rattle.segment_core.specs.Tally.{tally_of, AreLegal}
 use Rattle.segment_core.specs.Image.{HasFrames}
-use Rattle.segment_core.specs.Vector.{place_of, record_at, HasVector}
-use Rattle.segment_core.specs.Fault.{frame_fault, frame_lines, order_lines, damaged, header_fault, header_lines, IsRefused}
+use Rattle.segment_core.specs.Vector.{place_of, record_at}
+use Rattle.segment_core.specs.Fault.{frame_fault, frame_lines, damaged, header_fault, header_lines}
 use Rattle.segment_core.specs.Found.{StandsAt}
 use Rattle.segment_core.specs.Reading.{BeginsWith}
 use Rattle.segment_core.proofs.Longest.{NoFrame_fault, is_longest}
 use Rattle.segment_core.proofs.Refusals.{longest_closed}
 use Rattle.segment_core.proofs.OneVector.{one_list, sound_header, same_vector}
 use Rattle.cvec_c.specs.declared.frame.CvecFrame.{CvecFrame}
-use Rattle.cvec_c.specs.declared.homes.CvecHome.{CvecHome}
 use Rattle.cvec_c.specs.declared.stat.CvecStat.{CvecStat}
 use Rattle.cvec_c.specs.declared.status.CvecFault.{CvecFault}
 use Rattle.cvec_c.specs.declared.status.Status.{Status}
