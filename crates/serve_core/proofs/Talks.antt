@@ -1,5 +1,5 @@
 -- A conversation goes on.
-use Rattle.std.proofs.Common.{◌≡◌, ℕ, ◌+◌, ◌<◌, ◌≤◌, max, List, [], ◌∷◌, ◌++◌, length, All, Contains, Option, sym, refl, subst, ap, arith, ◌∙◌, append_assoc, None, Some, IfSome, Result, Ok, Err, IfOk, IfErr, ◌⊎◌, inl, inr}
+use Rattle.std.proofs.Common.{◌≡◌, ℕ, ◌+◌, ◌<◌, ◌≤◌, max, List, [], ◌∷◌, ◌++◌, length, All, Contains, Option, sym, refl, subst, ap, arith, ◌∙◌, append_assoc, None, Some, Result, Ok, Err, IfOk, IfErr, ◌⊎◌, inl, inr}
 use Rattle.std.specs.Io.KnownBytes.{Consumes, Appends}
 use Rattle.std.proofs.KnownBytes.{Consumes-nil, Consumes-trans}
 use Rattle.std.proofs.lemmas.List.{length-append, append-nil}
@@ -20,7 +20,7 @@ use Rattle.serve_core.specs.declared.talking.TalkEnd.TheVariants.{Ended, Gone, C
 use Rattle.serve_core.specs.Answers.{answer_bytes}
 use Rattle.serve_core.specs.Talks.{IsBlock, IsBlockOfRecords, IsGrowRefusal, IsOfRecords, IsGrowthRefusal, IsOfGrowth}
 use Rattle.serve_core.specs.Talks.{AllBelow, IsNextOf, HasUnsettled, AreExchanges, Exchange, IsExchange, IsOfRequest, IsDone, IsUntold, TalkGoesOn, AllGoOn, EndsTalk, EndsSo, HasTalked, asked, told, told_of}
-use Rattle.serve_core.specs.Talks.{EndsReading, end_within, IsCutRead, IsCutGrowth, IsPartOfGrowth, IsCutRequest}
+use Rattle.serve_core.specs.Talks.{EndsReading, end_within, IsCutRead, IsCutGrowth, IsCutRequest}
 use Rattle.serve_core.specs.Requests.{IsRequestHead, head_of}
 use Rattle.serve_core.specs.declared.request.Head.{Head}
 use Rattle.serve_core.specs.declared.request.Request.{Request}

@@ -1,6 +1,6 @@
 -- Worked requests, answers and conversations: what each may be, and the nearest that it may not.
-use Rattle.std.proofs.Common.{◌≡◌, ◌≢◌, ℕ, zero, suc, ◌+◌, ◌^◌, ◌<◌, ◌≤◌, ◌⊎◌, inl, inr, Bool, true, false, List, [], ◌∷◌, ◌++◌, length, take, drop, get_or, replicate, All, Contains, Option, Some, None, refl, sym, ap, subst, ◌∙◌, arith, length-append}
-use Rattle.std.proofs.lemmas.List.Elements.{All-nil, All-cons}
+use Rattle.std.proofs.Common.{◌≡◌, ℕ, ◌<◌, ◌⊎◌, inl, inr, List, [], ◌∷◌, ◌++◌, length, take, get_or, replicate, All, Option, Some, None, refl, sym, ap, subst, ◌∙◌, arith, length-append}
+use Rattle.std.proofs.lemmas.List.Elements.{All-nil}
 use Rattle.std.proofs.lemmas.List.{take_at, append-nil}
 use Rattle.std.specs.Int.{w32, w64, to_le_bytes}
 use Rattle.std.specs.List.{flat_map}
@@ -9,8 +9,6 @@ use Rattle.record_core.specs.Bytes.{Encoding, unsigned}
 use Rattle.block_core.specs.Growth.{Growth}
 use Rattle.book_core.specs.Lists.{Phase, Seated}
 use Rattle.book_core.specs.Marks.{MarkEnd}
-use Rattle.book_core.specs.declared.mark.MarkState.{MarkState}
-use Rattle.book_core.specs.declared.mark.MarkState.TheVariants as states
 use Rattle.serve_core.specs.declared.answer.Answer.{Answer}
 use Rattle.serve_core.specs.declared.answer.Answer.TheVariants as answers
 use Rattle.serve_core.specs.declared.refusal.Refusal.{Refusal}
@@ -21,8 +19,8 @@ use Rattle.serve_core.specs.declared.request.Request.TheVariants as requests
 use Rattle.serve_core.specs.declared.talking.TalkEnd.{TalkEnd}
 use Rattle.serve_core.specs.declared.talking.TalkEnd.TheVariants as ends
 use Rattle.serve_core.specs.Requests.{IsRequestHead, head_of, IsNoRequest}
-use Rattle.serve_core.specs.Answers.{answer_bytes, numbers_of, refusal_code, ends_talk}
-use Rattle.serve_core.specs.Talks.{IsOfWaiting, HasUnsettled, Exchange, IsExchange, AreExchanges, IsCutRequest, IsPartOfGrowth, EndsSo, HasTalked, asked, told, told_of}
+use Rattle.serve_core.specs.Answers.{answer_bytes, numbers_of, refusal_code}
+use Rattle.serve_core.specs.Talks.{IsOfWaiting, HasUnsettled, Exchange, IsExchange, IsCutRequest, IsPartOfGrowth, EndsSo, HasTalked, asked, told, told_of}
 
 abbrev numbers : Encoding ℕ
 numbers = unsigned w64
@@ -158,6 +156,10 @@ not_behind_the_end = ((λ so. so.0 0 end (omega arith)), (λ so. so.0 0 end (ome
 -- no byte is read behind the last request
 not_read_on : EndsSo numbers (Some (7 ∷ [])) (Some []) ends.Ended (end ∷ []) → ⊥
 not_read_on so = absurd (let same = so.2 in cc)
+
+-- nor are there none where a byte remains
+not_gone_with_more : EndsSo numbers (Some (7 ∷ [])) (Some (7 ∷ [])) ends.Gone [] → ⊥
+not_gone_with_more so = absurd (let none = so.1.ended.1 in cc)
 
 -- ---- requests that are cut
 

@@ -1,6 +1,6 @@
 -- Worked files of what `stat` tells: which numbers are a file's and which aren't, which frames stand and which don't, which
 -- refusals are right, how many calls an answer takes, what only reading is, and the text.
-use Rattle.std.proofs.Common.{◌≡◌, ℕ, ◌+◌, ◌<◌, ◌≤◌, inl, inr, Bool, true, false, true≢false, List, [], ◌∷◌, ◌++◌, length, take, drop, Option, Some, None, Result, Ok, Err, codes, refl, sym, ap, subst, ◌∙◌, arith}
+use Rattle.std.proofs.Common.{◌≡◌, ℕ, ◌≤◌, inl, inr, true≢false, List, [], ◌∷◌, ◌++◌, take, drop, Some, Result, Ok, Err, codes, refl, sym, ap, arith}
 use Rattle.std.specs.Fmt.{digits}
 use Rattle.std.specs.Int.{w64, to_le_bytes}
 use Rattle.disk_core.specs.declared.fault.DiskFault.TheVariants as disks
@@ -11,13 +11,12 @@ use Rattle.segment_core.specs.declared.fault.ScanFault.{ScanFault}
 use Rattle.segment_core.specs.declared.fault.ScanFault.TheVariants as scans
 use Rattle.segment_core.specs.declared.format.Format.TheVariants.{One}
 use Rattle.segment_core.specs.declared.format.Shape.{Shape}
-use Rattle.segment_core.specs.declared.tally.Tally.{Tally}
 use Rattle.segment_core.specs.Frame.{Frame, text, frame_text}
 use Rattle.segment_core.specs.Frame as frames
 use Rattle.segment_core.specs.Layout.{u32_at, u64_at}
 use Rattle.segment_core.specs.Tally.{AreLegal}
 use Rattle.segment_core.specs.Image.{HasFrames}
-use Rattle.segment_core.specs.Fault.{IsSound, header_lines, frame_fault, frame_lines, order_lines, damaged}
+use Rattle.segment_core.specs.Fault.{IsSound, header_lines, frame_fault, frame_lines, damaged}
 use Rattle.stat_core.specs.declared.fault.StatFault.{StatFault}
 use Rattle.stat_core.specs.declared.fault.StatFault.TheVariants.{Disk, Header, Frame as FrameFault}
 use Rattle.stat_core.specs.declared.outline.Outline.{Outline}
@@ -27,7 +26,7 @@ use Rattle.stat_core.specs.declared.telling.Ended.TheVariants as ends
 use Rattle.stat_core.specs.declared.writing.Form.TheVariants.{Lines, Json}
 use Rattle.stat_core.specs.Outline.{IsOutlined, MayStand, outline_of, outline_kind, outline_len}
 use Rattle.stat_core.specs.Summary.{begun, grown, summary_of, summary_of_frames, tally_in, AreFew}
-use Rattle.stat_core.specs.Walked.{AreOutlined, Counts, IsSummaryOf, IsFaultBehind, IsStatRefusal, TellsFrames}
+use Rattle.stat_core.specs.Walked.{AreOutlined, Counts, IsSummaryOf, IsStatRefusal, TellsFrames}
 use Rattle.stat_core.specs.Window.{OnlyReads}
 use Rattle.stat_core.specs.Calls.{failed_in, failed_at, AreCalls}
 use Rattle.stat_core.specs.Ended.{IsTold}
