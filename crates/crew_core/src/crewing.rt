@@ -5,8 +5,10 @@ ghost use Rattle.book_core.specs.Beginning.{AreNewSeats};
 ghost use Rattle.flush_core.specs.Flusher.{IsFlusherOf};
 ghost use Rattle.flush_core.specs.Serving.{Serves};
 ghost use Rattle.crew_core.specs.Crewing.{AreSent, AreHome, HasCome, HasGrown, HasCrewed, IsCrewFault, crew_room};
+ghost use Rattle.crew_core.specs.Leaving.{LeavesGrowths};
 
 use crate::grower::Grower;
+use crate::leaving::with_all_known;
 use crate::sent::{Grows, Sent};
 use crate::source::{Gate, Source};
 use book_core::{GrowFault, Live, Receipt, Seat};
@@ -278,7 +280,7 @@ fn grow_and_close<R: Record, S: Source<R>, G: Gate, E: Threads + Wait + Sync>(
 /// thread can't be started has the fault `Memory`.
 ///
 /// Refused: `Share`, as `share` is, for a room of all blocks of the source and a seat for each grower; `Gather`, as `gather`
-/// is.
+/// is, and the flusher then knows all that the seats know.
 pub fn crew<R: Record, D: Disk + Send + Drop, S: Source<R>, G: Gate, E: Threads + Wait + Sync>(
     rt: &E,
     alloc: Global,
@@ -288,6 +290,7 @@ pub fn crew<R: Record, D: Disk + Send + Drop, S: Source<R>, G: Gate, E: Threads 
 ) -> Result<Crewed<R, D>, CrewFault<R, D>>
     ensures crewed { IfOk result (λ crewed. HasCrewed R.form D.keeps D.states (S.count_of source.now) (S.block_of source.now) (G.may_stop gate.now) (S.growers_of source.now) vault crewed.vault (map (λ its. its.items) crewed.receipts.items) crewed.faults.items) }
     ensures refused { IfErr result (IsCrewFault R.form D.keeps D.states vault (crew_room (S.count_of source.now) (S.growers_of source.now)) (S.growers_of source.now)) }
+    ensures leaves { IfErr result (LeavesGrowths (S.count_of source.now) (S.block_of source.now) (S.growers_of source.now)) }
 {
     let growers = source.growers();
     let room = room_of::<R, S>(source);
@@ -313,6 +316,6 @@ pub fn crew<R: Record, D: Disk + Send + Drop, S: Source<R>, G: Gate, E: Threads 
             receipts,
             faults,
         }),
-        Err(gathering) => Err(CrewFault::Gather(gathering)),
+        Err(gathering) => Err(CrewFault::Gather(with_all_known(gathering))),
     }
 }
