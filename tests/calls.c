@@ -8,7 +8,8 @@
    CALLS_PART=N       each read and write does at most N bytes. Each call on a file whose interruption docs/file/disk.md
                       names is interrupted once before it is made: pread, pwrite, fdatasync, and statx of a descriptor
    CALLS_FAIL=CALL:N  the call of this name fails, which is number N of those with it, from 1: EIO, or ENOSPC of a write
-   CALLS_LARGEST=N    a request for more than N bytes of memory is refused */
+   CALLS_LARGEST=N    a request for more than N bytes of memory is refused
+   CALLS_WAIT=N       each pread is made N microseconds later */
 #define _GNU_SOURCE
 #include <dlfcn.h>
 #include <errno.h>
@@ -24,11 +25,12 @@ enum call { READ, WRITE, PREAD, PWRITE, FDATASYNC, FSYNC, STATX, FLOCK, CALLS };
 static const char *const names[CALLS] = {"read", "write", "pread", "pwrite", "fdatasync", "fsync", "statx", "flock"};
 static int seen[CALLS], made[CALLS], failing = -1, failing_at, log_to = -1;
 static size_t part = (size_t)-1, largest = (size_t)-1;
+static useconds_t before_read;
 
 /* The program's own descriptors keep their numbers. */
 __attribute__((constructor)) static void begin(void) {
     const char *log = getenv("CALLS_LOG"), *most = getenv("CALLS_PART"), *fail = getenv("CALLS_FAIL");
-    const char *bytes = getenv("CALLS_LARGEST");
+    const char *bytes = getenv("CALLS_LARGEST"), *wait = getenv("CALLS_WAIT");
     if (log != NULL) {
         int opened = open(log, O_WRONLY | O_CREAT | O_APPEND | O_CLOEXEC, 0666);
         log_to = fcntl(opened, F_DUPFD_CLOEXEC, 200);
@@ -36,6 +38,7 @@ __attribute__((constructor)) static void begin(void) {
     }
     if (most != NULL) part = strtoul(most, NULL, 10);
     if (bytes != NULL) largest = strtoul(bytes, NULL, 10);
+    if (wait != NULL) before_read = (useconds_t)atoi(wait);
     for (int call = 0; fail != NULL && call < CALLS; call++) {
         size_t length = strlen(names[call]);
         if (strncmp(fail, names[call], length) == 0 && fail[length] == ':') {
@@ -84,6 +87,7 @@ static size_t at_most(size_t n) { return n < part ? n : part; }
 ssize_t read(int fd, void *bytes, size_t n) { return is_refused(READ) ? -1 : NEXT(read)(fd, bytes, at_most(n)); }
 
 ssize_t pread(int fd, void *bytes, size_t n, off_t place) {
+    if (before_read > 0) usleep(before_read);
     return is_interrupted(PREAD) || is_refused(PREAD) ? -1 : NEXT(pread)(fd, bytes, at_most(n), place);
 }
 

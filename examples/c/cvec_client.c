@@ -265,11 +265,19 @@ int cvec_seat_read(struct cvec_seat *seat, uint64_t start, void *records, uint32
     return 0;
 }
 
+/* Once: its number may be that of another descriptor then. */
+static void close_end(int *end) {
+    if (*end >= 0)
+        close(*end);
+    *end = -1;
+}
+
 int cvec_seat_end(struct cvec_seat *seat) {
     struct answer answer;
     int status = seat->over ? 0 : ask(seat, END, 0, 0, &answer);
-    close(seat->requests);
-    close(seat->answers);
+    close_end(&seat->requests);
+    close_end(&seat->answers);
+    seat->over = 1;
     return status;
 }
 

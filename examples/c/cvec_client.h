@@ -80,7 +80,7 @@ int cvec_seat_look(struct cvec_seat *seat, uint64_t *size, uint64_t *settled);
  * knows none there. */
 int cvec_seat_read(struct cvec_seat *seat, uint64_t start, void *records, uint32_t count, uint32_t *copied);
 
-/* Ends the seat, and closes its pipes. 0 also where it was over before. */
+/* Ends the seat, and closes its pipes. 0 also where it was over before. A seat that has ended may be ended again. */
 int cvec_seat_end(struct cvec_seat *seat);
 
 /* Waits until the server has ended, which it does behind its last seat: its exit status, 0 where all that was grown is

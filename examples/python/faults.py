@@ -59,6 +59,9 @@ def check_rows():
         assert listed(kind) == row, kind
         with cvec.Map(PATH, kind) as seen:
             assert list(seen.records()) == row, kind
+        with cvec.open(PATH, kind) as file:
+            assert len(file.read(1)) == len(row) - 1 and len(file.read(5)) == len(file.read(0, 0)) == 0
+            assert refusal_of(file.read, -1) == "a position is below 0"
     with made("flagged") as file:
         file.append([(1, 5), (2, 0)])
     assert listed("flagged") == [(1, True), (2, False)]
@@ -79,6 +82,12 @@ def check_arrays():
         file.append(array([7, 8, 9, 10], dtype=">i8")[::2])
         file.append(array([11], dtype=object))
     assert listed("u32") == [7, 9, 11]
+    for kind, row in GOOD.items():
+        with made(kind) as file:
+            file.append(array(row, dtype=cvec.IN_FILE[kind].dtype))
+            if cvec.IN_FILE[kind].is_number:
+                file.append(array(row, dtype=object))
+        assert listed(kind) == row * (2 if cvec.IN_FILE[kind].is_number else 1), kind
     with made("i64") as file:
         check_refused(file, [array([2 ** 63], dtype="u8"), array([1, 2 ** 63])])
     with made("pair") as file:
@@ -120,16 +129,30 @@ def is_forked(call):
     return False
 
 
+def run_forked(file, told, goes_on):
+    """In a forked process: it closes the file, tells so, and lives until its parent goes on."""
+    refused = is_forked(lambda: file.append([5, 6])) and is_forked(file.read)
+    file.close()
+    file.close()
+    os.write(told, b"1" if refused else b"0")
+    os.close(goes_on[1])
+    os.read(goes_on[0], 1)
+    os._exit(0)
+
+
 def check_fork():
+    """A forked process that has closed the file keeps nobody from it."""
+    told, goes_on = os.pipe(), os.pipe()
     with made("u64") as file:
         child = os.fork()
         if child == 0:
-            refused = is_forked(lambda: file.append([5, 6])) and is_forked(file.read)
-            file.close()
-            os._exit(0 if refused else 1)
-        assert os.waitpid(child, 0)[1] == 0, "a forked process appends or reads"
+            run_forked(file, told[1], goes_on)
+        assert os.read(told[0], 1) == b"1", "a forked process appends or reads"
         file.append([7])
     assert listed("u64") == [7]
+    for end in (*told, *goes_on):
+        os.close(end)
+    assert os.waitpid(child, 0)[1] == 0
 
 
 def refusal_of(call, *words):

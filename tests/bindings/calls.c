@@ -2,7 +2,7 @@
  * .cv), on their folders, and on pipes. By CALLS:
  *
  *   part   each call is interrupted once (EINTR), then a read does a part (at most 7 bytes) and a write at most 5. A call
- *          that closes leaves another errno.
+ *          that closes leaves another errno. A wait for a child is interrupted as well.
  *   plan   each call that writes, syncs or locks is noted in the file `calls`, reads that follow one another as one. The file
  *          `plan` is `KIND N ERRNO [BYTES]`: the call of that kind with number N from now on fails by this number, having
  *          written so many bytes. Where ERRNO is 0 it answers that it did nothing. The KIND `memory` is a request of just BYTES
@@ -20,6 +20,7 @@
 #include <sys/file.h>
 #include <sys/stat.h>
 #include <sys/syscall.h>
+#include <sys/wait.h>
 #include <unistd.h>
 
 enum { LIMIT = 1024, OTHER = 0, SEGMENT = 1, FOLDER = 2, PIPE = 3 };
@@ -205,6 +206,17 @@ ssize_t write(int fd, const void *bytes, size_t len) {
     REAL(write);
     if (!is_part || !is_pipe(fd)) return real(fd, bytes, len);
     return is_interrupted(fd) ? -1 : real(fd, bytes, part(len, PART_WRITE));
+}
+
+/* Each second wait for a child is interrupted. */
+pid_t waitpid(pid_t pid, int *status, int options) {
+    static int pause;
+    REAL(waitpid);
+    if (is_part && (pause = !pause) != 0) {
+        errno = EINTR;
+        return -1;
+    }
+    return real(pid, status, options);
 }
 
 int close(int fd) {

@@ -3,6 +3,7 @@
 #define _GNU_SOURCE 1
 #include "cvec_client.h"
 
+#include <errno.h>
 #include <fcntl.h>
 #include <inttypes.h>
 #include <signal.h>
@@ -126,7 +127,9 @@ static void start(void) {
     snprintf(type, sizeof type, "%s", next_word());
     char *file = next_word();
     memset(&server, (int)untouched, sizeof server);
-    puts(cvec_server_start(&server, program, type, file, (int)number()) ? "no server" : "done");
+    errno = 0;
+    if (cvec_server_start(&server, program, type, file, (int)number())) printf("no server: %s\n", strerror(errno));
+    else puts("done");
 }
 
 /* The server has ended when this returns, and is still to be waited for. */
@@ -148,6 +151,17 @@ static void leave(void) {
     close(it->requests);
 }
 
+/* A seat that has ended may be ended again: its numbers are those of other descriptors then, and are left alone. */
+static void end(void) {
+    struct cvec_seat *it = seat();
+    int fault = cvec_seat_end(it), others[2];
+    for (int k = 0; k < 2; k++) others[k] = open("/dev/null", O_RDONLY | O_CLOEXEC);
+    if (cvec_seat_end(it) != 0) puts("it has no second end");
+    for (int k = 0; k < 2; k++)
+        if (close(others[k]) != 0) puts("it has closed what isn't its own");
+    if (!is_refused(fault, untouched, untouched)) puts("done");
+}
+
 static void wait_for_server(void) {
     int status = cvec_server_wait(&server);
     if (status < 0) puts("killed");
@@ -164,9 +178,8 @@ static void follow(char *line) {
     else if (!strcmp(word, "look")) look();
     else if (!strcmp(word, "read")) read_records();
     else if (!strcmp(word, "leave")) leave();
-    else if (!strcmp(word, "end")) {
-        if (!is_refused(cvec_seat_end(seat()), untouched, untouched)) puts("done");
-    } else if (!strcmp(word, "kill")) kill_server();
+    else if (!strcmp(word, "end")) end();
+    else if (!strcmp(word, "kill")) kill_server();
     else if (!strcmp(word, "wait")) wait_for_server();
     else if (!strcmp(word, "sh")) {
         fflush(stdout);

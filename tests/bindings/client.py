@@ -29,6 +29,27 @@ def read(name, start, count):
     return listed(kind, seat(name).piece(int(start), int(count)))
 
 
+def read_all(name, *start):
+    return listed(kind, seat(name).read(*map(int, start)))
+
+
+def within(how):
+    """Leaves a block of `with` well, or by an exception of its own."""
+    try:
+        with server:
+            if how == "badly":
+                raise KeyError
+    except KeyError:
+        return "the block's own"
+    except cvec_client.Gone as it:
+        return f"gone: {it}"
+    return "done"
+
+
+def texts():
+    return ", ".join(str(cvec_client.Refused(code)) for code in range(1, 15))
+
+
 def kill():
     """The server has ended when this returns, and is still to be waited for."""
     server.process.send_signal(signal.SIGKILL)
@@ -62,7 +83,7 @@ def shell(*words):
 COMMANDS = {
     "serve": start, "grow": grow, "await": lambda name: f"settled {seat(name).settle()}", "read": read,
     "look": lambda name: "size %d settled %d" % seat(name).look(), "leave": leave, "end": end, "kill": kill, "wait": wait,
-    "sh": shell,
+    "sh": shell, "all": read_all, "within": within, "texts": texts,
 }
 
 
@@ -73,6 +94,8 @@ def answer(word, *words):
         return f"refused {it.code}"
     except cvec_client.Gone:
         return "gone"
+    except OSError as it:
+        return f"no server: {it.strerror}"
 
 
 def main(path):

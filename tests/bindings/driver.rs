@@ -62,7 +62,8 @@ impl<R: Word> Handle for File<R> {
 }
 
 fn opened<R: Word + 'static>(is_new: bool, path: &str) -> Result<Box<dyn Handle>, Error> {
-    let path = Path::new(path);
+    let path = path.replace("\\0", "\0");
+    let path = Path::new(&path);
     Ok(Box::new(if is_new { File::<R>::create(path)? } else { File::<R>::open(path)? }))
 }
 

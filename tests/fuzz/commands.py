@@ -66,6 +66,11 @@ def holds(image, kind, texts, folded):
     return texts_in(file) == texts and (not folded or file.folded == len(file.changes))
 
 
+def is_upgraded(name, kind, texts):
+    image = read_file(name) if os.path.exists(name) else b''
+    return image[8:9] == b'\2' and holds(image, kind, texts, True)
+
+
 def command_words(verb, kind, name, words):
     if verb == 'stat':
         return [verb, name, *words]
@@ -86,8 +91,8 @@ def judge_outcome(kind, name, command, before, found):
         told = told or '%s wrote the file' % verb
     if texts is not None and not holds(after, kind, texts, verb == 'fold'):
         told = told or '%s left other records' % verb
-    if answer.startswith('upgraded') and not holds(read_file(name + '.new'), kind, texts_in(File(before, kind)), True):
-        told = told or 'the new file has other records'
+    if answer.startswith('upgraded') and not is_upgraded(name + '.new', kind, texts_in(File(before, kind))):
+        told = told or 'the new file has other records, or not version 2'
     if os.path.exists(name + '.new'):
         os.remove(name + '.new')
     return told

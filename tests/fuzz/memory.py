@@ -10,7 +10,7 @@ import tempfile
 from follower import follow
 from program import MEASURER, PROGRAM, run
 from reader import answers_of
-from writer import all_kinds
+from writer import all_kinds, group, header, numbers
 
 
 # ---- a library that refuses a request
@@ -101,14 +101,15 @@ def ask_again(script, refused):
 
 
 class Ample:
-    """What a script answers where no memory is refused, and without one of its lines."""
+    """What a script answers where no memory is refused, and without one of its lines; and what the follower finds wrong."""
     known = {}
 
     @classmethod
     def of(cls, script, without=None):
         lines = tuple(ask_again(script, without))
         if lines not in cls.known:
-            cls.known[lines] = run(['play', 'u64'], '\n'.join(lines).encode())[1].decode().split('\n')
+            written = run(['play', 'u64'], '\n'.join(lines).encode())[1]
+            cls.known[lines] = written.decode().split('\n'), follow(lines, written)
         return cls.known[lines]
 
 
@@ -130,13 +131,14 @@ def judge_refused_script(job):
         return 'request %d: ended with %r' % (number, found), True, kept
     if 'refused memory' in answers:
         at = answers.index('refused memory')
-        wanted = Ample.of(script, at)
-        told = None if ask_again(answers, at) == wanted else 'request %d, line %d: wanted %r, found %r' % (
+        wanted, wrong = Ample.of(script, at)
+        told = wrong if ask_again(answers, at) == wanted else 'request %d, line %d: wanted %r, found %r' % (
             number, at + 1, wanted, answers)
     elif any(answer.startswith('refused disk ') for answer in answers):
         told = follow(script, found[1], faults=True)
     else:
-        told = None if answers == Ample.of(script) else 'request %d: other answers %r' % (number, answers)
+        wanted, wrong = Ample.of(script)
+        told = wrong if answers == wanted else 'request %d: other answers %r' % (number, answers)
     return told, True, kept
 
 
@@ -190,10 +192,11 @@ def memory_tables(_folder):
     yield judge_refused_growths, None
     for script in MEMORY_SCRIPTS:
         yield judge_refused_script, script.split(';')
-    lines = b'1 2 | 3\n4\n'
-    for words, given in [(['image', 'u64'], lines), (['show', 'u64'], all_kinds(1).hex().encode()),
-                         (['show', 'u64'], all_kinds(2).hex().encode()), (['image', 'u64'], b'1\n05\n')]:
-        yield judge_refused_run, (PROGRAM, words, given, run(words, given))
+    image = header(1, 8) + group([numbers(1, 2), numbers(3)]) + group([numbers(4)]) + b'\0'
+    runs = [('image', b'1 2 | 3\n4\n', (0, image.hex().encode() + b'\n')), ('image', b'1\n05\n', (1, b'refused: line 2\n'))]
+    runs += [('show', it.hex().encode(), answers_of(it, 'u64')[0]) for it in (all_kinds(1), all_kinds(2))]
+    for word, given, wanted in runs:
+        yield judge_refused_run, (PROGRAM, [word, 'u64'], given, (*wanted, b''))
 
 
 # ---- works

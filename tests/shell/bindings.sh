@@ -8,7 +8,7 @@ bindings=$top/tests/bindings
 built=$work-built
 
 has_tables() {
-    for tool in cc python3 flock timeout; do
+    for tool in cc python3 flock prlimit timeout; do
         has $tool 'tables of cases' || return 1
     done
 }
@@ -105,6 +105,7 @@ follows() {
     ended=0
     (
         cd "$work/here"
+        umask 022
         export "PATH=$built:$PATH" "CVEC_LIBRARY=$built/libcvec.so"
         export "PYTHONPATH=$top/examples/python:$top/tests/fuzz" PYTHONDONTWRITEBYTECODE=1
         exec timeout 600 env "$@" "$work/table"
@@ -134,6 +135,7 @@ answers_are_right_in_python() (
 
 answers_are_right_in_rust() (
     answers_are_right rust
+    follows rust rust.txt
 )
 
 records_are_found_where_they_stand() (
@@ -211,6 +213,7 @@ a_table_holds_for_clients() (
         follows $caller limits.txt
     done
     follows client_c client_c.txt
+    follows client_python client_python.txt
 )
 
 parts_make_a_whole_for_clients() (

@@ -57,6 +57,42 @@ an_older_program_is_built_again() (
     tells_only 'cvec: proves and builds the program'
 )
 
+# What contracts say and how they are proved are sources too.
+a_newer_contract_or_proof_is_built_again() (
+    seeming_repository
+    mkdir -p "$there/crates/cvec/specs" "$there/crates/cvec/proofs/F" "$there/crates/cvec/out/rlib"
+    for file in specs/Lib.antt proofs/F/Answers.antt src/main.rt; do
+        touch -d '2 hours ago' "$there/crates/cvec/$file"
+        with_toolchain
+        with_toolchain
+        answers 0 'made with word\n'
+        touch -d '1 hour' "$there/crates/cvec/$file"
+        with_toolchain
+        tells_only 'cvec: proves and builds the program'
+        touch -d '2 hours ago' "$there/crates/cvec/$file"
+    done
+    # What a build made is none, nor is a page.
+    touch -d '1 hour' "$there/crates/cvec/out/rlib/main.rt" "$there/crates/cvec/README.md"
+    with_toolchain
+    answers 0 'made with word\n'
+)
+
+# Two builds at once: the second waits for the first, and has nothing left to do but to run the program.
+one_build_works_in_a_repository_at_a_time() (
+    seeming_repository
+    of_three_crates
+    sed -i "1a echo \"begin \${PWD##*/}\" >>'$there/calls'; sleep 0.5; trap 'echo end >>\"$there/calls\"' EXIT" "$there/bin/rt"
+    export PATH="$there/bin:/usr/bin:/bin"
+    "$there/build" cvec 2>"$work/first" &
+    first=$!
+    until [ -s "$there/calls" ]; do sleep 0.05; done
+    "$there/build" cvec 2>"$err"
+    wait $first
+    tells 'another build is under way here: waiting for it'
+    if grep -q 'another build' "$work/first"; then return 1; fi
+    [ "$(awk '/^begin/ { if (begun++) exit 1 } /^end/ { begun-- } END { print "one by one" }' "$there/calls")" = 'one by one' ]
+)
+
 a_source_that_is_edited_in_a_build_is_built_again() (
     seeming_repository
     sed -i '1a sleep 0.1; touch src/main.rt' "$there/bin/rt"
@@ -119,7 +155,7 @@ the_libraries_are_built_in_their_order() (
     with_toolchain
     [ "$(cat "$out")" = 'made with word' ]
     [ "$(paste -sd ' ' "$there/calls")" = 'lib low lib middle run cvec' ]
-    tells 'cvec: 1 of 3 crates are proved, 1 s'
+    grep -qx 'cvec: 1 of 3 crates are proved, [1-9][0-9]* s' "$err"
     [ -d "$there/crates/low/out/rlib" ]
     [ -d "$there/crates/middle/out/rlib" ]
 )

@@ -86,3 +86,72 @@ each_request_of_threads_for_memory_may_be_refused() (
 nothing_that_nobody_wrote_is_answered_wrongly() (
     "$top/tests/fuzz/run" 60 "$(date +%s)"
 )
+
+# ---- what looks for wrong answers, with programs that give some
+
+# A repository whose program is the built one, behind these lines of a shell.
+seeming_program() {
+    there=$work/there
+    rm -rf "$there"
+    mkdir -p "$there/tests" "$there/crates/cvec/out"
+    cp -r "$top/tests/fuzz" "$there/tests"
+    printf '#!/bin/sh\n%s\nexec "%s" "$@"\n' "$1" "$program" >"$there/crates/cvec/out/cvec"
+    chmod +x "$there/crates/cvec/out/cvec"
+    cp "$there/crates/cvec/out/cvec" "$there/cvec"
+}
+
+# What is wrong with its answers to one job of each kind.
+judged() {
+    PYTHONPATH=$there/tests/fuzz PYTHONDONTWRITEBYTECODE=1 python3 - <<'PYTHON'
+from commands import judge_commands
+from follower import judge_script
+from random_jobs import judge_lines
+from serving import GROW, head, judge_served
+from tables import judge_image
+from writer import all_kinds, numbers
+
+commands = [("check", [], []), ("stat", [], []), ("list", [], []), ("count", ["--record=9"], []), ("find", ["--record=9"], []),
+            ("upgrade", [], []), ("set", ["1", "--records=4,5"], []), ("append", [], ["1 2", "3"]), ("fold", [], [])]
+jobs = [(judge_commands, ("u64", all_kinds(1), [it])) for it in commands]
+jobs += [(judge_image, (all_kinds(2)[:-1], "u64", False)), (judge_lines, ("u64", [[numbers(10)]])),
+         (judge_script, ["create", "resize 2 5", "crash old", "open", "list"]),
+         (judge_served, ("u64", all_kinds(1), [[(head(GROW, 1) + bytes(8), GROW, [bytes(8)])]]))]
+for judge, job in jobs:
+    told = judge(job)[0]
+    if told:
+        print(told)
+PYTHON
+}
+
+# Each line is a command of the program, what is done in its place, and what is found. $p is the program.
+a_program_that_answers_wrongly_is_found() (
+    seeming_program ''
+    judged >"$out"
+    [ ! -s "$out" ]
+    while IFS='~' read -r word does found; do
+        seeming_program "p='$program'; if [ \"\${1-}\" = $word ]; then $does; fi"
+        judged >"$out"
+        echo "$word: $does"
+        cat "$out"
+        [ "$(grep -c . "$out")" -eq 1 ]
+        grep -q "^$found" "$out"
+    done <<'ROWS'
+show~"$p" "$@"; exit 0~show
+image~"$p" "$@" | tr a-f A-F; exit~image
+count~"$p" "$@"; s=$?; printf x >>"$3"; exit $s~count wrote the file
+find~echo none; exit~find
+check~"$p" "$@" | sed 's/live 1/live 2/'; exit~check
+list~"$p" "$@" | sed 1d; exit~list
+stat~"$p" "$@" | sed 's/^behind 0/behind 1/'; exit~stat
+set~"$p" "$@"; s=$?; printf '\7' | dd of="$3" bs=1 seek=25 conv=notrunc 2>/dev/null; exit $s~set left other records
+append~"$p" "$@" </dev/null | sed 's/appended .*/appended 2 growths, size 6/'; exit~append left other records
+upgrade~"$p" "$@"; s=$?; printf '\1' | dd of="$4" bs=1 seek=8 conv=notrunc 2>/dev/null; exit $s~the new file
+serve~"$p" "$@" | sed 's/served 1/served 0/'; exit~serve
+play~"$p" "$@" | sed 's/^size 2/size 1/'; exit~line
+ROWS
+    seeming_program "if [ \"\${1-}\" = help ]; then '$program' help 2>&1 | grep -v '^serve' >&2; exit 2; fi"
+    status=0
+    "$there/tests/fuzz/run" 1 7 >"$out" 2>"$err" || status=$?
+    [ "$status" -eq 1 ]
+    tells 'the usage of the program names no serve'
+)

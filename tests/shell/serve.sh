@@ -56,6 +56,19 @@ a_server_answers_what_is_asked() (
     did '5\n6\n'
 )
 
+# A client goes away behind 5,000 looks, whose answers are more than a pipe holds: its seat ends, and the server with it.
+a_client_that_reads_no_answer_holds_no_server() (
+    run create u64 "$work/t.cv"
+    head -c 80000 /dev/zero | sed 's/\x0\{16\}/\x3\x0\x0\x0\x0\x0\x0\x0\x0\x0\x0\x0\x0\x0\x0\x0/g' >"$work/requests"
+    mkfifo "$work/answers"
+    head -c 24 "$work/answers" >"$work/answered" &
+    status=0
+    (trap '' PIPE && exec timeout 20 "$program" serve u64 "$work/t.cv" --seats=1 3<"$work/requests" 4>"$work/answers") \
+        >"$out" 2>"$err" || status=$?
+    did 'served 0 growths\n'
+    head -c 24 /dev/zero | cmp - "$work/answered"
+)
+
 # Its header may stand beside that of the library.
 the_client_in_c_is_one_for_cpp() (
     has c++ 'the client in C++' || exit $is_skipped

@@ -102,3 +102,44 @@ nothing_of_progress_is_left_on_a_terminal_of_both() (
     [ "$status" -eq 0 ]
     [ "$(tr -d '\r' <"$work/terminal")" = 'appended 30000 growths, size 30000' ]
 )
+
+# ---- what the line of progress says
+
+# Runs a command whose reads of its file take a while, more than a second in all, with a terminal as its standard error.
+is_watched() {
+    on_a_terminal err "LD_PRELOAD=$work/calls.so" CALLS_WAIT=60000 "$slow" "$@"
+    [ "$status" -eq 0 ]
+}
+
+# Each line of progress with an end has a part of a hundred, and the time that the rest takes at that rate.
+its_numbers_fit() {
+    python3 - "$1" <<'PYTHON'
+import re, sys
+
+line = re.compile(r"(\d+) of (\d+), (\d+) %, (\d+) a second, (\d+) seconds left\x1b\[K")
+told = [tuple(map(int, it.groups())) for it in line.finditer(open(sys.argv[1], newline="").read())]
+assert len(told) > 1, "no line of progress"
+for done, end, part, rate, left in told:
+    assert done <= end and part == 100 * done // end and left == (end - done) // max(1, rate), (done, end, part, rate, left)
+assert max(rate for _, _, _, rate, _ in told) < 1e9, "nothing is so fast"
+PYTHON
+}
+
+reading_is_watched_unless_it_is_to_be_quiet() (
+    has python3 'terminals' && has_calls || exit $is_skipped
+    slow=$program program=/usr/bin/env
+    run create u64 "$work/t.cv"
+    for k in $(seq 1 20); do
+        run resize u64 "$work/t.cv" $((10000 * k)) --record=5
+    done
+    for words in 'stat FILE' 'check u64 FILE' 'count u64 FILE --record=5'; do
+        # shellcheck disable=SC2046 # each word is one
+        set -- $(echo "$words" | sed "s|FILE|$work/t.cv|")
+        is_watched "$@"
+        its_numbers_fit "$work/terminal"
+        mv "$out" "$work/watched"
+        is_watched "$@" --quiet
+        [ ! -s "$work/terminal" ]
+        cmp "$work/watched" "$out"
+    done
+)

@@ -93,5 +93,7 @@ the_program_tells_of_itself() (
     run --version
     [ "$status" -eq 0 ]
     grep -qF 'files of version 1 and 2' "$out"
-    grep -qF "$(sed -n 's/.*The toolchain (`\([^`]*\)`).*/\1/p' "$top/README.md")" "$out"
+    kit=$(sed -n 's/.*The toolchain (`\([^`]*\)`).*/\1/p' "$top/README.md")
+    [ -n "$kit" ]
+    grep -qF "$kit" "$out"
 )

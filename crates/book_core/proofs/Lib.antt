@@ -7,4 +7,5 @@ pub mod Slices
 pub mod Steps
 pub mod Turns
 pub mod Worked
+pub mod WorkedAppending
 pub mod WorkedGrowing

@@ -1,5 +1,5 @@
 -- Worked values of definitions that stand in conclusions alone.
-use Rattle.std.proofs.Common.{◌≡◌, ℕ, zero, suc, ◌+◌, ◌<◌, List, [], ◌∷◌, Some, Ok, Err, ap, sym, ◌∙◌, refl, length, take, drop, slice_get, get_or, sum_by, inl, inr, arith}
+use Rattle.std.proofs.Common.{◌≡◌, ℕ, zero, suc, ◌+◌, ◌<◌, List, [], ◌∷◌, false, Some, Ok, Err, ap, sym, ◌∙◌, refl, length, take, drop, slice_get, get_or, sum_by, inl, inr, arith}
 use Rattle.std.specs.Prelude.{◌^◌, ◌≤◌}
 use Rattle.std.proofs.lemmas.List.{length-drop}
 use Rattle.block_core.specs.Growth.{Growth}
@@ -69,7 +69,7 @@ module _ (name : Name) (mark : MarkName) (held : Held) where
   of = record { name = name; room = 2; limit = 2 ^ 32 }
 
   abbrev seat : List (Growth ℕ) → List (Growth ℕ) → Seated ℕ
-  seat made known = record { id = 0; made = made; pass = record { of = of; entries = known; held = held }; mark = record { of = mark; told = nothing_told } }
+  seat made known = record { id = 0; made = made; pass = record { of = of; entries = known; ended = false; strayed = false; held = held }; mark = record { of = mark; told = nothing_told } }
 
   abbrev mine : ℕ → Growth ℕ
   mine serial = record { number = serial; start = serial; seat = 0; serial = serial; records = 7 ∷ [] }

@@ -1,5 +1,5 @@
 -- Worked values of what a growth does to a seat, and of which fault may come where.
-use Rattle.std.proofs.Common.{◌≡◌, ℕ, zero, suc, ◌+◌, ◌-◌, ◌⊎◌, inl, inr, List, [], ◌∷◌, ◌++◌, length, take, replicate, refl, ap, sym, ◌∙◌, arith}
+use Rattle.std.proofs.Common.{◌≡◌, ℕ, zero, suc, ◌+◌, ◌-◌, ◌⊎◌, inl, inr, List, [], ◌∷◌, ◌++◌, false, length, take, replicate, refl, ap, sym, ◌∙◌, arith}
 use Rattle.std.specs.Prelude.{◌^◌}
 use Rattle.std.proofs.lemmas.List.{take_at, length-append, length-replicate}
 use Rattle.block_core.specs.Growth.{Growth}
@@ -28,7 +28,7 @@ module _ (name : Name) (mark : MarkName) where
   seat made known = record {
     id = 0;
     made = made;
-    pass = record { of = live.directory; entries = known; held = record { buckets = []; cells = [] } };
+    pass = record { of = live.directory; entries = known; ended = false; strayed = false; held = record { buckets = []; cells = [] } };
     mark = record { of = mark; told = nothing_told };
   }
 

@@ -1,3 +1,4 @@
+pub mod Naps
 pub mod Marks
 pub mod Faults
 pub mod Lists

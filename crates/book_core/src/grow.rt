@@ -38,6 +38,9 @@ impl<R: Record> Live<R> {
         ensures fault { IfErr result (λ refused. IsBookRefusal self.now seat.new (length fresh) refused.1) }
         ensures in_limit { IfErr result (λ refused. StraysInLimit self.now seat.new (length fresh) refused.1) }
     {
+        if seat.pass.is_ended() {
+            return Err((fresh, GrowFault::Closed));
+        }
         let number = seat.pass.known();
         if number >= self.room {
             return Err((fresh, GrowFault::Full));
@@ -233,6 +236,9 @@ impl<R: Record> Live<R> {
         ensures list { FillsOrReaches self.now seat.old seat.new n v result }
         ensures fault { IfErr result (IsFillRefusal R.form.width self.now seat.new n) }
     {
+        if seat.pass.is_ended() {
+            return Err(GrowFault::Closed);
+        }
         let size = self.size(seat);
         if n <= size {
             return Ok(None);

@@ -83,7 +83,7 @@ impl<R: Record> Live<R> {
     }
 
     /// From now on each growth is refused `Closed`. It waits for the growths that are under way, at most one of each
-    /// seat, and then wakes the flusher.
+    /// seat, and then wakes the flusher, which ends the directory behind them (`end_by`).
     pub fn close<E: Wait>(&self, rt: &E) {
         self.waking.begin_to_close();
         for door in &self.doors {

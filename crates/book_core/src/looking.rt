@@ -1,6 +1,6 @@
 //! What a seat learns of the growths of others.
 
-ghost use Rattle.std.specs.Prelude.{◌≡◌, ◌+◌, ◌≤◌, length, take, IfErr, OnOk, MatchOption, MatchResult};
+ghost use Rattle.std.specs.Prelude.{◌≡◌, ◌+◌, ◌≤◌, false, length, take, IfErr, OnOk, MatchOption, MatchResult};
 ghost use Rattle.record_core.specs.Limits.{record_limit};
 ghost use Rattle.directory_core.specs.Chain.{Agree, IsLongerOf};
 ghost use Rattle.book_core.specs.Lists.{IsSeatOf, own_of, HasJustItsOwn, IsFirstOf, seat_list};
@@ -43,6 +43,7 @@ impl<R: Record> Live<R> {
         ensures of { IsSeatOf self.now seat.new }
         ensures learns { SeatLearns seat.old seat.new }
         ensures own { OnOk result (HasJustItsOwn seat.new) }
+        ensures strayed { OnOk result (seat.new.pass.strayed ≡ false) }
         ensures fault { IfErr result (IsLookFault seat.new) }
     {
         let looked = self.directory.look(&mut seat.pass);
@@ -51,8 +52,9 @@ impl<R: Record> Live<R> {
         }
         seat.checked = seat.pass.known();
         match looked {
+            Ok(_) => Ok(()),
             Err(DirFault::Strayed(number)) => Err(GrowFault::Strayed(number)),
-            _ => Ok(()),
+            Err(_) => unreachable!(),
         }
     }
 
@@ -65,6 +67,7 @@ impl<R: Record> Live<R> {
         ensures size { MatchResult result
             (λ size. (size ≡ size_of self.now seat.new) × HasJustItsOwn seat.new)
             (IsLookFault seat.new) }
+        ensures strayed { OnOk result (seat.new.pass.strayed ≡ false) }
     {
         self.catch_up(seat)?;
         Ok(self.size(seat))

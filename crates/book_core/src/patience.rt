@@ -1,5 +1,8 @@
 //! How a grower waits where others come before it.
 
+ghost use Rattle.std.specs.Prelude.{◌≡◌, ◌≤◌};
+ghost use Rattle.book_core.specs.Naps.{longest_nap, IsNextNap};
+
 use std::hint;
 use std::sync::Wait;
 use std::sync::atomic::AtomicU64;
@@ -21,6 +24,7 @@ const LONGEST_NAP: u64 = 160;
 pub(crate) struct Patience {
     /// In microseconds. 0 is to pause.
     nap: u64,
+    ghost bounded: { nap ≤ longest_nap },
 }
 
 impl Patience {
@@ -28,17 +32,32 @@ impl Patience {
         Patience { nap: 0 }
     }
 
+    /// For how many microseconds it sleeps now: not at all the first time, and then twice as long each time, up to the
+    /// longest nap.
+    fn next_nap(&mut self) -> u64
+        ensures now { result ≡ self.old.nap }
+        ensures bounded { result ≤ longest_nap }
+        ensures next { IsNextNap result self.new.nap }
+    {
+        let nap = self.nap;
+        self.nap = if nap == 0 {
+            FIRST_NAP
+        } else {
+            (2 * nap).min(LONGEST_NAP)
+        };
+        nap
+    }
+
     /// Lets others grow, for longer each time.
     pub(crate) fn give_way<E: Wait>(&mut self, rt: &E) {
-        if self.nap == 0 {
+        let nap = self.next_nap();
+        if nap == 0 {
             for _ in 0..PAUSES {
                 hint::spin_loop();
             }
-            self.nap = FIRST_NAP;
             return;
         }
         // Nobody wakes it.
-        AtomicU64::new(0).park_timeout(rt, 0, Duration::from_micros(self.nap));
-        self.nap = self.nap.saturating_mul(2).min(LONGEST_NAP);
+        AtomicU64::new(0).park_timeout(rt, 0, Duration::from_micros(nap));
     }
 }

@@ -1,7 +1,8 @@
 //! What a phase lends to who settles its growths, by a pass of its own.
 
-ghost use Rattle.std.specs.Prelude.{◌≡◌, ◌<◌, ◌≤◌, length, slice_get, Some, IfErr, MatchOption, MatchResult};
+ghost use Rattle.std.specs.Prelude.{◌≡◌, ◌<◌, ◌≤◌, false, true, ◌↔◌, IsTrue, length, slice_get, Some, IfErr, MatchOption, MatchResult};
 ghost use Rattle.directory_core.specs.Chain.{IsPrefix, Agree, IsLongerOf};
+ghost use Rattle.directory_core.specs.Known.{KnowsAll};
 ghost use Rattle.book_core.specs.Marks.{Rises};
 ghost use Rattle.book_core.specs.Lists.{IsSeatOf};
 ghost use Rattle.book_core.specs.Growing.{SeatLearns};
@@ -30,8 +31,19 @@ impl<R: Record> Live<R> {
             (λ known. known ≡ length pass.new.entries)
             (λ fault. fault ≡ DirFault.Strayed (length pass.new.entries)) }
         ensures in_room { IfErr result (λ _. length pass.new.entries < self.now.directory.room) }
+        ensures strayed { MatchResult result (λ _. pass.new.strayed ≡ false) (λ _. pass.new.strayed ≡ true) }
     {
         self.directory.look(pass)
+    }
+
+    /// As `Directory::end`, for who settles the growths by a pass of its own: from then on each growth is refused.
+    pub fn end_by(&self, pass: &mut Pass<R>) -> bool
+        requires of { pass.old.of ≡ self.now.directory }
+        ensures of { pass.new.of ≡ self.now.directory }
+        ensures same { pass.new.entries ≡ pass.old.entries }
+        ensures all { IsTrue result ↔ KnowsAll pass.new }
+    {
+        self.directory.end(pass)
     }
 
     /// The growth of that number, for who settles the growths by a pass of its own. `None` where the pass doesn't
@@ -54,6 +66,7 @@ impl<R: Record> Live<R> {
         ensures same { seat.new ≡ seat.old }
         ensures agree { Agree pass.old.entries seat.old.pass.entries }
         ensures meets { IsLongerOf pass.old.entries seat.old.pass.entries pass.new.entries }
+        ensures all { KnowsAll pass.old → length seat.old.pass.entries ≤ length pass.old.entries }
     {
         pass.meet(&mut seat.pass);
     }
@@ -71,12 +84,15 @@ impl<R: Record> Live<R> {
     }
 
     /// Takes in a seat that is given up, for who settles the growths: the pass learns what the seat knew, and what
-    /// the seat was told rises to what the mark tells.
+    /// the seat was told rises to what the mark tells. A pass that knows all has nothing to learn: the seat knew, and
+    /// made, no growth but those.
     pub fn take_in(&self, pass: &mut Pass<R>, mark: &mut Writer, seat: Seat<R>)
         requires of { (pass.old.of ≡ self.now.directory) × (mark.old.of ≡ self.now.mark) × IsSeatOf self.now seat }
         ensures of { pass.new.of ≡ self.now.directory }
         ensures agree { Agree pass.old.entries seat.pass.entries }
         ensures meets { IsLongerOf pass.old.entries seat.pass.entries pass.new.entries }
+        ensures ended { pass.new.ended ≡ pass.old.ended }
+        ensures all { KnowsAll pass.old → length seat.pass.entries ≤ length pass.old.entries }
         ensures same { mark.new ≡ mark.old }
         ensures told { Rises seat.mark.told mark.old.told }
     {

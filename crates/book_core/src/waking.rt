@@ -31,6 +31,8 @@
 //! | G4 leaves the door, then N2 | then N2 |
 //!
 //! - G1 < C2 at its door: C2 waits for G4, so G3 < C3, and who reads `done` finds the growth. C2 < G1: it is refused.
+//! - So no growth is published behind a close that has returned. That the flusher loses none doesn't rest on this table: it
+//!   ends the directory before it says Ended (`Live::end_by`), and clauses say that no seat knows a growth behind the end.
 //! - At a door nobody waits for ever: who holds one takes no other, and sleeps for a time that it chose (`Patience`), once for
 //!   each growth that came before its own, of which a phase has no more than its room.
 //!
@@ -170,7 +172,7 @@ impl<R: Record> Live<R> {
     /// closed. For the one flusher of a phase.
     ///
     /// After `true` a look finds all growths of the phase, unless it answers `Strayed`; after `false`, more than
-    /// `known`. No clause says so; the reason is the seats' doors, as the head of this module tells.
+    /// `known`. No clause says so: `end_by` tells whether these are all.
     pub fn await_more<E: Wait>(&self, rt: &E, known: u64) -> bool {
         let waking = &self.waking;
         for _ in rt.forever() {

@@ -10,4 +10,5 @@ pub use Rattle.vault_core.specs.Vault
 pub use Rattle.vault_core.specs.Sharing
 pub use Rattle.vault_core.specs.Gathering
 pub use Rattle.crew_core.specs.Crewing
+pub use Rattle.crew_core.specs.Leaving
 pub use Rattle.search_core.specs.Search

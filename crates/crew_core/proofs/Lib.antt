@@ -1,4 +1,6 @@
 mod Growers
 mod Homes
+mod Left
 mod Served
 mod Worked
+mod WorkedCrews

@@ -6,10 +6,13 @@ use Rattle.disk_core.specs.Moments.{LeavesOnly}
 use Rattle.disk_core.proofs.JoinedMoments.{LeavesOnly-weaker}
 use Rattle.pen_core.specs.PenOf.{PenOf}
 use Rattle.pen_core.specs.Typed.{OpensTo}
-use Rattle.directory_core.specs.Chain.{joined}
+use Rattle.block_core.specs.Growth.{Growth}
+use Rattle.directory_core.specs.Chain.{joined, IsPrefix}
 use Rattle.book_core.specs.Lists.{Phase, opening_of, joined_pieces}
 use Rattle.flush_core.specs.Flusher.{FlusherOf, IsFlusherOf, OpensToFirst}
 use Rattle.flush_core.specs.Serving.{Serves}
+use Rattle.book_core.proofs.Owns.{take-begins}
+use Rattle.vault_core.proofs.Prefixes.{begins-le}
 use Rattle.vault_core.specs.Vault.{VaultOf, list_of}
 use Rattle.vault_core.specs.Sharing.{OpensToGrown}
 use Rattle.crew_core.specs.Crewing.{IsBack}
@@ -35,6 +38,21 @@ module _ {R D : Type 0} (form : Encoding R) (keeps : D → Type 0) (states : D �
       (OpensToGrown form (list_of vault) served.pass.entries) (kept_first still) (goes.images still) in
       subst (λ (p : PenOf D). LeavesOnly (states vault.pen.disk) (states p.disk) (OpensToGrown form (list_of vault) served.pass.entries)) (sym same)
       (subst (λ (p : PenOf D). LeavesOnly (states p.disk) (states served.pen.disk) (OpensToGrown form (list_of vault) served.pass.entries)) pen leaves)
+
+  -- and so it does to those and more
+  pub served_more : (more : List (Growth R)) → IsPrefix served.pass.entries more → (last : PenOf D) → last ≡ served.pen → keeps last.disk
+      → LeavesOnly (states vault.pen.disk) (states last.disk) (OpensToGrown form (list_of vault) more)
+  served_more more begins last same now =
+      LeavesOnly-weaker (states vault.pen.disk) (states last.disk) (OpensToGrown form (list_of vault) served.pass.entries) (OpensToGrown form (list_of vault) more)
+      known_more (served_first last same now)
+    where
+      known_more : (image : List ℕ) → OpensToGrown form (list_of vault) served.pass.entries image → OpensToGrown form (list_of vault) more image
+      known_more image opens = record {
+        count = opens.count;
+        known = let le = begins-le served.pass.entries more begins in let known = opens.known in omega arith;
+        opens = subst (λ (es : List (Growth R)). OpensTo form image (list_of vault ++ joined es))
+            (sym (take-begins served.pass.entries more opens.count begins opens.known)) opens.opens;
+      }
 
 -- the vault that comes back has the pen with which serving ended
 module _ {R D : Type 0} (form : Encoding R) (keeps : D → Type 0) (states : D → List State) (vault : VaultOf R D) (begun served : FlusherOf R D)

@@ -1,1 +1,2 @@
 pub mod Crewing
+pub mod Leaving

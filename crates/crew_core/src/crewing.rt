@@ -1,12 +1,14 @@
 //! A growth phase of many threads: one for each grower, and one that commits what they put.
 
-ghost use Rattle.std.specs.Prelude.{◌≡◌, ◌+◌, ◌<◌, ◌≤◌, [], None, map, length, vec_len, vec_capacity, IfOk, IfErr};
+ghost use Rattle.std.specs.Prelude.{◌≡◌, ◌≢◌, ◌+◌, ◌<◌, ◌≤◌, [], Some, None, map, length, vec_len, vec_capacity, IfOk, IfErr, IfSome};
 ghost use Rattle.book_core.specs.Beginning.{AreNewSeats};
 ghost use Rattle.flush_core.specs.Flusher.{IsFlusherOf};
 ghost use Rattle.flush_core.specs.Serving.{Serves};
 ghost use Rattle.crew_core.specs.Crewing.{AreSent, AreHome, HasCome, HasGrown, HasCrewed, IsCrewFault, crew_room};
+ghost use Rattle.crew_core.specs.Leaving.{LeavesGrowths};
 
 use crate::grower::Grower;
+use crate::leaving::with_all_known;
 use crate::sent::{Grows, Sent};
 use crate::source::{Gate, Source};
 use book_core::{GrowFault, Live, Receipt, Seat};
@@ -85,23 +87,25 @@ fn room_of<R: Record, S: Source<R>>(source: &S) -> u64
 /// A number that no grower has.
 const NOBODY: u64 = 1 << 16;
 
-/// What a grower's thread runs. One whose thread couldn't be started comes home as it is.
+/// What a grower's thread runs. The one whose thread couldn't be started comes home as it is, and no other does.
 fn run<R: Record, S: Source<R>, G: Gate, E: Wait>(
     rt: &E,
     alloc: Global,
     live: &Live<R>,
     source: &S,
     gate: &G,
-    unstarted: &AtomicU64,
+    unstarted: u64,
     id: u16,
     grower: Grower<R>,
 ) -> Grower<R>
     requires id { (grower.seat.id ≡ id) × (id < S.growers_of source.now) }
     requires none { (grower.seat.made ≡ []) × (grower.fault ≡ None) }
     requires grown { HasGrown R.form.width live.now (S.count_of source.now id) (S.block_of source.now id) id grower.seat grower.receipts.items None }
-    ensures { HasCome R.form.width live.now (S.count_of source.now id) (S.block_of source.now id) (G.may_stop gate.now id) id result.seat result.receipts.items result.fault }
+    ensures come { HasCome R.form.width live.now (S.count_of source.now id) (S.block_of source.now id) (G.may_stop gate.now id) id result.seat result.receipts.items result.fault }
+    ensures none { unstarted ≡ id → (result.fault ≡ Some GrowFault.Memory) × (result.seat.made ≡ []) }
+    ensures own { unstarted ≢ id → IfSome result.fault (λ _. length result.seat.made < S.count_of source.now id) }
 {
-    if unstarted.load(Ordering::SeqCst) == id as u64 {
+    if unstarted == id as u64 {
         let Grower { seat, receipts, .. } = grower;
         return Grower {
             seat,
@@ -189,7 +193,18 @@ fn grow_all<R: Record, S: Source<R>, G: Gate, E: Threads + Wait + Sync>(
                     move || -> Grower<R>
                         requires { (grower.seat.id ≡ id) × (id < S.growers_of source.now) × (grower.seat.made ≡ []) × (grower.fault ≡ None) × HasGrown R.form.width live.now (S.count_of source.now id) (S.block_of source.now id) id grower.seat grower.receipts.items None }
                         ensures { HasCome R.form.width live.entry.now (S.count_of source.entry.now id) (S.block_of source.entry.now id) (G.may_stop gate.entry.now id) id result.seat result.receipts.items result.fault }
-                    { run(rt, alloc, live, source, gate, unstarted, id, grower) },
+                    {
+                        run(
+                            rt,
+                            alloc,
+                            live,
+                            source,
+                            gate,
+                            unstarted.load(Ordering::SeqCst),
+                            id,
+                            grower,
+                        )
+                    },
                 );
                 match started {
                     Ok(handle) => sent.push_reserved(Sent::away(live, source, gate, id, handle)),
@@ -278,7 +293,7 @@ fn grow_and_close<R: Record, S: Source<R>, G: Gate, E: Threads + Wait + Sync>(
 /// thread can't be started has the fault `Memory`.
 ///
 /// Refused: `Share`, as `share` is, for a room of all blocks of the source and a seat for each grower; `Gather`, as `gather`
-/// is.
+/// is, and the flusher then knows all that the seats know.
 pub fn crew<R: Record, D: Disk + Send + Drop, S: Source<R>, G: Gate, E: Threads + Wait + Sync>(
     rt: &E,
     alloc: Global,
@@ -288,6 +303,7 @@ pub fn crew<R: Record, D: Disk + Send + Drop, S: Source<R>, G: Gate, E: Threads 
 ) -> Result<Crewed<R, D>, CrewFault<R, D>>
     ensures crewed { IfOk result (λ crewed. HasCrewed R.form D.keeps D.states (S.count_of source.now) (S.block_of source.now) (G.may_stop gate.now) (S.growers_of source.now) vault crewed.vault (map (λ its. its.items) crewed.receipts.items) crewed.faults.items) }
     ensures refused { IfErr result (IsCrewFault R.form D.keeps D.states vault (crew_room (S.count_of source.now) (S.growers_of source.now)) (S.growers_of source.now)) }
+    ensures leaves { IfErr result (LeavesGrowths (S.count_of source.now) (S.block_of source.now) (S.growers_of source.now)) }
 {
     let growers = source.growers();
     let room = room_of::<R, S>(source);
@@ -313,6 +329,6 @@ pub fn crew<R: Record, D: Disk + Send + Drop, S: Source<R>, G: Gate, E: Threads 
             receipts,
             faults,
         }),
-        Err(gathering) => Err(CrewFault::Gather(gathering)),
+        Err(gathering) => Err(CrewFault::Gather(with_all_known(gathering))),
     }
 }

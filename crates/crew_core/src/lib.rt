@@ -2,11 +2,13 @@
 //! `Vault::share` and ends by `gather`.
 //!
 //! What comes of it is one definition, `HasCrewed`. Each grower's thread promises what it made of its own blocks; the growers
-//! come home the last one first, so that the seats stand by their numbers. `Lists` is the source over lists that are given.
+//! come home the last one first, so that the seats stand by their numbers. Where the phase isn't ended the flusher meets each
+//! seat, which ties what stands to the source (`LeavesGrowths`). `Lists` is the source over lists that are given.
 #![tactic(auto)]
 
 mod crewing;
 mod grower;
+mod leaving;
 mod lists;
 mod sent;
 mod source;

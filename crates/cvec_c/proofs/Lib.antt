@@ -2,3 +2,4 @@ pub mod Append
 pub mod Creates
 pub mod FrameTold
 pub mod HomesStand
+pub mod Worked

@@ -1,14 +1,19 @@
 -- Growths one after another.
 use Rattle.std.proofs.Common.{◌≡◌, ℕ, zero, suc, ◌+◌, ◌<◌, ◌≤◌, ◌⊎◌, List, [], ◌∷◌, ◌++◌, length, get_or, take, slice_get, Some, refl, ap, sym, subst, ◌∙◌, arith, inl, inr, le_of_lt}
-use Rattle.std.proofs.lemmas.List.{length-take-le, take-append-le, take_at}
+use Rattle.std.proofs.lemmas.List.{length-take, length-take-le, take-append-le, take-take, take_at}
 use Rattle.std.proofs.lemmas.List.Concat.{length-flat_map}
 use Rattle.std.proofs.lemmas.List.Sums.{sum_by_more, sum_by_more_le}
 use Rattle.std.proofs.lemmas.Option.{slice_get_within, get_or_from_slice_get}
 use Rattle.block_core.specs.Growth.{Growth}
-use Rattle.directory_core.specs.Chain.{total, joined, IsNextGrowth, IsChained}
+use Rattle.directory_core.specs.Chain.{total, joined, IsNextGrowth, IsChained, IsPrefix}
 
 pub length-joined : {R : Type 0} (es : List (Growth R)) → length (joined es) ≡ total es
 length-joined es = length-flat_map (λ (e : Growth _). e.records) es
+
+pub begun_still : {X : Type 0} (xs ys zs : List X) → IsPrefix xs ys → IsPrefix ys zs → IsPrefix xs zs
+begun_still xs ys zs a b =
+    let long : length xs ≤ length ys = let l = ap length a in omega (arith, length-take (length xs) ys) in
+    sym (take-take (length xs) (length ys) zs long) ∙ (ap (λ (ws : List _). take (length xs) ws) b ∙ a)
 
 -- what stands in a list that grew by one
 push_get : {X : Type 0} (xs : List X) (x : X) (g : ℕ) (y : X) → slice_get (xs ++ x ∷ []) g ≡ Some y → (slice_get xs g ≡ Some y) ⊎ ((g ≡ length xs) × (x ≡ y))

@@ -1,5 +1,6 @@
 -- Worked values of definitions that stand in conclusions alone.
-use Rattle.std.proofs.Common.{◌≡◌, ℕ, zero, suc, ◌+◌, inl, inr, List, [], ◌∷◌, Some, length, take, drop, slice_get, refl, ap, sym, ◌∙◌, arith}
+use Rattle.std.proofs.Common.{◌≡◌, ◌≤◌, ℕ, zero, suc, ◌+◌, ◌⊎◌, inl, inr, Bool, true, false, List, [], ◌∷◌, Option, Some, None, Ok, Err, MatchOption, length, take, drop, slice_get, refl, ap, sym, subst, ◌∙◌, arith}
+use Rattle.once_cell.specs.declared.race.note.Note.{Note}
 use Rattle.block_core.specs.Growth.{Growth}
 use Rattle.directory_core.specs.declared.fault.DirFault.{DirFault}
 use Rattle.directory_core.specs.declared.fault.DirFault.TheVariants.{Taken, Full, Strayed, Memory}
@@ -7,6 +8,9 @@ use Rattle.directory_core.specs.Chain.{total, joined, IsNextGrowth, IsChained, A
 use Rattle.directory_core.specs.Fault.{DirectoryKeepsLimit, IsPublishRefusal}
 use Rattle.directory_core.specs.Finding.{IsPlaceOf, IsRestAt, IsPieceAt}
 use Rattle.directory_core.specs.Identity.{Name, Identity}
+use Rattle.directory_core.specs.Known.{Known, Held, KnowsAll}
+use Rattle.directory_core.specs.Notes.{IsEnd, EndsIn, IsEndedAt}
+use Rattle.directory_core.specs.Judging.{IsJudged}
 use Rattle.directory_core.specs.Limits.{growth_limit}
 use Rattle.record_core.specs.Limits.{record_limit}
 use Rattle.directory_core.specs.Spot.{places_before, IsSpot}
@@ -137,3 +141,81 @@ module _ (name : Name) where
   -- to the limit
   just_in_limit : DirectoryKeepsLimit (bounded name 3 5) (one ∷ other ∷ []) next
   just_in_limit = omega arith
+
+-- ---- what a look makes of what it finds behind the first growth
+
+module _ (name : Name) (held : Held) where
+  abbrev knows : List (Growth ℕ) → Bool → Bool → Known ℕ
+  knows entries ended strayed = record { of = bounded name 2 5; entries = entries; ended = ended; strayed = strayed; held = held }
+
+  abbrev end : Growth ℕ
+  end = record { number = 1048568; start = 0; seat = 0; serial = 0; records = 0 ∷ [] }
+
+  abbrev astray : Growth ℕ
+  astray = record { number = 1; start = 3; seat = 1; serial = 0; records = 9 ∷ [] }
+
+  -- what follows is known then
+  follows : IsJudged 8 (knows (one ∷ []) false true) (knows (one ∷ other ∷ []) false false) other (Ok true)
+  follows = (record { next = record { number = refl; start = refl }; len_is = refl; block = record { some = omega arith; fits = omega arith }; fits = omega arith }, refl, refl)
+
+  -- what strays is neither passed over as nothing nor taken in
+  not_passed_over : (new : Known ℕ) → IsJudged 8 (knows (one ∷ []) false false) new astray (Ok false) → ⊥
+  not_passed_over new judged = let is = judged.0 in absurd (omega arith)
+
+  not_taken_in : (new : Known ℕ) → IsJudged 8 (knows (one ∷ []) false false) new astray (Ok true) → ⊥
+  not_taken_in new judged = let start = judged.0.next.start in absurd (omega arith)
+
+  -- and what follows isn't said to stray, nor to end the list
+  not_said_to_stray : (new : Known ℕ) (fault : DirFault) → IsJudged 8 (knows (one ∷ []) false false) new other (Err fault) → ⊥
+  not_said_to_stray new fault judged = absurd (judged.0 (follows.0))
+
+  not_said_to_end : (new : Known ℕ) → IsJudged 8 (knows (one ∷ []) false false) new other (Ok false) → ⊥
+  not_said_to_end new judged = let is = judged.0 in absurd (omega arith)
+
+  -- that it strayed is kept in mind, and the number named
+  strays : (new : Known ℕ) (fault : DirFault) → IsJudged 8 (knows (one ∷ []) false false) new astray (Err fault) → (fault ≡ Strayed 1) × (new.strayed ≡ true)
+  strays new fault judged = (judged.1, judged.3)
+
+  the_end : IsJudged 8 (knows (one ∷ []) false false) (knows (one ∷ []) true false) end (Ok false)
+  the_end = (refl, refl, refl, refl)
+
+  not_forgotten : IsJudged 8 (knows (one ∷ []) false false) (knows (one ∷ []) false false) end (Ok false) → ⊥
+  not_forgotten judged = let ended = judged.1 in absurd cc
+
+  -- ---- who knows all
+
+  some_may_come : KnowsAll (knows (one ∷ []) false false) → ⊥
+  some_may_come all = elim all [ inl ended ↦ absurd cc | inr full ↦ absurd (omega arith) ]
+
+  none_behind_the_end : KnowsAll (knows (one ∷ []) true false)
+  none_behind_the_end = inl refl
+
+  none_behind_the_room : KnowsAll (knows (one ∷ other ∷ []) false false)
+  none_behind_the_room = inr (omega arith)
+
+  -- ---- where a list ends
+
+  -- the second growth has the second place of the first bucket: the end stands there, and neither elsewhere nor another growth
+  module _ (stands : Note (Growth ℕ)) where
+    ends_there : stands.cell ≡ 41 → stands.known ≡ Some end → EndsIn 1 (Some stands) (40 ∷ 41 ∷ [])
+    ends_there cell known = rw (cell, known) (refl, refl)
+
+    not_elsewhere : stands.cell ≡ 40 → EndsIn 1 (Some stands) (40 ∷ 41 ∷ []) → ⊥
+    not_elsewhere cell ends = let at : 41 ≡ stands.cell = (let is = ends.0 in grind arith) in omega arith
+
+    not_by_a_growth : stands.known ≡ Some other → EndsIn 1 (Some stands) (40 ∷ 41 ∷ []) → ⊥
+    not_by_a_growth known ends = let is : IsEnd other = subst (λ (o : Option (Growth ℕ)). MatchOption o ⊥ IsEnd) known ends.1 in omega arith
+
+    not_unseen : stands.known ≡ None → EndsIn 1 (Some stands) (40 ∷ 41 ∷ []) → ⊥
+    not_unseen known ends = subst (λ (o : Option (Growth ℕ)). MatchOption o ⊥ IsEnd) known ends.1
+
+    -- of a bucket that isn't known, nothing is
+    unknown : (g : ℕ) → IsEndedAt [] g (Some stands) → ⊥
+    unknown g ended = ended.ends
+
+  -- where the bucket has no such place, none comes there; where it has one, some may
+  no_place : EndsIn {R = ℕ} 0 None []
+  no_place = omega arith
+
+  a_place : EndsIn {R = ℕ} 1 None (40 ∷ 41 ∷ []) → ⊥
+  a_place past = absurd (omega arith)

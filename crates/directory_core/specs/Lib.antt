@@ -4,6 +4,7 @@ pub mod Chain
 pub mod Identity
 pub mod Known
 pub mod Notes
+pub mod Judging
 pub mod Finding
 pub mod Fault
 pub mod Names

@@ -1,5 +1,5 @@
 -- What a pass keeps true of its notes.
-use Rattle.std.specs.Prelude.{◌≡◌, ℕ, ◌+◌, ◌<◌, ◌≤◌, List, [], ◌∷◌, length, map, get_or, slice_get, Option, Some, None}
+use Rattle.std.specs.Prelude.{◌≡◌, ℕ, ◌+◌, ◌<◌, ◌≤◌, Bool, true, List, [], ◌∷◌, length, map, get_or, slice_get, Option, Some, None, MatchOption}
 use Rattle.once_cell.specs.declared.race.note.Note.{Note}
 use Rattle.block_core.specs.Length.{IsBlockLength}
 use Rattle.block_core.specs.Growth.{Growth}
@@ -43,6 +43,22 @@ pub record IsNextInLimit {R : Type 0} (width limit : ℕ) (entries : List (Growt
   pub block : IsBlockLength width len
   pub fits : total entries + len ≤ limit
 
+-- that entry ends the list: it bears a number that no growth has
+abbrev pub IsEnd : {R : Type 0} → Growth R → Type 0
+IsEnd e = e.number ≡ growth_limit
+
+-- a bucket of these cells has no growth at that place: it has no such place, or a note knows the end there
+abbrev pub EndsIn : {R : Type 0} → ℕ → Option (Note (Growth R)) → List ℕ → Type 0
+EndsIn place None names = length names ≤ place
+EndsIn place (Some note) names = (slice_get names place ≡ Some note.cell) × MatchOption note.known ⊥ IsEnd
+
+-- no growth has number g: its bucket is known, and has none at its place
+pub record IsEndedAt {R : Type 0} (buckets : List (Option (List ℕ))) (g : ℕ) (end : Option (Note (Growth R))) : Type 0 where
+  pub bucket : ℕ
+  pub place : ℕ
+  pub spot : IsSpot g bucket place
+  pub ends : MatchOption (get_or buckets bucket None) ⊥ (EndsIn place end)
+
 -- the notes are of growths that are known, each by the cell at its place in a bucket that is known
 pub record NotesHold {R : Type 0} (buckets : List (Option (List ℕ))) (cells : List ℕ) (known : List (Option (Growth R))) : Type 0 where
   pub all_buckets : length buckets ≡ 17
@@ -60,9 +76,10 @@ pub record ListHolds {R : Type 0} (width room limit : ℕ) (entries : List (Grow
   pub in_room : length entries ≤ room
   pub limits : (room ≤ growth_limit) × (limit ≤ record_limit)
 
--- what a pass keeps true: of its notes, of its list, and that its rows are reserved for the whole room
+-- what a pass keeps true: of its notes, of its list, of the end, and that its rows are reserved for the whole room
 pub record PassHolds {R : Type 0} (width room limit : ℕ) (buckets : List (Option (List ℕ))) (cells : List ℕ) (known : List (Option (Growth R)))
-    (starts : List ℕ) (size noted kept : ℕ) : Type 0 where
+    (starts : List ℕ) (size noted kept : ℕ) (ended : Bool) (end : Option (Note (Growth R))) : Type 0 where
   pub notes : NotesHold buckets cells known
   pub list : ListHolds width room limit (somes known) starts size
   pub reserved : (room ≤ noted) × (room ≤ kept)
+  pub ends : ended ≡ true → IsEndedAt buckets (length (somes known)) end

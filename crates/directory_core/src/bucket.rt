@@ -41,6 +41,12 @@ impl<R: Record> Bucket<R> {
         Ok(Box::new(alloc, Bucket { cells })?)
     }
 
+    /// A bucket that has no cells.
+    pub(crate) fn without_places(alloc: Global) -> Result<Box<Bucket<R>>, AllocError> {
+        let cells = Vec::new(alloc);
+        Ok(Box::new(alloc, Bucket { cells })?)
+    }
+
     /// The cell at that place.
     pub(crate) fn cell(&self, place: usize) -> Option<&OnceBox<Entry<R>>>
         ensures { MatchOption result

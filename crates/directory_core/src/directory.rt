@@ -1,15 +1,17 @@
 //! The growths that all threads share.
 
-ghost use Rattle.std.specs.Prelude.{◌≡◌, ◌+◌, ◌<◌, ◌≤◌, ◌∷◌, [], ◌++◌, if◌then◌else◌, length, slice_get, Some, MatchOption, MatchResult, IfOk, IfErr, IfSome, IsTrue};
+ghost use Rattle.std.specs.Prelude.{◌≡◌, ◌+◌, ◌<◌, ◌≤◌, ◌∷◌, [], ◌++◌, false, true, ◌↔◌, if◌then◌else◌, length, slice_get, Some, MatchOption, MatchResult, IfOk, IfErr, IfSome, IsTrue};
 ghost use Rattle.directory_core.specs.Limits.{growth_limit};
 ghost use Rattle.record_core.specs.Limits.{record_limit};
 ghost use Rattle.directory_core.specs.Spot.{span};
 ghost use Rattle.directory_core.specs.Chain.{total, joined, IsNextGrowth, IsPrefix};
 ghost use Rattle.directory_core.specs.Fault.{IsPublishRefusal};
+ghost use Rattle.directory_core.specs.Known.{KnowsAll};
 ghost use Rattle.directory_core.specs.Finding.{IsPieceAt, IsRestAt};
 
 use crate::address::{BUCKETS, spot};
 use crate::bucket::Bucket;
+use crate::ending::Ends;
 use crate::fault::DirFault;
 use crate::pass::Pass;
 use block_core::Entry;
@@ -84,7 +86,7 @@ impl<R: Record> Directory<R> {
     /// each, which are touched only as far as it knows growths.
     pub fn pass(&self) -> Result<Pass<R>, DirFault>
         ensures { MatchResult result
-            (λ pass. (pass.of ≡ self.now) × (pass.entries ≡ []))
+            (λ pass. (pass.of ≡ self.now) × (pass.entries ≡ []) × (pass.ended ≡ false))
             (λ fault. fault ≡ DirFault.Memory) }
     {
         let mut buckets = Vec::with_capacity(self.alloc, BUCKETS)?;
@@ -93,7 +95,8 @@ impl<R: Record> Directory<R> {
         }
         let notes = Vec::with_capacity(self.alloc, self.room as usize)?;
         let starts = Vec::with_capacity(self.alloc, self.room as usize)?;
-        Ok(Pass::of(buckets, notes, starts, self.room, self.limit))
+        let ends = Ends::new(self.alloc)?;
+        Ok(Pass::of(buckets, notes, starts, self.room, self.limit, ends))
     }
 
     /// Publishes the growth behind those that the pass knows, which then knows it too. Where it is refused, the
@@ -101,7 +104,7 @@ impl<R: Record> Directory<R> {
     /// this order,
     /// - `Full` where the pass knows as many growths as the directory has room for;
     /// - `Strayed` of its number where it would pass the limit of the directory's records;
-    /// - `Taken` where another growth has the number;
+    /// - `Taken` where another growth has the number, or the list ends before it;
     /// - `Memory` where it is the first of a bucket, and none was left to make that.
     pub fn publish(
         &self,
@@ -124,6 +127,9 @@ impl<R: Record> Directory<R> {
         let len = entry.records().len() as u64;
         if len > self.limit - pass.size() {
             return Err((entry, DirFault::Strayed(number)));
+        }
+        if pass.is_ended() {
+            return Err((entry, DirFault::Taken));
         }
         let (at, place) = spot(number);
         let alloc = self.alloc;
@@ -160,37 +166,36 @@ impl<R: Record> Directory<R> {
             length pass.new.entries ≡ length pass.old.entries + (if found then 1 else 0)) }
         ensures fault { IfErr result (λ fault. fault ≡ DirFault.Strayed (length pass.new.entries)) }
         ensures in_room { IfErr result (λ _. length pass.new.entries < self.now.room) }
+        ensures strayed { MatchResult result (λ _. pass.new.strayed ≡ false) (λ _. pass.new.strayed ≡ true) }
+        ensures all { KnowsAll pass.old → (result ≡ Ok false) × (pass.new.entries ≡ pass.old.entries) }
     {
         let number = pass.known();
-        if number >= self.room {
+        if pass.knows_all() {
+            pass.find_nothing();
             return Ok(false);
         }
         let (at, place) = spot(number);
         let mut bucket_note = pass.bucket_note(at);
         let Some(bucket) = self.buckets[at].get_as(&mut bucket_note) else {
+            pass.find_nothing();
             return Ok(false);
         };
         let Some(cell) = bucket.cell(place) else {
-            return Err(DirFault::Strayed(number));
+            pass.end_at(at, place, bucket_note, None);
+            return Ok(false);
         };
         let mut note = cell.note();
         let Some(entry) = cell.get_as(&mut note) else {
+            pass.find_nothing();
             return Ok(false);
         };
-        let len = entry.records().len() as u64;
-        if entry.number() != number
-            || entry.start() != pass.size()
-            || len > self.limit - pass.size()
-        {
-            return Err(DirFault::Strayed(number));
-        }
-        pass.add(at, place, bucket_note, note, len);
-        Ok(true)
+        pass.judge(at, place, bucket_note, note, entry)
     }
 
     /// Takes in the growths that are there, one after another up to the first number that no growth has, and
     /// answers how many the pass then knows. `Strayed` names the first number whose growth doesn't follow those
-    /// before it, which the pass then knows; there is room for a growth of that number.
+    /// before it, which the pass then knows; there is room for a growth of that number. Of a growth that strays the
+    /// pass keeps that it was found (`strayed`), until a look finds none.
     pub fn look(&self, pass: &mut Pass<R>) -> Result<u64, DirFault>
         requires of { pass.old.of ≡ self.now }
         ensures of { pass.new.of ≡ self.now }
@@ -199,13 +204,55 @@ impl<R: Record> Directory<R> {
             (λ known. known ≡ length pass.new.entries)
             (λ fault. fault ≡ DirFault.Strayed (length pass.new.entries)) }
         ensures in_room { IfErr result (λ _. length pass.new.entries < self.now.room) }
+        ensures strayed { MatchResult result (λ _. pass.new.strayed ≡ false) (λ _. pass.new.strayed ≡ true) }
+        ensures all { KnowsAll pass.old → pass.new.entries ≡ pass.old.entries }
     {
+        pass.find_nothing();
         for _ in 0..self.room {
             if !self.learn(pass)? {
                 break;
             }
         }
         Ok(pass.known())
+    }
+
+    /// Ends the list behind the growths that the pass knows, so that none is published any more, and answers whether
+    /// it has. It has not where another growth came first, or something strayed: a look finds it.
+    pub fn end(&self, pass: &mut Pass<R>) -> bool
+        requires of { pass.old.of ≡ self.now }
+        ensures of { pass.new.of ≡ self.now }
+        ensures same { pass.new.entries ≡ pass.old.entries }
+        ensures all { IsTrue result ↔ KnowsAll pass.new }
+    {
+        if pass.knows_all() {
+            return true;
+        }
+        let Some(ends) = pass.take_ends() else {
+            return false;
+        };
+        let (at, place) = spot(pass.known());
+        let mut bucket_note = pass.bucket_note(at);
+        let Ends { entry, bucket } = ends;
+        let unused = self.buckets[at].set_as(bucket, &mut bucket_note);
+        let Some(found) = self.buckets[at].get_as(&mut bucket_note) else {
+            unreachable!()
+        };
+        let Some(cell) = found.cell(place) else {
+            pass.end_at(at, place, bucket_note, None);
+            return true;
+        };
+        let mut note = cell.note();
+        match (cell.set_as(entry, &mut note), unused) {
+            (Ok(()), _) => {
+                pass.end_at(at, place, bucket_note, Some(note));
+                true
+            }
+            (Err(entry), Err(bucket)) => {
+                pass.keep_ends(Ends { entry, bucket });
+                false
+            }
+            (Err(_), Ok(())) => false,
+        }
     }
 
     /// Whether a growth of that number was published, for who would wait for one. It takes no pass, so no clause says

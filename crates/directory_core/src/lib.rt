@@ -11,11 +11,15 @@
 //! There are 17 buckets, the first of 8 cells, each twice as long as the one before. `publish` sets the cell of the next
 //! number; `look` reads cells up to the first empty one. Each growth that a pass knows is the value of the cell at its
 //! number's place.
+//!
+//! `end` sets the cell behind the last growth to an entry that is none. So who ended the list knows all of it: by the
+//! same cell a growth is published before the end, which whoever ends it then learns of, or never.
 #![tactic(auto)]
 
 mod address;
 mod bucket;
 mod directory;
+mod ending;
 mod fault;
 mod finding;
 mod pass;

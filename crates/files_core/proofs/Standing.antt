@@ -185,12 +185,15 @@ module _ {R D : Type 0} (form : Encoding R) (keeps : D → Type 0) (states : D �
   gone_further IsMade IsMadeThen block v mid w before after growths gone on then size is lines = record {
     made = gone.made ++ then.0;
     goes = grows_further v mid w gone.made then.0 gone.goes then.1;
-    records_are = subst IsMadeThen (sym records) (on (each_records gone.made) (gone.lines_are ∙ ap (λ n. min (2 ^ 64 - 1) (n * block)) (sym (length-map gone.made (λ growth. growth.records)))) gone.records_are);
+    records_are = subst IsMadeThen (sym records) (on (each_records gone.made) (gone.lines_are ∙ ap (λ n. min (2 ^ 64 - 1) (n * block)) many) gone.records_are);
     size_is = size;
     growths_are = is ∙ counts_on (2 ^ 64 - 1) before.growths (length gone.made) (length growths) gone.growths_are ∙ ap (min (2 ^ 64 - 1)) count;
     lines_are = lines_on (2 ^ 64 - 1) block before.lines (length gone.made) (length growths) after.lines gone.lines_are lines ∙ ap (λ n. min (2 ^ 64 - 1) (n * block)) count;
   }
     where
+      many : length gone.made ≡ length (each_records gone.made)
+      many = sym (length-map gone.made (λ growth. growth.records))
+
       records : each_records (gone.made ++ then.0) ≡ each_records gone.made ++ growths
       records = map-append (λ growth. growth.records) gone.made then.0 ∙ ap (λ gs. each_records gone.made ++ gs) then.2
 
@@ -362,7 +365,14 @@ module _ {R D : Type 0} (form : Encoding R) (keeps : D → Type 0) (states : D �
     pub appended_all : HasAppended form keeps states spelling block known v left appended (Ok tt) → HasAppendedAll form keeps states spelling block known disk left appended
     appended_all has = (has.0, growths_stand has.0 [] has.1, has.2)
 
-    pub appended_some : (fault : FileFault) → HasAppended form keeps states spelling block known v left appended (Err fault) → IsAppendRefusal form keeps states failures spelling block known disk left appended fault
+    abbrev IsWhole : Type 0
+    IsWhole = HasAppendedAll form keeps states spelling block known disk left appended
+
+    abbrev IsRefused : FileFault → Type 0
+    IsRefused = IsAppendRefusal form keeps states failures spelling block known disk left appended
+
+    pub appended_some : (fault : FileFault) → HasAppended form keeps states spelling block known v left appended (Err fault)
+        → IsAppendRefusal form keeps states failures spelling block known disk left appended fault
     unfolding growths_stand
     appended_some (faults.Input refusal) has = (has.0, growths_stand has.0 [] has.1, has.2, has.3)
     appended_some (faults.Vault fault) has = (has.0, has.1, growths_stand has.0 has.1 has.2, has.3, has.4)
@@ -373,8 +383,7 @@ module _ {R D : Type 0} (form : Encoding R) (keeps : D → Type 0) (states : D �
 
     pub appended_ends : (done : Result (Unit {0}) FileFault) (ended : Ended) → MatchResult done (λ _. (ended ≡ Done) ⊎ (ended ≡ OutputFailed)) (λ fault. ended ≡ ends.Refused fault)
         → HasAppended form keeps states spelling block known v left appended done
-        → EndsAs (HasAppendedAll form keeps states spelling block known disk left appended) (IsAppendRefusal form keeps states failures spelling block known disk left appended) ended
-    appended_ends (Ok all) ended told has =
-        done_ends (HasAppendedAll form keeps states spelling block known disk left appended) (IsAppendRefusal form keeps states failures spelling block known disk left appended) ended told (appended_all has)
-    appended_ends (Err fault) ended told has =
-        subst (EndsAs (HasAppendedAll form keeps states spelling block known disk left appended) (IsAppendRefusal form keeps states failures spelling block known disk left appended)) (sym told) (appended_some fault has)
+        → EndsAs (HasAppendedAll form keeps states spelling block known disk left appended)
+        (IsAppendRefusal form keeps states failures spelling block known disk left appended) ended
+    appended_ends (Ok all) ended told has = done_ends IsWhole IsRefused ended told (appended_all has)
+    appended_ends (Err fault) ended told has = subst (EndsAs IsWhole IsRefused) (sym told) (appended_some fault has)

@@ -2,3 +2,5 @@ pub mod Bytes
 pub mod Talks
 pub mod Left
 pub mod Refused
+pub mod Worked
+pub mod WorkedServing

@@ -1,5 +1,5 @@
 -- Why clients aren't served.
-use Rattle.std.proofs.Common.{◌≡◌, ◌⊎◌, ℕ, ◌+◌, ◌<◌, ◌≤◌, min, List, [], ◌∷◌, Bool, false, Option, None, Result, Ok, Err, IfErr, is_some, inl, inr, sym, ap, subst, ◌∙◌, arith}
+use Rattle.std.proofs.Common.{◌≡◌, ◌⊎◌, ℕ, ◌<◌, ◌≤◌, min, List, [], ◌∷◌, Bool, false, Option, None, Result, Ok, Err, IfErr, is_some, inl, inr, sym, ap, subst, ◌∙◌, arith}
 use Rattle.record_core.specs.Bytes.{Encoding}
 use Rattle.disk_core.specs.State.{State}
 use Rattle.pen_core.specs.declared.fault.PenFault.{PenFault}

@@ -1,5 +1,5 @@
 -- A conversation goes on.
-use Rattle.std.proofs.Common.{◌≡◌, ℕ, ◌+◌, ◌<◌, ◌≤◌, max, List, [], ◌∷◌, ◌++◌, length, All, Contains, Option, sym, refl, subst, ap, arith, ◌∙◌, append_assoc, None, Some, IfSome, ◌⊎◌, inl, inr}
+use Rattle.std.proofs.Common.{◌≡◌, ℕ, ◌+◌, ◌<◌, ◌≤◌, max, List, [], ◌∷◌, ◌++◌, length, All, Contains, Option, sym, refl, subst, ap, arith, ◌∙◌, append_assoc, None, Some, Result, Ok, Err, IfOk, IfErr, ◌⊎◌, inl, inr}
 use Rattle.std.specs.Io.KnownBytes.{Consumes, Appends}
 use Rattle.std.proofs.KnownBytes.{Consumes-nil, Consumes-trans}
 use Rattle.std.proofs.lemmas.List.{length-append, append-nil}
@@ -16,13 +16,15 @@ use Rattle.book_core.specs.declared.mark.MarkState.{MarkState}
 use Rattle.serve_core.specs.declared.refusal.Refusal.{Refusal}
 use Rattle.serve_core.specs.declared.refusal.Refusal.TheVariants as refusals
 use Rattle.serve_core.specs.declared.talking.TalkEnd.{TalkEnd}
-use Rattle.serve_core.specs.declared.talking.TalkEnd.TheVariants.{Ended, Gone, Refused, OutputFailed, Memory}
+use Rattle.serve_core.specs.declared.talking.TalkEnd.TheVariants.{Ended, Gone, Cut, InputFailed, Refused, OutputFailed, Memory}
 use Rattle.serve_core.specs.Answers.{answer_bytes}
 use Rattle.serve_core.specs.Talks.{IsBlock, IsBlockOfRecords, IsGrowRefusal, IsOfRecords, IsGrowthRefusal, IsOfGrowth}
 use Rattle.serve_core.specs.Talks.{AllBelow, IsNextOf, HasUnsettled, AreExchanges, Exchange, IsExchange, IsOfRequest, IsDone, IsUntold, TalkGoesOn, AllGoOn, EndsTalk, EndsSo, HasTalked, asked, told, told_of}
+use Rattle.serve_core.specs.Talks.{EndsReading, end_within, IsCutRead, IsCutGrowth, IsCutRequest}
 use Rattle.serve_core.specs.Requests.{IsRequestHead, head_of}
 use Rattle.serve_core.specs.declared.request.Head.{Head}
 use Rattle.serve_core.specs.declared.request.Request.{Request}
+use Rattle.serve_core.specs.declared.request.Request.TheVariants as requests
 use Rattle.serve_core.specs.declared.answer.Answer.{Answer}
 use Rattle.serve_core.specs.declared.answer.Answer.TheVariants as answers
 
@@ -107,7 +109,7 @@ no_memory (answers.Settled growths) is = is
 no_memory (answers.Looked size settled) is = is
 no_memory (answers.Piece start) is = is
 
--- nor as the end of the requests does
+-- nor as the end of the requests does, nor a failed read
 not_gone : (answer : Answer) → EndsTalk Gone answer → ⊥
 not_gone answers.Ended is = cc
 not_gone (answers.Refused refusal) is = let e = is.1 in cc
@@ -115,6 +117,75 @@ not_gone (answers.Grown number start) is = is
 not_gone (answers.Settled growths) is = is
 not_gone (answers.Looked size settled) is = is
 not_gone (answers.Piece start) is = is
+
+not_cut : (answer : Answer) → EndsTalk Cut answer → ⊥
+not_cut answers.Ended is = cc
+not_cut (answers.Refused refusal) is = let e = is.1 in cc
+not_cut (answers.Grown number start) is = is
+not_cut (answers.Settled growths) is = is
+not_cut (answers.Looked size settled) is = is
+not_cut (answers.Piece start) is = is
+
+not_failed : (answer : Answer) → EndsTalk InputFailed answer → ⊥
+not_failed answers.Ended is = cc
+not_failed (answers.Refused refusal) is = let e = is.1 in cc
+not_failed (answers.Grown number start) is = is
+not_failed (answers.Settled growths) is = is
+not_failed (answers.Looked size settled) is = is
+not_failed (answers.Piece start) is = is
+
+-- ---- requests that are cut
+
+-- less than a head was read
+cut_head : {R : Type 0} (form : Encoding R) (input rest : Option (List ℕ)) (end : TalkEnd) → IsCutRead 16 input rest end → IsCutRequest form input rest end
+cut_head form input rest end cut = record { part = cut.part; unfinished = inl cut.short; read = cut.read; ended = cut.ended }
+
+-- reading ended within a request
+ends_within : (rest : Option (List ℕ)) (part whole : List ℕ) (end : TalkEnd) → 0 < length whole → EndsReading rest part end → EndsReading rest whole (end_within end)
+ends_within rest part whole Gone some is = (some, is.1)
+ends_within rest part whole Cut some is = (some, is.1)
+ends_within rest part whole InputFailed some is = tt
+ends_within rest part whole Ended some is = is
+ends_within rest part whole (Refused refusal) some is = is
+ends_within rest part whole OutputFailed some is = is
+ends_within rest part whole Memory some is = is
+
+-- the head of a growth was read, and a part of its records
+cut_growth : {R : Type 0} (form : Encoding R) (input mid rest : Option (List ℕ)) (end : TalkEnd) (head : List ℕ) (count : ℕ) → IsRequestHead head (head_of (requests.Grow count))
+    → Consumes input mid head → IsCutGrowth form count mid rest end → IsCutRequest form input rest end
+cut_growth form input mid rest end head count asks first cut =
+    let part = cut.cut.part in
+    let long = length-append head part in
+    let some : 0 < length (head ++ part) = let len = asks.len in omega arith in
+    record {
+      part = head ++ part;
+      unfinished = inr (record { count = count; len = cut.len; head = head; asks = asks; block = part; short = cut.cut.short; is = refl });
+      read = Consumes-trans input mid rest head part first cut.cut.read;
+      ended = subst (EndsReading rest (head ++ part)) (sym cut.within) (ends_within rest part (head ++ part) cut.by some cut.cut.ended);
+    }
+
+untold_cut : {R : Type 0} (form : Encoding R) (live : Phase R) (old new : Seated R) (input rest : Option (List ℕ)) (part : List ℕ) (end : TalkEnd) → new ≡ old
+    → EndsReading rest part end → IsCutRequest form input rest end → IsUntold form live old new input rest end
+untold_cut form live old new input rest part Gone same ends cut = (same, cut)
+untold_cut form live old new input rest part Cut same ends cut = (same, cut)
+untold_cut form live old new input rest part InputFailed same ends cut = (same, cut)
+untold_cut form live old new input rest part Ended same ends cut = absurd ends
+untold_cut form live old new input rest part (Refused refusal) same ends cut = absurd ends
+untold_cut form live old new input rest part OutputFailed same ends cut = absurd ends
+untold_cut form live old new input rest part Memory same ends cut = absurd ends
+
+pub untold_by_head : {R : Type 0} (form : Encoding R) (live : Phase R) (old new : Seated R) (input rest : Option (List ℕ)) (end : TalkEnd) → new ≡ old
+    → IsCutRead 16 input rest end → IsUntold form live old new input rest end
+untold_by_head form live old new input rest end same cut = untold_cut form live old new input rest cut.part end same cut.ended (cut_head form input rest end cut)
+
+pub untold_by_growth : {R : Type 0} (form : Encoding R) (live : Phase R) (old new : Seated R) (input mid rest : Option (List ℕ)) (end : TalkEnd) → new ≡ old
+    → (head : List ℕ) (count : ℕ) → IsRequestHead head (head_of (requests.Grow count)) → Consumes input mid head → IsCutGrowth form count mid rest end
+    → IsUntold form live old new input rest end
+untold_by_growth form live old new input mid rest end same head count asks first cut =
+    let whole = cut_growth form input mid rest end head count asks first cut in
+    untold_cut form live old new input rest whole.part end same whole.ended whole
+
+-- ---- what comes of a conversation
 
 module _ {R : Type 0} (form : Encoding R) (live : Phase R) (seat : Seated R) (input output : Option (List ℕ)) where
   pub begins : IsSeatOf live seat → seat.made ≡ [] → IsTalking form live seat input output 0 seat input output
@@ -162,7 +233,6 @@ module _ {R : Type 0} (form : Encoding R) (live : Phase R) (seat : Seated R) (in
       are = (mid, so_far.are, done.is);
       rest = input_new;
       requests = read_more;
-      left = λ _. refl;
       answers = λ _. told_all end answer (wrote_more answer out output_new is bytes wrote) so;
       ends = ends_so end (subst (EndsTalk end) (sym is) so);
     }
@@ -171,16 +241,20 @@ module _ {R : Type 0} (form : Encoding R) (live : Phase R) (seat : Seated R) (in
             → Appends output output_new (told form (told_of end (done.exchange ∷ so_far.exchanges)))
         told_all Ended answer wrote is = wrote
         told_all Gone answer wrote is = wrote
+        told_all Cut answer wrote is = wrote
+        told_all InputFailed answer wrote is = wrote
         told_all (Refused refusal) answer wrote is = wrote
         told_all OutputFailed answer wrote is = wrote
         told_all Memory answer wrote is = absurd (no_memory answer is)
 
-        ends_so : (end : TalkEnd) → EndsTalk end done.exchange.answer → EndsSo end (done.exchange ∷ so_far.exchanges)
-        ends_so Ended is = (is, so_far.go_on)
+        ends_so : (end : TalkEnd) → EndsTalk end done.exchange.answer → EndsSo form input_new input_new end (done.exchange ∷ so_far.exchanges)
+        ends_so Ended is = (is, so_far.go_on, refl)
         ends_so Gone is = absurd (not_gone done.exchange.answer is)
-        ends_so (Refused refusal) is = (is, so_far.go_on)
-        ends_so OutputFailed is = so_far.go_on
-        ends_so Memory is = so_far.go_on
+        ends_so Cut is = absurd (not_cut done.exchange.answer is)
+        ends_so InputFailed is = absurd (not_failed done.exchange.answer is)
+        ends_so (Refused refusal) is = (is, so_far.go_on, refl)
+        ends_so OutputFailed is = (so_far.go_on, refl)
+        ends_so Memory is = (so_far.go_on, refl)
 
     -- the answer wasn't written
     pub fails : (output_new : Option (List ℕ)) → HasTalked form live seat new input input_new output output_new OutputFailed
@@ -189,9 +263,8 @@ module _ {R : Type 0} (form : Encoding R) (live : Phase R) (seat : Seated R) (in
       are = (mid, so_far.are, done.is);
       rest = input_new;
       requests = read_more;
-      left = λ _. refl;
       answers = λ other. absurd (other refl);
-      ends = so_far.go_on;
+      ends = (so_far.go_on, refl);
     }
 
     -- there was no memory for it
@@ -201,41 +274,71 @@ module _ {R : Type 0} (form : Encoding R) (live : Phase R) (seat : Seated R) (in
       are = (mid, so_far.are, done.is);
       rest = input_new;
       requests = read_more;
-      left = λ _. refl;
       answers = λ _. so_far.answers;
-      ends = so_far.go_on;
+      ends = (so_far.go_on, refl);
     }
 
-  -- the requests ended
-  pub gone : (next : ℕ) (mid now : Seated R) (input_mid input_now output_now : Option (List ℕ))
-      → IsTalking form live seat input output next mid input_mid output_now → now ≡ mid
-      → HasTalked form live seat now input input_now output output_now Gone
-  gone next mid now input_mid input_now output_now so_far is = record {
-    exchanges = so_far.exchanges;
-    are = subst (AreExchanges form live seat so_far.exchanges) (sym is) so_far.are;
-    rest = input_mid;
-    requests = so_far.requests;
-    left = λ other. absurd (other refl);
-    answers = λ _. so_far.answers;
-    ends = so_far.go_on;
-  }
+  -- the requests ended, or couldn't be read on
+  module _ (next : ℕ) (mid now : Seated R) (input_mid input_now output_now : Option (List ℕ)) (so_far : IsTalking form live seat input output next mid input_mid output_now)
+      (same : now ≡ mid) where
+    still : AreExchanges form live seat so_far.exchanges now
+    still = subst (AreExchanges form live seat so_far.exchanges) (sym same) so_far.are
+
+    gone : IsCutRequest form input_mid input_now Gone → HasTalked form live seat now input input_now output output_now Gone
+    gone cut = record {
+      exchanges = so_far.exchanges;
+      are = still;
+      rest = input_mid;
+      requests = so_far.requests;
+      answers = λ _. so_far.answers;
+      ends = (so_far.go_on, cut);
+    }
+
+    ended_within : IsCutRequest form input_mid input_now Cut → HasTalked form live seat now input input_now output output_now Cut
+    ended_within cut = record {
+      exchanges = so_far.exchanges;
+      are = still;
+      rest = input_mid;
+      requests = so_far.requests;
+      answers = λ _. so_far.answers;
+      ends = (so_far.go_on, cut);
+    }
+
+    failed : IsCutRequest form input_mid input_now InputFailed → HasTalked form live seat now input input_now output output_now InputFailed
+    failed cut = record {
+      exchanges = so_far.exchanges;
+      are = still;
+      rest = input_mid;
+      requests = so_far.requests;
+      answers = λ _. so_far.answers;
+      ends = (so_far.go_on, cut);
+    }
 
   -- nothing was told of the newest request
   pub untold : (next : ℕ) (mid now : Seated R) (input_mid input_now output_now : Option (List ℕ)) (end : TalkEnd) → IsTalking form live seat input output next mid input_mid output_now
       → IsUntold form live mid now input_mid input_now end → HasTalked form live seat now input input_now output output_now end
-  untold next mid now input_mid input_now output_now Gone so_far is = gone next mid now input_mid input_now output_now so_far is
+  untold next mid now input_mid input_now output_now Gone so_far is = gone next mid now input_mid input_now output_now so_far is.0 is.1
+  untold next mid now input_mid input_now output_now Cut so_far is = ended_within next mid now input_mid input_now output_now so_far is.0 is.1
+  untold next mid now input_mid input_now output_now InputFailed so_far is = failed next mid now input_mid input_now output_now so_far is.0 is.1
   untold next mid now input_mid input_now output_now Memory so_far is = lacks_memory next mid now input_mid input_now output_now so_far is
   untold next mid now input_mid input_now output_now Ended so_far is = absurd is
   untold next mid now input_mid input_now output_now (Refused refusal) so_far is = absurd is
   untold next mid now input_mid input_now output_now OutputFailed so_far is = absurd is
 
 -- a request with this head was answered so
-pub some_exchange : {R X : Type 0} (form : Encoding R) (live : Phase R) (old new : Seated R) (head block : List ℕ) (numbers : Head)
-    (request : Request) (records : X → List R) (result : Option (Answer × X))
-    → IsRequestHead head numbers → numbers ≡ head_of request → IfSome result (λ r. IsOfRequest form live request block old new r.0 (records r.1))
-    → IfSome result (λ r. IsExchange form live old (record { head = head; block = block; answer = r.0; records = records r.1 }) new)
-some_exchange form live old new head block numbers request records None is of told = tt
-some_exchange form live old new head block numbers request records (Some r) is of told = record { numbers = numbers; head = is; told = inr (record { request = request; is = of; told = told }) }
+pub some_exchange : {R X E : Type 0} (form : Encoding R) (live : Phase R) (old new : Seated R) (head block : List ℕ) (numbers : Head)
+    (request : Request) (records : X → List R) (result : Result (Answer × X) E)
+    → IsRequestHead head numbers → numbers ≡ head_of request → IfOk result (λ r. IsOfRequest form live request block old new r.0 (records r.1))
+    → IfOk result (λ r. IsExchange form live old (record { head = head; block = block; answer = r.0; records = records r.1 }) new)
+some_exchange form live old new head block numbers request records (Err e) is of told = tt
+some_exchange form live old new head block numbers request records (Ok r) is of told = record { numbers = numbers; head = is; told = inr (record { request = request; is = of; told = told }) }
+
+-- or its growth was cut
+pub cut_of_head : {X : Type 0} (head : List ℕ) (numbers : Head) (request : Request) (IsCut : ℕ → TalkEnd → Type 0) (result : Result X TalkEnd)
+    → IsRequestHead head numbers → numbers ≡ head_of request → IfErr result (λ end. (count : ℕ) × (request ≡ requests.Grow count) × IsCut count end)
+    → IfErr result (λ end. (count : ℕ) × IsRequestHead head (head_of (requests.Grow count)) × IsCut count end)
+cut_of_head head numbers request IsCut (Ok x) is of cut = tt
+cut_of_head head numbers request IsCut (Err end) is of cut = (cut.0, subst (IsRequestHead head) (of ∙ ap head_of cut.1) is, cut.2)
 
 -- the records are those of a block
 module _ {R : Type 0} (form : Encoding R) (live : Phase R) (count : ℕ) (block : List ℕ) (records : List R) (bytes : IsBlock form.width count block)

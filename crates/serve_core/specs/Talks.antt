@@ -1,6 +1,6 @@
 -- What one client asks and is told.
-use Rattle.std.specs.Prelude.{◌≡◌, ◌≢◌, ◌⊎◌, ℕ, ◌+◌, ◌*◌, ◌<◌, ◌≤◌, true, false, List, [], ◌∷◌, ◌++◌, length, take, All, Contains, Option}
-use Rattle.std.specs.Io.KnownBytes.{Consumes, Appends}
+use Rattle.std.specs.Prelude.{◌≡◌, ◌≢◌, ◌⊎◌, ℕ, ◌+◌, ◌*◌, ◌<◌, ◌≤◌, true, false, List, [], ◌∷◌, ◌++◌, length, take, All, Contains, Option, None, Some}
+use Rattle.std.specs.Io.KnownBytes.{Consumes, Appends, IsAtEnd}
 use Rattle.record_core.specs.Bytes.{Encoding}
 use Rattle.record_core.specs.Cells.{AreRecords, IsFirstBad}
 use Rattle.record_core.specs.Limits.{payload_limit}
@@ -20,7 +20,7 @@ use Rattle.serve_core.specs.declared.request.Request.TheVariants as requests
 use Rattle.serve_core.specs.declared.answer.Answer.{Answer}
 use Rattle.serve_core.specs.declared.answer.Answer.TheVariants as answers
 use Rattle.serve_core.specs.declared.talking.TalkEnd.{TalkEnd}
-use Rattle.serve_core.specs.declared.talking.TalkEnd.TheVariants.{Ended, Gone, Refused, OutputFailed, Memory}
+use Rattle.serve_core.specs.declared.talking.TalkEnd.TheVariants.{Ended, Gone, Cut, InputFailed, Refused, OutputFailed, Memory}
 use Rattle.serve_core.specs.Requests.{IsRequestHead, head_of, IsNoRequest}
 use Rattle.serve_core.specs.Answers.{answer_bytes, ends_talk}
 
@@ -178,9 +178,56 @@ pub record IsDone {R : Type 0} (form : Encoding R) (live : Phase R) (old new : S
   pub is : IsExchange form live old exchange new
   pub read : Consumes input rest (exchange.head ++ exchange.block)
 
--- Why nothing is told: the requests ended, and the seat is as it was; or there was no memory to tell what was done.
+-- Why no more is read behind this part of a request, where this is the rest: the requests ended, before the request or
+-- within it; or a read failed.
+abbrev pub EndsReading : Option (List ℕ) → List ℕ → TalkEnd → Type 0
+EndsReading rest part Gone = (part ≡ []) × IsAtEnd rest
+EndsReading rest part Cut = (0 < length part) × IsAtEnd rest
+EndsReading rest part InputFailed = Unit {0}
+EndsReading rest part other = ⊥
+
+-- Of so many bytes that were asked for only a part was read, and then no more was.
+pub record IsCutRead (asked : ℕ) (input rest : Option (List ℕ)) (end : TalkEnd) : Type 0 where
+  pub part : List ℕ
+  pub short : length part < asked
+  pub read : Consumes input rest part
+  pub ended : EndsReading rest part end
+
+-- requests that end before the records of a growth end within a request
+abbrev pub end_within : TalkEnd → TalkEnd
+end_within Gone = Cut
+end_within other = other
+
+-- so of the records of a growth that may be made
+pub record IsCutGrowth {R : Type 0} (form : Encoding R) (count : ℕ) (input rest : Option (List ℕ)) (end : TalkEnd) : Type 0 where
+  pub len : IsBlockLength form.width count
+  pub by : TalkEnd
+  pub cut : IsCutRead (count * form.width) input rest by
+  pub within : end ≡ end_within by
+
+-- the bytes are the head of a growth that may be made, and fewer than its records have
+pub record IsPartOfGrowth {R : Type 0} (form : Encoding R) (part : List ℕ) : Type 0 where
+  pub count : ℕ
+  pub len : IsBlockLength form.width count
+  pub head : List ℕ
+  pub asks : IsRequestHead head (head_of (requests.Grow count))
+  pub block : List ℕ
+  pub short : length block < count * form.width
+  pub is : part ≡ head ++ block
+
+-- Of a request less than its head was read, maybe nothing, or the head of a growth and a part of its records; and then no
+-- more was.
+pub record IsCutRequest {R : Type 0} (form : Encoding R) (input rest : Option (List ℕ)) (end : TalkEnd) : Type 0 where
+  pub part : List ℕ
+  pub unfinished : (length part < 16) ⊎ IsPartOfGrowth form part
+  pub read : Consumes input rest part
+  pub ended : EndsReading rest part end
+
+-- Why nothing is told: the request was cut, and the seat is as it was; or there was no memory to tell what was done.
 abbrev pub IsUntold : {R : Type 0} → Encoding R → Phase R → Seated R → Seated R → Option (List ℕ) → Option (List ℕ) → TalkEnd → Type 0
-IsUntold form live old new input rest Gone = new ≡ old
+IsUntold form live old new input rest Gone = (new ≡ old) × IsCutRequest form input rest Gone
+IsUntold form live old new input rest Cut = (new ≡ old) × IsCutRequest form input rest Cut
+IsUntold form live old new input rest InputFailed = (new ≡ old) × IsCutRequest form input rest InputFailed
 IsUntold form live old new input rest Memory = IsDone form live old new input rest
 IsUntold form live old new input rest other = ⊥
 
@@ -214,14 +261,18 @@ EndsTalk end other = ⊥
 abbrev pub AllGoOn : {R : Type 0} → List (Exchange R) → Type 0
 AllGoOn exchanges = All (λ e. TalkGoesOn e.answer) exchanges
 
--- The newest answer is that with which a conversation ends so, and behind each of those before it the conversation goes on;
--- where the newest couldn't be told it doesn't matter which it is, and where the requests ended all go on.
-abbrev pub EndsSo : {R : Type 0} → TalkEnd → List (Exchange R) → Type 0
-EndsSo Gone exchanges = AllGoOn exchanges
-EndsSo end [] = ⊥
-EndsSo OutputFailed (e ∷ earlier) = AllGoOn earlier
-EndsSo Memory (e ∷ earlier) = AllGoOn earlier
-EndsSo end (e ∷ earlier) = EndsTalk end e.answer × AllGoOn earlier
+-- How a conversation ends so behind these requests, where `rest` is what the stream has behind them and `remains` what was
+-- left of that. Where the stream ended or couldn't be read on, the conversation goes on behind all answers, and of the next
+-- request no more than a part was read. Else no byte was read behind the requests, and it goes on behind all answers but the
+-- newest: with that one it ends, unless that couldn't be told.
+abbrev pub EndsSo : {R : Type 0} → Encoding R → Option (List ℕ) → Option (List ℕ) → TalkEnd → List (Exchange R) → Type 0
+EndsSo form rest remains Gone exchanges = AllGoOn exchanges × IsCutRequest form rest remains Gone
+EndsSo form rest remains Cut exchanges = AllGoOn exchanges × IsCutRequest form rest remains Cut
+EndsSo form rest remains InputFailed exchanges = AllGoOn exchanges × IsCutRequest form rest remains InputFailed
+EndsSo form rest remains end [] = ⊥
+EndsSo form rest remains OutputFailed (e ∷ earlier) = AllGoOn earlier × (remains ≡ rest)
+EndsSo form rest remains Memory (e ∷ earlier) = AllGoOn earlier × (remains ≡ rest)
+EndsSo form rest remains end (e ∷ earlier) = EndsTalk end e.answer × AllGoOn earlier × (remains ≡ rest)
 
 -- those that were told: all but the newest, where there was no memory for its answer
 abbrev pub told_of : {R : Type 0} → TalkEnd → List (Exchange R) → List (Exchange R)
@@ -229,13 +280,17 @@ told_of Memory (e ∷ earlier) = earlier
 told_of end exchanges = exchanges
 
 -- What came of a conversation: its requests are what the stream began with, each was done by the seat as it was then, which
--- is now as they left it, and just their answers were written, unless a write failed. No byte was read behind them, unless
--- the stream ended within a request; and it ended as the answers say.
+-- is now as they left it, and just their answers were written, unless a write failed. It ended as the answers and the rest
+-- of the stream say.
 pub record HasTalked {R : Type 0} (form : Encoding R) (live : Phase R) (seat now : Seated R) (input remains output written : Option (List ℕ)) (end : TalkEnd) : Type 0 where
   pub exchanges : List (Exchange R)
   pub are : AreExchanges form live seat exchanges now
   pub rest : Option (List ℕ)
   pub requests : Consumes input rest (asked exchanges)
-  pub left : end ≢ Gone → remains ≡ rest
   pub answers : end ≢ OutputFailed → Appends output written (told form (told_of end exchanges))
-  pub ends : EndsSo end exchanges
+  pub ends : EndsSo form rest remains end exchanges
+
+-- What a client's thread did: it talked, to that end; or nothing, where not every client has a thread.
+abbrev pub HasFinished : {R : Type 0} → Encoding R → Phase R → Seated R → Seated R → Option (List ℕ) → Option (List ℕ) → Option (List ℕ) → Option (List ℕ) → Option TalkEnd → Type 0
+HasFinished form live seat now input remains output written None = (now ≡ seat) × (remains ≡ input) × (written ≡ output)
+HasFinished form live seat now input remains output written (Some end) = HasTalked form live seat now input remains output written end

@@ -3,8 +3,9 @@
 ghost use Rattle.std.specs.Prelude.{◌≡◌, ◌<◌, ◌≤◌, ◌+◌, [], vec_len, vec_capacity};
 ghost use Rattle.book_core.specs.Lists.{IsSeatOf};
 ghost use Rattle.book_core.specs.Beginning.{AreNewSeats};
+ghost use Rattle.serve_core.specs.Talks.{HasTalked, HasFinished};
 
-use crate::talking::talk;
+use crate::talking::{TalkEnd, talk};
 use book_core::{Live, Seat};
 use record_core::Record;
 use std::alloc::Global;
@@ -59,22 +60,40 @@ pub struct Client<'a, R: Record, I, W> {
     ghost none: { seat.made ≡ [] },
 }
 
+/// A client whose thread has ended.
+#[derive(Drop)]
+pub struct Finished<R: Record, I, W> {
+    pub(crate) seat: Seat<R>,
+    pub(crate) pipes: Pipes<I, W>,
+    /// How its conversation ended. `None`: it had none, since not every client has a thread.
+    pub(crate) end: Option<TalkEnd>,
+}
+
 impl<R: Record, I: Read + Drop, W: Write + Drop> Client<'_, R, I, W> {
     /// What a client's thread runs: it talks, where each client has a thread, and closes the phase behind the last one.
-    pub fn run<E: Wait>(self, rt: &E, alloc: Global, start: &Start) {
-        if start.is_given(rt) {
-            self.talk(rt, alloc, start);
-        }
-    }
-
-    /// Talks, and closes the phase behind the last client.
-    fn talk<E: Wait>(self, rt: &E, alloc: Global, start: &Start) {
+    pub fn run<E: Wait>(self, rt: &E, alloc: Global, start: &Start) -> Finished<R, I, W>
+        ensures of { IsSeatOf self.entry.live.now result.seat }
+        ensures finished { HasFinished R.form self.entry.live.now self.entry.seat result.seat (I.remaining self.entry.pipes.requests) (I.remaining result.pipes.requests)
+            (W.contents self.entry.pipes.answers) (W.contents result.pipes.answers) result.end }
+    {
         let Client {
             live,
             mut seat,
             mut pipes,
         } = self;
-        talk_to_end(rt, alloc, live, start, &mut seat, &mut pipes);
+        if !start.is_given(rt) {
+            return Finished {
+                seat,
+                pipes,
+                end: None,
+            };
+        }
+        let end = talk_to_end(rt, alloc, live, start, &mut seat, &mut pipes);
+        Finished {
+            seat,
+            pipes,
+            end: Some(end),
+        }
     }
 }
 
@@ -86,11 +105,13 @@ fn talk_to_end<R: Record, I: Read, W: Write, E: Wait>(
     start: &Start,
     seat: &mut Seat<R>,
     pipes: &mut Pipes<I, W>,
-)
+) -> TalkEnd
     requires of { IsSeatOf live.now seat.old }
     requires none { seat.old.made ≡ [] }
+    ensures of { IsSeatOf live.now seat.new }
+    ensures talked { HasTalked R.form live.now seat.old seat.new (I.remaining pipes.old.requests) (I.remaining pipes.new.requests) (W.contents pipes.old.answers) (W.contents pipes.new.answers) result }
 {
-    let _ = talk(
+    let end = talk(
         rt,
         alloc,
         live,
@@ -101,6 +122,7 @@ fn talk_to_end<R: Record, I: Read, W: Write, E: Wait>(
     if start.finish() {
         live.close(rt);
     }
+    end
 }
 
 /// A client with the last of the seats and the last pair of pipes.

@@ -1,14 +1,16 @@
 //! A client's growth: its bytes are read, and published as records.
 
-ghost use Rattle.std.specs.Prelude.{◌≡◌, ◌*◌, [], length, IfSome, IfNone, MatchResult};
+ghost use Rattle.std.specs.Prelude.{◌≡◌, ◌*◌, [], length, IfOk, IfErr, OnErr, MatchResult};
 ghost use Rattle.std.specs.Io.KnownBytes.{Consumes};
 ghost use Rattle.record_core.specs.Cells.{AreRecords};
 ghost use Rattle.block_core.specs.Length.{IsBlockLength};
 ghost use Rattle.book_core.specs.Lists.{IsSeatOf};
-ghost use Rattle.serve_core.specs.Talks.{IsCountRefusal, IsNextOf, IsBlock, IsUnread, IsOfRecords, IsOfGrowth};
+ghost use Rattle.serve_core.specs.Talks.{IsCountRefusal, IsCutGrowth, IsNextOf, IsBlock, IsUnread, IsOfRecords, IsOfGrowth};
 
 use crate::answer::Answer;
+use crate::reading::fill;
 use crate::refusal::Refusal;
+use crate::talking::TalkEnd;
 use block_core::{Fresh, FreshFault};
 use book_core::{Live, Seat};
 use record_core::{Record, RecordsFault, read_records, width_of};
@@ -114,7 +116,7 @@ fn grow_block<R: Record, E: Wait>(
     }
 }
 
-/// Reads the bytes of a growth, and publishes it. `None`: the requests ended in it.
+/// Reads the bytes of a growth, and publishes it. Refused: `Cut`, `InputFailed`, where not all of them were read.
 pub fn grow<R: Record, I: Read, E: Wait>(
     rt: &E,
     alloc: Global,
@@ -124,24 +126,25 @@ pub fn grow<R: Record, I: Read, E: Wait>(
     count: u32,
     requests: &mut I,
     block: &mut Vec<u8>,
-) -> Option<Answer>
+) -> Result<Answer, TalkEnd>
     requires of { IsSeatOf live.now seat.old }
     requires numbers { IsNextOf next.old seat.old.made }
     requires empty { block.old.items ≡ [] }
     ensures of { IsSeatOf live.now seat.new }
     ensures numbers { IsNextOf next.new seat.new.made }
-    ensures told { IfSome result (IsOfGrowth R.form live.now count block.new.items seat.old seat.new) }
-    ensures gone { IfNone result (seat.new ≡ seat.old) }
-    ensures read { IfSome result (λ _. Consumes (I.remaining requests.old) (I.remaining requests.new) block.new.items) }
+    ensures told { IfOk result (IsOfGrowth R.form live.now count block.new.items seat.old seat.new) }
+    ensures same { OnErr result (seat.new ≡ seat.old) }
+    ensures cut { IfErr result (IsCutGrowth R.form count (I.remaining requests.old) (I.remaining requests.new)) }
+    ensures read { IfOk result (λ _. Consumes (I.remaining requests.old) (I.remaining requests.new) block.new.items) }
 {
     if let Err(refusal) = check_count::<R>(count) {
-        return Some(Answer::Refused(refusal));
+        return Ok(Answer::Refused(refusal));
     }
     if block.resize(count as usize * width_of::<R>(), 0).is_err() {
-        return Some(Answer::Refused(Refusal::NoMemory));
+        return Ok(Answer::Refused(Refusal::NoMemory));
     }
-    if requests.read_exact(block.as_mut_slice()).is_err() {
-        return None;
+    if let Err(end) = fill(rt, requests, block.as_mut_slice()) {
+        return Err(end.within_request());
     }
-    Some(grow_block(rt, alloc, live, seat, next, count, block.as_slice()))
+    Ok(grow_block(rt, alloc, live, seat, next, count, block.as_slice()))
 }

@@ -6,6 +6,7 @@ mod answer;
 mod client;
 mod fault;
 mod growing;
+mod reading;
 mod refusal;
 mod request;
 mod serving;

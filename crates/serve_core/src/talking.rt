@@ -1,14 +1,16 @@
 //! One client's conversation: its requests are read and answered one after the other, each by the seat as it is then.
 
-ghost use Rattle.std.specs.Prelude.{◌≡◌, ◌≤◌, ◌*◌, [], length, IfOk, IfErr, IfSome, IfNone, MatchOption};
+ghost use Rattle.std.specs.Prelude.{◌≡◌, ◌≤◌, ◌*◌, ℕ, [], length, IfOk, IfErr, OnErr, MatchOption};
 ghost use Rattle.std.specs.Io.KnownBytes.{Consumes};
 ghost use Rattle.record_core.specs.Limits.{payload_limit};
 ghost use Rattle.book_core.specs.Lists.{IsSeatOf};
 ghost use Rattle.serve_core.specs.Answers.{answer_bytes};
-ghost use Rattle.serve_core.specs.Talks.{IsNextOf, IsOfRequest, Exchange, IsExchange, IsDone, IsUntold, TalkGoesOn, EndsTalk, HasTalked};
+ghost use Rattle.serve_core.specs.Requests.{IsRequestHead, head_of};
+ghost use Rattle.serve_core.specs.Talks.{IsCutGrowth, end_within, IsNextOf, IsOfRequest, Exchange, IsExchange, IsDone, IsUntold, TalkGoesOn, EndsTalk, HasTalked};
 
 use crate::answer::Answer;
 use crate::growing::grow;
+use crate::reading::fill;
 use crate::refusal::Refusal;
 use crate::request::{HEAD_LEN, Head, Request};
 use crate::telling::tell;
@@ -23,8 +25,12 @@ use std::sync::Wait;
 pub enum TalkEnd {
     /// The client asked for the end.
     Ended,
-    /// Its requests ended, between two or within one.
+    /// Its requests ended, behind the last one.
     Gone,
+    /// Its requests ended within one.
+    Cut,
+    /// Its requests couldn't be read on.
+    InputFailed,
     /// It was told of this refusal, and what follows can't be told from a request.
     Refused(Refusal),
     /// Its answers couldn't be written.
@@ -33,7 +39,19 @@ pub enum TalkEnd {
     Memory,
 }
 
-/// Does what is asked. `None`: the requests ended in it.
+impl TalkEnd {
+    /// How it ends, where reading the records of a growth ended so.
+    pub(crate) fn within_request(self) -> TalkEnd
+        ensures { result ≡ end_within self }
+    {
+        match self {
+            TalkEnd::Gone => TalkEnd::Cut,
+            other => other,
+        }
+    }
+}
+
+/// Does what is asked. Refused: `Cut`, `InputFailed`, where not all bytes of a growth were read.
 fn act<'a, R: Record, I: Read, E: Wait>(
     rt: &E,
     alloc: Global,
@@ -43,27 +61,31 @@ fn act<'a, R: Record, I: Read, E: Wait>(
     request: Request,
     requests: &mut I,
     block: &mut Vec<u8>,
-) -> Option<(Answer, &'a [R])>
+) -> Result<(Answer, &'a [R]), TalkEnd>
     requires of { IsSeatOf live.now seat.old }
     requires numbers { IsNextOf next.old seat.old.made }
     requires empty { block.old.items ≡ [] }
     ensures of { IsSeatOf live.now seat.new }
     ensures numbers { IsNextOf next.new seat.new.made }
-    ensures told { IfSome result (λ r. IsOfRequest R.form live.now request block.new.items seat.old seat.new r.0 r.1.now) }
-    ensures gone { IfNone result (seat.new ≡ seat.old) }
-    ensures read { IfSome result (λ _. Consumes (I.remaining requests.old) (I.remaining requests.new) block.new.items) }
-    ensures few { IfSome result (λ r. length r.1.now * R.form.width ≤ payload_limit) }
+    ensures told { IfOk result (λ r. IsOfRequest R.form live.now request block.new.items seat.old seat.new r.0 r.1.now) }
+    ensures same { OnErr result (seat.new ≡ seat.old) }
+    ensures cut { IfErr result (λ end. (count : ℕ) × (request ≡ Request.Grow count) × IsCutGrowth R.form count (I.remaining requests.old) (I.remaining requests.new) end) }
+    ensures read { IfOk result (λ _. Consumes (I.remaining requests.old) (I.remaining requests.new) block.new.items) }
+    ensures few { IfOk result (λ r. length r.1.now * R.form.width ≤ payload_limit) }
 {
     match request {
         Request::Grow { count } => {
-            let told = grow(rt, alloc, live, seat, next, count, requests, block)?;
-            Some((told, &[]))
+            match grow(rt, alloc, live, seat, next, count, requests, block) {
+                Ok(told) => Ok((told, &[])),
+                Err(end) => Err(end),
+            }
         }
-        short => Some(tell(rt, live, seat, *next, short)),
+        short => Ok(tell(rt, live, seat, *next, short)),
     }
 }
 
-/// Does what the request with this head asks, if there is one. `None`: the requests ended in it.
+/// Does what the request with this head asks, if there is one. Refused: `Cut`, `InputFailed`, where not all bytes of a
+/// growth were read.
 fn respond<'a, R: Record, I: Read, E: Wait>(
     rt: &E,
     alloc: Global,
@@ -73,20 +95,21 @@ fn respond<'a, R: Record, I: Read, E: Wait>(
     head: &[u8; HEAD_LEN],
     requests: &mut I,
     block: &mut Vec<u8>,
-) -> Option<(Answer, &'a [R])>
+) -> Result<(Answer, &'a [R]), TalkEnd>
     requires of { IsSeatOf live.now seat.old }
     requires numbers { IsNextOf next.old seat.old.made }
     requires empty { block.old.items ≡ [] }
     ensures of { IsSeatOf live.now seat.new }
     ensures numbers { IsNextOf next.new seat.new.made }
-    ensures told { IfSome result (λ r. IsExchange R.form live.now seat.old (record { head = head.now; block = block.new.items; answer = r.0; records = r.1.now }) seat.new) }
-    ensures gone { IfNone result (seat.new ≡ seat.old) }
-    ensures read { IfSome result (λ _. Consumes (I.remaining requests.old) (I.remaining requests.new) block.new.items) }
-    ensures few { IfSome result (λ r. length r.1.now * R.form.width ≤ payload_limit) }
+    ensures told { IfOk result (λ r. IsExchange R.form live.now seat.old (record { head = head.now; block = block.new.items; answer = r.0; records = r.1.now }) seat.new) }
+    ensures same { OnErr result (seat.new ≡ seat.old) }
+    ensures cut { IfErr result (λ end. (count : ℕ) × IsRequestHead head.now (head_of (Request.Grow count)) × IsCutGrowth R.form count (I.remaining requests.old) (I.remaining requests.new) end) }
+    ensures read { IfOk result (λ _. Consumes (I.remaining requests.old) (I.remaining requests.new) block.new.items) }
+    ensures few { IfOk result (λ r. length r.1.now * R.form.width ≤ payload_limit) }
 {
     match Head::of(head).request() {
         Ok(request) => act(rt, alloc, live, seat, next, request, requests, block),
-        Err(refusal) => Some((Answer::Refused(refusal), &[])),
+        Err(refusal) => Ok((Answer::Refused(refusal), &[])),
     }
 }
 
@@ -111,11 +134,12 @@ fn exchange<R: Record, I: Read, E: Wait>(
     out.clear();
     block.clear();
     let mut head = [0u8; HEAD_LEN];
-    let Ok(()) = requests.read_exact(&mut head) else {
-        return Err(TalkEnd::Gone);
-    };
-    let Some((told, records)) = respond(rt, alloc, live, seat, next, &head, requests, block) else {
-        return Err(TalkEnd::Gone);
+    if let Err(end) = fill(rt, requests, &mut head) {
+        return Err(end);
+    }
+    let (told, records) = match respond(rt, alloc, live, seat, next, &head, requests, block) {
+        Ok(answered) => answered,
+        Err(end) => return Err(end),
     };
     match told.append_to(records, out) {
         Ok(()) => Ok(told),
@@ -151,7 +175,7 @@ fn talk_through<R: Record, I: Read, W: Write, E: Wait>(
     ensures talked { HasTalked R.form live.now seat.old seat.new (I.remaining requests.old) (I.remaining requests.new) (W.contents answers.old) (W.contents answers.new) result }
 {
     let mut next = 0;
-    for _ in 0..u64::MAX {
+    for _ in rt.forever() {
         let told = match exchange(rt, alloc, live, seat, &mut next, requests, block, out) {
             Ok(told) => told,
             Err(end) => return end,
@@ -163,7 +187,7 @@ fn talk_through<R: Record, I: Read, W: Write, E: Wait>(
             return end;
         }
     }
-    TalkEnd::Gone
+    unreachable!()
 }
 
 /// Answers a client's requests until it asks for the end, is refused by what ends a conversation, or its streams fail. What

@@ -4,3 +4,4 @@ pub mod Counted
 pub mod HeaderRead
 pub mod Shown
 pub mod OfFrames
+pub mod Worked

@@ -24,3 +24,4 @@ pub mod Upgrades
 mod NewFiles
 mod Worked
 mod WorkedUpgrades
+mod WorkedRefusals

@@ -10,4 +10,8 @@ pub returns-in-Err-clause-stops : goal.returns-in-Err-clause-stops
 returns-in-Err-clause-stops g c = stops_by g.R.Record.form g.D.Disk.keeps g.D.Disk.states c.args.growths.0 c.args.vault c.in-Err.stopped.0 c.in-Err.stopped.1 c.requires c.in-Err.ensures.stopped
 
 pub returns-then-count-eq0-clause-on : goal.returns-then-count-eq0-clause-on
-returns-then-count-eq0-clause-on g c = ([], grows_nowhere g.R.Record.form g.D.Disk.keeps g.D.Disk.states c.args.vault c.requires, sym (nil_from_length c.args.growths.0 (sym c.count.ensures ∙ c.if-count-eq0.true)))
+returns-then-count-eq0-clause-on g c = (
+  [],
+  grows_nowhere g.R.Record.form g.D.Disk.keeps g.D.Disk.states c.args.vault c.requires,
+  sym (nil_from_length c.args.growths.0 (sym c.count.ensures ∙ c.if-count-eq0.true)),
+)

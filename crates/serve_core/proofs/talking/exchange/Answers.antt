@@ -1,26 +1,34 @@
 use Rattle.std.proofs.Common.{◌++◌, ◌∙◌, ap, refl}
 use Rattle.std.proofs.KnownBytes.{Consumes-trans}
 use Rattle.serve_core.specs.Answers.{answer_bytes}
+use Rattle.serve_core.proofs.Talks.{untold_by_growth}
 use Rattle.serve_core.proofs.talking.exchange.Goals as goal
 
 pub returns-in-Ok-append_to-clause-done : goal.returns-in-Ok-append_to-clause-done
 returns-in-Ok-append_to-clause-done g c = (
   record {
-    exchange = record { head = c.read_exact.new.buf; block = c.respond.new.block.items; answer = c.in-Some.told; records = c.in-Some.records.now };
-    is = c.in-Some.ensures.told;
+    exchange = record { head = c.fill.new.buffer; block = c.respond.new.block.items; answer = c.in-Ok.answered.0; records = c.in-Ok.answered.1.now };
+    is = c.in-Ok.ensures.told;
     read =
-        Consumes-trans (g.I.Read.remaining c.args.requests.now) (g.I.Read.remaining c.read_exact.new.self) (g.I.Read.remaining c.respond.new.requests)
-        c.read_exact.new.buf c.respond.new.block.items c.in-Ok.ensures.bytes c.in-Some.ensures.read;
+        Consumes-trans (g.I.Read.remaining c.args.requests.now) (g.I.Read.remaining c.fill.new.requests) (g.I.Read.remaining c.respond.new.requests)
+        c.fill.new.buffer c.respond.new.block.items c.in_default.ensures c.in-Ok.ensures.read;
   },
   refl,
-  c.in-Ok-append_to.ensures ∙ ap (λ bytes. bytes ++ answer_bytes g.R.Record.form c.in-Some.told c.in-Some.records.now) c.clear.ensures.items,
+  c.in-Ok-append_to.ensures ∙ ap (λ bytes. bytes ++ answer_bytes g.R.Record.form c.in-Ok.answered.0 c.in-Ok.answered.1.now) c.clear.ensures.items,
 )
 
-pub returns-in-Err-clause-untold : goal.returns-in-Err-clause-untold
-returns-in-Err-clause-untold g c = record {
-  exchange = record { head = c.read_exact.new.buf; block = c.respond.new.block.items; answer = c.in-Some.told; records = c.in-Some.records.now };
-  is = c.in-Some.ensures.told;
+pub returns-in-Err-append_to-clause-untold : goal.returns-in-Err-append_to-clause-untold
+returns-in-Err-append_to-clause-untold g c = record {
+  exchange = record { head = c.fill.new.buffer; block = c.respond.new.block.items; answer = c.in-Ok.answered.0; records = c.in-Ok.answered.1.now };
+  is = c.in-Ok.ensures.told;
   read =
-      Consumes-trans (g.I.Read.remaining c.args.requests.now) (g.I.Read.remaining c.read_exact.new.self) (g.I.Read.remaining c.respond.new.requests)
-      c.read_exact.new.buf c.respond.new.block.items c.in-Ok.ensures.bytes c.in-Some.ensures.read;
+      Consumes-trans (g.I.Read.remaining c.args.requests.now) (g.I.Read.remaining c.fill.new.requests) (g.I.Read.remaining c.respond.new.requests)
+      c.fill.new.buffer c.respond.new.block.items c.in_default.ensures c.in-Ok.ensures.read;
 }
+
+pub returns-in-Err-respond-clause-untold : goal.returns-in-Err-respond-clause-untold
+returns-in-Err-respond-clause-untold g c =
+    let remaining = g.I.Read.remaining in
+    let cut = c.in-Err-respond.ensures.cut in
+    untold_by_growth g.R.Record.form c.args.live.now c.args.seat.now c.respond.new.seat (remaining c.args.requests.now) (remaining c.fill.new.requests)
+    (remaining c.respond.new.requests) c.in-Err-respond.end c.in-Err-respond.ensures.same c.fill.new.buffer cut.0 cut.1 c.in_default.ensures cut.2

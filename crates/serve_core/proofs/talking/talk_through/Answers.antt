@@ -3,8 +3,8 @@ use Rattle.std.specs.Io.KnownBytes.{Appends}
 use Rattle.serve_core.proofs.Talks.{goes_on, ends, fails, untold}
 use Rattle.serve_core.proofs.talking.talk_through.Goals as goal
 
-pub returns-in-Some-clause-talked : goal.returns-in-Some-clause-talked
-returns-in-Some-clause-talked g c =
+pub returns-in-Some-end_of-clause-talked : goal.returns-in-Some-end_of-clause-talked
+returns-in-Some-end_of-clause-talked g c =
     let form = g.R.Record.form in
     let remaining = g.I.Read.remaining in
     let contents = g.W.Write.contents in
@@ -12,7 +12,7 @@ returns-in-Some-clause-talked g c =
     let wrote = subst (Appends (contents c.loop.answers) (contents c.write_all.new.self)) c.as_slice.ensures.value c.in-Ok-write_all.ensures.bytes in
     ends form c.args.live.now c.args.seat.now (remaining c.args.requests.now) (contents c.args.answers.now) c.loop.next c.loop.seat c.exchange.new.seat
     (remaining c.loop.requests) (remaining c.exchange.new.requests) (contents c.loop.answers) c.loop.invariant done.0
-    c.in-Ok.told c.exchange.new.out.items (contents c.write_all.new.self) c.in-Some.end done.1 done.2 wrote c.in-Some.ensures
+    c.in-Ok.told c.exchange.new.out.items (contents c.write_all.new.self) c.in-Some-end_of.end done.1 done.2 wrote c.in-Some-end_of.ensures
 
 pub loop-preserved : goal.loop-preserved
 loop-preserved g c =

@@ -1,4 +1,4 @@
-use Rattle.std.proofs.Common.{◌≡◌, ◌<◌, ◌++◌, [], ◌∷◌, arith, sym, refl, ◌∙◌, ap, subst, Some, None, IfSome, MatchOption, length, get_or}
+use Rattle.std.proofs.Common.{◌≡◌, ◌<◌, ◌++◌, [], ◌∷◌, arith, sym, refl, ◌∙◌, ap, subst, false, Some, None, IfSome, MatchOption, length, get_or}
 use Rattle.std.proofs.lemmas.List.{map-set, map-append, length-map, get_or-map}
 use Rattle.std.proofs.Math.Seq.{map-set_same}
 use Rattle.once_cell.specs.declared.race.note.Note.{Note}
@@ -13,8 +13,8 @@ invariant_of-self g c =
     let asked = subst (λ (v : Known g.row.R.Denot). (length v.entries < v.of.room)
     × IfSome (get_or v.held.buckets c.args.bucket None) (λ names. c.args.bucket_note.known ≡ Some names)
     × StandsIn (length v.entries) c.args.bucket c.args.place c.args.bucket_note.known c.args.note.cell
-    × MatchOption c.args.note.known ⊥ (IsNextInLimit g.R.Record.form.width v.of.limit v.entries c.args.len)) (sym c.self.view_is)
-    (c.requires.room, c.requires.keeps, c.requires.stands, c.requires.follows) in
+    × MatchOption c.args.note.known ⊥ (IsNextInLimit g.R.Record.form.width v.of.limit v.entries c.args.len) × (v.ended ≡ false)) (sym c.self.view_is)
+    (c.requires.room, c.requires.keeps, c.requires.stands, c.requires.follows, c.requires.open) in
     rw (
       c.push_reserved.ensures.items,
       c.push_reserved.ensures.capacity,

@@ -1,0 +1,344 @@
+-- Worked images of what C is told: the numbers and the homes of a file, a file that is made or appended to, a frame, copied
+-- records and the numbers of refusals, each with the nearest that it must not be told.
+use Rattle.std.proofs.Common.{◌≡◌, ℕ, zero, suc, ◌+◌, ◌^◌, ◌<◌, inl, inr, List, [], ◌∷◌, ◌++◌, length, drop, Option, Some, None, refl, sym, ap, subst, ◌∙◌, arith, length-append}
+use Rattle.std.specs.Prelude.{slice_get}
+use Rattle.std.specs.Int.{w64, to_le_bytes}
+use Rattle.record_core.specs.Bytes.{Encoding, unsigned}
+use Rattle.segment_core.specs.declared.fault.Cause.TheVariants as causes
+use Rattle.segment_core.specs.declared.fault.ScanFault.{ScanFault}
+use Rattle.segment_core.specs.declared.fault.ScanFault.TheVariants as faults
+use Rattle.segment_core.specs.declared.found.Home.{Home}
+use Rattle.segment_core.specs.declared.format.Format.{Format}
+use Rattle.segment_core.specs.declared.format.Format.TheVariants.{One, Two}
+use Rattle.segment_core.specs.declared.format.Shape.{Shape}
+use Rattle.segment_core.specs.Shape.{version_of, shape_of}
+use Rattle.segment_core.specs.Frame.{Frame, Group, text, frame_text}
+use Rattle.segment_core.specs.Tally.{tally_of, AreLegal}
+use Rattle.segment_core.specs.Image.{HasFrames}
+use Rattle.segment_core.specs.Vector.{place_of, record_at}
+use Rattle.segment_core.specs.Fault.{frame_fault, frame_lines, damaged, header_fault, header_lines}
+use Rattle.segment_core.specs.Found.{StandsAt}
+use Rattle.segment_core.specs.Reading.{BeginsWith}
+use Rattle.segment_core.proofs.Longest.{NoFrame_fault, is_longest}
+use Rattle.segment_core.proofs.Refusals.{longest_closed}
+use Rattle.segment_core.proofs.OneVector.{one_list, sound_header, same_vector}
+use Rattle.cvec_c.specs.declared.frame.CvecFrame.{CvecFrame}
+use Rattle.cvec_c.specs.declared.stat.CvecStat.{CvecStat}
+use Rattle.cvec_c.specs.declared.status.CvecFault.{CvecFault}
+use Rattle.cvec_c.specs.declared.status.Status.{Status}
+use Rattle.cvec_c.specs.declared.status.Status.TheVariants as statuses
+use Rattle.cvec_c.specs.Stat.{HasStat, IsScanToldOf}
+use Rattle.cvec_c.specs.Status.{code_of, status_of, told}
+use Rattle.cvec_c.specs.Append.{first_status, append_lines, AppendsTo}
+use Rattle.cvec_c.specs.Empty.{empty_lines, Creates}
+use Rattle.cvec_c.specs.Frame.{IsFrameTold, IsNoFrame}
+use Rattle.cvec_c.specs.Homes.{as_homes, HasHomes}
+use Rattle.cvec_c.specs.Reading.{AreCopied}
+use Rattle.cvec_c.proofs.Append.{stays, has_grown}
+use Rattle.cvec_c.proofs.Creates.{creates}
+
+abbrev numbers : Encoding ℕ
+numbers = unsigned w64
+
+abbrev one : Shape
+one = shape_of One numbers
+
+abbrev number : ℕ → List ℕ
+number n = to_le_bytes w64 n
+
+-- ---- numbers: one image has one vector, and is told of by one list of numbers
+
+module _ {R : Type 0} (form : Encoding R) (small : form.width < 2 ^ 16) (image : List ℕ) (a b : List R) (s t : CvecStat) (has : HasStat form image a s) (other : HasStat form image b t) where
+  format_same : has.format ≡ other.format
+  format_same =
+      sym (sound_header has.format form.width image has.frames small has.vector.framed).names
+      ∙ (sound_header other.format form.width image other.frames small other.vector.framed).names
+
+  here : HasFrames (shape_of has.format form) image other.frames
+  here = subst (λ f. HasFrames (shape_of f form) image other.frames) (sym format_same) other.vector.framed
+
+  frames_same : has.frames ≡ other.frames
+  frames_same = one_list (shape_of has.format form) image has.frames other.frames has.vector.framed (longest_closed (shape_of has.format form) image other.frames here)
+
+  pub one_vector : a ≡ b
+  one_vector = same_vector has.format other.format form image has.frames other.frames a b small has.vector other.vector
+
+  gates_same : length (text (shape_of has.format form) has.frames) ≡ length (text (shape_of other.format form) other.frames)
+  gates_same = λ i. length (text (shape_of (format_same i) form) (frames_same i))
+
+  pub one_stat : s ≡ t
+  one_stat = λ i. record {
+    size = (has.size_is ∙ ap length one_vector ∙ sym other.size_is) i;
+    frames = (has.frames_are ∙ ap length frames_same ∙ sym other.frames_are) i;
+    changes = (has.changes_are ∙ ap (λ (fs : List Frame). (tally_of fs).changes) frames_same ∙ sym other.changes_are) i;
+    folded = (has.folded_is ∙ ap (λ (fs : List Frame). (tally_of fs).folded) frames_same ∙ sym other.folded_is) i;
+    gate = (has.gate_is ∙ gates_same ∙ sym other.gate_is) i;
+    width = (has.width_is ∙ sym other.width_is) i;
+    version = (has.version_is ∙ ap version_of format_same ∙ sym other.version_is) i;
+  }
+
+abbrev empty_file : List ℕ
+empty_file = text one [] ++ 0 ∷ []
+
+abbrev empty_stat : CvecStat
+empty_stat = record { size = 0; frames = 0; changes = 0; folded = 0; gate = 11; width = 8; version = 1 }
+
+has_nothing : HasStat numbers empty_file [] empty_stat
+has_nothing = record {
+  format = One;
+  frames = [];
+  vector = record {
+    framed = record { legal = tt; closed = (0, [], (λ (opened : 0 ≡ 1). absurd (omega arith)), refl) };
+    read = record { size = refl; each = λ i lt. absurd (omega arith) };
+  };
+  version_is = refl;
+  width_is = refl;
+  size_is = refl;
+  frames_are = refl;
+  changes_are = refl;
+  folded_is = refl;
+  gate_is = refl;
+}
+
+only_first : (P : ℕ → Type 0) → P 0 → (i : ℕ) → i < 1 → P i
+only_first P first zero lt = first
+only_first P first (suc i) lt = absurd (omega arith)
+
+-- a growth of one number
+abbrev group : ℕ → Frame
+group n = Group (1 ∷ []) (number n)
+
+abbrev file_of : ℕ → List ℕ
+file_of n = text one (group n ∷ []) ++ 0 ∷ []
+
+abbrev one_number : CvecStat
+one_number = record { size = 1; frames = 1; changes = 0; folded = 0; gate = 33; width = 8; version = 1 }
+
+group_legal : (n : ℕ) → length (number n) ≡ 8 → AreLegal one (group n ∷ [])
+group_legal n long = (
+  record { wide = omega arith; small = omega arith; layout = (omega arith, ((omega arith, omega arith), tt), long) },
+  record { ordered = refl; inside = refl; folded = refl; counted = refl; short = refl },
+  tt,
+)
+
+has_five : HasStat numbers (file_of 5) (5 ∷ []) one_number
+unfolding place_of
+has_five = record {
+  format = One;
+  frames = group 5 ∷ [];
+  vector = record {
+    framed = record { legal = group_legal 5 refl; closed = (0, [], (λ (opened : 0 ≡ 1). absurd (omega arith)), refl) };
+    read = record { size = refl; each = only_first (λ i. record_at One numbers (file_of 5) (group 5 ∷ []) i ≡ slice_get (5 ∷ []) i) refl };
+  };
+  version_is = refl;
+  width_is = refl;
+  size_is = refl;
+  frames_are = refl;
+  changes_are = refl;
+  folded_is = refl;
+  gate_is = refl;
+}
+
+narrow : numbers.width < 2 ^ 16
+narrow = omega arith
+
+-- neither another record nor another number
+not_six : (s : CvecStat) → HasStat numbers (file_of 5) (6 ∷ []) s → ⊥
+not_six s has = absurd (let same = one_vector numbers narrow (file_of 5) (6 ∷ []) (5 ∷ []) s one_number has has_five in cc)
+
+just_its_numbers : (records : List ℕ) (s : CvecStat) → HasStat numbers (file_of 5) records s → (records ≡ 5 ∷ []) × (s ≡ one_number)
+just_its_numbers records s has = (
+  one_vector numbers narrow (file_of 5) records (5 ∷ []) s one_number has has_five,
+  one_stat numbers narrow (file_of 5) records (5 ∷ []) s one_number has has_five,
+)
+
+-- ---- homes
+
+abbrev home : ℕ → ℕ → Home
+home place count = record { position = 0; place = place; count = count }
+
+five_at_home : HasHomes numbers (file_of 5) (5 ∷ []) one_number (home 25 1 ∷ [])
+five_at_home = record { holds = has_five; in_turn = (refl, refl); stand = λ none. only_first _ refl }
+
+-- one byte on there stand other records
+not_a_byte_on : HasHomes numbers (file_of 5) (5 ∷ []) one_number (home 26 1 ∷ []) → ⊥
+not_a_byte_on has = absurd (let stand = has.stand (omega arith) 0 (omega arith) in cc)
+
+no_home_less : HasHomes numbers (file_of 5) (5 ∷ []) one_number [] → ⊥
+no_home_less has = let turn = has.in_turn in absurd (omega arith)
+
+no_record_more : HasHomes numbers (file_of 5) (5 ∷ []) one_number (home 25 2 ∷ []) → ⊥
+no_record_more has = let turn = has.in_turn.1 in absurd (omega arith)
+
+no_other_vector : (s : CvecStat) (homes : List Home) → HasHomes numbers (file_of 5) (6 ∷ []) s homes → ⊥
+no_other_vector s homes has = not_six s has.holds
+
+homes_of_c : as_homes (record { position = 3; place = 25; count = 2 } ∷ []) ≡ record { position = 3; place = 25; count = 2 } ∷ []
+homes_of_c = refl
+
+-- ---- appending
+
+abbrev bytes_of_five : List ℕ
+bytes_of_five = frame_text One (group 5) ++ 0 ∷ []
+
+spelled : (format : Format) → bytes_of_five ≡ frame_text format (group 5) ++ 0 ∷ []
+spelled One = refl
+spelled Two = refl
+
+sized : (r : ℕ) → length (number r) ≡ 8
+sized r = refl
+
+five_appended : AppendsTo numbers empty_stat (5 ∷ []) bytes_of_five one_number
+five_appended = record {
+  before = λ image other records stat same shut. stays numbers empty_stat image other records stat same shut;
+  after = λ image other records stat same stands.
+      has_grown numbers empty_stat image other records stat same (5 ∷ []) bytes_of_five one_number (omega arith) sized (omega arith) spelled (refl, tt) (omega arith) (omega arith) stands
+      refl refl refl refl refl (λ few. refl) (omega arith) refl;
+  next_gate = refl;
+}
+
+-- what such bytes promise of a crash: the old file while the gate is shut, and with them there the new one
+module _ (bytes : List ℕ) (next : CvecStat) (new : List ℕ) (appends : AppendsTo numbers empty_stat new bytes next) where
+  shut_is_old : HasStat numbers (text one [] ++ 0 ∷ 9 ∷ 9 ∷ []) [] empty_stat
+  shut_is_old = appends.before empty_file (text one [] ++ 0 ∷ 9 ∷ 9 ∷ []) [] has_nothing refl (omega arith, λ (opened : 0 ≡ 1). absurd (omega arith))
+
+  torn_is_old : HasStat numbers (text one [] ++ 2 ∷ []) [] empty_stat
+  torn_is_old = appends.before empty_file (text one [] ++ 2 ∷ []) [] has_nothing refl (omega arith, λ (opened : 2 ≡ 1). absurd (omega arith))
+
+  there_is_new : StandsAt (text one [] ++ bytes) 11 bytes → HasStat numbers (text one [] ++ bytes) new next
+  there_is_new stands = appends.after empty_file (text one [] ++ bytes) [] has_nothing refl stands
+
+-- the bytes of a five append no six, and nothing else than one number
+no_six_appended : (next : CvecStat) → AppendsTo numbers empty_stat (6 ∷ []) bytes_of_five next → ⊥
+no_six_appended next appends = not_six next (there_is_new bytes_of_five next (6 ∷ []) appends refl)
+
+just_one_appended : (next : CvecStat) → AppendsTo numbers empty_stat (5 ∷ []) bytes_of_five next → next ≡ one_number
+just_one_appended next appends = (just_its_numbers (5 ∷ []) next (there_is_new bytes_of_five next (5 ∷ []) appends refl)).1
+
+-- with one byte more the next gate isn't the last of them
+not_a_byte_more : AppendsTo numbers empty_stat (5 ∷ []) (bytes_of_five ++ 0 ∷ []) one_number → ⊥
+not_a_byte_more appends = let gate = appends.next_gate in absurd (omega arith)
+
+no_gate_at_33 : frame_fault one 33 (tally_of (group 5 ∷ [])) [] ≡ Some (damaged 33 causes.NoGate)
+unfolding frame_fault frame_lines
+no_gate_at_33 = refl
+
+-- without the gate behind it no frame ends
+not_ended : (frames : List Frame) → HasFrames one (text one (group 5 ∷ [])) frames → ⊥
+not_ended frames has =
+    let image = text one (group 5 ∷ []) in
+    let longest = is_longest one (group 5 ∷ []) image [] (group_legal 5 refl) refl (NoFrame_fault one 33 (tally_of (group 5 ∷ [])) [] (damaged 33 causes.NoGate) no_gate_at_33) in
+    let same : frames ≡ group 5 ∷ [] = one_list one image frames (group 5 ∷ []) has longest in
+    let size : length image ≡ length (text one frames) + suc (length has.closed.1) = ap length has.closed.3 ∙ length-append (text one frames) (has.closed.0 ∷ has.closed.1) in
+    let again : length (text one frames) ≡ length image = ap (λ fs. length (text one fs)) same in
+    absurd (omega arith)
+
+not_without_its_gate : (next : CvecStat) → AppendsTo numbers empty_stat (5 ∷ []) (frame_text One (group 5)) next → ⊥
+not_without_its_gate next appends =
+    let has = there_is_new (frame_text One (group 5)) next (5 ∷ []) appends refl in
+    let names = (sound_header has.format 8 (text one (group 5 ∷ [])) has.frames narrow has.vector.framed).names in
+    not_ended has.frames (subst (λ f. HasFrames (shape_of f numbers) (text one (group 5 ∷ [])) has.frames) (sym names) has.vector.framed)
+
+-- ---- creating
+
+empty_created : Creates numbers empty_file empty_stat
+empty_created = creates One numbers empty_file 1 8 refl refl refl
+
+module _ (bytes : List ℕ) (stat : CvecStat) (made : Creates numbers bytes stat) where
+  no_file_yet : header_fault 8 (0 ∷ 67 ∷ []) ≡ Some faults.Unborn
+  no_file_yet = made.before (0 ∷ 67 ∷ []) (λ (opened : 0 ≡ 1). absurd (omega arith))
+
+  then_a_file : StandsAt bytes 0 bytes → HasStat numbers bytes [] stat
+  then_a_file stands = made.after bytes stands
+
+no_other_numbers : (stat : CvecStat) → Creates numbers empty_file stat → stat ≡ empty_stat
+no_other_numbers stat made = one_stat numbers narrow empty_file [] [] stat empty_stat (then_a_file empty_file stat made refl) has_nothing
+
+not_of_a_growth : (stat : CvecStat) → Creates numbers (file_of 5) stat → ⊥
+not_of_a_growth stat made = absurd (let same = one_vector numbers narrow (file_of 5) [] (5 ∷ []) stat one_number (then_a_file (file_of 5) stat made refl) has_five in cc)
+
+-- ---- a frame
+
+abbrev fields : CvecFrame
+fields = record { first_record = 25; next = 33; payload_len = 16; growths = 1; records = 1; kind = 1 }
+
+group_begins : BeginsWith one (drop 11 (file_of 5)) (group 5)
+group_begins = record { whole = record { wide = omega arith; small = omega arith; layout = (omega arith, ((omega arith, omega arith), tt), refl) }; text = (0 ∷ [], refl) }
+
+five_told : IsFrameTold (file_of 5) 11 1 8 fields
+five_told = record {
+  format = One;
+  frame = group 5;
+  version_is = refl;
+  begins = group_begins;
+  kind_is = refl;
+  payload_len_is = refl;
+  growths_are = refl;
+  records_are = refl;
+  first_record_is = refl;
+  next_is = refl;
+}
+
+-- where one stands it isn't told that none does
+not_none : IsNoFrame (file_of 5) 11 1 8 → ⊥
+not_none none = none One refl (group 5) group_begins
+
+-- ---- copied records
+
+copied : AreCopied {R = ℕ} (1 ∷ 2 ∷ 3 ∷ []) 1 (9 ∷ 9 ∷ 9 ∷ []) (2 ∷ 3 ∷ 9 ∷ []) 2
+copied = record { count_is = refl; copied = refl }
+
+not_from_the_first : AreCopied {R = ℕ} (1 ∷ 2 ∷ 3 ∷ []) 1 (9 ∷ 9 ∷ 9 ∷ []) (1 ∷ 2 ∷ 9 ∷ []) 2 → ⊥
+not_from_the_first are = absurd (let same = are.copied in cc)
+
+not_the_rest_too : AreCopied {R = ℕ} (1 ∷ 2 ∷ 3 ∷ []) 1 (9 ∷ 9 ∷ 9 ∷ []) (2 ∷ 3 ∷ 0 ∷ []) 2 → ⊥
+not_the_rest_too are = absurd (let same = are.copied in cc)
+
+not_fewer : AreCopied {R = ℕ} (1 ∷ 2 ∷ 3 ∷ []) 1 (9 ∷ 9 ∷ 9 ∷ []) (2 ∷ 9 ∷ 9 ∷ []) 1 → ⊥
+not_fewer are = absurd (let same = are.count_is in cc)
+
+-- ---- refusals
+
+-- the first one that holds is told
+abbrev asked : ℕ → ℕ → ℕ → CvecStat → Option Status
+asked width records room stat = first_status (append_lines width stat records room)
+
+refusals_in_order :
+    (asked 8 1 23 empty_stat ≡ None)
+    × (asked 8 1 22 empty_stat ≡ Some statuses.NoRoom)
+    × (asked 8 0 0 empty_stat ≡ Some statuses.Empty)
+    × (asked 4 0 0 empty_stat ≡ Some statuses.Width)
+    × (asked 4 0 0 (record empty_stat { version = 3 }) ≡ Some statuses.Version)
+    × (asked 8 131071 2000000 empty_stat ≡ None)
+    × (asked 8 131072 2000000 empty_stat ≡ Some statuses.TooLarge)
+    × (asked 8 131072 2000000 (record empty_stat { version = 2 }) ≡ None)
+    × (asked 8 2 99 (record empty_stat { size = 4294967294 }) ≡ None)
+    × (asked 8 3 99 (record empty_stat { size = 4294967294 }) ≡ Some statuses.OutOfRange)
+    × (asked 8 1 0 (record empty_stat { gate = 281474976710634 }) ≡ Some statuses.FileFull)
+    × (asked 8 1 99 (record empty_stat { gate = 281474976710633 }) ≡ None)
+refusals_in_order = (refl, refl, refl, refl, refl, refl, refl, refl, refl, refl, refl, refl)
+
+refusals_of_an_empty_file : (first_status (empty_lines 2 12) ≡ None) × (first_status (empty_lines 2 11) ≡ Some statuses.NoRoom) × (first_status (empty_lines 0 0) ≡ Some statuses.Version)
+refusals_of_an_empty_file = (refl, refl, refl)
+
+-- done is told of nothing that was refused
+never_done : (fault : ScanFault) → code_of (status_of fault) ≡ 0 → ⊥
+never_done faults.Unborn is = absurd (omega arith)
+never_done faults.NotSegment is = absurd (omega arith)
+never_done (faults.Version version) is = absurd (omega arith)
+never_done (faults.Width width) is = absurd (omega arith)
+never_done (faults.Damaged at cause) is = absurd (omega arith)
+never_done faults.Memory is = absurd (omega arith)
+
+told_in_numbers : (told (damaged 33 causes.ShortFrame) ≡ record { at = 33; cause = 2; found = 0 }) × (told (damaged 34 (causes.Kind 5)) ≡ record { at = 34; cause = 3; found = 5 })
+    × (told (faults.Width 4) ≡ record { at = 0; cause = 0; found = 4 }) × (code_of (status_of (damaged 33 causes.ShortFrame)) ≡ 5) × (code_of (status_of (faults.Width 4)) ≡ 4)
+told_in_numbers = (refl, refl, refl, refl, refl)
+
+-- of no bytes it is told that there is no file yet, and nothing else
+unborn : IsScanToldOf numbers [] 1 (record { at = 0; cause = 0; found = 0 })
+unfolding header_lines
+unborn = (faults.Unborn, inl refl, refl, refl)
+
+unborn_alone : (answer : ℕ) (fault : CvecFault) → IsScanToldOf numbers [] answer fault → answer ≡ 1
+unfolding header_lines
+unborn_alone answer fault is = elim is.1 [ inl first ↦ is.2 ∙ ap (λ (f : ScanFault). code_of (status_of f)) first | inr memory ↦ absurd (let none = memory.1 in cc) ]
