@@ -12,8 +12,8 @@ use crate::serving::{fault_of, pipes_of, write_served};
 use disk_core::{Disk, FileDisk};
 use files_core::{
     Deck, Ended, FileFault, Progress, Watched, Window, append, check, clear, count, create, find,
-    fold, is_vacant, list, load, read_growth_lines, read_record, read_resizing, read_setting, read_window,
-    resize, set, sound_front, upgrade_file,
+    fold, is_vacant, list, load, read_growth_lines, read_record, read_resizing, read_setting,
+    read_window, resize, set, sound_front, upgrade_file,
 };
 use pen_core::{OpenFault, PenFault};
 use segment_core::{Format, ScanFault};

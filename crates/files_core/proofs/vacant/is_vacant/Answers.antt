@@ -22,8 +22,8 @@ vacant : (shape : Shape) (made bytes read : List ℕ) (r : Bool) → length byte
     → (IsTrue r ↔ IsZeroOrOf made read) → (IsTrue r ↔ IsVacant shape bytes)
 vacant shape made bytes read r short is spelled tests =
     let each : IsTrue r ↔ IsZeroOrOf (header shape ++ closed_gate ∷ []) bytes =
-        subst (λ (xs : List ℕ). IsTrue r ↔ IsZeroOrOf (header shape ++ closed_gate ∷ []) xs) is
-        (subst (λ (m : List ℕ). IsTrue r ↔ IsZeroOrOf m read) spelled tests) in
+    subst (λ (xs : List ℕ). IsTrue r ↔ IsZeroOrOf (header shape ++ closed_gate ∷ []) xs) is
+    (subst (λ (m : List ℕ). IsTrue r ↔ IsZeroOrOf m read) spelled tests) in
     (λ holds. record { short = short; each = each.0 holds }, λ v. each.1 v.each)
 
 pub returns-in_err-len-clause-images : goal.returns-in_err-len-clause-images
@@ -49,10 +49,10 @@ returns-clause-vacant g c = λ model.
     let long : c.in_ok-len.len ≡ length old = c.in_ok-len.ensures.value before in
     let short : c.in_ok-len.len ≤ 12 = c.if-len.false in
     let read : c.read_at.new.out ≡ there =
-        whole c.in_ok-len.len (0 ∷ 0 ∷ 0 ∷ 0 ∷ 0 ∷ 0 ∷ 0 ∷ 0 ∷ 0 ∷ 0 ∷ 0 ∷ 0 ∷ []) there c.read_at.new.out short
-        (long ∙ ap length (sym same)) (c.in_ok-read_at.ensures.value model) in
+    whole c.in_ok-len.len (0 ∷ 0 ∷ 0 ∷ 0 ∷ 0 ∷ 0 ∷ 0 ∷ 0 ∷ 0 ∷ 0 ∷ 0 ∷ 0 ∷ []) there c.read_at.new.out short
+    (long ∙ ap length (sym same)) (c.in_ok-read_at.ensures.value model) in
     let made : c.empty_file.result ≡ header (shape_of c.args.format g.R.Record.form) ++ closed_gate ∷ [] =
-        c.empty_file.ensures ∙ ap (λ (w : ℕ). header (record { format = c.args.format; width = w }) ++ closed_gate ∷ []) c.width_of.ensures.is in
+    c.empty_file.ensures ∙ ap (λ (w : ℕ). header (record { format = c.args.format; width = w }) ++ closed_gate ∷ []) c.width_of.ensures.is in
     vacant (shape_of c.args.format g.R.Record.form) c.empty_file.result old c.read_at.new.out c.is_zero_or_of.result
     (subst (λ (n : ℕ). n ≤ 12) long short) (read ∙ same) made c.is_zero_or_of.ensures
 
