@@ -12,6 +12,7 @@ mod filling;
 mod growths;
 mod lent;
 mod limits;
+mod looks;
 mod meeting;
 mod noting;
 mod opening;

@@ -1,0 +1,52 @@
+//! That a look takes steps by what is new alone.
+//!
+//! A seat that knows 100,000 growths looks a million times with nothing new, and 100,000 times with one growth that is
+//! new. By what is known these would take 10^10 steps and more, which no test's time holds.
+
+ghost use Rattle.book_core.specs.Lists.{IsSeatOf};
+
+use super::two::{Two, begin_two};
+use book_core::{Live, Seat};
+use std::sync::Wait;
+
+const KNOWN: u64 = 100_000;
+const LOOKS: u64 = 1_000_000;
+const NEW: u64 = 100_000;
+
+/// The size that the second seat knows behind the growths of the first and its looks.
+fn look_often<E: Wait>(
+    rt: &E,
+    live: &Live<u64>,
+    first: &mut Seat<u64>,
+    second: &mut Seat<u64>,
+) -> Option<u64>
+    requires { IsSeatOf live.now first.old × IsSeatOf live.now second.old }
+{
+    for number in 0..KNOWN {
+        live.push_back(rt, first, number).ok()?;
+    }
+    for _ in 0..LOOKS {
+        live.look(second).ok()?;
+    }
+    for number in 0..NEW {
+        live.push_back(rt, first, number).ok()?;
+        live.look(second).ok()?;
+    }
+    live.look(second).ok()
+}
+
+/// The same of a book.
+fn look_in<E: Wait>(rt: &E, two: Two) -> Option<u64> {
+    let Two {
+        live,
+        mut first,
+        mut second,
+    } = two;
+    look_often(rt, &live, &mut first, &mut second)
+}
+
+#[test]
+fn a_look_takes_steps_by_what_is_new(rt: HostRuntime) {
+    let size = begin_two(rt.alloc(), KNOWN + NEW).and_then(|two| look_in(&rt, two));
+    assert_eq!(rt; size, Some(KNOWN + NEW));
+}
