@@ -1,10 +1,10 @@
 -- Worked values of what an appender does, of growths by their results, and of a grower's naps.
-use Rattle.std.proofs.Common.{◌≡◌, ◌≤◌, ℕ, ◌+◌, List, [], ◌∷◌, Option, Some, None, Ok, Err, length, replicate, refl, arith}
+use Rattle.std.proofs.Common.{◌≡◌, ◌≤◌, ℕ, ◌+◌, List, [], ◌∷◌, Some, None, Ok, Err, length, refl, arith}
 use Rattle.book_core.specs.declared.fault.GrowFault.{GrowFault}
 use Rattle.book_core.specs.declared.fault.GrowFault.TheVariants.{Closed, Full, TooLong, Strayed, Memory, Empty, TooLarge}
 use Rattle.book_core.specs.declared.seat.Receipt.{Receipt}
 use Rattle.book_core.specs.Lists.{Phase, Seated}
-use Rattle.book_core.specs.Growing.{SeatLearns, GrowsBy, FillsOrReaches, size_of}
+use Rattle.book_core.specs.Growing.{GrowsBy, FillsOrReaches, size_of}
 use Rattle.book_core.specs.Appending.{Appending, IsFlushed, IsAppended, KeepsAll, IsFlushRefusal, IsAppendRefusal}
 use Rattle.book_core.specs.Naps.{IsNextNap}
 

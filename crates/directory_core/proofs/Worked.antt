@@ -1,5 +1,5 @@
 -- Worked values of definitions that stand in conclusions alone.
-use Rattle.std.proofs.Common.{◌≡◌, ◌≤◌, ℕ, zero, suc, ◌+◌, ◌⊎◌, inl, inr, Bool, true, false, List, [], ◌∷◌, Option, Some, None, Ok, Err, MatchOption, length, take, drop, slice_get, refl, ap, sym, subst, ◌∙◌, arith}
+use Rattle.std.proofs.Common.{◌≡◌, ℕ, zero, suc, ◌+◌, inl, inr, Bool, true, false, List, [], ◌∷◌, Option, Some, None, Ok, Err, MatchOption, length, take, drop, slice_get, refl, ap, sym, subst, ◌∙◌, arith}
 use Rattle.once_cell.specs.declared.race.note.Note.{Note}
 use Rattle.block_core.specs.Growth.{Growth}
 use Rattle.directory_core.specs.declared.fault.DirFault.{DirFault}

@@ -13,7 +13,7 @@ use Rattle.book_core.specs.Marks.{MarkEnd}
 use Rattle.book_core.specs.Lists.{Phase}
 use Rattle.book_core.proofs.Owns.{take-begins}
 use Rattle.book_core.proofs.Steps.{begins-trans}
-use Rattle.flush_core.specs.Flusher.{FlusherOf, IsFlusherOf, FlusherGoesOn, OpensToFirst, OpensToJob, SameGrowths, list_to}
+use Rattle.flush_core.specs.Flusher.{FlusherOf, IsFlusherOf, FlusherLearns, FlusherGoesOn, OpensToFirst, OpensToJob, SameGrowths, list_to}
 use Rattle.flush_core.specs.Serving.{Serves, fold_with}
 
 module _ {R D : Type 0} where
@@ -51,6 +51,21 @@ module _ {R D : Type 0} where
         no_less_taken = omega arith;
         no_less_settled = omega arith;
         opening_same = λ model. then.opening_same model ∙ first.opening_same (back model);
+      }
+
+  -- nothing has changed but what it knows
+  FlusherGoesOn-learns : (keeps : Type 0) (old new : FlusherOf R D) → FlusherLearns old new → FlusherGoesOn keeps old new
+  FlusherGoesOn-learns keeps old new learns =
+      let taken = learns.taken_same in
+      let settled = learns.settled_same in
+      record {
+        begins = learns.begins;
+        of_same = learns.of_same;
+        mark_of_same = ap (λ (m : MarkEnd). m.of) learns.mark_same;
+        before_same = learns.before_same;
+        no_less_taken = omega arith;
+        no_less_settled = omega arith;
+        opening_same = λ _. learns.opening_same;
       }
 
   -- nothing has changed but what its end of the mark was told
@@ -165,6 +180,12 @@ module _ {R D : Type 0} where
         let pen = pen-told mid new mark is in
         Serves-then first (FlusherGoesOn-told (keeps new.pen.disk) mid new mark of is)
         (ap (λ (p : PenOf D). p.disk) pen) (ap (λ (p : PenOf D). fold_with p.job p.fold) pen)
+
+    -- and then it learns
+    pub Serves-learns : {old mid new : FlusherOf R D} → Serves form keeps states old mid → FlusherLearns mid new → Serves form keeps states old new
+    Serves-learns {old} {mid} {new} first learns =
+        Serves-then first (FlusherGoesOn-learns (keeps new.pen.disk) mid new learns)
+        (ap (λ (p : PenOf D). p.disk) learns.pen_same) (ap (λ (p : PenOf D). fold_with p.job p.fold) learns.pen_same)
 
     -- it stays of its phase
     pub IsFlusherOf-served : {live : Phase R} {old new : FlusherOf R D} → Serves form keeps states old new

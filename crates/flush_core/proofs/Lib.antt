@@ -1,6 +1,7 @@
 pub mod Kept
 mod FoldsBehind
 pub mod Goes
+mod Learned
 mod LogLeft
 mod ServeFaults
 mod Next
@@ -8,3 +9,4 @@ mod PiecesHeld
 mod Taken
 mod Worked
 mod WorkedServing
+mod WorkedTaking

@@ -97,7 +97,7 @@ module _ {D : Type 0} (pen : PenOf D) (of : Identity) (held : Held) (mark : Mark
   abbrev one_of_three : FlusherOf ℕ D
   one_of_three = record {
     pen = pen;
-    pass = record { of = of; entries = grown 0 0 5 ∷ grown 1 1 6 ∷ grown 2 2 7 ∷ []; held = held };
+    pass = record { of = of; entries = grown 0 0 5 ∷ grown 1 1 6 ∷ grown 2 2 7 ∷ []; ended = false; strayed = false; held = held };
     mark = mark;
     opening = 4 ∷ [];
     before = 1;

@@ -1,7 +1,8 @@
 //! What a flusher learns of the growers, and what it tells them.
 
-ghost use Rattle.std.specs.Prelude.{◌≡◌, ◌≤◌, ◌+◌, length, IfOk, IfErr, MatchResult};
-ghost use Rattle.directory_core.specs.Chain.{Agree, IsLongerOf, total};
+ghost use Rattle.std.specs.Prelude.{◌≡◌, ◌≤◌, ◌+◌, false, true, length, IfOk, IfErr, MatchResult};
+ghost use Rattle.directory_core.specs.Chain.{Agree, IsLongerOf, IsPrefix, total};
+ghost use Rattle.directory_core.specs.Known.{KnowsAll};
 ghost use Rattle.book_core.specs.Lists as lists;
 ghost use Rattle.book_core.specs.Growing as growing;
 ghost use Rattle.book_core.specs.Marks.{Rises};
@@ -24,6 +25,7 @@ impl<R: Record, D: Disk> Flusher<R, D> {
         ensures size { MatchResult result
             (λ size. size ≡ self.new.before + total self.new.pass.entries)
             (λ fault. fault ≡ FlushFault.Strayed (length self.new.pass.entries)) }
+        ensures strayed { MatchResult result (λ _. self.new.pass.strayed ≡ false) (λ _. self.new.pass.strayed ≡ true) }
     {
         match live.look_by(&mut self.pass) {
             Ok(_) => Ok(self.before + self.pass.size()),
@@ -70,13 +72,15 @@ impl<R: Record, D: Disk> Flusher<R, D> {
     }
 
     /// Gives a seat up: what it knows is known, and what it was told by the mark is settled. So also behind a fault of the
-    /// pen.
+    /// pen. Who knows all the growths of the phase, as behind an `Ok` of `serve`, learns nothing: each growth that the seat
+    /// made or knows is among them.
     pub fn take_in(&mut self, live: &Live<R>, seat: Seat<R>)
         requires of { IsFlusherOf (D.keeps self.old.pen.disk) live.now self.old × lists.IsSeatOf live.now seat }
         ensures learns { FlusherLearns self.old self.new }
         ensures agree { Agree self.old.pass.entries seat.pass.entries }
         ensures meets { IsLongerOf self.old.pass.entries seat.pass.entries self.new.pass.entries }
         ensures told { seat.mark.told.count ≤ self.new.settled }
+        ensures all { KnowsAll self.old.pass → IsPrefix seat.pass.entries self.old.pass.entries × (self.new.pass.entries ≡ self.old.pass.entries) × KnowsAll self.new.pass }
     {
         live.take_in(&mut self.pass, &mut self.mark, seat);
     }

@@ -1,9 +1,10 @@
 //! Serving growers: what they put is committed, group by group, until the book is closed.
 
-ghost use Rattle.std.specs.Prelude.{◌≡◌, length, None, OnOk, OnErr, IfErr};
+ghost use Rattle.std.specs.Prelude.{◌≡◌, length, IsTrue, None, OnOk, OnErr, IfErr};
 ghost use Rattle.disk_core.specs.Fault.{CountsFailures};
 ghost use Rattle.disk_core.specs.Moments.{LeavesOnly};
-ghost use Rattle.flush_core.specs.Flusher.{IsFlusherOf, FlusherGoesOn, OpensToFirst};
+ghost use Rattle.directory_core.specs.Known.{KnowsAll};
+ghost use Rattle.flush_core.specs.Flusher.{IsFlusherOf, FlusherLearns, FlusherGoesOn, OpensToFirst};
 ghost use Rattle.flush_core.specs.Refusals.{failed};
 ghost use Rattle.flush_core.specs.Serving.{Serves, HasSettledAll, TellsBroken, IsServeFault, fold_with};
 
@@ -43,11 +44,22 @@ impl<R: Record, D: Disk> Flusher<R, D> {
         Ok(())
     }
 
+    /// Whether the phase is over: the book is closed, each growth that it knows is settled, and none can stand behind
+    /// those, which it ends then.
+    fn ends(&mut self, live: &Live<R>, closed: bool) -> bool
+        requires of { IsFlusherOf (D.keeps self.old.pen.disk) live.now self.old }
+        ensures learns { FlusherLearns self.old self.new }
+        ensures same { self.new.pass.entries ≡ self.old.pass.entries }
+        ensures all { IsTrue result → (self.new.settled ≡ length self.new.pass.entries) × KnowsAll self.new.pass }
+    {
+        closed && self.settled == self.known() && live.end_by(&mut self.pass)
+    }
+
     /// Commits and tells, until the book is closed and all is settled.
     fn serve_all<E: Wait>(&mut self, rt: &E, live: &Live<R>) -> Result<(), FlushFault>
         requires of { IsFlusherOf (D.keeps self.old.pen.disk) live.now self.old }
         ensures serves { Serves R.form D.keeps D.states self.old self.new }
-        ensures all { OnOk result (self.new.settled ≡ length self.new.pass.entries) }
+        ensures all { OnOk result ((self.new.settled ≡ length self.new.pass.entries) × KnowsAll self.new.pass) }
         ensures idle { OnOk result (self.new.pen.job ≡ None) }
         ensures refused { IfErr result (λ fault. IsServeFault R.form.width self.old self.new fault) }
         ensures faults { CountsFailures failed (D.faults self.old.pen.disk) (D.faults self.new.pen.disk) result }
@@ -61,7 +73,7 @@ impl<R: Record, D: Disk> Flusher<R, D> {
             let closed = live.await_more(rt, self.settled);
             self.begin_next(live)?;
             self.settle_job()?;
-            if closed && self.settled == self.known() {
+            if self.ends(live, closed) {
                 break;
             }
         }
@@ -69,10 +81,12 @@ impl<R: Record, D: Disk> Flusher<R, D> {
     }
 
     /// Commits what growers put, group by group, and tells by the mark what is settled and wakes those that wait for it,
-    /// until the book is closed and every growth that it knows is settled; then the mark says Ended. Behind a commit it waits
-    /// for those that it woke to wait again, for 100 microseconds at most: what they grow by in between is then in the next
-    /// group. While there is nothing to commit it sleeps. It makes no call of a fold: one that is in hand stays as it is,
-    /// but where its own frame is the job in hand, which ends it.
+    /// until the book is closed and every growth of the phase is settled; then the mark says Ended. It knows all of them:
+    /// it ends the directory behind those that it knows, and a growth that came first it learns of and commits.
+    ///
+    /// Behind a commit it waits for those that it woke to wait again, for 100 microseconds at most: what they grow by in
+    /// between is then in the next group. While there is nothing to commit it sleeps. It makes no call of a fold: one that is
+    /// in hand stays as it is, but where its own frame is the job in hand, which ends it.
     ///
     /// On a refusal the mark says Broken. Refused: `Strayed`; `Pen(Broken)`, where the pen was; `Pen(FileFull)`, where the file
     /// has no room for the next group; `Pen(Memory)`; `Pen(Disk)`. None of them but `Pen(Broken)` and `Pen(Disk)` leaves a log
@@ -80,6 +94,7 @@ impl<R: Record, D: Disk> Flusher<R, D> {
     pub fn serve<E: Wait>(&mut self, rt: &E, live: &Live<R>) -> Result<(), FlushFault>
         requires of { IsFlusherOf (D.keeps self.old.pen.disk) live.now self.old }
         ensures ended { OnOk result (HasSettledAll self.new) }
+        ensures all { OnOk result (KnowsAll self.new.pass) }
         ensures broken { OnErr result (TellsBroken self.new) }
         ensures refused { IfErr result (λ fault. IsServeFault R.form.width self.old self.new fault) }
         ensures goes_on { FlusherGoesOn (D.keeps self.new.pen.disk) self.old self.new }

@@ -1,4 +1,4 @@
-use Rattle.std.proofs.Common.{◌≡◌, ◌∙◌, sym, ap, subst, rules}
+use Rattle.std.proofs.Common.{◌∙◌, sym, ap, subst, rules}
 use Rattle.directory_core.specs.Known.{Known, KnowsAll}
 use Rattle.directory_core.proofs.Chains.{begun_still}
 use Rattle.directory_core.proofs.directory.Directory.look.Goals.{else-loop-test, then-loop-test+in_ok-learn+then-not-branch}

@@ -1,4 +1,4 @@
-use Rattle.std.proofs.Common.{◌≡◌, ◌<◌, [], arith, sym, refl, ◌∙◌, ap, subst, None, Some, IfSome, MatchOption, length, get_or}
+use Rattle.std.proofs.Common.{◌≡◌, ◌<◌, arith, sym, refl, ◌∙◌, subst, None, Some, IfSome, MatchOption, length, get_or}
 use Rattle.std.proofs.lemmas.List.{map-set, length-map, get_or-map}
 use Rattle.std.proofs.Math.Seq.{map-set_same}
 use Rattle.once_cell.specs.declared.race.note.Note.{Note}

@@ -1,9 +1,9 @@
 use Rattle.std.proofs.Common.{refl, ap, ◌∙◌, arith}
 use Rattle.std.proofs.lemmas.Result.{err_from_is_err_and}
 use Rattle.pen_core.specs.PenOf.{PenOf}
-use Rattle.flush_core.proofs.Goes.{Serves-join, Serves-then, Serves-told, IsFlusherOf-served, pen-told}
+use Rattle.flush_core.proofs.Goes.{Serves-join, Serves-then, Serves-told, Serves-learns, IsFlusherOf-served, pen-told}
 use Rattle.flush_core.proofs.ServeFaults.{IsServeFault-since}
-use Rattle.flush_core.proofs.flusher.Flusher.serve_all.Goals.{in-None, in-Some+in_ok-begin_next+in_ok-settle_job-2+then-closed+then-self-known}
+use Rattle.flush_core.proofs.flusher.Flusher.serve_all.Goals.{in-None, in-Some+in_ok-begin_next+in_ok-settle_job-2+then-ends}
 use Rattle.flush_core.proofs.flusher.Flusher.serve_all.Goals as goal
 
 pub loop-init : goal.loop-init
@@ -64,27 +64,28 @@ pub loop-preserved : goal.loop-preserved
 loop-preserved g c =
     let b = c.begin_next.ensures in
     let e = c.in_ok-settle_job-2.ensures in
+    let l = c.ends.ensures.learns in
     let pen = pen-told c.loop.self c.raise.new.self _ c.raise.ensures.raised in
     record {
-      serves = Serves-join (Serves-then (Serves-told _ c.loop.invariant.serves refl c.raise.ensures.raised) b.goes_on b.disk b.fold) e.serves;
-      idle = e.idle;
-      whole = e.whole ∙ b.whole ∙ ap (λ (p : PenOf _). p.broken) pen ∙ c.loop.invariant.whole;
-      faults = e.faults ∙ ap g.D.Disk.faults (b.disk ∙ ap (λ (p : PenOf _). p.disk) pen) ∙ c.loop.invariant.faults;
+      serves = Serves-learns (Serves-join (Serves-then (Serves-told _ c.loop.invariant.serves refl c.raise.ensures.raised) b.goes_on b.disk b.fold) e.serves) l;
+      idle = ap (λ (p : PenOf _). p.job) l.pen_same ∙ e.idle;
+      whole = ap (λ (p : PenOf _). p.broken) l.pen_same ∙ e.whole ∙ b.whole ∙ ap (λ (p : PenOf _). p.broken) pen ∙ c.loop.invariant.whole;
+      faults = ap (λ (p : PenOf _). g.D.Disk.faults p.disk) l.pen_same ∙ e.faults ∙ ap g.D.Disk.faults (b.disk ∙ ap (λ (p : PenOf _). p.disk) pen) ∙ c.loop.invariant.faults;
     }
 
 pub returns-clause-serves : goal.returns-clause-serves
 returns-clause-serves g c = elim c.match-next.branch [
   | in-None w ↦ rw w.self-is c.loop.invariant.serves
-  | in-Some+in_ok-begin_next+in_ok-settle_job-2+then-closed+then-self-known w ↦
+  | in-Some+in_ok-begin_next+in_ok-settle_job-2+then-ends w ↦
       let b = w.begin_next.ensures in
-      rw w.self-is (Serves-join (Serves-then (Serves-told _ c.loop.invariant.serves refl w.raise.ensures.raised) b.goes_on b.disk b.fold)
-      w.settle_job-in-loop.ensures.serves)
+      rw w.self-is (Serves-learns (Serves-join (Serves-then (Serves-told _ c.loop.invariant.serves refl w.raise.ensures.raised) b.goes_on b.disk b.fold)
+      w.settle_job-in-loop.ensures.serves) w.ends.ensures.learns)
 ]
 
 pub returns-clause-faults : goal.returns-clause-faults
 returns-clause-faults g c = elim c.match-next.branch [
   | in-None w ↦ rw w.self-is c.loop.invariant.faults
-  | in-Some+in_ok-begin_next+in_ok-settle_job-2+then-closed+then-self-known w ↦
+  | in-Some+in_ok-begin_next+in_ok-settle_job-2+then-ends w ↦
       let pen = pen-told c.loop.self w.raise.new.self _ w.raise.ensures.raised in
-      rw w.self-is (w.in_ok-settle_job-2.ensures.faults ∙ ap g.D.Disk.faults (w.begin_next.ensures.disk ∙ ap (λ (p : PenOf _). p.disk) pen) ∙ c.loop.invariant.faults)
+      rw w.self-is (ap (λ (p : PenOf _). g.D.Disk.faults p.disk) w.ends.ensures.learns.pen_same ∙ w.in_ok-settle_job-2.ensures.faults ∙ ap g.D.Disk.faults (w.begin_next.ensures.disk ∙ ap (λ (p : PenOf _). p.disk) pen) ∙ c.loop.invariant.faults)
 ]

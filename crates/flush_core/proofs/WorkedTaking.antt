@@ -1,0 +1,72 @@
+-- What the definitions of what a flusher learns, takes and refuses say: on worked values, and what they rule out.
+use Rattle.std.proofs.Common.{◌≡◌, ℕ, [], ◌∷◌, length, Some, None, inl, inr, refl, sym, ap, ◌∙◌, arith}
+use Rattle.block_core.specs.Growth.{Growth}
+use Rattle.pen_core.specs.declared.fault.PenFault.{PenFault}
+use Rattle.pen_core.specs.PenOf.{PenOf}
+use Rattle.pen_core.specs.Pen.{IsTickFault, IsHomeFault, IsFoldRefusal, failed_calls}
+use Rattle.pen_core.specs.Refusals.{first_refusal, ready_lines}
+use Rattle.flush_core.specs.declared.lane.Lane.{Lane}
+use Rattle.flush_core.specs.declared.lane.Lane.TheVariants.{Log, Home}
+use Rattle.flush_core.specs.declared.lane.Tick.TheVariants.{Done, Filed}
+use Rattle.flush_core.specs.declared.fault.FlushFault.TheVariants.{Pen, Strayed}
+use Rattle.flush_core.specs.Flusher.{FlusherOf, FlusherLearns, SameGrowths}
+use Rattle.flush_core.specs.Refusals.{IsLaneTicked, IsLaneFault, IsNotBegun, IsTakeFault, IsFoldFault, failed}
+
+-- ---- what it learns
+
+module _ {R D : Type 0} (old new : FlusherOf R D) where
+  no_forgetting : (e : Growth R) → old.pass.entries ≡ e ∷ [] → new.pass.entries ≡ [] → FlusherLearns old new → ⊥
+  no_forgetting e knew none learns = let begins = learns.begins in grind (arith, ap length knew, ap length none, begins)
+
+  -- to learn settles, takes and tells nothing
+  nothing_else : FlusherLearns old new → (new.settled ≡ old.settled) × (new.taken ≡ old.taken) × (new.mark ≡ old.mark) × (new.pen ≡ old.pen)
+  nothing_else learns = (learns.settled_same, learns.taken_same, learns.mark_same, learns.pen_same)
+
+  -- a tick learns, takes and tells nothing
+  just_the_pen : SameGrowths old new → (new.pass ≡ old.pass) × (new.taken ≡ old.taken) × (new.mark ≡ old.mark) × (new.before ≡ old.before)
+  just_the_pen same = (same.pass_same, same.taken_same, same.mark_same, same.before_same)
+
+-- ---- what a tick of a lane does and why it is refused
+
+module _ {D : Type 0} (old new : PenOf D) where
+  never_filed_by_the_log : IsLaneTicked Log old new Filed → ⊥
+  never_filed_by_the_log ticked = ticked
+
+  never_done_by_the_homes : IsLaneTicked Home old new Done → ⊥
+  never_done_by_the_homes ticked = ticked
+
+  no_tick_strays : (lane : Lane) (n : ℕ) → IsLaneFault lane old new (Strayed n) → ⊥
+  no_tick_strays Log n why = why
+  no_tick_strays Home n why = why
+
+  log_as_the_pen : (fault : PenFault) → IsLaneFault Log old new (Pen fault) → IsTickFault old new fault
+  log_as_the_pen fault why = why
+
+  homes_as_the_pen : (fault : PenFault) → IsLaneFault Home old new (Pen fault) → IsHomeFault old new fault
+  homes_as_the_pen fault why = why
+
+  counts : (fault : PenFault) (n : ℕ) → (failed (Pen fault) ≡ failed_calls fault) × (failed (Strayed n) ≡ 0)
+  counts fault n = (refl, refl)
+
+-- ---- why no group and no fold is begun
+
+module _ {R D : Type 0} (width : ℕ) (f : FlusherOf R D) where
+  -- a pen that isn't ready says why, and nothing else is answered
+  not_ready : (fault first : PenFault) → first_refusal (ready_lines f.pen) ≡ Some first → IsTakeFault width f (Pen fault) → fault ≡ first
+  not_ready fault first is why = elim why [
+    | inl same ↦ let both = sym same ∙ is in grind arith
+    | inr begun ↦ absurd (let none = sym begun.ready ∙ is in cc)
+  ]
+
+  -- one that is refuses the next group alone: there is one
+  some_next : (fault : PenFault) → first_refusal (ready_lines f.pen) ≡ None → IsTakeFault width f (Pen fault) → IsNotBegun width f fault
+  some_next fault is why = elim why [ inl same ↦ absurd (let both = sym same ∙ is in cc) | inr begun ↦ begun ]
+
+  no_group_strays : (n : ℕ) → IsTakeFault width f (Strayed n) → ⊥
+  no_group_strays n why = why
+
+  no_fold_strays : (n : ℕ) → IsFoldFault f (Strayed n) → ⊥
+  no_fold_strays n why = why
+
+  fold_as_the_pen : (fault : PenFault) → IsFoldFault f (Pen fault) → IsFoldRefusal f.pen fault
+  fold_as_the_pen fault why = why
