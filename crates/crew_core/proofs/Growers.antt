@@ -23,6 +23,7 @@ module _ {R : Type 0} (width : ℕ) (live : Phase R) (count : ℕ) (block : ℕ 
     id_is = new.id_is;
     few = let none = ap length new.made in omega arith;
     blocks_are = λ k growth is. absurd (nothing_there seat.made k growth new.made is);
+    serials_are = λ k growth is. absurd (nothing_there seat.made k growth new.made is);
     receipts_are = sym (ap (map (receipt_of (length (opening_of live)))) new.made);
     fault_is = tt;
   }
@@ -36,6 +37,7 @@ module _ {R : Type 0} (width : ℕ) (live : Phase R) (count : ℕ) (block : ℕ 
       id_is = same ∙ grown.id_is;
       few = let few = grown.few in let is = ap length made in omega arith;
       blocks_are = λ k growth is. grown.blocks_are k growth (sym (ap (λ (es : List (Growth R)). slice_get es k) made) ∙ is);
+      serials_are = λ k growth is. grown.serials_are k growth (sym (ap (λ (es : List (Growth R)). slice_get es k) made) ∙ is);
       receipts_are = grown.receipts_are ∙ sym (ap (map (receipt_of (length (opening_of live)))) made);
       fault_is = stop;
     }
@@ -80,6 +82,10 @@ module _ {R : Type 0} (width : ℕ) (live : Phase R) (count : ℕ) (block : ℕ 
         blocks_are = λ k g at. elim (push_get old.made growth k g (sym (ap (λ (es : List (Growth R)). slice_get es k) made.made) ∙ at)) [
           | inl before ↦ grown.blocks_are k g before
           | inr last ↦ sym (ap (λ (e : Growth R). e.records) last.1) ∙ (is ∙ ap block (sym last.0))
+        ];
+        serials_are = λ k g at. elim (push_get old.made growth k g (sym (ap (λ (es : List (Growth R)). slice_get es k) made.made) ∙ at)) [
+          | inl before ↦ grown.serials_are k g before
+          | inr last ↦ sym (ap (λ (e : Growth R). e.serial) last.1) ∙ sym last.0
         ];
         receipts_are = ap (λ (rs : List Receipt). rs ++ receipt ∷ []) grown.receipts_are
             ∙ (ap (λ (r : Receipt). map of_growth old.made ++ r ∷ []) same

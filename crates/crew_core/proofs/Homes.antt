@@ -21,7 +21,7 @@ use Rattle.flush_core.specs.Flusher.{FlusherOf}
 use Rattle.vault_core.proofs.Prefixes.{begins-le}
 use Rattle.vault_core.specs.Vault.{VaultOf, list_of}
 use Rattle.vault_core.specs.Gathering.{IsWhole, HasId}
-use Rattle.crew_core.specs.Crewing.{HasCome, StopsGrower, IsReason, IsHome, AreHome, IsCrewed, SentOf, AreSent, receipt_of, crew_room, IsStrayFor}
+use Rattle.crew_core.specs.Crewing.{AllHeed, HeedsGate, HasCome, StopsGrower, IsReason, IsHome, AreHome, IsCrewed, SentOf, AreSent, receipt_of, crew_room, IsStrayFor}
 
 some_is : {X : Type 0} (x y : X) → Some x ≡ Some y → x ≡ y
 some_is x y is = cc
@@ -57,13 +57,14 @@ no_foreign seat es m begins own foreign =
     let push = length_push seat.made foreign.growth in
     omega arith
 
-module _ {R : Type 0} (width : ℕ) (live : Phase R) (count : ℕ → ℕ) (block : ℕ → ℕ → List R) (may_stop : ℕ → ℕ → Type 0) where
-  pub home-none : AreHome width live count block may_stop 0 [] [] []
+module _ {R : Type 0} (width : ℕ) (live : Phase R) (count : ℕ → ℕ) (block : ℕ → ℕ → List R) (may_stop : ℕ → ℕ → Type 0) (has_let : ℕ → ℕ → Type 0)
+    (was_told : ℕ → Receipt → Type 0) where
+  pub home-none : AreHome width live count block may_stop has_let was_told 0 [] [] []
   home-none = record { as_many_seats = refl; as_many_receipts = refl; as_many_faults = refl; each = λ k lt. absurd (omega arith) }
 
-  module _ (n : ℕ) (seats : List (Seated R)) (receipts : List (List Receipt)) (faults : List (Option GrowFault)) (home : AreHome width live count block may_stop n seats receipts faults) where
-    pub home-more : (seat : Seated R) (its : List Receipt) (fault : Option GrowFault) → HasCome width live (count n) (block n) (may_stop n) n seat its fault
-        → AreHome width live count block may_stop (n + 1) (seats ++ seat ∷ []) (receipts ++ its ∷ []) (faults ++ fault ∷ [])
+  module _ (n : ℕ) (seats : List (Seated R)) (receipts : List (List Receipt)) (faults : List (Option GrowFault)) (home : AreHome width live count block may_stop has_let was_told n seats receipts faults) where
+    pub home-more : (seat : Seated R) (its : List Receipt) (fault : Option GrowFault) → HasCome width live (count n) (block n) (may_stop n) (has_let n) (was_told n) n seat its fault
+        → AreHome width live count block may_stop has_let was_told (n + 1) (seats ++ seat ∷ []) (receipts ++ its ∷ []) (faults ++ fault ∷ [])
     home-more seat its fault come = record {
       as_many_seats = length_push seats seat ∙ ap (λ (k : ℕ). k + 1) home.as_many_seats;
       as_many_receipts = length_push receipts its ∙ ap (λ (k : ℕ). k + 1) home.as_many_receipts;
@@ -71,8 +72,8 @@ module _ {R : Type 0} (width : ℕ) (live : Phase R) (count : ℕ → ℕ) (bloc
       each = λ k lt. at k (eq-or-lt_of_le (omega arith));
     }
       where
-        before : (k : ℕ) → IsHome width live count block may_stop seats receipts faults k
-            → IsHome width live count block may_stop (seats ++ seat ∷ []) (receipts ++ its ∷ []) (faults ++ fault ∷ []) k
+        before : (k : ℕ) → IsHome width live count block may_stop has_let was_told seats receipts faults k
+            → IsHome width live count block may_stop has_let was_told (seats ++ seat ∷ []) (receipts ++ its ∷ []) (faults ++ fault ∷ []) k
         before k there = record {
           seat = there.seat;
           seat_is = get-push seats seat k there.seat there.seat_is;
@@ -83,7 +84,7 @@ module _ {R : Type 0} (width : ℕ) (live : Phase R) (count : ℕ → ℕ) (bloc
           come = there.come;
         }
 
-        last : IsHome width live count block may_stop (seats ++ seat ∷ []) (receipts ++ its ∷ []) (faults ++ fault ∷ []) n
+        last : IsHome width live count block may_stop has_let was_told (seats ++ seat ∷ []) (receipts ++ its ∷ []) (faults ++ fault ∷ []) n
         last = record {
           seat = seat;
           seat_is = get-last seats seat n home.as_many_seats;
@@ -94,9 +95,26 @@ module _ {R : Type 0} (width : ℕ) (live : Phase R) (count : ℕ → ℕ) (bloc
           come = come;
         }
 
-        at : (k : ℕ) → (k ≡ n) ⊎ (k < n) → IsHome width live count block may_stop (seats ++ seat ∷ []) (receipts ++ its ∷ []) (faults ++ fault ∷ []) k
-        at k (inl here) = subst (IsHome width live count block may_stop (seats ++ seat ∷ []) (receipts ++ its ∷ []) (faults ++ fault ∷ [])) (sym here) last
+        at : (k : ℕ) → (k ≡ n) ⊎ (k < n) → IsHome width live count block may_stop has_let was_told (seats ++ seat ∷ []) (receipts ++ its ∷ []) (faults ++ fault ∷ []) k
+        at k (inl here) = subst (IsHome width live count block may_stop has_let was_told (seats ++ seat ∷ []) (receipts ++ its ∷ []) (faults ++ fault ∷ [])) (sym here) last
         at k (inr lt) = before k (home.each k lt)
+
+    -- the seats are those of the growers
+    pub grower-is : (id : ℕ) → HasId id seats → id < n
+    grower-is id has =
+        let lt : has.0 < n = let within = has.1 in let long = length-map seats (λ (s : Seated R). s.id) in let all = home.as_many_seats in omega arith in
+        let there = home.each has.0 lt in
+        let within = slice_get_within seats has.0 there.seat there.seat_is in
+        let here = get_or_from_slice_get seats has.0 there.seat there.seat there.seat_is in
+        let is : id ≡ has.0 = sym has.2 ∙ (get_or-map (λ (s : Seated R). s.id) seats has.0 there.seat id within ∙ (ap (λ (s : Seated R). s.id) here ∙ there.come.grown.id_is)) in
+        omega arith
+
+    -- and they have heeded the gate
+    pub all_heed : AllHeed has_let was_told n receipts faults
+    all_heed k its fault lt its_there fault_there =
+        let there = home.each k lt in
+        subst (λ (o : Option GrowFault). HeedsGate (has_let k) (was_told k) its o) (some_is there.fault fault (sym there.fault_is ∙ fault_there))
+        (subst (λ (rs : List Receipt). HeedsGate (has_let k) (was_told k) rs there.fault) (some_is there.its its (sym there.its_are ∙ its_there)) there.come.heeds)
 
     -- what comes of a crew whose growers are home and whose phase has ended whole
     module _ {D : Type 0} (old new : VaultOf R D) (f : FlusherOf R D) (blocks : live.blocks ≡ old.blocks) (room : live.directory.room ≡ crew_room count n) (whole : IsWhole live seats f)
@@ -108,15 +126,6 @@ module _ {R : Type 0} (width : ℕ) (live : Phase R) (count : ℕ → ℕ) (bloc
           let once = whole.made_once k there.seat (slice_get_within seats k there.seat there.seat_is) in
           sym (ap (λ (id : ℕ). own_of id f.pass.entries) there.come.grown.id_is)
           ∙ subst (λ (s : Seated R). own_of s.id f.pass.entries ≡ s.made) here once
-
-      grower-is : (id : ℕ) → HasId id seats → id < n
-      grower-is id has =
-          let lt : has.0 < n = let within = has.1 in let long = length-map seats (λ (s : Seated R). s.id) in let all = home.as_many_seats in omega arith in
-          let there = home.each has.0 lt in
-          let within = slice_get_within seats has.0 there.seat there.seat_is in
-          let here = get_or_from_slice_get seats has.0 there.seat there.seat there.seat_is in
-          let is : id ≡ has.0 = sym has.2 ∙ (get_or-map (λ (s : Seated R). s.id) seats has.0 there.seat id within ∙ (ap (λ (s : Seated R). s.id) here ∙ there.come.grown.id_is)) in
-          omega arith
 
       size : length (opening_of live) ≡ length (list_of old)
       size = ap (λ (bs : List (List R)). length (joined_pieces bs)) blocks
@@ -185,6 +194,7 @@ module _ {R : Type 0} (width : ℕ) (live : Phase R) (count : ℕ → ℕ) (bloc
         as_many = (home.as_many_receipts, home.as_many_faults);
         few = λ k lt. let few = (home.each k lt).come.grown.few in let is = ap length (own-is k lt) in omega arith;
         blocks_are = λ k j growth lt is. (home.each k lt).come.grown.blocks_are j growth (ap (λ (es : List (Growth R)). slice_get es j) (sym (own-is k lt)) ∙ is);
+        serials_are = λ k j growth lt is. (home.each k lt).come.grown.serials_are j growth (ap (λ (es : List (Growth R)). slice_get es j) (sym (own-is k lt)) ∙ is);
         receipts_are = λ k lt.
             let there = home.each k lt in
             there.its_are ∙ ap (λ (its : List Receipt). Some its) (there.come.grown.receipts_are
@@ -220,21 +230,22 @@ module _ {R S G : Type 0} (live : Phase R) (source : S) (gate : G) (n : ℕ) (se
 
 -- one that comes home has grown in the phase and by the source that it was sent for, and has asked that gate
 pub at_home : {R S G : Type 0} (width : ℕ) (live : Phase R) (count : S → ℕ → ℕ) (block : S → ℕ → ℕ → List R) (may_stop : G → ℕ → ℕ → Type 0)
+    (has_let : G → ℕ → ℕ → Type 0) (was_told : G → ℕ → Receipt → Type 0)
     (source : S) (gate : G) (n : ℕ) (s : SentOf R S G) → s.live ≡ live → s.source ≡ source → s.gate ≡ gate → s.grower ≡ n
     → (seat : Seated R) (its : List Receipt) (fault : Option GrowFault) → HasCome width s.live (count s.source s.grower) (block s.source s.grower)
-    (may_stop s.gate s.grower) s.grower seat its fault
-    → HasCome width live (count source n) (block source n) (may_stop gate n) n seat its fault
-at_home {R} {S} {G} width live count block may_stop source gate n s same_live same_source same_gate number seat its fault come =
-    let P : Phase R → S → G → ℕ → Type 0 = λ l o h k. HasCome width l (count o k) (block o k) (may_stop h k) k seat its fault in
+    (may_stop s.gate s.grower) (has_let s.gate s.grower) (was_told s.gate s.grower) s.grower seat its fault
+    → HasCome width live (count source n) (block source n) (may_stop gate n) (has_let gate n) (was_told gate n) n seat its fault
+at_home {R} {S} {G} width live count block may_stop has_let was_told source gate n s same_live same_source same_gate number seat its fault come =
+    let P : Phase R → S → G → ℕ → Type 0 = λ l o h k. HasCome width l (count o k) (block o k) (may_stop h k) (has_let h k) (was_told h k) k seat its fault in
     subst (λ (k : ℕ). P live source gate k) number
     (subst (λ (h : G). P live source h s.grower) same_gate
     (subst (λ (o : S). P live o s.gate s.grower) same_source (subst (λ (l : Phase R). P l s.source s.gate s.grower) same_live come)))
 
 -- ---- the seats of those that are home
 
-module _ {R : Type 0} (width : ℕ) (live : Phase R) (count : ℕ → ℕ) (block : ℕ → ℕ → List R) (may_stop : ℕ → ℕ → Type 0) (n : ℕ)
-    (seats : List (Seated R)) (receipts : List (List Receipt)) (faults : List (Option GrowFault)) where
-  pub all-of : AreHome width live count block may_stop n seats receipts faults → All (lists.IsSeatOf live) seats
+module _ {R : Type 0} (width : ℕ) (live : Phase R) (count : ℕ → ℕ) (block : ℕ → ℕ → List R) (may_stop : ℕ → ℕ → Type 0) (has_let : ℕ → ℕ → Type 0)
+    (was_told : ℕ → Receipt → Type 0) (n : ℕ) (seats : List (Seated R)) (receipts : List (List Receipt)) (faults : List (Option GrowFault)) where
+  pub all-of : AreHome width live count block may_stop has_let was_told n seats receipts faults → All (lists.IsSeatOf live) seats
   all-of home k d lt =
       let there = home.each k (let long = home.as_many_seats in omega arith) in
       let same = get_or_from_slice_get seats k there.seat d there.seat_is in

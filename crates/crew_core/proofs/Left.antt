@@ -108,9 +108,9 @@ module _ {R D : Type 0} (live : Phase R) (seats : List (Seated R)) (old new : Fl
       (broken-same ∙ why.0, all_still why.1, why.2 ∙ sym learns.settled_same, subst (λ (m : ℕ). number < m) (sym same_most) why.3)
 
 -- The seats of growers that are home, where their lists begin one that is known.
-module _ {R : Type 0} (width : ℕ) (live : Phase R) (count : ℕ → ℕ) (block : ℕ → ℕ → List R) (may_stop : ℕ → ℕ → Type 0) (n : ℕ)
-    (seats : List (Seated R)) (receipts : List (List Receipt)) (faults : List (Option GrowFault))
-    (home : AreHome width live count block may_stop n seats receipts faults) (es : List (Growth R))
+module _ {R : Type 0} (width : ℕ) (live : Phase R) (count : ℕ → ℕ) (block : ℕ → ℕ → List R) (may_stop : ℕ → ℕ → Type 0) (has_let : ℕ → ℕ → Type 0)
+    (was_told : ℕ → Receipt → Type 0) (n : ℕ) (seats : List (Seated R)) (receipts : List (List Receipt)) (faults : List (Option GrowFault))
+    (home : AreHome width live count block may_stop has_let was_told n seats receipts faults) (es : List (Growth R))
     (stand : All StandInList seats) (begin : All (λ s. IsPrefix s.pass.entries es) seats) where
   pub left_seat : (k : ℕ) → k < n → (seat : Seated R) × (slice_get seats k ≡ Some seat) × IsLeftSeat (count k) (block k) k es seat
   left_seat k lt =

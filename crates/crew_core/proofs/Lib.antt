@@ -1,3 +1,4 @@
+mod Gates
 mod Growers
 mod Homes
 mod Left

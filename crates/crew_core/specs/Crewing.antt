@@ -83,20 +83,35 @@ StopsGrower width live count block seat fault =
     ⊎ ((length seat.made < count) × IsGrowerFault width live seat (length (block (length seat.made))) fault)
 
 -- The grower of that id has made growths of the first blocks that are named for it, in order, has their receipts, and, where
--- it stopped by a fault, that.
+-- it stopped by a fault, that. Its growths are numbered as it made them.
 pub record HasGrown {R : Type 0} (width : ℕ) (live : Phase R) (count : ℕ) (block : ℕ → List R) (id : ℕ) (seat : Seated R) (receipts : List Receipt) (fault : Option GrowFault) : Type 0 where
   pub of : IsSeatOf live seat
   pub id_is : seat.id ≡ id
   pub few : length seat.made ≤ count
   pub blocks_are : (k : ℕ) (growth : Growth R) → slice_get seat.made k ≡ Some growth → growth.records ≡ block k
+  pub serials_are : (k : ℕ) (growth : Growth R) → slice_get seat.made k ≡ Some growth → growth.serial ≡ k
   pub receipts_are : receipts ≡ map (receipt_of (length (opening_of live))) seat.made
   pub fault_is : IfSome fault (StopsGrower width live count block seat)
 
+-- ---- its gate
+
+-- the growth of that number comes next: the one before it, if there is one, was told
+abbrev pub ComesNext : (Receipt → Type 0) → ℕ → Type 0
+ComesNext was_told k = (before : ℕ) → before + 1 ≡ k → (receipt : Receipt) × (receipt.serial ≡ before) × was_told receipt
+
+-- A grower with these receipts has heeded its gate: it was let make each of its growths, and told each. Where it stopped by a
+-- fault, it was let make the next one too, unless it had no thread: then it made none.
+pub record HeedsGate (has_let : ℕ → Type 0) (was_told : Receipt → Type 0) (receipts : List Receipt) (fault : Option GrowFault) : Type 0 where
+  pub each_let : (k : ℕ) → k < length receipts → has_let k
+  pub each_told : All was_told receipts
+  pub stop_let : IfSome fault (λ why. has_let (length receipts) ⊎ ((why ≡ Memory) × (receipts ≡ [])))
+
 -- It has come home: all of its growths are made, unless it stopped by a fault, or its gate might stop it before the next one.
-pub record HasCome {R : Type 0} (width : ℕ) (live : Phase R) (count : ℕ) (block : ℕ → List R) (may_stop : ℕ → Type 0) (id : ℕ) (seat : Seated R)
-    (receipts : List Receipt) (fault : Option GrowFault) : Type 0 where
+pub record HasCome {R : Type 0} (width : ℕ) (live : Phase R) (count : ℕ) (block : ℕ → List R) (may_stop : ℕ → Type 0) (has_let : ℕ → Type 0)
+    (was_told : Receipt → Type 0) (id : ℕ) (seat : Seated R) (receipts : List Receipt) (fault : Option GrowFault) : Type 0 where
   pub grown : HasGrown width live count block id seat receipts fault
   pub all_made : fault ≡ None → (length seat.made ≡ count) ⊎ may_stop (length seat.made)
+  pub heeds : HeedsGate has_let was_told receipts fault
 
 -- ---- all of them
 
@@ -113,22 +128,22 @@ AreSent {R} {S} {G} live source gate n sent = (k : ℕ) (s : SentOf R S G) → s
     × (s.gate ≡ gate) × (s.grower + k + 1 ≡ n)
 
 -- the growers from 0 up to n have come home, each with its seat, its receipts and its fault
-pub record IsHome {R : Type 0} (width : ℕ) (live : Phase R) (count : ℕ → ℕ) (block : ℕ → ℕ → List R) (may_stop : ℕ → ℕ → Type 0)
-    (seats : List (Seated R)) (receipts : List (List Receipt)) (faults : List (Option GrowFault)) (k : ℕ) : Type 0 where
+pub record IsHome {R : Type 0} (width : ℕ) (live : Phase R) (count : ℕ → ℕ) (block : ℕ → ℕ → List R) (may_stop : ℕ → ℕ → Type 0) (has_let : ℕ → ℕ → Type 0)
+    (was_told : ℕ → Receipt → Type 0) (seats : List (Seated R)) (receipts : List (List Receipt)) (faults : List (Option GrowFault)) (k : ℕ) : Type 0 where
   pub seat : Seated R
   pub seat_is : slice_get seats k ≡ Some seat
   pub its : List Receipt
   pub its_are : slice_get receipts k ≡ Some its
   pub fault : Option GrowFault
   pub fault_is : slice_get faults k ≡ Some fault
-  pub come : HasCome width live (count k) (block k) (may_stop k) k seat its fault
+  pub come : HasCome width live (count k) (block k) (may_stop k) (has_let k) (was_told k) k seat its fault
 
-pub record AreHome {R : Type 0} (width : ℕ) (live : Phase R) (count : ℕ → ℕ) (block : ℕ → ℕ → List R) (may_stop : ℕ → ℕ → Type 0) (n : ℕ)
-    (seats : List (Seated R)) (receipts : List (List Receipt)) (faults : List (Option GrowFault)) : Type 0 where
+pub record AreHome {R : Type 0} (width : ℕ) (live : Phase R) (count : ℕ → ℕ) (block : ℕ → ℕ → List R) (may_stop : ℕ → ℕ → Type 0) (has_let : ℕ → ℕ → Type 0)
+    (was_told : ℕ → Receipt → Type 0) (n : ℕ) (seats : List (Seated R)) (receipts : List (List Receipt)) (faults : List (Option GrowFault)) : Type 0 where
   pub as_many_seats : length seats ≡ n
   pub as_many_receipts : length receipts ≡ n
   pub as_many_faults : length faults ≡ n
-  pub each : (k : ℕ) → k < n → IsHome width live count block may_stop seats receipts faults k
+  pub each : (k : ℕ) → k < n → IsHome width live count block may_stop has_let was_told seats receipts faults k
 
 -- the room of a crew's phase: a growth for each block, and one at least
 abbrev pub crew_room : (ℕ → ℕ) → ℕ → ℕ
@@ -166,6 +181,7 @@ pub record IsCrewed {R D : Type 0} (width : ℕ) (count : ℕ → ℕ) (block : 
   pub as_many : (length receipts ≡ n) × (length faults ≡ n)
   pub few : (k : ℕ) → k < n → length (own_of k growths) ≤ count k
   pub blocks_are : (k j : ℕ) (growth : Growth R) → k < n → slice_get (own_of k growths) j ≡ Some growth → growth.records ≡ block k j
+  pub serials_are : (k j : ℕ) (growth : Growth R) → k < n → slice_get (own_of k growths) j ≡ Some growth → growth.serial ≡ j
   pub receipts_are : (k : ℕ) → k < n → slice_get receipts k ≡ Some (map (receipt_of (length (list_of old))) (own_of k growths))
   pub all_made : (k : ℕ) → k < n → slice_get faults k ≡ Some None → (length (own_of k growths) ≡ count k) ⊎ may_stop k (length (own_of k growths))
   pub faults_are : (k : ℕ) (fault : GrowFault) → k < n → slice_get faults k ≡ Some (Some fault)
@@ -177,6 +193,11 @@ pub record IsBack {R D : Type 0} (form : Encoding R) (keeps : D → Type 0) (sta
   pub whole : new.pen.broken ≡ false
   pub settled : keeps new.pen.disk → (image : List ℕ) → IsImage (now (states new.pen.disk)) image → OpensTo form image (list_of new)
   pub model : keeps new.pen.disk → keeps old.pen.disk
+
+-- each of the first n growers has heeded the gate
+abbrev pub AllHeed : (ℕ → ℕ → Type 0) → (ℕ → Receipt → Type 0) → ℕ → List (List Receipt) → List (Option GrowFault) → Type 0
+AllHeed has_let was_told n receipts faults = (k : ℕ) (its : List Receipt) (fault : Option GrowFault) → k < n → slice_get receipts k ≡ Some its
+    → slice_get faults k ≡ Some fault → HeedsGate (has_let k) (was_told k) its fault
 
 -- Some growths come of a crew, all of them settled, and whatever a crash may have left meanwhile opens to the old list and the
 -- first of them, each whole.

@@ -4,7 +4,7 @@ ghost use Rattle.std.specs.Prelude.{◌≡◌, ◌≢◌, ◌+◌, ◌<◌, ◌�
 ghost use Rattle.book_core.specs.Beginning.{AreNewSeats};
 ghost use Rattle.flush_core.specs.Flusher.{IsFlusherOf};
 ghost use Rattle.flush_core.specs.Serving.{Serves};
-ghost use Rattle.crew_core.specs.Crewing.{AreSent, AreHome, HasCome, HasGrown, HasCrewed, IsCrewFault, crew_room};
+ghost use Rattle.crew_core.specs.Crewing.{AllHeed, AreSent, AreHome, HasCome, HasGrown, HasCrewed, IsCrewFault, crew_room};
 ghost use Rattle.crew_core.specs.Leaving.{LeavesGrowths};
 
 use crate::grower::Grower;
@@ -101,9 +101,9 @@ fn run<R: Record, S: Source<R>, G: Gate, E: Wait>(
     requires id { (grower.seat.id ≡ id) × (id < S.growers_of source.now) }
     requires none { (grower.seat.made ≡ []) × (grower.fault ≡ None) }
     requires grown { HasGrown R.form.width live.now (S.count_of source.now id) (S.block_of source.now id) id grower.seat grower.receipts.items None }
-    ensures come { HasCome R.form.width live.now (S.count_of source.now id) (S.block_of source.now id) (G.may_stop gate.now id) id result.seat result.receipts.items result.fault }
-    ensures none { unstarted ≡ id → (result.fault ≡ Some GrowFault.Memory) × (result.seat.made ≡ []) }
-    ensures own { unstarted ≢ id → IfSome result.fault (λ _. length result.seat.made < S.count_of source.now id) }
+    ensures come { HasCome R.form.width live.now (S.count_of source.now id) (S.block_of source.now id) (G.may_stop gate.now id) (G.has_let gate.now id) (G.was_told gate.now id) id result.seat result.receipts.items result.fault }
+    ensures none { unstarted ≡ id → (result.fault ≡ Some GrowFault.Memory) × (result.receipts.items ≡ []) }
+    ensures own { unstarted ≢ id → IfSome result.fault (λ _. G.has_let gate.now id (length result.receipts.items)) }
 {
     if unstarted == id as u64 {
         let Grower { seat, receipts, .. } = grower;
@@ -130,7 +130,7 @@ fn come_home<R: Record, S: Source<R>, G: Gate, E: Threads>(
     requires sent { AreSent _live.now _source.now _gate.now (vec_len sent) sent.items }
     requires none { (vec_len seats ≡ 0) × (vec_len receipts ≡ 0) × (vec_len faults ≡ 0) }
     requires room { (vec_len sent ≤ vec_capacity seats) × (vec_len sent ≤ vec_capacity receipts) × (vec_len sent ≤ vec_capacity faults) }
-    ensures { AreHome R.form.width _live.now (S.count_of _source.now) (S.block_of _source.now) (G.may_stop _gate.now) (vec_len sent) result.seats.items (map (λ its. its.items) result.receipts.items) result.faults.items }
+    ensures { AreHome R.form.width _live.now (S.count_of _source.now) (S.block_of _source.now) (G.may_stop _gate.now) (G.has_let _gate.now) (G.was_told _gate.now) (vec_len sent) result.seats.items (map (λ its. its.items) result.receipts.items) result.faults.items }
 {
     let mut sent = sent;
     let mut seats = seats;
@@ -165,7 +165,7 @@ fn grow_all<R: Record, S: Source<R>, G: Gate, E: Threads + Wait + Sync>(
 ) -> Home<R>
     requires seats { AreNewSeats live.now.directory live.now.mark seats.items }
     requires growers { (vec_len seats ≡ S.growers_of source.now) × (rows.growers ≡ vec_len seats) }
-    ensures { AreHome R.form.width live.now (S.count_of source.now) (S.block_of source.now) (G.may_stop gate.now) (vec_len seats) result.seats.items (map (λ its. its.items) result.receipts.items) result.faults.items }
+    ensures { AreHome R.form.width live.now (S.count_of source.now) (S.block_of source.now) (G.may_stop gate.now) (G.has_let gate.now) (G.was_told gate.now) (vec_len seats) result.seats.items (map (λ its. its.items) result.receipts.items) result.faults.items }
 {
     let nobody = AtomicU64::new(NOBODY);
     let unstarted = &nobody;
@@ -174,7 +174,7 @@ fn grow_all<R: Record, S: Source<R>, G: Gate, E: Threads + Wait + Sync>(
         rt,
         move |scope| -> Home<R>
             requires { AreNewSeats live.now.directory live.now.mark seats.items × (vec_len seats ≡ S.growers_of source.now) × (rows.growers ≡ vec_len seats) }
-            ensures { AreHome R.form.width live.entry.now (S.count_of source.entry.now) (S.block_of source.entry.now) (G.may_stop gate.entry.now) (vec_len seats) result.seats.items (map (λ its. its.items) result.receipts.items) result.faults.items }
+            ensures { AreHome R.form.width live.entry.now (S.count_of source.entry.now) (S.block_of source.entry.now) (G.may_stop gate.entry.now) (G.has_let gate.entry.now) (G.was_told gate.entry.now) (vec_len seats) result.seats.items (map (λ its. its.items) result.receipts.items) result.faults.items }
         {
             let rows = rows;
             let Rows {
@@ -192,7 +192,7 @@ fn grow_all<R: Record, S: Source<R>, G: Gate, E: Threads + Wait + Sync>(
                     Grows::of(live, source, gate, id),
                     move || -> Grower<R>
                         requires { (grower.seat.id ≡ id) × (id < S.growers_of source.now) × (grower.seat.made ≡ []) × (grower.fault ≡ None) × HasGrown R.form.width live.now (S.count_of source.now id) (S.block_of source.now id) id grower.seat grower.receipts.items None }
-                        ensures { HasCome R.form.width live.entry.now (S.count_of source.entry.now id) (S.block_of source.entry.now id) (G.may_stop gate.entry.now id) id result.seat result.receipts.items result.fault }
+                        ensures { HasCome R.form.width live.entry.now (S.count_of source.entry.now id) (S.block_of source.entry.now id) (G.may_stop gate.entry.now id) (G.has_let gate.entry.now id) (G.was_told gate.entry.now id) id result.seat result.receipts.items result.fault }
                     {
                         run(
                             rt,
@@ -237,7 +237,7 @@ fn run_phase<R: Record, D: Disk + Send + Drop, S: Source<R>, G: Gate, E: Threads
     requires growers { (vec_len seats ≡ S.growers_of source.now) × (rows.growers ≡ vec_len seats) }
     ensures flusher { IsFlusherOf (D.keeps result.0.pen.disk) live.now result.0 }
     ensures served { Serves R.form D.keeps D.states flusher result.0 }
-    ensures home { AreHome R.form.width live.now (S.count_of source.now) (S.block_of source.now) (G.may_stop gate.now) (vec_len seats) result.1.seats.items (map (λ its. its.items) result.1.receipts.items) result.1.faults.items }
+    ensures home { AreHome R.form.width live.now (S.count_of source.now) (S.block_of source.now) (G.may_stop gate.now) (G.has_let gate.now) (G.was_told gate.now) (vec_len seats) result.1.seats.items (map (λ its. its.items) result.1.receipts.items) result.1.faults.items }
 {
     thread::join(
         rt,
@@ -248,7 +248,7 @@ fn run_phase<R: Record, D: Disk + Send + Drop, S: Source<R>, G: Gate, E: Threads
         { serve(rt, live, flusher) },
         move || -> Home<R>
             requires { AreNewSeats live.now.directory live.now.mark seats.items × (vec_len seats ≡ S.growers_of source.now) × (rows.growers ≡ vec_len seats) }
-            ensures { AreHome R.form.width live.entry.now (S.count_of source.entry.now) (S.block_of source.entry.now) (G.may_stop gate.entry.now) (vec_len seats) result.seats.items (map (λ its. its.items) result.receipts.items) result.faults.items }
+            ensures { AreHome R.form.width live.entry.now (S.count_of source.entry.now) (S.block_of source.entry.now) (G.may_stop gate.entry.now) (G.has_let gate.entry.now) (G.was_told gate.entry.now) (vec_len seats) result.seats.items (map (λ its. its.items) result.receipts.items) result.faults.items }
         { grow_and_close(rt, alloc, live, source, gate, seats, rows) },
     )
 }
@@ -280,7 +280,7 @@ fn grow_and_close<R: Record, S: Source<R>, G: Gate, E: Threads + Wait + Sync>(
 ) -> Home<R>
     requires seats { AreNewSeats live.now.directory live.now.mark seats.items }
     requires growers { (vec_len seats ≡ S.growers_of source.now) × (rows.growers ≡ vec_len seats) }
-    ensures { AreHome R.form.width live.now (S.count_of source.now) (S.block_of source.now) (G.may_stop gate.now) (vec_len seats) result.seats.items (map (λ its. its.items) result.receipts.items) result.faults.items }
+    ensures { AreHome R.form.width live.now (S.count_of source.now) (S.block_of source.now) (G.may_stop gate.now) (G.has_let gate.now) (G.was_told gate.now) (vec_len seats) result.seats.items (map (λ its. its.items) result.receipts.items) result.faults.items }
 {
     let home = grow_all(rt, alloc, live, source, gate, seats, rows);
     live.close(rt);
@@ -302,6 +302,7 @@ pub fn crew<R: Record, D: Disk + Send + Drop, S: Source<R>, G: Gate, E: Threads 
     gate: &G,
 ) -> Result<Crewed<R, D>, CrewFault<R, D>>
     ensures crewed { IfOk result (λ crewed. HasCrewed R.form D.keeps D.states (S.count_of source.now) (S.block_of source.now) (G.may_stop gate.now) (S.growers_of source.now) vault crewed.vault (map (λ its. its.items) crewed.receipts.items) crewed.faults.items) }
+    ensures heeds { IfOk result (λ crewed. AllHeed (G.has_let gate.now) (G.was_told gate.now) (S.growers_of source.now) (map (λ its. its.items) crewed.receipts.items) crewed.faults.items) }
     ensures refused { IfErr result (IsCrewFault R.form D.keeps D.states vault (crew_room (S.count_of source.now) (S.growers_of source.now)) (S.growers_of source.now)) }
     ensures leaves { IfErr result (LeavesGrowths (S.count_of source.now) (S.block_of source.now) (S.growers_of source.now)) }
 {

@@ -1,6 +1,6 @@
 //! One grower of a crew.
 
-ghost use Rattle.std.specs.Prelude.{◌≡◌, ◌<◌, ◌+◌, [], Some, None, length, IfSome, MatchResult};
+ghost use Rattle.std.specs.Prelude.{◌≡◌, ◌<◌, ◌+◌, [], Some, None, length, All, IfSome, MatchResult};
 ghost use Rattle.crew_core.specs.Crewing.{HasGrown, HasCome, IsBlockFault};
 
 use crate::source::{Gate, Source};
@@ -62,8 +62,10 @@ impl<R: Record> Grower<R> {
         requires grower { self.old.seat.id < S.growers_of source.now }
         requires k { (k ≡ length self.old.seat.made) × (k < S.count_of source.now self.old.seat.id) }
         requires grown { HasGrown R.form.width live.now (S.count_of source.now self.old.seat.id) (S.block_of source.now self.old.seat.id) self.old.seat.id self.old.seat self.old.receipts.items None }
+        requires told { All (G.was_told gate.now self.old.seat.id) self.old.receipts.items }
         ensures id { self.new.seat.id ≡ self.old.seat.id }
         ensures more { MatchResult result (λ _. length self.new.seat.made ≡ k + 1) (λ _. length self.new.seat.made ≡ k) }
+        ensures told { All (G.was_told gate.now self.old.seat.id) self.new.receipts.items }
         ensures grown { MatchResult result
             (λ _. HasGrown R.form.width live.now (S.count_of source.now self.old.seat.id) (S.block_of source.now self.old.seat.id) self.old.seat.id self.new.seat self.new.receipts.items None)
             (λ fault. HasGrown R.form.width live.now (S.count_of source.now self.old.seat.id) (S.block_of source.now self.old.seat.id) self.old.seat.id self.new.seat self.new.receipts.items (Some fault)) }
@@ -96,8 +98,8 @@ impl<R: Record> Grower<R> {
         requires grower { self.seat.id < S.growers_of source.now }
         requires none { (self.seat.made ≡ []) × (self.fault ≡ None) }
         requires grown { HasGrown R.form.width live.now (S.count_of source.now self.seat.id) (S.block_of source.now self.seat.id) self.seat.id self.seat self.receipts.items None }
-        ensures come { HasCome R.form.width live.now (S.count_of source.now self.seat.id) (S.block_of source.now self.seat.id) (G.may_stop gate.now self.seat.id) self.seat.id result.seat result.receipts.items result.fault }
-        ensures own { IfSome result.fault (λ _. length result.seat.made < S.count_of source.now self.seat.id) }
+        ensures come { HasCome R.form.width live.now (S.count_of source.now self.seat.id) (S.block_of source.now self.seat.id) (G.may_stop gate.now self.seat.id) (G.has_let gate.now self.seat.id) (G.was_told gate.now self.seat.id) self.seat.id result.seat result.receipts.items result.fault }
+        ensures own { IfSome result.fault (λ _. G.has_let gate.now self.seat.id (length result.receipts.items)) }
     {
         let mut grower = self;
         let id = grower.seat.id();

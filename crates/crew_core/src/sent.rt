@@ -37,7 +37,7 @@ impl<R: Record, S: Source<R>, G: Gate> Grows<R, S, G> {
 impl<R: Record, S: Source<R>, G: Gate> Promise<Grower<R>> for Grows<R, S, G> {
     ghost use Rattle.crew_core.specs.Crewing.{HasCome};
 
-    ghost kept_by = { λ p r. HasCome R.form.width p.live.value (S.count_of p.source.value p.grower) (S.block_of p.source.value p.grower) (G.may_stop p.gate.value p.grower) p.grower r.seat r.receipts.items r.fault };
+    ghost kept_by = { λ p r. HasCome R.form.width p.live.value (S.count_of p.source.value p.grower) (S.block_of p.source.value p.grower) (G.may_stop p.gate.value p.grower) (G.has_let p.gate.value p.grower) (G.was_told p.gate.value p.grower) p.grower r.seat r.receipts.items r.fault };
 }
 
 /// A grower that was sent out: in a thread of its own, or it is home already, since none could be started. Contracts see what
@@ -62,7 +62,7 @@ impl<R: Record, S: Source<R>, G: Gate> Model for Sent<R, S, G> {
 
     ghost invariant = { λ s.
         IfSome s.away (λ handle. (handle.promise.live.value ≡ s.live.value) × (handle.promise.source.value ≡ s.source.value) × (handle.promise.gate.value ≡ s.gate.value) × (handle.promise.grower ≡ s.grower))
-        × IfSome s.home (λ back. HasCome R.form.width s.live.value (S.count_of s.source.value s.grower) (S.block_of s.source.value s.grower) (G.may_stop s.gate.value s.grower) s.grower back.seat back.receipts.items back.fault)
+        × IfSome s.home (λ back. HasCome R.form.width s.live.value (S.count_of s.source.value s.grower) (S.block_of s.source.value s.grower) (G.may_stop s.gate.value s.grower) (G.has_let s.gate.value s.grower) (G.was_told s.gate.value s.grower) s.grower back.seat back.receipts.items back.fault)
         × (IsNone s.away → IsSome s.home) };
 }
 
@@ -96,7 +96,7 @@ impl<R: Record, S: Source<R>, G: Gate> Sent<R, S, G> {
         grower: u16,
         back: Grower<R>,
     ) -> Sent<R, S, G>
-        requires { HasCome R.form.width live.now (S.count_of source.now grower) (S.block_of source.now grower) (G.may_stop gate.now grower) grower back.seat back.receipts.items back.fault }
+        requires { HasCome R.form.width live.now (S.count_of source.now grower) (S.block_of source.now grower) (G.may_stop gate.now grower) (G.has_let gate.now grower) (G.was_told gate.now grower) grower back.seat back.receipts.items back.fault }
         ensures { result ≡ record { live = live.now; source = source.now; gate = gate.now; grower = grower } }
     {
         Sent {
@@ -111,7 +111,7 @@ impl<R: Record, S: Source<R>, G: Gate> Sent<R, S, G> {
 
     /// The grower, once it is home.
     pub(crate) fn join<E: Threads>(self, rt: &E) -> Grower<R>
-        ensures { HasCome R.form.width self.live (S.count_of self.source self.grower) (S.block_of self.source self.grower) (G.may_stop self.gate self.grower) self.grower result.seat result.receipts.items result.fault }
+        ensures { HasCome R.form.width self.live (S.count_of self.source self.grower) (S.block_of self.source self.grower) (G.may_stop self.gate self.grower) (G.has_let self.gate self.grower) (G.was_told self.gate self.grower) self.grower result.seat result.receipts.items result.fault }
     {
         match (self.away, self.home) {
             (Some(handle), _) => handle.join(rt),

@@ -1,7 +1,8 @@
 //! What the growers of a crew grow by, and what they ask and tell.
 
-ghost use Rattle.std.specs.Prelude.{◌≡◌, ◌<◌, ℕ, List, length, false, IfSome, MatchResult};
-ghost use Rattle.crew_core.specs.Crewing.{IsSourceFault};
+ghost use Rattle.std.specs.Prelude.{◌≡◌, ◌<◌, ℕ, List, length, true, false, IfSome, MatchResult};
+ghost use Rattle.book_core.specs.declared.seat.Receipt.{Receipt};
+ghost use Rattle.crew_core.specs.Crewing.{IsSourceFault, ComesNext};
 
 use block_core::{Fresh, FreshFault};
 use book_core::Receipt;
@@ -43,15 +44,26 @@ pub trait Source<R: Record>: Sync {
     }
 }
 
-/// What a grower asks before each of its growths, and tells after it. Both may be called from many threads at once.
+/// What a grower asks before each of its growths, and tells after it, one growth after the other. Both may be called from
+/// many threads at once.
 pub trait Gate: Sync {
     /// Whether it may stop a grower before its growth of that number.
     ghost may_stop: { Self → ℕ → ℕ → Type 0 };
 
+    /// That it let a grower make its growth of that number.
+    ghost has_let: { Self → ℕ → ℕ → Type 0 } = { λ _ _ _. Unit {0} };
+
+    /// That it was told of a grower's growth by this receipt.
+    ghost was_told: { Self → ℕ → Receipt → Type 0 } = { λ _ _ _. Unit {0} };
+
     /// Whether the grower may make its growth of that number; if not, it stops.
     fn before(&self, grower: u16, k: u32) -> bool
-        ensures { result ≡ false → may_stop self.now grower k };
+        requires { ComesNext (was_told self.now grower) k }
+        ensures stops { result ≡ false → may_stop self.now grower k }
+        ensures lets { result ≡ true → has_let self.now grower k };
 
     /// It was made.
-    fn after(&self, grower: u16, receipt: &Receipt);
+    fn after(&self, grower: u16, receipt: &Receipt)
+        requires { ComesNext (was_told self.now grower) receipt.now.serial }
+        ensures { was_told self.now grower receipt.now };
 }

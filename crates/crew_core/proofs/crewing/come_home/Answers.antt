@@ -26,12 +26,12 @@ loop-preserved g c =
     let here = sent_last live source gate all rest last sent in
     let number : last.grower ≡ n = let at = here.3 in omega arith in
     let come =
-    at_home width live (g.S.Source.count_of) (g.S.Source.block_of) (g.G.Gate.may_stop) source gate n last here.0 here.1 here.2 number
+    at_home width live (g.S.Source.count_of) (g.S.Source.block_of) (g.G.Gate.may_stop) (g.G.Gate.has_let) (g.G.Gate.was_told) source gate n last here.0 here.1 here.2 number
     c.join-seat.result.seat c.join-seat.result.receipts.items c.join-seat.result.fault c.join-seat.ensures in
     let lens = i.lens in
     let rooms = i.rooms in
     let more =
-    home-more width live (g.S.Source.count_of source) (g.S.Source.block_of source) (g.G.Gate.may_stop gate) n c.loop.seats.items
+    home-more width live (g.S.Source.count_of source) (g.S.Source.block_of source) (g.G.Gate.may_stop gate) (g.G.Gate.has_let gate) (g.G.Gate.was_told gate) n c.loop.seats.items
     (map (λ (its : Vec Receipt _). its.items) c.loop.receipts.items) c.loop.faults.items i.home c.join-seat.result.seat
     c.join-seat.result.receipts.items c.join-seat.result.fault come in
     record {

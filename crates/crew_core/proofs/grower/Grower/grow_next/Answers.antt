@@ -1,6 +1,8 @@
-use Rattle.std.proofs.Common.{◌≡◌, ℕ, ◌<◌, List, [], ◌∷◌, ◌++◌, length, Some, None, sym, ap, ap₂, subst, ◌∙◌}
+use Rattle.std.proofs.Common.{◌≡◌, ℕ, ◌<◌, List, [], ◌∷◌, ◌++◌, length, All, Some, None, sym, ap, ap₂, subst, ◌∙◌}
 use Rattle.book_core.specs.declared.seat.Receipt.{Receipt}
-use Rattle.crew_core.specs.Crewing.{HasGrown}
+use Rattle.book_core.specs.Lists.{opening_of}
+use Rattle.crew_core.specs.Crewing.{HasGrown, ComesNext}
+use Rattle.crew_core.proofs.Gates.{comes_next, told_more}
 use Rattle.crew_core.proofs.Growers.{refused, grown_on}
 use Rattle.crew_core.proofs.grower.Grower.grow_next.Goals.{in-Ok, in-Err}
 use Rattle.crew_core.proofs.grower.Grower.grow_next.Goals as goal
@@ -26,4 +28,24 @@ returns-clause-grown g c =
       | in-Err w ↦
           rw (w.result-is, w.self-is) (subst (λ (rs : List Receipt). HasGrown width live count block old.id new rs (Some w.in-Err.fault)) (sym c.reserve.ensures.items)
           (refused width live count block old.id old receipts grown new c.grow.ensures.of fresh is lt w.in-Err.fault w.in-Err.ensures.list.1 w.in-Err.ensures.fault))
+    ]
+
+pub after-requires : goal.after-requires
+after-requires g c =
+    let old = c.args.self.now.seat in
+    let grown = c.requires.grown in
+    subst (λ (i : ℕ). ComesNext (g.G.Gate.was_told c.args.gate.now i) c.in-Ok.receipt.serial) (sym c.id-id.ensures)
+    (comes_next (g.G.Gate.was_told c.args.gate.now old.id) (length (opening_of c.args.live.now)) old.made c.args.self.now.receipts.items
+    c.in-Ok.receipt.serial grown.receipts_are (sym c.in-Ok.ensures.list.serial) grown.serials_are c.requires.told)
+
+pub returns-clause-told : goal.returns-clause-told
+returns-clause-told g c =
+    let told = g.G.Gate.was_told c.args.gate.now c.args.self.now.seat.id in
+    let receipts = c.args.self.now.receipts.items in
+    elim c.match-grow.branch [
+      | in-Ok w ↦
+          let more = w.push_reserved.ensures.items ∙ ap (λ (rs : List Receipt). rs ++ w.in-Ok.receipt ∷ []) c.reserve.ensures.items in
+          let here : told w.in-Ok.receipt = subst (λ (i : ℕ). g.G.Gate.was_told c.args.gate.now i w.in-Ok.receipt) c.id-id.ensures w.after.ensures in
+          rw w.self-is (subst (All told) (sym more) (told_more told receipts w.in-Ok.receipt c.requires.told here))
+      | in-Err w ↦ rw w.self-is (subst (All told) (sym c.reserve.ensures.items) c.requires.told)
     ]
