@@ -1,8 +1,9 @@
 -- What a file may be made over, worked by hand: a file of version 1 whose records have 8 bytes.
-use Rattle.std.proofs.Common.{◌≡◌, ◌<◌, ◌≤◌, ◌⊎◌, ◌∷◌, [], ℕ, zero, suc, inl, inr, refl, lit≤, lit<, arith}
+use Rattle.std.proofs.Common.{◌≡◌, ◌<◌, ◌≤◌, ◌⊎◌, ◌++◌, ◌∷◌, [], ℕ, zero, suc, inl, inr, refl, lit≤, lit<, arith}
 use Rattle.std.specs.Prelude.{codes, slice_index}
 use Rattle.segment_core.specs.declared.format.Shape.{Shape}
 use Rattle.segment_core.specs.declared.format.Format.TheVariants.{One}
+use Rattle.segment_core.specs.Frame.{header, closed_gate}
 use Rattle.files_core.specs.Vacant.{IsVacant}
 
 abbrev shape : Shape
@@ -14,7 +15,7 @@ nothing = record { short = lit≤ tt; each = λ i lt. absurd (omega (arith, lt))
 
 a_front : IsVacant shape (0 ∷ 67 ∷ 0 ∷ [])
 a_front = record { short = lit≤ tt; each = at } where
-  at : (i : ℕ) → i < 3 → (slice_index (0 ∷ 67 ∷ 0 ∷ []) i ≡ 0) ⊎ (slice_index (0 ∷ 67 ∷ 0 ∷ []) i ≡ slice_index (1 ∷ 67 ∷ 86 ∷ []) i)
+  at : (i : ℕ) → i < 3 → (slice_index (0 ∷ 67 ∷ 0 ∷ []) i ≡ 0) ⊎ (slice_index (0 ∷ 67 ∷ 0 ∷ []) i ≡ slice_index (header shape ++ closed_gate ∷ []) i)
   at zero lt = inl refl
   at (suc zero) lt = inr refl
   at (suc (suc zero)) lt = inl refl
