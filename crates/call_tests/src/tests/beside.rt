@@ -1,8 +1,8 @@
 //! A crew grows in threads beside one another.
 
-use crew_core::{Crewed, Gate, Lists};
 use super::crews::grow;
 use book_core::Receipt;
+use crew_core::{Crewed, Gate, Lists};
 use disk_core::RamDisk;
 use std::alloc::{AllocError, Global};
 use std::sync::Wait;

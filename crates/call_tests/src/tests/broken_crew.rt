@@ -6,9 +6,9 @@ ghost use Rattle.book_core.specs.Lists.{IsSeatOf};
 ghost use Rattle.flush_core.specs.Flusher.{IsFlusherOf};
 ghost use Rattle.vault_core.specs.Gathering.{AreOfPhase};
 
-use crew_core::{CrewFault, Lists, crew};
 use super::crews::Open;
 use book_core::{Live, Seat};
+use crew_core::{CrewFault, Lists, crew};
 use disk_core::{Blow, Choice, Disk, FuseDisk, ImageLength, PendingBytes, RamDisk};
 use flush_core::Flusher;
 use segment_core::{Format, scan};

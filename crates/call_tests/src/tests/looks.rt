@@ -10,7 +10,9 @@ use book_core::{Live, Seat};
 use std::sync::Wait;
 
 const KNOWN: u64 = 100_000;
+
 const LOOKS: u64 = 1_000_000;
+
 const NEW: u64 = 100_000;
 
 /// The size that the second seat knows behind the growths of the first and its looks.

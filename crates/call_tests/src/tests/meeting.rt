@@ -2,10 +2,10 @@
 
 ghost use Rattle.std.specs.Prelude.{true, false};
 
-use search_core::Pick;
 use super::crews::new_vault;
 use block_core::Touch;
 use disk_core::RamDisk;
+use search_core::Pick;
 use std::alloc::Global;
 use std::sync::Wait;
 use std::sync::atomic::{AtomicU64, Ordering};

@@ -2,9 +2,9 @@
 
 ghost use Rattle.std.specs.Prelude.{◌+◌, ◌*◌, ◌%◌, ◌^◌};
 
-use crew_core::{Lists, Source, crew};
 use super::crews::{Open, new_vault};
 use block_core::Touch;
+use crew_core::{Lists, Source, crew};
 use disk_core::RamDisk;
 use record_core::{Flagged, Pair, Record};
 use std::alloc::{AllocError, Global};
