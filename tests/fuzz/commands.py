@@ -6,12 +6,19 @@ import tempfile
 from memory import is_memory_refused, run_refused
 from outlines import stat_differs
 from program import differs, run
-from reader import Fault, File, answers_of
-from writer import all_kinds
+from reader import TYPES, Fault, File, answers_of
+from writer import all_kinds, header
 
 
 def texts_in(file):
     return [file.text(cell) for cell in file.cells]
+
+
+def may_be_made_over(kind, words, image):
+    """Nothing stands there but what a stopped creation leaves: each byte 0 or that of the empty file, whose gate isn't open yet."""
+    made = header(2 if '--format=2' in words else 1, TYPES[kind][0]) + b'\0'
+    is_shut = len(image) < 2 or image[0] != 1
+    return len(image) <= len(made) and is_shut and all(byte in (0, its) for byte, its in zip(image, made))
 
 
 def foresee(kind, verb, words, lines, image):
@@ -19,7 +26,7 @@ def foresee(kind, verb, words, lines, image):
     try:
         file = File(image, kind)
     except Fault as fault:
-        if verb == 'create' and len(image) <= 12 and image[:1] != b'\1' or verb == 'create' and len(image) < 2:
+        if verb == 'create' and may_be_made_over(kind, words, image):
             return 'created', []
         return 'refused: ' + ('exists' if verb == 'create' else 'old %s' % fault if verb == 'upgrade' else str(fault)), None
     texts, live = texts_in(file), len(file.changes) - file.folded
