@@ -31,6 +31,7 @@ pub mod WorkedLines
 pub mod Stopped
 pub mod WorkedHeadline
 pub mod WorkedRuns
+mod WorkedFaults
 pub mod Looked
 pub mod LookedSeat
 pub mod VaultEvents
