@@ -163,7 +163,7 @@ the_libraries_are_built_in_their_order() (
 # The number of a process's session, of which Linux shares the processors among all that there are.
 session_of() { cut -d ' ' -f 6 /proc/"$1"/stat; }
 
-# Two libraries side by side, in this session: the one that begins the longer chain has the processors.
+# Two libraries side by side: the one that begins the longer chain has the processors.
 the_longest_chain_has_the_processors() (
     [ "$(nproc)" -gt 1 ] || lacks 'one processor builds one library at a time' || exit $is_skipped
     seeming_repository

@@ -15,36 +15,56 @@ const LOOKS: u64 = 1_000_000;
 
 const NEW: u64 = 100_000;
 
-/// The size that the second seat knows behind the growths of the first and its looks.
-fn look_often<E: Wait>(
-    rt: &E,
-    live: &Live<u64>,
-    first: &mut Seat<u64>,
-    second: &mut Seat<u64>,
-) -> Option<u64>
-    requires { IsSeatOf live.now first.old × IsSeatOf live.now second.old }
+/// Grows by single records, as many as are to be known.
+fn grow_known<E: Wait>(rt: &E, live: &Live<u64>, first: &mut Seat<u64>) -> Option<()>
+    requires { IsSeatOf live.now first.old }
+    ensures { IsSeatOf live.now first.new }
 {
     for number in 0..KNOWN {
         live.push_back(rt, first, number).ok()?;
     }
-    for _ in 0..LOOKS {
+    Some(())
+}
+
+/// Looks where nothing is new.
+fn look_again(live: &Live<u64>, second: &mut Seat<u64>) -> Option<()>
+    requires { IsSeatOf live.now second.old }
+    ensures { IsSeatOf live.now second.new }
+{
+    for _turn in 0..LOOKS {
         live.look(second).ok()?;
     }
+    Some(())
+}
+
+/// Looks behind each growth.
+fn look_behind_each<E: Wait>(
+    rt: &E,
+    live: &Live<u64>,
+    first: &mut Seat<u64>,
+    second: &mut Seat<u64>,
+) -> Option<()>
+    requires { IsSeatOf live.now first.old × IsSeatOf live.now second.old }
+    ensures { IsSeatOf live.now second.new }
+{
     for number in 0..NEW {
         live.push_back(rt, first, number).ok()?;
         live.look(second).ok()?;
     }
-    live.look(second).ok()
+    Some(())
 }
 
-/// The same of a book.
+/// The size that the second seat knows behind the growths of the first and its looks.
 fn look_in<E: Wait>(rt: &E, two: Two) -> Option<u64> {
     let Two {
         live,
         mut first,
         mut second,
     } = two;
-    look_often(rt, &live, &mut first, &mut second)
+    grow_known(rt, &live, &mut first)?;
+    look_again(&live, &mut second)?;
+    look_behind_each(rt, &live, &mut first, &mut second)?;
+    live.look(&mut second).ok()
 }
 
 #[test]
