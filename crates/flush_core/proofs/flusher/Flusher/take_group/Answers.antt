@@ -114,3 +114,26 @@ returns-clause-begun g c = rw (← c.self.view_is) (λ some.
     let row = row_is s.pass.entries s.taken c.next_group-group.new.pass.entries c.as_slice.result.now c.in-Ok.row.items n
     (ap (λ p. p.entries) c.next_group-group.ensures.same) c.as_slice.ensures.value c.in-Ok.ensures.growths in
     subst (λ gs. BeginsFrame (group_frame g.R.Record.form gs) s.pen c.begin_group.new.self) row c.in_default-begin_group.ensures.begun)
+
+pub invariant_of-self : goal.invariant_of-self
+invariant_of-self g c =
+    let s = c.self.inside in
+    subst (λ pass. IsFlusher (g.D.Disk.keeps s.pen.disk) g.R.Record.form (flusher_of g.R.Record.form s.pen pass s.mark s.before s.taken s.settled))
+    (sym c.next_group-group.ensures.same) c.self.invariant
+
+pub invariant_of-self-then-is_full : goal.invariant_of-self-then-is_full
+invariant_of-self-then-is_full g c =
+    let s = c.self.inside in
+    subst (λ pass. IsFlusher (g.D.Disk.keeps s.pen.disk) g.R.Record.form (flusher_of g.R.Record.form s.pen pass s.mark s.before s.taken s.settled))
+    (sym c.next_group-group.ensures.same) c.self.invariant
+
+pub returns-clause-greatest : goal.returns-clause-greatest
+returns-clause-greatest g c = rw (← c.self.view_is) (
+    let s = c.self.inside in
+    let limit = c.payload_limit-limit.ensures.is ∙ ap limit_of c.format.ensures in
+    subst (λ l. IsGreatest g.R.Record.form.width l (from_on s.taken s.pass.entries) c.next_group-group.result.count) limit c.next_group-group.ensures.greatest)
+
+pub returns-clause-room : goal.returns-clause-room
+returns-clause-room g c = rw (← c.self.view_is) (λ some.
+    let s = c.self.inside in
+    ap (is_full s.pen) (sym c.next_group-group.ensures.payload) ∙ sym c.is_full.ensures ∙ c.if-is_full.false)
