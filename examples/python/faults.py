@@ -1,7 +1,9 @@
-"""A test of cvec.py: what isn't a record is refused, threads lose nothing, a forked process appends nothing, and what is
-closed is let go: faults.py FOLDER [plain]. With 'plain' it does so without numpy."""
+"""A test of cvec.py: what isn't a record is refused, threads lose nothing, a forked process appends nothing, what is closed
+is let go, and what is no file isn't mapped: faults.py FOLDER [plain]. With 'plain' it does so without numpy."""
 import gc
 import os
+import pathlib
+import signal
 import sys
 import threading
 
@@ -190,10 +192,30 @@ def check_closing():
     assert not os.path.exists(PATH)
 
 
+def check_maps():
+    """A pipe, of which nobody writes the other end, isn't waited for."""
+    signal.alarm(60)
+    pipe = os.path.join(sys.argv[1], "pipe")
+    os.mkfifo(pipe)
+    for path in (pipe, sys.argv[1], "/dev/null", "/dev/zero"):
+        assert refusal_of(cvec.Map, path, "u64") == "not a file", path
+    for path in (PATH, os.fsencode(PATH), pathlib.Path(PATH)):
+        assert refusal_of(cvec.Map, path, "u64") == "disk open: No such file or directory"
+        with cvec.create(path, "u64") as file:
+            file.append([5])
+        with cvec.open(path, "u64") as file, cvec.Map(path, "u64") as seen:
+            assert list(seen.records()) == list(file.read()) == [5], path
+        os.remove(PATH)
+    assert "zero byte" in refusal_of(cvec.Map, PATH + "\0x", "u64")
+    os.remove(pipe)
+    signal.alarm(0)
+
+
 check_rows()
 if numpy is not None:
     check_arrays()
 check_threads()
 check_fork()
 check_closing()
+check_maps()
 print("with numpy" if numpy else "without numpy")

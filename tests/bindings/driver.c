@@ -39,6 +39,19 @@ static uint64_t number(void) {
     return word ? strtoull(word, NULL, 10) : 0;
 }
 
+/* A path, in which \xHH stands for a byte. */
+static char *path_word(void) {
+    char *word = next_word(), *to = word;
+    for (char *at = word; *at != '\0';) {
+        int is_byte = at[0] == '\\' && at[1] == 'x';
+        char two[] = {at[is_byte ? 2 : 0], at[is_byte ? 3 : 0], '\0'};
+        *to++ = is_byte ? (char)strtoul(two, NULL, 16) : *at;
+        at += is_byte ? 4 : 1;
+    }
+    *to = '\0';
+    return word;
+}
+
 static cvec_file *handle(void) { return &files[next_word()[0] - 'a']; }
 
 static cvec_type type_of(void) {
@@ -208,7 +221,7 @@ static void open_file(int is_new) {
     cvec_fault fault = {0, 0, 0};
     memset(file, guard, sizeof *file);
     if (!is_new) memset(&fault, guard, sizeof fault);
-    char *path = next_word();
+    char *path = path_word();
     tell(is_new ? cvec_create(file, path, type) : cvec_open(file, path, type, &fault), &fault);
 }
 

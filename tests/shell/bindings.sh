@@ -123,6 +123,7 @@ answers_are_right() {
     has_caller "$1" || exit $is_skipped
     make_caller "$1"
     follows "$1" cases.txt
+    follows "$1" names.txt
 }
 
 answers_are_right_in_c() (
