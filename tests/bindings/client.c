@@ -68,7 +68,8 @@ static size_t tell_record(const unsigned char *at) {
 static int is_refused(int fault, uint64_t one, uint64_t other) {
     if (fault == 0) return 0;
     if (one != untouched || other != untouched) puts("a number was written");
-    if (fault == -1) puts("gone");
+    if (fault == -1 && errno == EPIPE) puts("gone");
+    else if (fault == -1) printf("gone, and errno is %d\n", errno);
     else printf("refused %d\n", fault);
     return 1;
 }
@@ -164,12 +165,22 @@ static void end(void) {
 
 static void wait_for_server(void) {
     int status = cvec_server_wait(&server);
-    if (status < 0) puts("killed");
-    else printf("ended %d\n", status);
+    if (status >= 0) printf("ended %d\n", status);
+    else if (server.ended_by == SIGKILL) puts("killed");
+    else if (server.ended_by > 0) printf("ended by signal %d\n", server.ended_by);
+    else printf("not waited for: %s\n", strerror(errno));
+    if (status >= 0 && server.ended_by != 0) puts("no signal has ended it");
+}
+
+/* The answers in words, from -1 on. */
+static void texts(void) {
+    for (int answer = -1; answer <= CVEC_REFUSED_BROKEN + 1; answer++) printf("%d: %s\n", answer, cvec_answer_text(answer));
+    printf("%d: %s\n", -2, cvec_answer_text(-2));
 }
 
 static void follow(char *line) {
     char *word = strtok(line, " ");
+    errno = 0;
     if (!strcmp(word, "serve")) start();
     else if (!strcmp(word, "grow")) grow(0);
     else if (!strcmp(word, "send")) grow(1);
@@ -181,6 +192,7 @@ static void follow(char *line) {
     else if (!strcmp(word, "end")) end();
     else if (!strcmp(word, "kill")) kill_server();
     else if (!strcmp(word, "wait")) wait_for_server();
+    else if (!strcmp(word, "texts")) texts();
     else if (!strcmp(word, "sh")) {
         fflush(stdout);
         if (system(strtok(NULL, "")) == -1) exit(2);
