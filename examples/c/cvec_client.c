@@ -155,12 +155,13 @@ static int open_pipes(int ends[][4], int count) {
     return 0;
 }
 
-/* In the child: what the server writes at its end isn't to stand among the client's lines. */
+/* In the child: what the server writes at its end isn't to stand among the client's lines, nor does it keep what the client
+ * reads. */
 static void mute(void) {
-    int nothing = open("/dev/null", O_WRONLY);
-    if (nothing < 0 || dup2(nothing, STDOUT_FILENO) < 0)
+    int nothing = open("/dev/null", O_RDWR);
+    if (nothing < 0 || dup2(nothing, STDIN_FILENO) < 0 || dup2(nothing, STDOUT_FILENO) < 0)
         _exit(127);
-    if (nothing != STDOUT_FILENO)
+    if (nothing > STDOUT_FILENO)
         close(nothing);
 }
 

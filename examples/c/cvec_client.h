@@ -58,7 +58,7 @@ struct cvec_server {
     struct cvec_seat seats[CVEC_SEAT_LIMIT];
 };
 
-/* Starts `program serve type file --seats=count`, with /dev/null as its standard output, in a session of its own: a
+/* Starts `program serve type file --seats=count`, with /dev/null as its standard input and output, in a session of its own: a
  * terminal's Ctrl-C reaches the client alone, and the server ends when its seats have ended, or their clients. -1: see errno.
  * A program that can't be run shows as a server that has ended, with status 127. */
 int cvec_server_start(struct cvec_server *server, const char *program, const char *type, const char *file, int count);

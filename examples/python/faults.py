@@ -157,6 +157,19 @@ def check_fork():
     assert os.waitpid(child, 0)[1] == 0
 
 
+def is_read_only(piece):
+    try:
+        piece[0] = piece[0]
+    except (TypeError, ValueError):
+        return True
+    return False
+
+
+# A growth of 5, which a change that isn't folded makes 7.
+CHANGED = bytes.fromhex("01435645435345470108000101100000000100000001000000050000000000000001021000000000000000000000000700000000000000"
+                        "00")
+
+
 def refusal_of(call, *words):
     try:
         call(*words)
@@ -178,7 +191,7 @@ def check_closing():
         assert before.size == 1 and file.stat.size == len(file) == 2
         assert len(list(seen.frames())) == seen.stat.frames == 1
         seen.close()
-        assert [list(piece) for piece in held] == [[5]]
+        assert [list(piece) for piece in held] == [[5]] and is_read_only(held[0])
         assert refusal_of(lambda: list(seen.pieces())) == refusal_of(lambda: list(seen.frames())) == "the map is closed"
         held.clear()
         del seen
@@ -207,6 +220,12 @@ def check_maps():
             assert list(seen.records()) == list(file.read()) == [5], path
         os.remove(PATH)
     assert "zero byte" in refusal_of(cvec.Map, PATH + "\0x", "u64")
+    with open(PATH, "wb") as file:
+        file.write(CHANGED)
+    with cvec.Map(PATH, "u64") as seen, cvec.open(PATH, "u64") as file:
+        assert not seen.is_plain() and list(file.read()) == [7]
+        assert refusal_of(lambda: list(seen.pieces())) == refusal_of(lambda: list(seen.records())) == "a change is live: read a copy"
+    os.remove(PATH)
     os.remove(pipe)
     signal.alarm(0)
 

@@ -159,7 +159,7 @@ def answer(word, *words):
     except OSError as it:
         return f"no server: {it.strerror}"
     except (KeyError, ValueError) as it:
-        return f"no server: {it}"
+        return f"refused here: {str(it).split(': ')[0]}"
 
 
 def main(path):

@@ -54,6 +54,14 @@ make_programs() {
     done
 }
 
+# The Python that has numpy, where there is one.
+make_arrays() {
+    for arrays in "$python" /usr/bin/python3; do
+        "$arrays" -c 'import numpy' 2>/dev/null && return
+    done
+    lacks 'there is no numpy for arrays for Python'
+}
+
 make_rust() {
     [ -e "$built/rust" ] && return
     rustc --edition 2024 -D warnings --crate-type rlib --crate-name cvec -o "$built/libcvec.rlib" "$top/examples/rust/cvec.rs"
@@ -100,6 +108,7 @@ follows() {
     case $caller in
     python) set -- "$@" "$python" "$bindings/driver.py" ;;
     client_python) set -- "$@" "$python" "$bindings/client.py" ;;
+    client_arrays) set -- "$@" "$arrays" "$bindings/client.py" ;;
     *) set -- "$@" "$built/$caller" ;;
     esac
     ended=0
@@ -215,6 +224,10 @@ a_table_holds_for_clients() (
     done
     follows client_c client_c.txt
     follows client_python client_python.txt
+    # Records are arrays where there is numpy, which may be that of another Python.
+    make_arrays || exit 0
+    follows client_arrays clients.txt
+    follows client_arrays client_python.txt
 )
 
 # A client's words, of which the first is `c` or `python`, at a terminal of its own.
