@@ -226,6 +226,13 @@ def check_maps():
         assert not seen.is_plain() and list(file.read()) == [7]
         assert refusal_of(lambda: list(seen.pieces())) == refusal_of(lambda: list(seen.records())) == "a change is live: read a copy"
     os.remove(PATH)
+    for call in (cvec.create, cvec.open, cvec.Map):
+        try:
+            call(PATH, "u16")
+        except KeyError:
+            continue
+        raise AssertionError("a type that there isn't")
+    assert not os.path.exists(PATH)
     os.remove(pipe)
     signal.alarm(0)
 

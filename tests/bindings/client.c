@@ -155,11 +155,14 @@ static void leave(void) {
 /* A seat that has ended may be ended again: its numbers are those of other descriptors then, and are left alone. */
 static void end(void) {
     struct cvec_seat *it = seat();
-    int fault = cvec_seat_end(it), others[2];
+    int ends[] = {it->requests, it->answers}, fault = cvec_seat_end(it), others[2];
+    for (int k = 0; k < 2; k++)
+        if (ends[k] >= 0 && fcntl(ends[k], F_GETFD) >= 0) puts("it has left a pipe open");
     for (int k = 0; k < 2; k++) others[k] = open("/dev/null", O_RDONLY | O_CLOEXEC);
     if (cvec_seat_end(it) != 0) puts("it has no second end");
     for (int k = 0; k < 2; k++)
         if (close(others[k]) != 0) puts("it has closed what isn't its own");
+    errno = EPIPE;
     if (!is_refused(fault, untouched, untouched)) puts("done");
 }
 

@@ -225,6 +225,21 @@ static void open_file(int is_new) {
     tell(is_new ? cvec_create(file, path, type) : cvec_open(file, path, type, &fault), &fault);
 }
 
+/* Opens a file so many times, and closes it. */
+static void open_often(void) {
+    uint64_t times = number();
+    cvec_type type = type_of();
+    char *path = next_word();
+    cvec_fault fault = {0, 0, 0};
+    uint32_t status = CVEC_DONE;
+    for (uint64_t k = 0; k < times && status == CVEC_DONE; k++) {
+        cvec_file file;
+        status = cvec_open(&file, path, type, &fault);
+        cvec_close(&file);
+    }
+    tell(status, &fault);
+}
+
 /* What is closed may be closed again. */
 static void close_file(void) {
     cvec_file *file = handle();
@@ -256,6 +271,7 @@ static void follow(char *line) {
     else if (!strcmp(word, "put")) put();
     else if (!strcmp(word, "bytes")) tell_bytes();
     else if (!strcmp(word, "suppose")) suppose();
+    else if (!strcmp(word, "often")) open_often();
     else if (!strcmp(word, "sh")) {
         fflush(stdout);
         if (system(strtok(NULL, "")) == -1) exit(2);

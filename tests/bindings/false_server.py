@@ -61,9 +61,15 @@ def follow(words):
         wrong("more was asked")
 
 
-# The client's ends are none of the server's: it would wait for itself.
+def is_inherited(descriptor):
+    """Whether it is the client's own, as the client got it."""
+    path = f"/proc/{os.getppid()}/fd/{descriptor}"
+    return os.path.exists(path) and os.stat(path).st_ino == file_of(descriptor) == file_of(1)
+
+
+# The client's ends are none of the server's: it would wait for itself. Nor is its standard output a further one.
 pipes = [file_of(it) for it in range(3, 3 + 2 * count)]
-left = [it for it in range(3 + 2 * count, 256) if file_of(it) in pipes]
+left = [it for it in range(3 + 2 * count, 256) if file_of(it) in pipes + [file_of(1)] and not is_inherited(it)]
 if word != "serve" or None in pipes or left:
     wrong(f"{word} with the pipes {pipes}, and {left} beside them")
 if os.readlink("/proc/self/fd/1") != "/dev/null":

@@ -118,7 +118,7 @@ follows() {
         export "PATH=$built:$PATH" "CVEC_LIBRARY=$built/libcvec.so"
         export "PYTHONPATH=$top/examples/python:$top/tests/fuzz" PYTHONDONTWRITEBYTECODE=1
         exec timeout 600 env "$@" "$work/table"
-    ) >"$work/answered" || ended=$?
+    ) <"$work/table" >"$work/answered" || ended=$?
     echo "$table by $caller, with $1:"
     diff "$work/table" "$work/answered" | cut -c 1-200
     cmp "$work/table" "$work/answered"
@@ -137,6 +137,7 @@ answers_are_right() {
 
 answers_are_right_in_c() (
     answers_are_right c
+    follows c often.txt
 )
 
 answers_are_right_in_python() (
