@@ -1,5 +1,5 @@
-//! Segment files of a durable vector from plain Rust, over libcvec_c.a and cvec_file.c (docs/use/c.md says how they are
-//! built and linked).
+//! Segment files of a durable vector from plain Rust, over libcvec_c.a and cvec_file.c (docs/use/install.md says
+//! how they are built and linked).
 //!
 //! ```no_run
 //! let mut file = cvec::File::<u64>::create("numbers.cvec".as_ref())?;
