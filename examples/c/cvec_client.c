@@ -158,7 +158,10 @@ static int open_pipes(int ends[][4], int count) {
 /* In the child: what the server writes at its end isn't to stand among the client's lines, nor does it keep what the client
  * reads. */
 static void mute(void) {
-    int nothing = open("/dev/null", O_RDWR);
+    int nothing;
+    do
+        nothing = open("/dev/null", O_RDWR);
+    while (nothing < 0 && errno == EINTR);
     if (nothing < 0 || dup2(nothing, STDIN_FILENO) < 0 || dup2(nothing, STDOUT_FILENO) < 0)
         _exit(127);
     if (nothing > STDOUT_FILENO)
