@@ -4,7 +4,16 @@
  *     append_blocks REQUESTS ANSWERS NUMBER END BASE LENGTH
  *
  * REQUESTS and ANSWERS are the seat's descriptors, NUMBER is the first block, and END the number behind the last one. Block n
- * has LENGTH numbers, from (BASE + n) * LENGTH on. Where the server is gone it ends, with what was durable told. */
+ * has LENGTH numbers, from (BASE + n) * LENGTH on. Where the server is gone it ends, with what was durable told.
+ *
+ * By hand, with two named pipes and a client that appends 8 blocks of 1,000 numbers:
+ *
+ *     cc -Iexamples/c -o append_blocks examples/c/append_blocks.c examples/c/cvec_client.c
+ *     ./cvec create u64 numbers.cvec
+ *     mkfifo requests answers
+ *     (trap '' PIPE && exec ./cvec serve u64 numbers.cvec --seats=1) 3<requests 4>answers &
+ *     ./append_blocks 3 4 0 8 0 1000 3>requests 4<answers
+ *     wait $! */
 #include "cvec_client.h"
 
 #include <inttypes.h>

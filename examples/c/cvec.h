@@ -4,8 +4,9 @@
  * that they are passed. They call nothing of the system but malloc, realloc and free. The second part is cvec_file.c,
  * which makes the system's calls in the order that the first part asks for; it is not proved. docs/use/c.md tells both.
  *
- * A record type is u32, u64, i64, pair or flagged. Functions that need one stand here once for each. A function that
- * answers another number than CVEC_DONE changes nothing but *fault (and *count, at CVEC_NO_ROOM).
+ * A record type is u32, u64, i64, pair or flagged. Functions that need one stand here once for each. A file has the width
+ * of its records and not their type: one of u64 is read as i64 too, and no function can tell (docs/file/format.md#records).
+ * A function that answers another number than CVEC_DONE changes nothing but *fault (and *count, at CVEC_NO_ROOM).
  *
  * Pointers of the first part are never NULL, also where the length is 0, are aligned as their type, and memory that is
  * written overlaps no other. Any number of threads may call these functions at once, each on memory of its own. Bytes that
@@ -47,7 +48,8 @@ enum cvec_status {
     CVEC_DISK_READ = 37,   /* pread */
     CVEC_DISK_WRITE = 38,  /* pwrite */
     CVEC_DISK_SYNC = 39,   /* fdatasync, or fsync of the folder. Restart the system before the file is opened again */
-    CVEC_FORKED = 40       /* the process from which this one was forked has opened it: here it can only be closed */
+    CVEC_FORKED = 40,      /* the process from which this one was forked has opened it: here it can only be closed */
+    CVEC_NOT_FILE = 41     /* a folder, a pipe or a device has that name: it wasn't opened */
 };
 
 /* Why an image is damaged, in the order in which docs/file/format.md looks for it. */

@@ -48,6 +48,13 @@ static uint64_t take(const unsigned char *bytes, int len) {
     return number;
 }
 
+/* What a call on a pipe answered that did nothing: where it is no fault of the system, the other end is closed. */
+static int fail(ssize_t done) {
+    if (done == 0)
+        errno = EPIPE;
+    return -1;
+}
+
 static int write_all(int descriptor, const void *bytes, size_t len) {
     const unsigned char *at = bytes;
     while (len > 0) {
@@ -55,7 +62,7 @@ static int write_all(int descriptor, const void *bytes, size_t len) {
         if (n < 0 && errno == EINTR)
             continue;
         if (n <= 0)
-            return -1;
+            return fail(n);
         at += n;
         len -= (size_t)n;
     }
@@ -69,7 +76,7 @@ static int read_all(int descriptor, void *bytes, size_t len) {
         if (n < 0 && errno == EINTR)
             continue;
         if (n <= 0)
-            return -1;
+            return fail(n);
         at += n;
         len -= (size_t)n;
     }
@@ -78,14 +85,16 @@ static int read_all(int descriptor, void *bytes, size_t len) {
 
 /* What a seat that is over asked would never be answered. */
 static int send_bytes(struct cvec_seat *seat, const void *bytes, size_t len) {
-    if (!seat->over && write_all(seat->requests, bytes, len))
-        seat->over = 1;
+    if (seat->over)
+        return fail(0);
+    seat->over = write_all(seat->requests, bytes, len) != 0;
     return seat->over ? -1 : 0;
 }
 
 static int take_bytes(struct cvec_seat *seat, void *bytes, size_t len) {
-    if (!seat->over && read_all(seat->answers, bytes, len))
-        seat->over = 1;
+    if (seat->over)
+        return fail(0);
+    seat->over = read_all(seat->answers, bytes, len) != 0;
     return seat->over ? -1 : 0;
 }
 
@@ -146,17 +155,22 @@ static int open_pipes(int ends[][4], int count) {
     return 0;
 }
 
-/* In the child: what the server writes at its end isn't to stand among the client's lines. */
+/* In the child: what the server writes at its end isn't to stand among the client's lines, nor does it keep what the client
+ * reads. */
 static void mute(void) {
-    int nothing = open("/dev/null", O_WRONLY);
-    if (nothing < 0 || dup2(nothing, STDOUT_FILENO) < 0)
+    int nothing;
+    do
+        nothing = open("/dev/null", O_RDWR);
+    while (nothing < 0 && errno == EINTR);
+    if (nothing < 0 || dup2(nothing, STDIN_FILENO) < 0 || dup2(nothing, STDOUT_FILENO) < 0)
         _exit(127);
-    if (nothing != STDOUT_FILENO)
+    if (nothing > STDOUT_FILENO)
         close(nothing);
 }
 
 /* In the child: the server's ends get their descriptors, by way of others, so that none is overwritten, and it is run. A
- * client that is gone is to end its seat, and no signal the server. */
+ * client that is gone is to end its seat, and no signal the server: in a session of its own it gets none of those that a
+ * terminal sends to the client, which may still want to be told what is durable. */
 static void run(const char *program, const char *type, const char *file, int ends[][4], int count) {
     char seats[32];
     for (int k = 0; k < count; k++) {
@@ -164,6 +178,8 @@ static void run(const char *program, const char *type, const char *file, int end
         ends[k][3] = fcntl(ends[k][3], F_DUPFD_CLOEXEC, FREE_DESCRIPTOR);
     }
     mute();
+    if (setsid() < 0)
+        _exit(127);
     signal(SIGPIPE, SIG_IGN);
     for (int k = 0; k < count; k++)
         if (dup2(ends[k][0], 3 + 2 * k) < 0 || dup2(ends[k][3], 4 + 2 * k) < 0)
@@ -193,6 +209,7 @@ int cvec_server_start(struct cvec_server *server, const char *program, const cha
     if (open_pipes(ends, count))
         return -1;
     server->count = count;
+    server->ended_by = 0;
     server->pid = fork();
     if (server->pid < 0) {
         close_pipes(ends, count);
@@ -286,5 +303,29 @@ int cvec_server_wait(struct cvec_server *server) {
     while (waitpid(server->pid, &status, 0) < 0)
         if (errno != EINTR)
             return -1;
+    server->ended_by = WIFSIGNALED(status) ? WTERMSIG(status) : 0;
     return WIFEXITED(status) ? WEXITSTATUS(status) : -1;
+}
+
+const char *cvec_answer_text(int answer) {
+    static const char *const texts[] = {
+        "done",
+        "the server doesn't know such a request",
+        "a number of the request isn't 0",
+        "there is no record",
+        "there are more records than one frame of a file holds",
+        "a record is none of the type, and nothing was grown",
+        "the server has no memory for the bytes of the growth",
+        "the server has no memory for the growth",
+        "the server takes no more",
+        "this server has taken all growths that it may: start it again",
+        "the vector would have more than 2^32 records",
+        "the growths don't follow one another: the server's memory is damaged",
+        "it isn't settled, and the server has ended",
+        "it isn't known to be settled, since the file refused: restart the system before it is opened again",
+    };
+    if (answer == -1)
+        return "the server has ended, or reads no more of this seat: each growth that it hasn't told is settled stands in "
+               "the file whole, or not at all";
+    return answer >= 0 && answer < (int)(sizeof texts / sizeof *texts) ? texts[answer] : "an unknown answer";
 }

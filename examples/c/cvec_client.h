@@ -4,9 +4,11 @@
  * A seat belongs to one thread at a time; the seats of a server may be in many. Functions that answer an int answer 0, the
  * number of a refusal (enum cvec_refusal), or -1 where the pipes have failed: the server has ended. Behind -1 and behind the
  * first six refusals the seat is over, and answers -1 to all but its end; not so behind CVEC_REFUSED_NO_RECORD and
- * CVEC_REFUSED_TOO_MANY, which are found before anything is sent. What is to be written by a call is written only where it
- * answers 0; but a read that the server's end cuts may have written some of its records. A program that goes on behind a
- * server's end ignores SIGPIPE.
+ * CVEC_REFUSED_TOO_MANY, which are found before anything is sent. cvec_answer_text has each answer in words. Behind -1 errno
+ * is EPIPE where the server has ended or the seat was over, else the system's reason.
+ *
+ * What is to be written by a call is written only where it answers 0; but a read that the server's end cuts may have written
+ * some of its records. A program that goes on behind a server's end ignores SIGPIPE.
  *
  * Records stand one behind the other with no gaps, each as in the file: little-endian, a pair in 16 bytes, its key first,
  * and a flagged in 9, its key and 0 or 1. So a cvec_flagged of cvec.h is no record here. */
@@ -52,11 +54,13 @@ struct cvec_seat {
 struct cvec_server {
     pid_t pid;
     int count;
+    int ended_by; /* the signal that ended it, once cvec_server_wait has answered -1; else 0 */
     struct cvec_seat seats[CVEC_SEAT_LIMIT];
 };
 
-/* Starts `program serve type file --seats=count`, with /dev/null as its standard output. -1: see errno. A program that can't
- * be run shows as a server that has ended. */
+/* Starts `program serve type file --seats=count`, with /dev/null as its standard input and output, in a session of its own: a
+ * terminal's Ctrl-C reaches the client alone, and the server ends when its seats have ended, or their clients. -1: see errno.
+ * A program that can't be run shows as a server that has ended, with status 127. */
 int cvec_server_start(struct cvec_server *server, const char *program, const char *type, const char *file, int count);
 
 /* A seat of a server that another program started, by its descriptors here. -1: there is no such type of records. */
@@ -84,8 +88,11 @@ int cvec_seat_read(struct cvec_seat *seat, uint64_t start, void *records, uint32
 int cvec_seat_end(struct cvec_seat *seat);
 
 /* Waits until the server has ended, which it does behind its last seat: its exit status, 0 where all that was grown is
- * durable, or -1. */
+ * durable. -1: a signal has ended it, server->ended_by; where that is 0 it couldn't be waited for, see errno. */
 int cvec_server_wait(struct cvec_server *server);
+
+/* What a function above answered, in words: of -1 with what that means for growths that weren't settled. */
+const char *cvec_answer_text(int answer);
 
 #ifdef __cplusplus
 }

@@ -164,11 +164,19 @@ static uint32_t sync_folder(const char *path) {
     return done == 0 ? CVEC_DONE : CVEC_DISK_SYNC;
 }
 
+/* Whether a folder, a pipe or a device has this name: to open one may wait, or do more. */
+static bool is_no_file(const char *path) {
+    struct stat found;
+    return stat(path, &found) == 0 && !S_ISREG(found.st_mode);
+}
+
 /* Opens it for one process alone. */
 static uint32_t open_alone(cvec_file *file, const char *path, cvec_type type, int flags) {
     memset(file, 0, sizeof *file);
+    file->fd = -1;
     file->type = type;
     file->process = (int)getpid();
+    if (is_no_file(path)) return CVEC_NOT_FILE;
     file->fd = open_path(path, O_RDWR | flags);
     if (file->fd < 0) return CVEC_DISK_OPEN;
     uint32_t answer = lock(file->fd);
@@ -341,6 +349,7 @@ const char *cvec_status_text(uint32_t status) {
     case CVEC_DISK_WRITE: return "disk write";
     case CVEC_DISK_SYNC: return "disk sync";
     case CVEC_FORKED: return "forked";
+    case CVEC_NOT_FILE: return "not a file";
     default: return "unknown";
     }
 }

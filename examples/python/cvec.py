@@ -10,19 +10,20 @@
 
 The library is found by the environment's CVEC_LIBRARY, and else beside this module. With numpy, records are arrays; without
 it they are lists and memoryviews, of tuples and bytes for the two types with two fields. Threads may share a file: its calls
-take turns."""
+take turns. A file says how wide its records are and not of which type: one of u64 is opened as i64 too."""
 import builtins
 import ctypes
 import mmap
 import os
 import threading
 from ctypes import POINTER, byref, c_int, c_int64, c_size_t, c_uint8, c_uint16, c_uint32, c_uint64, c_void_p
+from stat import S_ISREG
 
 from cvec_records import IN_C, IN_FILE, numpy
 
 FIRST_GATE = 11
 GROUP, CHANGE, SHRINK, FOLD = 1, 2, 3, 4
-_UNBORN, _DAMAGED, _NO_ROOM, _FORKED = 1, 5, 11, 40
+_UNBORN, _DAMAGED, _NO_ROOM, _DISK_OPEN, _FORKED, _NOT_FILE = 1, 5, 11, 35, 40, 41
 
 # The statuses of which errno says why.
 _OF_SYSTEM = range(35, 40)
@@ -218,13 +219,23 @@ def open(path, kind):
     return File(kind, raw)
 
 
+def _open_to_map(path):
+    """The file for reading. None that isn't one is opened, since that might wait, or do more."""
+    try:
+        if not S_ISREG(os.stat(path).st_mode):
+            raise Error(_NOT_FILE)
+        return builtins.open(path, "rb")
+    except OSError as fault:
+        raise Error(_DISK_OPEN, errno=fault.errno) from None
+
+
 class Map:
     """A file that is mapped, and checked when it was: its records are seen where they stand in it. What is appended later
     isn't. The file must not be folded or cut meanwhile. A device that fails ends the process, as with any map (SIGBUS)."""
 
     def __init__(self, path, kind):
         self._kind, self.stat = _TYPES[kind], Stat()
-        with builtins.open(path, "rb") as file:
+        with _open_to_map(_name_of(path)) as file:
             if os.fstat(file.fileno()).st_size == 0:
                 raise Error(_UNBORN)
             # A private map, since ctypes takes the address of what may be written alone. Nothing is.

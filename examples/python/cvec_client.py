@@ -7,12 +7,15 @@ docs/use/serve.md has the bytes. It isn't proved.
         print(server.seats[0].read())
 
 A seat belongs to one thread or process at a time. With numpy, records are arrays; without it they are lists, of tuples for
-the two types with two fields."""
+the two types with two fields. A file says how wide its records are and not of which type: one of u64 is served as i64 too."""
+import errno
 import fcntl
 import os
 import signal
 import struct
 import subprocess
+import threading
+import time
 
 from cvec_records import IN_FILE, numpy
 
@@ -22,6 +25,7 @@ REFUSALS = {
     7: "memory", 8: "closed", 9: "full", 10: "too long", 11: "strayed", 12: "ended", 13: "broken",
 }
 LIMIT = 2 ** 20 - 8
+SEAT_LIMIT = 64
 
 
 class Refused(Exception):
@@ -33,7 +37,23 @@ class Refused(Exception):
 
 
 class Gone(Exception):
-    """The server has ended, or reads no more of this seat."""
+    """The server has ended, or reads no more of this seat: which, and what that means for growths that weren't settled.
+    `status` is the server's exit status, -N where the signal N ended it, None where that isn't known here."""
+
+    def __init__(self, what, status=None):
+        super().__init__(what)
+        self.status = status
+
+
+def _end_of(status):
+    """What a Gone says of a server that ended so."""
+    if status is None:
+        end = "has ended, or reads no more of this seat"
+    elif status >= 0:
+        end = f"ended with status {status}"
+    else:
+        end = f"was ended by signal {-status} ({signal.strsignal(-status)})"
+    return f"the server {end}: each growth that isn't settled stands in the file whole, or not at all", status
 
 
 def _close(descriptors):
@@ -44,10 +64,15 @@ def _close(descriptors):
 class Seat:
     """One client's place: the client's ends of its two pipes."""
 
-    def __init__(self, requests, answers, type):
-        self.requests, self.answers = requests, answers
-        self.over = False
+    def __init__(self, requests, answers, type, server=None):
+        self.requests, self.answers, self.server = requests, answers, server
+        self.over = None  # or why it is over, as Gone says it
         self.form = IN_FILE[type]
+
+    def _gone(self):
+        """The pipes are shut, so the server has ended, or will in a moment."""
+        self.over = _end_of(self.server and self.server.status_soon())
+        return Gone(*self.over)
 
     def _write(self, data):
         view = memoryview(data)
@@ -55,14 +80,14 @@ class Seat:
             while view:
                 view = view[os.write(self.requests, view):]
         except BrokenPipeError:
-            raise Gone() from None
+            raise self._gone() from None
 
     def _take(self, count):
         parts = []
         while count:
             part = os.read(self.answers, count)
             if not part:
-                raise Gone()
+                raise self._gone()
             parts.append(part)
             count -= len(part)
         return b"".join(parts)
@@ -70,14 +95,15 @@ class Seat:
     def _ask(self, kind, count=0, start=0, data=b""):
         """The numbers of the answer, and the bytes of its records."""
         if self.over:
-            raise Gone()
+            raise Gone(*self.over)
         # Whatever ends this before the whole answer is read, as a signal's handler may, leaves the next one to no request.
-        self.over = True
+        self.over = ("a request of this seat wasn't answered whole: it may have been done, or not",)
         self._write(struct.pack("<IIQ", kind, count, start) + data)
         status, count, first, second = struct.unpack("<IIQQ", self._take(24))
         records = self._take(count * self.form.width)
         # Behind one of the first six the server reads no more of this seat.
-        self.over = 1 <= status <= 6
+        self.over = (f"the server reads no more of this seat, since it refused a request ({REFUSALS[status]}): what was grown "
+                     "before is settled where the server ends with status 0",) if 1 <= status <= 6 else None
         if status:
             raise Refused(status)
         return first, second, records
@@ -121,7 +147,7 @@ class Seat:
     def close(self):
         """Closes the pipes, of which the server then sees the end."""
         descriptors = [it for it in (self.requests, self.answers) if it is not None]
-        self.requests, self.answers, self.over = None, None, True
+        self.requests, self.answers, self.over = None, None, self.over or ("the seat has ended here",)
         _close(descriptors)
 
     def end(self):
@@ -143,11 +169,15 @@ def _prepare(descriptors):
 
 
 class Server:
-    """A server over a file, and its seats. Its standard output goes to /dev/null."""
+    """A server over a file, and its seats. Its standard output goes to /dev/null. It has a session of its own, so a terminal's
+    Ctrl-C reaches the client alone; it ends when its seats have ended, or their clients."""
 
     def __init__(self, program, type, file, seats=1):
         IN_FILE[type]  # before a pipe is made
-        words = [program, "serve", type, str(file), f"--seats={seats}"]
+        if not 1 <= seats <= SEAT_LIMIT:
+            raise ValueError(f"a server has 1 to {SEAT_LIMIT} seats, not {seats}")
+        words = [program, "serve", type, os.fspath(file), f"--seats={seats}"]
+        self._starter, self._waiting = os.getpid(), threading.RLock()
         ours, theirs = [], []
         try:
             for _ in range(seats):
@@ -156,18 +186,35 @@ class Server:
                     ours.append(ends[mine])
                     theirs.append(ends[1 - mine])
             self.process = subprocess.Popen(words, preexec_fn=lambda: _prepare(theirs), close_fds=False,
-                                            stdin=subprocess.DEVNULL, stdout=subprocess.DEVNULL)
+                                            start_new_session=True, stdin=subprocess.DEVNULL, stdout=subprocess.DEVNULL)
         except BaseException:
             _close(ours)
             raise
         finally:
             _close(theirs)
-        self.seats = [Seat(requests, answers, type) for requests, answers in zip(ours[::2], ours[1::2])]
+        self.seats = [Seat(requests, answers, type, self) for requests, answers in zip(ours[::2], ours[1::2])]
 
     def wait(self):
         """Waits until the server has ended, which it does behind its last seat: its exit status, 0 where all that was grown
-        is durable."""
-        return self.process.wait()
+        is durable, or -N where the signal N ended it. ChildProcessError: that isn't known here, as in a forked process."""
+        if os.getpid() != self._starter:
+            raise ChildProcessError(errno.ECHILD, "another process has started the server")
+        with self._waiting:
+            # Popen takes a process that can't be waited for, where SIGCHLD is ignored, for one that ended with 0.
+            if self.process.returncode is None:
+                os.waitid(os.P_PID, self.process.pid, os.WEXITED | os.WNOWAIT)
+            return self.process.wait()
+
+    def status_soon(self):
+        """As `wait`, but None where it goes on for a second more, or that isn't known here."""
+        try:
+            for _ in range(100):
+                if os.waitid(os.P_PID, self.process.pid, os.WEXITED | os.WNOWAIT | os.WNOHANG):
+                    return self.wait()
+                time.sleep(0.01)
+        except ChildProcessError:
+            pass
+        return self.process.returncode
 
     def __enter__(self):
         return self
@@ -180,4 +227,4 @@ class Server:
                 pass
         status = self.wait()
         if status != 0 and fault is None:
-            raise Gone(f"the server ended with status {status}")
+            raise Gone(*_end_of(status))

@@ -1,7 +1,9 @@
-"""A test of cvec.py: what isn't a record is refused, threads lose nothing, a forked process appends nothing, and what is
-closed is let go: faults.py FOLDER [plain]. With 'plain' it does so without numpy."""
+"""A test of cvec.py: what isn't a record is refused, threads lose nothing, a forked process appends nothing, what is closed
+is let go, and what is no file isn't mapped: faults.py FOLDER [plain]. With 'plain' it does so without numpy."""
 import gc
 import os
+import pathlib
+import signal
 import sys
 import threading
 
@@ -155,6 +157,19 @@ def check_fork():
     assert os.waitpid(child, 0)[1] == 0
 
 
+def is_read_only(piece):
+    try:
+        piece[0] = piece[0]
+    except (TypeError, ValueError):
+        return True
+    return False
+
+
+# A growth of 5, which a change that isn't folded makes 7.
+CHANGED = bytes.fromhex("01435645435345470108000101100000000100000001000000050000000000000001021000000000000000000000000700000000000000"
+                        "00")
+
+
 def refusal_of(call, *words):
     try:
         call(*words)
@@ -176,7 +191,7 @@ def check_closing():
         assert before.size == 1 and file.stat.size == len(file) == 2
         assert len(list(seen.frames())) == seen.stat.frames == 1
         seen.close()
-        assert [list(piece) for piece in held] == [[5]]
+        assert [list(piece) for piece in held] == [[5]] and is_read_only(held[0])
         assert refusal_of(lambda: list(seen.pieces())) == refusal_of(lambda: list(seen.frames())) == "the map is closed"
         held.clear()
         del seen
@@ -190,10 +205,43 @@ def check_closing():
     assert not os.path.exists(PATH)
 
 
+def check_maps():
+    """A pipe, of which nobody writes the other end, isn't waited for."""
+    signal.alarm(60)
+    pipe = os.path.join(sys.argv[1], "pipe")
+    os.mkfifo(pipe)
+    for path in (pipe, sys.argv[1], "/dev/null", "/dev/zero"):
+        assert refusal_of(cvec.Map, path, "u64") == "not a file", path
+    for path in (PATH, os.fsencode(PATH), pathlib.Path(PATH)):
+        assert refusal_of(cvec.Map, path, "u64") == "disk open: No such file or directory"
+        with cvec.create(path, "u64") as file:
+            file.append([5])
+        with cvec.open(path, "u64") as file, cvec.Map(path, "u64") as seen:
+            assert list(seen.records()) == list(file.read()) == [5], path
+        os.remove(PATH)
+    assert "zero byte" in refusal_of(cvec.Map, PATH + "\0x", "u64")
+    with open(PATH, "wb") as file:
+        file.write(CHANGED)
+    with cvec.Map(PATH, "u64") as seen, cvec.open(PATH, "u64") as file:
+        assert not seen.is_plain() and list(file.read()) == [7]
+        assert refusal_of(lambda: list(seen.pieces())) == refusal_of(lambda: list(seen.records())) == "a change is live: read a copy"
+    os.remove(PATH)
+    for call in (cvec.create, cvec.open, cvec.Map):
+        try:
+            call(PATH, "u16")
+        except KeyError:
+            continue
+        raise AssertionError("a type that there isn't")
+    assert not os.path.exists(PATH)
+    os.remove(pipe)
+    signal.alarm(0)
+
+
 check_rows()
 if numpy is not None:
     check_arrays()
 check_threads()
 check_fork()
 check_closing()
+check_maps()
 print("with numpy" if numpy else "without numpy")

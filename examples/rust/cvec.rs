@@ -1,5 +1,5 @@
-//! Segment files of a durable vector from plain Rust, over libcvec_c.a and cvec_file.c (docs/use/c.md says how they are
-//! built and linked).
+//! Segment files of a durable vector from plain Rust, over libcvec_c.a and cvec_file.c (docs/use/install.md says
+//! how they are built and linked).
 //!
 //! ```no_run
 //! let mut file = cvec::File::<u64>::create("numbers.cvec".as_ref())?;
@@ -183,7 +183,8 @@ pub fn frame_at(image: &[u8], at: u64, version: u8, width: u16) -> Option<Frame>
     (status == 0).then_some(frame)
 }
 
-/// A file that is open for reading and appending, by the process that opened it.
+/// A file that is open for reading and appending, by the process that opened it. It says how wide its records are and not of
+/// which type: one of `u64` is opened as `i64` too.
 pub struct File<R: Record> {
     raw: RawFile,
     of: PhantomData<R>,

@@ -68,7 +68,8 @@ static size_t tell_record(const unsigned char *at) {
 static int is_refused(int fault, uint64_t one, uint64_t other) {
     if (fault == 0) return 0;
     if (one != untouched || other != untouched) puts("a number was written");
-    if (fault == -1) puts("gone");
+    if (fault == -1 && errno == EPIPE) puts("gone");
+    else if (fault == -1) printf("gone, and errno is %d\n", errno);
     else printf("refused %d\n", fault);
     return 1;
 }
@@ -154,22 +155,35 @@ static void leave(void) {
 /* A seat that has ended may be ended again: its numbers are those of other descriptors then, and are left alone. */
 static void end(void) {
     struct cvec_seat *it = seat();
-    int fault = cvec_seat_end(it), others[2];
+    int ends[] = {it->requests, it->answers}, fault = cvec_seat_end(it), others[2];
+    for (int k = 0; k < 2; k++)
+        if (ends[k] >= 0 && fcntl(ends[k], F_GETFD) >= 0) puts("it has left a pipe open");
     for (int k = 0; k < 2; k++) others[k] = open("/dev/null", O_RDONLY | O_CLOEXEC);
     if (cvec_seat_end(it) != 0) puts("it has no second end");
     for (int k = 0; k < 2; k++)
         if (close(others[k]) != 0) puts("it has closed what isn't its own");
+    errno = EPIPE;
     if (!is_refused(fault, untouched, untouched)) puts("done");
 }
 
 static void wait_for_server(void) {
     int status = cvec_server_wait(&server);
-    if (status < 0) puts("killed");
-    else printf("ended %d\n", status);
+    if (status >= 0) printf("ended %d\n", status);
+    else if (server.ended_by == SIGKILL) puts("killed");
+    else if (server.ended_by > 0) printf("ended by signal %d\n", server.ended_by);
+    else printf("not waited for: %s\n", strerror(errno));
+    if (status >= 0 && server.ended_by != 0) puts("no signal has ended it");
+}
+
+/* The answers in words, from -1 on. */
+static void texts(void) {
+    for (int answer = -1; answer <= CVEC_REFUSED_BROKEN + 1; answer++) printf("%d: %s\n", answer, cvec_answer_text(answer));
+    printf("%d: %s\n", -2, cvec_answer_text(-2));
 }
 
 static void follow(char *line) {
     char *word = strtok(line, " ");
+    errno = 0;
     if (!strcmp(word, "serve")) start();
     else if (!strcmp(word, "grow")) grow(0);
     else if (!strcmp(word, "send")) grow(1);
@@ -181,6 +195,7 @@ static void follow(char *line) {
     else if (!strcmp(word, "end")) end();
     else if (!strcmp(word, "kill")) kill_server();
     else if (!strcmp(word, "wait")) wait_for_server();
+    else if (!strcmp(word, "texts")) texts();
     else if (!strcmp(word, "sh")) {
         fflush(stdout);
         if (system(strtok(NULL, "")) == -1) exit(2);

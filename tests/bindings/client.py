@@ -1,14 +1,17 @@
 """Follows a table of cases by cvec_client.py, as client.c does by cvec_client.h: client.py FILE"""
 import os
+import pathlib
 import signal
 import struct
 import sys
+import threading
 
 import cvec_client
 from words import listed, record_of
 
 LONGEST_WAIT = 120
 server, kind = None, None
+last = None  # of what raised Gone
 
 
 def seat(name):
@@ -66,14 +69,68 @@ def leave(name):
     os.close(it.requests)
 
 
+def leave_in(name, *words):
+    """Leaves a request of a server that doesn't answer, by the exception of a signal's handler."""
+    def late(*_):
+        raise KeyError("left")
+
+    signal.signal(signal.SIGUSR1, late)
+    threading.Timer(0.2, os.kill, (os.getpid(), signal.SIGUSR1)).start()
+    return answer(words[0], name, *words[1:])
+
+
+def close(name):
+    seat(name).close()
+    return "done"
+
+
 def end(name):
     seat(name).end()
     return "done"
 
 
 def wait():
-    status = server.wait()
-    return "killed" if status < 0 else f"ended {status}"
+    try:
+        status = server.wait()
+    except ChildProcessError as it:
+        return f"not waited for: {it.strerror}"
+    if status >= 0:
+        return f"ended {status}"
+    return "killed" if status == -signal.SIGKILL else f"ended by signal {-status}"
+
+
+def ignoring(*words):
+    """Follows a command while nothing is kept of a child that ends."""
+    signal.signal(signal.SIGCHLD, signal.SIG_IGN)
+    try:
+        return answer(*words)
+    finally:
+        signal.signal(signal.SIGCHLD, signal.SIG_DFL)
+
+
+def forked(*words):
+    """Follows a command in a forked process, which leaves the pipes of the client."""
+    sys.stdout.flush()
+    pid = os.fork()
+    if pid == 0:
+        print(answer(*words), flush=True)
+        os._exit(0)
+    os.waitpid(pid, 0)
+
+
+def in_threads(*words):
+    """Follows a command in as many threads as there are seats, each with a seat."""
+    told = [None] * len(server.seats)
+
+    def follow(name):
+        told[name] = answer(words[0], str(name), *words[1:])
+
+    threads = [threading.Thread(target=follow, args=(name,)) for name in range(len(told))]
+    for thread in threads:
+        thread.start()
+    for thread in threads:
+        thread.join()
+    return ", ".join(told)
 
 
 def shell(*words):
@@ -83,19 +140,26 @@ def shell(*words):
 COMMANDS = {
     "serve": start, "grow": grow, "await": lambda name: f"settled {seat(name).settle()}", "read": read,
     "look": lambda name: "size %d settled %d" % seat(name).look(), "leave": leave, "end": end, "kill": kill, "wait": wait,
-    "sh": shell, "all": read_all, "within": within, "texts": texts,
+    "sh": shell, "all": read_all, "within": within, "texts": texts, "ignoring": ignoring, "forked": forked,
+    "threads": in_threads, "why": lambda: f"{last}; status {last.status}", "leave_in": leave_in, "close": close,
+    "serve_bytes": lambda program, type, path, seats: start(program, type, os.fsencode(path), seats),
+    "serve_path": lambda program, type, path, seats: start(program, type, pathlib.Path(path), seats),
 }
 
 
 def answer(word, *words):
+    global last
     try:
         return COMMANDS[word](*words)
     except cvec_client.Refused as it:
         return f"refused {it.code}"
-    except cvec_client.Gone:
+    except cvec_client.Gone as it:
+        last = it
         return "gone"
     except OSError as it:
         return f"no server: {it.strerror}"
+    except (KeyError, ValueError) as it:
+        return f"refused here: {str(it).split(': ')[0]}"
 
 
 def main(path):

@@ -39,6 +39,19 @@ static uint64_t number(void) {
     return word ? strtoull(word, NULL, 10) : 0;
 }
 
+/* A path, in which \xHH stands for a byte. */
+static char *path_word(void) {
+    char *word = next_word(), *to = word;
+    for (char *at = word; *at != '\0';) {
+        int is_byte = at[0] == '\\' && at[1] == 'x';
+        char two[] = {at[is_byte ? 2 : 0], at[is_byte ? 3 : 0], '\0'};
+        *to++ = is_byte ? (char)strtoul(two, NULL, 16) : *at;
+        at += is_byte ? 4 : 1;
+    }
+    *to = '\0';
+    return word;
+}
+
 static cvec_file *handle(void) { return &files[next_word()[0] - 'a']; }
 
 static cvec_type type_of(void) {
@@ -208,8 +221,23 @@ static void open_file(int is_new) {
     cvec_fault fault = {0, 0, 0};
     memset(file, guard, sizeof *file);
     if (!is_new) memset(&fault, guard, sizeof fault);
-    char *path = next_word();
+    char *path = path_word();
     tell(is_new ? cvec_create(file, path, type) : cvec_open(file, path, type, &fault), &fault);
+}
+
+/* Opens a file so many times, and closes it. */
+static void open_often(void) {
+    uint64_t times = number();
+    cvec_type type = type_of();
+    char *path = next_word();
+    cvec_fault fault = {0, 0, 0};
+    uint32_t status = CVEC_DONE;
+    for (uint64_t k = 0; k < times && status == CVEC_DONE; k++) {
+        cvec_file file;
+        status = cvec_open(&file, path, type, &fault);
+        cvec_close(&file);
+    }
+    tell(status, &fault);
 }
 
 /* What is closed may be closed again. */
@@ -243,6 +271,7 @@ static void follow(char *line) {
     else if (!strcmp(word, "put")) put();
     else if (!strcmp(word, "bytes")) tell_bytes();
     else if (!strcmp(word, "suppose")) suppose();
+    else if (!strcmp(word, "often")) open_often();
     else if (!strcmp(word, "sh")) {
         fflush(stdout);
         if (system(strtok(NULL, "")) == -1) exit(2);

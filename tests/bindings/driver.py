@@ -9,7 +9,9 @@ handles = {}
 
 
 def open_file(call, name, kind, path):
-    handles[name] = call(path, kind), kind
+    """In the path \\xHH stands for a byte: a file is made by a text of that name, and opened by its bytes."""
+    path = path.encode().decode("unicode_escape").encode("latin-1")
+    handles[name] = call(path if call is cvec.open else os.fsdecode(path), kind), kind
 
 
 def append(name, *words):

@@ -1,8 +1,10 @@
 //! Follows a table of cases by cvec.rs, as driver.c does by cvec.h: driver FILE
 use cvec::{Error, File, Flagged, Pair, Record, Stat};
 use std::collections::HashMap;
+use std::ffi::OsString;
 use std::fs;
 use std::io::Write;
+use std::os::unix::ffi::OsStringExt;
 use std::path::Path;
 use std::process::Command;
 
@@ -61,8 +63,19 @@ impl<R: Word> Handle for File<R> {
     }
 }
 
+/// A path, in which \xHH stands for a byte.
+fn path_of(word: &str) -> OsString {
+    let mut parts = word.split("\\x");
+    let mut bytes = parts.next().unwrap().as_bytes().to_vec();
+    for part in parts {
+        bytes.push(u8::from_str_radix(&part[..2], 16).unwrap());
+        bytes.extend_from_slice(&part.as_bytes()[2..]);
+    }
+    OsString::from_vec(bytes)
+}
+
 fn opened<R: Word + 'static>(is_new: bool, path: &str) -> Result<Box<dyn Handle>, Error> {
-    let path = path.replace("\\0", "\0");
+    let path = path_of(path);
     let path = Path::new(&path);
     Ok(Box::new(if is_new { File::<R>::create(path)? } else { File::<R>::open(path)? }))
 }

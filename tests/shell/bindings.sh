@@ -54,6 +54,14 @@ make_programs() {
     done
 }
 
+# The Python that has numpy, where there is one.
+make_arrays() {
+    for arrays in "$python" /usr/bin/python3; do
+        "$arrays" -c 'import numpy' 2>/dev/null && return
+    done
+    lacks 'there is no numpy for arrays for Python'
+}
+
 make_rust() {
     [ -e "$built/rust" ] && return
     rustc --edition 2024 -D warnings --crate-type rlib --crate-name cvec -o "$built/libcvec.rlib" "$top/examples/rust/cvec.rs"
@@ -100,6 +108,7 @@ follows() {
     case $caller in
     python) set -- "$@" "$python" "$bindings/driver.py" ;;
     client_python) set -- "$@" "$python" "$bindings/client.py" ;;
+    client_arrays) set -- "$@" "$arrays" "$bindings/client.py" ;;
     *) set -- "$@" "$built/$caller" ;;
     esac
     ended=0
@@ -109,7 +118,7 @@ follows() {
         export "PATH=$built:$PATH" "CVEC_LIBRARY=$built/libcvec.so"
         export "PYTHONPATH=$top/examples/python:$top/tests/fuzz" PYTHONDONTWRITEBYTECODE=1
         exec timeout 600 env "$@" "$work/table"
-    ) >"$work/answered" || ended=$?
+    ) <"$work/table" >"$work/answered" || ended=$?
     echo "$table by $caller, with $1:"
     diff "$work/table" "$work/answered" | cut -c 1-200
     cmp "$work/table" "$work/answered"
@@ -123,10 +132,12 @@ answers_are_right() {
     has_caller "$1" || exit $is_skipped
     make_caller "$1"
     follows "$1" cases.txt
+    follows "$1" names.txt
 }
 
 answers_are_right_in_c() (
     answers_are_right c
+    follows c often.txt
 )
 
 answers_are_right_in_python() (
@@ -214,6 +225,67 @@ a_table_holds_for_clients() (
     done
     follows client_c client_c.txt
     follows client_python client_python.txt
+    # Records are arrays where there is numpy, which may be that of another Python.
+    make_arrays || exit 0
+    follows client_arrays clients.txt
+    follows client_arrays client_python.txt
+)
+
+# A client's words, of which the first is `c` or `python`, at a terminal of its own.
+at_a_terminal() {
+    how=$1
+    case $2 in
+    c) client=$built/waits ;;
+    python) client="$python $bindings/waits.py" ;;
+    esac
+    shift 2
+    rm -f "$work/t.cv"
+    run create u64 "$work/t.cv"
+    PYTHONPATH=$top/examples/python PYTHONDONTWRITEBYTECODE=1 \
+        python3 "$bindings/terminal.py" "$how" $client "$built/cvec" "$work/t.cv" "$@" >"$out"
+}
+
+# The file has the records from 0 on, so many.
+has_first() {
+    seq 0 $(($1 - 1)) >"$work/wanted"
+    run list u64 "$work/t.cv"
+    cmp "$work/wanted" "$out"
+}
+
+make_terminal() {
+    make_client
+    make_programs
+    cc -std=c99 -O2 -Wall -Wextra -Werror "-I$c" -o "$built/waits" "$bindings/waits.c" "$c/cvec_client.c"
+}
+
+# Ctrl-C reaches the client alone: its growths are settled while it waits for that, or leaves.
+a_client_is_interrupted_and_told_what_is_settled() (
+    has_tables || exit $is_skipped
+    make_terminal
+    for client in c python; do
+        at_a_terminal interrupt $client
+        printf 'settled 200\nended 0\n' | cmp - "$out"
+        has_first 200
+    done
+    at_a_terminal interrupt python leaves
+    cat "$out"
+    answered=$(sed -n '1s/^answered //p' "$out")
+    [ "$(sed 1d "$out")" = 'ended 0' ]
+    run list u64 "$work/t.cv"
+    # The request that was left may have been done.
+    [ "$answered" -ge 200 ] && stands=$(wc -l <"$out") && [ $((stands - answered)) -ge 0 ] && [ $((stands - answered)) -le 1 ]
+    has_first "$stands"
+)
+
+# A client that is killed, and the terminal with it, ends its server, which has settled what was grown.
+a_client_that_is_killed_ends_its_server() (
+    has_tables || exit $is_skipped
+    make_terminal
+    for client in c python; do
+        at_a_terminal kill $client
+        printf 'ended 0\n' | cmp - "$out"
+        has_first 200
+    done
 )
 
 parts_make_a_whole_for_clients() (

@@ -78,25 +78,21 @@ the_client_in_c_is_one_for_cpp() (
     c++ -Wall -Wextra -pedantic -Werror -I"$top/examples/c" "$work/use.cc" "$work/cvec_client.o" -o "$work/use"
 )
 
-# The page's clients, as they stand there, each append a growth to a new file. Without a server that in C ends with 1.
-the_clients_that_are_shown_append() (
-    has cc 'the clients that are shown' && has python3 'the clients that are shown' || exit $is_skipped
-    shown_in use/serve.md c >"$work/shown.c"
-    shown_in use/serve.md python >"$work/shown.py"
-    cc -std=c99 -Wall -Wextra -pedantic -Werror -I"$top/examples/c" "$work/shown.c" "$top/examples/c/cvec_client.c" \
-        -o "$work/shown"
+# The program of the examples appends a growth to a new file, and without a server says so, and ends with 1. The client in
+# Python that the README shows is run by the section blocks.
+the_client_that_is_shown_appends() (
+    has cc 'the client that is shown' || exit $is_skipped
+    cc -std=c99 -Wall -Wextra -pedantic -Werror -I"$top/examples/c" "$top/examples/c/use_server.c" \
+        "$top/examples/c/cvec_client.c" -o "$work/use_server"
     ln -s "$top/cvec" "$work/cvec"
     cd "$work"
-    for client in ./shown 'python3 shown.py'; do
-        rm -f numbers.cvec
-        run create u64 numbers.cvec
-        PYTHONPATH=$top/examples/python PYTHONDONTWRITEBYTECODE=1 $client >/dev/null
-        run list u64 numbers.cvec
-        did '5\n7\n11\n'
-    done
+    run create u64 numbers.cvec
+    ./use_server ./cvec numbers.cvec
+    run list u64 numbers.cvec
+    did '5\n7\n11\n'
     rm cvec
     status=0
-    ./shown >/dev/null 2>"$err" || status=$?
+    ./use_server ./cvec numbers.cvec >/dev/null 2>"$err" || status=$?
     [ "$status" -eq 1 ]
-    [ -s "$err" ]
+    tells "each growth that it hasn't told is settled stands in the file whole, or not at all"
 )
