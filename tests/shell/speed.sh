@@ -192,7 +192,7 @@ counts() {
 
 works_in_memory_count_what_they_made() (
     counts 992 grow threads=2 block=16 n=1000
-    counts '96 96 192 192 384 384 24 1000' read block=16 n=1000 draws=100
+    counts '1000 96 96 192 192 384 384 24' read block=16 n=1000 draws=100
     counts 992 memory block=16 n=1000
     counts 400 waits threads=1 phases=20 rounds=20
 )

@@ -6,10 +6,17 @@ use crate::barrier::{Barrier, Span};
 use crate::fault::SpeedFault;
 use crate::phase::Seated;
 use crate::reading::Total;
-use book_core::{Appender, Live};
+use book_core::{Appender, GrowFault, Live};
 use std::alloc::Global;
 use std::sync::Wait;
 use std::time::{Clock, Instant};
+
+/// How many records each thread appends, by blocks of how many.
+#[derive(Clone, Copy)]
+pub struct Records {
+    pub count: u64,
+    pub block: u64,
+}
 
 /// Pushes so many records once all threads are there: that one, and each next one is greater by one. When this thread
 /// came.
@@ -40,10 +47,33 @@ fn finish<E: Wait + Clock>(
 ) -> Result<Span, SpeedFault>
     requires { IsSeatOf live.now appender.seat }
 {
-    if let Err((_, fault)) = appender.finish(rt, live) {
-        return Err(SpeedFault::Grow(fault));
-    }
+    grown(appender.finish(rt, live))?;
     Span::since(rt, came)
+}
+
+/// Why it isn't grown. What came of it is let go here, so that the caller doesn't own it.
+fn grown<T: Drop, F: Drop>(done: Result<T, (F, GrowFault)>) -> Result<(), SpeedFault> {
+    match done {
+        Ok(_) => Ok(()),
+        Err((_, fault)) => Err(SpeedFault::Grow(fault)),
+    }
+}
+
+/// Appends so many records, and grows the rest.
+fn append_by<E: Wait + Clock>(
+    rt: &E,
+    live: &Live<u64>,
+    mut appender: Appender<u64>,
+    first: u64,
+    count: u64,
+    barrier: &Barrier,
+) -> Result<Span, SpeedFault>
+    requires { IsSeatOf live.now appender.seat }
+{
+    match push_all(rt, live, &mut appender, first, count, barrier) {
+        Ok(came) => finish(rt, live, appender, came),
+        Err(fault) => Err(fault),
+    }
 }
 
 /// What one thread does: it appends so many records by blocks of so many, once all threads are there.
@@ -51,19 +81,14 @@ pub fn append_all<E: Wait + Clock>(
     rt: &E,
     alloc: Global,
     own: Seated,
-    count: u64,
-    block: u64,
+    records: Records,
     barrier: &Barrier,
 ) -> Result<Span, SpeedFault> {
     let first = first_of(own.number());
     let (live, seat) = own.into_parts();
-    let mut appender = match Appender::new(alloc, seat, block) {
-        Ok(appender) => appender,
-        Err((_, fault)) => return Err(SpeedFault::from(fault)),
-    };
-    match push_all(rt, live, &mut appender, first, count, barrier) {
-        Ok(came) => finish(rt, live, appender, came),
-        Err(fault) => Err(fault),
+    match Appender::new(alloc, seat, records.block) {
+        Ok(appender) => append_by(rt, live, appender, first, records.count, barrier),
+        Err((_, fault)) => Err(SpeedFault::from(fault)),
     }
 }
 

@@ -1,21 +1,54 @@
 //! A common start of threads, and the time that they took.
 
+use crate::clock::{now, since};
 use crate::fault::SpeedFault;
-use std::sync::Wait;
 use std::sync::atomic::{AtomicBool, AtomicU64, Ordering};
+use std::sync::{Mutex, Wait};
 use std::thread;
 use std::time::{Clock, Duration, Instant};
 
 /// For how many seconds a thread waits for the others. They come within some milliseconds.
 const PATIENCE: u64 = 60;
 
-/// Where so many threads wait until all of them are there.
+/// What the threads that are done have told.
+#[derive(Clone, Copy)]
+struct Told {
+    /// From when to when all of them took.
+    span: Option<Span>,
+    fault: Option<SpeedFault>,
+}
+
+impl Told {
+    /// This of one more.
+    fn with(self, span: Result<Span, SpeedFault>) -> Told {
+        match span {
+            Ok(span) => Told {
+                span: Some(span.joined(self.span)),
+                fault: self.fault,
+            },
+            Err(fault) => Told {
+                span: self.span,
+                fault: Some(fault),
+            },
+        }
+    }
+
+    fn time(self) -> Result<Duration, SpeedFault> {
+        match self.fault {
+            None => Ok(Span::time(self.span)),
+            Some(fault) => Err(fault),
+        }
+    }
+}
+
+/// Where so many threads wait until all of them are there, and tell when they are done.
 #[derive(Drop)]
 pub struct Barrier {
     there: AtomicU64,
     threads: u64,
     /// Whether one of them never comes.
     given_up: AtomicBool,
+    told: Mutex<Told>,
 }
 
 impl Barrier {
@@ -25,6 +58,10 @@ impl Barrier {
             there: AtomicU64::new(0),
             threads,
             given_up: AtomicBool::new(false),
+            told: Mutex::new(Told {
+                span: None,
+                fault: None,
+            }),
         }
     }
 
@@ -39,7 +76,7 @@ impl Barrier {
         if self.there.load(Ordering::SeqCst) >= self.threads {
             return Ok(true);
         }
-        if came.elapsed(rt)? > Duration::from_secs(PATIENCE) {
+        if since(rt, came)? > Duration::from_secs(PATIENCE) {
             self.give_up();
         }
         if self.given_up.load(Ordering::SeqCst) {
@@ -51,7 +88,7 @@ impl Barrier {
     /// Waits until all threads are there. It yields and asks again, so that all start at once. Answers when this
     /// thread came. Refused as `is_open`.
     pub fn pass<E: Wait + Clock>(&self, rt: &E) -> Result<Instant, SpeedFault> {
-        let came = Instant::now(rt)?;
+        let came = now(rt)?;
         self.there.fetch_add(1, Ordering::SeqCst);
         for _ in rt.forever() {
             if self.is_open(rt, came)? {
@@ -60,6 +97,24 @@ impl Barrier {
             thread::yield_now();
         }
         Ok(came)
+    }
+
+    /// One of them is done: in this time, or not at all.
+    pub fn leave<E: Wait>(&self, rt: &E, span: Result<Span, SpeedFault>) {
+        let mut told = self.told.lock(rt);
+        *told = told.with(span);
+    }
+
+    /// When the last of them came that are done.
+    pub fn came<E: Wait>(&self, rt: &E) -> Option<Instant> {
+        let told = *self.told.lock(rt);
+        told.span.map(|span| span.came)
+    }
+
+    /// The time of all that are done. Refused as one of them was.
+    pub fn time<E: Wait>(&self, rt: &E) -> Result<Duration, SpeedFault> {
+        let told = *self.told.lock(rt);
+        told.time()
     }
 }
 
@@ -75,12 +130,12 @@ impl Span {
     pub fn since<E: Clock>(rt: &E, came: Instant) -> Result<Span, SpeedFault> {
         Ok(Span {
             came,
-            done: Instant::now(rt)?,
+            done: now(rt)?,
         })
     }
 
     /// The later coming, and the later end.
-    pub fn joined(self, other: Option<Span>) -> Span {
+    fn joined(self, other: Option<Span>) -> Span {
         match other {
             None => self,
             Some(other) => Span {
@@ -92,19 +147,10 @@ impl Span {
 
     /// The time of joined spans: from the coming of the last thread, which let all pass, to the end of the last
     /// one.
-    pub fn time(joined: Option<Span>) -> Duration {
+    fn time(joined: Option<Span>) -> Duration {
         match joined {
             None => Duration::ZERO,
             Some(span) => span.done.duration_since(span.came),
         }
-    }
-
-    /// The time of all of these.
-    pub fn time_of_all(spans: Vec<Result<Span, SpeedFault>>) -> Result<Duration, SpeedFault> {
-        let mut joined = None;
-        for span in spans {
-            joined = Some(span?.joined(joined));
-        }
-        Ok(Span::time(joined))
     }
 }

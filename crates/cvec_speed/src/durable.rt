@@ -1,17 +1,16 @@
 //! Threads append blocks to a vector, while one more thread commits them to its file.
 
-use crate::barrier::{Barrier, Span};
 use crate::fault::SpeedFault;
 use crate::figure::{Detail, Figure, Waits};
 use crate::grow::GrowSizes;
 use crate::pool::Pool;
-use crate::producer::{Course, Pace, Produced};
+use crate::producer::{Course, Pace};
 use crate::reading::Total;
 use crate::served::Served;
 use crate::store::{make_disk, total_opened};
-use crate::together::{Done, Outcome, Role, run_all};
+use crate::together::{Role, Task, run_all};
 use directory_core::GROWTH_LIMIT;
-use std::alloc::{AllocError, AllocGlobal, Global};
+use std::alloc::{AllocGlobal, Global};
 use std::fs::File;
 use std::rt::Files;
 use std::sync::Wait;
@@ -65,102 +64,83 @@ impl DurableSizes<'_> {
     }
 }
 
-/// What all threads did, put together.
-#[derive(Drop)]
-struct Sums {
-    blocks: u64,
-    total: Total,
-    span: Option<Span>,
-    rounds: Vec<Duration>,
-}
-
-impl Sums {
-    fn new(alloc: Global) -> Sums {
-        Sums {
-            blocks: 0,
-            total: Total::NOTHING,
-            span: None,
-            rounds: Vec::new(alloc),
-        }
-    }
-
-    /// What one thread did too.
-    fn add(&mut self, pool: &Pool, produced: Produced) -> Result<(), AllocError> {
-        self.blocks = self.blocks.wrapping_add(produced.blocks);
-        self.total = self
-            .total
-            .joined(pool.total(produced.thread, produced.blocks));
-        self.span = Some(produced.span.joined(self.span));
-        self.rounds.extend_from_slice(produced.rounds.as_slice())?;
-        Ok(())
-    }
-
-    fn of_all(alloc: Global, pool: &Pool, done: Vec<Done>) -> Result<Sums, SpeedFault> {
-        let mut sums = Sums::new(alloc);
-        for one in done {
-            if let Some(produced) = one? {
-                sums.add(pool, produced)?;
-            }
-        }
-        Ok(sums)
-    }
-
-    /// How long it took: to the end of the last round, or, where nobody waits, of the last commit.
-    fn time(&self, mode: Mode, ended: Instant) -> Duration {
-        match (mode, self.span) {
-            (Mode::Flow, Some(span)) => ended.duration_since(span.came),
-            _ => Span::time(self.span),
-        }
-    }
-
-    /// The longest of the shortest so many hundredths of the rounds.
-    fn waits(&mut self) -> Option<Waits> {
-        self.rounds.sort_unstable();
-        Some(Waits {
-            p10: at_hundredth(self.rounds.as_slice(), 10)?,
-            p50: at_hundredth(self.rounds.as_slice(), 50)?,
-            p99: at_hundredth(self.rounds.as_slice(), 99)?,
-        })
-    }
-}
-
 /// The time behind so many hundredths of these, which ascend.
 fn at_hundredth(times: &[Duration], hundredths: usize) -> Option<Duration> {
     let at = times.len().saturating_mul(hundredths) / 100;
     times.get(at).copied()
 }
 
-/// Appends the blocks to a new file in the folder, and puts together what all threads did.
+/// The longest of the shortest so many hundredths of these rounds.
+fn waits_of(rounds: &mut Vec<Duration>) -> Option<Detail> {
+    rounds.sort_unstable();
+    let rounds = rounds.as_slice();
+    match [10, 50, 99].map(|hundredths| at_hundredth(rounds, hundredths)) {
+        [Some(p10), Some(p50), Some(p99)] => Some(Detail::Waits(Waits { p10, p50, p99 })),
+        _ => None,
+    }
+}
+
+impl Course {
+    /// What all threads have appended.
+    fn total<E: Wait>(&self, rt: &E) -> Total {
+        let mut total = Total::NOTHING;
+        let appended = self.appended.lock(rt);
+        for (thread, blocks) in appended.blocks.iter() {
+            total = total.joined(self.pool.total(*thread, *blocks));
+        }
+        total
+    }
+
+    /// How long their rounds took.
+    fn waits<E: Wait>(&self, rt: &E) -> Option<Detail> {
+        let mut appended = self.appended.lock(rt);
+        waits_of(&mut appended.rounds)
+    }
+
+    /// How long it took: to the end of the last round, or, where nobody waits, of the last commit.
+    fn time<E: Wait>(&self, rt: &E, ended: Instant) -> Result<Duration, SpeedFault> {
+        let time = self.barrier.time(rt)?;
+        match (self.pace, self.barrier.came(rt)) {
+            (Pace::Flow(_), Some(came)) => Ok(ended.duration_since(came)),
+            _ => Ok(time),
+        }
+    }
+}
+
+/// Appends the blocks to a new file in the folder. When all was durable.
 fn append<E: Threads + Wait + Clock + Eprint + Sync + Files<File = File> + AllocGlobal>(
     rt: &E,
     alloc: Global,
     sizes: DurableSizes,
     course: &Course,
-) -> Result<(Sums, Instant), SpeedFault> {
+) -> Result<Instant, SpeedFault> {
     let disk = make_disk(rt, alloc, sizes.dir)?;
     let phase = Served::begin(alloc, disk, sizes.room(), sizes.grow.threads)?;
-    let Outcome { done, ended } = run_all(rt, alloc, phase, Role::Produce(course))?;
-    let (done, ended) = (done?, ended?);
-    let sums = Sums::of_all(alloc, &course.pool, done)?;
-    Ok((sums, ended))
+    let outcome = run_all(rt, alloc, phase, Role::Keep(Task::Produce(course)));
+    match outcome.run {
+        Ok(()) => outcome.ended,
+        Err(fault) => Err(fault),
+    }
 }
 
-/// The figure of all that the threads did.
-fn figure_of(sizes: DurableSizes, sums: &mut Sums, ended: Instant) -> Figure {
-    let time = sums.time(sizes.mode, ended);
-    let figure = Figure::new(
-        sizes.name(),
-        sizes.grow.threads as u64,
-        sums.total.count,
-        time,
-    );
-    match sums.waits() {
-        Some(waits) => Figure {
-            detail: Some(Detail::Waits(waits)),
-            ..figure
-        },
-        None => figure,
+/// The same, and compares what the file then has.
+fn append_and_tell<E: Threads + Wait + Clock + Eprint + Sync + Files<File = File> + AllocGlobal>(
+    rt: &E,
+    alloc: Global,
+    sizes: DurableSizes,
+    course: &Course,
+    figures: &mut Vec<Figure>,
+) -> Result<(), SpeedFault> {
+    let ended = append(rt, alloc, sizes, course)?;
+    let time = course.time(rt, ended)?;
+    let total = course.total(rt);
+    let (opened, _) = total_opened(rt, alloc, sizes.dir)?;
+    opened.check(total)?;
+    Figure {
+        detail: course.waits(rt),
+        ..Figure::new(sizes.name(), sizes.grow.threads as u64, total.count, time)
     }
+    .put(figures)
 }
 
 /// Threads append blocks, and one more commits them by groups of all that is there. Then the file is opened, and its
@@ -169,14 +149,9 @@ pub fn durable<E: Threads + Wait + Clock + Eprint + Sync + Files<File = File> + 
     rt: &E,
     alloc: Global,
     sizes: DurableSizes,
-) -> Result<Vec<Figure>, SpeedFault> {
-    let course = Course {
-        pool: Pool::new(alloc, sizes.grow.block)?,
-        barrier: Barrier::new(sizes.grow.threads as u64),
-        pace: sizes.pace(),
-    };
-    let (mut sums, ended) = append(rt, alloc, sizes, &course)?;
-    let (total, _) = total_opened(rt, alloc, sizes.dir)?;
-    total.check(sums.total)?;
-    figure_of(sizes, &mut sums, ended).alone(alloc)
+    figures: &mut Vec<Figure>,
+) -> Result<(), SpeedFault> {
+    let pool = Pool::new(alloc, sizes.grow.block)?;
+    let course = Course::new(alloc, pool, sizes.grow.threads as u64, sizes.pace());
+    append_and_tell(rt, alloc, sizes, &course, figures)
 }

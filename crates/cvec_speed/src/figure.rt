@@ -1,7 +1,6 @@
 //! A figure, as one flat line of JSON.
 
 use crate::fault::SpeedFault;
-use std::alloc::Global;
 use std::fmt;
 use std::time::Duration;
 
@@ -54,12 +53,10 @@ impl Figure {
         }
     }
 
-    /// The only figure of its work.
-    pub fn alone(self, alloc: Global) -> Result<Vec<Figure>, SpeedFault> {
-        match Vec::from_array(alloc, [self]) {
-            Ok(figures) => Ok(figures),
-            Err(_) => Err(SpeedFault::Memory),
-        }
+    /// Puts it behind these.
+    pub fn put(self, figures: &mut Vec<Figure>) -> Result<(), SpeedFault> {
+        figures.push(self)?;
+        Ok(())
     }
 }
 
@@ -87,25 +84,28 @@ impl fmt::Display for Micros {
     }
 }
 
-impl fmt::Display for Waits {
-    fn fmt<W: fmt::Write>(&self, f: &mut fmt::Formatter<W>) -> fmt::Result {
-        let p10 = Micros(self.p10);
-        let p50 = Micros(self.p50);
-        let p99 = Micros(self.p99);
-        write!(f, ",\"p10_us\":{p10},\"p50_us\":{p50},\"p99_us\":{p99}")
-    }
-}
+/// What stands behind the seconds.
+#[derive(Clone, Copy)]
+struct Tail(Option<Detail>);
 
-impl fmt::Display for Detail {
+impl fmt::Display for Tail {
     fn fmt<W: fmt::Write>(&self, f: &mut fmt::Formatter<W>) -> fmt::Result {
-        match *self {
-            Detail::Memory(memory) => {
+        match self.0 {
+            None => Ok(()),
+            Some(Detail::Memory(memory)) => {
                 let at_end = TenThousandths(memory.at_end);
                 let highest = TenThousandths(memory.highest);
-                write!(f, ",\"bytes_per_record\":{at_end}")?;
-                write!(f, ",\"peak_bytes_per_record\":{highest}")
+                write!(
+                    f,
+                    ",\"bytes_per_record\":{at_end},\"peak_bytes_per_record\":{highest}"
+                )
             }
-            Detail::Waits(waits) => write!(f, "{waits}"),
+            Some(Detail::Waits(waits)) => {
+                let p10 = Micros(waits.p10);
+                let p50 = Micros(waits.p50);
+                let p99 = Micros(waits.p99);
+                write!(f, ",\"p10_us\":{p10},\"p50_us\":{p50},\"p99_us\":{p99}")
+            }
         }
     }
 }
@@ -117,11 +117,10 @@ impl fmt::Display for Figure {
         let n = self.n;
         let seconds = self.time.as_secs();
         let nanos = self.time.subsec_nanos();
-        write!(f, "{{\"work\":\"{work}\",\"threads\":{threads},\"n\":{n}")?;
-        write!(f, ",\"seconds\":{seconds}.{nanos:09}")?;
-        if let Some(detail) = self.detail {
-            write!(f, "{detail}")?;
-        }
-        write!(f, "}}")
+        let tail = Tail(self.detail);
+        write!(
+            f,
+            "{{\"work\":\"{work}\",\"threads\":{threads},\"n\":{n},\"seconds\":{seconds}.{nanos:09}{tail}}}"
+        )
     }
 }

@@ -3,9 +3,11 @@
 #![tactic(auto)]
 
 mod again;
+mod alone;
 mod append;
 mod barrier;
 mod beside;
+mod clock;
 mod commit;
 mod durable;
 mod fault;
@@ -21,25 +23,26 @@ mod read;
 mod reading;
 mod served;
 mod store;
-mod stress;
 mod together;
 mod waiter;
 mod waits;
 mod watch;
 mod words;
 
-use crate::again::again;
+use crate::again::GROWTHS;
+use crate::alone::{Alone, play_alone};
 use crate::beside::beside;
 use crate::durable::durable;
 use crate::fault::SpeedFault;
 use crate::figure::Figure;
 use crate::grow::{append, grow};
-use crate::memory::memory;
-use crate::read::read;
+use crate::memory::MemorySizes;
+use crate::mix::mixed;
+use crate::read::ReadSizes;
 use crate::store::{build, open};
-use crate::stress::stress;
-use crate::waits::waits;
+use crate::waits::{Phases, waits};
 use crate::words::{WordsFault, Work, read_words};
+use std::alloc::Global;
 use std::fs::File;
 use std::process::ExitCode;
 use std::rt::Files;
@@ -64,37 +67,73 @@ again                                        each growth call is made, once more
 
 fn main(rt: HostRuntime) -> io::Result<ExitCode> {
     let words: Vec<String> = env::args(&rt)?.skip(1).collect(rt.alloc())?;
-    let status = match read_words(words.as_slice()) {
-        Ok(work) => measure(&rt, work)?,
-        Err(WordsFault::NoWork) => {
-            rt.print(USAGE)?;
-            3
-        }
-        Err(WordsFault::NoSize) => {
-            rt.eprint(USAGE)?;
-            2
-        }
-    };
-    Ok(ExitCode::from(status))
+    Ok(ExitCode::from(status_of(&rt, words.as_slice())?))
+}
+
+/// Does the work that these words name. The exit status.
+fn status_of<E: Threads + Wait + Clock + Files<File = File> + AllocGlobal + Print + Eprint + Sync>(
+    rt: &E,
+    words: &[String],
+) -> io::Result<u8> {
+    match read_words(words) {
+        Ok(work) => measure(rt, work),
+        Err(WordsFault::NoWork) => status_behind(rt.print(USAGE), 3),
+        Err(WordsFault::NoSize) => status_behind(rt.eprint(USAGE), 2),
+    }
+}
+
+/// That status, where it was written why.
+fn status_behind(written: io::Result<()>, status: u8) -> io::Result<u8> {
+    written?;
+    Ok(status)
+}
+
+/// Reads a vector in each way.
+fn read_alone<E: Threads + Wait + Clock + Files + AllocGlobal + Print + Sync>(
+    rt: &E,
+    alloc: Global,
+    sizes: ReadSizes,
+    figures: &mut Vec<Figure>,
+) -> Result<(), SpeedFault> {
+    let sizes = sizes.in_rows();
+    let room = sizes.n.div_ceil(sizes.block as u64);
+    play_alone(rt, alloc, room, Alone::Read(sizes), figures)
+}
+
+/// Fills a vector by copies of one block, and asks what memory they take.
+fn fill_alone<E: Threads + Wait + Clock + Files + AllocGlobal + Print + Sync>(
+    rt: &E,
+    alloc: Global,
+    sizes: MemorySizes,
+    figures: &mut Vec<Figure>,
+) -> Result<(), SpeedFault> {
+    let growths = sizes.n / sizes.block as u64;
+    let block = mixed(alloc, 0, sizes.block as usize)?;
+    play_alone(
+        rt,
+        alloc,
+        growths,
+        Alone::Fill(block.as_slice(), growths),
+        figures,
+    )
 }
 
 /// Does the work.
-fn figures_of<E: Threads + Wait + Clock + Files<File = File> + AllocGlobal + Print + Eprint + Sync>(
-    rt: &E,
-    work: Work,
-) -> Result<Vec<Figure>, SpeedFault> {
+fn take_figures<
+    E: Threads + Wait + Clock + Files<File = File> + AllocGlobal + Print + Eprint + Sync,
+>(rt: &E, work: Work, figures: &mut Vec<Figure>) -> Result<(), SpeedFault> {
+    let alloc = rt.alloc();
     match work {
-        Work::Grow(sizes) => grow(rt, rt.alloc(), sizes),
-        Work::Append(sizes) => append(rt, rt.alloc(), sizes),
-        Work::Beside(sizes) => beside(rt, rt.alloc(), sizes),
-        Work::Read(sizes) => read(rt, rt.alloc(), sizes),
-        Work::Memory(sizes) => memory(rt, rt.alloc(), sizes),
-        Work::Build(sizes) => build(rt, rt.alloc(), sizes),
-        Work::Open(sizes, work) => open(rt, rt.alloc(), sizes, work),
-        Work::Durable(sizes) => durable(rt, rt.alloc(), sizes),
-        Work::Waits(sizes) => waits(rt, rt.alloc(), sizes),
-        Work::Stress(sizes) => stress(rt, rt.alloc(), sizes),
-        Work::Again => again(rt, rt.alloc()),
+        Work::Grow(sizes) => grow(rt, alloc, sizes, figures),
+        Work::Append(sizes) => append(rt, alloc, sizes, figures),
+        Work::Beside(sizes) => beside(rt, alloc, sizes, figures),
+        Work::Read(sizes) => read_alone(rt, alloc, sizes, figures),
+        Work::Memory(sizes) => fill_alone(rt, alloc, sizes, figures),
+        Work::Build(sizes) => build(rt, alloc, sizes),
+        Work::Open(sizes, work) => open(rt, alloc, sizes, work, figures),
+        Work::Durable(sizes) => durable(rt, alloc, sizes, figures),
+        Work::Waits(sizes, phases) => waits(rt, alloc, sizes, phases, figures),
+        Work::Again => play_alone(rt, alloc, GROWTHS, Alone::Again, figures),
     }
 }
 
@@ -111,16 +150,11 @@ fn measure<E: Threads + Wait + Clock + Files<File = File> + AllocGlobal + Print 
     rt: &E,
     work: Work,
 ) -> io::Result<u8> {
-    match figures_of(rt, work) {
-        Ok(figures) => {
-            tell(rt, figures.as_slice())?;
-            Ok(0)
-        }
+    let mut figures = Vec::new(rt.alloc());
+    match take_figures(rt, work, &mut figures) {
+        Ok(()) => status_behind(tell(rt, figures.as_slice()), 0),
         // A phase can't do it, so this program has no such work.
         Err(SpeedFault::Room) => Ok(3),
-        Err(fault) => {
-            eprintln!(rt; "cvec_speed: {fault}")?;
-            Ok(1)
-        }
+        Err(fault) => status_behind(eprintln!(rt; "cvec_speed: {fault}"), 1),
     }
 }

@@ -1,13 +1,11 @@
 //! How much memory the records of a vector take.
 
 ghost use Rattle.std.specs.Prelude.{◌<◌};
-ghost use Rattle.book_core.specs.Beginning.{AreNewSeats};
 
+use crate::clock::{now, since};
 use crate::fault::SpeedFault;
 use crate::figure::{Detail, Figure, MemoryUse};
-use crate::mix::mixed;
-use crate::phase::{Seated, begin, seat_one};
-use book_core::{Live, Seat};
+use crate::phase::Seated;
 use std::alloc::{AllocGlobal, Global};
 use std::fs;
 use std::rt::Files;
@@ -63,66 +61,58 @@ fn per_record(kib: u64, records: u64) -> u64 {
         .unwrap_or(0)
 }
 
-/// Fills the vector by so many copies of the block. What the memory is then, and how long that took since its begin.
-fn fill_timed<E: Wait + Clock + Files + AllocGlobal>(
+/// What filling a vector came to.
+#[derive(Clone, Copy)]
+struct Filled {
+    records: u64,
+    before: Resident,
+    after: Resident,
+    time: Duration,
+}
+
+impl Filled {
+    fn figure(self) -> Figure {
+        let before = self.before.own;
+        let memory = MemoryUse {
+            at_end: per_record(self.after.own.saturating_sub(before), self.records),
+            highest: per_record(self.after.highest_own.saturating_sub(before), self.records),
+        };
+        Figure {
+            detail: Some(Detail::Memory(memory)),
+            ..Figure::new("memory", 1, self.records, self.time)
+        }
+    }
+}
+
+/// Fills the vector by so many copies of the block. The process's memory is asked before it and after it.
+fn fill<E: Wait + Clock + Files + AllocGlobal>(
     rt: &E,
     alloc: Global,
     own: &mut Seated,
     block: &[u64],
     growths: u64,
-    start: Instant,
-) -> Result<(Resident, Duration), SpeedFault> {
-    own.put_copies(rt, alloc, block, growths)?;
-    let time = start.elapsed(rt)?;
-    Ok((Resident::now(rt)?, time))
-}
-
-/// As `fill_timed`, by one of the seats, and how many records the vector then has.
-fn fill_by<E: Wait + Clock + Files + AllocGlobal>(
-    rt: &E,
-    alloc: Global,
-    live: &Live<u64>,
-    seats: Vec<Seat<u64>>,
-    block: &[u64],
-    growths: u64,
-    start: Instant,
-) -> Result<(u64, Resident, Duration), SpeedFault>
-    requires { AreNewSeats live.now.directory live.now.mark seats.items }
-{
-    let mut own = seat_one(live, seats)?;
-    let (memory, time) = fill_timed(rt, alloc, &mut own, block, growths, start)?;
-    Ok((own.size(), memory, time))
-}
-
-/// Fills a new vector.
-fn fill<E: Wait + Clock + Files + AllocGlobal>(
-    rt: &E,
-    alloc: Global,
-    block: &[u64],
-    growths: u64,
-) -> Result<(u64, Resident, Duration), SpeedFault> {
-    let start = Instant::now(rt)?;
-    let (live, seats) = begin(alloc, growths, 1)?;
-    fill_by(rt, alloc, &live, seats, block, growths, start)
-}
-
-/// One thread fills a vector by copies of one block. The process's memory is asked before it and after it.
-pub fn memory<E: Wait + Clock + Files + AllocGlobal>(
-    rt: &E,
-    alloc: Global,
-    sizes: MemorySizes,
-) -> Result<Vec<Figure>, SpeedFault> {
-    let block = mixed(alloc, 0, sizes.block as usize)?;
+) -> Result<Filled, SpeedFault> {
     let before = Resident::now(rt)?;
-    let growths = sizes.n / sizes.block as u64;
-    let (n, after, time) = fill(rt, alloc, block.as_slice(), growths)?;
-    let memory = MemoryUse {
-        at_end: per_record(after.own.saturating_sub(before.own), n),
-        highest: per_record(after.highest_own.saturating_sub(before.own), n),
-    };
-    Figure {
-        detail: Some(Detail::Memory(memory)),
-        ..Figure::new("memory", 1, n, time)
-    }
-    .alone(alloc)
+    let start = now(rt)?;
+    own.put_copies(rt, alloc, block, growths)?;
+    let time = since(rt, start)?;
+    Ok(Filled {
+        records: own.size(),
+        before,
+        after: Resident::now(rt)?,
+        time,
+    })
+}
+
+/// Fills the vector, and tells the memory that it then takes.
+pub fn fill_and_tell<E: Wait + Clock + Files + AllocGlobal>(
+    rt: &E,
+    alloc: Global,
+    own: &mut Seated,
+    block: &[u64],
+    growths: u64,
+    figures: &mut Vec<Figure>,
+) -> Result<(), SpeedFault> {
+    let filled = fill(rt, alloc, own, block, growths)?;
+    filled.figure().put(figures)
 }

@@ -7,7 +7,7 @@ ghost use Rattle.book_core.specs.Beginning.{AreNewSeats};
 use crate::fault::SpeedFault;
 use crate::reading::Total;
 use block_core::Fresh;
-use book_core::{Begun, Live, Seat, Snapshot};
+use book_core::{Begun, GrowFault, Live, Receipt, Seat, Snapshot};
 use directory_core::GROWTH_LIMIT;
 use std::alloc::{AllocError, Global};
 use std::sync::Wait;
@@ -111,6 +111,23 @@ impl<'a> Seated<'a> {
         match self.live.push_back(rt, &mut self.seat, record) {
             Ok(_) => Ok(()),
             Err(fault) => Err(SpeedFault::Grow(fault)),
+        }
+    }
+
+    /// Makes the growth of that number, by each call in its turn.
+    pub fn grow_in_turn<E: Wait>(
+        &mut self,
+        rt: &E,
+        number: u64,
+    ) -> Result<Option<Receipt>, GrowFault> {
+        match number % 3 {
+            0 => Ok(Some(self.live.grow_by(rt, &mut self.seat, 3, number)?)),
+            1 => {
+                let least = number.saturating_mul(2).saturating_add(3);
+                self.live
+                    .grow_to_at_least(rt, &mut self.seat, least, number)
+            }
+            _ => Ok(Some(self.live.push_back(rt, &mut self.seat, number)?)),
         }
     }
 

@@ -1,11 +1,12 @@
 //! A thread that appends blocks, and waits until they are durable.
 
 use crate::barrier::{Barrier, Span};
+use crate::clock::now;
 use crate::fault::SpeedFault;
 use crate::phase::Seated;
 use crate::pool::Pool;
-use std::alloc::{AllocError, Global};
-use std::sync::Wait;
+use std::alloc::Global;
+use std::sync::{Mutex, Wait};
 use std::time::{Clock, Duration, Instant};
 
 /// How a thread goes on.
@@ -17,64 +18,106 @@ pub enum Pace {
     Flow(u64),
 }
 
+/// What the threads that are done have appended.
+#[derive(Drop)]
+pub struct Appended {
+    /// How many blocks each of them did, and its number.
+    pub blocks: Vec<(u64, u64)>,
+    /// How long each of their rounds took.
+    pub rounds: Vec<Duration>,
+}
+
 /// What all threads share beside the vector.
 #[derive(Drop)]
 pub struct Course {
     pub pool: Pool,
     pub barrier: Barrier,
     pub pace: Pace,
+    pub appended: Mutex<Appended>,
 }
 
-/// One thread, with its seat. Its blocks are those of the pool for its number.
+impl Course {
+    pub fn new(alloc: Global, pool: Pool, threads: u64, pace: Pace) -> Course {
+        Course {
+            pool,
+            barrier: Barrier::new(threads),
+            pace,
+            appended: Mutex::new(Appended {
+                blocks: Vec::new(alloc),
+                rounds: Vec::new(alloc),
+            }),
+        }
+    }
+}
+
+impl Appended {
+    /// What one more thread did.
+    fn add(&mut self, producer: &Producer) -> Result<(), SpeedFault> {
+        self.blocks.push((producer.thread, producer.blocks))?;
+        self.rounds.extend_from_slice(producer.rounds.as_slice())?;
+        Ok(())
+    }
+}
+
+/// What one thread has done. Its blocks are those of the pool for its number.
 #[derive(Drop)]
-struct Producer<'a> {
-    own: Seated<'a>,
-    pool: &'a Pool,
+struct Producer {
+    thread: u64,
     /// How many blocks it has appended.
     blocks: u64,
     /// How long each of its rounds took.
     rounds: Vec<Duration>,
 }
 
-/// How many blocks the thread of that number appended, when, and how long each of its rounds took.
-#[derive(Drop)]
-pub struct Produced {
-    pub thread: u64,
-    pub blocks: u64,
-    pub span: Span,
-    pub rounds: Vec<Duration>,
-}
-
-impl Producer<'_> {
+impl Producer {
     /// Appends the next block. Its number in the vector.
-    fn put<E: Wait>(&mut self, rt: &E, alloc: Global) -> Result<u64, SpeedFault> {
-        let block = self.pool.block(self.own.number() as u64, self.blocks);
+    fn put<E: Wait>(
+        &mut self,
+        rt: &E,
+        alloc: Global,
+        own: &mut Seated,
+        pool: &Pool,
+    ) -> Result<u64, SpeedFault> {
+        let block = pool.block(self.thread, self.blocks);
         self.blocks = self.blocks.wrapping_add(1);
-        self.own.put(rt, alloc, block)
+        own.put(rt, alloc, block)
     }
 
     /// Appends the next so many blocks. The number of the last one in the vector.
-    fn put_all<E: Wait>(&mut self, rt: &E, alloc: Global, blocks: u64) -> Result<u64, SpeedFault> {
+    fn put_all<E: Wait>(
+        &mut self,
+        rt: &E,
+        alloc: Global,
+        own: &mut Seated,
+        pool: &Pool,
+        blocks: u64,
+    ) -> Result<u64, SpeedFault> {
         let mut last = 0;
         for _ in 0..blocks {
-            last = self.put(rt, alloc)?;
+            last = self.put(rt, alloc, own, pool)?;
         }
         Ok(last)
     }
 
-    /// Appends so many blocks, and waits until they are durable.
-    fn put_and_wait<E: Wait>(
+    /// Appends so many blocks, waits until they are durable, and notes how long that took since then. When they were.
+    fn put_and_wait<E: Wait + Clock>(
         &mut self,
         rt: &E,
         alloc: Global,
+        own: &mut Seated,
+        pool: &Pool,
         blocks: u64,
-    ) -> Result<(), SpeedFault> {
-        let number = self.put_all(rt, alloc, blocks)?;
-        self.own.wait_for(rt, number)
+        last: Instant,
+    ) -> Result<Instant, SpeedFault> {
+        let number = self.put_all(rt, alloc, own, pool, blocks)?;
+        own.wait_for(rt, number)?;
+        let durable = now(rt)?;
+        self.note(durable.duration_since(last))?;
+        Ok(durable)
     }
 
     /// Notes how long a round took.
-    fn note(&mut self, took: Duration) -> Result<(), AllocError> {
+    fn note(&mut self, took: Duration) -> Result<(), SpeedFault> {
         self.rounds.push(took)?;
         Ok(())
     }
@@ -84,17 +127,16 @@ impl Producer<'_> {
         &mut self,
         rt: &E,
         alloc: Global,
+        own: &mut Seated,
+        pool: &Pool,
         batch: u64,
         most: Duration,
     ) -> Result<(), SpeedFault> {
-        let start = Instant::now(rt)?;
+        let start = now(rt)?;
         let mut last = start;
         for _ in rt.forever() {
-            self.put_and_wait(rt, alloc, batch)?;
-            let now = Instant::now(rt)?;
-            self.note(now.duration_since(last))?;
-            last = now;
-            if now.duration_since(start) >= most {
+            last = self.put_and_wait(rt, alloc, own, pool, batch, last)?;
+            if last.duration_since(start) >= most {
                 break;
             }
         }
@@ -106,11 +148,13 @@ impl Producer<'_> {
         &mut self,
         rt: &E,
         alloc: Global,
-        pace: Pace,
+        own: &mut Seated,
+        course: &Course,
     ) -> Result<(), SpeedFault> {
-        match pace {
-            Pace::Rounds(batch, most) => self.put_in_rounds(rt, alloc, batch, most),
-            Pace::Flow(blocks) => match self.put_all(rt, alloc, blocks) {
+        let pool = &course.pool;
+        match course.pace {
+            Pace::Rounds(batch, most) => self.put_in_rounds(rt, alloc, own, pool, batch, most),
+            Pace::Flow(blocks) => match self.put_all(rt, alloc, own, pool, blocks) {
                 Ok(_) => Ok(()),
                 Err(fault) => Err(fault),
             },
@@ -122,45 +166,31 @@ impl Producer<'_> {
         &mut self,
         rt: &E,
         alloc: Global,
+        own: &mut Seated,
         course: &Course,
     ) -> Result<Span, SpeedFault> {
         let came = course.barrier.pass(rt)?;
-        self.produce(rt, alloc, course.pace)?;
-        Span::since(rt, came)
-    }
-
-    /// What it did in that span.
-    fn produced(self, span: Span) -> Produced {
-        let Producer {
-            own,
-            blocks,
-            rounds,
-            ..
-        } = self;
-        Produced {
-            thread: own.number() as u64,
-            blocks,
-            span,
-            rounds,
-        }
+        self.produce(rt, alloc, own, course)?;
+        let span = Span::since(rt, came)?;
+        course.keep(rt, self)?;
+        Ok(span)
     }
 }
 
-/// What one thread does: it appends its blocks once all threads are there. What it did.
-pub fn produce<E: Wait + Clock>(
-    rt: &E,
-    alloc: Global,
-    own: Seated,
-    course: &Course,
-) -> Result<Produced, SpeedFault> {
-    let mut producer = Producer {
-        own,
-        pool: &course.pool,
-        blocks: 0,
-        rounds: Vec::new(alloc),
-    };
-    match producer.run(rt, alloc, course) {
-        Ok(span) => Ok(producer.produced(span)),
-        Err(fault) => Err(fault),
+impl Course {
+    /// Keeps what a thread did.
+    fn keep<E: Wait>(&self, rt: &E, producer: &Producer) -> Result<(), SpeedFault> {
+        let mut appended = self.appended.lock(rt);
+        appended.add(producer)
+    }
+
+    /// What one thread does: it appends its blocks once all threads are there, and tells what it did.
+    pub fn play<E: Wait + Clock>(&self, rt: &E, alloc: Global, own: &mut Seated) {
+        let mut producer = Producer {
+            thread: own.number() as u64,
+            blocks: 0,
+            rounds: Vec::new(alloc),
+        };
+        self.barrier.leave(rt, producer.run(rt, alloc, own, self));
     }
 }

@@ -1,23 +1,20 @@
 //! Reading a vector in order, and at places without a pattern.
 
 ghost use Rattle.std.specs.Prelude.{◌<◌};
-ghost use Rattle.book_core.specs.Beginning.{AreNewSeats};
 
 use crate::barrier::{Barrier, Span};
+use crate::clock::{now, since};
 use crate::fault::SpeedFault;
 use crate::figure::Figure;
 use crate::mix::{below, mix, mixed, sum_of_mixed};
-use crate::phase::{Seated, begin, seat_one};
+use crate::phase::Seated;
 use crate::reading::Total;
-use book_core::{Live, Seat, Snapshot};
+use book_core::Snapshot;
 use std::alloc::Global;
 use std::sync::Wait;
 use std::thread;
 use std::thread::Threads;
 use std::time::{Clock, Instant};
-
-/// With how many threads it is read at places without a pattern.
-const THREADS: [usize; 3] = [1, 2, 4];
 
 /// How many places are looked for at once.
 const MANY: usize = 32;
@@ -38,6 +35,16 @@ impl Asking {
     }
 }
 
+/// By how many threads it is read at places without a pattern, and how.
+const READINGS: [(usize, Asking); 6] = [
+    (1, Asking::OneByOne),
+    (1, Asking::ManyAtOnce),
+    (2, Asking::OneByOne),
+    (2, Asking::ManyAtOnce),
+    (4, Asking::OneByOne),
+    (4, Asking::ManyAtOnce),
+];
+
 /// Of how many records each growth is, how many records there are, and how many each thread reads.
 #[derive(Clone, Copy)]
 pub struct ReadSizes {
@@ -45,6 +52,17 @@ pub struct ReadSizes {
     pub n: u64,
     pub draws: u64,
     ghost some: { 0 < block },
+}
+
+impl ReadSizes {
+    /// The same, with whole rows of places, so that each way of asking reads as many.
+    pub fn in_rows(self) -> ReadSizes {
+        ReadSizes {
+            block: self.block,
+            n: self.n,
+            draws: self.draws / MANY as u64 * MANY as u64,
+        }
+    }
 }
 
 /// Grows up to so many records. The record at a place is `mix` of it.
@@ -150,7 +168,7 @@ fn sum_as(asking: Asking, snapshot: &Snapshot<'_, u64>, first: u64, sizes: ReadS
 }
 
 /// One thread reads at random once all threads are there, and compares the sum.
-fn read_as<E: Wait + Clock>(
+fn read_once<E: Wait + Clock>(
     rt: &E,
     snapshot: &Snapshot<'_, u64>,
     barrier: &Barrier,
@@ -168,6 +186,20 @@ fn read_as<E: Wait + Clock>(
     Ok(span)
 }
 
+/// The same, and tells the barrier. Whether it went well.
+fn read_as<E: Wait + Clock>(
+    rt: &E,
+    snapshot: &Snapshot<'_, u64>,
+    barrier: &Barrier,
+    id: u64,
+    sizes: ReadSizes,
+    asking: Asking,
+) -> bool {
+    let span = read_once(rt, snapshot, barrier, id, sizes, asking);
+    barrier.leave(rt, span);
+    span.is_ok()
+}
+
 /// So many threads read one snapshot at random.
 fn read_at_random<E: Threads + Wait + Clock + Sync>(
     rt: &E,
@@ -178,22 +210,21 @@ fn read_at_random<E: Threads + Wait + Clock + Sync>(
     asking: Asking,
 ) -> Result<Figure, SpeedFault> {
     let barrier = Barrier::new(threads as u64);
-    let spans = thread::map_indices(
+    thread::map_indices(
         rt,
         alloc,
         threads,
         &|id| { read_as(rt, snapshot, &barrier, id as u64, sizes, asking) },
     )?;
     let n = sizes.draws.saturating_mul(threads as u64);
-    let time = Span::time_of_all(spans)?;
-    Ok(Figure::new(asking.name(), threads as u64, n, time))
+    Ok(Figure::new(asking.name(), threads as u64, n, barrier.time(rt)?))
 }
 
 /// Reads all records in order, and compares their sum.
 fn read_in_order<E: Clock>(rt: &E, own: &mut Seated, n: u64) -> Result<Figure, SpeedFault> {
-    let start = Instant::now(rt)?;
+    let start = now(rt)?;
     let total = own.total();
-    let time = start.elapsed(rt)?;
+    let time = since(rt, start)?;
     total.check(Total {
         count: n,
         sum: sum_of_mixed(n),
@@ -208,88 +239,41 @@ fn read_in_a_row<E: Clock>(
     snapshot: &Snapshot<'_, u64>,
     sizes: ReadSizes,
 ) -> Result<Figure, SpeedFault> {
-    let start = Instant::now(rt)?;
+    let start = now(rt)?;
     let last = last_of_row(snapshot, sizes);
-    let time = start.elapsed(rt)?;
+    let time = since(rt, start)?;
     if last != wanted_last(sizes) {
         return Err(SpeedFault::Content);
     }
     Ok(Figure::new("read.random-dependent", 1, sizes.draws / 4, time))
 }
 
-/// Reads at random by 1, 2 and 4 threads, one by one and many at once.
-fn read_by_threads<E: Threads + Wait + Clock + Sync>(
-    rt: &E,
-    alloc: Global,
-    snapshot: &Snapshot<'_, u64>,
-    sizes: ReadSizes,
-) -> Result<Vec<Figure>, SpeedFault> {
-    let mut figures = Vec::new(alloc);
-    for threads in THREADS {
-        for asking in [Asking::OneByOne, Asking::ManyAtOnce] {
-            figures.push(read_at_random(rt, alloc, snapshot, threads, sizes, asking)?)?;
-        }
-    }
-    Ok(figures)
-}
-
-/// Reads from a snapshot, at random and in a row.
+/// Reads from a snapshot, at random by 1, 2 and 4 threads, one by one and many at once, and in a row.
 fn read_snapshot<E: Threads + Wait + Clock + Sync>(
     rt: &E,
     alloc: Global,
     snapshot: &Snapshot<'_, u64>,
     sizes: ReadSizes,
-) -> Result<Vec<Figure>, SpeedFault> {
-    let mut figures = read_by_threads(rt, alloc, snapshot, sizes)?;
-    figures.push(read_in_a_row(rt, snapshot, sizes)?)?;
-    Ok(figures)
+    figures: &mut Vec<Figure>,
+) -> Result<(), SpeedFault> {
+    for (threads, asking) in READINGS {
+        read_at_random(rt, alloc, snapshot, threads, sizes, asking)?.put(figures)?;
+    }
+    read_in_a_row(rt, snapshot, sizes)?.put(figures)
 }
 
-/// Reads in order, then, from a snapshot, at random and in a row.
-fn read_all<E: Threads + Wait + Clock + Sync>(
+/// Fills the vector, and reads it in order, then, from a snapshot, by 1, 2 and 4 threads at places without a pattern, one by
+/// one and 32 at once, and in a row of a quarter as many reads, of which each is at a place that the one before it gives. Making
+/// the snapshot isn't timed.
+pub fn fill_and_read<E: Threads + Wait + Clock + Sync>(
     rt: &E,
     alloc: Global,
     own: &mut Seated,
     sizes: ReadSizes,
-) -> Result<Vec<Figure>, SpeedFault> {
-    let in_order = read_in_order(rt, own, sizes.n)?;
+    figures: &mut Vec<Figure>,
+) -> Result<(), SpeedFault> {
+    fill(rt, alloc, own, sizes.block as u64, sizes.n)?;
+    read_in_order(rt, own, sizes.n)?.put(figures)?;
     let snapshot = own.snapshot()?;
-    let mut figures = read_snapshot(rt, alloc, &snapshot, sizes)?;
-    figures.push(in_order)?;
-    Ok(figures)
-}
-
-/// Fills the vector, and reads it in each way.
-fn read_by<E: Threads + Wait + Clock + Sync>(
-    rt: &E,
-    alloc: Global,
-    live: &Live<u64>,
-    seats: Vec<Seat<u64>>,
-    sizes: ReadSizes,
-) -> Result<Vec<Figure>, SpeedFault>
-    requires { AreNewSeats live.now.directory live.now.mark seats.items }
-{
-    let mut own = seat_one(live, seats)?;
-    fill(rt, alloc, &mut own, sizes.block as u64, sizes.n)?;
-    read_all(rt, alloc, &mut own, sizes)
-}
-
-/// Fills a vector, and reads it in order, then, from a snapshot, by 1, 2 and 4 threads at places without a pattern, one by
-/// one and 32 at once, and in a row of a quarter as many reads, of which each is at a place that the one before it gives. Making the
-/// snapshot isn't timed.
-pub fn read<E: Threads + Wait + Clock + Sync>(
-    rt: &E,
-    alloc: Global,
-    sizes: ReadSizes,
-) -> Result<Vec<Figure>, SpeedFault> {
-    // Whole rows of places, so that each way of asking reads as many.
-    let draws = sizes.draws / MANY as u64 * MANY as u64;
-    let block = sizes.block as u64;
-    let (live, seats) = begin(alloc, sizes.n.div_ceil(block), 1)?;
-    let sizes = ReadSizes {
-        block: sizes.block,
-        n: sizes.n,
-        draws,
-    };
-    read_by(rt, alloc, &live, seats, sizes)
+    read_snapshot(rt, alloc, &snapshot, sizes, figures)
 }

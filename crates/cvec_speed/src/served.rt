@@ -8,6 +8,7 @@ ghost use Rattle.pen_core.specs.Opening.{IsAtRest};
 ghost use Rattle.book_core.specs.Beginning.{AreNewSeats};
 ghost use Rattle.flush_core.specs.Flusher.{IsFlusherOf};
 
+use crate::clock::now;
 use crate::fault::SpeedFault;
 use book_core::{Begun, Live, Seat};
 use directory_core::GROWTH_LIMIT;
@@ -38,9 +39,6 @@ fn over_pen<D: Disk + Drop>(
     requires rests { IsAtRest 8 0 pen }
     requires cells { D.keeps pen.disk → AreCellsOf (unsigned w64) pen.vector [] }
 {
-    if room == 0 || room > GROWTH_LIMIT {
-        return Err(SpeedFault::Room);
-    }
     match Live::begin(alloc, Vec::new(alloc), room, seats) {
         Ok(begun) => {
             let Begun {
@@ -64,6 +62,9 @@ fn over_pen<D: Disk + Drop>(
 impl<D: Disk + Drop> Served<D> {
     /// A phase over a new file on the disk, with room for so many growths, and so many seats.
     pub fn begin(alloc: Global, disk: D, room: u64, seats: u16) -> Result<Served<D>, SpeedFault> {
+        if room == 0 || room > GROWTH_LIMIT {
+            return Err(SpeedFault::Room);
+        }
         match Pen::create(alloc, disk, 8) {
             Ok(pen) => over_pen(alloc, pen, room, seats),
             Err((_, fault)) => Err(SpeedFault::Pen(fault)),
@@ -91,12 +92,11 @@ impl<D: Disk + Drop> Committer<'_, D> {
     /// Commits it, and answers when all was durable.
     fn commit_all<E: Wait + Clock>(&mut self, rt: &E) -> Result<Instant, SpeedFault> {
         self.commit(rt)?;
-        Ok(Instant::now(rt)?)
+        now(rt)
     }
 
     /// What the thread does that commits.
-    pub fn serve<E: Wait + Clock>(self, rt: &E) -> Result<Instant, SpeedFault> {
-        let mut committer = self;
-        committer.commit_all(rt)
+    pub fn serve<E: Wait + Clock>(mut self, rt: &E) -> Result<Instant, SpeedFault> {
+        self.commit_all(rt)
     }
 }

@@ -1,11 +1,8 @@
 //! A vector's file in a folder: it is made, and opened again.
 
-ghost use Rattle.std.specs.Prelude.{◌≡◌, ◌<◌, ◌^◌, length, IfOk};
-ghost use Rattle.std.specs.Int.{w64};
-ghost use Rattle.record_core.specs.Bytes.{unsigned};
-ghost use Rattle.segment_core.specs.Raw.{AreCellsOf};
-ghost use Rattle.pen_core.specs.Opening.{IsAtRest};
+ghost use Rattle.std.specs.Prelude.{◌≡◌, ◌<◌, ◌^◌};
 
+use crate::clock::{now, since};
 use crate::commit::create;
 use crate::fault::SpeedFault;
 use crate::figure::Figure;
@@ -54,7 +51,7 @@ pub fn make_disk<E: Files<File = File> + AllocGlobal>(
 }
 
 /// The file in this folder.
-pub fn open_disk<E: Files<File = File>>(
+fn open_disk<E: Files<File = File>>(
     rt: &E,
     alloc: Global,
     dir: &str,
@@ -77,8 +74,8 @@ fn records_in_a_group(block: u64) -> u64
 /// Commits so many records, in growths of `block`, by groups that are as long as may be. The record at a place is
 /// `mix` of it.
 fn commit_records<D: Disk>(
-    alloc: Global,
     pen: &mut Pen<D>,
+    group: &mut Group,
     block: u32,
     n: u64,
 ) -> Result<(), SpeedFault>
@@ -87,7 +84,6 @@ fn commit_records<D: Disk>(
     ensures { pen.new.shape ≡ pen.old.shape }
 {
     let most = records_in_a_group(block as u64);
-    let mut group = Group::new(alloc);
     for k in 0..n.div_ceil(most) {
         let first = k.wrapping_mul(most);
         group.fill(first, most.min(n.saturating_sub(first)), block as u64)?;
@@ -96,27 +92,26 @@ fn commit_records<D: Disk>(
     Ok(())
 }
 
+/// Leaves the file on the disk.
+fn build_on<D: Disk + Drop>(
+    alloc: Global,
+    disk: D,
+    group: &mut Group,
+    sizes: StoreSizes,
+) -> Result<(), SpeedFault> {
+    let mut pen = create(alloc, disk)?;
+    commit_records(&mut pen, group, sizes.block, sizes.n)
+}
+
 /// Leaves a file of version 1 in the folder, whose records are those of so many places. It has no figure.
 pub fn build<E: Files<File = File> + AllocGlobal>(
     rt: &E,
     alloc: Global,
     sizes: StoreSizes,
-) -> Result<Vec<Figure>, SpeedFault> {
+) -> Result<(), SpeedFault> {
     let disk = make_disk(rt, alloc, sizes.dir)?;
-    let mut pen = create(alloc, disk)?;
-    commit_records(alloc, &mut pen, sizes.block, sizes.n)?;
-    Ok(Vec::new(alloc))
-}
-
-/// Opens the file on the disk, and gives its vector.
-pub fn open_pen<D: Disk + Drop>(alloc: Global, disk: D) -> Result<(Pen<D>, Vec<u64>), SpeedFault>
-    ensures rests { IfOk result (λ r. IsAtRest 8 (length r.1.items) r.0) }
-    ensures cells { IfOk result (λ r. D.keeps r.0.disk → AreCellsOf (unsigned w64) r.0.vector r.1.items) }
-{
-    match Pen::open::<u64>(alloc, disk) {
-        Ok(opened) => Ok(opened),
-        Err((_, fault)) => Err(SpeedFault::Open(fault)),
-    }
+    let mut group = Group::new(alloc);
+    build_on(alloc, disk, &mut group, sizes)
 }
 
 /// What the records come to, and how long it took since that moment until they stood in memory.
@@ -125,21 +120,33 @@ fn total_since<E: Clock>(
     start: Instant,
     records: &[u64],
 ) -> Result<(Total, Duration), SpeedFault> {
-    let time = start.elapsed(rt)?;
+    let time = since(rt, start)?;
     Ok((Total::NOTHING.with(records), time))
 }
 
-/// Opens the file in the folder until all its records stand in memory in order. What they come to, and how long that
-/// took.
+/// Opens the file on the disk until all its records stand in memory in order. What they come to, and how long that took
+/// since that moment.
+fn total_on<D: Disk + Drop, E: Clock>(
+    rt: &E,
+    alloc: Global,
+    disk: D,
+    start: Instant,
+) -> Result<(Total, Duration), SpeedFault> {
+    match Pen::open::<u64>(alloc, disk) {
+        Ok((_pen, records)) => total_since(rt, start, records.as_slice()),
+        Err((_, fault)) => Err(SpeedFault::Open(fault)),
+    }
+}
+
+/// The same of the file in the folder.
 pub fn total_opened<E: Files<File = File> + Clock>(
     rt: &E,
     alloc: Global,
     dir: &str,
 ) -> Result<(Total, Duration), SpeedFault> {
-    let start = Instant::now(rt)?;
+    let start = now(rt)?;
     let disk = open_disk(rt, alloc, dir)?;
-    let (_pen, records) = open_pen(alloc, disk)?;
-    total_since(rt, start, records.as_slice())
+    total_on(rt, alloc, disk, start)
 }
 
 /// Opens the file in the folder until all its records stand in memory in order, and compares their number and sum. The
@@ -149,11 +156,12 @@ pub fn open<E: Files<File = File> + Clock>(
     alloc: Global,
     sizes: StoreSizes,
     work: &'static str,
-) -> Result<Vec<Figure>, SpeedFault> {
+    figures: &mut Vec<Figure>,
+) -> Result<(), SpeedFault> {
     let (total, time) = total_opened(rt, alloc, sizes.dir)?;
     total.check(Total {
         count: sizes.n,
         sum: sum_of_mixed(sizes.n),
     })?;
-    Figure::new(work, 1, sizes.n, time).alone(alloc)
+    Figure::new(work, 1, sizes.n, time).put(figures)
 }

@@ -1,51 +1,87 @@
-//! Threads that grow a phase together, while one more commits what they grow.
+//! Threads that grow a phase together, while one more commits what they grow, or nobody does.
 
 ghost use Rattle.book_core.specs.Beginning.{AreNewSeats};
 
+use crate::append::{Records, append_all};
+use crate::barrier::Barrier;
 use crate::fault::SpeedFault;
-use crate::phase::{Seated, seat_all};
-use crate::producer::{Produced, produce};
+use crate::grow::{Copies, grow_copies};
+use crate::phase::{Seated, begin, seat_all};
+use crate::reading::Total;
 use crate::served::{Committer, Served};
 use crate::waiter::{wait_as, watch_over};
 use crate::watch::Watch;
-use crate::{producer, waiter};
+use crate::{beside, producer, waiter};
 use book_core::{Live, Seat};
 use disk_core::Disk;
 use std::alloc::Global;
 use std::sync::Wait;
 use std::thread;
-use std::thread::Threads;
+use std::thread::{Scope, Threads};
 use std::time::{Clock, Instant};
 
-/// What each of the threads does.
+/// What a thread does by its seat.
 #[derive(Clone, Copy)]
-pub enum Role<'a> {
+pub enum Task<'a> {
+    /// Grows by copies of its block.
+    Grow(Copies<'a>, &'a Barrier),
+    /// Grows, or sums what there is.
+    Beside(&'a beside::Course<'a>),
     /// Appends blocks.
     Produce(&'a producer::Course),
     /// Waits for each of its growths, and is watched.
     Wait(waiter::Course, &'a Watch),
 }
 
-/// How a thread ended: with what it produced, where that is its role.
-pub type Done = Result<Option<Produced>, SpeedFault>;
-
-impl Role<'_> {
-    /// What one thread does.
-    fn play<E: Wait + Clock>(self, rt: &E, alloc: Global, own: Seated) -> Done {
-        let mut own = own;
+impl Task<'_> {
+    fn play<E: Wait + Clock>(self, rt: &E, alloc: Global, own: &mut Seated) {
         match self {
-            Role::Produce(course) => Ok(Some(produce(rt, alloc, own, course)?)),
-            Role::Wait(course, watch) => {
-                wait_as(rt, alloc, &mut own, course, watch)?;
-                Ok(None)
+            Task::Grow(copies, barrier) => {
+                barrier.leave(rt, grow_copies(rt, alloc, own, copies, barrier))
             }
+            Task::Beside(course) => course.play(rt, alloc, own),
+            Task::Produce(course) => course.play(rt, alloc, own),
+            Task::Wait(course, watch) => wait_as(rt, alloc, own, course, watch),
+        }
+    }
+}
+
+/// What each of the threads does.
+#[derive(Clone, Copy)]
+pub enum Role<'a> {
+    /// Appends single records: it gives its seat to an appender.
+    Append(Records, &'a Barrier),
+    Keep(Task<'a>),
+}
+
+impl<'a> Role<'a> {
+    /// What one thread does.
+    fn play<E: Wait + Clock>(self, rt: &E, alloc: Global, own: Seated) {
+        match self {
+            Role::Append(records, barrier) => {
+                barrier.leave(rt, append_all(rt, alloc, own, records, barrier))
+            }
+            Role::Keep(task) => {
+                let mut own = own;
+                task.play(rt, alloc, &mut own)
+            }
+        }
+    }
+
+    /// Where its threads wait for all of them.
+    fn barrier(self) -> Option<&'a Barrier> {
+        match self {
+            Role::Append(_, barrier) | Role::Keep(Task::Grow(_, barrier)) => Some(barrier),
+            Role::Keep(Task::Beside(course)) => Some(&course.barrier),
+            Role::Keep(Task::Produce(course)) => Some(&course.barrier),
+            Role::Keep(Task::Wait(_, _)) => None,
         }
     }
 
     /// Tells those that wait for all threads that one of them can't be started.
     fn give_up(self) {
-        if let Role::Produce(course) = self {
-            course.barrier.give_up();
+        if let Some(barrier) = self.barrier() {
+            barrier.give_up();
         }
     }
 
@@ -57,44 +93,113 @@ impl Role<'_> {
         threads: u64,
     ) -> Result<(), SpeedFault> {
         match self {
-            Role::Produce(_) => Ok(()),
-            Role::Wait(course, watch) => watch_over(rt, live, watch, threads, course.phase),
+            Role::Keep(Task::Wait(course, watch)) => {
+                watch_over(rt, live, watch, threads, course.phase)
+            }
+            _ => Ok(()),
         }
     }
 }
 
-/// Runs a thread for each seat. `Thread`, and none produces, where one can't be started.
+/// Whether it is done. What came of it is let go here, so that the caller doesn't own it.
+fn is_done<T: Drop, F: Drop>(done: Result<T, F>) -> bool {
+    done.is_ok()
+}
+
+/// Starts a thread. Whether the system did.
+fn start<'s, 'e, E: Wait + Clock + Sync + 'e>(
+    scope: &'s Scope<'s, &'e ()>,
+    rt: &'e E,
+    alloc: Global,
+    own: Seated<'e>,
+    role: Role<'e>,
+) -> bool {
+    is_done(scope.spawn(move || role.play(rt, alloc, own)))
+}
+
+/// Starts a thread for each seat, up to the first that the system refuses. Whether all have one.
+fn start_each<'s, 'e, E: Wait + Clock + Sync + 'e>(
+    scope: &'s Scope<'s, &'e ()>,
+    rt: &'e E,
+    alloc: Global,
+    seats: Vec<Seated<'e>>,
+    role: Role<'e>,
+) -> bool {
+    for own in seats {
+        if !start(scope, rt, alloc, own, role) {
+            return false;
+        }
+    }
+    true
+}
+
+/// Runs a thread for each seat until all have ended. `Thread`, and none passes a barrier, where one can't be started.
 fn run_threads<E: Threads + Wait + Clock + Eprint + Sync>(
     rt: &E,
     alloc: Global,
     live: &Live<u64>,
     seats: Vec<Seated>,
     role: Role,
-) -> Result<Vec<Done>, SpeedFault> {
+) -> Result<(), SpeedFault> {
+    let threads = seats.len() as u64;
     thread::scope(
         thread::scope_env(),
         rt,
-        move |scope| -> Result<Vec<Done>, SpeedFault> {
-            let threads = seats.len();
-            let mut running = Vec::with_capacity(alloc, threads)?;
-            for own in seats {
-                let started = match scope.spawn(move || role.play(rt, alloc, own)) {
-                    Ok(thread) => running.push(thread).is_ok(),
-                    Err(_) => false,
-                };
-                if !started {
-                    role.give_up();
-                    return Err(SpeedFault::Thread);
-                }
+        move |scope| -> Result<(), SpeedFault> {
+            if start_each(scope, rt, alloc, seats, role) {
+                role.watch_over(rt, live, threads)
+            } else {
+                role.give_up();
+                Err(SpeedFault::Thread)
             }
-            role.watch_over(rt, live, threads as u64)?;
-            let mut done = Vec::with_capacity(alloc, threads)?;
-            for thread in running {
-                done.push(thread.join(rt))?;
-            }
-            Ok(done)
         },
     )
+}
+
+/// Does what comes before by the last of the seats, which has no thread, and reads by it what all have grown then.
+fn run_and_read<E: Threads + Wait + Clock + Eprint + Sync>(
+    rt: &E,
+    alloc: Global,
+    last: &mut Seated,
+    seats: Vec<Seated>,
+    role: Role,
+) -> Result<Total, SpeedFault> {
+    let live = last.live();
+    if let Role::Keep(Task::Beside(course)) = role {
+        course.grow_before(rt, alloc, last)?;
+    }
+    run_threads(rt, alloc, live, seats, role)?;
+    last.look()?;
+    Ok(last.total())
+}
+
+/// The same of new seats.
+fn run_last<E: Threads + Wait + Clock + Eprint + Sync>(
+    rt: &E,
+    alloc: Global,
+    live: &Live<u64>,
+    seats: Vec<Seat<u64>>,
+    role: Role,
+) -> Result<Total, SpeedFault>
+    requires { AreNewSeats live.now.directory live.now.mark seats.items }
+{
+    let mut seats = seat_all(alloc, live, seats)?;
+    match seats.pop() {
+        Some(mut last) => run_and_read(rt, alloc, &mut last, seats, role),
+        None => Err(SpeedFault::Memory),
+    }
+}
+
+/// Runs so many threads in a phase of their own, with room for so many growths, that nobody commits. What they have grown.
+pub fn run_free<E: Threads + Wait + Clock + Eprint + Sync>(
+    rt: &E,
+    alloc: Global,
+    room: u64,
+    threads: u16,
+    role: Role,
+) -> Result<Total, SpeedFault> {
+    let (live, seats) = begin(alloc, room, threads.saturating_add(1))?;
+    run_last(rt, alloc, &live, seats, role)
 }
 
 /// Runs a thread for each of the new seats. Refused as `run_threads`.
@@ -104,17 +209,17 @@ fn run_seats<E: Threads + Wait + Clock + Eprint + Sync>(
     live: &Live<u64>,
     seats: Vec<Seat<u64>>,
     role: Role,
-) -> Result<Vec<Done>, SpeedFault>
+) -> Result<(), SpeedFault>
     requires { AreNewSeats live.now.directory live.now.mark seats.items }
 {
     let seats = seat_all(alloc, live, seats)?;
     run_threads(rt, alloc, live, seats, role)
 }
 
-/// How all threads ended, and when all was durable.
-#[derive(Drop)]
+/// Whether all threads were run, and when all was durable.
+#[derive(Clone, Copy)]
 pub struct Outcome {
-    pub done: Result<Vec<Done>, SpeedFault>,
+    pub run: Result<(), SpeedFault>,
     pub ended: Result<Instant, SpeedFault>,
 }
 
@@ -127,24 +232,27 @@ fn run_beside<E: Threads + Wait + Clock + Eprint + Sync, D: Disk + Send + Drop>(
     seats: Vec<Seat<u64>>,
     committer: Committer<'_, D>,
     role: Role,
-) -> Result<Outcome, SpeedFault>
+) -> Outcome
     requires { AreNewSeats live.now.directory live.now.mark seats.items }
 {
     thread::scope(
         thread::scope_env(),
         rt,
-        move |scope| -> Result<Outcome, SpeedFault>
+        move |scope| -> Outcome
             requires { AreNewSeats live.now.directory live.now.mark seats.items }
         {
             let Ok(serving) = scope.spawn(move || committer.serve(rt)) else {
-                return Err(SpeedFault::Thread);
+                return Outcome {
+                    run: Err(SpeedFault::Thread),
+                    ended: Err(SpeedFault::Thread),
+                };
             };
-            let done = run_seats(rt, alloc, live, seats, role);
+            let run = run_seats(rt, alloc, live, seats, role);
             live.close(rt);
-            Ok(Outcome {
-                done,
+            Outcome {
+                run,
                 ended: serving.join(rt),
-            })
+            }
         },
     )
 }
@@ -155,7 +263,7 @@ pub fn run_all<E: Threads + Wait + Clock + Eprint + Sync, D: Disk + Send + Drop>
     alloc: Global,
     served: Served<D>,
     role: Role,
-) -> Result<Outcome, SpeedFault> {
+) -> Outcome {
     let Served {
         live,
         seats,

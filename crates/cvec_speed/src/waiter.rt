@@ -31,13 +31,12 @@ pub enum End {
 }
 
 impl End {
-    /// Whether threads of such a phase may leave it so.
-    fn allows(self, left: Result<(), SpeedFault>) -> bool {
-        match left {
-            Ok(()) => true,
-            Err(SpeedFault::Grow(GrowFault::Closed)) => matches!(self, End::Closed),
-            Err(SpeedFault::Unsettled) => matches!(self, End::Stopped(_)),
-            Err(_) => false,
+    /// The fault, unless threads of such a phase may leave it so.
+    fn judged(self, left: Result<(), SpeedFault>) -> Result<(), SpeedFault> {
+        match (self, left) {
+            (End::Closed, Err(SpeedFault::Grow(GrowFault::Closed))) => Ok(()),
+            (End::Stopped(_), Err(SpeedFault::Unsettled)) => Ok(()),
+            _ => left,
         }
     }
 
@@ -121,20 +120,9 @@ fn make_rounds<E: Wait>(
 }
 
 /// What one thread does: it makes its rounds, and leaves.
-pub fn wait_as<E: Wait>(
-    rt: &E,
-    alloc: Global,
-    own: &mut Seated,
-    course: Course,
-    watch: &Watch,
-) -> Result<(), SpeedFault> {
+pub fn wait_as<E: Wait>(rt: &E, alloc: Global, own: &mut Seated, course: Course, watch: &Watch) {
     let made = make_rounds(rt, alloc, own, course, watch);
-    watch.leave(rt);
-    if course.end.allows(made) {
-        Ok(())
-    } else {
-        made
-    }
+    watch.leave(rt, course.end.judged(made));
 }
 
 /// Waits until the threads are through. Where they stand still it tells so, and closes the phase, so that those end that

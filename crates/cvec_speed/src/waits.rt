@@ -1,9 +1,12 @@
-//! Threads wait for each of their growths, in phase after phase, while one more commits them: is each of them woken?
+//! Threads wait for each of their growths, in phase after phase, while one more commits them: is each of them woken? And does
+//! each come to its end, where phases end in each way there is?
 
+use crate::clock::{now, since};
 use crate::fault::SpeedFault;
 use crate::figure::Figure;
+use crate::mix::{below, mix};
 use crate::served::Served;
-use crate::together::{Role, run_all};
+use crate::together::{Outcome, Role, Task, run_all};
 use crate::waiter::{Course, End};
 use crate::watch::Watch;
 use disk_core::{Blow, FuseDisk, RamDisk};
@@ -11,6 +14,9 @@ use std::alloc::Global;
 use std::sync::Wait;
 use std::thread::Threads;
 use std::time::{Clock, Instant};
+
+/// As many calls of the disk as the creation of its file makes at most.
+const CREATION: u64 = 8;
 
 /// How many threads wait, in how many phases, one after the other, and how many rounds each of them makes in each.
 #[derive(Clone, Copy)]
@@ -20,29 +26,93 @@ pub struct WaitsSizes {
     pub rounds: u64,
 }
 
+/// Which phases there are.
+#[derive(Clone, Copy)]
+pub enum Phases {
+    /// All threads make all rounds in each.
+    Alike,
+    /// 1 to so many threads in each; every third is closed in its midst, and of every third the disk stops.
+    Mixed,
+}
+
+impl Phases {
+    fn name(self) -> &'static str {
+        match self {
+            Phases::Alike => "waits",
+            Phases::Mixed => "stress",
+        }
+    }
+
+    /// How many threads the phase of that number has.
+    fn threads(self, sizes: WaitsSizes, phase: u64) -> u16 {
+        match self {
+            Phases::Alike => sizes.threads,
+            Phases::Mixed => {
+                let further = below(mix(phase), sizes.threads as u64);
+                u16::try_from(further).unwrap_or(0).saturating_add(1)
+            }
+        }
+    }
+
+    /// How it ends. A stop comes while its threads are under way: a commit makes four calls, of a growth or of many.
+    fn end(self, sizes: WaitsSizes, phase: u64) -> End {
+        match (self, phase % 3) {
+            (Phases::Mixed, 1) => End::Closed,
+            (Phases::Mixed, 2) => {
+                let calls = below(mix(phase), sizes.rounds.saturating_mul(4));
+                End::Stopped(CREATION.saturating_add(calls))
+            }
+            _ => End::Whole,
+        }
+    }
+}
+
+/// Whether all of it came to the end that it must.
+fn judge<E: Wait>(rt: &E, watch: &Watch, outcome: Outcome, end: End) -> Result<(), SpeedFault> {
+    outcome.run?;
+    match (watch.fault(rt), outcome.ended, end) {
+        (Some(fault), _, _) => Err(fault),
+        (None, Ok(_), _) | (None, _, End::Stopped(_)) => Ok(()),
+        (None, Err(fault), _) => Err(fault),
+    }
+}
+
 /// A phase of its own, over a new file in memory, with so many threads. How many growths it settled isn't told: where the
 /// disk stops, fewer than were made.
-pub fn run_phase<E: Threads + Wait + Clock + Eprint + Sync>(
+fn run_phase<E: Threads + Wait + Clock + Eprint + Sync>(
     rt: &E,
     alloc: Global,
     threads: u16,
-    rounds: u64,
-    end: End,
-    phase: u64,
+    course: Course,
 ) -> Result<(), SpeedFault> {
-    let room = rounds.saturating_mul(threads as u64);
-    let disk = FuseDisk::new(RamDisk::new(alloc), end.calls(), Blow::Stop);
+    let room = course.rounds.saturating_mul(threads as u64);
+    let disk = FuseDisk::new(RamDisk::new(alloc), course.end.calls(), Blow::Stop);
     let served = Served::begin(alloc, disk, room, threads)?;
-    let course = Course { phase, rounds, end };
     let watch = Watch::new();
-    let outcome = run_all(rt, alloc, served, Role::Wait(course, &watch))?;
-    for left in outcome.done? {
-        left?;
+    let role = Role::Keep(Task::Wait(course, &watch));
+    let outcome = run_all(rt, alloc, served, role);
+    judge(rt, &watch, outcome, course.end)
+}
+
+/// Runs the phases. How many rounds all threads made, had they all.
+fn run_phases<E: Threads + Wait + Clock + Eprint + Sync>(
+    rt: &E,
+    alloc: Global,
+    sizes: WaitsSizes,
+    phases: Phases,
+) -> Result<u64, SpeedFault> {
+    let mut made: u64 = 0;
+    for phase in 0..sizes.phases {
+        let threads = phases.threads(sizes, phase);
+        let course = Course {
+            phase,
+            rounds: sizes.rounds,
+            end: phases.end(sizes, phase),
+        };
+        run_phase(rt, alloc, threads, course)?;
+        made = made.wrapping_add(sizes.rounds.wrapping_mul(threads as u64));
     }
-    match outcome.ended {
-        Err(fault) if !matches!(end, End::Stopped(_)) => Err(fault),
-        _ => Ok(()),
-    }
+    Ok(made)
 }
 
 /// Threads wait for each of their growths, in phase after phase. Refused `Still`, where no thread gets on, which is told
@@ -51,12 +121,11 @@ pub fn waits<E: Threads + Wait + Clock + Eprint + Sync>(
     rt: &E,
     alloc: Global,
     sizes: WaitsSizes,
-) -> Result<Vec<Figure>, SpeedFault> {
-    let start = Instant::now(rt)?;
-    for phase in 0..sizes.phases {
-        run_phase(rt, alloc, sizes.threads, sizes.rounds, End::Whole, phase)?;
-    }
-    let rounds = sizes.rounds.wrapping_mul(sizes.threads as u64);
-    let n = rounds.wrapping_mul(sizes.phases);
-    Figure::new("waits", sizes.threads as u64, n, start.elapsed(rt)?).alone(alloc)
+    phases: Phases,
+    figures: &mut Vec<Figure>,
+) -> Result<(), SpeedFault> {
+    let start = now(rt)?;
+    let made = run_phases(rt, alloc, sizes, phases)?;
+    let time = since(rt, start)?;
+    Figure::new(phases.name(), sizes.threads as u64, made, time).put(figures)
 }

@@ -1,5 +1,6 @@
 //! Whether threads that wait for each other get on.
 
+use crate::fault::SpeedFault;
 use std::sync::atomic::{AtomicU64, Ordering};
 use std::sync::{Condvar, Mutex, Wait};
 use std::time::{Clock, Duration};
@@ -8,9 +9,15 @@ use std::time::{Clock, Duration};
 #[derive(Drop)]
 pub struct Watch {
     rounds: AtomicU64,
-    /// How many threads are through with all of theirs.
-    through: Mutex<u64>,
+    through: Mutex<Through>,
     one_more: Condvar,
+}
+
+/// How many threads are through with all of their rounds, and the fault of one.
+#[derive(Clone, Copy)]
+struct Through {
+    threads: u64,
+    fault: Option<SpeedFault>,
 }
 
 impl Watch {
@@ -18,7 +25,10 @@ impl Watch {
     pub fn new() -> Watch {
         Watch {
             rounds: AtomicU64::new(0),
-            through: Mutex::new(0),
+            through: Mutex::new(Through {
+                threads: 0,
+                fault: None,
+            }),
             one_more: Condvar::new(),
         }
     }
@@ -28,12 +38,21 @@ impl Watch {
         self.rounds.fetch_add(1, Ordering::SeqCst);
     }
 
-    /// A thread is through.
-    pub fn leave<E: Wait>(&self, rt: &E) {
+    /// A thread is through, or has a fault.
+    pub fn leave<E: Wait>(&self, rt: &E, left: Result<(), SpeedFault>) {
         let mut through = self.through.lock(rt);
-        *through = through.wrapping_add(1);
+        through.threads = through.threads.wrapping_add(1);
+        if let Err(fault) = left {
+            through.fault = Some(fault);
+        }
         drop(through);
         self.one_more.notify_one();
+    }
+
+    /// The fault of a thread.
+    pub fn fault<E: Wait>(&self, rt: &E) -> Option<SpeedFault> {
+        let through = *self.through.lock(rt);
+        through.fault
     }
 
     /// Waits until so many threads are through, or none of them has made a round for so long: then how many rounds were
@@ -50,7 +69,7 @@ impl Watch {
                 rt,
                 self.through.lock(rt),
                 patience,
-                |through| *through < threads,
+                |through| through.threads < threads,
             );
             drop(through);
             if !waited.timed_out() {

@@ -8,7 +8,7 @@ use crate::grow::GrowSizes;
 use crate::memory::MemorySizes;
 use crate::read::ReadSizes;
 use crate::store::StoreSizes;
-use crate::waits::WaitsSizes;
+use crate::waits::{Phases, WaitsSizes};
 use std::time::Duration;
 
 /// What is to be measured.
@@ -25,9 +25,7 @@ pub enum Work<'a> {
     /// It is opened: with the name of the figure.
     Open(StoreSizes<'a>, &'static str),
     Durable(DurableSizes<'a>),
-    Waits(WaitsSizes),
-    /// Phases with up to so many threads, that end in each way.
-    Stress(WaitsSizes),
+    Waits(WaitsSizes, Phases),
     /// Each growth call, once more where memory is refused: lines of its own, and no figure.
     Again,
 }
@@ -80,127 +78,183 @@ fn length_of(words: &[String], name: &str) -> Option<u32>
 
 /// The milliseconds of that name.
 fn time_of(words: &[String], name: &str) -> Option<Duration> {
-    Some(Duration::from_millis(size_of(words, name)?))
+    size_of(words, name).map(Duration::from_millis)
 }
 
 fn grow_sizes(words: &[String]) -> Option<GrowSizes> {
-    Some(GrowSizes {
-        threads: threads_of(words)?,
-        block: length_of(words, "block")?,
-        n: size_of(words, "n")?,
-    })
-}
-
-fn grow_work(words: &[String]) -> Option<Work<'_>> {
-    Some(Work::Grow(grow_sizes(words)?))
-}
-
-fn append_work(words: &[String]) -> Option<Work<'_>> {
-    Some(Work::Append(grow_sizes(words)?))
-}
-
-fn beside_work(words: &[String]) -> Option<Work<'_>> {
-    Some(Work::Beside(BesideSizes {
-        readers: text_of(words, "threads")?.parse().ok()?,
-        block: length_of(words, "block")?,
-        before: size_of(words, "preload")?,
-        n: size_of(words, "n")?,
-        most: time_of(words, "cap_ms")?,
-    }))
-}
-
-fn read_work(words: &[String]) -> Option<Work<'_>> {
-    Some(Work::Read(ReadSizes {
-        block: length_of(words, "block")?,
-        n: size_of(words, "n")?,
-        draws: size_of(words, "draws")?,
-    }))
-}
-
-fn memory_work(words: &[String]) -> Option<Work<'_>> {
-    Some(Work::Memory(MemorySizes {
-        block: length_of(words, "block")?,
-        n: size_of(words, "n")?,
-    }))
-}
-
-fn store_sizes(words: &[String]) -> Option<StoreSizes<'_>> {
-    Some(StoreSizes {
-        dir: text_of(words, "dir")?,
-        block: length_of(words, "block")?,
-        n: size_of(words, "n")?,
-    })
-}
-
-fn build_work(words: &[String]) -> Option<Work<'_>> {
-    Some(Work::Build(store_sizes(words)?))
-}
-
-/// The name of a figure of opening.
-fn figure_name(words: &[String]) -> Option<&'static str> {
-    match text_of(words, "work")? {
-        "open.warm" => Some("open.warm"),
-        "open.cold" => Some("open.cold"),
+    match (
+        threads_of(words),
+        length_of(words, "block"),
+        size_of(words, "n"),
+    ) {
+        (Some(threads), Some(block), Some(n)) => Some(GrowSizes { threads, block, n }),
         _ => None,
     }
 }
 
-fn open_work(words: &[String]) -> Option<Work<'_>> {
-    Some(Work::Open(store_sizes(words)?, figure_name(words)?))
+fn beside_work(words: &[String]) -> Option<Work<'_>> {
+    let readers = text_of(words, "threads")?.parse().ok()?;
+    let block = length_of(words, "block")?;
+    match (
+        size_of(words, "preload"),
+        size_of(words, "n"),
+        time_of(words, "cap_ms"),
+    ) {
+        (Some(before), Some(n), Some(most)) => Some(Work::Beside(BesideSizes {
+            readers,
+            block,
+            before,
+            n,
+            most,
+        })),
+        _ => None,
+    }
+}
+
+fn read_work(words: &[String]) -> Option<Work<'_>> {
+    match (
+        length_of(words, "block"),
+        size_of(words, "n"),
+        size_of(words, "draws"),
+    ) {
+        (Some(block), Some(n), Some(draws)) => Some(Work::Read(ReadSizes { block, n, draws })),
+        _ => None,
+    }
+}
+
+fn memory_work(words: &[String]) -> Option<Work<'_>> {
+    match (length_of(words, "block"), size_of(words, "n")) {
+        (Some(block), Some(n)) => Some(Work::Memory(MemorySizes { block, n })),
+        _ => None,
+    }
+}
+
+fn store_sizes(words: &[String]) -> Option<StoreSizes<'_>> {
+    match (
+        text_of(words, "dir"),
+        length_of(words, "block"),
+        size_of(words, "n"),
+    ) {
+        (Some(dir), Some(block), Some(n)) => Some(StoreSizes { dir, block, n }),
+        _ => None,
+    }
+}
+
+/// The name of a figure of opening.
+fn figure_name(words: &[String]) -> Option<&'static str> {
+    match text_of(words, "work") {
+        Some("open.warm") => Some("open.warm"),
+        Some("open.cold") => Some("open.cold"),
+        _ => None,
+    }
 }
 
 fn mode_of(words: &[String]) -> Option<Mode> {
-    match text_of(words, "mode")? {
-        "wait1" => Some(Mode::Wait1),
-        "wait64" => Some(Mode::Wait64),
-        "flow" => Some(Mode::Flow),
+    match text_of(words, "mode") {
+        Some("wait1") => Some(Mode::Wait1),
+        Some("wait64") => Some(Mode::Wait64),
+        Some("flow") => Some(Mode::Flow),
         _ => None,
     }
 }
 
 fn durable_work(words: &[String]) -> Option<Work<'_>> {
-    Some(Work::Durable(DurableSizes {
-        dir: text_of(words, "dir")?,
-        mode: mode_of(words)?,
-        grow: grow_sizes(words)?,
-        most: time_of(words, "box_ms")?,
-    }))
+    let grow = grow_sizes(words)?;
+    match (
+        text_of(words, "dir"),
+        mode_of(words),
+        time_of(words, "box_ms"),
+    ) {
+        (Some(dir), Some(mode), Some(most)) => Some(Work::Durable(DurableSizes {
+            dir,
+            mode,
+            grow,
+            most,
+        })),
+        _ => None,
+    }
 }
 
 fn waits_sizes(words: &[String]) -> Option<WaitsSizes> {
-    Some(WaitsSizes {
-        threads: threads_of(words)?,
-        phases: size_of(words, "phases")?,
-        rounds: size_of(words, "rounds")?,
-    })
+    match (
+        threads_of(words),
+        size_of(words, "phases"),
+        size_of(words, "rounds"),
+    ) {
+        (Some(threads), Some(phases), Some(rounds)) => Some(WaitsSizes {
+            threads,
+            phases,
+            rounds,
+        }),
+        _ => None,
+    }
 }
 
-fn waits_work(words: &[String]) -> Option<Work<'_>> {
-    Some(Work::Waits(waits_sizes(words)?))
+/// What a work is called.
+#[derive(Clone, Copy)]
+enum Name {
+    Grow,
+    Append,
+    Beside,
+    Read,
+    Memory,
+    Build,
+    Open,
+    Durable,
+    Waits,
+    Stress,
+    Again,
 }
 
-fn stress_work(words: &[String]) -> Option<Work<'_>> {
-    Some(Work::Stress(waits_sizes(words)?))
+const NAMES: [(&str, Name); 11] = [
+    ("grow", Name::Grow),
+    ("append", Name::Append),
+    ("beside", Name::Beside),
+    ("read", Name::Read),
+    ("memory", Name::Memory),
+    ("open-build", Name::Build),
+    ("open-read", Name::Open),
+    ("durable", Name::Durable),
+    ("waits", Name::Waits),
+    ("stress", Name::Stress),
+    ("again", Name::Again),
+];
+
+fn name_of(word: &str) -> Option<Name> {
+    for (text, name) in NAMES {
+        if text == word {
+            return Some(name);
+        }
+    }
+    None
+}
+
+impl Name {
+    /// The work of that name, by its sizes.
+    fn work(self, words: &[String]) -> Option<Work<'_>> {
+        match self {
+            Name::Grow => Some(Work::Grow(grow_sizes(words)?)),
+            Name::Append => Some(Work::Append(grow_sizes(words)?)),
+            Name::Beside => beside_work(words),
+            Name::Read => read_work(words),
+            Name::Memory => memory_work(words),
+            Name::Build => Some(Work::Build(store_sizes(words)?)),
+            Name::Open => Some(Work::Open(store_sizes(words)?, figure_name(words)?)),
+            Name::Durable => durable_work(words),
+            Name::Waits => Some(Work::Waits(waits_sizes(words)?, Phases::Alike)),
+            Name::Stress => Some(Work::Waits(waits_sizes(words)?, Phases::Mixed)),
+            Name::Again => Some(Work::Again),
+        }
+    }
 }
 
 /// What the words ask for.
 pub fn read_words(words: &[String]) -> Result<Work<'_>, WordsFault> {
-    let Some((work, sizes)) = words.split_first() else {
+    let Some((word, sizes)) = words.split_first() else {
         return Err(WordsFault::NoWork);
     };
-    let work = match work.as_str() {
-        "grow" => grow_work(sizes),
-        "append" => append_work(sizes),
-        "beside" => beside_work(sizes),
-        "read" => read_work(sizes),
-        "memory" => memory_work(sizes),
-        "open-build" => build_work(sizes),
-        "open-read" => open_work(sizes),
-        "durable" => durable_work(sizes),
-        "waits" => waits_work(sizes),
-        "stress" => stress_work(sizes),
-        "again" => Some(Work::Again),
-        _ => return Err(WordsFault::NoWork),
-    };
-    work.ok_or(WordsFault::NoSize)
+    match name_of(word.as_str()) {
+        Some(name) => name.work(sizes).ok_or(WordsFault::NoSize),
+        None => Err(WordsFault::NoWork),
+    }
 }
