@@ -13,6 +13,7 @@ pub mod OneGrower
 pub mod Standing
 pub mod Fronts
 pub mod Blocks
+pub mod Wanted
 mod WorkedInputs
 mod WorkedFiles
 pub mod WorkedVacant
