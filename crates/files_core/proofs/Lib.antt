@@ -16,4 +16,7 @@ pub mod Blocks
 pub mod Wanted
 mod WorkedInputs
 mod WorkedFiles
+mod WorkedAnswers
+mod WorkedChanges
+mod WorkedRefusals
 pub mod WorkedVacant
