@@ -1,5 +1,5 @@
 -- What the definitions of answers say of files of few records: the text that fits each, and the nearest that doesn't.
-use Rattle.std.proofs.Common.{◌≡◌, inl, inr, ℕ, zero, suc, ◌^◌, ◌<◌, Bool, true, List, [], ◌∷◌}
+use Rattle.std.proofs.Common.{◌≡◌, inl, inr, ℕ, zero, suc, ◌^◌, ◌<◌, Bool, true, true≢false, List, [], ◌∷◌}
 use Rattle.std.proofs.Common.{◌-◌, ◌++◌, length, take, drop, get_or, Option, Some, None, refl, sym, ap, subst, ◌∙◌, arith, nat_eq, codes, decimal, count_by}
 use Rattle.std.specs.Cmp.{both_ways, unsigned_Decides}
 use Rattle.std.specs.Fmt.{digits}
@@ -103,9 +103,9 @@ module _ (form : Encoding ℕ) (small : form.width < 2 ^ 16) (file : List ℕ) (
     where
       none_but_one : (found : Option ℕ) → IsFirst (λ r. nat_eq r 5) four found → codes "3\n" ≡ found_line found → ⊥
       none_but_one None first told = absurd (omega (arith, first))
-      none_but_one (Some zero) first told = absurd (let no = first.1 in cc)
+      none_but_one (Some zero) first told = absurd (true≢false (sym first.1))
       none_but_one (Some (suc zero)) first told = absurd (omega (arith, ap (λ (bs : List ℕ). get_or bs 0 0) (told ∙ one_line)))
-      none_but_one (Some (suc (suc zero))) first told = absurd (let no = first.1 in cc)
+      none_but_one (Some (suc (suc zero))) first told = absurd (true≢false (sym first.1))
       none_but_one (Some (suc (suc (suc zero)))) first told = absurd (omega (arith, first.0))
       none_but_one (Some (suc (suc (suc (suc n))))) first told = absurd first.1
 
