@@ -1,8 +1,11 @@
 -- Worked values of definitions that stand in conclusions alone.
-use Rattle.std.proofs.Common.{◌≡◌, ℕ, zero, suc, ◌+◌, ◌<◌, List, [], ◌∷◌, false, Some, Ok, Err, ap, sym, ◌∙◌, refl, length, take, drop, slice_get, get_or, sum_by, inl, inr, arith}
+use Rattle.std.proofs.Common.{◌≡◌, ℕ, zero, suc, ◌+◌, ◌<◌, List, [], ◌∷◌, false, Some, Ok, Err, ap}
+use Rattle.std.proofs.Common.{sym, ◌∙◌, refl, length, take, drop, slice_get, get_or, sum_by, inl, inr, arith, Bor, None, codes}
+use Rattle.std.specs.Fmt.{digits}
 use Rattle.std.specs.Prelude.{◌^◌, ◌≤◌}
 use Rattle.std.proofs.lemmas.List.{length-drop}
 use Rattle.block_core.specs.Growth.{Growth}
+use Rattle.block_core.specs.declared.fault.FreshFault.TheVariants as block
 use Rattle.directory_core.specs.Identity.{Name, Identity}
 use Rattle.directory_core.specs.Known.{Held, Known}
 use Rattle.book_core.specs.declared.fault.GrowFault.{GrowFault}
@@ -12,10 +15,12 @@ use Rattle.book_core.specs.declared.fault.SettleFault.TheVariants as settle
 use Rattle.book_core.specs.declared.mark.MarkState.{MarkState}
 use Rattle.book_core.specs.declared.mark.MarkState.TheVariants.{Running, Ended, Broken}
 use Rattle.book_core.specs.Marks.{MarkName, MarkEnd, nothing_told, word_of, Rises}
-use Rattle.book_core.specs.Lists.{Phase, Seated, IsRestOfPiece, joined_pieces, own_of, StandInList}
+use Rattle.book_core.specs.Lists.{Phase, Seated, IsFirstOf, IsPlaceIn, IsRestOfPiece, IsSeatOf, joined_pieces, own_of, seat_list, seat_pieces, StandInList}
 use Rattle.book_core.specs.Pieces.{from_place, IsLeftOf}
-use Rattle.book_core.specs.Snapshots.{HaveStarts, full_of, ShowsSeat}
-use Rattle.book_core.specs.Beginning.{IsNewSeat, MayBegin, IsBeginRefusal}
+use Rattle.book_core.specs.Snapshots.{AreEven, AreFoundAt, HasRoomFor, HaveStarts, IsFoundAt, IsStepWith, Shown, ShowsSeat, full_of, list_in, pieces_in}
+use Rattle.book_core.specs.Beginning.{AreNewSeats, IsNewSeat, MayBegin, IsBeginRefusal}
+use Rattle.book_core.specs.Faults.{fault_of_block, state_of}
+use Rattle.book_core.specs.Names.{grow_name}
 use Rattle.book_core.specs.Growing.{SeatLearns, IsPast, SeatIsTold, IsToldOf}
 use Rattle.book_core.proofs.PieceLists.{length-from_place}
 
@@ -119,6 +124,46 @@ module _ (name : Name) (mark : MarkName) (held : Held) where
   lacks_one : (live : Phase ℕ) → ShowsSeat live (seat [] (mine 0 ∷ [])) (record { of = live; growths = [] }) → ⊥
   lacks_one live shows = let few = ap length shows.growths in omega arith
 
+  -- seats have the ids 0 and 1, and not both the first
+  not_both_first : AreNewSeats of mark (seat [] [] ∷ seat [] [] ∷ []) → ⊥
+  not_both_first new = let id = (new 1 (seat [] []) refl).id_is in omega arith
+
+  -- of its own growths the next one from a number on
+  next_own : IsFirstOf 0 1 1 (mine 0 ∷ mine 1 ∷ [])
+  next_own = record { growth = mine 1; at = refl; bears = refl; first = refl }
+
+  not_a_later_one : IsFirstOf 0 0 1 (mine 0 ∷ mine 1 ∷ []) → ⊥
+  not_a_later_one next = let few = ap length next.first in omega arith
+
+  not_one_before : IsFirstOf 0 1 0 (mine 0 ∷ mine 1 ∷ []) → ⊥
+  not_one_before next = let few = ap length next.first in omega arith
+
+  -- the list that it reads: first the records from before the phase, in the order of their blocks
+  abbrev over : Phase ℕ
+  over = record { directory = of; mark = mark; seat_count = 1; blocks = (1 ∷ 2 ∷ []) ∷ [] ∷ [] }
+
+  read_list : seat_list over (seat [] (mine 0 ∷ [])) ≡ 1 ∷ 2 ∷ 7 ∷ []
+  read_list = refl
+
+  read_pieces : seat_pieces over (seat [] (mine 0 ∷ [])) ≡ (1 ∷ 2 ∷ []) ∷ [] ∷ (7 ∷ []) ∷ []
+  read_pieces = refl
+
+  -- and that of a snapshot, which has no piece without a record
+  abbrev snapshot : Shown ℕ
+  snapshot = record { of = over; growths = (7 ∷ []) ∷ [] }
+
+  shown_pieces : (pieces_in snapshot ≡ (1 ∷ 2 ∷ []) ∷ (7 ∷ []) ∷ []) × (list_in snapshot ≡ 1 ∷ 2 ∷ 7 ∷ [])
+  shown_pieces = (refl, refl)
+
+  shows : ShowsSeat over (seat [] (mine 0 ∷ [])) snapshot
+  shows = record { of = refl; growths = refl; list = refl }
+
+  shows_alone : (live : Phase ℕ) (known : List (Growth ℕ)) (shown : Shown ℕ) → ShowsSeat live (seat [] known) shown → (shown.of ≡ live) × (list_in shown ≡ seat_list live (seat [] known))
+  shows_alone live known shown so = (so.of, so.list)
+
+  of_book : (live : Phase ℕ) (known : List (Growth ℕ)) → IsSeatOf live (seat [] known) → (of ≡ live.directory) × (mark ≡ live.mark)
+  of_book live known so = (so.directory, so.mark)
+
 -- ---- phases that begin
 
 no_room : MayBegin 0 1 → ⊥
@@ -203,3 +248,62 @@ none_empty laid = let some = laid.full 0 [] (omega arith) in omega arith
 
 starts_at_ends : HaveStarts both (0 ∷ 1 ∷ []) 3 → ⊥
 starts_at_ends laid = let second = laid.start_at 1 (omega arith) in omega arith
+
+-- ---- places, and what is found at them
+
+third_in : IsPlaceIn three 2 2 0
+third_in = record { piece = 3 ∷ []; at = refl; inside = omega arith; before = refl }
+
+not_in_no_piece : IsPlaceIn three 2 1 0 → ⊥
+not_in_no_piece at = let is = at.at in let inside = at.inside in let none : [] ≡ at.piece = cc in omega (arith, ap length none)
+
+abbrev two : List ℕ
+two = 5 ∷ 6 ∷ []
+
+of_some : (a b : ℕ) → Some a ≡ Some b → a ≡ b
+of_some a b same = cc
+
+none_past_the_end : IsFoundAt two 2 None
+none_past_the_end = omega arith
+
+not_none_inside : IsFoundAt two 1 None → ⊥
+not_none_inside past = omega arith
+
+second_alone : (it : Bor ℕ) → IsFoundAt two 1 (Some it) → it.now ≡ 6
+second_alone it found = sym (of_some 6 it.now found)
+
+-- in the order in which the positions are named
+asked_second : (it : Bor ℕ) → AreFoundAt two (1 ∷ []) (Some it ∷ []) → it.now ≡ 6
+asked_second it found = second_alone it (found 0 1 (Some it) refl refl)
+
+-- ---- pieces of one length, but the last
+
+uneven : AreEven (0 ∷ 3 ∷ []) 4 2 → ⊥
+uneven even = let second = even.start_at 1 (omega arith) (omega arith) in omega arith
+
+too_long : AreEven (0 ∷ 2 ∷ []) 5 2 → ⊥
+too_long even = let most = even.no_more (omega arith) in omega arith
+
+-- behind two full pieces of two records a third of one, and none longer, nor behind one that isn't full
+a_last_one : IsStepWith 2 4 2 1 2
+a_last_one = inr (inr (refl, refl, omega arith))
+
+no_longer_one : IsStepWith 2 4 2 3 2 → ⊥
+no_longer_one step = elim step [ inl none ↦ omega arith | inr some ↦ elim some [ inl first ↦ (let none = first.0 in omega arith) | inr next ↦ (let short = next.2 in omega arith) ] ]
+
+not_behind_a_short_one : IsStepWith 2 3 2 1 2 → ⊥
+not_behind_a_short_one step = elim step [ inl none ↦ omega arith | inr some ↦ elim some [ inl first ↦ (let none = first.0 in omega arith) | inr next ↦ (let full = next.1 in omega arith) ] ]
+
+no_start_room : HasRoomFor {R = ℕ} (record { pieces = (1 ∷ []) ∷ []; slice_room = 2; start_room = 1 }) 1 → ⊥
+no_start_room room = let starts = room.1 in omega arith
+
+-- ---- one fault in another's place, and their names
+
+in_place : (fault_of_block block.Empty ≡ grow.Empty) × (fault_of_block block.TooLarge ≡ grow.TooLarge) × (fault_of_block block.Memory ≡ grow.Memory)
+    × (state_of settle.Ended ≡ Ended) × (state_of settle.Broken ≡ Broken)
+in_place = (refl, refl, refl, refl, refl)
+
+fault_names : (grow_name grow.Closed ≡ codes "closed") × (grow_name grow.Full ≡ codes "full") × (grow_name grow.TooLong ≡ codes "too long") × (grow_name (grow.Strayed 3) ≡ codes "strayed 3")
+    × (grow_name grow.Memory ≡ codes "memory") × (grow_name grow.Empty ≡ codes "empty") × (grow_name grow.TooLarge ≡ codes "too large")
+unfolding digits
+fault_names = (refl, refl, refl, refl, refl, refl, refl)

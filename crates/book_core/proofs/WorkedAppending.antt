@@ -105,5 +105,11 @@ naps = (
 no_longer : IsNextNap 160 320 → ⊥
 no_longer is = let bounded = is.bounded in omega arith
 
+no_long_first : IsNextNap 0 161 → ⊥
+no_long_first is = let bounded = is.bounded in omega arith
+
+none_at_first : IsNextNap 0 0 → ⊥
+none_at_first is = let some = is.some in omega arith
+
 no_shorter : IsNextNap 80 80 → ⊥
 no_shorter is = let doubled = is.doubled (omega arith) in omega arith

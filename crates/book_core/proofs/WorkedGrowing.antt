@@ -1,5 +1,5 @@
 -- Worked values of what a growth does to a seat, and of which fault may come where.
-use Rattle.std.proofs.Common.{◌≡◌, ℕ, zero, suc, ◌+◌, ◌-◌, ◌⊎◌, inl, inr, List, [], ◌∷◌, ◌++◌, false, length, take, replicate, refl, ap, sym, ◌∙◌, arith}
+use Rattle.std.proofs.Common.{◌≤◌, ◌≡◌, ℕ, zero, suc, ◌+◌, ◌-◌, ◌⊎◌, inl, inr, List, [], ◌∷◌, ◌++◌, false, length, take, replicate, refl, ap, sym, ◌∙◌, arith}
 use Rattle.std.specs.Prelude.{◌^◌}
 use Rattle.std.proofs.lemmas.List.{take_at, length-append, length-replicate}
 use Rattle.block_core.specs.Growth.{Growth}
@@ -280,3 +280,7 @@ module _ (name : Name) (mark : MarkName) where
   refuses_to_fill_full Memory why = let room = why.1 in absurd (omega arith)
   refuses_to_fill_full Empty why = absurd why
   refuses_to_fill_full TooLarge why = let room = why.1 in absurd (omega arith)
+
+  -- what is past the limit isn't refused for memory
+  fill_for_memory : (seat : Seated ℕ) (n : ℕ) → IsFillRefusal 8 live seat n Memory → n ≤ 4294967296
+  fill_for_memory seat n why = why.4

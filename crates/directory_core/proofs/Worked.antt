@@ -1,5 +1,6 @@
 -- Worked values of definitions that stand in conclusions alone.
-use Rattle.std.proofs.Common.{◌≡◌, ℕ, zero, suc, ◌+◌, inl, inr, Bool, true, false, List, [], ◌∷◌, Option, Some, None, Ok, Err, MatchOption, length, take, drop, slice_get, refl, ap, sym, subst, ◌∙◌, arith}
+use Rattle.std.proofs.Common.{◌≡◌, ℕ, zero, suc, ◌+◌, inl, inr, Bool, true, false, List, [], ◌∷◌, Option, Some, None, Ok, Err, MatchOption, length, take, drop, slice_get, refl, ap, sym, subst, ◌∙◌, arith, codes}
+use Rattle.std.specs.Fmt.{digits}
 use Rattle.once_cell.specs.declared.race.note.Note.{Note}
 use Rattle.block_core.specs.Growth.{Growth}
 use Rattle.directory_core.specs.declared.fault.DirFault.{DirFault}
@@ -11,6 +12,7 @@ use Rattle.directory_core.specs.Identity.{Name, Identity}
 use Rattle.directory_core.specs.Known.{Known, Held, KnowsAll}
 use Rattle.directory_core.specs.Notes.{IsEnd, EndsIn, IsEndedAt}
 use Rattle.directory_core.specs.Judging.{IsJudged}
+use Rattle.directory_core.specs.Names.{dir_name}
 use Rattle.directory_core.specs.Limits.{growth_limit}
 use Rattle.record_core.specs.Limits.{record_limit}
 use Rattle.directory_core.specs.Spot.{places_before, IsSpot}
@@ -142,6 +144,10 @@ module _ (name : Name) where
   just_in_limit : DirectoryKeepsLimit (bounded name 3 5) (one ∷ other ∷ []) next
   just_in_limit = omega arith
 
+fault_names : (dir_name Taken ≡ codes "taken") × (dir_name Full ≡ codes "full") × (dir_name (Strayed 3) ≡ codes "strayed 3") × (dir_name Memory ≡ codes "memory")
+unfolding digits
+fault_names = (refl, refl, refl, refl)
+
 -- ---- what a look makes of what it finds behind the first growth
 
 module _ (name : Name) (held : Held) where
@@ -173,8 +179,22 @@ module _ (name : Name) (held : Held) where
   not_said_to_end new judged = let is = judged.0 in absurd (omega arith)
 
   -- that it strayed is kept in mind, and the number named
-  strays : (new : Known ℕ) (fault : DirFault) → IsJudged 8 (knows (one ∷ []) false false) new astray (Err fault) → (fault ≡ Strayed 1) × (new.strayed ≡ true)
-  strays new fault judged = (judged.1, judged.3)
+  strays : (new : Known ℕ) (fault : DirFault) → IsJudged 8 (knows (one ∷ []) false false) new astray (Err fault) → (fault ≡ Strayed 1) × (new.strayed ≡ true) × (new.entries ≡ one ∷ [])
+  strays new fault judged = (judged.1, judged.3, judged.2)
+
+  -- and each leaves just this of the pass
+  known_then : (new : Known ℕ) → IsJudged 8 (knows (one ∷ []) false true) new other (Ok true) → (new.entries ≡ one ∷ other ∷ []) × (new.strayed ≡ false)
+  known_then new judged = (judged.1, judged.2)
+
+  ended_then : (new : Known ℕ) → IsJudged 8 (knows (one ∷ []) false true) new end (Ok false) → (new.ended ≡ true) × (new.entries ≡ one ∷ []) × (new.strayed ≡ false)
+  ended_then new judged = (judged.1, judged.2, judged.3)
+
+  -- what passes the limit doesn't follow, nor does what has no record
+  not_past_limit : (new : Known ℕ) → IsJudged 8 (record (knows (one ∷ []) false false) { of = bounded name 2 2 }) new other (Ok true) → ⊥
+  not_past_limit new judged = let fits = judged.0.fits in absurd (omega arith)
+
+  not_without_records : (new : Known ℕ) → IsJudged 8 (knows (one ∷ []) false false) new (record other { records = [] }) (Ok true) → ⊥
+  not_without_records new judged = let some = judged.0.block.some in absurd (omega arith)
 
   the_end : IsJudged 8 (knows (one ∷ []) false false) (knows (one ∷ []) true false) end (Ok false)
   the_end = (refl, refl, refl, refl)

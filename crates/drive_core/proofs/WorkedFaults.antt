@@ -8,13 +8,15 @@ use Rattle.segment_core.specs.declared.format.Shape.{Shape}
 use Rattle.pen_core.specs.declared.fault.PenFault.TheVariants as pen
 use Rattle.pen_core.specs.Births.{IsExisting, WritesNothing}
 use Rattle.book_core.specs.declared.fault.GrowFault.TheVariants as grow
+use Rattle.book_core.specs.declared.seat.Receipt.{Receipt}
 use Rattle.drive_core.specs.declared.fault.Fault.TheVariants.{Grow}
+use Rattle.drive_core.specs.Line.{Allows}
 use Rattle.drive_core.specs.Outcome.{struck}
 use Rattle.drive_core.specs.Step as step
 use Rattle.drive_core.specs.World.{World}
-use Rattle.drive_core.specs.OpeningRows.{IsMaking}
-use Rattle.drive_core.specs.GrowthRows.{IsPut, within, knowing, with_growth}
-use Rattle.drive_core.proofs.WorkedSteps.{two, phase_of}
+use Rattle.drive_core.specs.OpeningRows.{AreCallsOfMaking, IsMaking}
+use Rattle.drive_core.specs.GrowthRows.{IsPut, put_lines, receipt_of, within, knowing, with_growth}
+use Rattle.drive_core.proofs.WorkedSteps.{one, two, phase_of}
 
 -- ---- a put of no record, where two growths were put and the seat knows one
 
@@ -53,6 +55,27 @@ puts refused = elim refused [
   | inl put ↦ (let is = put.0 in absurd cc)
   | inr why ↦ (let same = ap (λ (w : World ℕ). length w.history) why.3.2 in omega arith)
 ]
+
+-- ---- a put that is made: of one record, behind a growth of two
+
+one_more : (receipt : Receipt) (w : World ℕ) → IsPut 8 one (phase_of one.phase) 1 (3 ∷ []) (step.Grown receipt) w → (w ≡ two) × (step.Grown receipt ≡ receipt_of one (phase_of one.phase) 1 (3 ∷ []))
+one_more receipt w put = elim put [
+  | inl made ↦ (made.1.1, made.1.0)
+  | inr why ↦ (let is = why.2 in absurd cc)
+]
+
+-- the seat's second growth has the serial 1
+second_serial : receipt_of two (phase_of two.phase) 0 (4 ∷ []) ≡ step.Grown (record { number = 2; start = 3; len = 1; seat = 0; serial = 1 })
+second_serial = refl
+
+-- one that no frame holds is refused
+past_a_frame : (records : List ℕ) → length records ≡ 131072 → Allows (put_lines 8 two (phase_of two.phase) records) (Some (Grow grow.TooLarge))
+past_a_frame records many = rw many refl
+
+-- ---- a making makes each of its calls: eight on an empty disk
+
+eight_calls : (n : ℕ) → AreCallsOfMaking [] None n → n ≡ 8
+eight_calls n calls = calls
 
 -- ---- a making over a file that exists
 

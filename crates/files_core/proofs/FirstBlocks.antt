@@ -6,7 +6,7 @@ use Rattle.std.specs.Io.KnownBytes.{Consumes}
 use Rattle.std.proofs.KnownBytes.{Consumes-nil, Consumes-trans}
 use Rattle.std.proofs.Math.Nat.{add-mul}
 use Rattle.std.proofs.lemmas.Grind.{flat_map-append}
-use Rattle.std.proofs.lemmas.List.{append_assoc, append-nil, length-append, length-drop, length-map, map-append, take-append-drop, take-append-le, take-map}
+use Rattle.std.proofs.lemmas.List.{append_assoc, length-append, length-drop, length-map, map-append, take-append-drop, take-append-le, take-map}
 use Rattle.segment_core.specs.Written.{joined}
 use Rattle.text_core.specs.Text.{Spelling, ended_line}
 use Rattle.text_core.specs.Lines.{ended, AreLines, HasNoLf}

@@ -13,6 +13,10 @@ pub mod OneGrower
 pub mod Standing
 pub mod Fronts
 pub mod Blocks
+pub mod Wanted
 mod WorkedInputs
 mod WorkedFiles
+mod WorkedAnswers
+mod WorkedChanges
+mod WorkedRefusals
 pub mod WorkedVacant

@@ -1,26 +1,19 @@
 -- Growths that are appended as they are read.
-use Rattle.std.proofs.Common.{◌≡◌, ◌⊎◌, ℕ, zero, suc, ◌+◌, ◌-◌, ◌*◌, ◌^◌, ◌<◌, ◌≤◌, min, Bool, List, [], ◌∷◌, ◌++◌}
-use Rattle.std.proofs.Common.{length, map, take, get_or, slice_get, All, Option, Some, Result, Ok, Err, IfOk, MatchResult, zero-add, inl, inr, refl, sym, ap, subst, ◌∙◌, arith}
-use Rattle.std.specs.Prelude.{cond}
+use Rattle.std.proofs.Common.{◌≡◌, ◌⊎◌, ℕ, suc, ◌+◌, ◌-◌, ◌*◌, ◌^◌, ◌<◌, ◌≤◌, min, List, [], ◌∷◌, ◌++◌}
+use Rattle.std.proofs.Common.{length, take, Option, Result, Ok, Err, IfOk, MatchResult, zero-add, inl, inr, refl, sym, ap, subst, ◌∙◌, arith}
 use Rattle.std.proofs.Math.Nat.{add-mul}
-use Rattle.std.proofs.lemmas.Bool.{eq-eqb}
-use Rattle.std.proofs.lemmas.List.{append_assoc, append-nil, length-append, length-map, map-append, take-append-le, take_all}
+use Rattle.std.proofs.lemmas.List.{append_assoc, append-nil, length-append, length-map, map-append, take-append-le}
 use Rattle.std.proofs.lemmas.List.Concat.{flat_map-append}
-use Rattle.std.proofs.lemmas.List.Elements.{All-head, All-tail}
 use Rattle.record_core.specs.Bytes.{Encoding}
 use Rattle.disk_core.specs.State.{State, now, IsImage}
 use Rattle.disk_core.specs.Calls.{bytes_of}
 use Rattle.disk_core.specs.Moments.{LeavesOnly}
 use Rattle.disk_core.proofs.JoinedMoments.{LeavesOnly-start, LeavesOnly-join, LeavesOnly-weaker}
 use Rattle.block_core.specs.Growth.{Growth}
-use Rattle.book_core.specs.Lists.{own_of}
-use Rattle.book_core.specs.declared.fault.GrowFault.{GrowFault}
-use Rattle.book_core.specs.declared.fault.GrowFault.TheVariants as grow_faults
 use Rattle.directory_core.specs.Chain.{joined}
 use Rattle.pen_core.specs.Typed.{OpensTo}
 use Rattle.vault_core.specs.Sharing.{OpensToGrown}
 use Rattle.vault_core.specs.Vault.{VaultOf, MayHold, list_of}
-use Rattle.crew_core.specs.Crewing.{IsReason, crew_room}
 use Rattle.files_core.specs.declared.appended.Appended.{Appended}
 use Rattle.files_core.specs.declared.ended.Ended.{Ended}
 use Rattle.files_core.specs.declared.ended.Ended.TheVariants.{Done, OutputFailed}
@@ -32,12 +25,11 @@ use Rattle.files_core.specs.declared.fault.Stopped.{Stopped}
 use Rattle.text_core.specs.Text.{Spelling}
 use Rattle.files_core.specs.declared.batches.Rest.{Rest}
 use Rattle.files_core.specs.declared.batches.Rest.TheVariants.{Nothing}
-use Rattle.files_core.specs.Appending.{AreAllTold, AreOfBlocks, GrowsTo, HasAppended, HasAppendedAll, HasGone, IsAppendRefusal, each_records}
+use Rattle.files_core.specs.Appending.{AreAllTold, AreOfBlocks, GrowsTo, HasAppended, HasAppendedAll, HasGone, IsAppendFault, each_records}
 use Rattle.files_core.specs.Appending.{IsBatchStop, IsSettled, IsStopTold, StandBehindList, GrowthsStand, StopsAt}
 use Rattle.files_core.specs.Batches.{AreReadSo, IsBatch}
-use Rattle.files_core.specs.Dealt.{count_for, dealt}
-use Rattle.files_core.specs.InputBlocks.{AreFirstBlocks, AreOfAllLines, AreOfFirstLines}
-use Rattle.files_core.specs.Loading.{AreDealt, AllMade, StandBehind, IsGrowthStop, IsStopOf}
+use Rattle.files_core.specs.InputBlocks.{AreFirstBlocks, AreOfFirstLines}
+use Rattle.files_core.specs.Loading.{AreDealt, AllMade, StandBehind, IsGrowthStop}
 use Rattle.files_core.specs.Opened.{IsOpenedOn}
 use Rattle.files_core.proofs.Blocks.{counts_on}
 use Rattle.files_core.proofs.FirstBlocks.{read_all, some_read, then_first}
@@ -369,10 +361,10 @@ module _ {R D : Type 0} (form : Encoding R) (keeps : D → Type 0) (states : D �
     IsWhole = HasAppendedAll form keeps states spelling block known disk left appended
 
     abbrev IsRefused : FileFault → Type 0
-    IsRefused = IsAppendRefusal form keeps states failures spelling block known disk left appended
+    IsRefused = IsAppendFault form keeps states failures spelling block known disk left appended
 
     pub appended_some : (fault : FileFault) → HasAppended form keeps states spelling block known v left appended (Err fault)
-        → IsAppendRefusal form keeps states failures spelling block known disk left appended fault
+        → IsAppendFault form keeps states failures spelling block known disk left appended fault
     unfolding growths_stand
     appended_some (faults.Input refusal) has = (has.0, growths_stand has.0 [] has.1, has.2, has.3)
     appended_some (faults.Vault fault) has = (has.0, has.1, growths_stand has.0 has.1 has.2, has.3, has.4)
@@ -384,6 +376,6 @@ module _ {R D : Type 0} (form : Encoding R) (keeps : D → Type 0) (states : D �
     pub appended_ends : (done : Result (Unit {0}) FileFault) (ended : Ended) → MatchResult done (λ _. (ended ≡ Done) ⊎ (ended ≡ OutputFailed)) (λ fault. ended ≡ ends.Refused fault)
         → HasAppended form keeps states spelling block known v left appended done
         → EndsAs (HasAppendedAll form keeps states spelling block known disk left appended)
-        (IsAppendRefusal form keeps states failures spelling block known disk left appended) ended
+        (IsAppendFault form keeps states failures spelling block known disk left appended) ended
     appended_ends (Ok all) ended told has = done_ends IsWhole IsRefused ended told (appended_all has)
     appended_ends (Err fault) ended told has = subst (EndsAs IsWhole IsRefused) (sym told) (appended_some fault has)

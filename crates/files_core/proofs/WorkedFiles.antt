@@ -1,5 +1,5 @@
 -- What the definitions of the files that commands leave allow and rule out, on disks of one or two states.
-use Rattle.std.proofs.Common.{◌≡◌, ◌⊎◌, inl, inr, ℕ, zero, suc, ◌+◌, ◌-◌, ◌^◌, ◌<◌, ◌≤◌, List, [], ◌∷◌, ◌++◌, length, take, All, Option, Some, refl, sym, ap, subst, ◌∙◌, arith}
+use Rattle.std.proofs.Common.{◌≡◌, ◌⊎◌, inl, inr, ℕ, zero, suc, ◌+◌, ◌^◌, ◌<◌, ◌≤◌, List, [], ◌∷◌, ◌++◌, length, take, All, Some, refl, sym, ap, subst, ◌∙◌, arith}
 use Rattle.std.specs.Prelude.{slice_get}
 use Rattle.std.proofs.lemmas.List.{length-append}
 use Rattle.std.proofs.lemmas.List.Elements.{All-nil, All-cons}
@@ -8,7 +8,6 @@ use Rattle.disk_core.specs.State.{State, now, settled, IsImage}
 use Rattle.disk_core.specs.Moments.{LeftSince}
 use Rattle.disk_core.proofs.ImageLemmas.{IsImage-settled, settled_image}
 use Rattle.segment_core.specs.Fault.{damaged, IsFirstFault}
-use Rattle.segment_core.specs.Frame.{Frame}
 use Rattle.segment_core.specs.Tally.{tally_of}
 use Rattle.segment_core.specs.declared.fault.Cause.TheVariants.{NoGate, ShortFrame}
 use Rattle.segment_core.specs.declared.fault.ScanFault.{ScanFault}
@@ -20,8 +19,7 @@ use Rattle.book_core.specs.Lists.{own_of}
 use Rattle.pen_core.specs.Held.{Opens}
 use Rattle.pen_core.specs.Typed.{OpensTo}
 use Rattle.pen_core.proofs.Typed.{OpensTo_same}
-use Rattle.pen_core.specs.Pen.{MayOpen, OpensWith}
-use Rattle.pen_core.specs.PenOf.{PenOf}
+use Rattle.pen_core.specs.Pen.{OpensWith}
 use Rattle.vault_core.specs.Sharing.{OpensToGrown}
 use Rattle.vault_core.specs.Vault.{OpensToEither}
 use Rattle.files_core.specs.declared.appended.Appended.{Appended}

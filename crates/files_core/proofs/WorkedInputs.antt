@@ -1,8 +1,8 @@
 -- What the definitions of lines, blocks and growers allow and rule out, on small inputs.
-use Rattle.std.proofs.Common.{◌≡◌, ◌≢◌, inl, inr, ℕ, zero, suc, ◌+◌, ◌-◌, ◌*◌, ◌^◌, min, ◌<◌, ◌≤◌, List, [], ◌∷◌, ◌++◌, length, get_or, map, take, drop, Option, Some, None, refl, sym, ap, subst, ◌∙◌, arith}
-use Rattle.std.specs.Prelude.{codes, slice_get, count_by}
+use Rattle.std.proofs.Common.{◌≡◌, ◌≢◌, inl, ℕ, zero, suc, ◌+◌, ◌-◌, ◌*◌, ◌^◌, min, ◌<◌, ◌≤◌, List, []}
+use Rattle.std.proofs.Common.{◌∷◌, ◌++◌, length, get_or, map, take, drop, Option, Some, None, refl, sym, ap, ◌∙◌, arith}
+use Rattle.std.specs.Prelude.{slice_get, count_by}
 use Rattle.std.specs.List.{AllByRecursion}
-use Rattle.std.specs.Io.KnownBytes.{Consumes}
 use Rattle.std.proofs.lemmas.List.{append_assoc, append-nil, length-append, length-map, take_at, drop_at}
 use Rattle.std.proofs.lemmas.List.Elements.{All-nil, All-cons}
 use Rattle.std.proofs.lemmas.List.Sums.{sum_by-append}
@@ -14,11 +14,11 @@ use Rattle.text_core.specs.GroupLine.{group_line}
 use Rattle.text_core.specs.Lines.{HasNoLf}
 use Rattle.files_core.specs.declared.appended.Appended.{Appended}
 use Rattle.files_core.specs.declared.asked.Window.{Window}
-use Rattle.files_core.specs.Appending.{AreAllTold, AreOfBlocks}
+use Rattle.files_core.specs.Appending.{AreOfBlocks}
 use Rattle.files_core.specs.Batches.{is_lf}
 use Rattle.files_core.specs.Dealt.{count_for, dealt}
 use Rattle.files_core.specs.GrowthLines.{IsFirstTooLarge, lone_group}
-use Rattle.files_core.specs.InputBlocks.{AreFirstBlocks, AreInputBlocks, AreOfFirstLines, growth_lines_text}
+use Rattle.files_core.specs.InputBlocks.{AreFirstBlocks, AreOfFirstLines, growth_lines_text}
 use Rattle.files_core.specs.LineBlocks.{AreLineBlocks, last_growth}
 use Rattle.files_core.specs.Listing.{in_window}
 use Rattle.files_core.specs.Loading.{AllMade, AreDealt}

@@ -1,5 +1,5 @@
 -- Growths that are appended as they are read.
-use Rattle.std.specs.Prelude.{◌≡◌, ℕ, ◌+◌, ◌-◌, ◌*◌, ◌^◌, ◌<◌, ◌≤◌, min, List, [], ◌++◌, length, map, Option, Result, Ok, Err}
+use Rattle.std.specs.Prelude.{◌≡◌, ℕ, ◌+◌, ◌-◌, ◌*◌, ◌^◌, min, List, [], ◌++◌, length, map, Option, Result, Ok, Err}
 use Rattle.record_core.specs.Bytes.{Encoding}
 use Rattle.disk_core.specs.State.{State, now, IsImage}
 use Rattle.disk_core.specs.Calls.{bytes_of}
@@ -157,17 +157,17 @@ module _ {R D : Type 0} (form : Encoding R) (keeps : D → Type 0) (states : D �
   -- Where it was refused: at opening, and then nothing was written; at a line, or by a grower, and all that stands is told; or by
   -- the vault, and what was begun behind that may stand too. What is told are growths of the first lines of the input, each of a
   -- whole block.
-  abbrev pub IsAppendRefusal : (D → ℕ) → Spelling R → ℕ → Option (List ℕ) → D → D → Appended → FileFault → Type 0
-  IsAppendRefusal faults spelling block input disk left appended (Open fault) =
+  abbrev pub IsAppendFault : (D → ℕ) → Spelling R → ℕ → Option (List ℕ) → D → D → Appended → FileFault → Type 0
+  IsAppendFault faults spelling block input disk left appended (Open fault) =
       (appended ≡ nothing_appended) × IsNotOpened form keeps states faults disk left fault
-  IsAppendRefusal faults spelling block input disk left appended (Input refusal) =
+  IsAppendFault faults spelling block input disk left appended (Input refusal) =
       (made : List (Growth R)) × (keeps left → GrowthsStand form states disk left appended made []) × AreOfBlocks block appended made
       × AreOfFirstLines spelling block input (each_records made)
-  IsAppendRefusal faults spelling block input disk left appended (Vault fault) =
+  IsAppendFault faults spelling block input disk left appended (Vault fault) =
       (made more : List (Growth R)) × (keeps left → GrowthsStand form states disk left appended made more) × AreOfBlocks block appended made
       × AreOfFirstLines spelling block input (each_records made)
-  IsAppendRefusal faults spelling block input disk left appended (Grower stopped) =
+  IsAppendFault faults spelling block input disk left appended (Grower stopped) =
       (made : List (Growth R)) × (keeps left → GrowthsStand form states disk left appended made []) × AreOfBlocks block appended made
       × AreOfFirstLines spelling block input (each_records made) × IsBatchStop form.width appended made stopped
-  IsAppendRefusal faults spelling block input disk left appended (Word word) = ⊥
-  IsAppendRefusal faults spelling block input disk left appended (Upgrade fault) = ⊥
+  IsAppendFault faults spelling block input disk left appended (Word word) = ⊥
+  IsAppendFault faults spelling block input disk left appended (Upgrade fault) = ⊥

@@ -1,5 +1,5 @@
 -- Lines that are read a batch after the other.
-use Rattle.std.specs.Prelude.{◌≡◌, ◌⊎◌, ℕ, ◌==◌, ◌+◌, ◌*◌, ◌^◌, ◌-◌, min, Bool, List, [], ◌++◌, length, take, Option, count_by}
+use Rattle.std.specs.Prelude.{◌≡◌, ◌⊎◌, ℕ, ◌==◌, ◌*◌, ◌^◌, ◌-◌, min, Bool, List, [], ◌++◌, length, take, Option, count_by}
 use Rattle.std.specs.Io.KnownBytes.{Consumes, IsAtEnd}
 use Rattle.text_core.specs.Refusals.{IsInputRefusal}
 use Rattle.text_core.specs.Text.{Spelling, ended_line}

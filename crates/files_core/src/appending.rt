@@ -5,7 +5,7 @@ ghost use Rattle.std.specs.Io.KnownBytes.{prepend_known};
 ghost use Rattle.std.specs.NonZero.{non_zero_u32_get};
 ghost use Rattle.block_core.specs.Growth.{Growth};
 ghost use Rattle.vault_core.specs.Vault.{VaultOf, list_of};
-ghost use Rattle.files_core.specs.Appending.{GrowsTo, HasAppended, HasAppendedAll, HasGone, IsAppendRefusal, IsSettled, StopsAt, each_records};
+ghost use Rattle.files_core.specs.Appending.{GrowsTo, HasAppended, HasAppendedAll, HasGone, IsAppendFault, IsSettled, StopsAt, each_records};
 ghost use Rattle.files_core.specs.Batches.{AreReadSo, IsBatch};
 ghost use Rattle.files_core.specs.Ended.{EndsAs, WritesText};
 ghost use Rattle.files_core.specs.InputBlocks.{AreFirstBlocks};
@@ -183,7 +183,10 @@ fn append_opened<
     writer: &mut W,
 ) -> (D, Appended, Ended)
     requires { D.keeps vault.pen.disk → vault.sure ≡ list_of vault }
-    ensures stands { (disk : D) → IsOpenedOn R.form D.keeps D.states D.faults disk vault → EndsAs (HasAppendedAll R.form D.keeps D.states R.spelling (non_zero_u32_get block) (I.remaining reader.old) disk result.0 result.1) (IsAppendRefusal R.form D.keeps D.states D.faults R.spelling (non_zero_u32_get block) (I.remaining reader.old) disk result.0 result.1) result.2 }
+    ensures stands { (disk : D) → IsOpenedOn R.form D.keeps D.states D.faults disk vault → EndsAs
+        (HasAppendedAll R.form D.keeps D.states R.spelling (non_zero_u32_get block) (I.remaining reader.old) disk result.0 result.1)
+        (IsAppendFault R.form D.keeps D.states D.faults R.spelling (non_zero_u32_get block) (I.remaining reader.old) disk result.0 result.1)
+        result.2 }
     ensures model { D.keeps result.0 → D.keeps vault.pen.disk }
     ensures writes { WritesText (W.contents writer.old) (W.contents writer.new) (appended_line result.1.growths result.1.size) result.2 }
 {
@@ -229,7 +232,10 @@ pub fn append<
     progress: &P,
     writer: &mut W,
 ) -> (D, Appended, Ended)
-    ensures stands { EndsAs (HasAppendedAll R.form D.keeps D.states R.spelling (non_zero_u32_get block) (I.remaining reader.old) disk result.0 result.1) (IsAppendRefusal R.form D.keeps D.states D.faults R.spelling (non_zero_u32_get block) (I.remaining reader.old) disk result.0 result.1) result.2 }
+    ensures stands { EndsAs
+        (HasAppendedAll R.form D.keeps D.states R.spelling (non_zero_u32_get block) (I.remaining reader.old) disk result.0 result.1)
+        (IsAppendFault R.form D.keeps D.states D.faults R.spelling (non_zero_u32_get block) (I.remaining reader.old) disk result.0 result.1)
+        result.2 }
     ensures model { D.keeps result.0 → D.keeps disk }
     ensures writes { WritesText (W.contents writer.old) (W.contents writer.new) (appended_line result.1.growths result.1.size) result.2 }
 {

@@ -113,7 +113,8 @@ pub(crate) fn read_batch<R: TextRecord, I: Read>(
     buffer: &mut Vec<u8>,
     block: NonZeroU32,
 ) -> Batch<R>
-    ensures { IsBatch R.spelling (non_zero_u32_get block) (prepend_known buffer.old.items (I.remaining reader.old)) (prepend_known buffer.new.items (I.remaining reader.new)) result.growths.0 result.lines result.rest }
+    ensures { IsBatch R.spelling (non_zero_u32_get block)
+        (prepend_known buffer.old.items (I.remaining reader.old)) (prepend_known buffer.new.items (I.remaining reader.new)) result.growths.0 result.lines result.rest }
 {
     let rest = fill(reader, buffer);
     let len = whole_len(buffer, block, rest);

@@ -110,7 +110,8 @@ impl<R: Record> Deck<R> for Dealt<R> {
     fn deal(growths: Growths<R>, growers: u16) -> Option<Dealt<R>>
         ensures { MatchOption result
             ((growers ≡ 0) ⊎ (2 ^ 32 ≤ length growths.0))
-            (λ deck. (deck.growers ≡ growers) × (count_for (length deck.growths.0) deck.growers ≡ count_for (length growths.0) growers) × (dealt deck.growths.0 deck.growers ≡ dealt growths.0 growers)) }
+            (λ deck. (deck.growers ≡ growers) × (count_for (length deck.growths.0) deck.growers ≡ count_for (length growths.0) growers)
+            × (dealt deck.growths.0 deck.growers ≡ dealt growths.0 growers)) }
     {
         Dealt::new(growths, growers)
     }

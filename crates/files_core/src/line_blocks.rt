@@ -107,7 +107,9 @@ fn read_before<R: TextRecord>(
 
 /// The growths that the lines spell, up to the first block that has none.
 pub(crate) fn read_front<R: TextRecord>(alloc: Global, input: &[u8], block: NonZeroU32) -> Front<R>
-    ensures { MatchOption result.refusal (AreInputBlocks R.spelling (non_zero_u32_get block) input.now result.blocks.growths.0 result.blocks.lines) (λ refusal. AreOfFirstLines R.spelling (non_zero_u32_get block) (Some input.now) result.blocks.growths.0) }
+    ensures { MatchOption result.refusal
+        (AreInputBlocks R.spelling (non_zero_u32_get block) input.now result.blocks.growths.0 result.blocks.lines)
+        (λ refusal. AreOfFirstLines R.spelling (non_zero_u32_get block) (Some input.now) result.blocks.growths.0) }
 {
     match read_blocks::<R>(alloc, input, block) {
         Ok(blocks) => Front {

@@ -110,8 +110,11 @@ fn all_made<R: Record, D: Disk, S: Source<R>>(
     source: &S,
 ) -> Result<Vault<R, D>, (D, FileFault)>
     requires { (vec_len crewed.receipts ≡ S.growers_of source.now) × (vec_len crewed.faults ≡ S.growers_of source.now) }
-    ensures made { IfOk result (λ new. (new ≡ crewed.vault) × ((k : ℕ) → k < S.growers_of source.now → (its : Vec Receipt) → slice_get crewed.receipts.items k ≡ Some its → S.count_of source.now k ≤ length its.items)) }
-    ensures stopped { IfErr result (λ r. (r.0 ≡ crewed.vault.pen.disk) × ((stopped : Stopped) × (r.1 ≡ FileFault.Grower stopped) × (stopped.size ≡ length (list_of crewed.vault)) × IsFirstStop (S.growers_of source.now) (S.count_of source.now) crewed.receipts.items crewed.faults.items stopped)) }
+    ensures made { IfOk result (λ new. (new ≡ crewed.vault)
+        × ((k : ℕ) → k < S.growers_of source.now → (its : Vec Receipt) → slice_get crewed.receipts.items k ≡ Some its → S.count_of source.now k ≤ length its.items)) }
+    ensures stopped { IfErr result (λ r. (r.0 ≡ crewed.vault.pen.disk)
+        × ((stopped : Stopped) × (r.1 ≡ FileFault.Grower stopped) × (stopped.size ≡ length (list_of crewed.vault))
+        × IsFirstStop (S.growers_of source.now) (S.count_of source.now) crewed.receipts.items crewed.faults.items stopped)) }
 {
     match first_stopped(&crewed, source) {
         None => Ok(crewed.vault),
@@ -128,7 +131,8 @@ fn grow_dealt<R: Record, S: Source<R>, D: Disk + Send + Drop, G: Gate, E: Thread
     gate: &G,
 ) -> Result<Vault<R, D>, (D, FileFault)>
     ensures grown { (growths : List (List R)) → (growers : ℕ) → AreDealtBy growths growers (S.growers_of source.now) (S.count_of source.now) (S.block_of source.now)
-        → IfOk result (λ new. (made : List (Growth R)) × AreDealt growths growers made × AllMade growths growers made × StandBehind R.form D.keeps D.states vault new.pen.disk made × (list_of new ≡ list_of vault ++ joined made)) }
+        → IfOk result (λ new. (made : List (Growth R)) × AreDealt growths growers made × AllMade growths growers made
+        × StandBehind R.form D.keeps D.states vault new.pen.disk made × (list_of new ≡ list_of vault ++ joined made)) }
     ensures stopped { (growths : List (List R)) → (growers : ℕ) → AreDealtBy growths growers (S.growers_of source.now) (S.count_of source.now) (S.block_of source.now)
         → IfErr result (λ r. IsGrowthStop R.form D.keeps D.states growths growers vault r.0 r.1) }
 {
@@ -154,7 +158,8 @@ pub(crate) fn grow_by<
     growers: u16,
     gate: &G,
 ) -> Result<Vault<R, D>, (D, FileFault)>
-    ensures grown { IfOk result (λ new. (made : List (Growth R)) × AreDealt growths.0 growers made × AllMade growths.0 growers made × StandBehind R.form D.keeps D.states vault new.pen.disk made × (list_of new ≡ list_of vault ++ joined made)) }
+    ensures grown { IfOk result (λ new. (made : List (Growth R)) × AreDealt growths.0 growers made × AllMade growths.0 growers made
+        × StandBehind R.form D.keeps D.states vault new.pen.disk made × (list_of new ≡ list_of vault ++ joined made)) }
     ensures stopped { IfErr result (λ r. IsGrowthStop R.form D.keeps D.states growths.0 growers vault r.0 r.1) }
 {
     match S::deal(growths, growers) {
@@ -197,8 +202,11 @@ fn load_opened<
     gate: &G,
     writer: &mut W,
 ) -> (D, Ended)
-    ensures loaded { (disk : D) → IsOpenedOn R.form D.keeps D.states D.faults disk vault → EndsAs ((size : ℕ) × IsLoaded R.form D.keeps D.states growths.0 growers disk result.0 size) (IsLoadRefusal R.form D.keeps D.states D.faults growths.0 growers disk result.0) result.1 }
-    ensures writes { (disk : D) → IsOpenedOn R.form D.keeps D.states D.faults disk vault → WritesAnswer (W.contents writer.old) (W.contents writer.new) (λ text. (size : ℕ) × IsLoaded R.form D.keeps D.states growths.0 growers disk result.0 size × (text ≡ loaded_line (length growths.0) size)) result.1 }
+    ensures loaded { (disk : D) → IsOpenedOn R.form D.keeps D.states D.faults disk vault → EndsAs
+        ((size : ℕ) × IsLoaded R.form D.keeps D.states growths.0 growers disk result.0 size)
+        (IsLoadRefusal R.form D.keeps D.states D.faults growths.0 growers disk result.0) result.1 }
+    ensures writes { (disk : D) → IsOpenedOn R.form D.keeps D.states D.faults disk vault → WritesAnswer (W.contents writer.old) (W.contents writer.new)
+        (λ text. (size : ℕ) × IsLoaded R.form D.keeps D.states growths.0 growers disk result.0 size × (text ≡ loaded_line (length growths.0) size)) result.1 }
 {
     let count = growths.count() as u64;
     match grow_by::<R, S, D, G, E>(rt, alloc, vault, growths, growers, gate) {
@@ -229,8 +237,11 @@ pub fn load<
     gate: &G,
     writer: &mut W,
 ) -> (D, Ended)
-    ensures loaded { EndsAs ((size : ℕ) × IsLoaded R.form D.keeps D.states growths.0 growers disk result.0 size) (IsLoadRefusal R.form D.keeps D.states D.faults growths.0 growers disk result.0) result.1 }
-    ensures writes { WritesAnswer (W.contents writer.old) (W.contents writer.new) (λ text. (size : ℕ) × IsLoaded R.form D.keeps D.states growths.0 growers disk result.0 size × (text ≡ loaded_line (length growths.0) size)) result.1 }
+    ensures loaded { EndsAs
+        ((size : ℕ) × IsLoaded R.form D.keeps D.states growths.0 growers disk result.0 size)
+        (IsLoadRefusal R.form D.keeps D.states D.faults growths.0 growers disk result.0) result.1 }
+    ensures writes { WritesAnswer (W.contents writer.old) (W.contents writer.new)
+        (λ text. (size : ℕ) × IsLoaded R.form D.keeps D.states growths.0 growers disk result.0 size × (text ≡ loaded_line (length growths.0) size)) result.1 }
 {
     match Vault::<R, D>::open(alloc, disk) {
         Ok(vault) => load_opened::<R, S, D, W, G, E>(

@@ -1,4 +1,4 @@
-//! `count` and `find`: records that equal one.
+//! `count` and `find`: records that are the one wanted. That `==` calls no others equal is a law of `Record`.
 
 ghost use Rattle.std.specs.Prelude.{◌≡◌, List, Option, OnOk};
 ghost use Rattle.std.specs.List.{count_by};
@@ -40,7 +40,7 @@ fn write_found<W: Write>(writer: &mut W, found: Option<u64>) -> io::Result<()>
     }
 }
 
-/// Writes how many records of the file's vector equal this one. Refused: `Open`.
+/// Writes how many records of the file's vector are this one. Refused: `Open`.
 pub fn count<R: TextRecord, D: Disk, W: Write, E: Threads + Sync>(
     rt: &E,
     alloc: Global,
@@ -49,7 +49,7 @@ pub fn count<R: TextRecord, D: Disk, W: Write, E: Threads + Sync>(
     writer: &mut W,
 ) -> (D, Ended)
     ensures reads { OnlyReads R.form D.keeps D.states D.faults disk result.0 result.1 }
-    ensures writes { WritesAnswer (W.contents writer.old) (W.contents writer.new) (IsCounted R.form R.Eq.eq wanted (D.keeps result.0) (bytes_of (D.states disk))) result.1 }
+    ensures writes { WritesAnswer (W.contents writer.old) (W.contents writer.new) (IsCounted R.form wanted (D.keeps result.0) (bytes_of (D.states disk))) result.1 }
 {
     let vault = match Vault::<R, D>::open(alloc, disk) {
         Ok(vault) => vault,
@@ -60,7 +60,7 @@ pub fn count<R: TextRecord, D: Disk, W: Write, E: Threads + Sync>(
     (vault.into_disk(), Ended::told(written))
 }
 
-/// Writes the least position whose record equals this one, or `none`. Refused: `Open`.
+/// Writes the least position of this record, or `none`. Refused: `Open`.
 pub fn find<R: TextRecord, D: Disk, W: Write, E: Threads + Sync>(
     rt: &E,
     alloc: Global,
@@ -69,7 +69,7 @@ pub fn find<R: TextRecord, D: Disk, W: Write, E: Threads + Sync>(
     writer: &mut W,
 ) -> (D, Ended)
     ensures reads { OnlyReads R.form D.keeps D.states D.faults disk result.0 result.1 }
-    ensures writes { WritesAnswer (W.contents writer.old) (W.contents writer.new) (IsFound R.form R.Eq.eq wanted (D.keeps result.0) (bytes_of (D.states disk))) result.1 }
+    ensures writes { WritesAnswer (W.contents writer.old) (W.contents writer.new) (IsFound R.form wanted (D.keeps result.0) (bytes_of (D.states disk))) result.1 }
 {
     let vault = match Vault::<R, D>::open(alloc, disk) {
         Ok(vault) => vault,

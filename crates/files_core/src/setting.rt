@@ -56,7 +56,8 @@ fn put<R: Record, D: Disk, E: Threads + Sync>(
     ensures list { MatchResult result
         (λ _. IsTouched (given_from start records.now) (one_run start (length records.now)) (list_of vault.old) (list_of vault.new))
         (StandsCommanded (IsTouched (given_from start records.now) (one_run start (length records.now)) (list_of vault.old) (list_of vault.new)) (vault.new.blocks ≡ vault.old.blocks)) }
-    ensures command { IsCommand R.form D.keeps D.states D.faults (changed_frame R.form (one_run start (length records.now)) (list_of vault.new)) (change_lines vault.old.pen (one_run start (length records.now))) vault.old vault.new result }
+    ensures command { IsCommand R.form D.keeps D.states D.faults (changed_frame R.form (one_run start (length records.now)) (list_of vault.new))
+        (change_lines vault.old.pen (one_run start (length records.now))) vault.old vault.new result }
 {
     let given = Given { start, records };
     vault.change(rt, start, records.len() as u64, &given)

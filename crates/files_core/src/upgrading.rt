@@ -37,9 +37,13 @@ pub fn upgrade_file<R: Record, D: Disk, N: Disk, W: Write>(
 ) -> (D, N, Ended)
     ensures old_stays { D.keeps result.0 → OnlySyncs (D.states old) (D.states result.0) }
     ensures old_model { D.keeps result.0 → D.keeps old }
-    ensures old_calls { (len : ℕ) × (D.keeps result.0 → len ≡ length (bytes_of (D.states old))) × EndsAs (AreCallsDone len (clock (D.states result.0) - clock (D.states old))) (AreCallsBefore len (clock (D.states result.0) - clock (D.states old))) result.2 }
+    ensures old_calls { (len : ℕ) × (D.keeps result.0 → len ≡ length (bytes_of (D.states old))) × EndsAs
+        (AreCallsDone len (clock (D.states result.0) - clock (D.states old)))
+        (AreCallsBefore len (clock (D.states result.0) - clock (D.states old))) result.2 }
     ensures old_faults { D.faults result.0 ≡ D.faults old + failed_upgrading result.2 }
-    ensures upgraded { EndsAs ((text : List ℕ) × IsUpgraded R.form D.keeps D.states N.keeps N.states N.faults old new result.0 result.1 text) (IsUpgradeRefusal R.form D.keeps D.states N.keeps N.states N.faults old new result.0 result.1) result.2 }
+    ensures upgraded { EndsAs
+        ((text : List ℕ) × IsUpgraded R.form D.keeps D.states N.keeps N.states N.faults old new result.0 result.1 text)
+        (IsUpgradeRefusal R.form D.keeps D.states N.keeps N.states N.faults old new result.0 result.1) result.2 }
     ensures writes { WritesAnswer (W.contents writer.old) (W.contents writer.new) (IsUpgraded R.form D.keeps D.states N.keeps N.states N.faults old new result.0 result.1) result.2 }
 {
     // No record is wider than a header tells, so a piece has one.

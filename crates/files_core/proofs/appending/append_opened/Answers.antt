@@ -1,5 +1,4 @@
-use Rattle.std.proofs.Common.{ap, subst, ◌∙◌}
-use Rattle.std.specs.Io.KnownBytes.{prepend_known}
+use Rattle.std.proofs.Common.{subst}
 use Rattle.std.specs.NonZero.{non_zero_u32_get}
 use Rattle.files_core.specs.Appending.{HasAppended}
 use Rattle.files_core.proofs.Standing.{appended_ends, sure_settled}

@@ -1,4 +1,4 @@
-use Rattle.std.proofs.Common.{◌+◌, ◌-◌, ◌^◌, min, refl, ◌∙◌, arith}
+use Rattle.std.proofs.Common.{◌+◌, ◌-◌, ◌^◌, min, refl, arith}
 use Rattle.files_core.specs.Batches.{AreReadSo}
 use Rattle.files_core.specs.InputBlocks.{AreOfFirstLines}
 use Rattle.files_core.proofs.FirstBlocks.{read_refused, read_unread}

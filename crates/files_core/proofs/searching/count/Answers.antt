@@ -1,11 +1,17 @@
 use Rattle.std.proofs.Common.{ap}
 use Rattle.files_core.specs.Texts.{number_line}
 use Rattle.files_core.proofs.Opened.{opened_list, told_answer, same_keeps}
+use Rattle.files_core.proofs.Wanted.{equals_alone}
 use Rattle.files_core.proofs.searching.count.Goals as goal
 
 pub returns-clause-writes : goal.returns-clause-writes
-returns-clause-writes g c = told_answer _ _ _ _ _ _ c.told.ensures c.write_number_line-written.ensures (record {
-  records = _;
-  file = λ model. opened_list _ _ _ _ (c.in-Ok.ensures.opened (same_keeps g.D.Disk.keeps _ _ c.into_disk.ensures.disk model));
-  told = ap number_line c.count_where-total.ensures;
-})
+returns-clause-writes g c =
+    let laws = g.met.R.Record g.world.𝓛 g.world.𝓜 g.world.𝓡 ((λ s x. x), (λ x. x), (λ x. x), λ x. x) in
+    let same = g.met.R.Eq g.world.𝓛 g.world.𝓜 g.world.𝓡 ((λ s x. x), (λ x. x), (λ x. x), λ x. x) in
+    told_answer _ _ _ _ _ _ c.told.ensures c.write_number_line-written.ensures (record {
+      records = _;
+      is = λ r. g.R.PartialEq.eq r c.args.wanted;
+      just = equals_alone g.R.PartialEq.eq c.args.wanted same.laws laws.exact;
+      file = λ model. opened_list _ _ _ _ (c.in-Ok.ensures.opened (same_keeps g.D.Disk.keeps _ _ c.into_disk.ensures.disk model));
+      told = ap number_line c.count_where-total.ensures;
+    })
