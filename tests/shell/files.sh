@@ -65,7 +65,7 @@ files_that_cannot_be_used_are_told() (
     was_refused unborn 'no vector was made'
     printf '\001no vector in this' >"$work/n.cv"
     run create u64 "$work/n.cv"
-    was_refused exists 'remove it, or name another file'
+    was_refused exists 'name another file, or give --over'
     run check u64 "$work/n.cv"
     was_refused 'not a segment' "$work/n.cv"
 )
@@ -85,6 +85,24 @@ create_leaves_the_bytes_of_others() (
         run check u64 "$work/n.cv"
         did 'ok version 1 width 8 size 0 frames 0 live 0\n'
     done
+)
+
+create_over_takes_whatever_is_there() (
+    a_changed_file
+    run create u64 "$work/t.cv" --format=2 --over
+    did 'created\n'
+    run check u64 "$work/t.cv"
+    did 'ok version 2 width 8 size 0 frames 0 live 0\n'
+    for bytes in '' 'secret=abc1\n' '\1CVECSEG\1\10\0\1' '\001no vector in this, and more bytes than an empty file has\n'; do
+        printf "$bytes" >"$work/n.cv"
+        run create u64 "$work/n.cv" --over
+        did 'created\n'
+        [ "$(od -An -v -tx1 "$work/n.cv" | tr -d ' \n')" = 014356454353454701080000 ]
+    done
+    run create u64 "$work/none.cv" --over
+    did 'created\n'
+    run create u64 "$work" --over
+    was_refused file "$work"
 )
 
 who_may_not_use_a_file_is_told() (

@@ -1,40 +1,110 @@
--- A command over a file ends as what was asked for.
-use Rattle.std.proofs.Common.{◌≡◌, ℕ, List, sym, subst}
-use Rattle.std.specs.Prelude.{Option, Some, None, IfSome}
+-- A command over a file ends as what was asked for, and never with usage.
+use Rattle.std.proofs.Common.{◌≡◌, ◌≢◌, ℕ, List, sym, subst, ◌∙◌, inl, inr, ap, Result, Ok, Err}
+use Rattle.std.specs.Prelude.{Bool, Option, Some, None}
 use Rattle.std.specs.Io.KnownBytes.{Keeps}
+use Rattle.record_core.specs.Bytes.{Encoding}
+use Rattle.text_core.specs.Text.{Spelling}
+use Rattle.files_core.specs.declared.ended.Ended.{Ended}
+use Rattle.files_core.specs.declared.ended.Ended.TheVariants.{Done, OutputFailed, Refused}
+use Rattle.files_core.specs.declared.fault.FileFault.{FileFault}
+use Rattle.stat_core.specs.declared.telling.Ended.{Ended as StatEnded}
+use Rattle.stat_core.specs.declared.telling.Ended.TheVariants as stat_ends
+use Rattle.stat_core.specs.declared.writing.Form.{Form}
+use Rattle.serve_core.specs.declared.fault.ServeFault.{ServeFault}
+use Rattle.words_core.specs.declared.request.FileTask.{FileTask}
+use Rattle.words_core.specs.declared.request.FileTask.TheVariants.{Create, Load, Append, Check, List as Listed, Count, Find, Set, Resize, Clear, Fold, Upgrade, Serve}
+use Rattle.words_core.specs.declared.request.RecordType.{RecordType}
+use Rattle.words_core.specs.declared.request.RecordType.TheVariants.{U32, U64, I64, Pair, Flagged}
 use Rattle.words_core.specs.declared.request.Request.{Request}
-use Rattle.words_core.specs.declared.request.FileWords.{FileWords}
-use Rattle.words_core.specs.declared.request.StatWords.{StatWords}
-use Rattle.words_core.specs.declared.request.Request.TheVariants.{File, Stat}
 use Rattle.sentences.specs.declared.complaint.Complaint.{Complaint}
-use Rattle.cvec.specs.Answers.{IsAnswerTo}
-use Rattle.cvec.specs.Runs.{IsAskedRun, IsFileRun, IsComplaintTold, IsAskedTold}
 use Rattle.text_core.specs.declared.status.Status.{Status}
 use Rattle.text_core.specs.declared.status.Status.TheVariants as statuses
+use Rattle.cvec.specs.Complaints.{Disk, IsLeftAlone, IsRefusedBefore, IsStatStatus, IsStatusOf}
+use Rattle.cvec.specs.Commands.{HasServed, IsCommandRun, IsDone, IsOverFile, IsServedAs, IsStatRun}
+use Rattle.cvec.specs.Runs.{IsAskedRun, IsComplaintRun, IsToldRun, IsTypedCommandRun}
 
-pub asked_run_of_file : (known : Option (List ℕ)) (asked : Option Request) (words : FileWords) (old new : Option (List ℕ)) (status : Status)
-    → asked ≡ Some (File words) → IsFileRun (IsAnswerTo (File words)) old new status
-    → IfSome known (λ input. IsAskedRun asked input old new status)
-asked_run_of_file None asked words old new status is run = tt
-asked_run_of_file (Some input) asked words old new status is run =
-    subst (λ (a : Option Request). IsAskedRun a input old new status) (sym is) run
+-- a command doesn't end so
+abbrev IsNoUsage : Result Status Complaint → Type 0
+IsNoUsage (Ok statuses.Done) = Unit {0}
+IsNoUsage (Ok statuses.Refused) = Unit {0}
+IsNoUsage (Ok statuses.OutputFailed) = Unit {0}
+IsNoUsage (Ok statuses.Usage) = ⊥
+IsNoUsage (Err complaint) = Unit {0}
 
-pub asked_run_of_stat : (known : Option (List ℕ)) (asked : Option Request) (words : StatWords) (old new : Option (List ℕ)) (status : Status)
-    → asked ≡ Some (Stat words) → IsFileRun (IsAnswerTo (Stat words)) old new status
-    → IfSome known (λ input. IsAskedRun asked input old new status)
-asked_run_of_stat None asked words old new status is run = tt
-asked_run_of_stat (Some input) asked words old new status is run =
-    subst (λ (a : Option Request). IsAskedRun a input old new status) (sym is) run
+no_usage_of_status : (IsComplaint : FileFault → Complaint → Type 0) (ended : Ended) (filed : Result Status Complaint) → IsStatusOf IsComplaint ended filed → IsNoUsage filed
+no_usage_of_status IsComplaint Done filed is = subst IsNoUsage (sym is) tt
+no_usage_of_status IsComplaint OutputFailed filed is = subst IsNoUsage (sym is) tt
+no_usage_of_status IsComplaint (Refused fault) filed is = subst IsNoUsage (sym is.1) tt
 
-pub no_usage_of_file : (IsAnswer : List ℕ → Type 0) (old new earlier later : Option (List ℕ)) (status : Status) → IsFileRun IsAnswer old new status → status ≡ statuses.Usage → Keeps earlier later
-no_usage_of_file IsAnswer old new earlier later status run is = absurd (subst (IsFileRun IsAnswer old new) is run)
+no_usage_of_stat : (ended : StatEnded) (filed : Result Status Complaint) → IsStatStatus ended filed → IsNoUsage filed
+no_usage_of_stat stat_ends.Done filed is = subst IsNoUsage (sym is) tt
+no_usage_of_stat (stat_ends.Unwritten error) filed is = subst IsNoUsage (sym is) tt
+no_usage_of_stat (stat_ends.Refused fault) filed is = subst IsNoUsage (sym is) tt
 
-pub told_of_file : (asked : Option Request) (words : FileWords) (old new : Option (List ℕ)) (status : Status) (complaint : Option Complaint)
-    → asked ≡ Some (File words) → IsComplaintTold old new status complaint → IsAskedTold asked old new status complaint
-told_of_file asked words old new status complaint is told =
-    subst (λ (a : Option Request). IsAskedTold a old new status complaint) (sym is) told
+no_usage_of_done : (filed : Result Status Complaint) (IsComplaint : Disk → FileFault → Complaint → Type 0) (HasEnded : Disk → Disk → Ended → Type 0) → IsDone filed IsComplaint HasEnded → IsNoUsage filed
+no_usage_of_done filed IsComplaint HasEnded done = no_usage_of_status (IsComplaint done.left) done.ended filed done.told
 
-pub told_of_stat : (asked : Option Request) (words : StatWords) (old new : Option (List ℕ)) (status : Status) (complaint : Option Complaint)
-    → asked ≡ Some (Stat words) → IsComplaintTold old new status complaint → IsAskedTold asked old new status complaint
-told_of_stat asked words old new status complaint is told =
-    subst (λ (a : Option Request). IsAskedTold a old new status complaint) (sym is) told
+no_usage_alone : (old new : Option (List ℕ)) (filed : Result Status Complaint) (IsWhy : Complaint → Type 0) → IsLeftAlone old new filed IsWhy → IsNoUsage filed
+no_usage_alone old new filed IsWhy alone = subst IsNoUsage (sym alone.told) tt
+
+module _ {R : Type 0} (form : Encoding R) (old new : Option (List ℕ)) (filed : Result Status Complaint) where
+  no_usage_over : (IsReason : FileFault → Type 0) (HasEnded : Disk → Disk → Ended → Type 0) → IsOverFile form old new filed IsReason HasEnded → IsNoUsage filed
+  no_usage_over IsReason HasEnded (inl refused) = subst IsNoUsage (sym refused.told) tt
+  no_usage_over IsReason HasEnded (inr (inl shut)) = no_usage_alone old new filed _ shut
+  no_usage_over IsReason HasEnded (inr (inr done)) = no_usage_of_done filed _ HasEnded done
+
+  no_usage_served : (left : Disk) (growths : ℕ) (served : Result (Unit {0}) ServeFault) → IsServedAs form old new filed left growths served → IsNoUsage filed
+  no_usage_served left growths (Ok all) (inl failed) = subst IsNoUsage (sym failed) tt
+  no_usage_served left growths (Ok all) (inr written) = subst IsNoUsage (sym written.0) tt
+  no_usage_served left growths (Err fault) told = subst IsNoUsage (sym told.1) tt
+
+  no_usage_of_task : (spelling : Spelling R) (task : FileTask) (input : Option (List ℕ)) → IsCommandRun form spelling task input old new filed → IsNoUsage filed
+  no_usage_of_task spelling (Create format over) input run = no_usage_over _ _ run
+  no_usage_of_task spelling (Load growers) input run = no_usage_over _ _ run
+  no_usage_of_task spelling (Append block) input (inl shut) = no_usage_alone old new filed _ shut
+  no_usage_of_task spelling (Append block) input (inr done) = no_usage_of_done filed _ _ done.1
+  no_usage_of_task spelling Check input run = no_usage_over _ _ run
+  no_usage_of_task spelling (Listed from count) input run = no_usage_over _ _ run
+  no_usage_of_task spelling (Count wanted) input run = no_usage_over _ _ run
+  no_usage_of_task spelling (Find wanted) input run = no_usage_over _ _ run
+  no_usage_of_task spelling (Set start records) input run = no_usage_over _ _ run
+  no_usage_of_task spelling (Resize len filler) input run = no_usage_over _ _ run
+  no_usage_of_task spelling Clear input run = no_usage_over _ _ run
+  no_usage_of_task spelling Fold input run = no_usage_over _ _ run
+  no_usage_of_task spelling (Upgrade name) input (inl shut) = no_usage_alone old new filed _ shut
+  no_usage_of_task spelling (Upgrade name) input (inr (inl shut)) = no_usage_alone old new filed _ shut
+  no_usage_of_task spelling (Upgrade name) input (inr (inr done)) = no_usage_of_status _ done.ended filed done.told
+  no_usage_of_task spelling (Serve clients) input (inl unserved) = no_usage_alone old new filed _ unserved
+  no_usage_of_task spelling (Serve clients) input (inr (inl shut)) = no_usage_alone old new filed _ shut
+  no_usage_of_task spelling (Serve clients) input (inr (inr served)) = no_usage_served served.left served.growths served.served served.told
+
+no_usage_of_file : (record_type : RecordType) (task : FileTask) (input old new : Option (List ℕ)) (filed : Result Status Complaint) → IsTypedCommandRun record_type task input old new filed → IsNoUsage filed
+no_usage_of_file U32 task input old new filed run = no_usage_of_task _ old new filed _ task input run
+no_usage_of_file U64 task input old new filed run = no_usage_of_task _ old new filed _ task input run
+no_usage_of_file I64 task input old new filed run = no_usage_of_task _ old new filed _ task input run
+no_usage_of_file Pair task input old new filed run = no_usage_of_task _ old new filed _ task input run
+no_usage_of_file Flagged task input old new filed run = no_usage_of_task _ old new filed _ task input run
+
+no_usage_of_stat_run : (form : Form) (old new : Option (List ℕ)) (filed : Result Status Complaint) → IsStatRun form old new filed → IsNoUsage filed
+no_usage_of_stat_run form old new filed (inl shut) = no_usage_alone old new filed _ shut
+no_usage_of_stat_run form old new filed (inr told) = no_usage_of_stat told.ended filed told.told
+
+told_no_usage : (filed : Result Status Complaint) (mid new earlier later : Option (List ℕ)) (status : Status) (complaint : Option Complaint) → IsNoUsage filed
+    → IsToldRun filed mid new status complaint → status ≡ statuses.Usage → Keeps earlier later
+told_no_usage (Ok ended) mid new earlier later status complaint none told is = absurd (subst (λ (s : Status). IsNoUsage (Ok s)) (sym told.1 ∙ is) none)
+told_no_usage (Err why) mid new earlier later status complaint none told is = absurd (subst (IsComplaintRun mid new why) is told.1)
+
+pub file_tells_no_usage : (record_type : RecordType) (task : FileTask) (input old mid new earlier later : Option (List ℕ)) (filed : Result Status Complaint) (status : Status) (complaint : Option Complaint)
+    → IsTypedCommandRun record_type task input old mid filed → IsToldRun filed mid new status complaint → status ≡ statuses.Usage → Keeps earlier later
+file_tells_no_usage record_type task input old mid new earlier later filed status complaint run told =
+    told_no_usage filed mid new earlier later status complaint (no_usage_of_file record_type task input old mid filed run) told
+
+pub stat_tells_no_usage : (form : Form) (old mid new earlier later : Option (List ℕ)) (filed : Result Status Complaint) (status : Status) (complaint : Option Complaint)
+    → IsStatRun form old mid filed → IsToldRun filed mid new status complaint → status ≡ statuses.Usage → Keeps earlier later
+stat_tells_no_usage form old mid new earlier later filed status complaint run told =
+    told_no_usage filed mid new earlier later status complaint (no_usage_of_stat_run form old mid filed run) told
+
+-- what was done that was asked for
+pub asked_run_of : (asked : Option Request) (request : Request) (input old new : Option (List ℕ)) (status : Status) (complaint : Option Complaint)
+    → asked ≡ Some request → IsAskedRun (Some request) input old new status complaint → IsAskedRun asked input old new status complaint
+asked_run_of asked request input old new status complaint is run = subst (λ (a : Option Request). IsAskedRun a input old new status complaint) (sym is) run

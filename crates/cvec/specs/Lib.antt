@@ -1,2 +1,4 @@
-pub mod Answers
+pub mod Complaints
+pub mod Asked
+pub mod Commands
 pub mod Runs

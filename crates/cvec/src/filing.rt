@@ -1,24 +1,27 @@
 //! The commands over files: words first, then the input, then the file.
 
-ghost use Rattle.std.specs.Prelude.{◌≡◌, ℕ, List, Option};
-ghost use Rattle.text_core.specs.Text.{record_lines};
-ghost use Rattle.words_core.specs.declared.request.FileTask.TheVariants as tasks;
-ghost use Rattle.cvec.specs.Answers.{IsAnswer};
-ghost use Rattle.cvec.specs.Runs.{IsFileCommandRun, IsStatusOf};
+ghost use Rattle.std.specs.Prelude.{◌≡◌, false, IfOk, IfErr};
+ghost use Rattle.std.specs.Option.{option_copied};
+ghost use Rattle.std.specs.NonZero.{non_zero_u32_get};
+ghost use Rattle.files_core.specs.Listing.{IsWindowListed};
+ghost use Rattle.files_core.specs.Watched.{below};
+ghost use Rattle.cvec.specs.Asked.{IsNoWindow, IsWindow};
+ghost use Rattle.cvec.specs.Complaints.{IsAppendComplaint, IsComplaintOf, IsJustOpened, IsStatusOf, IsUnopened, damage_of};
+ghost use Rattle.cvec.specs.Commands.{IsAppendRun, IsCheckRun, IsClearRun, IsCommandRun, IsCountRun, IsCreateRun, IsDone, IsFindRun, IsFoldRun, IsListRun, IsLoadRun, IsResizeRun, IsServeRun, IsServedAs, IsSetRun, IsTaken, IsUpgradeRun, MayBeMadeOn, Reads};
 
 use crate::access::{Access, Opened, open};
 use crate::meter::CountingGate;
 use crate::serving::{fault_of, pipes_of, write_served};
-use disk_core::{Disk, FileDisk};
+use disk_core::FileDisk;
 use files_core::{
-    Deck, Ended, FileFault, Progress, Watched, Window, append, check, clear, count, create, find,
-    fold, is_vacant, list, load, read_growth_lines, read_record, read_resizing, read_setting,
-    read_window, resize, set, sound_front, upgrade_file,
+    Appended, Deck, Ended, FileFault, Progress, Watched, Window, append, check, clear, count,
+    create, find, fold, is_vacant, list, load, read_growth_lines, read_record, read_resizing,
+    read_setting, read_window, resize, set, sound_front, upgrade_file,
 };
 use pen_core::{OpenFault, PenFault};
 use segment_core::{Format, ScanFault};
 use sentences::{Complaint, Role};
-use serve_core::{ServeFault, serve};
+use serve_core::{ServeFault, Served, serve};
 use std::alloc::Global;
 use std::fs::File;
 use std::io::{Read, Write};
@@ -30,19 +33,10 @@ use text_core::{Status, TextRecord};
 use vault_core::{UpgradeFault, VaultFault};
 use words_core::FileTask;
 
-/// How a command ended whose engine ended so.
-fn status_of(ended: Ended) -> Result<Status, Complaint>
-    ensures { IsStatusOf ended result }
-{
-    match ended {
-        Ended::Done => Ok(Status::Done),
-        Ended::OutputFailed => Ok(Status::OutputFailed),
-        Ended::Refused(fault) => Err(Complaint::Fault(fault)),
-    }
-}
-
 /// The place of the damage that a fault tells of.
-fn damage_of(fault: FileFault) -> Option<u64> {
+fn damage_of(fault: FileFault) -> Option<u64>
+    ensures { result ≡ damage_of fault }
+{
     match fault {
         FileFault::Open(OpenFault::Scan(ScanFault::Damaged { at, .. }))
         | FileFault::Upgrade(UpgradeFault::Old(OpenFault::Scan(ScanFault::Damaged { at, .. }))) =>
@@ -52,42 +46,119 @@ fn damage_of(fault: FileFault) -> Option<u64> {
 }
 
 /// The complaint of a command whose engine gave its disk back with this fault: of a damaged file with what is sound of it.
-fn complaint_of<R: TextRecord, D: Disk + Drop>(
-    alloc: Global,
-    disk: D,
-    fault: FileFault,
-) -> Complaint {
+fn complaint_of<R: TextRecord>(alloc: Global, disk: FileDisk, fault: FileFault) -> Complaint
+    ensures { IsComplaintOf R.form disk fault result }
+{
     let mut disk = disk;
     let Some(at) = damage_of(fault) else {
         return Complaint::Fault(fault);
     };
-    match sound_front::<R, D>(alloc, &mut disk, at) {
+    match sound_front::<R, FileDisk>(alloc, &mut disk, at) {
         Ok(sound) => Complaint::Damaged(sound, fault),
         Err(_) => Complaint::Fault(fault),
     }
 }
 
 /// How a command ended whose engine gave its disk back so.
-fn status_on<R: TextRecord, D: Disk + Drop>(
+fn status_on<R: TextRecord>(
     alloc: Global,
-    disk: D,
+    disk: FileDisk,
     ended: Ended,
 ) -> Result<Status, Complaint>
-    ensures { IsStatusOf ended result }
+    ensures { IsStatusOf (IsComplaintOf R.form disk) ended result }
 {
     match ended {
-        Ended::Refused(fault) => Err(complaint_of::<R, D>(alloc, disk, fault)),
-        ended => status_of(ended),
+        Ended::Done => Ok(Status::Done),
+        Ended::OutputFailed => Ok(Status::OutputFailed),
+        Ended::Refused(fault) => Err(complaint_of::<R>(alloc, disk, fault)),
     }
 }
 
-/// The disk, where such a file may be made on it: nothing stands there, or what a stopped creation leaves.
-fn vacant<R: TextRecord>(disk: FileDisk, format: Format) -> Result<FileDisk, PenFault> {
+/// How `append` ended whose engine gave its disk back so.
+fn status_of_append<R: TextRecord>(
+    alloc: Global,
+    disk: FileDisk,
+    appended: Appended,
+    ended: Ended,
+) -> Result<Status, Complaint>
+    ensures { IsStatusOf (IsAppendComplaint R.form appended disk) ended result }
+{
+    match ended {
+        Ended::Done => Ok(Status::Done),
+        Ended::OutputFailed => Ok(Status::OutputFailed),
+        Ended::Refused(FileFault::Open(fault)) => {
+            Err(complaint_of::<R>(alloc, disk, FileFault::Open(fault)))
+        }
+        Ended::Refused(fault) => Err(Complaint::Appended(appended, fault)),
+    }
+}
+
+/// How `serve` ended whose engine gave its disk back so, and its answer.
+fn status_of_serve<R: TextRecord, W: Write>(
+    alloc: Global,
+    disk: FileDisk,
+    served: Served,
+    ended: Result<(), ServeFault>,
+    writer: &mut W,
+) -> Result<Status, Complaint>
+    ensures { IsServedAs R.form (W.contents writer.old) (W.contents writer.new) result disk served.growths ended }
+{
+    match ended {
+        Ok(()) => match write_served(served.growths, writer) {
+            Ok(()) => Ok(Status::Done),
+            Err(_) => Ok(Status::OutputFailed),
+        },
+        Err(ServeFault::Open(fault)) => {
+            Err(complaint_of::<R>(alloc, disk, FileFault::Open(fault)))
+        }
+        Err(fault) => Err(Complaint::Served(served.growths, fault_of(fault))),
+    }
+}
+
+/// The bytes of a word, if there is one.
+fn bytes_of_word(word: Option<&str>) -> Option<&[u8]>
+    ensures { option_copied result ≡ option_copied word.entry }
+{
+    match word {
+        Some(word) => Some(word.as_bytes()),
+        None => None,
+    }
+}
+
+/// The window that two words name.
+fn window_of(from: Option<&str>, count: Option<&str>) -> Result<Window, FileFault>
+    ensures read { IfOk result (IsWindow (option_copied from.entry) (option_copied count.entry)) }
+    ensures refused { IfErr result (IsNoWindow (option_copied from.entry) (option_copied count.entry)) }
+{
+    read_window(bytes_of_word(from), bytes_of_word(count))
+}
+
+/// The disk, where nothing stands on it but what a stopped creation of such a file leaves.
+fn vacant<R: TextRecord>(disk: FileDisk, format: Format) -> Result<FileDisk, FileFault>
+    ensures vacant { IfOk result (MayBeMadeOn R.form format false disk) }
+    ensures taken { IsJustOpened disk → IfErr result (IsTaken R.form format false) }
+{
     let mut disk = disk;
     match is_vacant::<R, FileDisk>(&mut disk, format) {
         Ok(true) => Ok(disk),
-        Ok(false) => Err(PenFault::Exists),
-        Err(fault) => Err(PenFault::Disk(fault)),
+        Ok(false) => Err(FileFault::Vault(VaultFault::Pen(PenFault::Exists))),
+        Err(fault) => Err(FileFault::Vault(VaultFault::Pen(PenFault::Disk(fault)))),
+    }
+}
+
+/// The disk, where such a file may be made on it: nothing else stands there, or it is to be made over what does.
+fn takeable<R: TextRecord>(
+    disk: FileDisk,
+    format: Format,
+    over: bool,
+) -> Result<FileDisk, FileFault>
+    ensures vacant { IfOk result (MayBeMadeOn R.form format over disk) }
+    ensures taken { IsJustOpened disk → IfErr result (IsTaken R.form format over) }
+{
+    if over {
+        Ok(disk)
+    } else {
+        vacant::<R>(disk, format)
     }
 }
 
@@ -102,29 +173,33 @@ pub struct Filing<'a, F, P> {
 }
 
 impl<'a, F: Files<File = File> + AllocGlobal, P: Progress + Sync> Filing<'a, F, P> {
-    fn open(&self, access: Access) -> Result<Opened, Complaint> {
+    fn open(&self, access: Access) -> Result<Opened, Complaint>
+        ensures opened { IfOk result (λ opened. IsJustOpened opened.disk) }
+        ensures shut { IfErr result (IsUnopened Role.File) }
+    {
         open(self.files, self.file, access, Role::File)
     }
 
     /// The disk of a file that is read as a whole, told of as it is.
-    fn watched(&self, disk: FileDisk) -> Watched<'_, FileDisk, P> {
+    fn watched(&self, disk: FileDisk) -> Watched<'_, FileDisk, P>
+        ensures { below result ≡ disk }
+    {
         Watched::new(disk, self.progress)
     }
 
     fn create<R: TextRecord, W: Write>(
         &self,
         format: Format,
+        over: bool,
         writer: &mut W,
     ) -> Result<Status, Complaint>
-        ensures { IsFileCommandRun (IsAnswer R.spelling (tasks.Create format)) (W.contents writer.old) (W.contents writer.new) result }
+        ensures { IsCreateRun R.form (W.contents writer.old) (W.contents writer.new) result format over }
     {
-        let Opened { disk, lock: _lock } = self.open(Access::Makes)?;
-        let disk = match vacant::<R>(disk, format) {
-            Ok(disk) => disk,
-            Err(fault) => return Err(Complaint::Fault(FileFault::Vault(VaultFault::Pen(fault)))),
-        };
-        let (_disk, ended) = create::<R, FileDisk, W>(self.alloc, disk, format, writer);
-        status_of(ended)
+        let access = if over { Access::Empties } else { Access::Makes };
+        let Opened { disk, lock: _lock } = self.open(access)?;
+        let made = takeable::<R>(disk, format, over)?;
+        let (disk, ended) = create::<R, FileDisk, W>(self.alloc, made, format, writer);
+        status_on::<R>(self.alloc, disk, ended)
     }
 
     fn load<R: TextRecord, S: Deck<R> + Drop, I: Read, W: Write, E: Threads + Wait + Sync>(
@@ -134,7 +209,7 @@ impl<'a, F: Files<File = File> + AllocGlobal, P: Progress + Sync> Filing<'a, F, 
         reader: &mut I,
         writer: &mut W,
     ) -> Result<Status, Complaint>
-        ensures { IsFileCommandRun (IsAnswer R.spelling (tasks.Load seats)) (W.contents writer.old) (W.contents writer.new) result }
+        ensures { IsLoadRun R.form (W.contents writer.old) (W.contents writer.new) result R.spelling (I.remaining reader.old) seats }
     {
         let growths = read_growth_lines::<R, I>(self.alloc, reader)?;
         let Opened { disk, lock: _lock } = self.open(Access::Writes)?;
@@ -142,7 +217,7 @@ impl<'a, F: Files<File = File> + AllocGlobal, P: Progress + Sync> Filing<'a, F, 
         let (disk, ended) = load::<R, S, FileDisk, W, CountingGate<'_, P>, E>(
             rt, self.alloc, disk, growths, seats, &gate, writer,
         );
-        status_on::<R, FileDisk>(self.alloc, disk, ended)
+        status_on::<R>(self.alloc, disk, ended)
     }
 
     fn append<R: TextRecord, S: Deck<R> + Drop, I: Read, W: Write, E: Threads + Wait + Sync>(
@@ -152,7 +227,7 @@ impl<'a, F: Files<File = File> + AllocGlobal, P: Progress + Sync> Filing<'a, F, 
         reader: &mut I,
         writer: &mut W,
     ) -> Result<Status, Complaint>
-        ensures { IsFileCommandRun (IsAnswer R.spelling (tasks.Append block)) (W.contents writer.old) (W.contents writer.new) result }
+        ensures { IsAppendRun R.form (W.contents writer.old) (W.contents writer.new) result R.spelling (I.remaining reader.old) (non_zero_u32_get block) }
     {
         let Opened { disk, lock: _lock } = self.open(Access::Writes)?;
         let (disk, appended, ended) = append::<R, S, FileDisk, I, W, P, E>(
@@ -164,22 +239,16 @@ impl<'a, F: Files<File = File> + AllocGlobal, P: Progress + Sync> Filing<'a, F, 
             self.progress,
             writer,
         );
-        match ended {
-            Ended::Refused(FileFault::Open(fault)) => {
-                Err(complaint_of::<R, FileDisk>(self.alloc, disk, FileFault::Open(fault)))
-            }
-            Ended::Refused(fault) => Err(Complaint::Appended(appended, fault)),
-            ended => status_of(ended),
-        }
+        status_of_append::<R>(self.alloc, disk, appended, ended)
     }
 
     fn check<R: TextRecord, W: Write>(&self, writer: &mut W) -> Result<Status, Complaint>
-        ensures { IsFileCommandRun (IsAnswer R.spelling tasks.Check) (W.contents writer.old) (W.contents writer.new) result }
+        ensures { IsCheckRun R.form (W.contents writer.old) (W.contents writer.new) result }
     {
         let Opened { disk, lock: _lock } = self.open(Access::Reads)?;
         let disk = self.watched(disk);
         let (disk, ended) = check::<R, Watched<'_, FileDisk, P>, W>(self.alloc, disk, writer);
-        status_on::<R, Watched<'_, FileDisk, P>>(self.alloc, disk, ended)
+        status_on::<R>(self.alloc, disk.into_disk(), ended)
     }
 
     /// Lists the records of an opened file.
@@ -189,7 +258,7 @@ impl<'a, F: Files<File = File> + AllocGlobal, P: Progress + Sync> Filing<'a, F, 
         window: &Window,
         writer: &mut W,
     ) -> Result<Status, Complaint>
-        ensures { IsFileCommandRun (λ text. (records : List R) × (text ≡ record_lines R.spelling.text_of records)) (W.contents writer.old) (W.contents writer.new) result }
+        ensures { IsJustOpened opened.disk → IsDone result (IsComplaintOf R.form) (Reads R.form (W.contents writer.old) (W.contents writer.new) result (IsWindowListed R.form R.spelling.text_of window.now)) }
     {
         let Opened { disk, lock: _lock } = opened;
         let (disk, ended) = list::<R, Watched<'_, FileDisk, P>, W, P>(
@@ -199,7 +268,7 @@ impl<'a, F: Files<File = File> + AllocGlobal, P: Progress + Sync> Filing<'a, F, 
             self.progress,
             writer,
         );
-        status_on::<R, Watched<'_, FileDisk, P>>(self.alloc, disk, ended)
+        status_on::<R>(self.alloc, disk.into_disk(), ended)
     }
 
     fn list<R: TextRecord, W: Write>(
@@ -208,12 +277,9 @@ impl<'a, F: Files<File = File> + AllocGlobal, P: Progress + Sync> Filing<'a, F, 
         count: Option<&str>,
         writer: &mut W,
     ) -> Result<Status, Complaint>
-        ensures { IsFileCommandRun (IsAnswer R.spelling (tasks.List from.entry count.entry)) (W.contents writer.old) (W.contents writer.new) result }
+        ensures { IsListRun R.form (W.contents writer.old) (W.contents writer.new) result R.spelling (option_copied from.entry) (option_copied count.entry) }
     {
-        let window = read_window(
-            from.map(|word| word.as_bytes()),
-            count.map(|word| word.as_bytes()),
-        )?;
+        let window = window_of(from, count)?;
         let opened = self.open(Access::Reads)?;
         self.list_opened::<R, W>(opened, &window, writer)
     }
@@ -224,15 +290,15 @@ impl<'a, F: Files<File = File> + AllocGlobal, P: Progress + Sync> Filing<'a, F, 
         record: &str,
         writer: &mut W,
     ) -> Result<Status, Complaint>
-        ensures { IsFileCommandRun (IsAnswer R.spelling (tasks.Count «record».entry)) (W.contents writer.old) (W.contents writer.new) result }
+        ensures { IsCountRun R.form (W.contents writer.old) (W.contents writer.new) result R.spelling «record».now }
     {
-        let record = read_record::<R>(record.as_bytes())?;
+        let wanted = read_record::<R>(record.as_bytes())?;
         let Opened { disk, lock: _lock } = self.open(Access::Reads)?;
         let disk = self.watched(disk);
         let (disk, ended) = count::<R, Watched<'_, FileDisk, P>, W, E>(
-            rt, self.alloc, disk, record, writer,
+            rt, self.alloc, disk, wanted, writer,
         );
-        status_on::<R, Watched<'_, FileDisk, P>>(self.alloc, disk, ended)
+        status_on::<R>(self.alloc, disk.into_disk(), ended)
     }
 
     fn find<R: TextRecord, W: Write, E: Threads + Sync>(
@@ -241,15 +307,15 @@ impl<'a, F: Files<File = File> + AllocGlobal, P: Progress + Sync> Filing<'a, F, 
         record: &str,
         writer: &mut W,
     ) -> Result<Status, Complaint>
-        ensures { IsFileCommandRun (IsAnswer R.spelling (tasks.Find «record».entry)) (W.contents writer.old) (W.contents writer.new) result }
+        ensures { IsFindRun R.form (W.contents writer.old) (W.contents writer.new) result R.spelling «record».now }
     {
-        let record = read_record::<R>(record.as_bytes())?;
+        let wanted = read_record::<R>(record.as_bytes())?;
         let Opened { disk, lock: _lock } = self.open(Access::Reads)?;
         let disk = self.watched(disk);
         let (disk, ended) = find::<R, Watched<'_, FileDisk, P>, W, E>(
-            rt, self.alloc, disk, record, writer,
+            rt, self.alloc, disk, wanted, writer,
         );
-        status_on::<R, Watched<'_, FileDisk, P>>(self.alloc, disk, ended)
+        status_on::<R>(self.alloc, disk.into_disk(), ended)
     }
 
     fn set<R: TextRecord, W: Write, E: Threads + Sync>(
@@ -259,12 +325,12 @@ impl<'a, F: Files<File = File> + AllocGlobal, P: Progress + Sync> Filing<'a, F, 
         records: &str,
         writer: &mut W,
     ) -> Result<Status, Complaint>
-        ensures { IsFileCommandRun (IsAnswer R.spelling (tasks.Set start.entry records.entry)) (W.contents writer.old) (W.contents writer.new) result }
+        ensures { IsSetRun R.form (W.contents writer.old) (W.contents writer.new) result R.spelling start.now records.now }
     {
         let setting = read_setting::<R>(self.alloc, start.as_bytes(), records.as_bytes())?;
         let Opened { disk, lock: _lock } = self.open(Access::Writes)?;
         let (disk, ended) = set::<R, FileDisk, W, E>(rt, self.alloc, disk, &setting, writer);
-        status_on::<R, FileDisk>(self.alloc, disk, ended)
+        status_on::<R>(self.alloc, disk, ended)
     }
 
     fn resize<R: TextRecord, W: Write>(
@@ -273,29 +339,29 @@ impl<'a, F: Files<File = File> + AllocGlobal, P: Progress + Sync> Filing<'a, F, 
         record: &str,
         writer: &mut W,
     ) -> Result<Status, Complaint>
-        ensures { IsFileCommandRun (IsAnswer R.spelling (tasks.Resize len.entry «record».entry)) (W.contents writer.old) (W.contents writer.new) result }
+        ensures { IsResizeRun R.form (W.contents writer.old) (W.contents writer.new) result R.spelling len.now «record».now }
     {
         let resizing = read_resizing::<R>(len.as_bytes(), record.as_bytes())?;
         let Opened { disk, lock: _lock } = self.open(Access::Writes)?;
         let (disk, ended) = resize::<R, FileDisk, W>(self.alloc, disk, &resizing, writer);
-        status_on::<R, FileDisk>(self.alloc, disk, ended)
+        status_on::<R>(self.alloc, disk, ended)
     }
 
     fn clear<R: TextRecord, W: Write>(&self, writer: &mut W) -> Result<Status, Complaint>
-        ensures { IsFileCommandRun (IsAnswer R.spelling tasks.Clear) (W.contents writer.old) (W.contents writer.new) result }
+        ensures { IsClearRun R.form (W.contents writer.old) (W.contents writer.new) result }
     {
         let Opened { disk, lock: _lock } = self.open(Access::Writes)?;
         let (disk, ended) = clear::<R, FileDisk, W>(self.alloc, disk, writer);
-        status_on::<R, FileDisk>(self.alloc, disk, ended)
+        status_on::<R>(self.alloc, disk, ended)
     }
 
     fn fold<R: TextRecord, W: Write>(&self, writer: &mut W) -> Result<Status, Complaint>
-        ensures { IsFileCommandRun (IsAnswer R.spelling tasks.Fold) (W.contents writer.old) (W.contents writer.new) result }
+        ensures { IsFoldRun R.form (W.contents writer.old) (W.contents writer.new) result }
     {
         let Opened { disk, lock: _lock } = self.open(Access::Writes)?;
         let disk = self.watched(disk);
         let (disk, ended) = fold::<R, Watched<'_, FileDisk, P>, W>(self.alloc, disk, writer);
-        status_on::<R, Watched<'_, FileDisk, P>>(self.alloc, disk, ended)
+        status_on::<R>(self.alloc, disk.into_disk(), ended)
     }
 
     fn upgrade<R: TextRecord, W: Write>(
@@ -303,7 +369,7 @@ impl<'a, F: Files<File = File> + AllocGlobal, P: Progress + Sync> Filing<'a, F, 
         new: &str,
         writer: &mut W,
     ) -> Result<Status, Complaint>
-        ensures { IsFileCommandRun (IsAnswer R.spelling (tasks.Upgrade new.entry)) (W.contents writer.old) (W.contents writer.new) result }
+        ensures { IsUpgradeRun R.form (W.contents writer.old) (W.contents writer.new) result }
     {
         let Opened {
             disk: old,
@@ -317,7 +383,7 @@ impl<'a, F: Files<File = File> + AllocGlobal, P: Progress + Sync> Filing<'a, F, 
         let (old, _new, ended) = upgrade_file::<R, Watched<'_, FileDisk, P>, FileDisk, W>(
             self.alloc, old, new, writer,
         );
-        status_on::<R, Watched<'_, FileDisk, P>>(self.alloc, old, ended)
+        status_on::<R>(self.alloc, old.into_disk(), ended)
     }
 
     fn serve<R: TextRecord, W: Write, E: Threads + Wait + Sync>(
@@ -326,23 +392,14 @@ impl<'a, F: Files<File = File> + AllocGlobal, P: Progress + Sync> Filing<'a, F, 
         clients: u16,
         writer: &mut W,
     ) -> Result<Status, Complaint>
-        ensures { IsFileCommandRun (IsAnswer R.spelling (tasks.Serve clients)) (W.contents writer.old) (W.contents writer.new) result }
+        ensures { IsServeRun R.form (W.contents writer.old) (W.contents writer.new) result clients }
     {
         let pipes = pipes_of(self.alloc, self.files, clients)?;
         let Opened { disk, lock: _lock } = self.open(Access::Writes)?;
         let (disk, served, ended) = serve::<R, FileDisk, File, File, E>(
             rt, self.alloc, disk, pipes,
         );
-        match ended {
-            Ok(()) => match write_served(served.growths, writer) {
-                Ok(()) => Ok(Status::Done),
-                Err(_) => Ok(Status::OutputFailed),
-            },
-            Err(ServeFault::Open(fault)) => {
-                Err(complaint_of::<R, FileDisk>(self.alloc, disk, FileFault::Open(fault)))
-            }
-            Err(fault) => Err(Complaint::Served(served.growths, fault_of(fault))),
-        }
+        status_of_serve::<R, W>(self.alloc, disk, served, ended, writer)
     }
 
     /// Does the task. A complaint: it was refused, and nothing of an answer was written.
@@ -353,10 +410,10 @@ impl<'a, F: Files<File = File> + AllocGlobal, P: Progress + Sync> Filing<'a, F, 
         reader: &mut I,
         writer: &mut W,
     ) -> Result<Status, Complaint>
-        ensures { IsFileCommandRun (IsAnswer R.spelling task.entry) (W.contents writer.old) (W.contents writer.new) result }
+        ensures { IsCommandRun R.form R.spelling task.entry (I.remaining reader.old) (W.contents writer.old) (W.contents writer.new) result }
     {
         match task {
-            FileTask::Create(format) => self.create::<R, W>(format, writer),
+            FileTask::Create { format, over } => self.create::<R, W>(format, over, writer),
             FileTask::Load(seats) => self.load::<R, S, I, W, E>(rt, seats, reader, writer),
             FileTask::Append(block) => self.append::<R, S, I, W, E>(rt, block, reader, writer),
             FileTask::Check => self.check::<R, W>(writer),

@@ -4,8 +4,8 @@ ghost use Rattle.std.specs.Prelude.{◌≡◌, ◌≢◌, [], ℕ, List, Option,
 ghost use Rattle.std.specs.Io.KnownBytes.{Keeps, Appends};
 ghost use Rattle.text_core.specs.Text.{ended_line};
 ghost use Rattle.words_core.specs.declared.request.Request.TheVariants as requests;
-ghost use Rattle.cvec.specs.Answers.{IsAnswerTo};
-ghost use Rattle.cvec.specs.Runs.{IsTaskRun, IsProgramRun, IsAskedRun, IsFileRun, IsFileCommandRun, IsIdleRun, IsComplaintRun, IsComplaintTold, IsAskedTold};
+ghost use Rattle.cvec.specs.Commands.{IsStatRun};
+ghost use Rattle.cvec.specs.Runs.{IsTaskRun, IsProgramRun, IsAskedRun, IsTypedCommandRun, IsIdleRun, IsComplaintRun, IsToldRun};
 
 use crate::filing::Filing;
 use crate::telling::tell_stat;
@@ -113,7 +113,7 @@ fn run_filing<
     reader: &mut I,
     writer: &mut W,
 ) -> Result<Status, Complaint>
-    ensures { IsFileCommandRun (IsAnswerTo (requests.File words.now)) (W.contents writer.old) (W.contents writer.new) result }
+    ensures { IsTypedCommandRun words.now.record_type words.now.task (I.remaining reader.old) (W.contents writer.old) (W.contents writer.new) result }
 {
     let task = words.task;
     match words.record_type {
@@ -141,7 +141,7 @@ fn run_file<
     reader: &mut I,
     writer: &mut W,
 ) -> Result<Status, Complaint>
-    ensures { IsFileCommandRun (IsAnswerTo (requests.File words.now)) (W.contents writer.old) (W.contents writer.new) result }
+    ensures { IsTypedCommandRun words.now.record_type words.now.task (I.remaining reader.old) (W.contents writer.old) (W.contents writer.new) result }
 {
     let alloc = system.alloc;
     let files = system.files;
@@ -173,7 +173,7 @@ fn run_stat<W: Write, F: Files<File = File> + AllocGlobal, P: Progress>(
     words: &StatWords<'_>,
     writer: &mut W,
 ) -> Result<Status, Complaint>
-    ensures { IsFileCommandRun (IsAnswerTo (requests.Stat words.now)) (W.contents writer.old) (W.contents writer.new) result }
+    ensures { IsStatRun words.now.form (W.contents writer.old) (W.contents writer.new) result }
 {
     if words.quiet {
         tell_stat::<W, F, Silent>(system.files, &Silent, words, writer)
@@ -209,8 +209,7 @@ fn outcome_of<'a, W: Write>(
     writer: &mut W,
 ) -> Outcome<'a>
     ensures asked { result.asked ≡ Some request.entry }
-    ensures ends { (old : Option (List ℕ)) → IsFileCommandRun (IsAnswerTo request.entry) old (W.contents writer.old) filed → IsFileRun (IsAnswerTo request.entry) old (W.contents writer.new) result.status }
-    ensures told { (old : Option (List ℕ)) → IsFileCommandRun (IsAnswerTo request.entry) old (W.contents writer.old) filed → IsComplaintTold old (W.contents writer.new) result.status result.complaint }
+    ensures told { IsToldRun filed (W.contents writer.old) (W.contents writer.new) result.status result.complaint }
 {
     match filed {
         Ok(status) => Outcome {
@@ -255,10 +254,8 @@ pub fn run<
     P: Progress + Sync,
 >(system: &System<'_, F, P>, rt: &E, words: &'a [S], reader: &mut I, writer: &mut W) -> Outcome<'a>
     ensures no_words { words.now ≡ [] → result.asked ≡ Some (requests.Input Task.Image RecordType.U64) }
-    ensures ends { IfSome (I.remaining reader.old) (λ input.
-        IsAskedRun result.asked input (W.contents writer.old) (W.contents writer.new) result.status) }
+    ensures ends { IsAskedRun result.asked (I.remaining reader.old) (W.contents writer.old) (W.contents writer.new) result.status result.complaint }
     ensures usage { result.status ≡ Status.Usage → Keeps (W.contents writer.old) (W.contents writer.new) }
-    ensures told { IsAskedTold result.asked (W.contents writer.old) (W.contents writer.new) result.status result.complaint }
 {
     let request = match read_request(system.alloc, words) {
         Ok(request) => request,

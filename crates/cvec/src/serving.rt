@@ -1,8 +1,9 @@
 //! The clients of `serve`: their pipes, and what is told of them at the end.
 
-ghost use Rattle.std.specs.Prelude.{OnOk};
+ghost use Rattle.std.specs.Prelude.{◌≡◌, ◌⊎◌, OnOk, IfOk, IfErr, vec_len};
 ghost use Rattle.std.specs.Io.KnownBytes.{Appends};
-ghost use Rattle.cvec.specs.Answers.{served_line};
+ghost use Rattle.cvec.specs.Commands.{served_line};
+ghost use Rattle.cvec.specs.Complaints.{IsUnserved, served_fault};
 
 use files_core::FileFault;
 use flush_core::FlushFault;
@@ -20,7 +21,9 @@ use vault_core::VaultFault;
 const FIRST_PIPE: u32 = 3;
 
 /// The name of a descriptor that the program was started with.
-fn name_of(alloc: Global, descriptor: u32) -> Result<String, Complaint> {
+fn name_of(alloc: Global, descriptor: u32) -> Result<String, Complaint>
+    ensures { IfErr result IsUnserved }
+{
     match format!(in alloc; "/dev/fd/{descriptor}") {
         Ok(name) => Ok(name),
         Err(_) => Err(Complaint::Fault(FileFault::Input(Refusal::Memory))),
@@ -33,7 +36,9 @@ fn pipe<F: Files<File = File>>(
     files: &F,
     descriptor: u32,
     writes: bool,
-) -> Result<File, Complaint> {
+) -> Result<File, Complaint>
+    ensures { IfErr result IsUnserved }
+{
     let name = name_of(alloc, descriptor)?;
     let opened = OpenOptions::new()
         .read(!writes)
@@ -51,7 +56,9 @@ fn check_pipes<F: Files<File = File>>(
     alloc: Global,
     files: &F,
     clients: u16,
-) -> Result<(), Complaint> {
+) -> Result<(), Complaint>
+    ensures { IfErr result IsUnserved }
+{
     let end = FIRST_PIPE.saturating_add(u32::from(clients).saturating_mul(2));
     for descriptor in FIRST_PIPE..end {
         let name = name_of(alloc, descriptor)?;
@@ -67,7 +74,10 @@ pub fn pipes_of<F: Files<File = File>>(
     alloc: Global,
     files: &F,
     clients: u16,
-) -> Result<Vec<Pipes<File, File>>, Complaint> {
+) -> Result<Vec<Pipes<File, File>>, Complaint>
+    ensures pipes { IfOk result (λ pipes. vec_len pipes ≡ clients) }
+    ensures unserved { IfErr result IsUnserved }
+{
     check_pipes(alloc, files, clients)?;
     let mut pipes = Vec::new(alloc);
     for client in 0..u32::from(clients) {
@@ -84,7 +94,9 @@ pub fn pipes_of<F: Files<File = File>>(
 }
 
 /// Why not all was served, as a command over a file names it.
-pub fn fault_of(fault: ServeFault) -> FileFault {
+pub fn fault_of(fault: ServeFault) -> FileFault
+    ensures { result ≡ served_fault fault }
+{
     match fault {
         ServeFault::Open(fault) => FileFault::Open(fault),
         ServeFault::Share(fault) => FileFault::Vault(fault),

@@ -1,8 +1,8 @@
 //! What a file has, told without the type of its records.
 
-ghost use Rattle.words_core.specs.declared.request.Request.TheVariants as requests;
-ghost use Rattle.cvec.specs.Answers.{IsAnswerTo};
-ghost use Rattle.cvec.specs.Runs.{IsFileCommandRun};
+ghost use Rattle.std.specs.Prelude.{◌≡◌};
+ghost use Rattle.cvec.specs.Commands.{IsStatRun};
+ghost use Rattle.cvec.specs.Complaints.{IsStatStatus, stat_complaint};
 
 use crate::access::{Access, Opened, open};
 use disk_core::FileDisk;
@@ -17,7 +17,9 @@ use text_core::Status;
 use words_core::StatWords;
 
 /// The complaint of a file that has no summary: of a damaged one with the records that its frames before that leave.
-fn complaint_of(fault: StatFault) -> Complaint {
+fn complaint_of(fault: StatFault) -> Complaint
+    ensures { result ≡ stat_complaint fault }
+{
     match fault {
         StatFault::Disk(fault) => Complaint::Fault(FileFault::Open(OpenFault::Disk(fault))),
         StatFault::Header(fault) => Complaint::Fault(FileFault::Open(OpenFault::Scan(fault))),
@@ -28,6 +30,17 @@ fn complaint_of(fault: StatFault) -> Complaint {
     }
 }
 
+/// How `stat` ended whose engine ended so.
+fn status_of(ended: Ended) -> Result<Status, Complaint>
+    ensures { IsStatStatus ended result }
+{
+    match ended {
+        Ended::Done => Ok(Status::Done),
+        Ended::Unwritten(_) => Ok(Status::OutputFailed),
+        Ended::Refused(fault) => Err(complaint_of(fault)),
+    }
+}
+
 /// Locks and opens the file, and writes what it has. A complaint: it was refused, and nothing of an answer was written.
 pub fn tell_stat<W: Write, F: Files<File = File> + AllocGlobal, P: Progress>(
     files: &F,
@@ -35,14 +48,10 @@ pub fn tell_stat<W: Write, F: Files<File = File> + AllocGlobal, P: Progress>(
     words: &StatWords<'_>,
     writer: &mut W,
 ) -> Result<Status, Complaint>
-    ensures { IsFileCommandRun (IsAnswerTo (requests.Stat words.now)) (W.contents writer.old) (W.contents writer.new) result }
+    ensures { IsStatRun words.now.form (W.contents writer.old) (W.contents writer.new) result }
 {
     let Opened { disk, lock: _lock } = open(files, words.file, Access::Reads, Role::File)?;
     let disk = Watched::new(disk, progress);
     let (_disk, ended) = stat::<Watched<'_, FileDisk, P>, W>(disk, words.form, writer);
-    match ended {
-        Ended::Done => Ok(Status::Done),
-        Ended::Unwritten(_) => Ok(Status::OutputFailed),
-        Ended::Refused(fault) => Err(complaint_of(fault)),
-    }
+    status_of(ended)
 }

@@ -1,5 +1,7 @@
 //! What standard error tells of a refusal: what was wrong with what, what stands now, and what to do next.
 
+ghost use Rattle.std.specs.Prelude.{◌≡◌};
+
 use crate::bytes::write_open;
 use crate::input::{write_input, write_word};
 use crate::role::{Role, name_of, write_in_use, write_not_opened};
@@ -28,6 +30,10 @@ pub enum Complaint {
 }
 
 impl From<FileFault> for Complaint {
+    ghost use Rattle.sentences.specs.declared.complaint.Complaint.{Complaint};
+
+    ghost from_gives = { λ fault complaint. complaint ≡ Complaint.Fault fault };
+
     fn from(fault: FileFault) -> Complaint {
         Complaint::Fault(fault)
     }

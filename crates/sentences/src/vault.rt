@@ -12,7 +12,7 @@ use vault_core::VaultFault;
 fn about_pen(fault: PenFault) -> &'static str {
     match fault {
         PenFault::Exists =>
-            "there is something in this file already, a vector or other bytes; it is as it was; remove it, or name another file",
+            "there is something in this file already, a vector or other bytes; it is as it was; name another file, or give --over, which takes it all the same",
         PenFault::Unfolded =>
             "changes are live, and with them it can't become shorter; it is as it was; `cvec fold` first",
         PenFault::OutOfRange =>
@@ -125,7 +125,7 @@ pub fn write_stopped<W: fmt::Write>(
 pub fn about_new(fault: VaultFault) -> &'static str {
     match fault {
         VaultFault::Pen(PenFault::Exists) =>
-            "there is a vector in this file already; it is as it was; remove it, or name another file",
+            "there is something in this file already, a vector or other bytes; it is as it was; remove it, or name another file",
         VaultFault::Pen(PenFault::Memory) =>
             "there is not enough memory; it may have a part; begin again on another new file",
         VaultFault::Pen(PenFault::Disk(DiskFault::Length | DiskFault::Read)) =>

@@ -84,13 +84,18 @@ fn reading<'a>(alloc: Global, name: &'a str) -> Result<Command<'a>, AllocError> 
 /// A command that appends, with the words that are its own.
 fn growing<'a>(alloc: Global, name: &'a str) -> Result<Command<'a>, AllocError> {
     let own = match name {
-        "create" => joined(alloc, "format").value_parser(FORMATS.as_slice()),
         "load" => joined(alloc, "seats"),
         "append" => joined(alloc, "block"),
         "serve" => needed(alloc, "seats"),
         _ => word(alloc, "NEW"),
     };
     with_word(alloc, name, own)
+}
+
+/// `create`, with the words that are its own.
+fn creating<'a>(alloc: Global, name: &'a str) -> Result<Command<'a>, AllocError> {
+    let format = joined(alloc, "format").value_parser(FORMATS.as_slice());
+    with_words(alloc, name, format, flag(alloc, "over"))
 }
 
 /// A command that changes what is there, with the words that are its own.
@@ -114,7 +119,8 @@ fn stat_command<'a>(alloc: Global) -> Result<Command<'a>, AllocError> {
 fn command_of<'a>(alloc: Global, name: &'a str) -> Result<Command<'a>, AllocError> {
     match name {
         "image" | "show" | "play" => typed(alloc, name),
-        "create" | "load" | "append" | "serve" | "upgrade" => growing(alloc, name),
+        "create" => creating(alloc, name),
+        "load" | "append" | "serve" | "upgrade" => growing(alloc, name),
         "check" | "list" | "count" | "find" => reading(alloc, name),
         "stat" => stat_command(alloc),
         _ => changing(alloc, name),

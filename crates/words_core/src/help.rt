@@ -93,9 +93,10 @@ Refused: the file's first fault (unborn, not a segment, version V, width W, dama
 isn't there), memory, and the disk's faults.
 ";
 
-const CREATE: &[u8] = b"cvec create TYPE FILE [--format=1|2]
+const CREATE: &[u8] = b"cvec create TYPE FILE [--format=1|2] [--over]
 
-Makes a file with an empty vector. Its version is 1, or the one that is given.
+Makes a file with an empty vector. Its version is 1, or the one that is given. A file that is there already is taken only
+where it is empty, or has what a stopped creation leaves; with --over whatever it has is lost.
 
   $ cvec create u64 t.cv
   created

@@ -58,8 +58,11 @@ impl RecordType {
 /// What is done with a file. Words of records and numbers are as they were given.
 #[derive(Clone, Copy)]
 pub enum FileTask<'a> {
-    /// A file of this version is made.
-    Create(Format),
+    /// A file of this version is made: over whatever is there, or only where nothing but a stopped creation's is.
+    Create {
+        format: Format,
+        over: bool,
+    },
     /// Growths of the input are appended, by so many growers.
     Load(u16),
     /// Growths of an input of any length are appended, each of so many lines.

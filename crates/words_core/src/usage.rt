@@ -12,7 +12,7 @@ const HELP: &[u8] = b"
 image TYPE                                makes a segment file of group lines, and writes it as hex
 show TYPE                                 lists the records of a segment file, which is given as hex
 play TYPE                                 runs a script of steps over a disk in memory
-create TYPE FILE [--format=1|2]           makes a file with an empty vector
+create TYPE FILE [--format=1|2] [--over]  makes a file with an empty vector
 load TYPE FILE [--seats=N]                appends a growth for each line of the input
 append TYPE FILE [--block=N]              the same for input of any length, a growth for N lines
 serve TYPE FILE --seats=N                 lets N other programs grow it, through pipes

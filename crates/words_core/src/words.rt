@@ -140,7 +140,10 @@ fn set_task<'a>(words: &ArgMatches<'a>) -> Option<FileTask<'a>> {
 /// The task over a file that a command's name and words ask for, where it has words of its own.
 fn worded_task<'a>(name: &str, words: &ArgMatches<'a>) -> Option<FileTask<'a>> {
     match name {
-        "create" => Some(FileTask::Create(format_of(words.get_str("format")))),
+        "create" => Some(FileTask::Create {
+            format: format_of(words.get_str("format")),
+            over: words.get_flag("over"),
+        }),
         "list" => Some(FileTask::List {
             from: words.get_str("from"),
             count: words.get_str("count"),

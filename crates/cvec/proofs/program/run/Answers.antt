@@ -1,26 +1,17 @@
-use Rattle.cvec.proofs.Asked.{asked_run_of_file, asked_run_of_stat, no_usage_of_file, told_of_file, told_of_stat}
+use Rattle.words_core.specs.declared.request.Request.TheVariants.{File, Stat}
+use Rattle.cvec.proofs.Asked.{asked_run_of, file_tells_no_usage, stat_tells_no_usage}
 use Rattle.cvec.proofs.program.run.Goals as goal
 
 pub returns-in-File-clause-ends : goal.returns-in-File-clause-ends
-returns-in-File-clause-ends g c = asked_run_of_file (g.I.Read.remaining c.args.reader.now) _ c.in-File.words _ _ _ c.outcome_of.ensures.asked
-    (c.outcome_of.ensures.ends (g.W.Write.contents c.args.writer.now) c.run_file-filed.ensures)
+returns-in-File-clause-ends g c = asked_run_of _ (File c.in-File.words) _ _ _ _ _ c.outcome_of.ensures.asked
+    (record { mid = g.W.Write.contents c.run_file-filed.new.writer; filed = c.run_file-filed.result; run = c.run_file-filed.ensures; told = c.outcome_of.ensures.told })
 
 pub returns-in-File-clause-usage : goal.returns-in-File-clause-usage
-returns-in-File-clause-usage g c = no_usage_of_file _ (g.W.Write.contents c.args.writer.now) _ _ _ c.outcome_of.result.status
-    (c.outcome_of.ensures.ends (g.W.Write.contents c.args.writer.now) c.run_file-filed.ensures)
+returns-in-File-clause-usage g c = file_tells_no_usage _ _ _ (g.W.Write.contents c.args.writer.now) (g.W.Write.contents c.run_file-filed.new.writer) _ _ _ c.run_file-filed.result _ _ c.run_file-filed.ensures c.outcome_of.ensures.told
 
 pub returns-in-Stat-clause-ends : goal.returns-in-Stat-clause-ends
-returns-in-Stat-clause-ends g c = asked_run_of_stat (g.I.Read.remaining c.args.reader.now) _ c.in-Stat.words _ _ _ c.outcome_of-in-Stat.ensures.asked
-    (c.outcome_of-in-Stat.ensures.ends (g.W.Write.contents c.args.writer.now) c.run_stat-filed.ensures)
+returns-in-Stat-clause-ends g c = asked_run_of _ (Stat c.in-Stat.words) _ _ _ _ _ c.outcome_of-in-Stat.ensures.asked
+    (record { mid = g.W.Write.contents c.run_stat-filed.new.writer; filed = c.run_stat-filed.result; run = c.run_stat-filed.ensures; told = c.outcome_of-in-Stat.ensures.told })
 
 pub returns-in-Stat-clause-usage : goal.returns-in-Stat-clause-usage
-returns-in-Stat-clause-usage g c = no_usage_of_file _ (g.W.Write.contents c.args.writer.now) _ _ _ c.outcome_of-in-Stat.result.status
-    (c.outcome_of-in-Stat.ensures.ends (g.W.Write.contents c.args.writer.now) c.run_stat-filed.ensures)
-
-pub returns-in-File-clause-told : goal.returns-in-File-clause-told
-returns-in-File-clause-told g c = told_of_file _ c.in-File.words _ _ _ _ c.outcome_of.ensures.asked
-    (c.outcome_of.ensures.told (g.W.Write.contents c.args.writer.now) c.run_file-filed.ensures)
-
-pub returns-in-Stat-clause-told : goal.returns-in-Stat-clause-told
-returns-in-Stat-clause-told g c = told_of_stat _ c.in-Stat.words _ _ _ _ c.outcome_of-in-Stat.ensures.asked
-    (c.outcome_of-in-Stat.ensures.told (g.W.Write.contents c.args.writer.now) c.run_stat-filed.ensures)
+returns-in-Stat-clause-usage g c = stat_tells_no_usage _ (g.W.Write.contents c.args.writer.now) (g.W.Write.contents c.run_stat-filed.new.writer) _ _ _ c.run_stat-filed.result _ _ c.run_stat-filed.ensures c.outcome_of-in-Stat.ensures.told

@@ -1,6 +1,15 @@
-use Rattle.cvec.proofs.Filings.{filed_of, text_written, written_as}
+use Rattle.std.proofs.Common.{inr}
 use Rattle.cvec.proofs.filing.Filing.append.Goals as goal
 
 pub returns : goal.returns
-returns g c = filed_of _ (g.W.Write.contents c.args.writer.now) (g.W.Write.contents c.append-disk.new.writer) c.append-disk.result.2 _ c.status_of.ensures
-    (written_as (g.W.Write.contents c.args.writer.now) (g.W.Write.contents c.append-disk.new.writer) _ _ c.append-disk.result.2 (λ text is. (_, _, is)) (text_written (g.W.Write.contents c.args.writer.now) (g.W.Write.contents c.append-disk.new.writer) _ c.append-disk.result.2 c.append-disk.ensures.writes))
+returns g c = inr (
+  c.append-disk.result.1,
+  record {
+    disk = c.in_ok-disk.field-0.disk;
+    left = c.append-disk.result.0;
+    ended = c.append-disk.result.2;
+    opened = c.in_ok-disk.ensures.opened;
+    engine = (c.append-disk.ensures.stands, c.append-disk.ensures.writes);
+    told = c.status_of_append.ensures;
+  },
+)

@@ -1,7 +1,7 @@
-use Rattle.cvec.proofs.Filings.{filed_of, text_written}
-use Rattle.files_core.specs.Texts.{ok_line}
+use Rattle.std.proofs.Common.{refl}
+use Rattle.cvec.proofs.Filings.{over_file}
 use Rattle.cvec.proofs.filing.Filing.clear.Goals as goal
 
 pub returns : goal.returns
-returns g c = filed_of _ (g.W.Write.contents c.args.writer.now) (g.W.Write.contents c.clear-disk.new.writer) c.clear-disk.result.1 _ c.status_on.ensures
-    (text_written (g.W.Write.contents c.args.writer.now) (g.W.Write.contents c.clear-disk.new.writer) ok_line c.clear-disk.result.1 c.clear-disk.ensures.writes)
+returns g c = over_file _ (g.W.Write.contents c.args.writer.now) (g.W.Write.contents c.clear-disk.new.writer) _ c.in_ok-disk.field-0.disk c.in_ok-disk.field-0.disk c.clear-disk.result.0 c.clear-disk.result.0 c.clear-disk.result.1
+    refl c.in_ok-disk.ensures.opened refl (c.clear-disk.ensures.cleared, c.clear-disk.ensures.written, c.clear-disk.ensures.writes) c.status_on.ensures

@@ -1,7 +1,7 @@
-use Rattle.cvec.proofs.Filings.{filed_of, text_written}
-use Rattle.files_core.specs.Texts.{created_line}
+use Rattle.std.proofs.Common.{refl}
+use Rattle.cvec.proofs.Filings.{over_file}
 use Rattle.cvec.proofs.filing.Filing.create.Goals as goal
 
 pub returns : goal.returns
-returns g c = filed_of _ (g.W.Write.contents c.args.writer.now) (g.W.Write.contents c.create-disk.new.writer) c.create-disk.result.1 _ c.status_of.ensures
-    (text_written (g.W.Write.contents c.args.writer.now) (g.W.Write.contents c.create-disk.new.writer) created_line c.create-disk.result.1 c.create-disk.ensures.writes)
+returns g c = over_file _ (g.W.Write.contents c.args.writer.now) (g.W.Write.contents c.create-disk.new.writer) _ c.in_ok-disk.field-0.disk c.in_ok-disk.field-0.disk c.create-disk.result.0 c.create-disk.result.0 c.create-disk.result.1
+    refl c.in_ok-disk.ensures.opened refl (c.in_ok-made.made, c.in_ok-made.ensures.vacant, c.create-disk.ensures.created, c.create-disk.ensures.writes) c.status_on.ensures

@@ -1,6 +1,15 @@
-use Rattle.cvec.proofs.Filings.{filed_of, written_as}
+use Rattle.std.proofs.Common.{sym, subst}
+use Rattle.files_core.specs.Watched.{below}
+use Rattle.cvec.specs.Complaints.{Disk, IsComplaintOf, IsJustOpened, IsStatusOf}
+use Rattle.cvec.proofs.Watching.{reads_below}
 use Rattle.cvec.proofs.filing.Filing.list_opened.Goals as goal
 
 pub returns : goal.returns
-returns g c = filed_of _ (g.W.Write.contents c.args.writer.now) (g.W.Write.contents c.list-disk.new.writer) c.list-disk.result.1 _ c.status_on.ensures
-    (written_as (g.W.Write.contents c.args.writer.now) (g.W.Write.contents c.list-disk.new.writer) _ _ c.list-disk.result.1 (λ text is. (_, is.lines)) c.list-disk.ensures.writes)
+returns g c = λ opened. record {
+  disk = below c.watched.result;
+  left = below c.list-disk.result.0;
+  ended = c.list-disk.result.1;
+  opened = subst (λ (d : Disk). IsJustOpened d) (sym c.watched.ensures) opened;
+  engine = (reads_below _ _ _ _ c.list-disk.ensures.reads, c.list-disk.ensures.writes);
+  told = subst (λ (d : Disk). IsStatusOf (IsComplaintOf g.R.Record.form d) c.list-disk.result.1 c.status_on.result) c.into_disk.ensures c.status_on.ensures;
+}
