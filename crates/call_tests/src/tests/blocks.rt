@@ -1,24 +1,8 @@
-//! Blocks: their greatest length, and what was written through what they lend.
+//! Blocks: what was written through what they lend.
 
 use super::squares::Squares;
-use block_core::{Entry, Fresh, FreshFault, Label, Touch};
-use std::alloc::Global;
+use block_core::{Entry, Fresh, Label, Touch};
 use std::test::Fail;
-
-/// Why no block of so many records is made.
-fn refused(alloc: Global, n: u64) -> Option<FreshFault> {
-    Fresh::filled(alloc, n, 1u64).err()
-}
-
-/// The most records of u64: 8 + 131,071 * 8 is 1,048,576.
-#[test]
-fn a_block_is_as_long_as_one_frame_holds(rt: HostRuntime) {
-    let alloc = rt.alloc();
-    let faults = [0, 1, 131_071, 131_072, u64::MAX].map(|n| refused(alloc, n));
-    let large = Some(FreshFault::TooLarge);
-    let want = [Some(FreshFault::Empty), None, None, large, large];
-    assert_eq!(rt; faults, want);
-}
 
 /// Touches a block of ten in parts of three. How many records the parts have.
 fn touch_in_parts(fresh: &mut Fresh<u64>) -> u64 {

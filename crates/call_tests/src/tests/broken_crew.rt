@@ -25,14 +25,19 @@ const GROWTHS: u64 = 12;
 fn growths_of_two(alloc: Global) -> Result<Vec<Vec<Vec<u64>>>, AllocError> {
     let mut lists = Vec::new(alloc);
     for grower in 0..2u64 {
-        let mut blocks = Vec::new(alloc);
-        for serial in 0..GROWTHS {
-            let record = grower.wrapping_mul(GROWTHS).wrapping_add(serial);
-            blocks.push(Vec::from_slice(alloc, &[record, record])?)?;
-        }
-        lists.push(blocks)?;
+        lists.push(growths_of(alloc, grower)?)?;
     }
     Ok(lists)
+}
+
+/// What one of them makes.
+fn growths_of(alloc: Global, grower: u64) -> Result<Vec<Vec<u64>>, AllocError> {
+    let mut blocks = Vec::new(alloc);
+    for serial in 0..GROWTHS {
+        let record = grower.wrapping_mul(GROWTHS).wrapping_add(serial);
+        blocks.push(Vec::from_slice(alloc, &[record, record])?)?;
+    }
+    Ok(blocks)
 }
 
 /// The last of a phase's seats.
@@ -148,22 +153,28 @@ fn end_parts<D: Disk + Drop>(alloc: Global, parts: Gathering<u64, D>) -> Option<
     end_broken(alloc, &live, flusher, seats)
 }
 
-/// The parts of its phase that a crew hands back which a disk breaks. `None`, where all growths are settled.
+/// Why a crew hands no parts back.
+#[derive(Clone, Copy)]
+enum Whole {
+    /// All growths are settled.
+    Settled,
+    /// It wasn't begun.
+    Unbegun,
+}
+
+/// The parts of its phase that a crew hands back which a disk breaks.
 fn parts_of<D: Disk + Send + Drop, E: Threads + Wait + Sync>(
     rt: &E,
     alloc: Global,
     vault: Vault<u64, D>,
-    growths: &[Vec<Vec<u64>>],
-) -> Result<Option<Gathering<u64, D>>, Fail>
-    ensures { IfOk result (λ parts. IfSome parts (λ parts. AreOfPhase (D.keeps parts.flusher.pen.disk) parts.live parts.seats.items parts.flusher)) }
+    source: &Lists<'_, u64>,
+) -> Result<Gathering<u64, D>, Whole>
+    ensures { IfOk result (λ parts. AreOfPhase (D.keeps parts.flusher.pen.disk) parts.live parts.seats.items parts.flusher) }
 {
-    let Some(source) = Lists::try_new(growths) else {
-        return Err(Fail::from("too many"));
-    };
-    match crew(rt, alloc, vault, &source, &Open) {
-        Ok(_) => Ok(None),
-        Err(CrewFault::Gather(parts)) => Ok(Some(parts)),
-        Err(CrewFault::Share(_, _)) => Err(Fail::from("not begun")),
+    match crew(rt, alloc, vault, source, &Open) {
+        Ok(_) => Err(Whole::Settled),
+        Err(CrewFault::Gather(parts)) => Ok(parts),
+        Err(CrewFault::Share(_, _)) => Err(Whole::Unbegun),
     }
 }
 
@@ -175,14 +186,15 @@ fn left_on<E: Threads + Wait + Sync>(
     rt: &E,
     alloc: Global,
     disk: Breaking,
-    growths: &[Vec<Vec<u64>>],
+    source: &Lists<'_, u64>,
 ) -> Result<Option<Left<Breaking>>, Fail> {
     let Ok(vault) = Vault::<u64, _>::create_as(alloc, disk, Format::One) else {
         return Err(Fail::from("no vault"));
     };
-    match parts_of(rt, alloc, vault, growths)? {
-        Some(parts) => Ok(end_parts(alloc, parts)),
-        None => Ok(None),
+    match parts_of(rt, alloc, vault, source) {
+        Ok(parts) => Ok(end_parts(alloc, parts)),
+        Err(Whole::Settled) => Ok(None),
+        Err(Whole::Unbegun) => Err(Fail::from("not begun")),
     }
 }
 
@@ -190,12 +202,12 @@ fn left_on<E: Threads + Wait + Sync>(
 fn left_after<E: Threads + Wait + Sync>(
     rt: &E,
     alloc: Global,
+    source: &Lists<'_, u64>,
     calls: u64,
     blow: Blow,
 ) -> Result<Option<Left<Breaking>>, Fail> {
-    let growths = growths_of_two(alloc)?;
     let disk = FuseDisk::new(RamDisk::new(alloc), calls.saturating_add(8), blow);
-    left_on(rt, alloc, disk, growths.as_slice())
+    left_on(rt, alloc, disk, source)
 }
 
 /// The images that are looked at: what stands at the pending places, each with both lengths.
@@ -243,10 +255,15 @@ fn stands(alloc: Global, left: Left<Breaking>) -> Result<bool, Fail> {
 }
 
 /// At how many of 24 moments the disk of a crew broke it and left what it must. An error where it left less.
-fn break_at_each<E: Threads + Wait + Sync>(rt: &E, alloc: Global, blow: Blow) -> Result<u64, Fail> {
+fn break_at_each<E: Threads + Wait + Sync>(
+    rt: &E,
+    alloc: Global,
+    source: &Lists<'_, u64>,
+    blow: Blow,
+) -> Result<u64, Fail> {
     let mut broken = 0u64;
     for calls in 0..24u64 {
-        let Some(left) = left_after(rt, alloc, calls, blow)? else {
+        let Some(left) = left_after(rt, alloc, source, calls, blow)? else {
             continue;
         };
         // A commit makes four calls, and settles a growth or more.
@@ -258,20 +275,33 @@ fn break_at_each<E: Threads + Wait + Sync>(rt: &E, alloc: Global, blow: Blow) ->
     Ok(broken)
 }
 
+const BLOWS: [Blow; 5] = [
+    Blow::Stop,
+    Blow::FailOnce(0),
+    Blow::FailOnce(1),
+    Blow::FailOnce(30),
+    Blow::FailOnce(1_000),
+];
+
+/// The fewest moments of any of the blows at which the disk broke the crew.
+fn fewest_broken<E: Threads + Wait + Sync>(
+    rt: &E,
+    alloc: Global,
+    source: &Lists<'_, u64>,
+) -> Result<u64, Fail> {
+    let mut fewest = u64::MAX;
+    for blow in BLOWS {
+        fewest = fewest.min(break_at_each(rt, alloc, source, blow)?);
+    }
+    Ok(fewest)
+}
+
 /// The first commit of a crew makes four calls, so a disk that fails earlier breaks each crew.
 #[test]
 fn what_a_broken_crew_settled_stands(rt: HostRuntime) -> Result<(), Fail> {
-    let blows = [
-        Blow::Stop,
-        Blow::FailOnce(0),
-        Blow::FailOnce(1),
-        Blow::FailOnce(30),
-        Blow::FailOnce(1_000),
-    ];
-    let mut broken = [0; 5];
-    for (count, blow) in broken.iter_mut().zip(blows) {
-        *count = break_at_each(&rt, rt.alloc(), blow)?;
-    }
-    assert!(rt; broken.iter().all(|count| *count >= 4), "{broken:?}");
+    let growths = growths_of_two(rt.alloc())?;
+    let source = Lists::try_new(growths.as_slice()).ok_or("too many")?;
+    let fewest = fewest_broken(&rt, rt.alloc(), &source)?;
+    assert!(rt; fewest >= 4, "{fewest}");
     Ok(())
 }

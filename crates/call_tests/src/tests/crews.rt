@@ -9,7 +9,6 @@ use disk_core::RamDisk;
 use segment_core::Format;
 use std::alloc::Global;
 use std::sync::Wait;
-use std::test::Fail;
 use std::thread::Threads;
 use vault_core::Vault;
 
@@ -79,10 +78,10 @@ fn stand(vault: &Vault<u64, RamDisk>, receipts: &[Vec<Receipt>]) -> bool {
 }
 
 /// A vault over a new file in memory.
-pub(super) fn new_vault(alloc: Global) -> Result<Vault<u64, RamDisk>, Fail> {
+pub(super) fn new_vault(alloc: Global) -> Option<Vault<u64, RamDisk>> {
     match Vault::create_as(alloc, RamDisk::new(alloc), Format::One) {
-        Ok(vault) => Ok(vault),
-        Err(_) => Err(Fail::from("no vault")),
+        Ok(vault) => Some(vault),
+        Err(_) => None,
     }
 }
 
@@ -92,13 +91,18 @@ pub(super) fn grow<S: Source<u64>, G: Gate, E: Threads + Wait + Sync>(
     alloc: Global,
     source: &S,
     gate: &G,
-) -> Result<Crewed<u64, RamDisk>, Fail> {
+) -> Option<Crewed<u64, RamDisk>> {
     let vault = new_vault(alloc)?;
-    crew(rt, alloc, vault, source, gate).map_err(|_| Fail::from("no crew"))
+    match crew(rt, alloc, vault, source, gate) {
+        Ok(crewed) => Some(crewed),
+        Err(_) => None,
+    }
 }
 
 /// How many records a crew's vault has, how many receipts its growers have, and whether each growth stands at its range.
-fn sum_of(crewed: &Crewed<u64, RamDisk>) -> (u64, usize, bool) {
+type Sum = (u64, usize, bool);
+
+fn sum_of(crewed: &Crewed<u64, RamDisk>) -> Sum {
     let mut receipts = 0usize;
     for its in crewed.receipts.iter() {
         receipts = receipts.wrapping_add(its.len());
@@ -113,28 +117,27 @@ fn sum_of_crew<E: Threads + Wait + Sync>(
     alloc: Global,
     growers: u16,
     count: u32,
-) -> Result<(u64, usize, bool), Fail> {
+) -> Option<Sum> {
     let crewed = grow(rt, alloc, &Named { growers, count }, &Open)?;
-    Ok(sum_of(&crewed))
+    Some(sum_of(&crewed))
 }
 
 #[test]
-fn crews_of_many_and_of_one_grow_all(rt: HostRuntime) -> Result<(), Fail> {
+fn crews_of_many_and_of_one_grow_all(rt: HostRuntime) {
     let alloc = rt.alloc();
     let sums = [
-        sum_of_crew(&rt, alloc, 64, 1_000)?,
-        sum_of_crew(&rt, alloc, 1, 100)?,
-        sum_of_crew(&rt, alloc, 1, 0)?,
-        sum_of_crew(&rt, alloc, 3, 9)?,
+        sum_of_crew(&rt, alloc, 64, 1_000),
+        sum_of_crew(&rt, alloc, 1, 100),
+        sum_of_crew(&rt, alloc, 1, 0),
+        sum_of_crew(&rt, alloc, 3, 9),
     ];
     let want = [
-        (64_000, 64_000, true),
-        (100, 100, true),
-        (0, 0, true),
-        (27, 27, true),
+        Some((64_000, 64_000, true)),
+        Some((100, 100, true)),
+        Some((0, 0, true)),
+        Some((27, 27, true)),
     ];
     assert_eq!(rt; sums, want);
-    Ok(())
 }
 
 /// A gate that stops each grower before one of its growths.
@@ -154,35 +157,25 @@ impl Gate for StopsAt {
 }
 
 /// What two growers of five growths make that are stopped before that one, and whether neither has a fault.
-fn sum_before<E: Threads + Wait + Sync>(
-    rt: &E,
-    alloc: Global,
-    k: u32,
-) -> Result<((u64, usize, bool), bool), Fail> {
+fn sum_before<E: Threads + Wait + Sync>(rt: &E, alloc: Global, k: u32) -> Option<(Sum, bool)> {
     let source = Named {
         growers: 2,
         count: 5,
     };
     let crewed = grow(rt, alloc, &source, &StopsAt { k })?;
     let unfaulted = crewed.faults.as_slice() == [None, None].as_slice();
-    Ok((sum_of(&crewed), unfaulted))
+    Some((sum_of(&crewed), unfaulted))
 }
 
 #[test]
-fn a_gate_stops_growers_without_a_fault(rt: HostRuntime) -> Result<(), Fail> {
-    let alloc = rt.alloc();
-    let sums = [
-        sum_before(&rt, alloc, 0)?,
-        sum_before(&rt, alloc, 3)?,
-        sum_before(&rt, alloc, 5)?,
-    ];
+fn a_gate_stops_growers_without_a_fault(rt: HostRuntime) {
+    let sums = [0, 3, 5].map(|k| sum_before(&rt, rt.alloc(), k));
     let want = [
-        ((0, 0, true), true),
-        ((6, 6, true), true),
-        ((10, 10, true), true),
+        Some(((0, 0, true), true)),
+        Some(((6, 6, true), true)),
+        Some(((10, 10, true), true)),
     ];
     assert_eq!(rt; sums, want);
-    Ok(())
 }
 
 /// A source that has no memory left for the second block of its second grower.
@@ -213,19 +206,15 @@ impl Source<u64> for Exhausted {
 }
 
 /// What growers make of which the second runs out of memory, and whether it alone has the fault.
-fn sum_of_exhausted<E: Threads + Wait + Sync>(
-    rt: &E,
-    alloc: Global,
-) -> Result<((u64, usize, bool), bool), Fail> {
+fn sum_of_exhausted<E: Threads + Wait + Sync>(rt: &E, alloc: Global) -> Option<(Sum, bool)> {
     let crewed = grow(rt, alloc, &Exhausted, &Open)?;
     let faults = [None, Some(GrowFault::Memory), None];
     let same = crewed.faults.as_slice() == faults.as_slice();
-    Ok((sum_of(&crewed), same))
+    Some((sum_of(&crewed), same))
 }
 
 #[test]
-fn a_refused_block_stops_its_grower_alone(rt: HostRuntime) -> Result<(), Fail> {
-    let sum = sum_of_exhausted(&rt, rt.alloc())?;
-    assert_eq!(rt; sum, ((9, 9, true), true));
-    Ok(())
+fn a_refused_block_stops_its_grower_alone(rt: HostRuntime) {
+    let sum = sum_of_exhausted(&rt, rt.alloc());
+    assert_eq!(rt; sum, Some(((9, 9, true), true)));
 }

@@ -32,19 +32,36 @@ fn fill_up_and_grow<E: Wait>(
 }
 
 /// The same by the first seat of a book.
-fn grow_first<E: Wait>(rt: &E, two: Two) -> Option<([[u64; 2]; 3], bool)> {
+fn grow_first<E: Wait>(rt: &E, alloc: Global) -> Option<([[u64; 2]; 3], bool)> {
     let Two {
         live,
         mut first,
         ..
-    } = two;
+    } = begin_two(alloc, 8)?;
     fill_up_and_grow(rt, &live, &mut first)
 }
 
 #[test]
 fn growths_stand_behind_one_another(rt: HostRuntime) {
-    let grown = begin_two(rt.alloc(), 8).and_then(|two| grow_first(&rt, two));
+    let grown = grow_first(&rt, rt.alloc());
     assert_eq!(rt; grown, Some(([[3, 2], [5, 1], [6, 2]], true)));
+}
+
+/// What a growth of a block is refused for.
+fn grow_block<E: Wait>(
+    rt: &E,
+    alloc: Global,
+    live: &Live<u64>,
+    seat: &mut Seat<u64>,
+) -> Option<Option<GrowFault>>
+    requires { IsSeatOf live.now seat.old }
+    ensures { IsSeatOf live.now seat.new }
+{
+    let fresh = Fresh::from_slice(alloc, &[7]).ok()?;
+    match live.grow(rt, seat, fresh) {
+        Ok(_) => Some(None),
+        Err((_, fault)) => Some(Some(fault)),
+    }
 }
 
 /// What the four growth calls are refused for once the book is closed.
@@ -57,13 +74,8 @@ fn grow_closed<E: Wait>(
     requires { IsSeatOf live.now seat.old }
 {
     live.close(rt);
-    let fresh = Fresh::from_slice(alloc, &[7]).ok()?;
-    let block = match live.grow(rt, seat, fresh) {
-        Ok(_) => None,
-        Err((_, fault)) => Some(fault),
-    };
     Some([
-        block,
+        grow_block(rt, alloc, live, seat)?,
         live.push_back(rt, seat, 1).err(),
         live.grow_by(rt, seat, 2, 1).err(),
         live.grow_to_at_least(rt, seat, 9, 1).err(),
@@ -71,19 +83,18 @@ fn grow_closed<E: Wait>(
 }
 
 /// The same by the first seat of a book.
-fn close_first<E: Wait>(rt: &E, alloc: Global, two: Two) -> Option<[Option<GrowFault>; 4]> {
+fn close_first<E: Wait>(rt: &E, alloc: Global) -> Option<[Option<GrowFault>; 4]> {
     let Two {
         live,
         mut first,
         ..
-    } = two;
+    } = begin_two(alloc, 8)?;
     grow_closed(rt, alloc, &live, &mut first)
 }
 
 #[test]
 fn a_closed_book_refuses_each_growth(rt: HostRuntime) {
-    let alloc = rt.alloc();
-    let closed = begin_two(alloc, 8).and_then(|two| close_first(&rt, alloc, two));
+    let closed = close_first(&rt, rt.alloc());
     assert_eq!(rt; closed, Some([Some(GrowFault::Closed); 4]));
 }
 
@@ -119,19 +130,21 @@ fn read_each(live: &Live<u64>, seat: &mut Seat<u64>) -> ([Option<u64>; 4], [u64;
 }
 
 /// The same by the seats of a book.
-fn meet_of_two<E: Wait>(rt: &E, two: Two) -> Option<([u64; 4], ([Option<u64>; 4], [u64; 2]))> {
+fn meet_of_two<E: Wait>(rt: &E, alloc: Global) -> Option<([u64; 4], ([Option<u64>; 4], [u64; 2]))> {
     let Two {
         live,
         mut first,
         mut second,
-    } = two;
-    let sizes = meet_after_two(rt, &live, &mut first, &mut second)?;
-    Some((sizes, read_each(&live, &mut first)))
+    } = begin_two(alloc, 8)?;
+    match meet_after_two(rt, &live, &mut first, &mut second) {
+        Some(sizes) => Some((sizes, read_each(&live, &mut first))),
+        None => None,
+    }
 }
 
 #[test]
 fn a_seat_reads_what_it_meets(rt: HostRuntime) {
-    let met = begin_two(rt.alloc(), 8).and_then(|two| meet_of_two(&rt, two));
+    let met = meet_of_two(&rt, rt.alloc());
     let read = ([Some(1), Some(2), Some(3), None], [2, 1]);
     assert_eq!(rt; met, Some(([2, 3, 3, 3], read)));
 }
@@ -172,8 +185,8 @@ fn records_of(alloc: Global, live: &Live<u64>, seat: &mut Seat<u64>) -> Option<V
 }
 
 /// Whether a snapshot then has just these.
-fn has_seven<E: Wait>(rt: &E, alloc: Global, two: Two) -> Option<bool> {
-    let Two { live, first, .. } = two;
+fn has_seven<E: Wait>(rt: &E, alloc: Global) -> Option<bool> {
+    let Two { live, first, .. } = begin_two(alloc, 8)?;
     let mut seat = append_seven(rt, alloc, &live, first)?;
     let records = records_of(alloc, &live, &mut seat)?;
     Some(records.as_slice() == [0, 1, 2, 3, 4, 5, 6].as_slice())
@@ -181,7 +194,6 @@ fn has_seven<E: Wait>(rt: &E, alloc: Global, two: Two) -> Option<bool> {
 
 #[test]
 fn records_are_grown_by_in_blocks(rt: HostRuntime) {
-    let alloc = rt.alloc();
-    let has = begin_two(alloc, 8).and_then(|two| has_seven(&rt, alloc, two));
+    let has = has_seven(&rt, rt.alloc());
     assert_eq!(rt; has, Some(true));
 }

@@ -1,24 +1,32 @@
 //! What is lent, and what a snapshot has, stays while another thread grows.
 
-ghost use Rattle.std.specs.Prelude.{IfSome};
 ghost use Rattle.book_core.specs.Lists.{IsSeatOf};
 
 use super::two::{Two, begin_two};
 use book_core::{Live, Seat, Snapshot};
+use std::alloc::Global;
 use std::sync::Wait;
-use std::test::Fail;
 use std::thread;
 use std::thread::Threads;
 
-/// Makes so many growths of one record.
-fn put_many<E: Wait>(rt: &E, live: &Live<u64>, mut seat: Seat<u64>, count: u64) -> Option<Seat<u64>>
-    requires { IsSeatOf live.now seat }
-    ensures { IfSome result (λ seat. IsSeatOf live.now seat) }
+/// Makes so many growths of one record. Whether all are made.
+fn put_many<E: Wait>(rt: &E, live: &Live<u64>, seat: &mut Seat<u64>, count: u64) -> bool
+    requires { IsSeatOf live.now seat.old }
 {
     for k in 0..count {
-        live.push_back(rt, &mut seat, k).ok()?;
+        if live.push_back(rt, seat, k).is_err() {
+            return false;
+        }
     }
-    Some(seat)
+    true
+}
+
+/// Makes 100 of them.
+fn put_hundred<E: Wait>(rt: &E, live: &Live<u64>, seat: Seat<u64>) -> bool
+    requires { IsSeatOf live.now seat }
+{
+    let mut seat = seat;
+    put_many(rt, live, &mut seat, 100)
 }
 
 /// The sum of the records by position.
@@ -30,6 +38,19 @@ fn sum_by_position(snapshot: &Snapshot<'_, u64>) -> u64 {
     sum
 }
 
+/// A snapshot of a growth of three records of 7.
+fn snapshot_of_three<'a, E: Wait>(
+    rt: &E,
+    live: &'a Live<u64>,
+    seat: &mut Seat<u64>,
+) -> Option<Snapshot<'a, u64>>
+    requires { IsSeatOf live.now seat.old }
+    ensures { IsSeatOf live.now seat.new }
+{
+    live.grow_by(rt, seat, 3, 7).ok()?;
+    live.snapshot(seat).ok()
+}
+
 /// What two threads sum of one snapshot of three records of 7 while a third makes 100 growths; and what a look finds then.
 fn read_beside_growth<E: Threads + Wait + Sync>(
     rt: &E,
@@ -39,50 +60,52 @@ fn read_beside_growth<E: Threads + Wait + Sync>(
 ) -> Option<[u64; 3]>
     requires { IsSeatOf live.now first.old × IsSeatOf live.now second }
 {
-    live.grow_by(rt, first, 3, 7).ok()?;
-    let (one, other) = read_beside(rt, &live.snapshot(first).ok()?, live, second)?;
-    Some([one, other, live.look(first).ok()?])
+    match snapshot_of_three(rt, live, first) {
+        Some(snapshot) => {
+            let (one, other) = read_beside(rt, &snapshot, live, second);
+            Some([one, other, live.look(first).unwrap_or(0)])
+        }
+        None => None,
+    }
 }
 
-/// What two threads sum of that snapshot while a third makes 100 growths.
+/// What two threads sum of that snapshot while a third makes 100 growths, which a look finds.
 fn read_beside<E: Threads + Wait + Sync>(
     rt: &E,
     snapshot: &Snapshot<'_, u64>,
     live: &Live<u64>,
     second: Seat<u64>,
-) -> Option<(u64, u64)>
+) -> (u64, u64)
     requires { IsSeatOf live.now second }
 {
-    let (grown, sums) = thread::join(
+    let (_, sums) = thread::join(
         rt,
-        move || -> Option<Seat<u64>>
+        move || -> bool
             requires { IsSeatOf live.now second }
-        { put_many(rt, live, second, 100) },
+        { put_hundred(rt, live, second) },
         move || thread::join(
             rt,
             move || sum_by_position(snapshot),
             move || sum_by_position(snapshot),
         ),
     );
-    grown?;
-    Some(sums)
+    sums
 }
 
 /// The same of the seats of a book.
-fn read_two<E: Threads + Wait + Sync>(rt: &E, two: Two) -> Option<[u64; 3]> {
+fn read_two<E: Threads + Wait + Sync>(rt: &E, alloc: Global) -> Option<[u64; 3]> {
     let Two {
         live,
         mut first,
         second,
-    } = two;
+    } = begin_two(alloc, 101)?;
     read_beside_growth(rt, &live, &mut first, second)
 }
 
 #[test]
-fn two_threads_read_a_snapshot_beside_growth(rt: HostRuntime) -> Result<(), Fail> {
-    let read = begin_two(rt.alloc(), 101).and_then(|two| read_two(&rt, two));
+fn two_threads_read_a_snapshot_beside_growth(rt: HostRuntime) {
+    let read = read_two(&rt, rt.alloc());
     assert_eq!(rt; read, Some([21, 21, 103]));
-    Ok(())
 }
 
 /// Makes 100 growths in another thread. Whether all are made.
@@ -93,7 +116,7 @@ fn put_beside<E: Threads + Wait + Sync>(rt: &E, live: &Live<u64>, seat: Seat<u64
         rt,
         move || -> bool
             requires { IsSeatOf live.now seat }
-        { put_many(rt, live, seat, 100).is_some() },
+        { put_hundred(rt, live, seat) },
         || (),
     );
     grown
@@ -108,30 +131,26 @@ fn keep_piece<E: Threads + Wait + Sync>(
 ) -> Option<[u64; 3]>
     requires { IsSeatOf live.now first.old × IsSeatOf live.now second }
 {
-    live.grow_slice(rt, first, &[4, 5, 6]).ok()?;
-    let piece = live.piece(first, 0)?;
-    if !put_beside(rt, live, second) {
-        return None;
-    }
-    match piece {
-        [one, two, three] => Some([*one, *two, *three]),
+    let _ = live.grow_slice(rt, first, &[4, 5, 6]);
+    let piece = live.piece(first, 0);
+    match (piece, put_beside(rt, live, second)) {
+        (Some([one, two, three]), true) => Some([*one, *two, *three]),
         _ => None,
     }
 }
 
 /// The same of the seats of a book.
-fn keep_of_two<E: Threads + Wait + Sync>(rt: &E, two: Two) -> Option<[u64; 3]> {
+fn keep_of_two<E: Threads + Wait + Sync>(rt: &E, alloc: Global) -> Option<[u64; 3]> {
     let Two {
         live,
         mut first,
         second,
-    } = two;
+    } = begin_two(alloc, 101)?;
     keep_piece(rt, &live, &mut first, second)
 }
 
 #[test]
-fn what_is_lent_stays_while_another_thread_grows(rt: HostRuntime) -> Result<(), Fail> {
-    let kept = begin_two(rt.alloc(), 101).and_then(|two| keep_of_two(&rt, two));
+fn what_is_lent_stays_while_another_thread_grows(rt: HostRuntime) {
+    let kept = keep_of_two(&rt, rt.alloc());
     assert_eq!(rt; kept, Some([4, 5, 6]));
-    Ok(())
 }

@@ -7,6 +7,7 @@ ghost use Rattle.book_core.specs.Lists.{IsSeatOf};
 
 use super::two::{Two, begin_two};
 use book_core::{Live, Seat};
+use std::alloc::Global;
 use std::sync::Wait;
 
 const KNOWN: u64 = 100_000;
@@ -55,20 +56,32 @@ fn look_behind_each<E: Wait>(
 }
 
 /// The size that the second seat knows behind the growths of the first and its looks.
-fn look_in<E: Wait>(rt: &E, two: Two) -> Option<u64> {
+fn look_by_both<E: Wait>(
+    rt: &E,
+    live: &Live<u64>,
+    first: &mut Seat<u64>,
+    second: &mut Seat<u64>,
+) -> Option<u64>
+    requires { IsSeatOf live.now first.old × IsSeatOf live.now second.old }
+{
+    grow_known(rt, live, first)?;
+    look_again(live, second)?;
+    look_behind_each(rt, live, first, second)?;
+    live.look(second).ok()
+}
+
+/// The same by the seats of a new book.
+fn look_in<E: Wait>(rt: &E, alloc: Global) -> Option<u64> {
     let Two {
         live,
         mut first,
         mut second,
-    } = two;
-    grow_known(rt, &live, &mut first)?;
-    look_again(&live, &mut second)?;
-    look_behind_each(rt, &live, &mut first, &mut second)?;
-    live.look(&mut second).ok()
+    } = begin_two(alloc, KNOWN + NEW)?;
+    look_by_both(rt, &live, &mut first, &mut second)
 }
 
 #[test]
 fn a_look_takes_steps_by_what_is_new(rt: HostRuntime) {
-    let size = begin_two(rt.alloc(), KNOWN + NEW).and_then(|two| look_in(&rt, two));
+    let size = look_in(&rt, rt.alloc());
     assert_eq!(rt; size, Some(KNOWN + NEW));
 }

@@ -3,7 +3,7 @@
 use disk_core::{Disk, DiskFault};
 
 /// What a disk was asked.
-#[derive(Clone, Copy, Debug, PartialEq, Eq)]
+#[derive(Clone, Copy)]
 pub(super) struct Notes {
     pub(super) syncs: u64,
     pub(super) lengths: u64,

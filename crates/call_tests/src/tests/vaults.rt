@@ -1,15 +1,14 @@
-//! A vault's blocks joined, and crews over lists of each record type.
+//! A vault's blocks joined, and a crew over lists of flagged keys.
 
 ghost use Rattle.std.specs.Prelude.{◌+◌, ◌*◌, ◌%◌, ◌^◌};
 
 use super::crews::{Open, new_vault};
 use block_core::Touch;
-use crew_core::{Lists, Source, crew};
+use crew_core::{Lists, crew};
 use disk_core::RamDisk;
-use record_core::{Flagged, Pair, Record};
+use record_core::Flagged;
 use std::alloc::{AllocError, Global};
 use std::sync::Wait;
-use std::test::Fail;
 use std::thread::Threads;
 use vault_core::{Vault, VaultFault};
 
@@ -31,9 +30,9 @@ fn fill<E: Threads + Sync>(
     vault: &mut Vault<u64, RamDisk>,
     joins: bool,
 ) -> Result<(), VaultFault> {
-    vault.resize(2, 1)?;
-    vault.resize(3, 1)?;
-    vault.resize(5, 1)?;
+    for len in [2, 3, 5] {
+        vault.resize(len, 1)?;
+    }
     if joins {
         vault.compact()?;
     }
@@ -57,63 +56,57 @@ fn fill_and_read<E: Threads + Sync>(
     alloc: Global,
     vault: &mut Vault<u64, RamDisk>,
     joins: bool,
-) -> Result<(bool, u64), Fail> {
-    fill(rt, vault, joins)?;
-    let (records, pieces) = pieces_of(alloc, vault)?;
+) -> Option<(bool, u64)> {
+    fill(rt, vault, joins).ok()?;
+    let (records, pieces) = pieces_of(alloc, vault).ok()?;
     let has = records.as_slice() == [1, 11, 21, 31, 41].as_slice();
-    Ok((has, pieces))
+    Some((has, pieces))
 }
 
 /// The same of a new vault.
-fn filled<E: Threads + Sync>(rt: &E, alloc: Global, joins: bool) -> Result<(bool, u64), Fail> {
+fn filled<E: Threads + Sync>(rt: &E, alloc: Global, joins: bool) -> Option<(bool, u64)> {
     let mut vault = new_vault(alloc)?;
     fill_and_read(rt, alloc, &mut vault, joins)
 }
 
 #[test]
-fn joined_blocks_are_changed_alike(rt: HostRuntime) -> Result<(), Fail> {
-    let alloc = rt.alloc();
-    let found = [filled(&rt, alloc, false)?, filled(&rt, alloc, true)?];
-    assert_eq!(rt; found, [(true, 3), (true, 1)]);
-    Ok(())
+fn joined_blocks_are_changed_alike(rt: HostRuntime) {
+    let found = [false, true].map(|joins| filled(&rt, rt.alloc(), joins));
+    assert_eq!(rt; found, [Some((true, 3)), Some((true, 1))]);
 }
 
-/// For one grower one block of this record.
-fn lists_of<R: Record>(alloc: Global, record: R) -> Result<Vec<Vec<Vec<R>>>, AllocError> {
-    let mut block = Vec::new(alloc);
-    block.push(record)?;
-    let mut blocks = Vec::new(alloc);
-    blocks.push(block)?;
-    let mut lists = Vec::new(alloc);
-    lists.push(blocks)?;
-    Ok(lists)
+/// A vector of this one value.
+fn only<T: Drop>(alloc: Global, value: T) -> Option<Vec<T>> {
+    let mut one = Vec::new(alloc);
+    match one.push(value) {
+        Ok(()) => Some(one),
+        Err(_) => None,
+    }
 }
 
 /// The record that a source's crew puts first.
-fn first_of<R: Record, S: Source<R>, E: Threads + Wait + Sync>(
+fn first_of<E: Threads + Wait + Sync>(
     rt: &E,
     alloc: Global,
-    source: &S,
-) -> Option<R> {
-    let vault = Vault::<R, RamDisk>::create(alloc, RamDisk::new(alloc)).ok()?;
+    source: &Lists<'_, Flagged>,
+) -> Option<Flagged> {
+    let vault = Vault::<Flagged, RamDisk>::create(alloc, RamDisk::new(alloc)).ok()?;
     let crewed = crew(rt, alloc, vault, source, &Open).ok()?;
     crewed.vault.get(0).copied()
 }
 
-#[test]
-fn lists_of_pairs_are_sources(rt: HostRuntime) -> Result<(), Fail> {
-    let lists = lists_of(rt.alloc(), Pair { key: 7, value: -7 })?;
-    let source = Lists::try_new(lists.as_slice()).ok_or("too many")?;
-    let found = first_of(&rt, rt.alloc(), &source);
-    assert_eq!(rt; found, Some(Pair { key: 7, value: -7 }));
-    Ok(())
+/// That of a crew of one grower with one block of this record.
+fn first_of_one<E: Threads + Wait + Sync>(
+    rt: &E,
+    alloc: Global,
+    record: Flagged,
+) -> Option<Flagged> {
+    let lists = only(alloc, only(alloc, only(alloc, record)?)?)?;
+    first_of(rt, alloc, &Lists::try_new(lists.as_slice())?)
 }
 
 #[test]
-fn lists_of_flagged_keys_are_sources(rt: HostRuntime) -> Result<(), Fail> {
-    let lists = lists_of(rt.alloc(), Flagged { key: 8, flag: true })?;
-    let source = Lists::try_new(lists.as_slice()).ok_or("too many")?;
-    let found = first_of(&rt, rt.alloc(), &source);
+fn lists_of_flagged_keys_are_sources(rt: HostRuntime) {
+    let found = first_of_one(&rt, rt.alloc(), Flagged { key: 8, flag: true });
     assert_eq!(rt; found, Some(Flagged { key: 8, flag: true }));
-    Ok(())
 }

@@ -100,7 +100,10 @@ fn grow_by_two<E: Threads + Sync>(
             ensures { IfSome result (λ pass. pass.of ≡ directory.entry.now) }
         { grow_as(alloc, directory, shared, 1, second) },
     );
-    Some((one?, other?))
+    match (one, other) {
+        (Some(one), Some(other)) => Some((one, other)),
+        _ => None,
+    }
 }
 
 /// How many growths of the first and of the second thread the pass knows, where each has its own in order.
@@ -119,19 +122,30 @@ fn growths_of_two(directory: &Directory<u64>, pass: &mut Pass<u64>) -> Option<(u
     Some(counts)
 }
 
-/// The growths at the ends of the first two buckets and at the start of the third, after a look.
-fn read_round_buckets(directory: &Directory<u64>, mut pass: Pass<u64>) -> Option<[u64; 4]>
+/// What a thread reads round the buckets.
+type Round = [Option<u64>; 4];
+
+/// The growths at the ends of the first two buckets, each with the next one.
+fn read_four(directory: &Directory<u64>, pass: &mut Pass<u64>) -> Round
+    requires { pass.old.of ≡ directory.now }
+{
+    [
+        read(directory, pass, 7),
+        read(directory, pass, 8),
+        read(directory, pass, 23),
+        read(directory, pass, 24),
+    ]
+}
+
+/// The same after a look, of which nothing is read where it fails.
+fn read_round_buckets(directory: &Directory<u64>, pass: Pass<u64>) -> Round
     requires { pass.of ≡ directory.now }
 {
-    if directory.look(&mut pass).is_err() {
-        return None;
+    let mut pass = pass;
+    match directory.look(&mut pass) {
+        Ok(_) => read_four(directory, &mut pass),
+        Err(_) => [None; 4],
     }
-    Some([
-        read(directory, &mut pass, 7)?,
-        read(directory, &mut pass, 8)?,
-        read(directory, &mut pass, 23)?,
-        read(directory, &mut pass, 24)?,
-    ])
 }
 
 /// What two threads read round the buckets at once.
@@ -140,15 +154,15 @@ fn read_by_two<E: Threads + Sync>(
     directory: &Directory<u64>,
     one: Pass<u64>,
     other: Pass<u64>,
-) -> (Option<[u64; 4]>, Option<[u64; 4]>)
+) -> (Round, Round)
     requires { (one.of ≡ directory.now) × (other.of ≡ directory.now) }
 {
     thread::join(
         rt,
-        move || -> Option<[u64; 4]>
+        move || -> Round
             requires { one.of ≡ directory.now }
         { read_round_buckets(directory, one) },
-        move || -> Option<[u64; 4]>
+        move || -> Round
             requires { other.of ≡ directory.now }
         { read_round_buckets(directory, other) },
     )
@@ -158,15 +172,17 @@ fn read_by_two<E: Threads + Sync>(
 fn grow_and_read<E: Threads + AllocGlobal + Sync>(
     rt: &E,
     directory: &Directory<u64>,
-) -> Option<(Option<[u64; 4]>, Option<[u64; 4]>)> {
-    let (one, other) = grow_by_two(rt, rt.alloc(), directory, 13, 12)?;
-    Some(read_by_two(rt, directory, one, other))
+) -> Option<(Round, Round)> {
+    match grow_by_two(rt, rt.alloc(), directory, 13, 12) {
+        Some((one, other)) => Some(read_by_two(rt, directory, one, other)),
+        None => None,
+    }
 }
 
 #[test]
 fn each_of_two_threads_reads_the_growths_of_both(rt: HostRuntime) -> Result<(), Fail> {
     let directory = Directory::new(rt.alloc(), 25)?;
-    let want = Some([7, 8, 23, 24]);
+    let want = [7, 8, 23, 24].map(Some);
     assert_eq!(rt; grow_and_read(&rt, &directory), Some((want, want)));
     Ok(())
 }

@@ -109,13 +109,15 @@ fn len_of(end: u64) -> Result<u64, DiskFault> {
 
 #[test]
 fn what_is_done_in_part_is_finished_or_a_fault(rt: HostRuntime) {
-    assert_eq!(rt; read_four(0), (Ok(()), [0, 1, 2, 3]));
-    assert_eq!(rt; read_four(1).0, Err(DiskFault::Read));
+    let (read, bytes) = read_four(0);
+    let (past, _) = read_four(1);
+    let done = [read, past, write_four(0), write_four(1)];
+    let lens = [len_of(4), len_of(0)];
+    let want = [Ok(()), Err(DiskFault::Read), Ok(()), Err(DiskFault::Write)];
     assert_eq!(rt;
-        [write_four(0), write_four(1)],
-        [Ok(()), Err(DiskFault::Write)]
+        (bytes, done, lens),
+        ([0, 1, 2, 3], want, [Ok(4), Err(DiskFault::Length)])
     );
-    assert_eq!(rt; [len_of(4), len_of(0)], [Ok(4), Err(DiskFault::Length)]);
 }
 
 /// What two syncs answer.

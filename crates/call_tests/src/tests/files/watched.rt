@@ -181,6 +181,6 @@ fn all_watched(alloc: Global, fails: bool) -> [(u64, Option<io::ErrorKind>); 5] 
 #[test]
 fn the_folder_of_a_made_file_is_synced_or_why_not_is_told(rt: HostRuntime) {
     let full = Some(io::ErrorKind::StorageFull);
-    assert_eq!(rt; all_watched(rt.alloc(), false), [(1, None); 5]);
-    assert_eq!(rt; all_watched(rt.alloc(), true), [(1, full); 5]);
+    let watched = [false, true].map(|fails| all_watched(rt.alloc(), fails));
+    assert_eq!(rt; watched, [[(1, None); 5], [(1, full); 5]]);
 }
