@@ -79,7 +79,10 @@ fn stand(vault: &Vault<u64, RamDisk>, receipts: &[Vec<Receipt>]) -> bool {
 
 /// A vault over a new file in memory.
 pub(super) fn new_vault(alloc: Global) -> Option<Vault<u64, RamDisk>> {
-    Vault::create_as(alloc, RamDisk::new(alloc), Format::One).ok()
+    match Vault::create_as(alloc, RamDisk::new(alloc), Format::One) {
+        Ok(vault) => Some(vault),
+        Err(_) => None,
+    }
 }
 
 /// A crew over a new file.
@@ -90,7 +93,10 @@ pub(super) fn grow<S: Source<u64>, G: Gate, E: Threads + Wait + Sync>(
     gate: &G,
 ) -> Option<Crewed<u64, RamDisk>> {
     let vault = new_vault(alloc)?;
-    crew(rt, alloc, vault, source, gate).ok()
+    match crew(rt, alloc, vault, source, gate) {
+        Ok(crewed) => Some(crewed),
+        Err(_) => None,
+    }
 }
 
 /// How many records a crew's vault has, how many receipts its growers have, and whether each growth stands at its range.
