@@ -41,8 +41,8 @@ fn emptied(file: File, access: Access, role: Role) -> Result<File, Complaint>
     }
 }
 
-/// Locks the file at this path. Nothing is read, and nothing written but to empty it where that is asked for. Refused where it can't be opened or made, and where another
-/// command has it.
+/// Locks the file at this path. Nothing is read, and nothing written but to empty it where that is asked for. Refused where
+/// it can't be opened or made, and where another command has it.
 fn lock<F: Files<File = File>>(
     files: &F,
     path: &str,
@@ -71,8 +71,8 @@ fn lock<F: Files<File = File>>(
     }
 }
 
-/// Locks and opens the file at this path. Nothing is read, and nothing written but to empty it where that is asked for. Refused where it can't be opened or made, and where
-/// another command has it.
+/// Locks and opens the file at this path. Nothing is read, and nothing written but to empty it where that is asked for.
+/// Refused where it can't be opened or made, and where another command has it.
 pub fn open<F: Files<File = File> + AllocGlobal>(
     files: &F,
     path: &str,

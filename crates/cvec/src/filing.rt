@@ -6,22 +6,23 @@ ghost use Rattle.std.specs.NonZero.{non_zero_u32_get};
 ghost use Rattle.files_core.specs.Listing.{IsWindowListed};
 ghost use Rattle.files_core.specs.Watched.{below};
 ghost use Rattle.cvec.specs.Asked.{IsNoWindow, IsWindow};
-ghost use Rattle.cvec.specs.Complaints.{IsAppendComplaint, IsComplaintOf, IsJustOpened, IsStatusOf, IsUnopened, damage_of};
-ghost use Rattle.cvec.specs.Commands.{IsAppendRun, IsCheckRun, IsClearRun, IsCommandRun, IsCountRun, IsCreateRun, IsDone, IsFindRun, IsFoldRun, IsListRun, IsLoadRun, IsResizeRun, IsServeRun, IsServedAs, IsSetRun, IsTaken, IsUpgradeRun, MayBeMadeOn, Reads};
+ghost use Rattle.cvec.specs.Complaints.{IsComplaintOf, IsJustOpened, IsUnopened};
+ghost use Rattle.cvec.specs.Commands.{IsAppendRun, IsCheckRun, IsClearRun, IsCommandRun, IsCountRun, IsCreateRun, IsDone, IsFindRun, IsFoldRun, IsListRun, IsLoadRun, IsResizeRun, IsServeRun, IsSetRun, IsTaken, IsUpgradeRun, MayBeMadeOn, Reads};
 
 use crate::access::{Access, Opened, open};
+use crate::ending::{status_of_append, status_of_serve, status_on};
 use crate::meter::CountingGate;
-use crate::serving::{fault_of, pipes_of, write_served};
+use crate::serving::pipes_of;
 use disk_core::FileDisk;
 use files_core::{
-    Appended, Deck, Ended, FileFault, Progress, Watched, Window, append, check, clear, count,
-    create, find, fold, is_vacant, list, load, read_growth_lines, read_record, read_resizing,
-    read_setting, read_window, resize, set, sound_front, upgrade_file,
+    Deck, FileFault, Progress, Watched, Window, append, check, clear, count, create, find, fold,
+    is_vacant, list, load, read_growth_lines, read_record, read_resizing, read_setting,
+    read_window, resize, set, upgrade_file,
 };
-use pen_core::{OpenFault, PenFault};
-use segment_core::{Format, ScanFault};
+use pen_core::PenFault;
+use segment_core::Format;
 use sentences::{Complaint, Role};
-use serve_core::{ServeFault, Served, serve};
+use serve_core::serve;
 use std::alloc::Global;
 use std::fs::File;
 use std::io::{Read, Write};
@@ -30,90 +31,8 @@ use std::rt::Files;
 use std::sync::Wait;
 use std::thread::Threads;
 use text_core::{Status, TextRecord};
-use vault_core::{UpgradeFault, VaultFault};
+use vault_core::VaultFault;
 use words_core::FileTask;
-
-/// The place of the damage that a fault tells of.
-fn damage_of(fault: FileFault) -> Option<u64>
-    ensures { result ≡ damage_of fault }
-{
-    match fault {
-        FileFault::Open(OpenFault::Scan(ScanFault::Damaged { at, .. }))
-        | FileFault::Upgrade(UpgradeFault::Old(OpenFault::Scan(ScanFault::Damaged { at, .. }))) =>
-            Some(at),
-        _ => None,
-    }
-}
-
-/// The complaint of a command whose engine gave its disk back with this fault: of a damaged file with what is sound of it.
-fn complaint_of<R: TextRecord>(alloc: Global, disk: FileDisk, fault: FileFault) -> Complaint
-    ensures { IsComplaintOf R.form disk fault result }
-{
-    let mut disk = disk;
-    let Some(at) = damage_of(fault) else {
-        return Complaint::Fault(fault);
-    };
-    match sound_front::<R, FileDisk>(alloc, &mut disk, at) {
-        Ok(sound) => Complaint::Damaged(sound, fault),
-        Err(_) => Complaint::Fault(fault),
-    }
-}
-
-/// How a command ended whose engine gave its disk back so.
-fn status_on<R: TextRecord>(
-    alloc: Global,
-    disk: FileDisk,
-    ended: Ended,
-) -> Result<Status, Complaint>
-    ensures { IsStatusOf (IsComplaintOf R.form disk) ended result }
-{
-    match ended {
-        Ended::Done => Ok(Status::Done),
-        Ended::OutputFailed => Ok(Status::OutputFailed),
-        Ended::Refused(fault) => Err(complaint_of::<R>(alloc, disk, fault)),
-    }
-}
-
-/// How `append` ended whose engine gave its disk back so.
-fn status_of_append<R: TextRecord>(
-    alloc: Global,
-    disk: FileDisk,
-    appended: Appended,
-    ended: Ended,
-) -> Result<Status, Complaint>
-    ensures { IsStatusOf (IsAppendComplaint R.form appended disk) ended result }
-{
-    match ended {
-        Ended::Done => Ok(Status::Done),
-        Ended::OutputFailed => Ok(Status::OutputFailed),
-        Ended::Refused(FileFault::Open(fault)) => {
-            Err(complaint_of::<R>(alloc, disk, FileFault::Open(fault)))
-        }
-        Ended::Refused(fault) => Err(Complaint::Appended(appended, fault)),
-    }
-}
-
-/// How `serve` ended whose engine gave its disk back so, and its answer.
-fn status_of_serve<R: TextRecord, W: Write>(
-    alloc: Global,
-    disk: FileDisk,
-    served: Served,
-    ended: Result<(), ServeFault>,
-    writer: &mut W,
-) -> Result<Status, Complaint>
-    ensures { IsServedAs R.form (W.contents writer.old) (W.contents writer.new) result disk served.growths ended }
-{
-    match ended {
-        Ok(()) => match write_served(served.growths, writer) {
-            Ok(()) => Ok(Status::Done),
-            Err(_) => Ok(Status::OutputFailed),
-        },
-        Err(ServeFault::Open(fault)) => {
-            Err(complaint_of::<R>(alloc, disk, FileFault::Open(fault)))
-        }
-        Err(fault) => Err(Complaint::Served(served.growths, fault_of(fault))),
-    }
-}
 
 /// The bytes of a word, if there is one.
 fn bytes_of_word(word: Option<&str>) -> Option<&[u8]>

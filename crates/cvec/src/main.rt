@@ -2,6 +2,7 @@
 #![tactic(auto)]
 
 mod access;
+mod ending;
 mod filing;
 mod meter;
 mod noting;
