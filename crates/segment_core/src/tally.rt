@@ -12,7 +12,7 @@ use crate::frame::FrameReader;
 use record_core::RECORD_LIMIT;
 
 /// What the frames so far leave.
-#[derive(Clone, Copy, Debug, PartialEq, Eq)]
+#[derive(Clone, Copy)]
 pub struct Tally {
     /// The vector's length.
     pub size: u64,
