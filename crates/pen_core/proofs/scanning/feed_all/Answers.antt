@@ -1,3 +1,4 @@
+use Rattle.std.proofs.lemmas.Grind.{common_steps}
 use Rattle.std.proofs.Common.{◌≡◌, ◌+◌, ◌-◌, ◌*◌, ◌++◌, length, take, drop, length-take, min, inl, inr, refl, sym, ap, subst, ◌∙◌, arith}
 use Rattle.std.proofs.lemmas.Result.{err_from_is_err_and}
 use Rattle.disk_core.specs.State.{now, IsImage}
@@ -138,3 +139,31 @@ returns-after-loop-at-clause-reads g c = λ model all.
       enough = inl (reads ∙ ap (reads_of piece) end);
       needed = λ k lt. c.loop-at.invariant.needed model k (omega (arith, lt, reads));
     }
+
+pub returns-in_err-feed_piece-clause-reads : goal.returns-in_err-feed_piece-clause-reads
+returns-in_err-feed_piece-clause-reads g c = grind (arith, common_steps)
+
+pub returns-else-not-is_decided-clause-read : goal.returns-else-not-is_decided-clause-read
+returns-else-not-is_decided-clause-read g c =
+    let taken = c.loop-at.invariant.taken in
+    record {
+      image = taken.image;
+      inside = omega (arith, taken.size, c.loop-at.invariant.inside);
+      short = c.ranges.len.fits;
+      fits = taken.fits;
+      fed = taken.fed;
+      fed_all = λ more all. c.if-not-is_decided.ensures.fed refl taken.image more taken.fed;
+      is = λ model. taken.is model ∙ ap (λ n. take n (bytes_of (g.D.Disk.states c.args.disk.now))) (sym taken.size);
+    }
+
+pub feed_piece-requires-clause-taken : goal.feed_piece-requires-clause-taken
+feed_piece-requires-clause-taken g c = grind (arith, common_steps)
+
+pub feed_piece-requires-clause-inside : goal.feed_piece-requires-clause-inside
+feed_piece-requires-clause-inside g c = grind (arith, common_steps)
+
+pub feed_piece-requires-clause-fits : goal.feed_piece-requires-clause-fits
+feed_piece-requires-clause-fits g c = grind (arith, common_steps)
+
+pub slice_bounds-feed_piece-end-in-loop-at : goal.slice_bounds-feed_piece-end-in-loop-at
+slice_bounds-feed_piece-end-in-loop-at g c = grind (arith, common_steps)

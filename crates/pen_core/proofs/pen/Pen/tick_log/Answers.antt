@@ -1,5 +1,6 @@
+use Rattle.std.proofs.lemmas.Grind.{common_steps}
 -- Each exit that makes a call builds what its tick knows, and cites one lemma for each clause.
-use Rattle.std.proofs.Common.{◌≡◌, ◌+◌, ◌-◌, length, inr, refl, sym, ap, ◌∙◌}
+use Rattle.std.proofs.Common.{◌≡◌, ◌+◌, ◌-◌, length, inr, refl, sym, ap, ◌∙◌, subst, arith}
 use Rattle.std.specs.Prelude.{vec_len, vec_capacity}
 use Rattle.pen_core.specs.declared.fault.PenFault.TheVariants.{Disk}
 use Rattle.pen_core.specs.Vectors.{frame_at}
@@ -176,3 +177,43 @@ returns-in-None-clause-file g c =
       frames_more = more_frames tick c.in_default-call.ensures.done gate moved last model;
       vector_is = vector_then tick c.in_default-call.ensures.done gate moved last model;
     }))
+
+pub returns-in-None-clause-goes_on : goal.returns-in-None-clause-goes_on
+returns-in-None-clause-goes_on g c = λ model.
+    c.in_default-call.ensures.goes_on (subst g.D.Disk.keeps (sym (ap (λ pen. pen.disk) c.self.view_is)) model)
+
+pub returns-in-None-clause-model : goal.returns-in-None-clause-model
+returns-in-None-clause-model g c = λ model.
+    subst g.D.Disk.keeps (ap (λ pen. pen.disk) c.self.view_is) (c.call.ensures.model model)
+
+pub returns-in-Some-next-clause-goes_on : goal.returns-in-Some-next-clause-goes_on
+returns-in-Some-next-clause-goes_on g c = λ model.
+    c.in_default-call.ensures.goes_on (subst g.D.Disk.keeps (sym (ap (λ pen. pen.disk) c.self.view_is)) model)
+
+pub returns-in-Some-next-clause-model : goal.returns-in-Some-next-clause-model
+returns-in-Some-next-clause-model g c = λ model.
+    subst g.D.Disk.keeps (ap (λ pen. pen.disk) c.self.view_is) (c.call.ensures.model model)
+
+pub returns-in-None-clause-calls : goal.returns-in-None-clause-calls
+returns-in-None-clause-calls g c = grind (arith, common_steps)
+
+pub returns-in-Err-clause-calls : goal.returns-in-Err-clause-calls
+returns-in-Err-clause-calls g c = grind (arith, common_steps)
+
+pub returns-in-Some-next-clause-calls : goal.returns-in-Some-next-clause-calls
+returns-in-Some-next-clause-calls g c = grind (arith, common_steps)
+
+pub returns-in-None-clause-time : goal.returns-in-None-clause-time
+returns-in-None-clause-time g c = grind (arith, common_steps)
+
+pub call-requires-clause-inside : goal.call-requires-clause-inside
+call-requires-clause-inside g c = grind (arith, common_steps)
+
+pub returns-in-None-clause-faults : goal.returns-in-None-clause-faults
+returns-in-None-clause-faults g c = grind (arith, common_steps)
+
+pub overflow_add-self : goal.overflow_add-self
+overflow_add-self g c = grind (arith, common_steps)
+
+pub overflow_sub-self : goal.overflow_sub-self
+overflow_sub-self g c = grind (arith, common_steps)
