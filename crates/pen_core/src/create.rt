@@ -6,9 +6,8 @@ ghost use Rattle.disk_core.specs.Calls.{bytes_of};
 ghost use Rattle.disk_core.specs.Moments.{LeavesOnly, clock};
 ghost use Rattle.segment_core.specs.declared.format.Format.TheVariants.{One};
 ghost use Rattle.segment_core.specs.Frame.{header};
-ghost use Rattle.pen_core.specs.Births.{AreLooks, AreCallsUntil, EndsAt, calls_of_creation, first_calls, write_calls, IsExisting};
-ghost use Rattle.pen_core.specs.Births.{AreContents, IsClear, IsUnbornOrEmpty, StaysUnbornOrEmpty, WritesNothing, IsCreateFault};
-ghost use Rattle.pen_core.specs.Births.{IsCreation};
+ghost use Rattle.pen_core.specs.Births.{AreLooks, AreCallsUntil, EndsAt, calls_of_creation, first_calls, write_calls, IsExisting, AreContents, IsClear, IsUnbornOrEmpty, StaysUnbornOrEmpty};
+ghost use Rattle.pen_core.specs.Births.{WritesNothing, IsCreateFault, IsCreation};
 ghost use Rattle.pen_core.specs.Pen.{failed_calls};
 
 use crate::fault::PenFault;

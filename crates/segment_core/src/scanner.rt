@@ -333,7 +333,10 @@ impl<R: Record> Scanner<R> {
                 Ok(_) => Err(ScanFault::NotSegment),
                 Err(fault) => Err(fault),
             },
-            ScanStage::Open => Err(Unread::Short.fault(self.walk.at as u64, self.pending.len() as u64)),
+            ScanStage::Open => Err(Unread::Short.fault(
+                self.walk.at as u64,
+                self.pending.len() as u64,
+            )),
             ScanStage::Closed => Ok(()),
             ScanStage::Refused(fault) => Err(fault),
         }

@@ -26,6 +26,3 @@ returns-clause-few c =
 
 pub loop-k-preserved : goal.loop-k-preserved
 loop-k-preserved c = grind (arith, common_steps)
-
-pub returns-clause-is : goal.returns-clause-is
-returns-clause-is c = grind (arith, common_steps)

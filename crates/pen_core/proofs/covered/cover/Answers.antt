@@ -1,4 +1,3 @@
-use Rattle.std.proofs.lemmas.Grind.{common_steps}
 use Rattle.std.proofs.Common.{◌≤◌, ◌<◌, ◌+◌, ◌^◌, ℕ, Vec, Global, IsPermutation, subst, sym, arith}
 use Rattle.std.proofs.lemmas.Result.{IfOk-weaker}
 use Rattle.std.proofs.lemmas.List.Sorted.{All-permutation}
@@ -21,6 +20,3 @@ returns c =
     IfOk-weaker c.sweep.result (λ (v : Vec (ℕ × ℕ) Global). IsCover c.deref.result.now v.items)
     (λ (v : Vec (ℕ × ℕ) Global). IsCover given v.items) (λ v is. IsCover-moved given c.deref.result.now v.items moved is)
     c.sweep.ensures
-
-pub sweep-requires-clause-ascend : goal.sweep-requires-clause-ascend
-sweep-requires-clause-ascend c = grind (arith, common_steps)

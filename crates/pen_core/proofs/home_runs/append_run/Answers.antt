@@ -106,9 +106,6 @@ returns-clause-runs c =
     let done : c.loop-k.at ≡ c.args.to = omega (arith, l.to, l.all (omega (arith, c.loop-k-test.false))) in
     subst (λ n. AreGreatestRuns c.args.width (home_among c.args.width c.args.homes.now) n c.loop-k.runs.items) done l.runs_are
 
-pub returns-then-at-to-clause-runs : goal.returns-then-at-to-clause-runs
-returns-then-at-to-clause-runs c = grind (arith, common_steps)
-
 pub loop-k-init : goal.loop-k-init
 loop-k-init c = grind (arith, common_steps)
 

@@ -6,9 +6,8 @@ use Rattle.disk_core.specs.Calls.{bytes_of}
 use Rattle.disk_core.specs.Moments.{clock}
 use Rattle.pen_core.specs.Opening.{failed_openings}
 use Rattle.pen_core.proofs.Births.{stays_only}
-use Rattle.pen_core.proofs.Pieces.{only_syncs_failed, only_syncs_settled, IsWalked, walked_only, walked_bytes, walked_len}
-use Rattle.pen_core.proofs.Pieces.{walked_settled, all_refused, made_a_sync, made_a_length, made_reads, needed_behind}
-use Rattle.pen_core.proofs.Pieces.{reads_made_behind}
+use Rattle.pen_core.proofs.Pieces.{only_syncs_failed, only_syncs_settled, IsWalked, walked_only, walked_bytes, walked_len, walked_settled, all_refused, made_a_sync, made_a_length, made_reads}
+use Rattle.pen_core.proofs.Pieces.{needed_behind, reads_made_behind}
 use Rattle.pen_core.proofs.scanning.read_disk.Given.{Over}
 use Rattle.pen_core.proofs.scanning.read_disk.Goals.{After-feed_all}
 use Rattle.pen_core.proofs.scanning.read_disk.Goals as goal

@@ -4,6 +4,3 @@ use Rattle.segment_core.proofs.scanner.cut_front.Goals as goal
 
 pub returns-in-Ok-clause-ok : goal.returns-in-Ok-clause-ok
 returns-in-Ok-clause-ok c = grind (arith, common_steps)
-
-pub returns-then-n-len-clause-ok : goal.returns-then-n-len-clause-ok
-returns-then-n-len-clause-ok c = grind (arith, common_steps)

@@ -36,6 +36,3 @@ returns-clause-torn g c still =
 
 pub returns-clause-reaches : goal.returns-clause-reaches
 returns-clause-reaches g c = grind (arith, common_steps)
-
-pub returns-clause-done : goal.returns-clause-done
-returns-clause-done g c = grind (arith, common_steps)

@@ -8,8 +8,7 @@ use Rattle.std.specs.Option.{is_some}
 use Rattle.disk_core.specs.Calls.{bytes_of}
 use Rattle.segment_core.specs.Parsed.{vector_before}
 use Rattle.segment_core.specs.Raw.{AreCellsOf}
-use Rattle.segment_core.specs.Runs.{runs_given, change_frame}
-use Rattle.segment_core.specs.Runs.{change_len}
+use Rattle.segment_core.specs.Runs.{runs_given, change_frame, change_len}
 use Rattle.pen_core.specs.Refusals.{fold_len, change_lines}
 use Rattle.pen_core.proofs.AtRest.{at_rest}
 use Rattle.pen_core.proofs.KeptPen.{none_job, kept_begun}
@@ -156,6 +155,3 @@ returns-then-is_err-2-clause-refused g c =
 
 pub put_change-requires-clause-len : goal.put_change-requires-clause-len
 put_change-requires-clause-len g c = grind (arith, common_steps)
-
-pub returns-then-is_err-clause-sure : goal.returns-then-is_err-clause-sure
-returns-then-is_err-clause-sure g c = grind (arith, common_steps)

@@ -77,14 +77,5 @@ returns-clause-kept g c =
     kept_begun g.D.Disk.keeps g.D.Disk.states c.args.self.now _ c.ready.ensures.kept (Shrink c.args.n)
     (none_job c.args.self.now c.in_ok-ready.ensures.idle) (returns-clause-begun g c)
 
-pub returns-then-is_err-clause-refused : goal.returns-then-is_err-clause-refused
-returns-then-is_err-clause-refused g c = grind (arith, common_steps)
-
-pub returns-then-self-clause-refused : goal.returns-then-self-clause-refused
-returns-then-self-clause-refused g c = grind (arith, common_steps)
-
 pub returns-then-n-self-clause-refused : goal.returns-then-n-self-clause-refused
 returns-then-n-self-clause-refused g c = grind (arith, common_steps)
-
-pub returns-then-is_full-clause-refused : goal.returns-then-is_full-clause-refused
-returns-then-is_full-clause-refused g c = grind (arith, common_steps)

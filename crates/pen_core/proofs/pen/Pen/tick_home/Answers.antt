@@ -1,4 +1,3 @@
-use Rattle.std.proofs.lemmas.Grind.{common_steps}
 -- Each exit that makes a call builds what its tick knows, and cites one lemma for each clause.
 use Rattle.std.proofs.Common.{◌∙◌, arith, Some, inr, refl, sym, ap, subst}
 use Rattle.pen_core.specs.declared.fault.PenFault.TheVariants.{Disk}
@@ -215,24 +214,3 @@ returns-clause-goes_on g c = λ model.
 pub returns-clause-model : goal.returns-clause-model
 returns-clause-model g c = λ model.
     subst g.D.Disk.keeps (ap (λ pen. pen.disk) c.self.view_is) model
-
-pub returns-in-Err-clause-calls : goal.returns-in-Err-clause-calls
-returns-in-Err-clause-calls g c = grind (arith, common_steps)
-
-pub returns-in-Err-clause-time : goal.returns-in-Err-clause-time
-returns-in-Err-clause-time g c = grind (arith, common_steps)
-
-pub returns-then-has_call-clause-calls : goal.returns-then-has_call-clause-calls
-returns-then-has_call-clause-calls g c = grind (arith, common_steps)
-
-pub returns-then-has_call-clause-time : goal.returns-then-has_call-clause-time
-returns-then-has_call-clause-time g c = grind (arith, common_steps)
-
-pub returns-clause-time : goal.returns-clause-time
-returns-clause-time g c = grind (arith, common_steps)
-
-pub returns-then-is_some-clause-time : goal.returns-then-is_some-clause-time
-returns-then-is_some-clause-time g c = grind (arith, common_steps)
-
-pub returns-then-is_none-clause-ticked : goal.returns-then-is_none-clause-ticked
-returns-then-is_none-clause-ticked g c = grind (arith, common_steps)
