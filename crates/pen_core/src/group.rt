@@ -135,8 +135,10 @@ impl<D: Disk> Pen<D> {
         ensures begun { OnOk result (BeginsFrame (group_frame R.form (map (λ growth. growth.now) growths.now)) self.old self.new) }
         ensures next { (records : List R) → AreCellsOf R.form self.old.vector records
             → OnOk result (AreCellsOf R.form (vector_after self.new) (records ++ joined (map (λ growth. growth.now) growths.now))) }
-        ensures allowed { OnOk result (first_refusal (group_lines self.old (length (joined (map (λ growth. growth.now) growths.now))) (payload_len R.form.width (map (λ growth. growth.now) growths.now))) ≡ None) }
-        ensures refused { IfErr result (λ fault. IsRefusal (group_lines self.old (length (joined (map (λ growth. growth.now) growths.now))) (payload_len R.form.width (map (λ growth. growth.now) growths.now))) fault) }
+        ensures allowed { OnOk result (
+            first_refusal (group_lines self.old (length (joined (map (λ growth. growth.now) growths.now))) (payload_len R.form.width (map (λ growth. growth.now) growths.now))) ≡ None) }
+        ensures refused { IfErr result (λ fault.
+            IsRefusal (group_lines self.old (length (joined (map (λ growth. growth.now) growths.now))) (payload_len R.form.width (map (λ growth. growth.now) growths.now))) fault) }
         ensures unchanged { OnErr result (IsUnchanged self.old self.new) }
         ensures kept { D.keeps self.new.disk → IsKept (D.states self.new.disk) self.new }
     {
