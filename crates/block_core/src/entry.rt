@@ -7,7 +7,7 @@ use record_core::Record;
 use std::marker::Model;
 
 /// What names a growth among those of its phase.
-#[derive(Clone, Copy, Debug, PartialEq, Eq)]
+#[derive(Clone, Copy)]
 pub struct Label {
     /// How many growths stand before it.
     pub number: u64,

@@ -1,5 +1,6 @@
 -- Which images the states after a call have.
-use Rattle.std.proofs.Common.{◌≡◌, ℕ, ◌+◌, ◌≤◌, ◌<◌, ◌-◌, ◌⊎◌, max, List, [], ◌∷◌, ◌++◌, length, get_or, take, drop, true, false, ◌||◌, Bool, refl, sym, subst, ◌∙◌, ap, inl, inr, Result, Ok, Err, OnOk, OnErr, arith, length-append}
+use Rattle.std.proofs.Common.{◌≡◌, ℕ, ◌+◌, ◌≤◌, ◌<◌, ◌-◌, ◌⊎◌, max, List, [], ◌∷◌, ◌++◌, length, get_or, take, drop, true, false, ◌||◌, Bool, refl, sym, subst, ◌∙◌, ap, inl, inr, Result, Ok, Err}
+use Rattle.std.proofs.Common.{OnOk, OnErr, arith, length-append}
 use Rattle.std.proofs.lemmas.List.{length-take, length-drop, length-take-le, get_or_append_left, get_or-take, get_or-append_right, get_or-drop}
 use Rattle.std.proofs.lemmas.Grind.{same_number_lists}
 use Rattle.std.proofs.lemmas.Bool.Decides.{nat_tests}

@@ -2,6 +2,7 @@ mod Walks
 pub mod JoinedMoments
 pub mod ImageLemmas
 pub mod PendingLemmas
+mod ChosenLemmas
 pub mod CallLemmas
 mod ContentsLemmas
 mod LogLemmas

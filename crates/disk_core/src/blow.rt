@@ -2,7 +2,7 @@
 ghost use Rattle.std.specs.Prelude.{◌≡◌};
 
 /// What happens to the calls of a disk after those that pass.
-#[derive(Clone, Copy, Debug, PartialEq, Eq)]
+#[derive(Clone, Copy, Debug)]
 pub enum Blow {
     /// All fail, and nothing reaches the disk below.
     Stop,
@@ -11,7 +11,7 @@ pub enum Blow {
 }
 
 /// What a fuse still lets pass.
-#[derive(Clone, Copy, Debug, PartialEq, Eq)]
+#[derive(Clone, Copy)]
 pub(crate) enum Fuse {
     /// So many calls pass before it blows.
     Whole(u64, Blow),
@@ -22,7 +22,7 @@ pub(crate) enum Fuse {
 }
 
 /// What becomes of one call.
-#[derive(Clone, Copy, Debug, PartialEq, Eq)]
+#[derive(Clone, Copy)]
 pub(crate) enum Fate {
     Passes,
     /// Nothing of it reaches the disk below.

@@ -2,14 +2,14 @@
 ghost use Rattle.std.specs.Prelude.{◌≡◌};
 
 /// One image for each state of a disk.
-#[derive(Clone, Copy, Debug, PartialEq, Eq)]
+#[derive(Clone, Copy, Debug)]
 pub struct Choice {
     pub length: ImageLength,
     pub pending: PendingBytes,
 }
 
 /// How long the image is, in bytes.
-#[derive(Clone, Copy, Debug, PartialEq, Eq)]
+#[derive(Clone, Copy, Debug)]
 pub enum ImageLength {
     /// As long as the disk was at the last sync.
     Old,
@@ -20,7 +20,7 @@ pub enum ImageLength {
 }
 
 /// What stands at the places that were written since the last sync, and past the length that the disk had then.
-#[derive(Clone, Copy, Debug, PartialEq, Eq)]
+#[derive(Clone, Copy, Debug)]
 pub enum PendingBytes {
     /// What was synced; zeros where nothing was.
     Old,

@@ -3,7 +3,7 @@ ghost use Rattle.std.specs.Prelude.{◌≡◌, is_ok, if◌then◌else◌};
 use crate::DiskFault;
 
 /// How a moment of a disk came about.
-#[derive(Clone, Copy, Debug, PartialEq, Eq)]
+#[derive(Clone, Copy)]
 pub(crate) enum Event {
     /// The disk came with the moments that it has had.
     Began,

@@ -1,7 +1,7 @@
 use crate::Extent;
 
 /// A call of a file, with what it did.
-#[derive(Clone, Copy, Debug, PartialEq, Eq)]
+#[derive(Clone, Copy)]
 pub(crate) enum FileEvent {
     /// The length was told.
     Measured(u64),

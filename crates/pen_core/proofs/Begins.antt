@@ -1,6 +1,6 @@
 -- The frames that are begun, from the tests of a begin.
 use Rattle.std.proofs.Common.{◌≡◌, ℕ, ◌+◌, ◌^◌, ◌≤◌, ◌<◌, Bool, false, List, Option, Some, None, refl, sym, subst, ◌∙◌, arith}
-use Rattle.std.specs.Prelude.{nat_le}
+use Rattle.std.specs.Prelude.{nat_le, MatchOption}
 use Rattle.std.specs.Option.{is_some}
 use Rattle.std.proofs.lemmas.Bool.{le-ltb, leb-false}
 use Rattle.segment_core.specs.declared.format.Format.{Format}
@@ -15,12 +15,23 @@ use Rattle.disk_core.specs.State.{State}
 use Rattle.pen_core.specs.declared.pen.Pen.TheInside.{Inside}
 use Rattle.pen_core.specs.Fields.{seen_as}
 use Rattle.pen_core.specs.PenOf.{PenOf}
+use Rattle.pen_core.specs.Refusals.{first_refusal, IsRefusal}
+use Rattle.pen_core.specs.declared.fault.PenFault.{PenFault}
+use Rattle.pen_core.specs.declared.fault.PenFault.TheVariants.{Memory}
 use Rattle.pen_core.specs.declared.step.Step.{Step}
 use Rattle.pen_core.specs.Inside.{job_of}
 
 pub no_step : (shape : Shape) (bytes : List ℕ) (o : Option Step) → is_some (job_of shape bytes o) ≡ false → o ≡ None
 no_step shape bytes None is = refl
 no_step shape bytes (Some step) is = absurd cc
+
+-- the first test that holds refuses
+pub first_refuses : (lines : List (Bool × PenFault)) (fault : PenFault) → first_refusal lines ≡ Some fault → IsRefusal lines fault
+first_refuses lines fault is = subst (λ first. MatchOption first (fault ≡ Memory) (λ told. fault ≡ told)) (sym is) refl
+
+-- memory is refused where none of them holds
+pub memory_refuses : (lines : List (Bool × PenFault)) → first_refusal lines ≡ None → IsRefusal lines Memory
+memory_refuses lines none = subst (λ first. MatchOption first (Memory ≡ Memory) (λ told. Memory ≡ told)) (sym none) refl
 
 -- no job is in hand, as it is seen
 pub idle_seen : {D : Type 0} (states : D → List State) (pen : Inside D) {value : PenOf D}

@@ -22,7 +22,8 @@ use Rattle.pen_core.specs.PenOf.{FoldOf, HomeWrite}
 use Rattle.pen_core.specs.Listed.{HasLists}
 use Rattle.pen_core.specs.PenLog.{PenLog}
 use Rattle.pen_core.proofs.InHand.{no_fold_seen, filed_at}
-use Rattle.pen_core.specs.InHand.{write_of, left_of, first_write, in_stage, fold_of, has_call, is_without_fold, stage_after, left_after, done_after, called, writes_left, IsInHand, advanced, frame_in_hand, IsAtStage}
+use Rattle.pen_core.specs.InHand.{write_of, left_of, first_write, in_stage, fold_of, has_call, is_without_fold, stage_after, left_after, done_after, called, writes_left, IsInHand, advanced}
+use Rattle.pen_core.specs.InHand.{frame_in_hand, IsAtStage}
 use Rattle.pen_core.specs.Inside.{job_of}
 
 -- ---- the writes that are left

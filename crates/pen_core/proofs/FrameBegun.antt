@@ -20,6 +20,7 @@ use Rattle.pen_core.specs.Fields.{log_of, seen_as, count_open, IsSoundPen}
 use Rattle.pen_core.specs.InHand.{fold_of}
 use Rattle.pen_core.specs.Listed.{homes_entered, runs_entered}
 use Rattle.pen_core.specs.Pen.{BeginsFrame, IsUnchanged}
+use Rattle.pen_core.specs.PenOf.{PenOf}
 use Rattle.pen_core.specs.Refusals.{fold_len}
 use Rattle.pen_core.proofs.Begins.{no_job_same}
 use Rattle.pen_core.proofs.Begun.{body_is, held_legal}
@@ -131,6 +132,13 @@ module _ {D : Type 0} {keeps : D → Type 0} {states : D → List State} {pen th
     tally_same = refl;
     gate_same = refl;
   }
+
+-- the same of the pen that a caller sees
+pub begun_as : {D : Type 0} {frame : Frame} {old new seen : PenOf D} → seen ≡ old → BeginsFrame frame seen new → BeginsFrame frame old new
+begun_as {D} {frame} {old} {new} is begun = subst (λ pen. BeginsFrame frame pen new) is begun
+
+pub unchanged_as : {D : Type 0} {old new seen : PenOf D} → seen ≡ old → IsUnchanged seen new → IsUnchanged old new
+unchanged_as {D} {old} {new} is unchanged = subst (λ pen. IsUnchanged pen new) is unchanged
 
 -- no job is in hand: the memory for one has grown, and holds other bytes
 pub unchanged_seen : {D : Type 0} (states : D → List State) (pen then : Inside D) → pen.step ≡ None

@@ -19,7 +19,8 @@ use Rattle.pen_core.specs.Held.{IsBeingFolded, gate_of}
 use Rattle.pen_core.specs.PenLog.{PenLog, frames_read, vector_read}
 use Rattle.pen_core.specs.Vectors.{frame_at}
 use Rattle.pen_core.specs.Folds.{IsFolding}
-use Rattle.pen_core.specs.InHand.{left_of, first_write, has_call, stage_after, done_after, advanced, HomeCalls, FailsHomeCall, CanCall, IsPlanned, IsUnfiled, frame_in_hand, IsAtStage, HomesAt, HasFold}
+use Rattle.pen_core.specs.InHand.{left_of, first_write, has_call, stage_after, done_after, advanced, HomeCalls, FailsHomeCall, CanCall, IsPlanned, IsUnfiled, frame_in_hand, IsAtStage, HomesAt}
+use Rattle.pen_core.specs.InHand.{HasFold}
 use Rattle.pen_core.specs.Inside.{job_in, Knows, IsPen}
 use Rattle.pen_core.specs.Pen.{OpensWith, open_count}
 use Rattle.pen_core.proofs.BeingFolded.{IsBeingFolded_push}

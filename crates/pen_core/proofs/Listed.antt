@@ -2,6 +2,7 @@
 use Rattle.std.proofs.Common.{◌≡◌, ℕ, ◌+◌, ◌-◌, ◌*◌, ◌≤◌, ◌<◌, Bool, List, [], ◌∷◌, ◌++◌, length, map, take, drop, sum, Option, Some, None, refl, sym, ap, subst, ◌∙◌, arith}
 use Rattle.std.specs.List.{flat_map}
 use Rattle.std.proofs.lemmas.Bool.{ltb-false}
+use Rattle.std.proofs.lemmas.Option.{none-some}
 use Rattle.std.proofs.lemmas.List.{append-nil, length-append, length-drop, length-map, map_push, flat_map_more, take-append-le, take-append-drop, drop_at}
 use Rattle.disk_core.specs.State.{State}
 use Rattle.record_core.specs.Bytes.{Encoding}
@@ -315,7 +316,7 @@ module _ {keeps : Type 0} {states : List State} {log : PenLog} {homes : Homes} {
                 (subst (λ t. t.folded ≤ t.changes) listed.tally_is few) no_fold
                 (subst (AreInTurn 0 homes'.homes.items) size turn)
                 (λ width i lt. each width i (subst (λ n. i < n) (sym size) lt)) same all;
-            filed = λ count clash. absurd cc;
+            filed = λ count clash. absurd (none-some (Fold count) clash);
             runs_are = λ held. (
                 let bound : fold.count ≤ (tally_of listed.frames).changes = subst (λ t. fold.count ≤ t.changes) listed.tally_is (upto held) in
                 let folded : next.folded ≡ (tally_of listed.frames).folded =
@@ -371,7 +372,7 @@ module _ {keeps : Type 0} {states : List State} {log : PenLog} {homes : Homes} {
               live_is = left ∙ sym (append-nil (live_runs log.shape (listed.frames ++ f ∷ [])));
               counted = all ∙ ap length left;
             });
-            filed = λ count clash. absurd cc;
+            filed = λ count clash. absurd (none-some (Fold count) clash);
             runs_are = λ held. absurd (subst IsInHand ended held);
             same = then_blank;
           }

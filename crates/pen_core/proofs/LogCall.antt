@@ -1,5 +1,7 @@
 -- A tick of the log that makes the job's call, by the fields of the pen.
 use Rattle.std.proofs.Common.{◌≡◌, ℕ, ◌+◌, ◌-◌, ◌≤◌, ◌^◌, Bool, true, false, List, [], ◌∷◌, length, Option, Some, None, Result, Ok, Err, OnOk, OnErr, refl, sym, ap, subst, ◌∙◌, arith}
+use Rattle.std.specs.Prelude.{IfSome}
+use Rattle.std.specs.Option.{option_map}
 use Rattle.std.proofs.lemmas.List.{length-append}
 use Rattle.disk_core.specs.declared.fault.DiskFault.{DiskFault}
 use Rattle.disk_core.specs.State.{State, now, settled, IsImage}
@@ -16,8 +18,9 @@ use Rattle.pen_core.specs.Held.{HoldsFrames, gate_of}
 use Rattle.pen_core.specs.InHand.{frame_in_hand}
 use Rattle.pen_core.specs.Inside.{job_of, IsJob, IsMaybeJob, IsAtStep, Knows, IsPen}
 use Rattle.pen_core.specs.Known.{IsFileOf, IsShut}
-use Rattle.pen_core.specs.Pen.{OpensWith}
-use Rattle.pen_core.specs.Step.{step_after, Calls, FailsCall}
+use Rattle.pen_core.specs.Call.{Call, Makes, Fails}
+use Rattle.pen_core.specs.Pen.{OpensWith, job_bytes}
+use Rattle.pen_core.specs.Step.{step_after, call_at, Calls, FailsCall}
 use Rattle.pen_core.specs.PenLog.{PenLog, frames_read, vector_read, job_over}
 use Rattle.pen_core.specs.Vectors.{frame_at, frames_with}
 use Rattle.pen_core.proofs.Begun.{held_legal}
@@ -95,6 +98,20 @@ module _ {D : Type 0} {keeps : D → Type 0} {states : D → List State} {pen : 
 
   at : (model : keeps pen.disk) → At p step (now old)
   at model = subst (λ g. At g step (now old)) (knows model).gate_is ((knows model).stands tick.going)
+
+  -- the call is the one that is due
+  abbrev DueAt : Option Step → (Call → Type 0) → Type 0
+  DueAt due made = IfSome (option_map (λ job. call_at job.step pen.gate (job_bytes pen.shape job)) (job_of pen.shape pen.bytes.items due)) made
+
+  pub log_calls : Called → DueAt pen.step (λ call. Makes call old left)
+  log_calls call =
+      subst (λ due. DueAt due (λ call. Makes call old left)) (sym tick.is)
+      (subst (λ bs. Makes (call_at step pen.gate bs) old left) (tick.value ∙ job.spelled) call)
+
+  pub log_fails : FailsSo → DueAt pen.step (λ call. Fails call old left)
+  log_fails call =
+      subst (λ due. DueAt due (λ call. Fails call old left)) (sym tick.is)
+      (subst (λ bs. Fails (call_at step pen.gate bs) old left) (tick.value ∙ job.spelled) call)
 
   at_gate : (model : keeps pen.disk) → Called → Calls step p pen.bytes.items old left
   at_gate model call = subst (λ g. Calls step g pen.bytes.items old left) (knows model).gate_is (subst (λ b. Calls step pen.gate b old left) tick.value call)

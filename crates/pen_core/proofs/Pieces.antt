@@ -13,7 +13,7 @@ use Rattle.disk_core.specs.Moments.{clock, LeavesOnly, LeftSince}
 use Rattle.disk_core.proofs.ImageLemmas.{IsImage-settled}
 use Rattle.disk_core.proofs.JoinedMoments.{LeavesOnly-start, LeavesOnly-more, LeavesOnly-join, LeavesOnly-weaker}
 use Rattle.segment_core.specs.declared.scanner.Scanner.{Scanner}
-use Rattle.segment_core.specs.declared.scanner.Stage.TheVariants as stages
+use Rattle.segment_core.specs.declared.scanner.ScanStage.TheVariants as stages
 use Rattle.segment_core.specs.declared.fault.ScanFault.TheVariants.{Memory}
 use Rattle.segment_core.specs.declared.found.Homes.{Homes}
 use Rattle.segment_core.specs.declared.vector.Scanned.{Scanned}

@@ -14,7 +14,8 @@ use Rattle.pen_core.specs.Step.{step_after, steps_left}
 use Rattle.pen_core.specs.PenOf.{PenOf, JobOf}
 use Rattle.segment_core.specs.Frame.{frame_text}
 use Rattle.segment_core.specs.Tally.{after}
-use Rattle.pen_core.specs.Pen.{OpensWith, MayOpen, CountsSame, CountsDone, FileSame, IsTicked, FileTicked, IsTickFault, calls_due, log_left, failed_calls, vector_after, vector_with, FileGains, fold_behind}
+use Rattle.pen_core.specs.Pen.{OpensWith, MayOpen, CountsSame, CountsDone, FileSame, IsTicked, FileTicked, IsTickFault, calls_due, log_left, failed_calls, vector_after, vector_with, FileGains}
+use Rattle.pen_core.specs.Pen.{fold_behind}
 use Rattle.pen_core.proofs.Typed.{vector_after-none, vector_after-done}
 use Rattle.pen_core.specs.Settled.{IsLogSettled, IsLogFault, LogGoes, frames_after, frames_and}
 

@@ -17,7 +17,8 @@ use Rattle.pen_core.specs.Held.{HoldsFrames, gate_of}
 use Rattle.pen_core.specs.Known.{IsFileOf, IsShut, IsBeforeOrAfter}
 use Rattle.pen_core.specs.Inside.{IsAtStep}
 use Rattle.pen_core.proofs.Held.{covered_inside, images_shut, images_open}
-use Rattle.pen_core.proofs.Calls.{file_after_body, shut_after_body, written_after_body, images_of_body, holds_of_body, file_after_sync, shut_after_sync, written_after_sync, on_disk_after_sync, next_after_sync, file_after_gate, written_after_gate, on_disk_after_gate, open_after_gate, images_of_gate, holds_of_gate}
+use Rattle.pen_core.proofs.Calls.{file_after_body, shut_after_body, written_after_body, images_of_body, holds_of_body, file_after_sync, shut_after_sync, written_after_sync, on_disk_after_sync}
+use Rattle.pen_core.proofs.Calls.{next_after_sync, file_after_gate, written_after_gate, on_disk_after_gate, open_after_gate, images_of_gate, holds_of_gate}
 
 -- the gate may be pending at these steps
 abbrev pub IsOpening : Step → Type 0

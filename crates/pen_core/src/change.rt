@@ -200,9 +200,11 @@ impl<D: Disk> Pen<D> {
     pub fn begin_change<R: Record>(&mut self, start: u64, pieces: &[&[R]]) -> Result<(), PenFault>
         requires width { R.form.width ≡ self.old.shape.width }
         requires some { 0 < length (joined (map (λ piece. piece.now) pieces.now)) }
-        ensures begun { OnOk result (BeginsFrame (change_frame R.form (one_run start (length (joined (map (λ piece. piece.now) pieces.now)))) (map (λ piece. piece.now) pieces.now)) self.old self.new) }
+        ensures begun { OnOk result (
+            BeginsFrame (change_frame R.form (one_run start (length (joined (map (λ piece. piece.now) pieces.now)))) (map (λ piece. piece.now) pieces.now)) self.old self.new) }
         ensures next { (records : List R) → AreCellsOf R.form self.old.vector records
-            → OnOk result (AreCellsOf R.form (vector_after self.new) (replaced records (one_run start (length (joined (map (λ piece. piece.now) pieces.now)))) (joined (map (λ piece. piece.now) pieces.now)))) }
+            → OnOk result (AreCellsOf R.form (vector_after self.new)
+            (replaced records (one_run start (length (joined (map (λ piece. piece.now) pieces.now)))) (joined (map (λ piece. piece.now) pieces.now)))) }
         ensures allowed { OnOk result (first_refusal (change_lines self.old (one_run start (length (joined (map (λ piece. piece.now) pieces.now))))) ≡ None) }
         ensures refused { IfErr result (λ fault. IsRefusal (change_lines self.old (one_run start (length (joined (map (λ piece. piece.now) pieces.now))))) fault) }
         ensures unchanged { OnErr result (IsUnchanged self.old self.new) }

@@ -6,7 +6,8 @@ ghost use Rattle.disk_core.specs.Calls.{bytes_of};
 ghost use Rattle.disk_core.specs.Moments.{LeavesOnly, clock};
 ghost use Rattle.segment_core.specs.declared.format.Format.TheVariants.{One};
 ghost use Rattle.segment_core.specs.Frame.{header};
-ghost use Rattle.pen_core.specs.Births.{AreLooks, AreCallsUntil, EndsAt, calls_of_creation, first_calls, write_calls, IsExisting, AreContents, IsClear, IsUnbornOrEmpty, StaysUnbornOrEmpty, WritesNothing, IsCreateFault, IsCreation};
+ghost use Rattle.pen_core.specs.Births.{AreLooks, AreCallsUntil, EndsAt, calls_of_creation, first_calls, write_calls, IsExisting, AreContents, IsClear, IsUnbornOrEmpty, StaysUnbornOrEmpty};
+ghost use Rattle.pen_core.specs.Births.{WritesNothing, IsCreateFault, IsCreation};
 ghost use Rattle.pen_core.specs.Pen.{failed_calls};
 
 use crate::fault::PenFault;
@@ -19,7 +20,7 @@ use segment_core::{
 use std::alloc::Global;
 
 /// What a disk holds before a file is made on it.
-#[derive(Clone, Copy, Debug, PartialEq, Eq)]
+#[derive(Clone, Copy)]
 pub(crate) enum Contents {
     /// A file.
     File,

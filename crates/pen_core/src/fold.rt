@@ -25,7 +25,7 @@ use std::mem::swap;
 pub(crate) const FRAME_LEN: u64 = (FRAME_HEAD_LEN + FOLD_PAYLOAD_LEN) as u64;
 
 /// A write of home bytes.
-#[derive(Clone, Copy, Debug, PartialEq, Eq)]
+#[derive(Clone, Copy)]
 pub(crate) struct Write {
     /// The place of the first byte in the file.
     pub(crate) place: u64,

@@ -5,14 +5,14 @@ ghost use Rattle.record_core.specs.Cells.{AreReadAgain};
 ghost use Rattle.segment_core.specs.declared.format.Format.{Format};
 ghost use Rattle.segment_core.specs.Shape.{shape_of};
 ghost use Rattle.segment_core.specs.Frame.{Shrink, Fold, records_of_runs, frame_text};
-ghost use Rattle.segment_core.specs.Written.{joined};
+ghost use Rattle.segment_core.specs.Written.{group_frame, joined};
 ghost use Rattle.segment_core.specs.Runs.{runs_given, change_len, change_frame};
 ghost use Rattle.pen_core.specs.Refusals.{room_for};
 
 use record_core::Record;
 use segment_core::{
-    CLOSED_GATE, FRAME_HEAD_LEN, Format, GrowthList, SHRINK_PAYLOAD_LEN, append_change,
-    append_fold, append_shrink,
+    CLOSED_GATE, FRAME_HEAD_LEN, Format, GroupFault, GrowthList, SHRINK_PAYLOAD_LEN, append_change,
+    append_fold, append_group, append_shrink,
 };
 use std::alloc::AllocError;
 
@@ -25,6 +25,25 @@ pub(crate) fn take_room(payload: usize, bytes: &mut Vec<u8>) -> Result<(), Alloc
 {
     bytes.clear();
     bytes.reserve(FRAME_HEAD_LEN + payload + 1)
+}
+
+/// The frame of a group whose payload has at most so many bytes, and the next gate. It is the same in each format.
+pub(crate) fn put_group<R: Record, G: GrowthList<R>>(
+    growths: &G,
+    limit: usize,
+    bytes: &mut Vec<u8>,
+) -> Result<(), GroupFault>
+    requires room { 4 ≤ limit }
+    requires small { limit < 2 ^ 32 }
+    ensures text { OnOk result ((format : Format) → bytes.new.items ≡ frame_text format (group_frame R.form (G.growths growths.now)) ++ 0 ∷ []) }
+    ensures read_again { OnOk result (AreReadAgain R.form (joined (G.growths growths.now))) }
+{
+    bytes.clear();
+    append_group::<R, G>(growths, limit, bytes)?;
+    match bytes.push(CLOSED_GATE) {
+        Ok(()) => Ok(()),
+        Err(_) => Err(GroupFault::Memory),
+    }
 }
 
 /// The frame of a change whose payload has this length, and the next gate.

@@ -5,7 +5,8 @@ ghost use Rattle.disk_core.specs.Moments.{LeavesOnly, clock};
 ghost use Rattle.segment_core.specs.Written.{joined};
 ghost use Rattle.pen_core.specs.Folds.{IsWholeFold};
 ghost use Rattle.pen_core.specs.InHand.{gate_then};
-ghost use Rattle.pen_core.specs.Pen.{MayOpen, IsKept, FileSame, IsHomeTicked, HomeTickCalls, HomeTickFails, IsHomeFault, home_calls_due, failed_calls, IsUnchanged, IsReadyToFold, IsFoldBarred, IsFoldAnswer, IsFoldRefusal};
+ghost use Rattle.pen_core.specs.Pen.{MayOpen, IsKept, FileSame, IsHomeTicked, HomeTickCalls, HomeTickFails, IsHomeFault, home_calls_due, failed_calls, IsUnchanged, IsReadyToFold, IsFoldBarred};
+ghost use Rattle.pen_core.specs.Pen.{IsFoldAnswer, IsFoldRefusal};
 
 use crate::fault::PenFault;
 use crate::fold::FRAME_LEN;

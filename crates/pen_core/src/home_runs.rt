@@ -52,7 +52,8 @@ fn append_part(part: Home, width: u64, runs: &mut Vec<Home>) -> Result<(), Alloc
     requires short { part.position + part.count ≤ 2 ^ 32 }
     requires placed { 0 < part.count → part.place + part.count * width ≤ 2 ^ 48 }
     ensures positions { OnOk result (positions_at runs.new.items ≡ positions_at runs.old.items ++ range_with_len part.position part.count) }
-    ensures runs { OnOk result ((home : ℕ → Option ℕ) → IsAdjacent width home part → AreGreatestRuns width home part.position runs.old.items → AreGreatestRuns width home (part.position + part.count) runs.new.items) }
+    ensures runs { OnOk result ((home : ℕ → Option ℕ) → IsAdjacent width home part → AreGreatestRuns width home part.position runs.old.items
+        → AreGreatestRuns width home (part.position + part.count) runs.new.items) }
 {
     let mut done = lengthen_last(part, width, runs);
     while done < part.count {

@@ -7,7 +7,8 @@ ghost use Rattle.disk_core.specs.Moments.{LeavesOnly, clock};
 ghost use Rattle.record_core.specs.Bytes.{IsBytes};
 ghost use Rattle.segment_core.specs.Scanned.{IsScanOf};
 ghost use Rattle.segment_core.specs.Scanner.{IsFed, IsLost};
-ghost use Rattle.pen_core.specs.Opening.{OnlySyncs, IsOpenRefusal, IsReadFault, HasTaken, HasScanned, HasReadDisk, IsFoundOn, failed_openings, reads_of, AreCallsDoneBy, AreCallsMadeBy, AreNeeded, AreReadsMade};
+ghost use Rattle.pen_core.specs.Opening.{OnlySyncs, IsOpenRefusal, IsReadFault, HasTaken, HasScanned, HasReadDisk, IsFoundOn, failed_openings, reads_of, AreCallsDoneBy, AreCallsMadeBy, AreNeeded};
+ghost use Rattle.pen_core.specs.Opening.{AreReadsMade};
 
 use crate::fault::OpenFault;
 use disk_core::{Disk, DiskFault};

@@ -32,7 +32,7 @@ impl<D: Disk> Pen<D> {
         ensures model { D.keeps self.new.disk → D.keeps self.old.disk }
         ensures goes_on { D.keeps self.old.disk → OnOk result (D.keeps self.new.disk) }
     {
-        while self.tick_log()? == Ticked::Step {}
+        while let Ticked::Step = self.tick_log()? {}
         Ok(())
     }
 }

@@ -1,7 +1,7 @@
 //! How far a pen's work is.
 
 /// What a tick of the log did.
-#[derive(Clone, Copy, Debug, PartialEq, Eq)]
+#[derive(Clone, Copy)]
 pub enum Ticked {
     /// No job is in hand.
     Idle,
@@ -12,7 +12,7 @@ pub enum Ticked {
 }
 
 /// What a tick of the homes did.
-#[derive(Clone, Copy, Debug, PartialEq, Eq)]
+#[derive(Clone, Copy)]
 pub enum HomeTicked {
     /// No fold is in hand.
     Idle,

@@ -4,7 +4,7 @@ ghost use Rattle.std.specs.Prelude.{◌≡◌};
 ghost use Rattle.pen_core.specs.Step.{step_after, steps_left};
 
 /// The device call of a commit that comes next.
-#[derive(Clone, Copy, Debug, PartialEq, Eq)]
+#[derive(Clone, Copy)]
 pub(crate) enum Step {
     /// Writes the frame but for its gate, and the next gate, closed.
     Body,

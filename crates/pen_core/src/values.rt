@@ -12,7 +12,7 @@ use segment_core::{GrowthList, Home};
 use std::alloc::AllocError;
 
 /// How many pieces are behind a walk over them, and how many records these have.
-#[derive(Clone, Copy, Debug, PartialEq, Eq)]
+#[derive(Clone, Copy)]
 pub(crate) struct Passed {
     pub(crate) pieces: usize,
     pub(crate) records: u64,

@@ -51,8 +51,8 @@ both make (Some a) None = None
 both make (Some a) (Some b) = Some (make a b)
 
 -- the bytes of the first, then those of the second
-abbrev pub joined : {A B C : Type 0} → Parts A B C → Encoding A → Encoding B → Encoding C
-joined parts a b = record {
+abbrev pub of_parts : {A B C : Type 0} → Parts A B C → Encoding A → Encoding B → Encoding C
+of_parts parts a b = record {
   width = a.width + b.width;
   bytes_of = λ c. a.bytes_of (parts.first c) ++ b.bytes_of (parts.second c);
   value_of = λ bytes. both parts.make (a.value_of (take a.width bytes)) (b.value_of (drop a.width bytes));
@@ -62,10 +62,10 @@ abbrev pub pair_parts : Parts ℕ ℤ Pair
 pair_parts = record { make = λ k v. record { key = k; value = v }; first = λ p. p.key; second = λ p. p.value; first_is = λ k v. refl; second_is = λ k v. refl; nothing_else = λ p. refl }
 
 abbrev pub pair : Encoding Pair
-pair = joined pair_parts (unsigned w64) (signed w64)
+pair = of_parts pair_parts (unsigned w64) (signed w64)
 
 abbrev pub flagged_parts : Parts ℕ Bool Flagged
 flagged_parts = record { make = λ k b. record { key = k; flag = b }; first = λ f. f.key; second = λ f. f.flag; first_is = λ k b. refl; second_is = λ k b. refl; nothing_else = λ f. refl }
 
 abbrev pub flagged : Encoding Flagged
-flagged = joined flagged_parts (unsigned w64) boolean
+flagged = of_parts flagged_parts (unsigned w64) boolean

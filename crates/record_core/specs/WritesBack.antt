@@ -8,7 +8,7 @@ use Rattle.std.proofs.lemmas.Bool.{and_parts, eqb-true}
 use Rattle.std.proofs.lemmas.Int.{of_z-to_z}
 use Rattle.std.proofs.lemmas.List.{take-append-drop, length-take, length-drop, get_or-drop}
 use Rattle.std.proofs.lemmas.Nat.{mul-le}
-use Rattle.record_core.specs.Bytes.{IsBytes, Encoding, WritesBack, unsigned, signed, flag_of, boolean, Parts, both, joined}
+use Rattle.record_core.specs.Bytes.{IsBytes, Encoding, WritesBack, unsigned, signed, flag_of, boolean, Parts, both, of_parts}
 
 inside_Some : {X : Type 0} (x y : X) → Some x ≡ Some y → x ≡ y
 inside_Some x y e = cc
@@ -84,8 +84,8 @@ AreBoth_from make None b c is = absurd cc
 AreBoth_from make (Some a) None c is = absurd cc
 AreBoth_from make (Some a) (Some b) c is = record { left = a; right = b; is_left = refl; is_right = refl; is = sym (inside_Some (make a b) c is) }
 
-pub joined_back : {A B C : Type 0} (parts : Parts A B C) (a : Encoding A) (b : Encoding B) → WritesBack a → WritesBack b → WritesBack (joined parts a b)
-joined_back parts a b a_back b_back bytes c fits len is =
+pub of_parts_back : {A B C : Type 0} (parts : Parts A B C) (a : Encoding A) (b : Encoding B) → WritesBack a → WritesBack b → WritesBack (of_parts parts a b)
+of_parts_back parts a b a_back b_back bytes c fits len is =
     let found = AreBoth_from parts.make (a.value_of (take a.width bytes)) (b.value_of (drop a.width bytes)) c is in
     let first : parts.first c ≡ found.left = ap parts.first found.is ∙ parts.first_is found.left found.right in
     let second : parts.second c ≡ found.right = ap parts.second found.is ∙ parts.second_is found.left found.right in
@@ -93,10 +93,10 @@ joined_back parts a b a_back b_back bytes c fits len is =
     let behind : b.bytes_of found.right ≡ drop a.width bytes = b_back (drop a.width bytes) found.right (IsBytes-drop a.width bytes fits) (omega (arith, length-drop a.width bytes)) found.is_right in
     rw (first, second, front, behind) (take-append-drop a.width bytes)
 
-pub joined_exact : {A B C : Type 0} (parts : Parts A B C) (a_eq : A → A → Bool) (b_eq : B → B → Bool) → ((x y : A) → a_eq x y ≡ true → x ≡ y)
+pub of_parts_exact : {A B C : Type 0} (parts : Parts A B C) (a_eq : A → A → Bool) (b_eq : B → B → Bool) → ((x y : A) → a_eq x y ≡ true → x ≡ y)
     → ((x y : B) → b_eq x y ≡ true → x ≡ y)
     → (x y : C) → (a_eq (parts.first x) (parts.first y) && b_eq (parts.second x) (parts.second y)) ≡ true → x ≡ y
-joined_exact parts a_eq b_eq a_exact b_exact x y is =
+of_parts_exact parts a_eq b_eq a_exact b_exact x y is =
     let equal = and_parts (a_eq (parts.first x) (parts.first y)) (b_eq (parts.second x) (parts.second y)) is in
     sym (parts.nothing_else x)
     ∙ ap (λ a. parts.make a (parts.second x)) (a_exact (parts.first x) (parts.first y) equal.0)

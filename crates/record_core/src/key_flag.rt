@@ -7,7 +7,7 @@ ghost use Rattle.std.proofs.Common.{rules, refl};
 ghost use Rattle.std.proofs.Math.Bool.{beq};
 ghost use Rattle.std.proofs.lemmas.Nat.{le_bytes_8};
 ghost use Rattle.record_core.specs.Bytes.{flagged, flagged_parts, unsigned, boolean};
-ghost use Rattle.record_core.specs.WritesBack.{unsigned_back, boolean_back, joined_back, joined_exact};
+ghost use Rattle.record_core.specs.WritesBack.{unsigned_back, boolean_back, of_parts_back, of_parts_exact};
 
 use crate::record::Record;
 
@@ -56,7 +56,7 @@ impl Record for Flagged {
 
     ghost width_of_bytes = { λ _. refl };
 
-    ghost writes_back = { joined_back flagged_parts (unsigned w64) boolean (unsigned_back w64 le_bytes_8) boolean_back };
+    ghost writes_back = { of_parts_back flagged_parts (unsigned w64) boolean (unsigned_back w64 le_bytes_8) boolean_back };
 
-    ghost exact = { joined_exact flagged_parts nat_eq beq (λ x y. (unsigned_Decides x y).0) (λ x y. (booleans_Decides x y).0) };
+    ghost exact = { of_parts_exact flagged_parts nat_eq beq (λ x y. (unsigned_Decides x y).0) (λ x y. (booleans_Decides x y).0) };
 }

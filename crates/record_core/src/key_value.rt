@@ -7,7 +7,7 @@ ghost use Rattle.std.specs.Ordering.{int_eq};
 ghost use Rattle.std.proofs.Common.{rules, refl};
 ghost use Rattle.std.proofs.lemmas.Nat.{le_bytes_8};
 ghost use Rattle.record_core.specs.Bytes.{pair, pair_parts, unsigned, signed};
-ghost use Rattle.record_core.specs.WritesBack.{unsigned_back, signed_back, joined_back, joined_exact};
+ghost use Rattle.record_core.specs.WritesBack.{unsigned_back, signed_back, of_parts_back, of_parts_exact};
 
 use crate::record::Record;
 
@@ -49,7 +49,7 @@ impl Record for Pair {
 
     ghost width_of_bytes = { λ _. refl };
 
-    ghost writes_back = { joined_back pair_parts (unsigned w64) (signed w64) (unsigned_back w64 le_bytes_8) (signed_back w64 le_bytes_8) };
+    ghost writes_back = { of_parts_back pair_parts (unsigned w64) (signed w64) (unsigned_back w64 le_bytes_8) (signed_back w64 le_bytes_8) };
 
-    ghost exact = { joined_exact pair_parts nat_eq int_eq (λ x y. (unsigned_Decides x y).0) (λ x y. (signed_Decides x y).0) };
+    ghost exact = { of_parts_exact pair_parts nat_eq int_eq (λ x y. (unsigned_Decides x y).0) (λ x y. (signed_Decides x y).0) };
 }

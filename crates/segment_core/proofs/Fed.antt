@@ -10,8 +10,8 @@ use Rattle.segment_core.specs.declared.fault.ScanFault.TheVariants.{Memory}
 use Rattle.segment_core.specs.declared.format.Format.{Format}
 use Rattle.segment_core.specs.declared.format.Shape.{Shape}
 use Rattle.segment_core.specs.declared.scanner.Scanner.{Scanner}
-use Rattle.segment_core.specs.declared.scanner.Stage.{Stage}
-use Rattle.segment_core.specs.declared.scanner.Stage.TheVariants as stages
+use Rattle.segment_core.specs.declared.scanner.ScanStage.{ScanStage}
+use Rattle.segment_core.specs.declared.scanner.ScanStage.TheVariants as stages
 use Rattle.segment_core.specs.declared.walk.Walk.{Walk}
 use Rattle.segment_core.specs.Shape.{shape_of, format_in}
 use Rattle.segment_core.specs.Frame.{Frame, header, text}
@@ -126,11 +126,11 @@ refused_by_front form image fault long some more = refused_by_header form (image
 
 -- ---- stages
 
-pub fed_by : {R : Type 0} (form : Encoding R) (image : List ℕ) (scanner : Scanner R) (stage : Stage) → scanner.stage ≡ stage → IsFedAt form image scanner stage → IsFed form image scanner
+pub fed_by : {R : Type 0} (form : Encoding R) (image : List ℕ) (scanner : Scanner R) (stage : ScanStage) → scanner.stage ≡ stage → IsFedAt form image scanner stage → IsFed form image scanner
 unfolding IsFed
 fed_by form image scanner stage is fed = subst (IsFedAt form image scanner) (sym is) fed
 
-pub fed_at : {R : Type 0} (form : Encoding R) (image : List ℕ) (scanner : Scanner R) (stage : Stage) → scanner.stage ≡ stage → IsFed form image scanner → IsFedAt form image scanner stage
+pub fed_at : {R : Type 0} (form : Encoding R) (image : List ℕ) (scanner : Scanner R) (stage : ScanStage) → scanner.stage ≡ stage → IsFed form image scanner → IsFedAt form image scanner stage
 unfolding IsFed
 fed_at form image scanner stage is fed = subst (IsFedAt form image scanner) is fed
 
@@ -253,7 +253,7 @@ refused_part form image piece used n fault refused =
     (refused_more form (image ++ take (used + n) piece) (drop (used + n) piece) fault (subst (λ (bs : List ℕ). IsRefusedFor form bs fault) (next_part image piece used n) refused))
 
 -- bytes that mean nothing
-pub fed_more : {R : Type 0} (form : Encoding R) (image piece : List ℕ) (scanner : Scanner R) (stage : Stage)
+pub fed_more : {R : Type 0} (form : Encoding R) (image piece : List ℕ) (scanner : Scanner R) (stage : ScanStage)
     → scanner.stage ≡ stage → (stage ≡ stages.Open → ⊥) → (stage ≡ stages.Header → length piece ≡ 0)
     → IsFed form image scanner
     → IsFed form (image ++ piece) scanner

@@ -26,7 +26,8 @@ use Rattle.segment_core.proofs.Replaced.{slice_get-take}
 use Rattle.segment_core.proofs.FoundHomes.{home_among_push, in_turn_push}
 use Rattle.segment_core.proofs.FrameParts.{length-frame_parts, records_filled}
 use Rattle.segment_core.proofs.FoundChanges.{all_push, all_drop, all_map, changes_push, changes_counted, records_stand}
-use Rattle.segment_core.proofs.FoundKept.{has_home_as, after_group, home_in_group, changes_in_group, group_fits, no_home, after_change, changes_in_change, change_inside, inside_longer, kept, homes_kept, same_shape, stay_found}
+use Rattle.segment_core.proofs.FoundKept.{has_home_as, after_group, home_in_group, changes_in_group, group_fits, no_home, after_change, changes_in_change, change_inside, inside_longer, kept}
+use Rattle.segment_core.proofs.FoundKept.{homes_kept, same_shape, stay_found}
 
 -- ---- the same frames
 

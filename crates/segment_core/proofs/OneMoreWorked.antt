@@ -1,6 +1,7 @@
 -- What is asked of one more frame is met on worked files: a growth of 5, whose record a change makes 7; and, once 7
 -- stands in its home bytes, a fold that counts the change.
 use Rattle.std.proofs.Common.{◌≡◌, ℕ, zero, suc, ◌<◌, List, [], ◌∷◌, ◌++◌, Option, Some, None, refl, subst, arith}
+use Rattle.std.proofs.lemmas.Bool.{false≢true}
 use Rattle.std.specs.Prelude.{slice_get, IsSome}
 use Rattle.std.specs.Int.{w64, to_le_bytes}
 use Rattle.record_core.specs.Bytes.{Encoding, unsigned}
@@ -109,7 +110,7 @@ written_home i covered since = at (change_of shape 0 written i) i refl covered
     told (suc i) lt = absurd (omega arith)
 
     at : (o : Option ℕ) (i : ℕ) → change_of shape 0 written i ≡ o → IsSome (change_of shape 0 written i) → home_record_at One numbers folded_file written i ≡ slice_get (7 ∷ []) i
-    at None i is some = let none = subst (λ (o : Option ℕ). IsSome o) is some in absurd cc
+    at None i is some = absurd (false≢true (subst (λ (o : Option ℕ). IsSome o) is some))
     at (Some place) i is some = told i (live_inside shape written i place ((BeginsImage_before shape folded_file written (Fold 1) written_begins).legal) is)
 
 folded_vector : IsVectorOf One numbers folded_file (written ++ Fold 1 ∷ []) (7 ∷ [])

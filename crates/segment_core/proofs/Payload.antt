@@ -12,10 +12,13 @@ use Rattle.segment_core.specs.declared.format.Format.TheVariants.{One, Two}
 use Rattle.segment_core.specs.declared.format.Shape.{Shape}
 use Rattle.segment_core.specs.Shape.{limit_of}
 use Rattle.segment_core.specs.Frame.{Run, Frame, Group, Change, Shrink, Fold, kind_of, number_text, number_len, run_text, runs_text, runs_len, records_of_runs, payload_of, frame_text}
-use Rattle.segment_core.specs.Layout.{IsLength, HasRuns, HasLayout, IsFrame, u32_at, u64_at, numbers_in, count_in, lengths_in, homes_in, number_at, runs_from, run_count_in, runs_in, new_in, frame_in, is_group_layout, is_change_layout, is_layout}
+use Rattle.segment_core.specs.Layout.{IsLength, HasRuns, HasLayout, IsFrame, u32_at, u64_at, numbers_in, count_in, lengths_in, homes_in, number_at, runs_from, run_count_in, runs_in, new_in}
+use Rattle.segment_core.specs.Layout.{frame_in, is_group_layout, is_change_layout, is_layout}
 use Rattle.segment_core.specs.Fault.{kind_in, payload_len_in, payload_in}
-use Rattle.segment_core.proofs.Numbers.{IsBytes-drop, u32_at_first, u32_at-drop, u32_written, length-numbers_in, length-numbers_text, numbers_in-written, numbers_text-numbers_in, both_true, true_both, lengths_positive, positive_lengths}
-use Rattle.segment_core.proofs.RunRows.{u64_at_first, u64_written, u64_small, length-number_text, number_written, length-runs_text, length-runs_from, AreGiven, runs_from-written, run_texts-runs_from, runs_positive, positive_runs}
+use Rattle.segment_core.proofs.Numbers.{IsBytes-drop, u32_at_first, u32_at-drop, u32_written, length-numbers_in, length-numbers_text, numbers_in-written, numbers_text-numbers_in, both_true}
+use Rattle.segment_core.proofs.Numbers.{true_both, lengths_positive, positive_lengths}
+use Rattle.segment_core.proofs.RunRows.{u64_at_first, u64_written, u64_small, length-number_text, number_written, length-runs_text, length-runs_from, AreGiven, runs_from-written}
+use Rattle.segment_core.proofs.RunRows.{run_texts-runs_from, runs_positive, positive_runs}
 
 -- ---- limits
 

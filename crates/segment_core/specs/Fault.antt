@@ -1,6 +1,7 @@
 -- The first fault of an image: the first line that holds of a table, at the end of the longest list of frames
 -- that begins the image; past all frames, the least position that has no record.
-use Rattle.std.specs.Prelude.{◌≡◌, ℕ, ◌+◌, ◌<◌, Bool, List, [], ◌∷◌, ◌++◌, length, take, drop, slice_index, Option, Some, None, IsSome, MatchOption, codes, nat_le, nat_lt, not, ◌==◌, ◌&&◌, ◌||◌, if◌then◌else◌, nat_eq, ◌⊎◌}
+use Rattle.std.specs.Prelude.{◌≡◌, ℕ, ◌+◌, ◌<◌, Bool, List, [], ◌∷◌, ◌++◌, length, take, drop, slice_index, Option, Some, None, IsSome, MatchOption, codes, nat_le, nat_lt, not, ◌==◌, ◌&&◌, ◌||◌}
+use Rattle.std.specs.Prelude.{if◌then◌else◌, nat_eq, ◌⊎◌}
 use Rattle.std.specs.List.{starts_with}
 use Rattle.std.specs.Int.{w16, from_le_bytes}
 use Rattle.record_core.specs.Bytes.{Encoding}

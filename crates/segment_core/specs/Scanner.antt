@@ -5,8 +5,8 @@ use Rattle.segment_core.specs.declared.fault.Cause.TheVariants.{NoGate, ShortFra
 use Rattle.segment_core.specs.declared.fault.ScanFault.{ScanFault}
 use Rattle.segment_core.specs.declared.fault.ScanFault.TheVariants.{Memory}
 use Rattle.segment_core.specs.declared.scanner.Scanner.{Scanner}
-use Rattle.segment_core.specs.declared.scanner.Stage.{Stage}
-use Rattle.segment_core.specs.declared.scanner.Stage.TheVariants.{Header, Open, Closed, Refused}
+use Rattle.segment_core.specs.declared.scanner.ScanStage.{ScanStage}
+use Rattle.segment_core.specs.declared.scanner.ScanStage.TheVariants.{Header, Open, Closed, Refused}
 use Rattle.segment_core.specs.declared.vector.Scanned.{Scanned}
 use Rattle.segment_core.specs.declared.format.Shape.{Shape}
 use Rattle.segment_core.specs.Shape.{limit_of}
@@ -58,7 +58,7 @@ pub record HasEnded {R : Type 0} (form : Encoding R) (image : List ℕ) (scanner
 abbrev pub IsRefusedFor : {R : Type 0} → Encoding R → List ℕ → ScanFault → Type 0
 IsRefusedFor form image fault = (more : List ℕ) → IsRefused form (image ++ more) fault
 
-abbrev pub IsFedAt : {R : Type 0} → Encoding R → List ℕ → Scanner R → Stage → Type 0
+abbrev pub IsFedAt : {R : Type 0} → Encoding R → List ℕ → Scanner R → ScanStage → Type 0
 IsFedAt form image scanner Header = IsFront form image scanner
 IsFedAt form image scanner Open = GoesOn form image scanner
 IsFedAt form image scanner Closed = HasEnded form image scanner

@@ -16,7 +16,7 @@ pub enum Format {
 }
 
 /// What the header of a file says.
-#[derive(Clone, Copy, Debug, PartialEq, Eq)]
+#[derive(Clone, Copy)]
 pub struct Shape {
     /// The version.
     pub format: Format,
@@ -112,7 +112,7 @@ pub const SHRINK_PAYLOAD_LEN: usize = 8;
 pub const FOLD_PAYLOAD_LEN: usize = 8;
 
 /// What a frame is.
-#[derive(Clone, Copy, Debug, PartialEq, Eq)]
+#[derive(Clone, Copy)]
 pub enum FrameKind {
     /// Growths that were committed together.
     Group = 1,

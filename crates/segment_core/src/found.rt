@@ -26,7 +26,7 @@ mod decoding;
 mod laying;
 
 /// Where the home bytes of consecutive positions stand, one record behind the other.
-#[derive(Clone, Copy, Debug, PartialEq, Eq)]
+#[derive(Clone, Copy)]
 pub struct Home {
     /// The first position.
     pub position: u64,
@@ -37,7 +37,7 @@ pub struct Home {
 }
 
 /// Where the bytes of a vector stand in its file.
-#[derive(Debug, Drop)]
+#[derive(Drop)]
 pub struct Homes {
     /// The home bytes of the positions, in their order: each position lies in one.
     pub homes: Vec<Home>,

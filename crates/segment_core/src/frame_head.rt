@@ -16,7 +16,7 @@ use crate::format::{
 use std::alloc::AllocError;
 
 /// What the first bytes of a whole frame tell of it.
-#[derive(Clone, Copy, Debug, PartialEq, Eq)]
+#[derive(Clone, Copy)]
 pub struct FrameHead {
     pub kind: FrameKind,
     /// The bytes of its payload.
@@ -27,7 +27,7 @@ pub struct FrameHead {
 }
 
 /// Why no frame was read behind an open gate.
-#[derive(Clone, Copy, Debug, PartialEq, Eq)]
+#[derive(Clone, Copy)]
 pub enum Unread {
     /// The bytes end before the frame does, and so far nothing is wrong with it.
     Short,

@@ -19,8 +19,8 @@ use record_core::{GROWTH_HEAD_LEN, RECORD_LIMIT, Record, width_of};
 use std::alloc::Global;
 
 /// How far an image has been read.
-#[derive(Clone, Copy, Debug)]
-pub(crate) enum Stage {
+#[derive(Clone, Copy)]
+pub(crate) enum ScanStage {
     /// Its header isn't whole yet.
     Header,
     /// The frames go on.
@@ -41,7 +41,7 @@ pub struct Scanner<R> {
     header: [u8; HEADER_LEN],
     /// The bytes of the header so far.
     filled: usize,
-    stage: Stage,
+    stage: ScanStage,
     /// The front of a frame whose end hasn't come yet.
     pending: Vec<u8>,
     walk: Walk<R>,
@@ -102,7 +102,7 @@ impl<R: Record> Scanner<R> {
             told: bytes,
             header: [0; HEADER_LEN],
             filled: 0,
-            stage: Stage::Header,
+            stage: ScanStage::Header,
             pending: Vec::new(alloc),
             walk: Walk::new(alloc, shape, 0),
         }
@@ -149,9 +149,9 @@ impl<R: Record> Scanner<R> {
         ensures lost { IsLost self.now → result ≡ false }
     {
         match self.stage {
-            Stage::Header | Stage::Open => false,
-            Stage::Closed => true,
-            Stage::Refused(fault) => !matches!(fault, ScanFault::Memory),
+            ScanStage::Header | ScanStage::Open => false,
+            ScanStage::Closed => true,
+            ScanStage::Refused(fault) => !matches!(fault, ScanFault::Memory),
         }
     }
 
@@ -161,7 +161,7 @@ impl<R: Record> Scanner<R> {
         ensures lost { IsLost self.now → result ≡ Err ScanFault.Memory }
     {
         match self.stage {
-            Stage::Refused(ScanFault::Memory) => Err(ScanFault::Memory),
+            ScanStage::Refused(ScanFault::Memory) => Err(ScanFault::Memory),
             _ => Ok(()),
         }
     }
@@ -171,11 +171,11 @@ impl<R: Record> Scanner<R> {
         requires { (image : List ℕ) × IsFed R.form image self.old }
         ensures used { result ≤ length piece.now }
         ensures fed { (image : List ℕ) → IsFed R.form image self.old → IsFed R.form (image ++ take result piece.now) self.new }
-        ensures whole { self.new.stage ≡ Stage.Header → result ≡ length piece.now }
+        ensures whole { self.new.stage ≡ ScanStage.Header → result ≡ length piece.now }
         ensures lost { IsLost self.old → IsLost self.new }
     {
         match self.stage {
-            Stage::Header => self.feed_header(piece),
+            ScanStage::Header => self.feed_header(piece),
             _ => 0,
         }
     }
@@ -183,12 +183,12 @@ impl<R: Record> Scanner<R> {
     /// Takes what is left of the header out of a piece, and answers how many bytes that was: all of them where
     /// it isn't whole even then.
     fn feed_header(&mut self, piece: &[u8]) -> usize
-        requires fed { (image : List ℕ) × IsFedAt R.form image self.old Stage.Header }
-        requires stage { self.old.stage ≡ Stage.Header }
+        requires fed { (image : List ℕ) × IsFedAt R.form image self.old ScanStage.Header }
+        requires stage { self.old.stage ≡ ScanStage.Header }
         ensures used { result ≤ length piece.now }
-        ensures fed { (image : List ℕ) → IsFedAt R.form image self.old Stage.Header → IsFed R.form (image ++ take result piece.now) self.new }
-        ensures whole { self.new.stage ≡ Stage.Header → result ≡ length piece.now }
-        ensures bare { (fault : ScanFault) → self.new.stage ≡ Stage.Refused fault → vec_capacity self.new.walk.found.records ≡ 0 }
+        ensures fed { (image : List ℕ) → IsFedAt R.form image self.old ScanStage.Header → IsFed R.form (image ++ take result piece.now) self.new }
+        ensures whole { self.new.stage ≡ ScanStage.Header → result ≡ length piece.now }
+        ensures bare { (fault : ScanFault) → self.new.stage ≡ ScanStage.Refused fault → vec_capacity self.new.walk.found.records ≡ 0 }
     {
         let used = piece.len().min(HEADER_LEN - self.filled);
         self.header[self.filled..self.filled + used].copy_from_slice(&piece[..used]);
@@ -198,9 +198,9 @@ impl<R: Record> Scanner<R> {
                 Ok(format) => {
                     let width = width_of::<R>();
                     self.walk = Walk::new(self.alloc, Shape { format, width }, self.room(format));
-                    self.stage = Stage::Open;
+                    self.stage = ScanStage::Open;
                 }
-                Err(fault) => self.stage = Stage::Refused(fault),
+                Err(fault) => self.stage = ScanStage::Refused(fault),
             }
         }
         used
@@ -209,13 +209,13 @@ impl<R: Record> Scanner<R> {
     /// Takes in bytes behind the header, where it is whole.
     fn feed_rest(&mut self, piece: &[u8])
         requires fed { (image : List ℕ) × IsFed R.form image self.old × (length image + length piece.now < 2 ^ 64) }
-        requires header { self.old.stage ≡ Stage.Header → length piece.now ≡ 0 }
+        requires header { self.old.stage ≡ ScanStage.Header → length piece.now ≡ 0 }
         ensures fed { (image : List ℕ) → IsFed R.form image self.old → IsFed R.form (image ++ piece.now) self.new }
         ensures lost { IsLost self.old → IsLost self.new }
     {
-        if let Stage::Open = self.stage {
+        if let ScanStage::Open = self.stage {
             if let Err(fault) = self.feed_frames(piece) {
-                self.stage = Stage::Refused(fault);
+                self.stage = ScanStage::Refused(fault);
             }
         }
     }
@@ -223,13 +223,13 @@ impl<R: Record> Scanner<R> {
     /// Takes in bytes behind the header, as long as no gate is closed.
     fn feed_frames(&mut self, piece: &[u8]) -> Result<(), ScanFault>
         requires open { (image : List ℕ) × GoesOn R.form image self.old × (length image + length piece.now < 2 ^ 64) }
-        requires stage { self.old.stage ≡ Stage.Open }
+        requires stage { self.old.stage ≡ ScanStage.Open }
         ensures ok { OnOk result ((image : List ℕ) → GoesOn R.form image self.old → IsFed R.form (image ++ piece.now) self.new) }
         ensures err { IfErr result (λ fault. (image : List ℕ) → GoesOn R.form image self.old → IsRefusedFor R.form (image ++ piece.now) fault) }
     {
         let mut used = 0;
         while used < piece.len() {
-            let Stage::Open = self.stage else {
+            let ScanStage::Open = self.stage else {
                 return Ok(());
             };
             let n = wanted(&self.pending).min(piece.len() - used);
@@ -246,14 +246,14 @@ impl<R: Record> Scanner<R> {
     /// Takes in bytes that begin a frame.
     fn take(&mut self, bytes: &[u8]) -> Result<(), ScanFault>
         requires open { (image : List ℕ) × GoesOn R.form image self.old × (length image + length bytes.now < 2 ^ 64) }
-        requires stage { self.old.stage ≡ Stage.Open }
+        requires stage { self.old.stage ≡ ScanStage.Open }
         requires none { self.old.pending.items ≡ [] }
         ensures ok { OnOk result ((image : List ℕ) → GoesOn R.form image self.old → IsOn R.form (image ++ bytes.now) self.new) }
         ensures err { IfErr result (λ fault. (image : List ℕ) → GoesOn R.form image self.old → IsRefusedFor R.form (image ++ bytes.now) fault) }
     {
         let (used, tail) = self.walk.read(bytes)?;
         match tail {
-            Tail::Closed => self.stage = Stage::Closed,
+            Tail::Closed => self.stage = ScanStage::Closed,
             Tail::Short => {
                 match self.pending.extend_from_slice(&bytes[used..]) {
                     Ok(()) => {}
@@ -267,7 +267,7 @@ impl<R: Record> Scanner<R> {
     /// Takes in bytes behind those of a frame that isn't whole yet.
     fn pend(&mut self, bytes: &[u8]) -> Result<(), ScanFault>
         requires open { (image : List ℕ) × GoesOn R.form image self.old × (length image + length bytes.now < 2 ^ 64) }
-        requires stage { self.old.stage ≡ Stage.Open }
+        requires stage { self.old.stage ≡ ScanStage.Open }
         ensures ok { OnOk result ((image : List ℕ) → GoesOn R.form image self.old → IsOn R.form (image ++ bytes.now) self.new) }
         ensures err { IfErr result (λ fault. (image : List ℕ) → GoesOn R.form image self.old → IsRefusedFor R.form (image ++ bytes.now) fault) }
     {
@@ -277,7 +277,7 @@ impl<R: Record> Scanner<R> {
         }
         let (used, tail) = self.walk.read(&self.pending)?;
         match tail {
-            Tail::Closed => self.stage = Stage::Closed,
+            Tail::Closed => self.stage = ScanStage::Closed,
             Tail::Short => cut_front(self.alloc, &mut self.pending, used)?,
         }
         Ok(())
@@ -329,13 +329,16 @@ impl<R: Record> Scanner<R> {
         ensures lost { IsLost self.now → result ≡ Err ScanFault.Memory }
     {
         match self.stage {
-            Stage::Header => match check_header(&self.header[..self.filled], width_of::<R>()) {
+            ScanStage::Header => match check_header(&self.header[..self.filled], width_of::<R>()) {
                 Ok(_) => Err(ScanFault::NotSegment),
                 Err(fault) => Err(fault),
             },
-            Stage::Open => Err(Unread::Short.fault(self.walk.at as u64, self.pending.len() as u64)),
-            Stage::Closed => Ok(()),
-            Stage::Refused(fault) => Err(fault),
+            ScanStage::Open => Err(Unread::Short.fault(
+                self.walk.at as u64,
+                self.pending.len() as u64,
+            )),
+            ScanStage::Closed => Ok(()),
+            ScanStage::Refused(fault) => Err(fault),
         }
     }
 }

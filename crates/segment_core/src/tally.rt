@@ -12,7 +12,7 @@ use crate::frame::FrameReader;
 use record_core::RECORD_LIMIT;
 
 /// What the frames so far leave.
-#[derive(Clone, Copy, Debug, PartialEq, Eq)]
+#[derive(Clone, Copy)]
 pub struct Tally {
     /// The vector's length.
     pub size: u64,
@@ -98,7 +98,6 @@ impl Tally {
     }
 
     /// Whether the frame may come now. The fault is the first that it has after the frames before it.
-    #[tactic(auto, using(crate::proofs::Tallied::disordered_by_runs, crate::proofs::Tallied::finds_runs, crate::proofs::Tallied::finds_range, crate::proofs::Tallied::finds_unfolded, crate::proofs::Tallied::finds_fold_count, crate::proofs::Tallied::finds_too_long))]
     pub(crate) fn check(&self, frame: &FrameReader<'_>) -> Result<(), ScanFault>
         requires { self.now.size ≤ record_limit }
         ensures { MatchResult result

@@ -13,7 +13,7 @@ use record_core::Record;
 use std::alloc::Global;
 
 /// What an image holds.
-#[derive(Debug, Drop)]
+#[derive(Drop)]
 pub struct Scanned<R> {
     /// The version of the file.
     pub version: u8,

@@ -16,7 +16,7 @@ use record_core::Record;
 use std::alloc::Global;
 
 /// What stands behind the frames that were read.
-#[derive(Clone, Copy, Debug, PartialEq, Eq)]
+#[derive(Clone, Copy)]
 pub(crate) enum Tail {
     /// A closed gate: the frames end.
     Closed,

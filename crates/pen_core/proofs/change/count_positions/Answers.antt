@@ -1,3 +1,4 @@
+use Rattle.std.proofs.lemmas.Grind.{common_steps}
 use Rattle.std.proofs.Common.{◌+◌, get_or, drop, ap, arith}
 use Rattle.segment_core.specs.Frame.{records_of_runs}
 use Rattle.segment_core.proofs.FrameParts.{records_of_runs-cons}
@@ -22,3 +23,6 @@ returns-clause-few c =
     let within = positions_within 0 c.args.size (runs_given c.args.runs.now) (omega arith) c.requires.ascending c.requires.inside in
     let so_far = c.loop-k.invariant.so_far in
     omega arith
+
+pub loop-k-preserved : goal.loop-k-preserved
+loop-k-preserved c = grind (arith, common_steps)

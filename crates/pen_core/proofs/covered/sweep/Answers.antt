@@ -1,3 +1,4 @@
+use Rattle.std.proofs.lemmas.Grind.{common_steps}
 use Rattle.std.proofs.Common.{◌<◌, length, ◌∙◌, sym, arith}
 use Rattle.std.proofs.lemmas.Bool.{eqb-false}
 use Rattle.pen_core.proofs.Covers.{AreSorted-from, swept-first, swept-gap, swept-joined, swept-all}
@@ -50,3 +51,12 @@ returns c =
     rw c.push_reserved-2.ensures.items
     (swept-all c.args.runs.now c.loop-k.k c.loop-k.start c.loop-k.end c.loop-k.cover.items (omega arith)
     c.loop-k.invariant.swept)
+
+pub returns-then-is_empty : goal.returns-then-is_empty
+returns-then-is_empty c = grind (arith, common_steps)
+
+pub overflow_add-end-then-end-next : goal.overflow_add-end-then-end-next
+overflow_add-end-then-end-next c = grind (arith, common_steps)
+
+pub overflow_add-next : goal.overflow_add-next
+overflow_add-next c = grind (arith, common_steps)

@@ -1,13 +1,18 @@
 use Rattle.std.proofs.Common.{subst}
 use Rattle.disk_core.specs.Calls.{bytes_of}
-use Rattle.pen_core.specs.Births.{AreContents}
+use Rattle.pen_core.specs.Births.{AreContents, IsExisting}
 use Rattle.pen_core.proofs.Births.{born_still, born_first}
-use Rattle.std.proofs.Common.{◌<◌, ◌-◌, ◌∷◌, [], length, sym, ap, arith}
+use Rattle.std.proofs.Common.{◌<◌, ◌≤◌, ◌-◌, ◌∷◌, [], ℕ, List, length, inl, inr, sym, ap, arith}
 use Rattle.disk_core.specs.declared.fault.DiskFault.TheVariants.{Length}
 use Rattle.disk_core.specs.Moments.{clock}
 use Rattle.pen_core.specs.Births.{first_calls, write_calls, AreLooks, EndsAt}
 use Rattle.pen_core.proofs.CreationCalls.{ends_behind, first_blank, first_long}
 use Rattle.pen_core.proofs.create.close_first.Goals as goal
+
+-- with one byte at most there is no file
+blank_none : (bytes : List ℕ) → length bytes ≤ 1 → IsExisting bytes → ⊥
+blank_none bytes short (inl long) = absurd (omega arith)
+blank_none bytes short (inr some) = absurd (omega (arith, some.0))
 
 pub returns-in-Err-clause-born : goal.returns-in-Err-clause-born
 returns-in-Err-clause-born g c = λ model none shape.
@@ -71,3 +76,15 @@ returns-in-Err-write_synced-clause-calls g c = λ model.
     subst (λ cs. EndsAt cs c.in-Err-write_synced.fault (clock new - clock old)) (sym (first_blank (bytes_of old) short))
     (ends_behind (Length ∷ []) write_calls (clock new - clock mid) (clock new - clock old) c.in-Err-write_synced.fault
     (omega (arith, one, some, c.look.ensures.later)) ends)
+
+pub returns-in-Err-write_synced-clause-existed : goal.returns-in-Err-write_synced-clause-existed
+returns-in-Err-write_synced-clause-existed g c = λ model there.
+    let old = g.D.Disk.states c.args.disk.now in
+    let m = c.write_synced.ensures.model model in
+    absurd (blank_none (bytes_of old) (subst (AreContents (bytes_of old)) c.in-Blank.is (c.in-Ok.ensures.found m)) there)
+
+pub returns-in-Ok-write_synced-clause-existed : goal.returns-in-Ok-write_synced-clause-existed
+returns-in-Ok-write_synced-clause-existed g c = λ model there.
+    let old = g.D.Disk.states c.args.disk.now in
+    let m = c.write_synced.ensures.model model in
+    absurd (blank_none (bytes_of old) (subst (AreContents (bytes_of old)) c.in-Blank.is (c.in-Ok.ensures.found m)) there)

@@ -1,3 +1,4 @@
+use Rattle.std.proofs.lemmas.Grind.{common_steps}
 use Rattle.pen_core.proofs.Births.{stays_only, stays_twice}
 use Rattle.std.proofs.Common.{◌<◌, ◌≤◌, ◌-◌, length, refl, ap, inl, inr, arith}
 use Rattle.std.specs.Prelude.{slice_get}
@@ -86,3 +87,15 @@ returns-then-first-eq-OPEN_GATE-clause-calls g c = λ model.
           (ap (λ cs. slice_get cs 1) (first_long (bytes_of old) long short)) refl
           (omega (arith, c.len.ensures.time, c.read_at.ensures.time)),
     )
+
+pub returns-then-first-eq-OPEN_GATE-clause-blank_time : goal.returns-then-first-eq-OPEN_GATE-clause-blank_time
+returns-then-first-eq-OPEN_GATE-clause-blank_time g c = grind (arith, common_steps)
+
+pub returns-clause-blank_time : goal.returns-clause-blank_time
+returns-clause-blank_time g c = grind (arith, common_steps)
+
+pub returns-then-first-eq-OPEN_GATE-clause-found : goal.returns-then-first-eq-OPEN_GATE-clause-found
+returns-then-first-eq-OPEN_GATE-clause-found g c = grind (arith, common_steps)
+
+pub returns-clause-found : goal.returns-clause-found
+returns-clause-found g c = grind (arith, common_steps)

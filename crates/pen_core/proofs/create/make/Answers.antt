@@ -108,3 +108,15 @@ returns-clause-calls g c = λ model.
       c.in_default-write_header.ensures.calls,
       length-append ((Sync ∷ []) ++ first_calls (bytes_of old)) (write_calls ++ write_calls),
     )
+
+pub returns-in-Err-write_header-clause-existed : goal.returns-in-Err-write_header-clause-existed
+returns-in-Err-write_header-clause-existed g c = λ model there.
+    let cleared = c.write_header.ensures.model model in
+    let settled = c.in_default.ensures.done (c.sync.ensures.model (c.close_first.ensures.model cleared)) in
+    absurd (c.in_ok-close_first.ensures.none_existed cleared (subst IsExisting (sym (ap (λ ss. (now ss).seen) settled)) there))
+
+pub returns-clause-existed : goal.returns-clause-existed
+returns-clause-existed g c = λ model there.
+    let cleared = c.write_header.ensures.model model in
+    let settled = c.in_default.ensures.done (c.sync.ensures.model (c.close_first.ensures.model cleared)) in
+    absurd (c.in_ok-close_first.ensures.none_existed cleared (subst IsExisting (sym (ap (λ ss. (now ss).seen) settled)) there))

@@ -1,3 +1,4 @@
+use Rattle.std.proofs.lemmas.Grind.{common_steps}
 use Rattle.std.proofs.Common.{◌+◌, arith}
 use Rattle.segment_core.proofs.Written.{records_more, records_within}
 use Rattle.pen_core.proofs.group.count_records.Goals as goal
@@ -20,3 +21,6 @@ loop-k-preserved g c =
     let small = c.loop-k.invariant.small in
     let few = c.if-records-total.false in
     record { so_far = omega arith; small = omega arith }
+
+pub returns : goal.returns
+returns g c = grind (arith, common_steps)

@@ -1,3 +1,4 @@
+use Rattle.std.proofs.lemmas.Nat.{mul-le}
 use Rattle.std.proofs.Common.{◌≡◌, ◌++◌, length, drop, take, arith}
 use Rattle.std.proofs.lemmas.List.{take_at}
 use Rattle.pen_core.proofs.GreatestRuns.{next_positions, next_runs, next_next}
@@ -34,3 +35,15 @@ loop-done-preserved c =
           (omega arith) (omega arith) (l.next old.greatest (omega arith));
       next = λ old less. next_next width part done c.min-count.result runs (l.next old (omega arith)) (omega arith);
     }
+
+pub overflow_mul-done : goal.overflow_mul-done
+overflow_mul-done c =
+    let all = c.requires.placed (omega (arith, c.loop-done-test.true)) in
+    let part = mul-le c.loop-done.done c.args.width c.args.part.count c.args.width (omega (arith, c.loop-done-test.true)) (omega arith) in
+    omega (arith, part, all)
+
+pub overflow_add-part-in-loop-done : goal.overflow_add-part-in-loop-done
+overflow_add-part-in-loop-done c =
+    let all = c.requires.placed (omega (arith, c.loop-done-test.true)) in
+    let part = mul-le c.loop-done.done c.args.width c.args.part.count c.args.width (omega (arith, c.loop-done-test.true)) (omega arith) in
+    omega (arith, part, all, c.requires.short, c.loop-done-test.true)

@@ -1,3 +1,4 @@
+use Rattle.std.proofs.lemmas.Grind.{common_steps}
 use Rattle.std.proofs.Common.{◌≡◌, ◌≤◌, ◌<◌, ◌+◌, ◌-◌, ◌++◌, ⊎_elim, inl, get_or, append_assoc, ap, subst, ◌∙◌, arith}
 use Rattle.std.specs.List.{range_with_len}
 use Rattle.std.proofs.lemmas.List.{get_or_default}
@@ -104,3 +105,12 @@ returns-clause-runs c =
     let l = c.loop-k.invariant in
     let done : c.loop-k.at ≡ c.args.to = omega (arith, l.to, l.all (omega (arith, c.loop-k-test.false))) in
     subst (λ n. AreGreatestRuns c.args.width (home_among c.args.width c.args.homes.now) n c.loop-k.runs.items) done l.runs_are
+
+pub loop-k-init : goal.loop-k-init
+loop-k-init c = grind (arith, common_steps)
+
+pub overflow_sub-part-in-loop-k : goal.overflow_sub-part-in-loop-k
+overflow_sub-part-in-loop-k c = grind (arith, common_steps)
+
+pub overflow_sub-part : goal.overflow_sub-part
+overflow_sub-part c = grind (arith, common_steps)

@@ -1,3 +1,4 @@
+use Rattle.std.proofs.lemmas.Grind.{common_steps}
 use Rattle.std.proofs.Common.{rules, ◌≤◌, ◌<◌, ◌+◌, ◌-◌, leb, leb-true, leb-false, get_or, arith}
 use Rattle.std.proofs.lemmas.List.Sorted.{IsPartitionPoint-from_clause, IsPartitionedBy-leb}
 use Rattle.segment_core.specs.declared.found.Home.{Home}
@@ -30,3 +31,6 @@ returns-clause-from c = λ d. (found c d).1
 
 pub returns-clause-to : goal.returns-clause-to
 returns-clause-to c = λ d. (found c d).2
+
+pub returns-clause-inside : goal.returns-clause-inside
+returns-clause-inside c = grind (arith, common_steps)

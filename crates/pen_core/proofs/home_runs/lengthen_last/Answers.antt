@@ -1,3 +1,4 @@
+use Rattle.std.proofs.lemmas.Grind.{common_steps}
 use Rattle.std.proofs.Common.{◌-◌, ◌++◌, length, sym, ap, subst, ◌∙◌, arith}
 use Rattle.std.specs.List.{range_with_len}
 use Rattle.pen_core.specs.HomeRuns.{positions_at, IsBounded, Meets, behind}
@@ -50,3 +51,18 @@ returns-clause-next c = λ greatest less.
     let bounded = subst (IsBounded width) (sym item.1) (c.requires.bounded (length runs - 1) last (omega (arith, item.3.0))) in
     full_next width runs last item.3.0 item.1 c.min-count.result (behind width c.args.part c.min-count.result) greatest
     (omega (arith, c.min-count.ensures, less, bounded.few))
+
+pub returns-then-last-part-clause-positions : goal.returns-then-last-part-clause-positions
+returns-then-last-part-clause-positions c = grind (arith, common_steps)
+
+pub returns-then-last-part-clause-runs : goal.returns-then-last-part-clause-runs
+returns-then-last-part-clause-runs c = grind (arith, common_steps)
+
+pub returns-in_default-clause-next : goal.returns-in_default-clause-next
+returns-in_default-clause-next c = grind (arith, common_steps)
+
+pub overflow_sub-last : goal.overflow_sub-last
+overflow_sub-last c = grind (arith, common_steps)
+
+pub overflow_mul-last : goal.overflow_mul-last
+overflow_mul-last c = grind (arith, common_steps)

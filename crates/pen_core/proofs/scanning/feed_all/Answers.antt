@@ -1,11 +1,17 @@
-use Rattle.std.proofs.Common.{◌≡◌, ◌+◌, ◌-◌, ◌*◌, ◌++◌, length, take, drop, length-take, min, inl, inr, refl, sym, ap, subst, ◌∙◌, arith}
+use Rattle.std.proofs.lemmas.Grind.{common_steps}
+use Rattle.std.proofs.Common.{◌≡◌, ◌⊎◌, ◌+◌, ◌-◌, ◌*◌, ◌<◌, ℕ, List, ◌++◌, length, take, drop, length-take, min, inl, inr, refl, sym, ap, subst, ◌∙◌, arith}
 use Rattle.std.proofs.lemmas.Result.{err_from_is_err_and}
 use Rattle.disk_core.specs.State.{now, IsImage}
 use Rattle.disk_core.specs.Calls.{bytes_of}
 use Rattle.disk_core.specs.Moments.{clock}
 use Rattle.disk_core.proofs.JoinedMoments.{LeavesOnly-start}
-use Rattle.segment_core.specs.Scanner.{IsDecided}
-use Rattle.pen_core.specs.Opening.{IsOpenRefusal, reads_of, pieces_front}
+use Rattle.segment_core.specs.Scanner.{IsDecided, IsCutShort}
+use Rattle.record_core.specs.Bytes.{Encoding}
+use Rattle.disk_core.specs.declared.fault.DiskFault.TheVariants.{Read}
+use Rattle.segment_core.specs.declared.fault.ScanFault.TheVariants.{Memory}
+use Rattle.pen_core.specs.declared.fault.OpenFault.{OpenFault}
+use Rattle.pen_core.specs.declared.fault.OpenFault.TheVariants.{Scan, Disk}
+use Rattle.pen_core.specs.Opening.{IsOpenRefusal, AreReadsMade, reads_of, pieces_front}
 use Rattle.pen_core.proofs.Pieces.{taken_nothing, taken_same, one_more_stays, no_reads, next_piece, reads_upto, needed_more, needed_enough, read_all, front_parts}
 use Rattle.pen_core.proofs.scanning.feed_all.Goals as goal
 
@@ -138,3 +144,45 @@ returns-after-loop-at-clause-reads g c = λ model all.
       enough = inl (reads ∙ ap (reads_of piece) end);
       needed = λ k lt. c.loop-at.invariant.needed model k (omega (arith, lt, reads));
     }
+
+-- the reads that were made where one was refused
+reads_made : {R : Type 0} (piece : ℕ) (form : Encoding R) (bytes : List ℕ) (fault : OpenFault) (n : ℕ)
+    → (fault ≡ Scan Memory) ⊎ (fault ≡ Disk Read) → ((k : ℕ) → k + 1 < n → IsCutShort form (pieces_front piece k bytes))
+    → AreReadsMade piece form bytes fault n
+reads_made piece form bytes fault n (inl is) cut = subst (λ f. AreReadsMade piece form bytes f n) (sym is) (inl refl)
+reads_made piece form bytes fault n (inr is) cut = subst (λ f. AreReadsMade piece form bytes f n) (sym is) cut
+
+pub returns-in_err-feed_piece-clause-reads : goal.returns-in_err-feed_piece-clause-reads
+returns-in_err-feed_piece-clause-reads g c = λ model all.
+    let old = g.D.Disk.states c.args.disk.now in
+    let m = c.feed_piece.ensures.model model in
+    let p = err_from_is_err_and c.from_residual.result c.from_residual.ensures.1 in
+    rw (p.1, p.2)
+    (reads_made (length c.args.piece.now) g.R.Record.form (bytes_of old) c.in_err-feed_piece.field-0.0
+    (clock (g.D.Disk.states c.feed_piece.new.disk) - clock old) c.in_err-feed_piece.ensures.memory
+    (λ k lt. c.loop-at.invariant.needed m k (omega (arith, lt, c.feed_piece.ensures.time, c.loop-at.invariant.time))))
+
+pub returns-else-not-is_decided-clause-read : goal.returns-else-not-is_decided-clause-read
+returns-else-not-is_decided-clause-read g c =
+    let taken = c.loop-at.invariant.taken in
+    record {
+      image = taken.image;
+      inside = omega (arith, taken.size, c.loop-at.invariant.inside);
+      short = c.ranges.len.fits;
+      fits = taken.fits;
+      fed = taken.fed;
+      fed_all = λ more all. c.if-not-is_decided.ensures.fed refl taken.image more taken.fed;
+      is = λ model. taken.is model ∙ ap (λ n. take n (bytes_of (g.D.Disk.states c.args.disk.now))) (sym taken.size);
+    }
+
+pub feed_piece-requires-clause-taken : goal.feed_piece-requires-clause-taken
+feed_piece-requires-clause-taken g c = grind (arith, common_steps)
+
+pub feed_piece-requires-clause-inside : goal.feed_piece-requires-clause-inside
+feed_piece-requires-clause-inside g c = grind (arith, common_steps)
+
+pub feed_piece-requires-clause-fits : goal.feed_piece-requires-clause-fits
+feed_piece-requires-clause-fits g c = grind (arith, common_steps)
+
+pub slice_bounds-feed_piece-end-in-loop-at : goal.slice_bounds-feed_piece-end-in-loop-at
+slice_bounds-feed_piece-end-in-loop-at g c = grind (arith, common_steps)

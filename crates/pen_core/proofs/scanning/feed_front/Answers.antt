@@ -1,4 +1,5 @@
-use Rattle.std.proofs.Common.{◌++◌, take, sym, subst}
+use Rattle.std.proofs.lemmas.Grind.{common_steps}
+use Rattle.std.proofs.Common.{◌++◌, take, sym, subst, arith}
 use Rattle.std.proofs.lemmas.Result.{MatchResult-weaker, err_from_is_err_and}
 use Rattle.disk_core.specs.Calls.{bytes_of}
 use Rattle.pen_core.specs.Opening.{IsOpenRefusal}
@@ -40,3 +41,11 @@ returns-clause-taken g c =
     MatchResult-weaker c.take_piece.result c.take_piece.ensures.memory
     (λ _ _. (read.image ++ c.args.tail.now, c.take_piece.ensures.fed read.image read.fed))
     (λ fault memory. tt)
+
+pub take_piece-requires-after_bounds : goal.take_piece-requires-after_bounds
+take_piece-requires-after_bounds g c κs within =
+    let read = c.in_ok-feed_all.ensures.read in
+    (read.image, read.fed, omega (arith, read.inside, c.requires.fits))
+
+pub returns-clause-faults : goal.returns-clause-faults
+returns-clause-faults g c = grind (arith, common_steps)

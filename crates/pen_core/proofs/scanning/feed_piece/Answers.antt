@@ -1,4 +1,4 @@
-use Rattle.std.proofs.Common.{◌+◌, ◌++◌, length, take, sym, subst}
+use Rattle.std.proofs.Common.{◌+◌, ◌++◌, length, take, sym, subst, arith}
 use Rattle.std.proofs.lemmas.Result.{MatchResult-weaker}
 use Rattle.disk_core.specs.Calls.{bytes_of}
 use Rattle.pen_core.specs.Opening.{IsOpenRefusal}
@@ -39,3 +39,8 @@ returns-clause-refused g c = λ model.
       fed = c.take_piece.ensures.fed c.requires.taken.image c.requires.taken.fed;
     })
     model memory.1 more))
+
+pub take_piece-requires-after_bounds : goal.take_piece-requires-after_bounds
+take_piece-requires-after_bounds g c κs within =
+    let taken = c.requires.taken in
+    (taken.image, taken.fed, omega (arith, taken.size, c.requires.fits, c.read_at.auto.out))

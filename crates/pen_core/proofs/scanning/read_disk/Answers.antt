@@ -1,3 +1,4 @@
+use Rattle.std.proofs.lemmas.Grind.{common_steps}
 use Rattle.std.proofs.Common.{◌≡◌, ◌+◌, ◌-◌, length, take, refl, sym, ap, ◌∙◌, arith}
 use Rattle.std.proofs.lemmas.Result.{err_from_is_err_and}
 use Rattle.disk_core.specs.State.{now}
@@ -5,7 +6,8 @@ use Rattle.disk_core.specs.Calls.{bytes_of}
 use Rattle.disk_core.specs.Moments.{clock}
 use Rattle.pen_core.specs.Opening.{failed_openings}
 use Rattle.pen_core.proofs.Births.{stays_only}
-use Rattle.pen_core.proofs.Pieces.{only_syncs_failed, only_syncs_settled, IsWalked, walked_only, walked_bytes, walked_len, walked_settled, all_refused, made_a_sync, made_a_length, made_reads, needed_behind, reads_made_behind}
+use Rattle.pen_core.proofs.Pieces.{only_syncs_failed, only_syncs_settled, IsWalked, walked_only, walked_bytes, walked_len, walked_settled, all_refused, made_a_sync, made_a_length, made_reads}
+use Rattle.pen_core.proofs.Pieces.{needed_behind, reads_made_behind}
 use Rattle.pen_core.proofs.scanning.read_disk.Given.{Over}
 use Rattle.pen_core.proofs.scanning.read_disk.Goals.{After-feed_all}
 use Rattle.pen_core.proofs.scanning.read_disk.Goals as goal
@@ -125,3 +127,12 @@ returns g c =
       faults = ok.ensures.faults ∙ c.in-Ok.ensures.cause ∙ c.in_default.ensures.cause;
       model = λ model. c.sync.ensures.model (c.len.ensures.model (c.feed_all.ensures.model model));
     }
+
+pub returns-in-Err-len-clause-reads : goal.returns-in-Err-len-clause-reads
+returns-in-Err-len-clause-reads g c = grind (arith, common_steps)
+
+pub feed_all-requires-clause-length : goal.feed_all-requires-clause-length
+feed_all-requires-clause-length g c = grind (arith, common_steps)
+
+pub returns-in-Err-clause-reads : goal.returns-in-Err-clause-reads
+returns-in-Err-clause-reads g c = grind (arith, common_steps)

@@ -1,3 +1,4 @@
+use Rattle.std.proofs.Common.{inr}
 use Rattle.disk_core.specs.Calls.{bytes_of}
 use Rattle.pen_core.proofs.Pieces.{found_there, fed_whole}
 use Rattle.pen_core.proofs.scanning.scan_disk.Goals as goal
@@ -15,3 +16,6 @@ returns-in-Ok-clause-found_on g c =
 pub returns-in-Err-clause-refused : goal.returns-in-Err-clause-refused
 returns-in-Err-clause-refused g c = λ model.
     c.in-Err.ensures.answer (bytes_of (g.D.Disk.states c.args.disk.now)) (fed_whole c.in_ok-scanner.ensures.read model)
+
+pub returns-in-Err-clause-reads : goal.returns-in-Err-clause-reads
+returns-in-Err-clause-reads g c = λ model. inr (c.in_ok-scanner.ensures.reads model)

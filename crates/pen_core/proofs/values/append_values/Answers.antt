@@ -102,3 +102,14 @@ returns-clause-values g c =
     ∙ ap (λ n. c.args.bytes.now.items ++ bytes_at g.R.Record.form (joined growths) c.args.from (n - c.args.from))
     (done growths c.loop-k.k c.loop-k.passed.records c.loop-k.at c.args.to
     (omega (arith, c.loop-k-test.false, c.count-k-end.ensures)) is l.behind l.to c.requires.inside)
+
+pub overflow_add-passed-in-loop-k : goal.overflow_add-passed-in-loop-k
+overflow_add-passed-in-loop-k g c =
+    let l = c.loop-k.invariant in
+    elim c.if-skipped-len.branch [
+      | then-skipped-len+in_ok-append_records w ↦
+          let count = w.min-count.ensures in
+          let less : c.loop-k.at + w.min-count.result ≡ c.args.to → ⊥ = λ e. c.if-at-to.false (w.at-is ∙ e) in
+          omega (arith, less, l.behind, l.to, w.if-skipped-len.true, c.ranges.to.fits)
+      | else-skipped-len w ↦ omega (arith, w.if-skipped-len.false, l.behind, l.to, c.ranges.to.fits)
+    ]

@@ -1,9 +1,11 @@
-use Rattle.std.proofs.Common.{◌≡◌, ◌≤◌, ◌<◌, ◌+◌, ◌-◌, ◌^◌, ◌++◌, List, [], ◌∷◌, ℕ, length, drop, get_or, refl, ap, subst, ◌∙◌, arith}
+use Rattle.std.proofs.Common.{◌≡◌, ◌≤◌, ◌<◌, ◌+◌, ◌-◌, ◌^◌, ◌++◌, List, [], ◌∷◌, ℕ, All, length, map, take, drop, get_or, refl, sym, ap, subst, ◌∙◌, arith}
 use Rattle.std.proofs.lemmas.Nat.{mul-le}
 use Rattle.std.proofs.lemmas.List.{take_all, drop_more, length-append}
 use Rattle.std.proofs.lemmas.List.Elements.{All-nil}
 use Rattle.segment_core.specs.declared.found.Home.{Home}
 use Rattle.segment_core.specs.Written.{joined}
+use Rattle.pen_core.specs.declared.fold.Write.{Write}
+use Rattle.pen_core.specs.InHand.{write_of}
 use Rattle.pen_core.specs.HomeRuns.{AreAscending}
 use Rattle.pen_core.specs.Values.{bytes_at, writes_for}
 use Rattle.pen_core.proofs.WritesFor.{Within, writes_more, within_more, ascending-inside, ascending-ends}
@@ -76,24 +78,28 @@ loop-k-preserved g c =
     c.in_ok-append_values.ensures.values ∙ ap (λ n. c.loop-k.bytes.items ++ bytes_at form records run.position n) count in
     let from : c.len-from.result ≡ length c.loop-k.bytes.items = omega arith in
     let to : c.len.result ≡ length (c.loop-k.bytes.items ++ bytes_at form records run.position run.count) = omega (arith, ap length wrote) in
-    rw (c.push_reserved.ensures.items, wrote, from, to) record {
+    let all : List ℕ = c.loop-k.bytes.items ++ bytes_at form records run.position run.count in
+    let old = c.loop-k.writes.items in
+    let new = c.push_reserved.new.self.items in
+    let last : Write = record { place = run.place; from = length c.loop-k.bytes.items; to = length all } in
+    let pushed : new ≡ old ++ last ∷ [] =
+    c.push_reserved.ensures.items
+    ∙ ap (λ n. old ++ record { place = run.place; from = n; to = c.len.result } ∷ []) from
+    ∙ ap (λ n. old ++ record { place = run.place; from = length c.loop-k.bytes.items; to = n } ∷ []) to in
+    record {
       end = run.position + run.count;
       passed = c.in_ok-append_values.ensures.passed;
       behind = c.in_ok-append_values.ensures.before;
       left = next.2;
-      so_far = writes_more form records runs k blank c.loop-k.bytes.items c.loop-k.writes.items c.loop-k-test.true l.so_far l.within;
-      within = within_more c.loop-k.bytes.items (bytes_at form records run.position run.count) c.loop-k.writes.items run.place l.within;
-      many =
-          omega (
-            arith,
-            l.many,
-            length-append c.loop-k.writes.items
-                (record {
-                  place = run.place;
-                  from = length c.loop-k.bytes.items;
-                  to = length (c.loop-k.bytes.items ++ bytes_at form records run.position run.count);
-                } ∷ []),
-          );
+      so_far =
+          subst (λ bs. map (write_of bs) new ≡ writes_for form records (take (k + 1) runs)) (sym wrote)
+          (subst (λ ws. map (write_of all) ws ≡ writes_for form records (take (k + 1) runs)) (sym pushed)
+          (writes_more form records runs k blank c.loop-k.bytes.items old c.loop-k-test.true l.so_far l.within));
+      within =
+          subst (λ bs. All (Within (length bs)) new) (sym wrote)
+          (subst (All (Within (length all))) (sym pushed)
+          (within_more c.loop-k.bytes.items (bytes_at form records run.position run.count) old run.place l.within));
+      many = omega (arith, l.many, ap length pushed, length-append old (last ∷ []));
       room = omega (arith, l.room, c.push_reserved.ensures.capacity);
     }
 

@@ -1,3 +1,4 @@
+use Rattle.std.proofs.lemmas.Grind.{common_steps}
 use Rattle.std.proofs.Common.{◌≡◌, ◌*◌, length, refl, sym, ap, ◌∙◌, arith}
 use Rattle.std.specs.List.{flat_map}
 use Rattle.std.proofs.lemmas.List.{take_all}
@@ -31,3 +32,6 @@ returns-clause-cells g c =
     let each = rw all at c.loop-i.invariant.read_again in
     let laws = g.met.R.Record g.world.𝓛 g.world.𝓜 g.world.𝓡 ((λ s x. x), (λ x. x), (λ x. x), λ x. x) in
     rw (returns-clause-bytes g c) (AreRecords_written g.R.Record.form c.args.records.now laws.width_of_bytes each)
+
+pub returns-clause-read_again : goal.returns-clause-read_again
+returns-clause-read_again g c = grind (arith, common_steps)

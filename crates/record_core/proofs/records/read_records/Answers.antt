@@ -1,3 +1,4 @@
+use Rattle.std.proofs.lemmas.Grind.{common_steps}
 use Rattle.std.proofs.Common.{◌≡◌, ℕ, suc, ◌+◌, ◌*◌, ◌≤◌, ◌<◌, true, cond, List, [], ◌∷◌, ◌++◌, Some, refl, sym, ap, ◌∙◌, arith, rules}
 use Rattle.std.specs.Prelude.{is_ok}
 use Rattle.std.proofs.lemmas.List.{append-nil, append_assoc}
@@ -64,3 +65,12 @@ returns-in_default-clause-bad g c =
     ap g.R.Record.form.value_of (cell_is g.R.Record.form.width c.width_of-width.result c.args.bytes.now c.loop-i.i c.width_of-width.ensures.is)
     ∙ sym c.take.ensures in
     record { inside = omega arith; bad = now ∙ c.in_default.is; before = HasRead_some g.R.Record.form c.args.bytes.now c.loop-i.i c.loop-i.invariant.0 c.loop-i.invariant.2 }
+
+pub returns-in_err-map_err-clause-kept : goal.returns-in_err-map_err-clause-kept
+returns-in_err-map_err-clause-kept g c = grind (arith, common_steps)
+
+pub returns-in_err-map_err-clause-bad : goal.returns-in_err-map_err-clause-bad
+returns-in_err-map_err-clause-bad g c = grind (arith, common_steps)
+
+pub returns-in_default-clause-kept : goal.returns-in_default-clause-kept
+returns-in_default-clause-kept g c = grind (arith, common_steps)

@@ -1,5 +1,6 @@
 use Rattle.std.proofs.Common.{ℕ, ◌+◌, ◌*◌, ◌≤◌, ◌∷◌, length, ap, ◌∙◌, arith}
 use Rattle.std.specs.Int.{w32, to_le_bytes}
+use Rattle.std.proofs.lemmas.Bool.{false≢true}
 use Rattle.std.proofs.lemmas.Result.{on_ok_weaker}
 use Rattle.std.proofs.lemmas.List.{length-append}
 use Rattle.std.proofs.lemmas.Nat.{mul-le}
@@ -55,5 +56,4 @@ returns-in_err-append_runs-clause-room g c room =
     let grown = c.append_head.ensures.capacity in
     let heads = ap (runs_len c.args.format) (length-runs_given c.args.runs.now) in
     let len = c.requires.len in
-    let never = c.in_err-append_runs.ensures.room (omega arith) in
-    absurd cc
+    absurd (false≢true (c.in_err-append_runs.ensures.room (omega arith)))

@@ -1,5 +1,6 @@
 use Rattle.std.proofs.Common.{ℕ, ◌+◌, ◌*◌, ◌≤◌, List, ◌++◌, length, get_or, sym, ap, ◌∙◌, append_assoc, arith}
 use Rattle.std.specs.List.{flat_map}
+use Rattle.std.proofs.lemmas.Bool.{false≢true}
 use Rattle.std.proofs.lemmas.List.{take_all}
 use Rattle.std.proofs.lemmas.Nat.{mul-le}
 use Rattle.segment_core.specs.Frame.{number_len, number_text, run_text}
@@ -20,8 +21,7 @@ returns-in_err-append_run-clause-room c room =
     let so_far = ap length c.loop-k.invariant.text ∙ length-run_texts_so_far c.args.format c.args.file.now.items n c.args.runs.now c.loop-k.k (omega arith) in
     let most : (c.loop-k.k + 1) * size ≤ n * size = mul-le (c.loop-k.k + 1) size n size (omega arith) (omega arith) in
     let grown = c.loop-k.invariant.capacity in
-    let never = c.in_err-append_run.ensures.room (omega arith) in
-    absurd cc
+    absurd (false≢true (c.in_err-append_run.ensures.room (omega arith)))
 
 pub loop-k-preserved : goal.loop-k-preserved
 loop-k-preserved c =

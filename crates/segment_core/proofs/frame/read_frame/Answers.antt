@@ -1,3 +1,4 @@
+use Rattle.std.proofs.lemmas.Grind.{common_steps}
 use Rattle.std.proofs.Common.{◌≡◌, ◌+◌, ℕ, List, Option, Ok, false, length, refl, sym, ap, subst, ◌∙◌, arith}
 use Rattle.segment_core.specs.declared.frame_head.FrameHead.{FrameHead}
 use Rattle.segment_core.specs.declared.format.Shape.{Shape}
@@ -87,3 +88,6 @@ returns c =
     let formed = ap (is_layout shape kind) (sym cut) ∙ c.in-Some-counts.ensures.0 in
     let w = whole_of_head shape bytes head h c.requires.wide (λ i. omega (arith, c.type_inv.bytes i)) formed in
     (refl, refl, subst (λ (bs : List ℕ). BeginsWith shape bytes (frame_in shape kind bs)) (sym cut) (begins_with shape bytes kind w))
+
+pub counts-requires-clause-fits : goal.counts-requires-clause-fits
+counts-requires-clause-fits c = grind (arith, common_steps)

@@ -1,5 +1,6 @@
 use Rattle.std.proofs.Common.{◌≡◌, ◌+◌, ◌++◌, List, ℕ, length, take, sym, ap, subst, ◌∙◌, append_assoc, arith}
 use Rattle.std.specs.List.{flat_map}
+use Rattle.std.proofs.lemmas.Bool.{false≢true}
 use Rattle.std.proofs.lemmas.List.{length-append, take_all}
 use Rattle.std.proofs.lemmas.Result.{err_from_is_err_and}
 use Rattle.std.proofs.lemmas.List.Concat.{flat_map-append}
@@ -50,8 +51,7 @@ returns-in_err-append_records-clause-room g c room =
     let more = cells_more g.R.Record.form.width growths c.loop-k.k c.growth.result.now c.growth.ensures in
     let part = cells_within g.R.Record.form.width growths (c.loop-k.k + 1) in
     let grown = so_far.capacity in
-    let never = c.in_err-append_records.ensures.room (omega arith) in
-    absurd cc
+    absurd (false≢true (c.in_err-append_records.ensures.room (omega arith)))
 
 pub returns-clause-bytes : goal.returns-clause-bytes
 returns-clause-bytes g c =

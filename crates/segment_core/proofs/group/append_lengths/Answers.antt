@@ -1,3 +1,4 @@
+use Rattle.std.proofs.lemmas.Grind.{common_steps}
 use Rattle.std.proofs.Common.{List, ℕ, ◌++◌, length, map, take, ap, sym, ◌∙◌, append_assoc, arith}
 use Rattle.std.specs.List.{flat_map}
 use Rattle.std.specs.Int.{w32, to_le_bytes}
@@ -23,3 +24,6 @@ loop-k-preserved g c =
     ∙ ap (λ (bs : List ℕ). bs ++ to_le_bytes w32 (length c.growth.result.now)) c.loop-k.invariant
     ∙ append_assoc c.args.file.now.items (flat_map (to_le_bytes w32) (map length before)) (to_le_bytes w32 (length c.growth.result.now))
     ∙ ap (λ (bs : List ℕ). c.args.file.now.items ++ bs) (sym (lengths_push before c.growth.result.now)))
+
+pub returns : goal.returns
+returns g c = grind (arith, common_steps)

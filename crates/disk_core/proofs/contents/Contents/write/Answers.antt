@@ -28,3 +28,9 @@ returns-clause-half_done c =
           inr (touched_from c.args.self.now mid.bytes.items mid.synced.items c.lay_over.new.bytes.items mid.pending.items c.push.new.self.items
           mid.greatest c.max-self-inside.result c.args.at (length c.args.bytes.now) view fresh same (search rules) (search rules))
     ]) c.lay_over.ensures.same
+
+pub lay_over-requires : goal.lay_over-requires
+lay_over-requires c = grind (arith, common_steps)
+
+pub returns-clause-done : goal.returns-clause-done
+returns-clause-done c = grind (arith, common_steps)

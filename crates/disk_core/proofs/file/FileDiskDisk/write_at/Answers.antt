@@ -1,3 +1,5 @@
+use Rattle.std.proofs.Common.{arith}
+use Rattle.std.proofs.lemmas.Grind.{common_steps}
 use Rattle.disk_core.specs.State.{now}
 use Rattle.disk_core.specs.File.{file_states}
 use Rattle.disk_core.proofs.ImageLemmas.{written_image}
@@ -11,3 +13,15 @@ invariant_of-self g c =
       readable = λ agreed. written_image (now (file_states disk.truth.facts disk.log.items)) c.args.at c.of.result.bytes
           (c.requires.inside agreed.1) (disk.readable agreed.1);
     })
+
+pub invariant_of-self-in-Err : goal.invariant_of-self-in-Err
+invariant_of-self-in-Err g c = grind (arith, common_steps)
+
+pub returns-in-Err-clause-torn : goal.returns-in-Err-clause-torn
+returns-in-Err-clause-torn g c = grind (arith, common_steps)
+
+pub returns-in-Err-clause-pending : goal.returns-in-Err-clause-pending
+returns-in-Err-clause-pending g c = grind (arith, common_steps)
+
+pub returns-in-Err-clause-goes_on_torn : goal.returns-in-Err-clause-goes_on_torn
+returns-in-Err-clause-goes_on_torn g c = grind (arith, common_steps)

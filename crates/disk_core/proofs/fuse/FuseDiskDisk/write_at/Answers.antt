@@ -1,3 +1,4 @@
+use Rattle.std.proofs.lemmas.Grind.{common_steps}
 use Rattle.std.proofs.Common.{◌≤◌, length, rules, arith, sym, subst}
 use Rattle.std.specs.Prelude.{is_ok}
 use Rattle.std.proofs.lemmas.List.{length-take}
@@ -32,3 +33,6 @@ returns-clause-torn g c still =
     ] in
     let latest : IsTornWrite c.args.at len (now (states_of disk)) (now new) = subst (λ s. IsTornWrite c.args.at len s (now new)) (sym disk.latest) torn in
     on_err _ c.match-burn.answer (rw (c.and-self.ensures, c.of.ensures) (logged_states-call g.D.Disk.states (is_ok c.match-burn.answer) c.match-burn.self.1.0 disk.log.items c.args.at len latest))
+
+pub returns-clause-reaches : goal.returns-clause-reaches
+returns-clause-reaches g c = grind (arith, common_steps)

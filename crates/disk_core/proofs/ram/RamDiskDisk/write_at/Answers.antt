@@ -1,4 +1,5 @@
-use Rattle.std.proofs.Common.{◌≤◌, length, rules, sym, subst}
+use Rattle.std.proofs.lemmas.Grind.{common_steps}
+use Rattle.std.proofs.Common.{◌≤◌, length, rules, sym, subst, arith}
 use Rattle.disk_core.specs.State.{IsImage}
 use Rattle.disk_core.proofs.ImageLemmas.{written_image, half_done_image}
 use Rattle.disk_core.proofs.ram.RamDiskDisk.write_at.Goals as goal
@@ -11,3 +12,12 @@ invariant_of-self-clause-readable c =
 
 pub invariant_of-self-in-Err-clause-readable : goal.invariant_of-self-in-Err-clause-readable
 invariant_of-self-in-Err-clause-readable c = half_done_image c.args.at (length c.args.bytes.now) c.args.self.now.contents c.write.new.self c.args.self.now.readable c.in-Err.ensures.half_done
+
+pub returns-in-Err-clause-torn : goal.returns-in-Err-clause-torn
+returns-in-Err-clause-torn c = grind (arith, common_steps)
+
+pub returns-in-Err-clause-time : goal.returns-in-Err-clause-time
+returns-in-Err-clause-time c = grind (arith, common_steps)
+
+pub returns-in-Ok-clause-time : goal.returns-in-Ok-clause-time
+returns-in-Ok-clause-time c = grind (arith, common_steps)

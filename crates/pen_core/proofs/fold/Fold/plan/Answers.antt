@@ -1,4 +1,5 @@
-use Rattle.std.proofs.Common.{◌^◌, length, sym, subst, ◌∙◌}
+use Rattle.std.proofs.lemmas.Grind.{common_steps}
+use Rattle.std.proofs.Common.{◌^◌, length, sym, subst, ◌∙◌, arith}
 use Rattle.segment_core.specs.Written.{joined}
 use Rattle.pen_core.specs.HomeRuns.{AreHomeRuns}
 use Rattle.pen_core.proofs.HomeRunSteps.{ascending-to}

@@ -1,4 +1,5 @@
-use Rattle.std.proofs.Common.{◌≡◌, ◌≤◌, ◌<◌, ◌+◌, ◌^◌, Result, Ok, Err, OnOk, true, false, length, map, take, All, Some, refl, sym, ap, subst, ◌∙◌, arith}
+use Rattle.std.proofs.lemmas.Grind.{common_steps}
+use Rattle.std.proofs.Common.{◌≡◌, ◌≤◌, ◌<◌, ◌+◌, ◌^◌, Result, Ok, Err, OnOk, true, false, length, map, take, All, Some, refl, sym, ap, subst, ◌∙◌, arith, inr}
 use Rattle.std.specs.Result.{is_err}
 use Rattle.std.proofs.lemmas.List.{length-take-le}
 use Rattle.segment_core.specs.Written.{joined}
@@ -11,6 +12,7 @@ use Rattle.pen_core.specs.HomeRuns.{AreHomesTo}
 use Rattle.pen_core.specs.Pen.{IsReadyToFold}
 use Rattle.pen_core.specs.Plan.{IsPlan}
 use Rattle.pen_core.proofs.AtRest.{pen_unbegun, unbegun_seen}
+use Rattle.pen_core.proofs.FrameBegun.{unchanged_as}
 use Rattle.pen_core.proofs.KeptPen.{kept_folding, kept_unchanged}
 use Rattle.pen_core.proofs.FoldListed.{some_live, small_live, live_inside, inside_cover}
 use Rattle.pen_core.proofs.HomesTo.{AreHomesTo-pen}
@@ -66,8 +68,8 @@ invariant_of-self g c =
     pen_unbegun c.self.invariant c.plan.new.self (ready g (goal.at.invariant_of-self g c).Else-not-branch).1 c.plan.ensures.same.0
 
 pub returns-then-is_err-clause-unchanged : goal.returns-then-is_err-clause-unchanged
-returns-then-is_err-clause-unchanged g c = rw (← c.self.view_is) (
-    unbegun_seen c.self.invariant c.plan.new.self
+returns-then-is_err-clause-unchanged g c =
+    unchanged_as c.self.view_is (unbegun_seen c.self.invariant c.plan.new.self
     (ready g (goal.at.returns-then-is_err-clause-unchanged g c).Else-not-branch).1 c.plan.ensures.same.0)
 
 pub returns-then-is_err-clause-kept : goal.returns-then-is_err-clause-kept
@@ -81,8 +83,8 @@ invariant_of-self-then-is_err-2 g c =
     (ready g (goal.at.invariant_of-self-then-is_err-2 g c).Else-not-branch).1 c.plan.ensures.same.0
 
 pub returns-then-is_err-2-clause-unchanged : goal.returns-then-is_err-2-clause-unchanged
-returns-then-is_err-2-clause-unchanged g c = rw (← c.self.view_is) (
-    unbegun_seen c.self.invariant (record c.plan.new.self { frame = c.put_fold.new.bytes })
+returns-then-is_err-2-clause-unchanged g c =
+    unchanged_as c.self.view_is (unbegun_seen c.self.invariant (record c.plan.new.self { frame = c.put_fold.new.bytes })
     (ready g (goal.at.returns-then-is_err-2-clause-unchanged g c).Else-not-branch).1 c.plan.ensures.same.0)
 
 pub returns-then-is_err-2-clause-kept : goal.returns-then-is_err-2-clause-kept
@@ -166,3 +168,26 @@ returns-clause-plans g c = rw (← c.self.view_is) (whole_taken (takes g (goal.a
 
 pub returns-clause-kept : goal.returns-clause-kept
 returns-clause-kept g c = kept_folding g.D.Disk.keeps g.D.Disk.states c.args.self.now _ c.ready_fold.ensures.kept (returns-clause-begun g c)
+
+pub returns-then-is_err-clause-refused : goal.returns-then-is_err-clause-refused
+returns-then-is_err-clause-refused g c =
+    inr (refl, subst (IsReadyToFold c.args.self.now) c.if-not-branch.false c.in_ok-ready_fold.ensures.ready)
+
+pub returns-then-is_err-2-clause-refused : goal.returns-then-is_err-2-clause-refused
+returns-then-is_err-2-clause-refused g c =
+    inr (refl, subst (IsReadyToFold c.args.self.now) c.if-not-branch.false c.in_ok-ready_fold.ensures.ready)
+
+pub plan-requires-clause-width : goal.plan-requires-clause-width
+plan-requires-clause-width g c κs within =
+    let laws = g.met.R.Record g.world.𝓛 g.world.𝓜 g.world.𝓡 ((λ s x. x), (λ x. x), (λ x. x), λ x. x) in
+    laws.width_in_range.1
+
+pub plan-requires-clause-all : goal.plan-requires-clause-all
+plan-requires-clause-all g c κs within =
+    subst (λ pen. pen.tally.size ≤ length (joined (g.G.GrowthList.growths c.args.pieces.now))) (sym c.self.view_is) c.requires.all
+
+pub returns-then-not-branch-clause-plans : goal.returns-then-not-branch-clause-plans
+returns-then-not-branch-clause-plans g c = grind (arith, common_steps)
+
+pub returns-then-not-branch-clause-begun : goal.returns-then-not-branch-clause-begun
+returns-then-not-branch-clause-begun g c = grind (arith, common_steps)

@@ -1,3 +1,4 @@
+use Rattle.std.proofs.lemmas.Grind.{common_steps}
 use Rattle.std.proofs.Common.{◌≡◌, ◌+◌, ◌-◌, ◌^◌, ◌<◌, ◌≤◌, ◌++◌, List, length, Result, Ok, Err, OnOk, true, false, cond, refl, sym, ap, subst, ◌∙◌, arith}
 use Rattle.std.specs.Result.{is_err, is_ok}
 use Rattle.std.specs.Prelude.{vec_len, vec_capacity}
@@ -6,17 +7,17 @@ use Rattle.segment_core.specs.Frame.{Run}
 use Rattle.std.specs.Option.{is_some}
 use Rattle.disk_core.specs.Calls.{bytes_of}
 use Rattle.segment_core.specs.Parsed.{vector_before}
-use Rattle.segment_core.specs.Runs.{runs_given, change_frame}
-use Rattle.segment_core.specs.Runs.{change_len}
-use Rattle.pen_core.specs.Refusals.{fold_len}
+use Rattle.segment_core.specs.Raw.{AreCellsOf}
+use Rattle.segment_core.specs.Runs.{runs_given, change_frame, change_len}
+use Rattle.pen_core.specs.Refusals.{fold_len, change_lines}
 use Rattle.pen_core.proofs.AtRest.{at_rest}
 use Rattle.pen_core.proofs.KeptPen.{none_job, kept_begun}
-use Rattle.pen_core.proofs.Begins.{idle_seen}
+use Rattle.pen_core.proofs.Begins.{idle_seen, memory_refuses}
 use Rattle.pen_core.proofs.RunsBegun.{Allows, allowed_space, allows, Changes, change_begins, change_tells}
 use Rattle.pen_core.proofs.pen.Pen.begin_runs_from.Given.{Over}
 use Rattle.pen_core.proofs.pen.Pen.begin_runs_from.Goals.{Else-is_err-2}
 use Rattle.pen_core.proofs.Whole.{sound_kept}
-use Rattle.pen_core.proofs.FrameBegun.{pen_begun, begun_seen, unchanged_seen}
+use Rattle.pen_core.proofs.FrameBegun.{pen_begun, begun_seen, unchanged_seen, begun_as, unchanged_as}
 use Rattle.pen_core.proofs.pen.Pen.begin_runs_from.Goals as goal
 
 on_ok : {A E P : Type 0} (r : Result A E) → is_err r ≡ false → OnOk r P → P
@@ -87,12 +88,14 @@ pub invariant_of-self-2 : goal.invariant_of-self-2
 invariant_of-self-2 g c = pen_begun (change_begins (begins g (goal.at.invariant_of-self-2 g c).Else-is_err-2))
 
 pub returns-clause-begun : goal.returns-clause-begun
-returns-clause-begun g c = rw (← c.self.view_is) (begun_seen (change_begins (begins g (goal.at.returns-clause-begun g c).Else-is_err-2)))
+returns-clause-begun g c = begun_as c.self.view_is (begun_seen (change_begins (begins g (goal.at.returns-clause-begun g c).Else-is_err-2)))
 
 pub returns-clause-next : goal.returns-clause-next
-returns-clause-next g c = rw (← c.self.view_is) (
+returns-clause-next g c = λ records read. (
     let s = c.self.inside in
-    change_tells (begins g (goal.at.returns-clause-next g c).Else-is_err-2) (vector_before s.shape s.gate (bytes_of (g.D.Disk.states s.disk))))
+    change_tells (begins g (goal.at.returns-clause-next g c).Else-is_err-2)
+    (vector_before s.shape s.gate (bytes_of (g.D.Disk.states s.disk))) records
+    (subst (λ v. AreCellsOf g.R.Record.form v.vector records) (sym c.self.view_is) read))
 
 pub returns-then-is_err-clause-kept : goal.returns-then-is_err-clause-kept
 returns-then-is_err-clause-kept g c = sound_kept (invariant_of-self g c)
@@ -107,15 +110,15 @@ returns-clause-kept g c =
     (none_job c.args.self.now c.in_ok-payload.ensures.idle) (returns-clause-begun g c)
 
 pub returns-then-is_err-clause-unchanged : goal.returns-then-is_err-clause-unchanged
-returns-then-is_err-clause-unchanged g c = rw (← c.self.view_is) (
+returns-then-is_err-clause-unchanged g c =
     let s = c.self.inside in
-    unchanged_seen g.D.Disk.states s (record s { bytes = c.put_change.new.bytes })
+    unchanged_as c.self.view_is (unchanged_seen g.D.Disk.states s (record s { bytes = c.put_change.new.bytes })
     (idle_seen g.D.Disk.states s c.self.view_is c.in_ok-payload.ensures.idle))
 
 pub returns-then-is_err-2-clause-unchanged : goal.returns-then-is_err-2-clause-unchanged
-returns-then-is_err-2-clause-unchanged g c = rw (← c.self.view_is) (
+returns-then-is_err-2-clause-unchanged g c =
     let s = c.self.inside in
-    unchanged_seen g.D.Disk.states s (record s { bytes = c.put_change.new.bytes; homes = record { homes = s.homes.homes; live = c.extend_from_slice.new.self } })
+    unchanged_as c.self.view_is (unchanged_seen g.D.Disk.states s (record s { bytes = c.put_change.new.bytes; homes = record { homes = s.homes.homes; live = c.extend_from_slice.new.self } })
     (idle_seen g.D.Disk.states s c.self.view_is c.in_ok-payload.ensures.idle))
 
 pub returns-then-is_err-2-clause-sure : goal.returns-then-is_err-2-clause-sure
@@ -141,3 +144,14 @@ overflow_add-self g c =
     (sym c.self.view_is)
     (allowed_space c.args.self.now (runs_given c.args.runs.now) c.in_ok-payload.ensures.allowed) in
     omega (arith, space, c.self.invariant.job.changes_fit)
+
+pub returns-then-is_err-clause-refused : goal.returns-then-is_err-clause-refused
+returns-then-is_err-clause-refused g c =
+    memory_refuses (change_lines c.args.self.now (runs_given c.args.runs.now)) c.in_ok-payload.ensures.allowed
+
+pub returns-then-is_err-2-clause-refused : goal.returns-then-is_err-2-clause-refused
+returns-then-is_err-2-clause-refused g c =
+    memory_refuses (change_lines c.args.self.now (runs_given c.args.runs.now)) c.in_ok-payload.ensures.allowed
+
+pub put_change-requires-clause-len : goal.put_change-requires-clause-len
+put_change-requires-clause-len g c = grind (arith, common_steps)

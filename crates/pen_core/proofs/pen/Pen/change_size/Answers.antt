@@ -1,4 +1,7 @@
-use Rattle.std.proofs.Common.{◌≡◌, ◌+◌, ◌*◌, false, length, sym, ap, ◌∙◌, arith}
+use Rattle.std.proofs.lemmas.Grind.{common_steps}
+use Rattle.std.proofs.lemmas.Nat.{mul-le}
+use Rattle.std.proofs.Common.{◌≡◌, ◌+◌, ◌*◌, false, length, sym, ap, ◌∙◌, arith, ◌^◌}
+use Rattle.std.proofs.lemmas.Bool.{true≢false, false≢true}
 use Rattle.std.proofs.lemmas.List.{length-map}
 use Rattle.segment_core.specs.Frame.{Run, runs_len}
 use Rattle.segment_core.specs.Shape.{limit_of}
@@ -19,7 +22,7 @@ not_old g c =
     elim c.else-matches.branch [
       | goal.else-matches-via-then-matches+else-runs-gt1 w ↦ not_old_runs pen runs pen.shape.format (omega (arith, count, w.if-runs-gt1.false))
       | goal.else-matches-via-else-matches w ↦ elim c.match-matches.branch [
-        | goal.in-One m ↦ (let clash = sym m.matches-is ∙ w.if-matches.false in absurd cc)
+        | goal.in-One m ↦ absurd (true≢false (sym m.matches-is ∙ w.if-matches.false))
         | goal.in_default m ↦ not_old_format pen runs pen.shape.format (λ is. m.in_default.not-One (ap (λ v. v.shape.format) c.self.view_is ∙ is))
       ]
     ]
@@ -94,7 +97,7 @@ returns-then-runs-gt1-clause-refused g c =
     refused_old pen runs c.in_ok-ready.ensures.whole c.in_ok-ready.ensures.idle (elim c.match-matches.branch [
       | goal.in-One m ↦ old_runs pen runs pen.shape.format (sym (ap (λ v. v.shape.format) c.self.view_is) ∙ m.in-One.is)
           (omega (arith, count, c.if-runs-gt1.true))
-      | goal.in_default m ↦ (let clash = sym m.matches-is ∙ c.if-matches.true in absurd cc)
+      | goal.in_default m ↦ absurd (false≢true (sym m.matches-is ∙ c.if-matches.true))
     ])
 
 pub returns-then-runs-limit-clause-refused : goal.returns-then-runs-limit-clause-refused
@@ -108,3 +111,13 @@ returns-then-runs-limit-clause-refused g c =
     (ap (λ v. are_inside v.tally.size (runs_given c.args.runs.now)) (sym c.self.view_is) ∙ sym c.runs_inside.ensures
     ∙ c.if-not-runs_inside.false)
     (omega (arith, limit, count, change_len-least c.args.self.now.shape (runs_given c.args.runs.now), c.if-runs-limit.true))
+
+pub overflow_mul-payload : goal.overflow_mul-payload
+overflow_mul-payload g c =
+    let s = c.self.inside in
+    let few = c.count_positions-records.ensures.few in
+    let size = c.self.invariant.job.size_fits in
+    omega (arith, mul-le c.count_positions-records.result s.shape.width (2 ^ 32) (2 ^ 16) (omega arith) (omega (arith, c.self.invariant.job.wide.1)))
+
+pub overflow_add-payload : goal.overflow_add-payload
+overflow_add-payload g c = grind (arith, common_steps)

@@ -1,7 +1,9 @@
-use Rattle.std.proofs.Common.{ℕ, List, Err, None, false, inl, inr, refl, ap, arith}
+use Rattle.std.proofs.Common.{◌≡◌, ℕ, List, Err, None, false, inl, inr, refl, ap, arith}
+use Rattle.disk_core.specs.declared.fault.DiskFault.{DiskFault}
 use Rattle.segment_core.specs.declared.format.Shape.{Shape}
 use Rattle.segment_core.specs.Tally.{nothing}
 use Rattle.pen_core.specs.PenLog.{PenLog}
+use Rattle.pen_core.specs.declared.fault.PenFault.TheVariants.{Memory, Exists, Disk}
 use Rattle.pen_core.proofs.NewPen.{new_frames, new_vector, new_pen}
 use Rattle.pen_core.proofs.InHand.{no_fold_at, no_fold_seen, pen_unfolded}
 use Rattle.pen_core.proofs.Listed.{listed_new}
@@ -12,6 +14,12 @@ use Rattle.pen_core.proofs.pen.Pen.create_as.Goals as goal
 abbrev new_log : Shape → List ℕ → PenLog
 new_log shape bytes = record { shape = shape; gate = 11; tally = nothing; bytes = bytes; step = None; broken = false }
 
+not_exists : Memory ≡ Exists → ⊥
+not_exists is = absurd cc
+
+not_disk : (cause : DiskFault) → Memory ≡ Disk cause → ⊥
+not_disk cause is = absurd cc
+
 -- memory was refused
 pub returns-in_default : goal.returns-in_default
 returns-in_default g c = record {
@@ -21,12 +29,12 @@ returns-in_default g c = record {
   born = λ model none later image left. absurd (omega (arith, later));
   none_existed = tt;
   existed = λ model there. inl refl;
-  exists = λ model is. absurd cc;
+  exists = λ model is. absurd (not_exists is);
   refused = inl (refl, refl);
   time = omega arith;
   later = λ fault. elim fault [
-    | inl is ↦ absurd cc
-    | inr is ↦ (let clash = is.1 in absurd cc)
+    | inl is ↦ absurd (not_exists is)
+    | inr is ↦ absurd (not_disk is.0 is.1)
   ];
   calls = λ model. omega arith;
   faults = omega arith;

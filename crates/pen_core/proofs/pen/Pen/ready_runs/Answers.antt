@@ -5,10 +5,10 @@ use Rattle.segment_core.specs.Frame.{Run}
 use Rattle.segment_core.specs.Runs.{runs_given, change_len}
 use Rattle.pen_core.specs.Refusals.{first_refusal, change_lines}
 use Rattle.pen_core.proofs.AtRest.{at_rest}
-use Rattle.pen_core.proofs.Begins.{idle_seen, no_job_same}
+use Rattle.pen_core.proofs.Begins.{idle_seen, no_job_same, memory_refuses}
 use Rattle.pen_core.proofs.Worked.{unchanged_pen}
 use Rattle.pen_core.proofs.Whole.{sound_kept}
-use Rattle.pen_core.proofs.FrameBegun.{unchanged_seen}
+use Rattle.pen_core.proofs.FrameBegun.{unchanged_seen, unchanged_as}
 use Rattle.pen_core.proofs.pen.Pen.ready_runs.Goals as goal
 
 on_ok : {A E P : Type 0} (r : Result A E) → is_err r ≡ false → OnOk r P → P
@@ -43,15 +43,15 @@ pub returns-clause-kept : goal.returns-clause-kept
 returns-clause-kept g c = sound_kept (invariant_of-self-2 g c)
 
 pub returns-then-is_err-clause-unchanged : goal.returns-then-is_err-clause-unchanged
-returns-then-is_err-clause-unchanged g c = rw (← c.self.view_is) (
+returns-then-is_err-clause-unchanged g c =
     let s = c.self.inside in
-    unchanged_seen g.D.Disk.states s (record s { bytes = c.take_room.new.bytes })
+    unchanged_as c.self.view_is (unchanged_seen g.D.Disk.states s (record s { bytes = c.take_room.new.bytes })
     (idle_seen g.D.Disk.states s c.self.view_is c.in_ok-payload.ensures.idle))
 
 pub returns-then-is_err-2-clause-unchanged : goal.returns-then-is_err-2-clause-unchanged
-returns-then-is_err-2-clause-unchanged g c = rw (← c.self.view_is) (
+returns-then-is_err-2-clause-unchanged g c =
     let s = c.self.inside in
-    unchanged_seen g.D.Disk.states s (record s { bytes = c.take_room.new.bytes; homes = record { homes = s.homes.homes; live = c.reserve.new.self } })
+    unchanged_as c.self.view_is (unchanged_seen g.D.Disk.states s (record s { bytes = c.take_room.new.bytes; homes = record { homes = s.homes.homes; live = c.reserve.new.self } })
     (idle_seen g.D.Disk.states s c.self.view_is c.in_ok-payload.ensures.idle))
 
 pub returns-clause-unchanged : goal.returns-clause-unchanged
@@ -83,3 +83,11 @@ returns-clause-ready g c =
       room = omega (arith, size, room);
       places = omega (arith, places, length-map {B = Run} c.args.runs.now (λ run. record { start = run.0; count = run.1 }));
     }
+
+pub returns-then-is_err-clause-refused : goal.returns-then-is_err-clause-refused
+returns-then-is_err-clause-refused g c =
+    memory_refuses (change_lines c.args.self.now (runs_given c.args.runs.now)) c.in_ok-payload.ensures.allowed
+
+pub returns-then-is_err-2-clause-refused : goal.returns-then-is_err-2-clause-refused
+returns-then-is_err-2-clause-refused g c =
+    memory_refuses (change_lines c.args.self.now (runs_given c.args.runs.now)) c.in_ok-payload.ensures.allowed

@@ -2,7 +2,8 @@ use Rattle.std.proofs.Common.{◌≡◌, inl, inr, refl, subst, arith, rules}
 use Rattle.std.proofs.lemmas.Result.{err_from_is_err_and}
 use Rattle.pen_core.specs.declared.stage.Ticked.TheVariants.{Step}
 use Rattle.pen_core.specs.Pen.{IsTicked, FileTicked}
-use Rattle.pen_core.proofs.Settled.{LogGoes-tick, LogGoes-first, ended_images, ended_model, ended_goes_on, ended_faults, ended_whole, ended_settled, ended_file, ended_frames, ended_time, fault_is, fault_file, fault_time, log_left-step}
+use Rattle.pen_core.proofs.Settled.{LogGoes-tick, LogGoes-first, ended_images, ended_model, ended_goes_on, ended_faults, ended_whole, ended_settled, ended_file, ended_frames, ended_time, fault_is}
+use Rattle.pen_core.proofs.Settled.{fault_file, fault_time, log_left-step}
 use Rattle.pen_core.proofs.pen.Pen.settle_log.Goals as goal
 
 pub loop-init : goal.loop-init

@@ -198,3 +198,19 @@ returns-clause-ticked g c = rw (← c.self.view_is) (
         places_same = refl;
       },
     ))
+
+pub returns-then-has_call-clause-goes_on : goal.returns-then-has_call-clause-goes_on
+returns-then-has_call-clause-goes_on g c = λ model.
+    c.in_default.ensures.goes_on (subst g.D.Disk.keeps (sym (ap (λ pen. pen.disk) c.self.view_is)) model)
+
+pub returns-then-has_call-clause-model : goal.returns-then-has_call-clause-model
+returns-then-has_call-clause-model g c = λ model.
+    subst g.D.Disk.keeps (ap (λ pen. pen.disk) c.self.view_is) (c.call.ensures.model model)
+
+pub returns-clause-goes_on : goal.returns-clause-goes_on
+returns-clause-goes_on g c = λ model.
+    subst g.D.Disk.keeps (sym (ap (λ pen. pen.disk) c.self.view_is)) model
+
+pub returns-clause-model : goal.returns-clause-model
+returns-clause-model g c = λ model.
+    subst g.D.Disk.keeps (ap (λ pen. pen.disk) c.self.view_is) model

@@ -1,13 +1,17 @@
 -- Each exit that makes a call builds what its tick knows, and cites one lemma for each clause.
-use Rattle.std.proofs.Common.{◌≡◌, ◌+◌, ◌-◌, length, inr, refl, sym, ap, ◌∙◌}
+use Rattle.std.proofs.lemmas.Grind.{common_steps}
+use Rattle.std.proofs.Common.{◌≡◌, ◌+◌, ◌-◌, length, inr, refl, sym, ap, ◌∙◌, subst, arith}
 use Rattle.std.specs.Prelude.{vec_len, vec_capacity}
 use Rattle.pen_core.specs.declared.fault.PenFault.TheVariants.{Disk}
+use Rattle.pen_core.specs.declared.stage.Ticked.TheVariants as ticks
+use Rattle.pen_core.specs.Fields.{seen_as}
+use Rattle.pen_core.specs.Pen.{LogTickCalls, LogTickFails}
 use Rattle.pen_core.specs.Vectors.{frame_at}
 use Rattle.pen_core.specs.Inside.{job_of}
 use Rattle.pen_core.specs.InHand.{live_after}
 use Rattle.pen_core.proofs.Whole.{broken_seen, sound_kept, sound_idle, last_step}
 use Rattle.pen_core.proofs.Listed.{homes_in_turn}
-use Rattle.pen_core.proofs.LogCall.{LogCall, log_call, log_leaves, log_broken, broken_file, log_next, next_file, counts_after, gate_moved, more_frames, vector_then}
+use Rattle.pen_core.proofs.LogCall.{LogCall, log_call, log_leaves, log_broken, log_calls, log_fails, broken_file, log_next, next_file, counts_after, gate_moved, more_frames, vector_then}
 use Rattle.pen_core.proofs.LastTick.{LastCall, log_last, fold_seen, other_unfiled}
 use Rattle.pen_core.proofs.pen.Pen.tick_log.Given.{Over}
 use Rattle.pen_core.proofs.pen.Pen.tick_log.Goals.{After-call, After-len-self-inside}
@@ -176,3 +180,55 @@ returns-in-None-clause-file g c =
       frames_more = more_frames tick c.in_default-call.ensures.done gate moved last model;
       vector_is = vector_then tick c.in_default-call.ensures.done gate moved last model;
     }))
+
+pub returns-in-None-clause-goes_on : goal.returns-in-None-clause-goes_on
+returns-in-None-clause-goes_on g c = λ model.
+    c.in_default-call.ensures.goes_on (subst g.D.Disk.keeps (sym (ap (λ pen. pen.disk) c.self.view_is)) model)
+
+pub returns-in-None-clause-model : goal.returns-in-None-clause-model
+returns-in-None-clause-model g c = λ model.
+    subst g.D.Disk.keeps (ap (λ pen. pen.disk) c.self.view_is) (c.call.ensures.model model)
+
+pub returns-in-Some-next-clause-goes_on : goal.returns-in-Some-next-clause-goes_on
+returns-in-Some-next-clause-goes_on g c = λ model.
+    c.in_default-call.ensures.goes_on (subst g.D.Disk.keeps (sym (ap (λ pen. pen.disk) c.self.view_is)) model)
+
+pub returns-in-Some-next-clause-model : goal.returns-in-Some-next-clause-model
+returns-in-Some-next-clause-model g c = λ model.
+    subst g.D.Disk.keeps (ap (λ pen. pen.disk) c.self.view_is) (c.call.ensures.model model)
+
+pub returns-in-None-clause-time : goal.returns-in-None-clause-time
+returns-in-None-clause-time g c = grind (arith, common_steps)
+
+pub returns-in-None-clause-faults : goal.returns-in-None-clause-faults
+returns-in-None-clause-faults g c = grind (arith, common_steps)
+
+pub overflow_add-self : goal.overflow_add-self
+overflow_add-self g c = grind (arith, common_steps)
+
+pub overflow_sub-self : goal.overflow_sub-self
+overflow_sub-self g c = grind (arith, common_steps)
+
+-- ---- what the call makes of the disk
+
+pub returns-in-Err-clause-calls : goal.returns-in-Err-clause-calls
+returns-in-Err-clause-calls g c = λ model.
+    let tick = made g (goal.at.returns-in-Err-clause-calls g c).After-call in
+    let new = g.D.Disk.states c.call.new.disk in
+    let s = seen_as g.D.Disk.states c.self.inside in
+    subst (λ pen. LogTickFails pen.broken pen (g.D.Disk.states pen.disk) new) c.self.view_is
+    (subst (λ broken. LogTickFails broken s (g.D.Disk.states s.disk) new) (sym c.if-self.false) (log_fails tick (c.in-Err.ensures.failed model)))
+
+pub returns-in-Some-next-clause-calls : goal.returns-in-Some-next-clause-calls
+returns-in-Some-next-clause-calls g c = λ model.
+    let tick = made g (goal.at.returns-in-Some-next-clause-calls g c).After-call in
+    let new = g.D.Disk.states c.call.new.disk in
+    subst (λ pen. LogTickCalls pen ticks.Step (g.D.Disk.states pen.disk) new) c.self.view_is
+    (log_calls tick (c.in_default-call.ensures.done (c.call.ensures.model model)))
+
+pub returns-in-None-clause-calls : goal.returns-in-None-clause-calls
+returns-in-None-clause-calls g c = λ model.
+    let tick = made g (goal.at.returns-in-None-clause-calls g c).After-call in
+    let new = g.D.Disk.states c.call.new.disk in
+    subst (λ pen. LogTickCalls pen ticks.Done (g.D.Disk.states pen.disk) new) c.self.view_is
+    (log_calls tick (c.in_default-call.ensures.done (c.call.ensures.model model)))

@@ -4,9 +4,11 @@ use Rattle.std.specs.List.{starts_with}
 use Rattle.std.proofs.lemmas.List.{take_rest}
 use Rattle.segment_core.specs.Frame.{header}
 use Rattle.segment_core.specs.Fault.{is_version}
-use Rattle.segment_core.proofs.Header.{IsBorn, IsSegment, finds_unborn_short, finds_unborn_closed, finds_other_short, finds_other_magic, finds_version, finds_width, finds_none, width_read, format_known, is_version-version_of, header_of_none, header_written}
+use Rattle.segment_core.proofs.Header.{IsBorn, IsSegment, finds_unborn_short, finds_unborn_closed, finds_other_short, finds_other_magic, finds_version, finds_width, finds_none, width_read}
+use Rattle.segment_core.proofs.Header.{format_known, is_version-version_of, header_of_none, header_written}
 use Rattle.segment_core.proofs.format.Shape.read.Goals as goal
-use Rattle.segment_core.proofs.format.Shape.read.Goals.{then-bytes-le1-via-then-bytes-le1, then-bytes-le1-via-else-bytes-le1+then-bytes-ne-OPEN_GATE, then-bytes-lt-HEADER_LEN-via-then-bytes-lt-HEADER_LEN, then-bytes-lt-HEADER_LEN-via-else-bytes-lt-HEADER_LEN+then-not-starts_with}
+use Rattle.segment_core.proofs.format.Shape.read.Goals.{then-bytes-le1-via-then-bytes-le1, then-bytes-le1-via-else-bytes-le1+then-bytes-ne-OPEN_GATE}
+use Rattle.segment_core.proofs.format.Shape.read.Goals.{then-bytes-lt-HEADER_LEN-via-then-bytes-lt-HEADER_LEN, then-bytes-lt-HEADER_LEN-via-else-bytes-lt-HEADER_LEN+then-not-starts_with}
 
 pub returns-then-bytes-le1-clause-sound : goal.returns-then-bytes-le1-clause-sound
 returns-then-bytes-le1-clause-sound c width wide = elim c.then-bytes-le1.branch [

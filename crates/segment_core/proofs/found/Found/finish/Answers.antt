@@ -1,7 +1,9 @@
-use Rattle.std.proofs.Common.{◌≡◌, List, length, sym, subst, rules, inl, inr}
+use Rattle.std.proofs.lemmas.Grind.{common_steps}
+use Rattle.std.specs.List.{flat_map}
+use Rattle.std.proofs.Common.{◌≡◌, List, length, sym, subst, rules, inl, inr, ap, ◌∙◌, arith}
 use Rattle.std.proofs.lemmas.Result.{err_from_is_err_and}
 use Rattle.segment_core.specs.Vector.{IsVectorOf}
-use Rattle.segment_core.specs.Found.{AreLaid}
+use Rattle.segment_core.specs.Found.{AreLaid, pairs_of}
 use Rattle.segment_core.proofs.FoundEnd.{vector_found, first_bad_found, live_wide, came_back}
 use Rattle.segment_core.proofs.found.Found.finish.Goals as goal
 
@@ -28,3 +30,12 @@ returns-clause-vector g c = λ format frames image is begins. (
     subst (λ (rs : List g.row.R.Denot). IsVectorOf format form image frames rs) (sym (came_back c.args.self.records.len c.lay_live.new.records c.args.self.records.items len same))
     (vector_found form format frames image begins.0 c.args.self c.lay_live.new.records c.lay_live.new.notes is begins.1 same
     (subst (λ (rs : List g.row.R.Denot). AreLaid form c.args.self.live.items rs c.args.self.notes c.lay_live.new.records c.lay_live.new.notes) c.deref_mut.ensures.value laid.0) laid.1))
+
+pub returns-clause-homes : goal.returns-clause-homes
+returns-clause-homes g c = λ format frames found. record {
+  homes_are = found.homes;
+  live_is = c.in-Ok.ensures ∙ ap (flat_map pairs_of) found.live_is;
+}
+
+pub returns-in_default-clause-vector : goal.returns-in_default-clause-vector
+returns-in_default-clause-vector g c = grind (arith, common_steps)

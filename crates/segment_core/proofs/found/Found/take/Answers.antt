@@ -1,4 +1,7 @@
-use Rattle.std.proofs.Common.{◌++◌, ◌∷◌, [], Result, Ok, Err, refl, sym, ap, ◌∙◌}
+use Rattle.std.proofs.lemmas.Bool.{ltb-false}
+use Rattle.segment_core.specs.Frame.{Shrink}
+use Rattle.segment_core.specs.Tally.{tally_of, MayFollow}
+use Rattle.std.proofs.Common.{◌++◌, ◌∷◌, [], Result, Ok, Err, refl, sym, ap, ◌∙◌, subst}
 use Rattle.std.specs.Prelude.{OnOk}
 use Rattle.segment_core.specs.Reading.{Seen}
 use Rattle.segment_core.proofs.FoundSteps.{found_group, found_change, found_shrink, found_fold}
@@ -26,3 +29,11 @@ returns-in-Fold g c =
     λ frames follows.
     found_fold g.R.Record.form frames c.args.frame.now c.args.self.now c.fold.new.self c.fold_count.result
     c.fold_count.ensures follows c.fold.ensures.same c.fold.ensures.folded c.fold.ensures.live
+
+pub shrink-requires-after_bounds : goal.shrink-requires-after_bounds
+shrink-requires-after_bounds g c κs within =
+    let frames = c.requires.0 in
+    let follows = c.requires.1 in
+    let n = c.new_length.result in
+    let may : MayFollow (tally_of frames) (Shrink n) = subst (MayFollow (tally_of frames)) c.new_length.ensures follows.may in
+    ((tally_of frames).size, ltb-false (tally_of frames).size n may.inside, follows.behind.homes.in_turn)

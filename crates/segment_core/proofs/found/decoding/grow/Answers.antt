@@ -37,3 +37,29 @@ returns-clause-laid g c = λ image stands. (
     (place_among g.R.Record.form.width c.args.place (length c.args.records.now.items) n)
     c.args.records.now.items c.args.notes.now c.loop-k.records.items c.loop-k.notes) all
     (c.loop-k.invariant.laid image stands))
+
+pub slice_bounds-decode-end : goal.slice_bounds-decode-end
+slice_bounds-decode-end g c =
+    omega (arith, cell_within c.loop-k.k c.args.count c.width_of-width.result g.R.Record.form.width (length c.args.area.now) c.width_of-width.ensures.is c.loop-k-test.true c.requires.filled)
+
+pub overflow_add-place : goal.overflow_add-place
+overflow_add-place g c =
+    let within = cell_within c.loop-k.k c.args.count c.width_of-width.result g.R.Record.form.width (length c.args.area.now) c.width_of-width.ensures.is c.loop-k-test.true c.requires.filled in
+    omega (arith, within, c.requires.placed)
+
+pub loop-k-init : goal.loop-k-init
+loop-k-init g c =
+    let form = g.R.Record.form in
+    let made = c.grow_sound-sound.ensures in
+    let same : c.reserve.new.self.items ≡ c.args.records.now.items = c.in_ok-reserve.ensures.items in
+    record {
+      longer = omega (arith, made.longer, ap length same);
+      room = omega (arith, made.room);
+      laid =
+          λ image stands.
+          subst
+          (λ old.
+          IsLaid form image (place_among form.width c.args.place (length old) c.grow_sound-sound.result) old c.args.notes.now
+          c.grow_sound-sound.new.records.items c.args.notes.now) same
+          (made.laid image c.args.place stands);
+    }

@@ -1,7 +1,9 @@
+use Rattle.std.proofs.lemmas.Grind.{common_steps}
+use Rattle.segment_core.specs.Vector.{place_among}
 use Rattle.std.proofs.Common.{◌≡◌, ◌+◌, ◌-◌, ◌*◌, List, length, take, drop, ℕ, None, refl, sym, ap, ◌∙◌, arith, rules}
 use Rattle.std.proofs.lemmas.List.{length_push, length-take-le, length-drop}
 use Rattle.segment_core.specs.Notes.{noted}
-use Rattle.segment_core.proofs.FoundLaid.{decoded_whole, laid_push, stands_part, cell_within}
+use Rattle.segment_core.proofs.FoundLaid.{decoded_whole, laid_push, stands_part, cell_within, laid_nothing, place_among_none}
 use Rattle.segment_core.proofs.found.decoding.grow_sound.Goals as goal
 
 pub loop-sound-preserved : goal.loop-sound-preserved
@@ -30,3 +32,26 @@ loop-sound-preserved g c =
           (clean (length old + k)))
           (λ q apart. refl);
     }
+
+pub slice_bounds-take-end : goal.slice_bounds-take-end
+slice_bounds-take-end g c =
+    omega (
+      arith,
+      cell_within c.loop-sound.sound c.args.count c.width_of-width.result g.R.Record.form.width (length c.args.area.now)
+          c.width_of-width.ensures.is c.loop-sound-test.true c.requires.filled,
+    )
+
+pub returns-then-not-is_empty-clause-laid : goal.returns-then-not-is_empty-clause-laid
+returns-then-not-is_empty-clause-laid g c = λ image place stands.
+    let form = g.R.Record.form in
+    let old = c.args.records.now.items in
+    laid_nothing form image (place_among form.width place (length old) 0) old c.args.notes.now (place_among_none form.width place (length old))
+
+pub loop-sound-init : goal.loop-sound-init
+loop-sound-init g c = grind (arith, common_steps)
+
+pub overflow_add-at : goal.overflow_add-at
+overflow_add-at g c = grind (arith, common_steps)
+
+pub overflow_mul-at : goal.overflow_mul-at
+overflow_mul-at g c = grind (arith, common_steps)

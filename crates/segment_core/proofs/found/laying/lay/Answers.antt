@@ -1,3 +1,4 @@
+use Rattle.std.proofs.lemmas.Grind.{common_steps}
 use Rattle.std.proofs.Common.{◌≡◌, ◌+◌, ◌-◌, ◌*◌, length, ℕ, refl, subst, arith}
 use Rattle.segment_core.specs.Vector.{place_among}
 use Rattle.segment_core.specs.Found.{IsLaid}
@@ -26,3 +27,11 @@ returns g c = λ image stands. (
     let all : c.loop-k.k ≡ c.args.count = omega (arith, c.loop-k-test.false, c.loop-k.auto.k-end) in
     subst (λ (n : ℕ). IsLaid g.R.Record.form image (place_among g.R.Record.form.width c.args.place c.args.start n) c.args.records.now c.args.notes.now c.loop-k.records c.loop-k.notes) all
     (c.loop-k.invariant image stands))
+
+pub overflow_add-place : goal.overflow_add-place
+overflow_add-place g c =
+    let within = cell_within c.loop-k.k c.args.count c.width_of-width.result g.R.Record.form.width (length c.args.area.now) c.width_of-width.ensures.is c.loop-k-test.true c.requires.filled in
+    omega (arith, within, c.requires.placed)
+
+pub offset_bounds-records-start : goal.offset_bounds-records-start
+offset_bounds-records-start g c = grind (arith, common_steps)

@@ -1,3 +1,4 @@
+use Rattle.std.proofs.lemmas.Grind.{common_steps}
 use Rattle.std.proofs.Common.{◌≡◌, ◌+◌, length, sym, ap, subst, ◌∙◌, arith}
 use Rattle.std.proofs.lemmas.Bool.{eqb-true, eqb-false}
 use Rattle.segment_core.specs.declared.fault.Cause.TheVariants.{Kind}
@@ -75,3 +76,6 @@ returns-clause-next c bytes is =
       whole = omega arith;
       number = c.in-Some-number_in.ensures.shown (payload_in bytes) payload_len (front_shows bytes c.args.front.now c.args.left is (omega arith));
     }
+
+pub returns-then-front-ne-OPEN_GATE-clause-next : goal.returns-then-front-ne-OPEN_GATE-clause-next
+returns-then-front-ne-OPEN_GATE-clause-next c = grind (arith, common_steps)

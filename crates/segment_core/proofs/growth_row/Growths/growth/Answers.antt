@@ -1,3 +1,4 @@
+use Rattle.std.proofs.lemmas.Grind.{common_steps}
 use Rattle.std.proofs.Common.{length, ap, sym, ◌∙◌, arith}
 use Rattle.segment_core.proofs.GrowthRows.{length-growths_from}
 use Rattle.segment_core.proofs.growth_row.Growths.growth.Goals as goal
@@ -8,3 +9,6 @@ growth_at-requires-clause-inside g c =
     let ends = ap length c.as_slice-2.ensures.value in
     let inside = c.requires in
     omega arith
+
+pub returns : goal.returns
+returns g c = grind (arith, common_steps)

@@ -1,6 +1,6 @@
 use Rattle.std.proofs.Common.{◌≡◌, length, ℕ, List, [], subst, arith, Some, None}
 use Rattle.std.proofs.lemmas.List.{append-nil}
-use Rattle.segment_core.specs.declared.scanner.Stage.TheVariants as stages
+use Rattle.segment_core.specs.declared.scanner.ScanStage.TheVariants as stages
 use Rattle.segment_core.specs.Fault.{IsRefused}
 use Rattle.segment_core.proofs.Refusals.{refused_by_header}
 use Rattle.segment_core.proofs.Fed.{fed_at, front_fault, too_short, cut_fault}

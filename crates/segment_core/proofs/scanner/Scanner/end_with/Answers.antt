@@ -1,3 +1,4 @@
+use Rattle.std.proofs.lemmas.Grind.{common_steps}
 use Rattle.std.proofs.Common.{ap, arith}
 use Rattle.std.proofs.lemmas.Result.{err_from_is_err_and}
 use Rattle.segment_core.specs.declared.tally.Tally.{Tally}
@@ -36,3 +37,6 @@ overflow_cast-scanned g c =
     let laws = g.met.R.Record g.world.𝓛 g.world.𝓜 g.world.𝓡 ((λ s x. x), (λ x. x), (λ x. x), λ x. x) in
     let ended = c.in_ok-check_end.ensures.answer c.requires.0 c.requires.1 in
     omega (arith, ended.behind.width_is, laws.width_in_range.1)
+
+pub returns-clause-lost : goal.returns-clause-lost
+returns-clause-lost g c = grind (arith, common_steps)

@@ -1,3 +1,4 @@
+use Rattle.std.proofs.lemmas.Grind.{common_steps}
 use Rattle.std.proofs.Common.{◌≡◌, ◌+◌, ◌-◌, ◌≤◌, true, List, [], ◌∷◌, ◌++◌, ℕ, length, take, drop, refl, sym, ap, subst, ◌∙◌, arith}
 use Rattle.std.specs.Prelude.{◌==◌, vec_len}
 use Rattle.std.proofs.lemmas.Bool.{eqb-true}
@@ -89,3 +90,6 @@ pub take-requires-clause-none : goal.take-requires-clause-none
 take-requires-clause-none g c κs within =
     let pending = c.loop-used.self.pending in
     no_bytes pending.items (vec_len pending) pending.ok.0 (sym c.is_empty.ensures ∙ c.if-is_empty.true)
+
+pub loop-used-init : goal.loop-used-init
+loop-used-init g c = grind (arith, common_steps)

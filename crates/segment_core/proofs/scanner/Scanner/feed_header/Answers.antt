@@ -1,5 +1,6 @@
+use Rattle.std.proofs.lemmas.Grind.{common_steps}
 use Rattle.std.proofs.Common.{◌≡◌, ◌≤◌, ◌++◌, ℕ, length, take, refl, sym, ap, ◌∙◌, arith}
-use Rattle.segment_core.specs.declared.scanner.Stage.TheVariants as stages
+use Rattle.segment_core.specs.declared.scanner.ScanStage.TheVariants as stages
 use Rattle.segment_core.specs.Fault.{header_fault}
 use Rattle.segment_core.proofs.Fed.{fed_by, front_more, length-front, goes_on_behind_header, refused_by_front}
 use Rattle.segment_core.proofs.scanner.Scanner.feed_header.Goals as goal
@@ -43,3 +44,18 @@ returns-else-self-eq-HEADER_LEN-clause-fed g c = λ image front. (
     let short = front.short in
     fed_by form (image ++ take used c.args.piece.now) _ stages.Header c.requires.stage
     (record { short = omega arith; filled = sym long; kept = bytes; behind = front.behind; pending = front.pending; bare = front.bare }))
+
+pub returns-in-Ok-clause-whole : goal.returns-in-Ok-clause-whole
+returns-in-Ok-clause-whole g c = grind (arith, common_steps)
+
+pub copy_from_slice-requires : goal.copy_from_slice-requires
+copy_from_slice-requires g c = grind (arith, common_steps)
+
+pub slice_bounds-copy_from_slice-end-2 : goal.slice_bounds-copy_from_slice-end-2
+slice_bounds-copy_from_slice-end-2 g c = grind (arith, common_steps)
+
+pub returns-in-Err-clause-whole : goal.returns-in-Err-clause-whole
+returns-in-Err-clause-whole g c = grind (arith, common_steps)
+
+pub returns-in-Ok-clause-bare : goal.returns-in-Ok-clause-bare
+returns-in-Ok-clause-bare g c = grind (arith, common_steps)

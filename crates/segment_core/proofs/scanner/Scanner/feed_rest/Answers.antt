@@ -1,5 +1,5 @@
 use Rattle.std.proofs.Common.{◌++◌, refl}
-use Rattle.segment_core.specs.declared.scanner.Stage.TheVariants as stages
+use Rattle.segment_core.specs.declared.scanner.ScanStage.TheVariants as stages
 use Rattle.segment_core.proofs.Fed.{fed_at, fed_by, fed_more}
 use Rattle.segment_core.proofs.scanner.Scanner.feed_rest.Goals as goal
 

@@ -1,7 +1,8 @@
-use Rattle.std.proofs.Common.{◌≡◌, ◌≢◌, ◌++◌, true, false, sym, ap, ◌∙◌, inl, inr}
+use Rattle.std.proofs.lemmas.Grind.{common_steps}
+use Rattle.std.proofs.Common.{◌≡◌, ◌≢◌, ◌++◌, true, false, sym, ap, ◌∙◌, inl, inr, arith}
 use Rattle.std.specs.Prelude.{not}
 use Rattle.segment_core.specs.declared.fault.ScanFault.TheVariants.{Memory}
-use Rattle.segment_core.specs.declared.scanner.Stage.TheVariants as stages
+use Rattle.segment_core.specs.declared.scanner.ScanStage.TheVariants as stages
 use Rattle.segment_core.proofs.Fed.{fed_at, fed_by, refused_more, ended_more}
 use Rattle.segment_core.proofs.Decided.{decided_by_fault, decided_at_end, cut_short}
 use Rattle.segment_core.proofs.scanner.Scanner.is_decided.Goals as goal
@@ -42,3 +43,9 @@ returns-after-matches-clause-same g c = λ yes image fed. (
       | in_default w ↦ w.in_default.not-Memory
     ] in
     decided_by_fault form image c.in-Refused.fault laws.width_in_range.1 other (fed_at form image c.args.self.now stage c.in-Refused.is fed))
+
+pub returns-after-matches-clause-cut : goal.returns-after-matches-clause-cut
+returns-after-matches-clause-cut g c = grind (arith, common_steps)
+
+pub returns-in-Header-clause-same : goal.returns-in-Header-clause-same
+returns-in-Header-clause-same g c = grind (arith, common_steps)

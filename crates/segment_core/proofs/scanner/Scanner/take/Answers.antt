@@ -2,7 +2,7 @@ use Rattle.std.proofs.Common.{◌≡◌, ◌-◌, List, ◌++◌, ℕ, length, t
 use Rattle.std.proofs.lemmas.List.{length-append, take_rest}
 use Rattle.std.proofs.lemmas.Result.{err_from_is_err_and}
 use Rattle.segment_core.specs.declared.scanner.Scanner.{Scanner}
-use Rattle.segment_core.specs.declared.scanner.Stage.TheVariants as stages
+use Rattle.segment_core.specs.declared.scanner.ScanStage.TheVariants as stages
 use Rattle.segment_core.proofs.Fed.{sound_more, refused_by_walk, memory_for, after_closed, after_short, stands_behind_pending}
 use Rattle.segment_core.proofs.scanner.Scanner.take.Goals as goal
 

@@ -1,3 +1,4 @@
+use Rattle.std.proofs.lemmas.Grind.{common_steps}
 use Rattle.std.proofs.Common.{◌≡◌, ◌+◌, ℕ, true, List, Ok, Some, Err, length, drop, ap, subst, ◌∙◌, arith, inl, inr}
 use Rattle.std.proofs.lemmas.List.{take_rest, drop-drop}
 use Rattle.std.proofs.lemmas.Result.{err_from_is_err_and}
@@ -94,3 +95,12 @@ pub returns-in-Err-Short-clause-tail : goal.returns-in-Err-Short-clause-tail
 returns-in-Err-Short-clause-tail g c =
     let next = rw c.in-Err-Short.field-0-is at c.in-Err-Short.ensures in
     (c.loop-frame.invariant.inside, subst (IsShort c.loop-frame.self.shape c.loop-frame.self.at) (take_rest c.args.bytes.now c.loop-frame.used) next)
+
+pub overflow_add-used : goal.overflow_add-used
+overflow_add-used g c = grind (arith, common_steps)
+
+pub loop-frame-smaller : goal.loop-frame-smaller
+loop-frame-smaller g c = grind (arith, common_steps)
+
+pub step-requires-clause-whole : goal.step-requires-clause-whole
+step-requires-clause-whole g c = grind (arith, common_steps)

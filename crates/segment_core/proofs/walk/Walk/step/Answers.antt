@@ -1,3 +1,4 @@
+use Rattle.std.proofs.lemmas.Grind.{common_steps}
 use Rattle.std.proofs.Common.{◌+◌, [], ◌∷◌, ◌++◌, length, refl, ap, subst, ◌∙◌, arith}
 use Rattle.segment_core.specs.declared.format.Shape.{Shape}
 use Rattle.segment_core.specs.Frame.{frame_text}
@@ -35,3 +36,9 @@ returns-clause-ok g c = λ frames behind. (
           subst (λ (s : Shape). IsFound g.R.Record.form s.format (frames ++ seen.frame ∷ []) c.take.new.self) same
           (c.in-Ok.ensures frames (stands_next g.R.Record.form frames c.args.self.now seen behind c.requires.at same c.requires.whole may));
     }))
+
+pub take-requires-after_bounds : goal.take-requires-after_bounds
+take-requires-after_bounds g c κs within = grind (arith, common_steps)
+
+pub returns-in-Err-clause-err : goal.returns-in-Err-clause-err
+returns-in-Err-clause-err g c = grind (arith, common_steps)
