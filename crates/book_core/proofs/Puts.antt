@@ -1,6 +1,6 @@
 -- A growth behind those that a seat knows, of which its own are just those that it made.
 use Rattle.std.proofs.Common.{◌≡◌, ℕ, ◌+◌, ◌<◌, ◌≤◌, List, [], ◌∷◌, ◌++◌, length, take, refl, ap, sym, subst, ◌∙◌, arith}
-use Rattle.std.proofs.lemmas.List.{length_push}
+use Rattle.std.proofs.lemmas.List.{length-take, length_push}
 use Rattle.std.proofs.Math.Seq.{take-length}
 use Rattle.block_core.specs.Growth.{Growth}
 use Rattle.directory_core.specs.Chain.{total, IsPrefix}
@@ -9,7 +9,7 @@ use Rattle.book_core.specs.declared.seat.Receipt.{Receipt}
 use Rattle.book_core.specs.Marks.{MarkEnd}
 use Rattle.book_core.specs.Lists.{Phase, Seated, opening_of, own_of}
 use Rattle.book_core.specs.Growing.{SeatLearns, Grown, growth_of}
-use Rattle.book_core.proofs.Owns.{own_of-all, own_of-push}
+use Rattle.book_core.proofs.Owns.{own_of-all, own_of-push, take-begins}
 
 -- what contracts see of a seat that has these
 abbrev pub seated : {R : Type 0} → ℕ → ℕ → Known R → MarkEnd → Seated R
@@ -25,6 +25,25 @@ module _ {R : Type 0} (id checked : ℕ) (pass new : Known R) (mark : MarkEnd) w
     made = ap (λ (es : List (Growth R)). own_of id (take checked es)) same;
     begins = subst (λ (es : List (Growth R)). IsPrefix pass.entries es) (sym same) (take-length pass.entries);
   }
+
+  -- it knows more, and of its own growths those that it made
+  pub learnt_made : IsPrefix pass.entries new.entries → checked ≤ length pass.entries → own_of id (take checked new.entries) ≡ own_of id (take checked pass.entries)
+  learnt_made begins le = ap (own_of id) (take-begins pass.entries new.entries checked begins le)
+
+  pub learnt : new.of ≡ pass.of → IsPrefix pass.entries new.entries → checked ≤ length pass.entries → (now : ℕ)
+      → own_of id (take now new.entries) ≡ own_of id (take checked new.entries) → SeatLearns (seated id checked pass mark) (seated id now new mark)
+  learnt of begins le now same = record { id = refl; mark = refl; of = of; made = same ∙ learnt_made begins le; begins = begins }
+
+  pub learnt_kept : (serial : ℕ) → IsPrefix pass.entries new.entries
+      → (serial ≡ length (own_of id (take checked pass.entries))) × (serial ≤ checked) × (checked ≤ length pass.entries)
+      → (now : ℕ) → own_of id (take now new.entries) ≡ own_of id (take checked new.entries) → checked ≤ now → now ≤ length new.entries
+      → (serial ≡ length (own_of id (take now new.entries))) × (serial ≤ now) × (now ≤ length new.entries)
+  learnt_kept serial begins was now same le inside =
+      let few = was.1 in
+      (was.0 ∙ ap length (sym (same ∙ learnt_made begins was.2)), omega arith, inside)
+
+  pub no_shorter : IsPrefix pass.entries new.entries → length pass.entries ≤ length new.entries
+  no_shorter begins = let long = ap length begins in omega (arith, long, length-take (length pass.entries) new.entries)
 
   module _ (serial number before : ℕ) (records : List R) (own : own_of id pass.entries ≡ own_of id (take checked pass.entries))
       (number_is : number ≡ length pass.entries) (before_is : before ≡ total pass.entries) (serial_is : serial ≡ length (own_of id (take checked pass.entries)))

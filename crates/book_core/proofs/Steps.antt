@@ -11,7 +11,7 @@ use Rattle.book_core.specs.declared.fault.GrowFault.TheVariants.{Closed, Full, T
 use Rattle.book_core.specs.declared.seat.Receipt.{Receipt}
 use Rattle.book_core.specs.Lists.{Phase, Seated}
 use Rattle.book_core.specs.Appending.{Appending, IsFlushRefusal, IsAppendRefusal}
-use Rattle.book_core.specs.Growing.{SeatLearns, growth_of, Grown, FillsOrReaches, size_of, IsBookRefusal, IsFillRefusal}
+use Rattle.book_core.specs.Growing.{SeatLearns, growth_of, Grown, FillsOrReaches, size_of, IsBookRefusal, IsFillRefusal, IsLookFault}
 
 pub begins-trans : {X : Type 0} (xs ys zs : List X) → IsPrefix xs ys → IsPrefix ys zs → IsPrefix xs zs
 begins-trans xs ys zs a b =
@@ -75,3 +75,22 @@ append_refused live a (Strayed n) full why = (full, why)
 append_refused live a Memory full why = tt
 append_refused live a Empty full why = (full, why)
 append_refused live a TooLarge full why = (full, why)
+
+-- what a look finds refuses a growth
+pub book_from_look : {R : Type 0} (live : Phase R) (seat : Seated R) (len : ℕ) (fault : GrowFault) → IsLookFault seat fault → IsBookRefusal live seat len fault
+book_from_look live seat len (Strayed n) is = is
+book_from_look live seat len Closed is = absurd is
+book_from_look live seat len Full is = absurd is
+book_from_look live seat len TooLong is = absurd is
+book_from_look live seat len Memory is = absurd is
+book_from_look live seat len Empty is = absurd is
+book_from_look live seat len TooLarge is = absurd is
+
+pub fill_from_look : {R : Type 0} (width : ℕ) (live : Phase R) (seat : Seated R) (n : ℕ) (fault : GrowFault) → IsLookFault seat fault → IsFillRefusal width live seat n fault
+fill_from_look width live seat n (Strayed k) is = is
+fill_from_look width live seat n Closed is = absurd is
+fill_from_look width live seat n Full is = absurd is
+fill_from_look width live seat n TooLong is = absurd is
+fill_from_look width live seat n Memory is = absurd is
+fill_from_look width live seat n Empty is = absurd is
+fill_from_look width live seat n TooLarge is = absurd is
