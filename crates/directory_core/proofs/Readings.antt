@@ -56,6 +56,15 @@ joined_rest (f ∷ es) (suc g) e place is lt =
     rw add_assoc (drop_past f.records (joined es) (total (take g es) + place)) in
     rw (sum, at) (joined_rest es g e place is lt)
 
+-- the first record that is lent
+pub piece_first : {R : Type 0} (records piece : List R) (i : ℕ) (r : R) → 0 < length piece → piece ≡ take (length piece) (drop i records) → r ≡ get_or piece 0 r
+    → slice_get records i ≡ Some r
+piece_first records [] i r some is at = absurd (omega arith)
+piece_first [] (p ∷ ps) zero r some is at = absurd cc
+piece_first [] (p ∷ ps) (suc i) r some is at = absurd cc
+piece_first (x ∷ xs) (p ∷ ps) zero r some is at = let first : p ≡ x = cc in ap Some (sym (at ∙ first))
+piece_first (x ∷ xs) (p ∷ ps) (suc i) r some is at = piece_first xs (p ∷ ps) i r some is at
+
 -- one more note of a row of cells
 pub cells_more : {C U : Type 0} (name : C → ℕ) (cells : List C) (i : ℕ) (cell : C) (notes : List (Note U)) (note : Note U) → i < length cells
     → cell ≡ get_or cells i cell → cells_of notes ≡ take i (map name cells) → note.cell ≡ name cell
