@@ -1,5 +1,6 @@
 -- What a note that knows its cell reads there, and the records that are lent.
-use Rattle.std.proofs.Common.{◌≡◌, ℕ, zero, suc, ◌+◌, ◌-◌, ◌<◌, ◌≤◌, List, [], ◌∷◌, ◌++◌, length, get_or, take, drop, slice_get, Some, None, Option, refl, ap, sym, ◌∙◌, arith, MatchOption, Bor, zero-add, add_assoc, le_of_lt, map, ap₂}
+use Rattle.std.proofs.Common.{◌≡◌, ℕ, zero, suc, ◌+◌, ◌-◌, ◌<◌, ◌≤◌, List, [], ◌∷◌, ◌++◌, length, get_or, take, drop, slice_get}
+use Rattle.std.proofs.Common.{Some, None, Option, refl, ap, sym, ◌∙◌, arith, MatchOption, Bor, zero-add, add_assoc, le_of_lt, map, ap₂}
 use Rattle.std.proofs.lemmas.Option.{slice_get_past}
 use Rattle.std.proofs.lemmas.List.{drop-append-le, take_at, take_rest, drop_at, drop-drop, map-append, map_more, take-map, length-drop}
 use Rattle.std.proofs.lemmas.List.Sums.{sum_by-cons}

@@ -123,9 +123,9 @@ module _ {R D : Type 0} {form : Encoding R} {keeps : Type 0} {f : FlusherOf R D}
       ap (λ (t : Tally). t.size) counts.tally_is ∙ sym (ap (λ (j : _). (tally_with f.pen.tally j).size) was.1) ∙ is.size_then in
       let cells : keeps' → AreCellsOf form pen.vector (list_to f f.taken) =
       λ model.
-          let gains = subst (λ (j : _). IfSome j (λ job. FileGains job.frame f.pen pen)) was.1 (subst (FileTicked f.pen pen) done (file model)) in
-          subst (λ (cells : List (List ℕ)). AreCellsOf form cells (list_to f f.taken))
-          (ap (vector_with f.pen.shape f.pen.vector) was.1 ∙ sym gains.vector_is) (is.file_then (back model)) in
+      let gains = subst (λ (j : _). IfSome j (λ job. FileGains job.frame f.pen pen)) was.1 (subst (FileTicked f.pen pen) done (file model)) in
+      subst (λ (cells : List (List ℕ)). AreCellsOf form cells (list_to f f.taken))
+      (ap (vector_with f.pen.shape f.pen.vector) was.1 ∙ sym gains.vector_is) (is.file_then (back model)) in
       kept pen f.taken f.taken keeps' counts.shape_same (omega arith) (omega arith) is.taken_known (λ _. refl) size
       (ap (λ (j : _). (tally_with pen.tally j).size) counts.job_done ∙ size) back cells
       (λ model. subst (λ (cells : List (List ℕ)). AreCellsOf form cells (list_to f f.taken)) (sym (vector_after-none pen counts.job_done)) (cells model))

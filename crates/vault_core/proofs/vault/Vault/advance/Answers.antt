@@ -61,7 +61,7 @@ returns-clause-time g c =
     let none = subst (IsLaneTicked Log old mid) idle c.in_ok-tick.ensures.ticked in
     subst
     (λ (pen : PenOf g.row.D.Denot).
-        MatchResult c.tick-2.result (λ _. behind + calls_left new ≤ clock (g.D.Disk.states pen.disk) + calls_left pen)
-        (λ _. behind ≤ clock (g.D.Disk.states pen.disk) + calls_left pen))
+    MatchResult c.tick-2.result (λ _. behind + calls_left new ≤ clock (g.D.Disk.states pen.disk) + calls_left pen)
+    (λ _. behind ≤ clock (g.D.Disk.states pen.disk) + calls_left pen))
     none.1
     (lane_time Home mid new (clock (g.D.Disk.states mid.disk)) behind c.tick-2.result c.tick-2.ensures.time c.tick-2.ensures.whole c.tick-2.ensures.ticked)
