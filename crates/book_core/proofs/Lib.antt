@@ -2,6 +2,7 @@ pub mod BlockEnds
 pub mod MarkMoves
 pub mod Owns
 pub mod PieceLists
+pub mod Puts
 pub mod ShownLists
 pub mod Slices
 pub mod Steps

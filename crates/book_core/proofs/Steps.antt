@@ -1,6 +1,7 @@
 -- What a seat does in two steps.
-use Rattle.std.proofs.Common.{◌≡◌, ℕ, ◌-◌, ◌<◌, ◌≤◌, List, [], ◌∷◌, ◌++◌, length, take, replicate, Option, Some, None, Result, Ok, Err, ap, sym, subst, ◌∙◌, arith}
+use Rattle.std.proofs.Common.{◌≡◌, ℕ, ◌-◌, ◌<◌, ◌≤◌, List, [], ◌∷◌, ◌++◌, length, take, replicate, Option, Some, None, Result, Ok, Err, refl, ap, sym, subst, ◌∙◌, arith}
 use Rattle.std.proofs.lemmas.List.{length-take, take-take}
+use Rattle.std.proofs.Math.Seq.{take-length}
 use Rattle.block_core.specs.Growth.{Growth}
 use Rattle.block_core.specs.Length.{IsBlockLength}
 use Rattle.directory_core.specs.Chain.{total, IsPrefix}
@@ -9,12 +10,16 @@ use Rattle.book_core.specs.declared.fault.GrowFault.{GrowFault}
 use Rattle.book_core.specs.declared.fault.GrowFault.TheVariants.{Closed, Full, TooLong, Strayed, Memory, Empty, TooLarge}
 use Rattle.book_core.specs.declared.seat.Receipt.{Receipt}
 use Rattle.book_core.specs.Lists.{Phase, Seated}
-use Rattle.book_core.specs.Growing.{SeatLearns, growth_of, Grown, FillsOrReaches, size_of, IsBookRefusal, IsFillRefusal}
+use Rattle.book_core.specs.Appending.{Appending, IsFlushRefusal, IsAppendRefusal}
+use Rattle.book_core.specs.Growing.{SeatLearns, growth_of, Grown, FillsOrReaches, size_of, IsBookRefusal, IsFillRefusal, IsLookFault}
 
 pub begins-trans : {X : Type 0} (xs ys zs : List X) → IsPrefix xs ys → IsPrefix ys zs → IsPrefix xs zs
 begins-trans xs ys zs a b =
     let long : length xs ≤ length ys = let l = ap length a in omega (arith, length-take (length xs) ys) in
     sym (take-take (length xs) (length ys) zs long) ∙ (ap (λ (ws : List _). take (length xs) ws) b ∙ a)
+
+pub learns-refl : {R : Type 0} (a : Seated R) → SeatLearns a a
+learns-refl a = record { id = refl; mark = refl; of = refl; made = refl; begins = take-length a.pass.entries }
 
 pub learns-trans : {R : Type 0} (a b c : Seated R) → SeatLearns a b → SeatLearns b c → SeatLearns a c
 learns-trans a b c ab bc = record {
@@ -60,3 +65,32 @@ fill_from_book width live seat n short (Strayed k) less is block fits told = tol
 fill_from_book width live seat n short Memory less is block fits told = (told.0, told.1, less, subst (λ (m : ℕ). IsBlockLength width m) is block, fits)
 fill_from_book width live seat n short Empty less is block fits told = told
 fill_from_book width live seat n short TooLarge less is block fits told = absurd told
+
+-- what the book refuses of a full block
+pub append_refused : {R : Type 0} (live : Phase R) (a : Appending R) (fault : GrowFault) → length a.kept ≡ a.room → IsFlushRefusal live a fault → IsAppendRefusal live a fault
+append_refused live a Closed full why = (full, why)
+append_refused live a Full full why = (full, why)
+append_refused live a TooLong full why = (full, why)
+append_refused live a (Strayed n) full why = (full, why)
+append_refused live a Memory full why = tt
+append_refused live a Empty full why = (full, why)
+append_refused live a TooLarge full why = (full, why)
+
+-- what a look finds refuses a growth
+pub book_from_look : {R : Type 0} (live : Phase R) (seat : Seated R) (len : ℕ) (fault : GrowFault) → IsLookFault seat fault → IsBookRefusal live seat len fault
+book_from_look live seat len (Strayed n) is = is
+book_from_look live seat len Closed is = absurd is
+book_from_look live seat len Full is = absurd is
+book_from_look live seat len TooLong is = absurd is
+book_from_look live seat len Memory is = absurd is
+book_from_look live seat len Empty is = absurd is
+book_from_look live seat len TooLarge is = absurd is
+
+pub fill_from_look : {R : Type 0} (width : ℕ) (live : Phase R) (seat : Seated R) (n : ℕ) (fault : GrowFault) → IsLookFault seat fault → IsFillRefusal width live seat n fault
+fill_from_look width live seat n (Strayed k) is = is
+fill_from_look width live seat n Closed is = absurd is
+fill_from_look width live seat n Full is = absurd is
+fill_from_look width live seat n TooLong is = absurd is
+fill_from_look width live seat n Memory is = absurd is
+fill_from_look width live seat n Empty is = absurd is
+fill_from_look width live seat n TooLarge is = absurd is

@@ -148,7 +148,10 @@ impl<R: Record> Live<R> {
         ensures fault { IfErr result (IsCopiesRefusal R.form.width self.now seat.new n) }
     {
         let fresh = Fresh::filled(self.alloc, n, v)?;
-        self.grow(rt, seat, fresh).map_err(|(_, fault)| fault)
+        match self.grow(rt, seat, fresh) {
+            Ok(receipt) => Ok(receipt),
+            Err((_, fault)) => Err(fault),
+        }
     }
 
     /// Grows by copies of the records.
@@ -164,7 +167,10 @@ impl<R: Record> Live<R> {
         ensures fault { IfErr result (IsCopiesRefusal R.form.width self.now seat.new (length records.now)) }
     {
         let fresh = Fresh::from_slice(self.alloc, records)?;
-        self.grow(rt, seat, fresh).map_err(|(_, fault)| fault)
+        match self.grow(rt, seat, fresh) {
+            Ok(receipt) => Ok(receipt),
+            Err((_, fault)) => Err(fault),
+        }
     }
 
     /// Grows by one record.
@@ -256,7 +262,9 @@ impl<R: Record> Live<R> {
         let Ok(fresh) = Fresh::filled(self.alloc, short, v) else {
             return Err(GrowFault::Memory);
         };
-        let receipt = self.put(seat, fresh).map_err(|(_, fault)| fault)?;
-        Ok(Some(receipt))
+        match self.put(seat, fresh) {
+            Ok(receipt) => Ok(Some(receipt)),
+            Err((_, fault)) => Err(fault),
+        }
     }
 }

@@ -42,7 +42,7 @@ pub enum CrewFault<R: Record, D: Disk> {
 
 /// Growers that have come home.
 #[derive(Drop)]
-struct Home<R: Record> {
+struct Returned<R: Record> {
     seats: Vec<Seat<R>>,
     receipts: Vec<Vec<Receipt>>,
     faults: Vec<Option<GrowFault>>,
@@ -126,7 +126,7 @@ fn come_home<R: Record, S: Source<R>, G: Gate, E: Threads>(
     seats: Vec<Seat<R>>,
     receipts: Vec<Vec<Receipt>>,
     faults: Vec<Option<GrowFault>>,
-) -> Home<R>
+) -> Returned<R>
     requires sent { AreSent _live.now _source.now _gate.now (vec_len sent) sent.items }
     requires none { (vec_len seats ≡ 0) × (vec_len receipts ≡ 0) × (vec_len faults ≡ 0) }
     requires room { (vec_len sent ≤ vec_capacity seats) × (vec_len sent ≤ vec_capacity receipts) × (vec_len sent ≤ vec_capacity faults) }
@@ -146,7 +146,7 @@ fn come_home<R: Record, S: Source<R>, G: Gate, E: Threads>(
         receipts.push_reserved(its);
         faults.push_reserved(fault);
     }
-    Home {
+    Returned {
         seats,
         receipts,
         faults,
@@ -162,7 +162,7 @@ fn grow_all<R: Record, S: Source<R>, G: Gate, E: Threads + Wait + Sync>(
     gate: &G,
     seats: Vec<Seat<R>>,
     rows: Rows<R, S, G>,
-) -> Home<R>
+) -> Returned<R>
     requires seats { AreNewSeats live.now.directory live.now.mark seats.items }
     requires growers { (vec_len seats ≡ S.growers_of source.now) × (rows.growers ≡ vec_len seats) }
     ensures { AreHome R.form.width live.now (S.count_of source.now) (S.block_of source.now) (G.may_stop gate.now) (G.has_let gate.now) (G.was_told gate.now) (vec_len seats) result.seats.items (map (λ its. its.items) result.receipts.items) result.faults.items }
@@ -172,7 +172,7 @@ fn grow_all<R: Record, S: Source<R>, G: Gate, E: Threads + Wait + Sync>(
     thread::scope(
         thread::scope_env(),
         rt,
-        move |scope| -> Home<R>
+        move |scope| -> Returned<R>
             requires { AreNewSeats live.now.directory live.now.mark seats.items × (vec_len seats ≡ S.growers_of source.now) × (rows.growers ≡ vec_len seats) }
             ensures { AreHome R.form.width live.entry.now (S.count_of source.entry.now) (S.block_of source.entry.now) (G.may_stop gate.entry.now) (G.has_let gate.entry.now) (G.was_told gate.entry.now) (vec_len seats) result.seats.items (map (λ its. its.items) result.receipts.items) result.faults.items }
         {
@@ -231,7 +231,7 @@ fn run_phase<R: Record, D: Disk + Send + Drop, S: Source<R>, G: Gate, E: Threads
     gate: &G,
     seats: Vec<Seat<R>>,
     rows: Rows<R, S, G>,
-) -> (Flusher<R, D>, Home<R>)
+) -> (Flusher<R, D>, Returned<R>)
     requires flusher { IsFlusherOf (D.keeps flusher.pen.disk) live.now flusher }
     requires seats { AreNewSeats live.now.directory live.now.mark seats.items }
     requires growers { (vec_len seats ≡ S.growers_of source.now) × (rows.growers ≡ vec_len seats) }
@@ -246,7 +246,7 @@ fn run_phase<R: Record, D: Disk + Send + Drop, S: Source<R>, G: Gate, E: Threads
             ensures of { IsFlusherOf (D.keeps result.pen.disk) live.entry.now result }
             ensures served { Serves R.form D.keeps D.states flusher result }
         { serve(rt, live, flusher) },
-        move || -> Home<R>
+        move || -> Returned<R>
             requires { AreNewSeats live.now.directory live.now.mark seats.items × (vec_len seats ≡ S.growers_of source.now) × (rows.growers ≡ vec_len seats) }
             ensures { AreHome R.form.width live.entry.now (S.count_of source.entry.now) (S.block_of source.entry.now) (G.may_stop gate.entry.now) (G.has_let gate.entry.now) (G.was_told gate.entry.now) (vec_len seats) result.seats.items (map (λ its. its.items) result.receipts.items) result.faults.items }
         { grow_and_close(rt, alloc, live, source, gate, seats, rows) },
@@ -277,7 +277,7 @@ fn grow_and_close<R: Record, S: Source<R>, G: Gate, E: Threads + Wait + Sync>(
     gate: &G,
     seats: Vec<Seat<R>>,
     rows: Rows<R, S, G>,
-) -> Home<R>
+) -> Returned<R>
     requires seats { AreNewSeats live.now.directory live.now.mark seats.items }
     requires growers { (vec_len seats ≡ S.growers_of source.now) × (rows.growers ≡ vec_len seats) }
     ensures { AreHome R.form.width live.now (S.count_of source.now) (S.block_of source.now) (G.may_stop gate.now) (G.has_let gate.now) (G.was_told gate.now) (vec_len seats) result.seats.items (map (λ its. its.items) result.receipts.items) result.faults.items }
@@ -319,7 +319,7 @@ pub fn crew<R: Record, D: Disk + Send + Drop, S: Source<R>, G: Gate, E: Threads 
         Err((vault, fault)) => return Err(CrewFault::Share(vault, fault)),
     };
     let (flusher, home) = run_phase(rt, alloc, &live, flusher, source, gate, seats, rows);
-    let Home {
+    let Returned {
         seats,
         receipts,
         faults,

@@ -1,11 +1,12 @@
 -- Growths one after another.
 use Rattle.std.proofs.Common.{◌≡◌, ℕ, zero, suc, ◌+◌, ◌<◌, ◌≤◌, ◌⊎◌, List, [], ◌∷◌, ◌++◌, length, get_or, take, slice_get, Some, refl, ap, sym, subst, ◌∙◌, arith, inl, inr, le_of_lt}
+use Rattle.std.proofs.Math.Seq.{take-length}
 use Rattle.std.proofs.lemmas.List.{length-take, length-take-le, take-append-le, take-take, take_at}
 use Rattle.std.proofs.lemmas.List.Concat.{length-flat_map}
 use Rattle.std.proofs.lemmas.List.Sums.{sum_by_more, sum_by_more_le}
 use Rattle.std.proofs.lemmas.Option.{slice_get_within, get_or_from_slice_get}
 use Rattle.block_core.specs.Growth.{Growth}
-use Rattle.directory_core.specs.Chain.{total, joined, IsNextGrowth, IsChained, IsPrefix}
+use Rattle.directory_core.specs.Chain.{total, joined, IsNextGrowth, IsChained, IsPrefix, IsLongerOf}
 
 pub length-joined : {R : Type 0} (es : List (Growth R)) → length (joined es) ≡ total es
 length-joined es = length-flat_map (λ (e : Growth _). e.records) es
@@ -14,6 +15,30 @@ pub begun_still : {X : Type 0} (xs ys zs : List X) → IsPrefix xs ys → IsPref
 begun_still xs ys zs a b =
     let long : length xs ≤ length ys = let l = ap length a in omega (arith, length-take (length xs) ys) in
     sym (take-take (length xs) (length ys) zs long) ∙ (ap (λ (ws : List _). take (length xs) ws) b ∙ a)
+
+-- lists with the same first elements
+pub same_below : {X : Type 0} (xs ys : List X) (n g : ℕ) → take n xs ≡ take n ys → g < n → slice_get xs g ≡ slice_get ys g
+same_below xs ys zero g same lt = absurd (omega arith)
+same_below [] [] (suc n) g same lt = refl
+same_below [] (y ∷ ys) (suc n) g same lt = absurd cc
+same_below (x ∷ xs) [] (suc n) g same lt = absurd cc
+same_below (x ∷ xs) (y ∷ ys) (suc n) zero same lt = let first : x ≡ y = cc in ap Some first
+same_below (x ∷ xs) (y ∷ ys) (suc n) (suc g) same lt = let rest : take n xs ≡ take n ys = cc in same_below xs ys n g rest (omega arith)
+
+-- the one of two lists that is no shorter, where the other begins it
+pub longer_mine : {X : Type 0} (mine theirs both : List X) → both ≡ mine → take (length theirs) mine ≡ take (length theirs) theirs → IsLongerOf mine theirs both
+longer_mine mine theirs both same begun = record {
+  begins_mine = subst (λ (xs : List _). IsPrefix mine xs) (sym same) (take-length mine);
+  begins_theirs = subst (λ (xs : List _). IsPrefix theirs xs) (sym same) (begun ∙ take-length theirs);
+  is_one = inl same;
+}
+
+pub longer_theirs : {X : Type 0} (mine theirs both : List X) → both ≡ theirs → IsPrefix mine theirs → IsLongerOf mine theirs both
+longer_theirs mine theirs both same begun = record {
+  begins_mine = subst (λ (xs : List _). IsPrefix mine xs) (sym same) begun;
+  begins_theirs = subst (λ (xs : List _). IsPrefix theirs xs) (sym same) (take-length theirs);
+  is_one = inr same;
+}
 
 -- what stands in a list that grew by one
 push_get : {X : Type 0} (xs : List X) (x : X) (g : ℕ) (y : X) → slice_get (xs ++ x ∷ []) g ≡ Some y → (slice_get xs g ≡ Some y) ⊎ ((g ≡ length xs) × (x ≡ y))

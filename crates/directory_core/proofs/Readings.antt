@@ -1,5 +1,6 @@
 -- What a note that knows its cell reads there, and the records that are lent.
-use Rattle.std.proofs.Common.{◌≡◌, ℕ, zero, suc, ◌+◌, ◌-◌, ◌<◌, ◌≤◌, List, [], ◌∷◌, ◌++◌, length, get_or, take, drop, slice_get, Some, None, Option, refl, ap, sym, ◌∙◌, arith, MatchOption, Bor, zero-add, add_assoc, le_of_lt, map, ap₂}
+use Rattle.std.proofs.Common.{◌≡◌, ℕ, zero, suc, ◌+◌, ◌-◌, ◌<◌, ◌≤◌, List, [], ◌∷◌, ◌++◌, length, get_or, take, drop, slice_get}
+use Rattle.std.proofs.Common.{Some, None, Option, refl, ap, sym, ◌∙◌, arith, MatchOption, Bor, zero-add, add_assoc, le_of_lt, map, ap₂}
 use Rattle.std.proofs.lemmas.Option.{slice_get_past}
 use Rattle.std.proofs.lemmas.List.{drop-append-le, take_at, take_rest, drop_at, drop-drop, map-append, map_more, take-map, length-drop}
 use Rattle.std.proofs.lemmas.List.Sums.{sum_by-cons}
@@ -55,6 +56,15 @@ joined_rest (f ∷ es) (suc g) e place is lt =
     let at : drop ((length f.records + total (take g es)) + place) (f.records ++ joined es) ≡ drop (total (take g es) + place) (joined es) =
     rw add_assoc (drop_past f.records (joined es) (total (take g es) + place)) in
     rw (sum, at) (joined_rest es g e place is lt)
+
+-- the first record that is lent
+pub piece_first : {R : Type 0} (records piece : List R) (i : ℕ) (r : R) → 0 < length piece → piece ≡ take (length piece) (drop i records) → r ≡ get_or piece 0 r
+    → slice_get records i ≡ Some r
+piece_first records [] i r some is at = absurd (omega arith)
+piece_first [] (p ∷ ps) zero r some is at = absurd cc
+piece_first [] (p ∷ ps) (suc i) r some is at = absurd cc
+piece_first (x ∷ xs) (p ∷ ps) zero r some is at = let first : p ≡ x = cc in ap Some (sym (at ∙ first))
+piece_first (x ∷ xs) (p ∷ ps) (suc i) r some is at = piece_first xs (p ∷ ps) i r some is at
 
 -- one more note of a row of cells
 pub cells_more : {C U : Type 0} (name : C → ℕ) (cells : List C) (i : ℕ) (cell : C) (notes : List (Note U)) (note : Note U) → i < length cells

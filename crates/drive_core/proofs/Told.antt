@@ -12,7 +12,7 @@ use Rattle.drive_core.specs.Step.{Answer}
 use Rattle.drive_core.specs.Step as step
 use Rattle.drive_core.specs.World.{World, Growth}
 use Rattle.drive_core.specs.Outcome.{struck}
-use Rattle.drive_core.specs.GrowthRows.{within, IsSettled}
+use Rattle.drive_core.specs.GrowthRows.{within, IsMarkRead}
 use Rattle.drive_core.specs.Ties.{GrowingOf, IsGrowing}
 use Rattle.drive_core.specs.GrowthTies.{GrowthStep}
 use Rattle.drive_core.proofs.Quiet.{quiet_steps, seat_row}
@@ -39,7 +39,7 @@ module _ {R D : Type 0} {m : Medium R D} {w : World R} {phase : Growth} {g : Gro
         let least : slice_index phase.told k ≤ count = (let rises = told.rises.count in let was = told_at tie.seats k at in omega (arith, rises, was)) in
         let mark = tie.mark_is in
         let w' : World R = within w hearing in
-        answered is (quiet_steps tie w' (seat_row tie inside w' (step.Told count Running) (IsSettled w phase k (step.Told count Running) w')
+        answered is (quiet_steps tie w' (seat_row tie inside w' (step.Told count Running) (IsMarkRead w phase k (step.Told count Running) w')
         (inl (inr refl, (count, least, omega (arith, most, mark), refl, refl)))) refl refl tie.calm (behind_of told_tie))
 
   -- a mark that no step made
@@ -48,5 +48,5 @@ module _ {R D : Type 0} {m : Medium R D} {w : World R} {phase : Growth} {g : Gro
   strays g' count is disk =
       let told : Answer R = step.Refused (Grow (grow.Strayed count)) in
       let w' : World R = struck w (Grow (grow.Strayed count)) in
-      answered is (quiet_steps tie w' (seat_row tie inside w' told (IsSettled w phase k told w')
+      answered is (quiet_steps tie w' (seat_row tie inside w' told (IsMarkRead w phase k told w')
       (inr (Grow (grow.Strayed count), inl (Grow (grow.Strayed count), refl, refl), refl, refl))) refl refl refl (strayed_behind tie w' count disk refl refl))

@@ -19,7 +19,7 @@ use Rattle.drive_core.specs.Step.{Answer}
 use Rattle.drive_core.specs.Step as step
 use Rattle.drive_core.specs.World.{World, Hand, Growth, vector_at}
 use Rattle.drive_core.specs.Outcome.{elsewhere}
-use Rattle.drive_core.specs.GrowthRows.{within, knowing, put_lines, IsLook, IsSettled}
+use Rattle.drive_core.specs.GrowthRows.{within, knowing, put_lines, IsLook, IsMarkRead}
 use Rattle.drive_core.specs.LaneRows.{device_lines}
 use Rattle.drive_core.specs.OpeningRows.{AreCallsOfMaking}
 use Rattle.drive_core.specs.Run.{CreateCalls, OpenFaultCalls}
@@ -97,7 +97,7 @@ count_in (step.Told n state) = n
 count_in other = 0
 
 -- before the mark is raised it tells 0
-tells_none : (n : ℕ) (after : World ℕ) → IsSettled two both 0 (step.Told n Running) after → n ≡ 0
+tells_none : (n : ℕ) (after : World ℕ) → IsMarkRead two both 0 (step.Told n Running) after → n ≡ 0
 tells_none n after row = elim row [
   | inl ok ↦ (let most = ok.1.2 in let is = ap count_in ok.1.3 in omega (arith, most, is))
   | inr refused ↦ absurd (let is = refused.2 in cc)
@@ -107,7 +107,7 @@ tells_none n after row = elim row [
 abbrev raised : Growth
 raised = record both { mark = 2; told = 1 ∷ 0 ∷ [] }
 
-tells_between : (n : ℕ) (after : World ℕ) → IsSettled two raised 0 (step.Told n Running) after → (n ≡ 1) ⊎ (n ≡ 2)
+tells_between : (n : ℕ) (after : World ℕ) → IsMarkRead two raised 0 (step.Told n Running) after → (n ≡ 1) ⊎ (n ≡ 2)
 tells_between n after row = elim row [
   | inl ok ↦ (let least = ok.1.1 in let most = ok.1.2 in let is = ap count_in ok.1.3 in of n (omega (arith, least, is)) (omega (arith, most, is)))
   | inr refused ↦ absurd (let is = refused.2 in cc)

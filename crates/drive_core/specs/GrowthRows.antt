@@ -89,8 +89,8 @@ module _ {R : Type 0} where
       ((answer ≡ step.Listed (vector_at w phase (slice_index phase.known seat))) × (w' ≡ w))
       (λ fault. w' ≡ w)
 
-  abbrev pub IsSettled : World R → Growth → ℕ → Answer R → World R → Type 0
-  IsSettled w phase seat answer w' = Outcome (Might is_strayed ∷ []) answer
+  abbrev pub IsMarkRead : World R → Growth → ℕ → Answer R → World R → Type 0
+  IsMarkRead w phase seat answer w' = Outcome (Might is_strayed ∷ []) answer
       ((n : ℕ) × (slice_index phase.told seat ≤ n) × (n ≤ phase.mark) × (answer ≡ step.Told n Running) × (w' ≡ within w (record phase { told = slice_set phase.told seat n })))
       (λ fault. w' ≡ struck w fault)
 

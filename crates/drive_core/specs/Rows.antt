@@ -7,7 +7,7 @@ use Rattle.vault_core.specs.declared.fault.VaultFault.TheVariants as vault
 use Rattle.drive_core.specs.Step.{Step, Answer}
 use Rattle.drive_core.specs.Step as step
 use Rattle.drive_core.specs.World.{World, Growth, Phase, Shut, Exclusive, Growing, vector, changed, resize_command, cleared}
-use Rattle.drive_core.specs.GrowthRows.{IsPut, IsLook, IsView, IsSettled, IsTake, IsRaise, IsClose, IsGather}
+use Rattle.drive_core.specs.GrowthRows.{IsPut, IsLook, IsView, IsMarkRead, IsTake, IsRaise, IsClose, IsGather}
 use Rattle.drive_core.specs.ExclusiveRows.{IsShare, IsCommand, IsChanges, IsListing}
 use Rattle.drive_core.specs.LaneRows.{IsFold, IsLog, IsHome}
 use Rattle.drive_core.specs.OpeningRows.{IsCreate, IsOpen}
@@ -47,7 +47,7 @@ module _ {R : Type 0} (form : Encoding R) where
   GrowthRow keeps w phase (step.Put seat records) answer w' = OfSeat w answer w' (has_seat phase (Some seat)) (IsPut form.width w phase seat records answer w')
   GrowthRow keeps w phase (step.Look pass) answer w' = OfSeat w answer w' (has_seat phase pass) (IsLook w phase pass answer w')
   GrowthRow keeps w phase (step.View seat) answer w' = OfSeat w answer w' (has_seat phase (Some seat)) (IsView w phase seat answer w')
-  GrowthRow keeps w phase (step.Settled seat) answer w' = OfSeat w answer w' (has_seat phase (Some seat)) (IsSettled w phase seat answer w')
+  GrowthRow keeps w phase (step.Settled seat) answer w' = OfSeat w answer w' (has_seat phase (Some seat)) (IsMarkRead w phase seat answer w')
   GrowthRow keeps w phase step.Take answer w' = IsTake form w phase answer w'
   GrowthRow keeps w phase step.Raise answer w' = IsRaise w phase answer w'
   GrowthRow keeps w phase step.Close answer w' = IsClose w phase answer w'

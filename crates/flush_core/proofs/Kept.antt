@@ -1,6 +1,6 @@
 -- What a flusher keeps.
 use Rattle.std.proofs.Common.{◌≡◌, ℕ, ◌+◌, ◌≤◌, List, [], ◌∷◌, ◌++◌, length, take, map, None, inl, inr, refl, sym, ap, subst, ◌∙◌, arith}
-use Rattle.std.specs.Prelude.{option_to_list}
+use Rattle.std.specs.Prelude.{option_to_list, IfSome}
 use Rattle.std.proofs.lemmas.List.{append-nil}
 use Rattle.std.proofs.Math.Seq.{take-append_seam}
 use Rattle.disk_core.specs.State.{State}
@@ -10,8 +10,11 @@ use Rattle.record_core.specs.Bytes.{Encoding}
 use Rattle.record_core.specs.Cells.{AreReadAgain}
 use Rattle.segment_core.specs.Raw.{AreCellsOf}
 use Rattle.segment_core.proofs.ReadAs.{AreCellsOf-take, AreCellsOf_same}
+use Rattle.segment_core.specs.declared.tally.Tally.{Tally}
+use Rattle.pen_core.specs.declared.stage.Ticked.{Ticked}
+use Rattle.pen_core.specs.declared.stage.Ticked.TheVariants.{Done}
 use Rattle.pen_core.specs.PenOf.{PenOf}
-use Rattle.pen_core.specs.Pen.{MayOpen, vector_after}
+use Rattle.pen_core.specs.Pen.{MayOpen, IsTicked, FileTicked, FileGains, vector_after, vector_with}
 use Rattle.pen_core.proofs.Typed.{vector_after-none, MayOpen_typed}
 use Rattle.directory_core.specs.Chain.{total, joined}
 use Rattle.directory_core.specs.Known.{Known}
@@ -107,6 +110,25 @@ module _ {R D : Type 0} {form : Encoding R} {keeps : Type 0} {f : FlusherOf R D}
     where
       opening : keeps' → read_as form (take f.before pen.vector) ≡ f.opening
       opening model = opening_kept pen settled (back model) (file model)
+
+  -- the last tick of a job: what was taken is settled
+  pub ticked_kept : (pen : PenOf D) (tick : Ticked) (keeps' : Type 0) → tick ≡ Done → IsTicked f.pen pen tick → (keeps' → FileTicked f.pen pen tick) → (keeps' → keeps)
+      → IsFlusher keeps' form (flusher_of form pen f.pass f.mark f.before f.taken f.taken)
+  ticked_kept pen tick keeps' done ticked file back =
+      let was = subst (IsTicked f.pen pen) done ticked in
+      let counts = was.3 in
+      let told = is.told_settled in
+      let order = is.settled_taken in
+      let size : pen.tally.size ≡ f.before + total (take f.taken f.pass.entries) =
+      ap (λ (t : Tally). t.size) counts.tally_is ∙ sym (ap (λ (j : _). (tally_with f.pen.tally j).size) was.1) ∙ is.size_then in
+      let cells : keeps' → AreCellsOf form pen.vector (list_to f f.taken) =
+      λ model.
+      let gains = subst (λ (j : _). IfSome j (λ job. FileGains job.frame f.pen pen)) was.1 (subst (FileTicked f.pen pen) done (file model)) in
+      subst (λ (cells : List (List ℕ)). AreCellsOf form cells (list_to f f.taken))
+      (ap (vector_with f.pen.shape f.pen.vector) was.1 ∙ sym gains.vector_is) (is.file_then (back model)) in
+      kept pen f.taken f.taken keeps' counts.shape_same (omega arith) (omega arith) is.taken_known (λ _. refl) size
+      (ap (λ (j : _). (tally_with pen.tally j).size) counts.job_done ∙ size) back cells
+      (λ model. subst (λ (cells : List (List ℕ)). AreCellsOf form cells (list_to f f.taken)) (sym (vector_after-none pen counts.job_done)) (cells model))
 
   -- what the disk may leave
   pub keeps_job : keeps → (image : List ℕ) → MayOpen f.pen image → OpensToJob form f image

@@ -3,6 +3,7 @@ use Rattle.std.proofs.Common.{◌≡◌, ◌⊎◌, ℕ, ◌≤◌, ◌<◌, zer
 use Rattle.std.specs.Prelude.{MatchOption}
 use Rattle.std.specs.Int.{w64}
 use Rattle.std.proofs.Math.Seq.{take-length}
+use Rattle.std.proofs.lemmas.List.{length-take}
 use Rattle.record_core.specs.Bytes.{Encoding, unsigned, boolean}
 use Rattle.disk_core.specs.State.{State, now, IsImage}
 use Rattle.disk_core.specs.declared.fault.DiskFault.{DiskFault}
@@ -14,7 +15,7 @@ use Rattle.pen_core.specs.declared.step.Step.{Step}
 use Rattle.pen_core.specs.declared.stage.FoldStage.TheVariants as stages
 use Rattle.pen_core.specs.declared.fault.PenFault.TheVariants as faults
 use Rattle.pen_core.specs.PenOf.{PenOf, JobOf, FoldOf, HomeWrite}
-use Rattle.pen_core.specs.Pen.{MayOpen}
+use Rattle.pen_core.specs.Pen.{MayOpen, calls_due, home_calls_due}
 use Rattle.pen_core.specs.Refusals.{first_refusal, is_full}
 use Rattle.pen_core.specs.Typed.{OpensTo}
 use Rattle.block_core.specs.Growth.{Growth}
@@ -65,28 +66,28 @@ fold_ends fold step = refl
 
 module _ {D : Type 0} (pen : PenOf D) (job : JobOf) (left : List HomeWrite) where
   log_calls_one : pen.broken ≡ false → pen.job ≡ Some job → lane_calls Log pen ≡ 1
-  log_calls_one whole busy = rw (whole, busy) refl
+  log_calls_one whole busy = ap (λ b. calls_due b pen.job) whole ∙ ap (calls_due false) busy
 
   log_calls_none : pen.broken ≡ false → pen.job ≡ None → lane_calls Log pen ≡ 0
-  log_calls_none whole idle = rw (whole, idle) refl
+  log_calls_none whole idle = ap (λ b. calls_due b pen.job) whole ∙ ap (calls_due false) idle
 
   broken_calls_none : pen.broken ≡ true → (lane_calls Log pen ≡ 0) × (lane_calls Home pen ≡ 0)
-  broken_calls_none broken = rw broken (refl, refl)
+  broken_calls_none broken = (ap (λ b. calls_due b pen.job) broken, ap (λ b. home_calls_due b pen.fold) broken)
 
   home_calls_one : pen.broken ≡ false → pen.fold ≡ Some (record { count = 2; left = left; stage = stages.Home 3 }) → lane_calls Home pen ≡ 1
-  home_calls_one whole fold = rw (whole, fold) refl
+  home_calls_one whole fold = ap (λ b. home_calls_due b pen.fold) whole ∙ ap (home_calls_due false) fold
 
   home_syncs : pen.broken ≡ false → pen.fold ≡ Some (record { count = 2; left = left; stage = stages.Sync }) → lane_calls Home pen ≡ 1
-  home_syncs whole fold = rw (whole, fold) refl
+  home_syncs whole fold = ap (λ b. home_calls_due b pen.fold) whole ∙ ap (home_calls_due false) fold
 
   home_files : pen.broken ≡ false → pen.fold ≡ Some (record { count = 2; left = left; stage = stages.Ready }) → lane_calls Home pen ≡ 0
-  home_files whole fold = rw (whole, fold) refl
+  home_files whole fold = ap (λ b. home_calls_due b pen.fold) whole ∙ ap (home_calls_due false) fold
 
   home_waits : pen.broken ≡ false → pen.fold ≡ Some (record { count = 2; left = left; stage = stages.Filed }) → lane_calls Home pen ≡ 0
-  home_waits whole fold = rw (whole, fold) refl
+  home_waits whole fold = ap (λ b. home_calls_due b pen.fold) whole ∙ ap (home_calls_due false) fold
 
   home_calls_none : pen.broken ≡ false → pen.fold ≡ None → lane_calls Home pen ≡ 0
-  home_calls_none whole idle = rw (whole, idle) refl
+  home_calls_none whole idle = ap (λ b. home_calls_due b pen.fold) whole ∙ ap (home_calls_due false) idle
 
 -- ---- a flusher of three growths behind one record, of which one is settled and all are taken
 
@@ -230,7 +231,8 @@ module _ {R D : Type 0} (width : ℕ) (old new : FlusherOf R D) where
 module _ {R D : Type 0} (keeps : Type 0) (old new : FlusherOf R D) where
   -- it forgets no growth, and takes no settled one back
   no_forgetting : (e : Growth R) → old.pass.entries ≡ e ∷ [] → new.pass.entries ≡ [] → FlusherGoesOn keeps old new → ⊥
-  no_forgetting e knew none goes = let begins = goes.begins in grind (arith, ap length knew, ap length none, begins)
+  no_forgetting e knew none goes =
+      absurd (omega (arith, ap length goes.begins, length-take (length old.pass.entries) new.pass.entries, ap length knew, ap length none))
 
   no_unsettling : old.settled ≡ 1 → new.settled ≡ 0 → FlusherGoesOn keeps old new → ⊥
   no_unsettling was is goes = let up = goes.no_less_settled in absurd (omega arith)

@@ -1,6 +1,8 @@
 -- What the definitions of what a flusher learns, takes and refuses say: on worked values, and what they rule out.
-use Rattle.std.proofs.Common.{◌≡◌, ℕ, [], ◌∷◌, length, Some, None, inl, inr, refl, sym, ap, ◌∙◌, arith, codes}
+use Rattle.std.proofs.Common.{◌≡◌, ℕ, List, [], ◌∷◌, length, map, drop, Some, None, inl, inr, refl, sym, ap, ◌∙◌, arith, codes}
 use Rattle.std.specs.Fmt.{digits}
+use Rattle.std.proofs.lemmas.List.{length-take}
+use Rattle.std.proofs.lemmas.Option.{same_Some}
 use Rattle.block_core.specs.Growth.{Growth}
 use Rattle.book_core.specs.Lists.{Phase, opening_of}
 use Rattle.pen_core.specs.declared.fault.PenFault.{PenFault}
@@ -21,7 +23,8 @@ use Rattle.flush_core.specs.Refusals.{IsLaneTicked, IsLaneFault, IsNotBegun, IsT
 
 module _ {R D : Type 0} (old new : FlusherOf R D) where
   no_forgetting : (e : Growth R) → old.pass.entries ≡ e ∷ [] → new.pass.entries ≡ [] → FlusherLearns old new → ⊥
-  no_forgetting e knew none learns = let begins = learns.begins in grind (arith, ap length knew, ap length none, begins)
+  no_forgetting e knew none learns =
+      absurd (omega (arith, ap length learns.begins, length-take (length old.pass.entries) new.pass.entries, ap length knew, ap length none))
 
   -- to learn settles, takes and tells nothing
   nothing_else : FlusherLearns old new → (new.settled ≡ old.settled) × (new.taken ≡ old.taken) × (new.mark ≡ old.mark) × (new.pen ≡ old.pen)
@@ -78,7 +81,9 @@ strayed = refl
 
 module _ {D : Type 0} (f : FlusherOf ℕ D) (first second third : Growth ℕ) where
   third_alone : f.pass.entries ≡ first ∷ second ∷ third ∷ [] → f.taken ≡ 2 → untaken f ≡ third.records ∷ []
-  third_alone knows two = rw (knows, two) refl
+  third_alone knows two =
+      ap (λ (es : List (Growth ℕ)). map (λ e. e.records) (drop f.taken es)) knows
+      ∙ ap (λ n. map (λ (e : Growth ℕ). e.records) (drop n (first ∷ second ∷ third ∷ []))) two
 
 -- ---- why no group and no fold is begun
 
@@ -86,7 +91,7 @@ module _ {R D : Type 0} (width : ℕ) (f : FlusherOf R D) where
   -- a pen that isn't ready says why, and nothing else is answered
   not_ready : (fault first : PenFault) → first_refusal (ready_lines f.pen) ≡ Some first → IsTakeFault width f (Pen fault) → fault ≡ first
   not_ready fault first is why = elim why [
-    | inl same ↦ let both = sym same ∙ is in grind arith
+    | inl same ↦ same_Some fault first (sym same ∙ is)
     | inr begun ↦ absurd (let none = sym begun.ready ∙ is in cc)
   ]
 

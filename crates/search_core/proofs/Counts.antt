@@ -25,6 +25,9 @@ counts p (s ∷ slices) =
 pub few_counts : {R : Type 0} (p : R → Bool) (slices : List (Bor (List R))) → sum (map (λ s. count_by p s.now) slices) ≤ length (records_in slices)
 few_counts p slices = omega (arith, counts p slices, count_by-le-length p (records_in slices))
 
+pub count_by-append : {R : Type 0} (p : R → Bool) (xs ys : List R) → count_by p (xs ++ ys) ≡ count_by p xs + count_by p ys
+count_by-append p xs ys = sum_by-append (λ x. cond (p x) 1 0) xs ys
+
 -- ---- what an iterator lends
 
 pub take-append-past : {X : Type 0} (xs ys : List X) (n : ℕ) → take (length xs + n) (xs ++ ys) ≡ xs ++ take n ys

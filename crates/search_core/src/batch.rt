@@ -88,6 +88,19 @@ impl<'a, R: Sync> Batch<'a, R> {
         count
     }
 
+    /// Where it is full, how many of its records are picked. These are let go then.
+    fn make_room<P: Pick<R>, E: Threads + Sync>(&mut self, rt: &E, pick: &P) -> u64
+        requires few { length self.old.1 ≤ 2 ^ 32 }
+        ensures count { result + count_by (P.picks_of pick.now) self.new.1 ≡ count_by (P.picks_of pick.now) self.old.1 }
+        ensures room { self.new.0 < 512 }
+        ensures few { length self.new.1 ≤ length self.old.1 }
+    {
+        if self.is_full() {
+            return self.take_count(rt, pick);
+        }
+        0
+    }
+
     /// The place among its records of the first that is picked, if one is. Then it has none, and is full with twice as
     /// many slices: a record that stands in front is found before threads are sent far behind it.
     pub(crate) fn take_first<P: Pick<R>, E: Threads + Sync>(
@@ -119,9 +132,7 @@ impl<'a, R: Sync> Batch<'a, R> {
         let mut rest = piece;
         let mut count: u64 = 0;
         while !rest.is_empty() {
-            if self.is_full() {
-                count += self.take_count(rt, pick);
-            }
+            count += self.make_room(rt, pick);
             let (front, back) = rest.split_at(SLICE_LEN.min(rest.len()));
             self.push(front);
             rest = back;

@@ -1,6 +1,6 @@
 -- How many calls of the device the work in hand makes at most.
 use Rattle.std.proofs.Common.{◌≡◌, ◌⊎◌, ℕ, ◌+◌, ◌-◌, ◌≤◌, Bool, true, false, Option, Some, None, inl, inr, refl, ap, ◌∙◌, arith}
-use Rattle.std.specs.Prelude.{nat_lt, if◌then◌else◌, max}
+use Rattle.std.specs.Prelude.{nat_lt, if◌then◌else◌, max, Result, Ok, Err, IfOk, OnOk, MatchResult}
 use Rattle.std.proofs.lemmas.Bool.Decides.{nat_tests}
 use Rattle.segment_core.specs.Frame.{Frame, Group, Change, Shrink, Fold}
 use Rattle.pen_core.specs.Step.{steps_left}
@@ -17,6 +17,7 @@ use Rattle.flush_core.specs.declared.lane.Lane.TheVariants as lanes
 use Rattle.flush_core.specs.declared.lane.Tick.{Tick}
 use Rattle.flush_core.specs.declared.lane.Tick.TheVariants as ticks
 use Rattle.flush_core.specs.Refusals.{IsLaneTicked, lane_calls}
+use Rattle.vault_core.specs.declared.fault.VaultFault.{VaultFault}
 use Rattle.vault_core.specs.Settles.{fold_calls, calls_left}
 
 -- a call of a fold leaves one less
@@ -118,3 +119,10 @@ lane_calls-ticked lanes.Home old new ticks.Waiting whole ticked =
     let none : calls_in ticked.0.stage ≡ 0 = no_call ticked.0.stage waiting.at in
     let due : home_calls_due old.broken old.fold ≡ 0 = ap (λ b. home_calls_due b old.fold) whole ∙ ap (home_calls_due false) waiting.fold_was ∙ none in
     omega (arith, due, ap calls_left waiting.same)
+
+-- and so whatever a tick answers
+pub lane_time : {D : Type 0} (lane : Lane) (old new : PenOf D) (before behind : ℕ) (r : Result Tick VaultFault) → behind ≡ before + lane_calls lane old
+    → OnOk r ((old.broken ≡ false) × (new.broken ≡ false)) → IfOk r (λ tick. IsLaneTicked lane old new tick)
+    → MatchResult r (λ _. behind + calls_left new ≤ before + calls_left old) (λ _. behind ≤ before + calls_left old)
+lane_time lane old new before behind (Ok tick) is whole ticked = omega (arith, is, lane_calls-ticked lane old new tick whole.0 ticked)
+lane_time lane old new before behind (Err fault) is whole ticked = omega (arith, is, lane_calls-few lane old)

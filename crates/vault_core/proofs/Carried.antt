@@ -1,6 +1,6 @@
 -- What is in hand ends in the file, whatever ticks are made.
 use Rattle.std.proofs.Common.{◌≡◌, ℕ, ◌-◌, Bool, true, false, Option, Some, None, refl, sym, ap, subst, ◌∙◌}
-use Rattle.std.specs.Prelude.{nat_lt, if◌then◌else◌, IfSome}
+use Rattle.std.specs.Prelude.{nat_lt, if◌then◌else◌, IfSome, Result, Ok, Err, IfOk, OnOk, MatchResult}
 use Rattle.segment_core.specs.Frame.{Frame, Group, Change, Shrink, Fold}
 use Rattle.segment_core.specs.Tally.{after}
 use Rattle.segment_core.specs.declared.tally.Tally.{Tally}
@@ -15,6 +15,7 @@ use Rattle.flush_core.specs.declared.lane.Lane.TheVariants as lanes
 use Rattle.flush_core.specs.declared.lane.Tick.{Tick}
 use Rattle.flush_core.specs.declared.lane.Tick.TheVariants as ticks
 use Rattle.flush_core.specs.Refusals.{IsLaneTicked}
+use Rattle.vault_core.specs.declared.fault.VaultFault.{VaultFault}
 use Rattle.vault_core.specs.Commands.{FileLaneTicked}
 use Rattle.vault_core.specs.Settles.{with_stage, with_fold, with_job, tally_then, frames_then, IsFiledBy, IsOrderly, CarriesOn, StandsInFile, IsIdle}
 
@@ -161,6 +162,12 @@ module _ {D : Type 0} where
       carries-tick lanes.Home ticks.Done is file = absurd is
       carries-tick lanes.Home ticks.Filed is file = carries-filed is.0 is.1 file
       carries-tick lanes.Home ticks.Waiting is file = carries-none keeps old new is.1.same
+
+      -- whatever it answers
+      pub carries-ticked : (lane : Lane) (r : Result Tick VaultFault) → IfOk r (λ tick. IsLaneTicked lane old new tick)
+          → (keeps → MatchResult r (λ tick. FileLaneTicked lane old new tick) (λ _. FileSame old new)) → OnOk r (CarriesOn keeps old new)
+      carries-ticked lane (Ok tick) is file = carries-tick lane tick is file
+      carries-ticked lane (Err fault) is file = tt
 
       -- with nothing in hand it is all there
       pub stands : CarriesOn keeps old new → IsIdle new → StandsInFile keeps old new

@@ -64,6 +64,22 @@ pub passes : (test : Bool) (fault : PenFault) (lines : List (Bool × PenFault)) 
 passes true fault lines none = absurd cc
 passes false fault lines none = (refl, none)
 
+-- the first test that holds
+pub first_refused : (lines : List (Bool × PenFault)) (fault : PenFault) → first_refusal lines ≡ Some fault → IsRefusal lines fault
+first_refused lines fault is = subst (λ (o : Option PenFault). MatchOption o (fault ≡ faults.Memory) (λ first. fault ≡ first)) (sym is) refl
+
+pub unchanged-refl : {D : Type 0} (pen : PenOf D) → IsUnchanged pen pen
+unchanged-refl pen = record {
+  disk_same = refl;
+  file_same = record { frames_same = refl; vector_same = refl };
+  job_same = refl;
+  broken_same = refl;
+  shape_same = refl;
+  fold_same = refl;
+  tally_same = refl;
+  gate_same = refl;
+}
+
 pub memory_refused : (lines : List (Bool × PenFault)) → first_refusal lines ≡ None → IsRefusal lines faults.Memory
 memory_refused lines none = at (first_refusal lines) none
   where

@@ -32,6 +32,15 @@ use Rattle.vault_core.proofs.Carried.{carries-trans}
 
 -- ---- stretches
 
+-- of a later stretch, where the pen broke in none before
+settle_fault_behind : {D : Type 0} (old mid new : PenOf D) → old.broken ≡ false → mid.broken ≡ false → (fault : VaultFault) → IsSettleFault mid new fault → IsSettleFault old new fault
+settle_fault_behind old mid new was whole (Pen fault) is = elim is [
+  | inl barred ↦ absurd (let yes = barred.1 in cc)
+  | inr broke ↦ inr (broke.0, broke.1, was, broke.3)
+]
+settle_fault_behind old mid new was whole (Unsettled number) is = is
+settle_fault_behind old mid new was whole WrongPhase is = is
+
 module _ {R D : Type 0} (form : Encoding R) (keeps : D → Type 0) (states : D → List State) (faults : D → ℕ) where
   -- what a vault that is sure may hold, one of the same list may
   holds_list : (old mid : VaultOf R D) → mid.blocks ≡ old.blocks → mid.sure ≡ list_of mid → (image : List ℕ) → MayHold form mid image → MayHold form old image
@@ -95,6 +104,23 @@ module _ {R D : Type 0} (form : Encoding R) (keeps : D → Type 0) (states : D �
     settles_time n le = elim so_far [
       | inl same ↦ subst (λ (v : VaultOf R D). clock (states new.pen.disk) + n ≤ clock (states v.pen.disk) + calls_left v.pen) same le
       | inr first ↦ (let before = first.time in omega (arith, le, before))
+    ]
+
+    -- what is sure behind a fault
+    pub settles_sure : (keeps new.pen.disk → keeps mid.pen.disk) → new.blocks ≡ mid.blocks → keeps new.pen.disk
+        → (new.sure ≡ mid.sure) ⊎ (new.sure ≡ list_of new) → (new.sure ≡ old.sure) ⊎ (new.sure ≡ list_of new)
+    settles_sure model blocks now is = elim is [
+      | inr list ↦ inr list
+      | inl same ↦ elim so_far [
+        | inl none ↦ inl (same ∙ ap (λ (v : VaultOf R D). v.sure) none)
+        | inr first ↦ inr (same ∙ first.sure (model now) ∙ ap joined (sym blocks))
+      ]
+    ]
+
+    pub settles_refused : (fault : VaultFault) → IsSettleFault mid.pen new.pen fault → IsSettleFault old.pen new.pen fault
+    settles_refused fault is = elim so_far [
+      | inl same ↦ subst (λ (v : VaultOf R D). IsSettleFault v.pen new.pen fault) same is
+      | inr first ↦ settle_fault_behind old.pen mid.pen new.pen first.whole.0 first.whole.1 fault is
     ]
 
     -- one more

@@ -1,6 +1,6 @@
 //! The end of a growth phase.
 
-ghost use Rattle.std.specs.Prelude.{◌≡◌, ◌≢◌, ℕ, ◌≤◌, ◌<◌, ◌+◌, ◌++◌, All, HoldsAt, List, length, vec_len, vec_capacity, IfOk, IfErr, OnOk, MatchResult, MatchBool};
+ghost use Rattle.std.specs.Prelude.{◌≡◌, ◌≢◌, ℕ, ◌≤◌, ◌<◌, ◌+◌, ◌++◌, All, HoldsAt, List, length, vec_len, vec_capacity, IfSome, IfOk, IfErr, OnOk, MatchResult, MatchBool};
 ghost use Rattle.std.specs.List.{AllWithin};
 ghost use Rattle.disk_core.specs.State.{now, IsImage};
 ghost use Rattle.pen_core.specs.Typed.{OpensTo};
@@ -180,6 +180,63 @@ fn put_behind<R: Record>(row: Vec<Vec<R>>, blocks: Vec<Vec<R>>, last: Vec<R>) ->
     row
 }
 
+/// What the end of a phase takes memory for: rows for the blocks and their ends, and the records of the growths in one
+/// block.
+#[derive(Drop)]
+struct Space<R: Record> {
+    row: Vec<Vec<R>>,
+    ends: Vec<u64>,
+    last: Vec<R>,
+}
+
+/// All memory that the end of a phase takes.
+fn take_space<R: Record, D: Disk>(
+    alloc: Global,
+    live: &Live<R>,
+    flusher: &mut Flusher<R, D>,
+) -> Option<Space<R>>
+    requires of { IsFlusherOf (D.keeps flusher.old.pen.disk) live.now flusher.old }
+    ensures same { flusher.new ≡ flusher.old }
+    ensures row { IfSome result (λ space. (length space.row.items ≡ 0) × (length live.now.blocks + 1 ≤ vec_capacity space.row)) }
+    ensures ends { IfSome result (λ space. (length space.ends.items ≡ 0) × (length live.now.blocks + 1 ≤ vec_capacity space.ends)) }
+    ensures copied { IfSome result (λ space. space.last.items ≡ joined flusher.old.pass.entries) }
+    ensures in_limit { IfSome result (λ _. flusher.old.before + total flusher.old.pass.entries ≤ record_limit) }
+{
+    let count = live.block_count().saturating_add(1) as usize;
+    let row = Vec::with_capacity(alloc, count).ok()?;
+    let ends = Vec::with_capacity(alloc, count).ok()?;
+    let last = copy_growths(alloc, live, flusher).ok()?;
+    Some(Space { row, ends, last })
+}
+
+/// The memory that the end of a phase takes, where nothing is in its way.
+fn prepare<R: Record, D: Disk>(
+    alloc: Global,
+    live: &Live<R>,
+    seats: &[Seat<R>],
+    flusher: &mut Flusher<R, D>,
+) -> Result<Space<R>, VaultFault>
+    requires of { IsFlusherOf (D.keeps flusher.old.pen.disk) live.now flusher.old }
+    ensures same { flusher.new ≡ flusher.old }
+    ensures may { MatchResult result
+        (λ _. MayGather live.now seats.now flusher.old)
+        (λ fault. IsGatherFault live.now seats.now flusher.old fault) }
+    ensures stand { OnOk result (All StandInList seats.now) }
+    ensures chained { OnOk result (IsChained flusher.old.pass.entries) }
+    ensures row { IfOk result (λ space. (length space.row.items ≡ 0) × (length live.now.blocks + 1 ≤ vec_capacity space.row)) }
+    ensures ends { IfOk result (λ space. (length space.ends.items ≡ 0) × (length live.now.blocks + 1 ≤ vec_capacity space.ends)) }
+    ensures copied { IfOk result (λ space. space.last.items ≡ joined flusher.old.pass.entries) }
+    ensures in_limit { OnOk result (flusher.old.before + total flusher.old.pass.entries ≤ record_limit) }
+{
+    if let Err(fault) = check(live, seats, flusher) {
+        return Err(fault);
+    }
+    match take_space(alloc, live, flusher) {
+        Some(space) => Ok(space),
+        None => Err(VaultFault::Pen(PenFault::Memory)),
+    }
+}
+
 /// Ends a growth phase, and gives back the vault: its list is that from before the phase, and behind it all growths, each
 /// of which one of the seats made, and which are settled. A fold goes on, and so does its frame where it is in hand.
 ///
@@ -202,28 +259,21 @@ pub fn gather<R: Record, D: Disk>(
     ensures refused { IfErr result (λ g. IsGatherFault live seats.items flusher g.fault) }
 {
     let mut flusher = flusher;
-    if let Err(fault) = check(&live, seats.as_slice(), &flusher) {
-        return Err(Gathering {
-            live,
-            seats,
-            flusher,
-            fault,
-        });
-    }
-    let row = Vec::with_capacity(alloc, live.block_count() as usize + 1);
-    let ends = Vec::with_capacity(alloc, live.block_count() as usize + 1);
-    let copied = copy_growths(alloc, &live, &mut flusher);
-    let (Ok(row), Ok(ends), Ok(copied)) = (row, ends, copied) else {
-        return Err(Gathering {
-            live,
-            seats,
-            flusher,
-            fault: VaultFault::Pen(PenFault::Memory),
-        });
+    let space = match prepare(alloc, &live, seats.as_slice(), &mut flusher) {
+        Ok(space) => space,
+        Err(fault) => {
+            return Err(Gathering {
+                live,
+                seats,
+                flusher,
+                fault,
+            });
+        }
     };
     take_in_all(&live, &mut flusher, seats);
     let (pen, _pass) = flusher.into_pen();
-    let blocks = put_behind(row, live.into_blocks(), copied);
+    let Space { row, ends, last } = space;
+    let blocks = put_behind(row, live.into_blocks(), last);
     let vault = Vault {
         pen,
         blocks: Blocks::with_ends(blocks, ends),

@@ -1,38 +1,43 @@
-use Rattle.std.proofs.Common.{◌≡◌, ℕ, ◌+◌, ◌≤◌, List, ◌++◌, length, All, sym, ap, subst, ◌∙◌, rules, arith}
+use Rattle.std.proofs.Common.{◌≡◌, ◌≤◌, List, ◌++◌, length, All, sym, ap, ap₂, subst, ◌∙◌, arith}
 use Rattle.disk_core.specs.State.{now, IsImage}
 use Rattle.pen_core.specs.PenOf.{PenOf}
-use Rattle.directory_core.specs.Chain.{IsPrefix, joined, total}
-use Rattle.record_core.specs.Limits.{record_limit}
+use Rattle.directory_core.specs.Chain.{IsPrefix, joined}
 use Rattle.book_core.specs.Lists.{Seated, StandInList, records_of, joined_pieces, opening_of}
 use Rattle.flush_core.specs.Flusher.{FlusherOf, FlusherLearns, read_as}
 use Rattle.vault_core.specs.Vault.{VaultOf}
-use Rattle.vault_core.specs.Gathering.{MayGather}
+use Rattle.vault_core.specs.Gathering.{MayGather, AreOfPhase}
 use Rattle.vault_core.proofs.Endings.{all_known, whole}
 use Rattle.vault_core.proofs.Vaults.{gathered_kept, gathered_few, holds_sure}
 use Rattle.vault_core.proofs.ending.gather.Goals as goal
 
+pub take_in_all-requires-clause-of : goal.take_in_all-requires-clause-of
+take_in_all-requires-clause-of g c κs within =
+    subst (λ (f : FlusherOf _ _). AreOfPhase (g.D.Disk.keeps f.pen.disk) c.args.live c.args.seats.items f) (sym c.prepare.ensures.same) c.requires
+
 pub take_in_all-requires-clause-known : goal.take_in_all-requires-clause-known
 take_in_all-requires-clause-known g c =
-    let may = subst (λ (ss : List (Seated _)). MayGather c.args.live ss c.args.flusher) c.as_slice.ensures.value c.in_default.ensures.may in
+    let may = subst (λ (ss : List (Seated _)). MayGather c.args.live ss c.args.flusher) c.as_slice.ensures.value c.in-Ok.ensures.may in
     let known = may.known in
-    let same = ap (λ (f : FlusherOf _ _). length f.pass.entries) c.copy_growths-copied.ensures.same in
-    let few : All (λ (s : Seated _). length s.pass.entries ≤ length c.copy_growths-copied.new.flusher.pass.entries) c.args.seats.items =
+    let same = ap (λ (f : FlusherOf _ _). length f.pass.entries) c.prepare.ensures.same in
+    let few : All (λ (s : Seated _). length s.pass.entries ≤ length c.prepare.new.flusher.pass.entries) c.args.seats.items =
     λ k d lt. let le = all_known c.args.seats.items (length c.args.flusher.pass.entries) k d lt in omega arith in
     λ _ _. few
 
 pub with_ends-requires-clause-few : goal.with_ends-requires-clause-few
 with_ends-requires-clause-few g c =
-    let list : joined_pieces (records_of c.put_behind-blocks.result.items) ≡ opening_of c.args.live ++ joined c.args.flusher.pass.entries = search rules in
-    let limit : c.args.flusher.before + total c.args.flusher.pass.entries ≤ record_limit = search rules in
+    let list : joined_pieces (records_of c.put_behind-blocks.result.items) ≡ opening_of c.args.live ++ joined c.args.flusher.pass.entries =
+    c.put_behind-blocks.ensures.joined ∙ ap₂ (λ bs rs. joined_pieces bs ++ rs) c.into_blocks.ensures c.in-Ok.ensures.copied in
+    let limit = c.in-Ok.ensures.in_limit in
     let few = gathered_few (g.D.Disk.keeps c.args.flusher.pen.disk) c.args.live c.args.flusher (records_of c.put_behind-blocks.result.items) c.requires.flusher_of limit list in
     λ _ _. few
 
 pub invariant_of-vault : goal.invariant_of-vault
 invariant_of-vault g c =
-    let may = subst (λ (ss : List (Seated _)). MayGather c.args.live ss c.args.flusher) c.as_slice.ensures.value c.in_default.ensures.may in
-    let same = c.copy_growths-copied.ensures.same in
-    let list : joined_pieces (records_of c.put_behind-blocks.result.items) ≡ opening_of c.args.live ++ joined c.args.flusher.pass.entries = search rules in
-    let limit : c.args.flusher.before + total c.args.flusher.pass.entries ≤ record_limit = search rules in
+    let may = subst (λ (ss : List (Seated _)). MayGather c.args.live ss c.args.flusher) c.as_slice.ensures.value c.in-Ok.ensures.may in
+    let same = c.prepare.ensures.same in
+    let list : joined_pieces (records_of c.put_behind-blocks.result.items) ≡ opening_of c.args.live ++ joined c.args.flusher.pass.entries =
+    c.put_behind-blocks.ensures.joined ∙ ap₂ (λ bs rs. joined_pieces bs ++ rs) c.into_blocks.ensures c.in-Ok.ensures.copied in
+    let limit = c.in-Ok.ensures.in_limit in
     rw c.with_ends.ensures (
     gathered_kept g.D.Disk.keeps g.R.Record.form c.args.live c.args.flusher c.take_in_all.new.flusher (records_of c.put_behind-blocks.result.items) c.into_pen-pen.result.0
     c.requires.flusher_of may.settled limit list
@@ -42,15 +47,15 @@ invariant_of-vault g c =
 
 pub returns-clause-whole : goal.returns-clause-whole
 returns-clause-whole g c =
-    let may = subst (λ (ss : List (Seated _)). MayGather c.args.live ss c.args.flusher) c.as_slice.ensures.value c.in_default.ensures.may in
-    let stand = subst (λ (ss : List (Seated _)). All StandInList ss) c.as_slice.ensures.value c.in_default.ensures.stand in
-    let begin = subst (λ (f : FlusherOf _ _). All (λ s. IsPrefix s.pass.entries f.pass.entries) c.args.seats.items) c.copy_growths-copied.ensures.same c.take_in_all.ensures.begin in
-    whole c.args.live c.args.seats.items c.args.flusher may stand begin c.in_default.ensures.chained
+    let may = subst (λ (ss : List (Seated _)). MayGather c.args.live ss c.args.flusher) c.as_slice.ensures.value c.in-Ok.ensures.may in
+    let stand = subst (λ (ss : List (Seated _)). All StandInList ss) c.as_slice.ensures.value c.in-Ok.ensures.stand in
+    let begin = subst (λ (f : FlusherOf _ _). All (λ s. IsPrefix s.pass.entries f.pass.entries) c.args.seats.items) c.prepare.ensures.same c.take_in_all.ensures.begin in
+    whole c.args.live c.args.seats.items c.args.flusher may stand begin c.in-Ok.ensures.chained
 
 pub returns-clause-told : goal.returns-clause-told
 returns-clause-told g c = λ kept image is.
-    let may = subst (λ (ss : List (Seated _)). MayGather c.args.live ss c.args.flusher) c.as_slice.ensures.value c.in_default.ensures.may in
-    let same : c.into_pen-pen.result.0 ≡ c.args.flusher.pen = search rules in
+    let may = subst (λ (ss : List (Seated _)). MayGather c.args.live ss c.args.flusher) c.as_slice.ensures.value c.in-Ok.ensures.may in
+    let same : c.into_pen-pen.result.0 ≡ c.args.flusher.pen = c.into_pen-pen.ensures.parts.0 ∙ c.take_in_all.ensures.learns.pen_same ∙ ap (λ (f : FlusherOf _ _). f.pen) c.prepare.ensures.same in
     let d = c.disk-disk.ensures in
     let at = subst g.D.Disk.keeps (sym d.disk) kept in
     let pen = c.into_pen-pen.result.0 in

@@ -1,4 +1,5 @@
-use Rattle.book_core.proofs.Steps.{learns-trans, fill-after}
+use Rattle.std.proofs.lemmas.Result.{err_from_is_err_and}
+use Rattle.book_core.proofs.Steps.{learns-refl, learns-trans, fill-after, fill_from_look}
 use Rattle.book_core.proofs.live.Live.fill_in_turn.Goals as goal
 
 pub returns-in_default-clause-list : goal.returns-in_default-clause-list
@@ -8,3 +9,17 @@ returns-in_default-clause-list g c =
     let caught = c.catch_up.new.seat in
     fill-after c.args.self.now old caught c.fill_up-filled.new.seat c.args.n c.args.v c.fill_up-filled.result
     (learns-trans old near caught c.loop.invariant.1 c.catch_up.ensures.learns) c.fill_up-filled.ensures.list
+
+pub loop-init : goal.loop-init
+loop-init g c = (c.requires.of, learns-refl c.args.seat.now)
+
+pub returns-in_err-catch_up-clause-list : goal.returns-in_err-catch_up-clause-list
+returns-in_err-catch_up-clause-list g c =
+    let p = err_from_is_err_and c.from_residual.result c.from_residual.ensures.1 in
+    rw p.1 (learns-trans c.args.seat.now c.loop.seat c.catch_up.new.seat c.loop.invariant.1 c.catch_up.ensures.learns)
+
+pub returns-in_err-catch_up-clause-fault : goal.returns-in_err-catch_up-clause-fault
+returns-in_err-catch_up-clause-fault g c =
+    let p = err_from_is_err_and c.from_residual.result c.from_residual.ensures.1 in
+    rw (p.1, p.2)
+    (fill_from_look g.R.Record.form.width c.args.self.now c.catch_up.new.seat c.args.n c.in_err-catch_up.field-0.0 c.in_err-catch_up.ensures.fault)

@@ -9,6 +9,19 @@ use Rattle.drive_core.proofs.LookedSeat.{seat_answers, seat_strays, look_inside}
 use Rattle.drive_core.proofs.growing.Growing.look.Goals as goal
 use Rattle.drive_core.proofs.growing.Growing.look.Goals.{in-Ok, in-Err}
 
+pub look-looked-requires-clause-of : goal.look-looked-requires-clause-of
+look-looked-requires-clause-of g c κs within =
+    let inside = subst (λ (v : _). c.args.seat < length v.seats) (sym c.self.view_is) c.requires.inside in
+    let at = lent_at c.self.inside.seats.items c.args.seat c.index_mut.result.now inside c.index_mut.ensures.value in
+    c.self.invariant.1 c.args.seat c.index_mut.result.now at
+
+pub meet_in-requires-clause-inside : goal.meet_in-requires-clause-inside
+meet_in-requires-clause-inside g c κs within =
+    let inside = subst (λ (v : _). c.args.seat < length v.seats) (sym c.self.view_is) c.requires.inside in
+    let last = c.self.invariant.2 in
+    let long = length_set c.self.inside.seats.items c.args.seat c.look-looked.new.seat in
+    (omega (arith, last, long), omega (arith, inside, long))
+
 pub meet_in-requires-clause-of : goal.meet_in-requires-clause-of
 meet_in-requires-clause-of g c κs within =
     of_replaced c.self.inside.seats.items c.args.seat c.look-looked.new.seat c.self.inside.live c.self.invariant.1 c.look-looked.ensures.of

@@ -9,6 +9,25 @@ use Rattle.drive_core.proofs.Looked.{look_answers, look_strays, IsFlusherOf-lear
 use Rattle.drive_core.proofs.growing.Growing.look_flusher.Goals as goal
 use Rattle.drive_core.proofs.growing.Growing.look_flusher.Goals.{in-Ok, in-Err}
 
+pub tell-requires-clause-of : goal.tell-requires-clause-of
+tell-requires-clause-of g c κs within =
+    let s = c.self.inside in
+    let at = lent_at s.seats.items s.last c.index_mut.result.now c.self.invariant.2 c.index_mut.ensures.value in (
+      IsFlusherOf-learns g.D.Disk.keeps s.live s.flusher c.look-looked.new.self c.look-looked.ensures.learns c.self.invariant.0,
+      c.self.invariant.1 s.last c.index_mut.result.now at,
+    )
+
+pub invariant_of-self : goal.invariant_of-self
+invariant_of-self g c =
+    let s = c.self.inside in
+    let last = c.self.invariant.2 in
+    let long = length_set s.seats.items s.last c.tell.new.seat in
+    let learns = subst (λ (f : _). FlusherLearns s.flusher f) (sym c.tell.ensures.same) c.look-looked.ensures.learns in (
+      IsFlusherOf-learns g.D.Disk.keeps s.live s.flusher c.tell.new.self learns c.self.invariant.0,
+      of_replaced s.seats.items s.last c.tell.new.seat s.live c.self.invariant.1 c.tell.ensures.of,
+      omega (arith, last, long),
+    )
+
 pub invariant_of-self-2 : goal.invariant_of-self-2
 invariant_of-self-2 g c =
     let s = c.self.inside in

@@ -3,13 +3,35 @@ use Rattle.drive_core.specs.Asked.{answer_of}
 use Rattle.book_core.specs.Growing.{size_of}
 use Rattle.drive_core.specs.declared.fault.Fault.TheVariants as told
 use Rattle.drive_core.specs.Step as step
-use Rattle.drive_core.proofs.Seats.{of_replaced, lent_at}
+use Rattle.book_core.specs.Lists.{IsSeatOf}
+use Rattle.drive_core.proofs.Seats.{of_replaced, lent_at, length_set}
 use Rattle.drive_core.proofs.Put.{put_answers}
 use Rattle.drive_core.proofs.PutRefused.{put_errs, put_strays}
 use Rattle.drive_core.proofs.PutRow.{find_met, met_inside, lent_new}
 use Rattle.drive_core.proofs.Quiet.{same_hand}
 use Rattle.drive_core.proofs.growing.Growing.publish.Goals as goal
 use Rattle.drive_core.proofs.growing.Growing.publish.Goals.{in-Ok+else-receipt-self, in-Err}
+
+pub grow-grown-requires-clause-of : goal.grow-grown-requires-clause-of
+grow-grown-requires-clause-of g c κs within =
+    let inside = subst (λ (v : _). c.args.seat < length v.seats) (sym c.self.view_is) c.requires.inside in
+    let at = lent_at c.self.inside.seats.items c.args.seat c.index_mut.result.now inside c.index_mut.ensures.value in
+    c.self.invariant.1 c.args.seat c.index_mut.result.now at
+
+pub size-requires-clause-of : goal.size-requires-clause-of
+size-requires-clause-of g c κs within =
+    let s = c.self.inside in
+    let inside = subst (λ (v : _). c.args.seat < length v.seats) (sym c.self.view_is) c.requires.inside in
+    let at = lent_at s.seats.items c.args.seat c.index_mut.result.now inside c.index_mut.ensures.value in
+    let seen = lent_new s.seats.items c.args.seat c.index_mut.result.now c.grow-grown.new.seat c.index-2.result.now inside at c.index-2.ensures in
+    subst (IsSeatOf s.live) (sym seen) c.grow-grown.ensures.of
+
+pub meet_in-requires-clause-inside : goal.meet_in-requires-clause-inside
+meet_in-requires-clause-inside g c κs within =
+    let inside = subst (λ (v : _). c.args.seat < length v.seats) (sym c.self.view_is) c.requires.inside in
+    let last = c.self.invariant.2 in
+    let long = length_set c.self.inside.seats.items c.args.seat c.grow-grown.new.seat in
+    (omega (arith, inside, long), omega (arith, last, long))
 
 pub meet_in-requires-clause-of : goal.meet_in-requires-clause-of
 meet_in-requires-clause-of g c κs within =

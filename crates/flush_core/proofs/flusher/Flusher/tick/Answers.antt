@@ -1,6 +1,4 @@
-use Rattle.std.proofs.lemmas.Grind.{common_steps}
-use Rattle.std.proofs.Common.{arith, rules}
-use Rattle.flush_core.proofs.Kept.{leaves_job}
+use Rattle.flush_core.proofs.Kept.{leaves_job, ticked_kept}
 use Rattle.flush_core.proofs.flusher.Flusher.tick.Goals as goal
 
 pub returns-in-Ok-Idle-clause-images : goal.returns-in-Ok-Idle-clause-images
@@ -24,16 +22,7 @@ returns-after-tick_home-clause-images g c =
     rw (← c.self.view_is) (λ model. leaves_job c.self.invariant (c.tick_home.ensures.model model) (c.tick_home.ensures.images model))
 
 pub invariant_of-self-in-Ok-Done : goal.invariant_of-self-in-Ok-Done
-invariant_of-self-in-Ok-Done g c = record {
-  one_width = search rules;
-  told_settled = search rules;
-  settled_taken = search rules;
-  taken_known = search rules;
-  idle_settled = search rules;
-  in_limit = search rules;
-  size_is = search rules;
-  size_then = search rules;
-  opening_whole = grind (arith, common_steps);
-  file_is = grind (arith, common_steps);
-  file_then = grind (arith, common_steps);
-}
+invariant_of-self-in-Ok-Done g c =
+    let pen = c.tick_log.new.self in
+    let e = c.in-Ok-Done.ensures in
+    ticked_kept c.self.invariant pen c.in-Ok-Done.field-0 (g.D.Disk.keeps pen.disk) c.in-Ok-Done.field-0-is e.ticked e.file e.model
