@@ -1,14 +1,10 @@
 //! `cvec`: a durable vector in a file, from a shell; and segment files as hex.
 #![tactic(auto)]
 
-mod access;
-mod ending;
-mod filing;
 mod meter;
 mod noting;
 mod program;
-mod serving;
-mod telling;
+mod quiet;
 
 use crate::meter::{Behind, Meter};
 use crate::noting::Noting;
