@@ -13,7 +13,7 @@ use std::io::Read;
 use std::num::NonZeroU32;
 use text_core::{INPUT_LIMIT, Refusal, TextRecord};
 
-/// The bytes that are read at least before blocks are committed, where there are so many.
+/// The bytes that are read at least before blocks are committed, where so many are at hand.
 const BATCH_LEN: usize = 1_048_576;
 
 /// The bytes that one read asks for at most.
@@ -60,12 +60,14 @@ pub fn behind(lines: u64, refusal: Refusal) -> Refusal {
     }
 }
 
-/// Reads into the buffer until it has a batch more and ends in or behind a line that it has whole.
+/// Reads into the buffer until it has a whole line more, and either a batch or all that the reader has at hand: then a read
+/// gives less than it is asked for. So what has come is committed, and doesn't wait for more.
 fn fill<I: Read>(reader: &mut I, buffer: &mut Vec<u8>) -> Rest
     ensures { IsFilled (I.remaining reader.old) (I.remaining reader.new) buffer.old.items buffer.new.items result }
 {
     let mut piece = [0u8; PIECE_LEN];
     let mut fresh: usize = 0;
+    let mut has_line = false;
     for _ in 0..=INPUT_LIMIT {
         let Ok(n) = reader.read(&mut piece) else {
             return Rest::Unread(Refusal::Input);
@@ -77,7 +79,8 @@ fn fill<I: Read>(reader: &mut I, buffer: &mut Vec<u8>) -> Rest
             return Rest::Unread(Refusal::Memory);
         }
         fresh = fresh.saturating_add(n);
-        if fresh >= BATCH_LEN && piece[..n].contains(&b'\n') {
+        has_line = has_line || piece[..n].contains(&b'\n');
+        if has_line && (fresh >= BATCH_LEN || n < PIECE_LEN) {
             return Rest::More;
         }
         if buffer.len() > INPUT_LIMIT {
