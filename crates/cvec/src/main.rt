@@ -74,13 +74,10 @@ fn answer<W: Write, E: Threads + Wait + Clock + Sync + Copy + Send + 'static>(
         files: rt,
         progress: meter,
     };
-    let ended = run(
-        &system,
-        threads,
-        words,
-        &mut Paced::new(threads, rt),
-        output,
-    );
+    // An append commits what has come while it waits for more.
+    let is_append = words.first().is_some_and(|word| word.as_str() == "append");
+    let mut input = Paced::new(threads, rt, is_append);
+    let ended = run(&system, threads, words, &mut input, output);
     meter.end();
     tell_ended(rt, words, &ended, output.error());
     ended.status

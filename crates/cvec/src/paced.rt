@@ -81,6 +81,8 @@ enum Rest {
 struct Ahead {
     pieces: Receiver<Piece, Global>,
     free: Sender<Vec<u8>, Global>,
+    /// The buffers that the thread gets at the first read.
+    unsent: Vec<Vec<u8>>,
     /// The bytes at hand.
     bytes: Cursor<Vec<u8>>,
     rest: Rest,
@@ -88,28 +90,26 @@ struct Ahead {
     since: Option<Instant>,
 }
 
-/// A channel with free buffers.
-fn free_buffers<E: Wait>(
-    rt: &E,
-    alloc: Global,
-) -> Result<(Sender<Vec<u8>, Global>, Receiver<Vec<u8>, Global>), AllocError> {
-    let (free, buffers) = bounded(alloc, PIECES + 1)?;
+/// So many buffers.
+fn buffers(alloc: Global) -> Result<Vec<Vec<u8>>, AllocError> {
+    let mut made = Vec::with_capacity(alloc, PIECES)?;
     for _ in 0..PIECES {
-        let buffer = Vec::with_capacity(alloc, PIECE_LEN)?;
-        let _ = free.send(rt, buffer);
+        made.push(Vec::with_capacity(alloc, PIECE_LEN)?)?;
     }
-    Ok((free, buffers))
+    Ok(made)
 }
 
 impl Ahead {
-    /// Begins to read. None, where memory or the thread is refused.
+    /// Begins the thread. It reads nothing before it gets a buffer. None, where memory or the thread is refused.
     fn begin<E: Threads + Wait + Copy + Send + 'static>(
         threads: &E,
         host: &HostRuntime,
     ) -> Option<Ahead> {
-        let (free, buffers) = free_buffers(threads, host.alloc()).ok()?;
-        let (sender, pieces) = bounded(host.alloc(), PIECES).ok()?;
-        let none = Vec::with_capacity(host.alloc(), PIECE_LEN).ok()?;
+        let alloc = host.alloc();
+        let unsent = buffers(alloc).ok()?;
+        let none = Vec::with_capacity(alloc, PIECE_LEN).ok()?;
+        let (free, buffers) = bounded(alloc, PIECES + 1).ok()?;
+        let (sender, pieces) = bounded(alloc, PIECES).ok()?;
         let (rt, input) = (*threads, host.stdin());
         // The thread ends with the program, also where it waits for input then.
         let _reader = thread::spawn(
@@ -119,10 +119,20 @@ impl Ahead {
         Some(Ahead {
             pieces,
             free,
+            unsent,
             bytes: Cursor::new(none),
             rest: Rest::More,
             since: None,
         })
+    }
+
+    /// Gives the thread its buffers.
+    fn send_buffers<E: Wait>(&mut self, rt: &E) {
+        for _ in 0..PIECES {
+            if let Some(buffer) = self.unsent.pop() {
+                let _ = self.free.send(rt, buffer);
+            }
+        }
     }
 
     /// The next piece. The first one of a read is waited for; another as long as the pause isn't over.
@@ -160,6 +170,7 @@ impl Ahead {
     }
 
     fn read<E: Wait + Clock>(&mut self, rt: &E, buf: &mut [u8]) -> io::Result<usize> {
+        self.send_buffers(rt);
         let mut filled = 0;
         for _ in rt.forever() {
             filled += self.bytes.read(&mut buf[filled..])?;
@@ -177,51 +188,38 @@ impl Ahead {
     }
 }
 
-/// How standard input is read.
-#[derive(Drop)]
-enum Source {
-    /// Nothing was read yet.
-    Unread,
-    Ahead(Ahead),
-    /// Without a thread, for want of one or of memory.
-    Directly,
-}
-
-/// Standard input. A read gives less than it is asked for where no more is at hand, and a pause has passed since the first
-/// byte came behind the last such read.
+/// Standard input. Read ahead, it gives less than it is asked for where no more is at hand, and a pause has passed since the
+/// first byte came behind the last such read.
 #[derive(Drop)]
 pub struct Paced<'a, E> {
     threads: &'a E,
     host: &'a HostRuntime,
-    source: Source,
+    /// None, where the input is read directly.
+    ahead: Option<Ahead>,
 }
 
-impl<'a, E: Threads + Wait + Clock + Copy + Send + 'static> Paced<'a, E> {
-    /// Nothing is read, and no thread begun, before the first read.
-    pub fn new(threads: &'a E, host: &'a HostRuntime) -> Paced<'a, E> {
+impl<'a, E: Threads + Wait + Copy + Send + 'static> Paced<'a, E> {
+    /// Read ahead, if that is asked for, and neither memory nor a thread is refused for it. Nothing is read before the first
+    /// read.
+    pub fn new(threads: &'a E, host: &'a HostRuntime, is_ahead: bool) -> Paced<'a, E> {
+        let ahead = if is_ahead {
+            Ahead::begin(threads, host)
+        } else {
+            None
+        };
         Paced {
             threads,
             host,
-            source: Source::Unread,
-        }
-    }
-
-    fn begin(&mut self) {
-        if matches!(self.source, Source::Unread) {
-            self.source = match Ahead::begin(self.threads, self.host) {
-                Some(ahead) => Source::Ahead(ahead),
-                None => Source::Directly,
-            };
+            ahead,
         }
     }
 }
 
-impl<'a, E: Threads + Wait + Clock + Copy + Send + 'static> Read for Paced<'a, E> {
+impl<'a, E: Wait + Clock> Read for Paced<'a, E> {
     fn read(&mut self, buf: &mut [u8]) -> io::Result<usize> {
-        self.begin();
-        match &mut self.source {
-            Source::Ahead(ahead) => ahead.read(self.threads, buf),
-            Source::Unread | Source::Directly => self.host.stdin().read(buf),
+        match &mut self.ahead {
+            Some(ahead) => ahead.read(self.threads, buf),
+            None => self.host.stdin().read(buf),
         }
     }
 }
