@@ -117,11 +117,11 @@ who_may_not_use_a_file_is_told() (
     was_refused file 'you may not read and write it'
 )
 
-# Runs the program on a device that takes no more than the first 512 bytes of a file.
+# Runs the program on a device that takes no more than the first 512 bytes of a file. ./cvec has the signal ignored that
+# would kill it there.
 run_on_a_full_device() {
     status=0
     (
-        trap '' XFSZ
         ulimit -f 1
         exec "$top/cvec" "$@" <"$in" >"$out" 2>"$err"
     ) || status=$?

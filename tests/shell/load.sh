@@ -71,6 +71,63 @@ input_of_any_length_is_appended() (
     was_refused 'input too long' 'give a smaller --block'
 )
 
+# A copy of the file comes to have these lines: what an `append` has committed, while it has the file itself locked.
+copy_comes_to_have() {
+    turns=100
+    until cp "$work/t.cv" "$work/copy.cv" && run list u64 "$work/copy.cv" && printf '%b' "$1" | cmp -s - "$out"; do
+        turns=$((turns - 1))
+        [ "$turns" -gt 0 ]
+        sleep 0.1
+    done
+}
+
+lines_that_came_are_committed_while_more_are_waited_for() (
+    run create u64 "$work/t.cv"
+    mkfifo "$work/pipe"
+    "$top/crates/cvec/out/cvec" append u64 "$work/t.cv" <"$work/pipe" >"$work/first_out" 2>"$work/first_err" &
+    exec 8>"$work/pipe"
+    printf '5\n6\n7' >&8
+    copy_comes_to_have '5\n6\n'
+    printf '1\n' >&8
+    copy_comes_to_have '5\n6\n71\n'
+    exec 8>&-
+    wait "$!"
+    echo 'appended 3 growths, size 3' | cmp - "$work/first_out"
+    [ ! -s "$work/first_err" ]
+)
+
+# Of blocks only whole ones are committed so.
+whole_blocks_are_committed_while_more_is_waited_for() (
+    run create u64 "$work/t.cv"
+    mkfifo "$work/pipe"
+    "$top/crates/cvec/out/cvec" append u64 "$work/t.cv" --block=2 <"$work/pipe" >"$work/first_out" 2>"$work/first_err" &
+    exec 8>"$work/pipe"
+    printf '5\n6\n7\n' >&8
+    copy_comes_to_have '5\n6\n'
+    printf '8\n9\n' >&8
+    copy_comes_to_have '5\n6\n7\n8\n'
+    exec 8>&-
+    wait "$!"
+    echo 'appended 3 growths, size 5' | cmp - "$work/first_out"
+)
+
+# The end doesn't wait for an input that stays open.
+a_refused_line_ends_an_append_at_once() (
+    run create u64 "$work/t.cv"
+    mkfifo "$work/pipe"
+    timeout 20 "$top/crates/cvec/out/cvec" append u64 "$work/t.cv" <"$work/pipe" >"$out" 2>"$err" &
+    exec 8>"$work/pipe"
+    printf '5\nx\n' >&8
+    status=0
+    wait "$!" || status=$?
+    exec 8>&-
+    [ "$status" -eq 1 ]
+    [ "$(cat "$out")" = 'refused: line 2' ]
+    tells 'the growths of the first 1 lines stand'
+    run list u64 "$work/t.cv"
+    did '5\n'
+)
+
 # Lines are joined into growths, so many at a time; the last growth may have fewer.
 lines_are_appended_in_blocks() (
     run create u64 "$work/t.cv"

@@ -1,6 +1,6 @@
 -- A command over a file ends as what was asked for, and never with usage.
-use Rattle.std.proofs.Common.{◌≡◌, ◌≢◌, ℕ, List, sym, subst, ◌∙◌, inl, inr, ap, Result, Ok, Err}
-use Rattle.std.specs.Prelude.{Bool, Option, Some, None}
+use Rattle.std.proofs.Common.{◌≡◌, ℕ, List, sym, subst, ◌∙◌, inl, inr, Result, Ok, Err}
+use Rattle.std.specs.Prelude.{Option, Some}
 use Rattle.std.specs.Io.KnownBytes.{Keeps}
 use Rattle.record_core.specs.Bytes.{Encoding}
 use Rattle.text_core.specs.Text.{Spelling}
@@ -19,8 +19,8 @@ use Rattle.words_core.specs.declared.request.Request.{Request}
 use Rattle.sentences.specs.declared.complaint.Complaint.{Complaint}
 use Rattle.text_core.specs.declared.status.Status.{Status}
 use Rattle.text_core.specs.declared.status.Status.TheVariants as statuses
-use Rattle.cvec.specs.Complaints.{Disk, IsLeftAlone, IsRefusedBefore, IsStatStatus, IsStatusOf}
-use Rattle.cvec.specs.Commands.{HasServed, IsCommandRun, IsDone, IsOverFile, IsServedAs, IsStatRun}
+use Rattle.filing_core.specs.Complaints.{Disk, IsLeftAlone, IsStatStatus, IsStatusOf}
+use Rattle.filing_core.specs.Commands.{IsCommandRun, IsDone, IsOverFile, IsServedAs, IsStatRun}
 use Rattle.cvec.specs.Runs.{IsAskedRun, IsComplaintRun, IsToldRun, IsTypedCommandRun}
 
 -- a command doesn't end so

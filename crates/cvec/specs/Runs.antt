@@ -10,7 +10,7 @@ use Rattle.words_core.specs.declared.request.RecordType.TheVariants.{U32, U64, I
 use Rattle.words_core.specs.declared.request.Request.{Request}
 use Rattle.words_core.specs.declared.request.Request.TheVariants.{Input, File, Stat}
 use Rattle.words_core.specs.declared.request.FileTask.{FileTask}
-use Rattle.cvec.specs.Commands.{IsCommandRun, IsStatRun}
+use Rattle.filing_core.specs.Commands.{IsCommandRun, IsStatRun}
 use Rattle.text_core.specs.declared.refusal.Refusal.TheVariants as refusals
 use Rattle.text_core.specs.declared.status.Status.{Status}
 use Rattle.text_core.specs.declared.status.Status.TheVariants as statuses

@@ -1,17 +1,15 @@
 //! `cvec`: a durable vector in a file, from a shell; and segment files as hex.
 #![tactic(auto)]
 
-mod access;
-mod ending;
-mod filing;
 mod meter;
 mod noting;
+mod paced;
 mod program;
-mod serving;
-mod telling;
+mod quiet;
 
 use crate::meter::{Behind, Meter};
 use crate::noting::Noting;
+use crate::paced::Paced;
 use crate::program::{Outcome, System, run};
 use sentences::Sentence;
 use std::alloc::Global;
@@ -20,6 +18,7 @@ use std::io::{self, BufWriter, ErrorKind, IsTerminal, Write};
 use std::process::ExitCode;
 use std::sync::Wait;
 use std::thread::Threads;
+use std::time::Clock;
 use text_core::{Refusal, Status, refuse, write_text};
 use words_core::{fault_of_words, told_of, write_usage};
 
@@ -44,7 +43,11 @@ fn words_of(rt: &HostRuntime) -> io::Result<Vec<String>> {
 }
 
 /// Runs the words over standard input and output, and tells on standard error what neither of them has.
-fn run_words<E: Threads + Wait + Sync>(rt: &HostRuntime, threads: &E, words: &[String]) -> Status {
+fn run_words<E: Threads + Wait + Clock + Sync + Copy + Send + 'static>(
+    rt: &HostRuntime,
+    threads: &E,
+    words: &[String],
+) -> Status {
     let meter = Meter::new(rt, rt.stderr().is_terminal());
     let shares_terminal = rt.stdout().is_terminal();
     let behind = Behind::new(io::writer(rt), shares_terminal.then_some(&meter));
@@ -56,7 +59,7 @@ fn run_words<E: Threads + Wait + Sync>(rt: &HostRuntime, threads: &E, words: &[S
 }
 
 /// Answers the words on this output.
-fn answer<W: Write, E: Threads + Wait + Sync>(
+fn answer<W: Write, E: Threads + Wait + Clock + Sync + Copy + Send + 'static>(
     rt: &HostRuntime,
     threads: &E,
     words: &[String],
@@ -71,7 +74,10 @@ fn answer<W: Write, E: Threads + Wait + Sync>(
         files: rt,
         progress: meter,
     };
-    let ended = run(&system, threads, words, &mut rt.stdin(), output);
+    // An append commits what has come while it waits for more.
+    let is_append = words.first().is_some_and(|word| word.as_str() == "append");
+    let mut input = Paced::new(threads, rt, is_append);
+    let ended = run(&system, threads, words, &mut input, output);
     meter.end();
     tell_ended(rt, words, &ended, output.error());
     ended.status

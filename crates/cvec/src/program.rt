@@ -4,13 +4,14 @@ ghost use Rattle.std.specs.Prelude.{◌≡◌, ◌≢◌, [], ℕ, List, Option,
 ghost use Rattle.std.specs.Io.KnownBytes.{Keeps, Appends};
 ghost use Rattle.text_core.specs.Text.{ended_line};
 ghost use Rattle.words_core.specs.declared.request.Request.TheVariants as requests;
-ghost use Rattle.cvec.specs.Commands.{IsStatRun};
+ghost use Rattle.filing_core.specs.Commands.{IsStatRun};
 ghost use Rattle.cvec.specs.Runs.{IsTaskRun, IsProgramRun, IsAskedRun, IsTypedCommandRun, IsIdleRun, IsComplaintRun, IsToldRun};
 
-use crate::filing::Filing;
-use crate::telling::tell_stat;
-use files_core::{Dealt, Progress, Silent, refuse_file};
+use crate::quiet::ToldUnless;
+use files_core::{Progress, refuse_file};
+use filing_core::{Filing, tell_stat};
 use image_core::{image, show};
+use load_core::Dealt;
 use play_core::play;
 use record_core::{Flagged, Pair};
 use sentences::Complaint;
@@ -143,28 +144,14 @@ fn run_file<
 ) -> Result<Status, Complaint>
     ensures { IsTypedCommandRun words.now.record_type words.now.task (I.remaining reader.old) (W.contents writer.old) (W.contents writer.new) result }
 {
-    let alloc = system.alloc;
-    let files = system.files;
-    let file = words.file;
-    if words.quiet {
-        let progress = &Silent;
-        let filing = Filing {
-            alloc,
-            files,
-            file,
-            progress,
-        };
-        run_filing::<I, W, E, F, Silent>(&filing, rt, words, reader, writer)
-    } else {
-        let progress = system.progress;
-        let filing = Filing {
-            alloc,
-            files,
-            file,
-            progress,
-        };
-        run_filing::<I, W, E, F, P>(&filing, rt, words, reader, writer)
-    }
+    let progress = ToldUnless::quiet(words.quiet, system.progress);
+    let filing = Filing {
+        alloc: system.alloc,
+        files: system.files,
+        file: words.file,
+        progress: &progress,
+    };
+    run_filing::<I, W, E, F, ToldUnless<'_, P>>(&filing, rt, words, reader, writer)
 }
 
 /// Tells what a file has.
@@ -175,11 +162,8 @@ fn run_stat<W: Write, F: Files<File = File> + AllocGlobal, P: Progress>(
 ) -> Result<Status, Complaint>
     ensures { IsStatRun words.now.form (W.contents writer.old) (W.contents writer.new) result }
 {
-    if words.quiet {
-        tell_stat::<W, F, Silent>(system.files, &Silent, words, writer)
-    } else {
-        tell_stat::<W, F, P>(system.files, system.progress, words, writer)
-    }
+    let progress = ToldUnless::quiet(words.quiet, system.progress);
+    tell_stat::<W, F, ToldUnless<'_, P>>(system.files, &progress, words, writer)
 }
 
 /// How a run of the program ended, and what standard error has to tell of it.

@@ -12,25 +12,15 @@ use Rattle.segment_core.specs.Tally.{tally_of}
 use Rattle.segment_core.specs.declared.fault.Cause.TheVariants.{NoGate, ShortFrame}
 use Rattle.segment_core.specs.declared.fault.ScanFault.{ScanFault}
 use Rattle.segment_core.proofs.Decided.{one_fault}
-use Rattle.segment_core.specs.Written as lists
-use Rattle.block_core.specs.Growth.{Growth}
-use Rattle.directory_core.specs.Chain.{IsNextGrowth, joined}
-use Rattle.book_core.specs.Lists.{own_of}
 use Rattle.pen_core.specs.Held.{Opens}
 use Rattle.pen_core.specs.Typed.{OpensTo}
 use Rattle.pen_core.proofs.Typed.{OpensTo_same}
 use Rattle.pen_core.specs.Pen.{OpensWith}
-use Rattle.vault_core.specs.Sharing.{OpensToGrown}
 use Rattle.vault_core.specs.Vault.{OpensToEither}
-use Rattle.files_core.specs.declared.appended.Appended.{Appended}
-use Rattle.files_core.specs.Appending.{GrowthsStand, each_records}
 use Rattle.files_core.specs.Changing.{Replaces}
-use Rattle.files_core.specs.Dealt.{dealt}
 use Rattle.files_core.specs.Folding.{KeepsList, NoneLive}
-use Rattle.files_core.specs.Loading.{AllMade, IsLoaded}
 use Rattle.files_core.specs.Opened.{LeavesBeforeOr}
 use Rattle.files_core.specs.SoundFront.{IsSoundFront, closed_at}
-use Rattle.files_core.proofs.OneGrower.{all_dealt}
 
 -- a disk that is its states, all of them known
 abbrev Disk : Type 0
@@ -41,9 +31,6 @@ itself states = states
 
 abbrev known : Disk → Type 0
 known states = Unit {0}
-
-abbrev told : ℕ → ℕ → ℕ → Appended
-told growths lines size = record { growths = growths; lines = lines; size = size }
 
 -- three files: of no record, of one, and of two
 module _ {R : Type 0} (form : Encoding R) (small : form.width < 2 ^ 16) (r : R) (none one two : List ℕ)
@@ -83,130 +70,8 @@ module _ {R : Type 0} (form : Encoding R) (small : form.width < 2 ^ 16) (r : R) 
   opens_then : (image : List ℕ) → IsImage (settled one) image → OpensTo form image (r ∷ [])
   opens_then image is = subst (λ bytes. OpensTo form bytes (r ∷ [])) (sym (IsImage-settled one image is)) opens_one
 
-  -- ---- growths that stand
-
-  abbrev growth : Growth R
-  growth = record { number = 0; start = 0; seat = 0; serial = 0; records = r ∷ [] }
-
-  abbrev Stand : Disk → Appended → List (Growth R) → List (Growth R) → Type 0
-  Stand left appended made more = GrowthsStand form itself old left appended made more
-
-  one_stands : Stand later (told 1 1 1) (growth ∷ []) []
-  one_stands = record {
-    was = [];
-    file = opens_none;
-    images = leaves_one (OpensToGrown form [] (growth ∷ [])) (record { count = 1; known = omega arith; opens = opens_one });
-    settled = λ image is. record { count = 0; known = omega arith; opens = opens_then image is };
-    size_is = refl;
-    growths_are = refl;
-  }
-
-  -- one that was begun may stand, or not
-  one_may_stand : Stand later (told 0 0 0) [] (growth ∷ [])
-  one_may_stand = record {
-    was = [];
-    file = opens_none;
-    images = leaves_one (OpensToGrown form [] (growth ∷ [])) (record { count = 1; known = omega arith; opens = opens_one });
-    settled = λ image is. record { count = 1; known = omega arith; opens = opens_then image is };
-    size_is = refl;
-    growths_are = refl;
-  }
-
   none_before : (was : List R) → OpensTo form none was → length was ≡ 0
   none_before was opens = as_long none was [] opens opens_none
-
-  -- one that is told stands in each image
-  not_lost : (lines : ℕ) → Stand still (told 1 lines 1) (growth ∷ []) [] → ⊥
-  not_lost lines stands =
-      let grown = stands.settled none (settled_image none) in
-      let long = as_long none ((stands.was ++ (r ∷ [])) ++ joined (take grown.count [])) [] grown.opens opens_none in
-      omega (arith, long, length-append (stands.was ++ (r ∷ [])) (joined (take grown.count [])), length-append stands.was (r ∷ []))
-
-  -- none stands that wasn't made
-  grown_long : (was : List R) (count : ℕ) → count ≤ 1 → length was ≡ 0 → length (was ++ joined (take count (growth ∷ []))) ≤ 1
-  grown_long was zero within empty = omega (arith, length-append was [], empty)
-  grown_long was (suc zero) within empty = omega (arith, length-append was (r ∷ []), empty)
-  grown_long was (suc (suc count)) within empty = absurd (omega (arith, within))
-
-  not_two : (was : List R) → length was ≡ 0 → OpensToGrown form was (growth ∷ []) two → ⊥
-  not_two was empty grown =
-      omega (arith, as_long two (was ++ joined (take grown.count (growth ∷ []))) (r ∷ r ∷ []) grown.opens opens_two, grown_long was grown.count grown.known empty)
-
-  not_past_two : Stand past_two (told 1 1 1) (growth ∷ []) [] → ⊥
-  not_past_two stands = never_two (OpensToGrown form stands.was (growth ∷ [])) (not_two stands.was (none_before stands.was stands.file)) stands.images
-
-  none_more : (count : ℕ) → length (joined (take {A = Growth R} count [])) ≡ 0
-  none_more zero = refl
-  none_more (suc count) = refl
-
-  not_unmade : Stand later (told 0 0 0) [] [] → ⊥
-  not_unmade stands =
-      let grown = stands.settled one (settled_image one) in
-      omega (
-        arith,
-        as_long one ((stands.was ++ []) ++ joined (take grown.count [])) (r ∷ []) grown.opens opens_one,
-        length-append (stands.was ++ []) (joined (take grown.count [])),
-        length-append stands.was [],
-        none_before stands.was stands.file,
-        none_more grown.count,
-      )
-
-  -- and what is told is that
-  told_right : (growths lines size : ℕ) → Stand later (told growths lines size) (growth ∷ []) [] → (growths ≡ 1) × (size ≡ 1)
-  told_right growths lines size stands =
-      (stands.growths_are, stands.size_is ∙ length-append stands.was (r ∷ []) ∙ ap (λ n. n + 1) (none_before stands.was stands.file))
-
-  -- ---- growths that were loaded
-
-  abbrev Loaded : Disk → ℕ → Type 0
-  Loaded left size = IsLoaded form known itself ((r ∷ []) ∷ []) 1 old left size
-
-  one_loaded : Loaded later 1
-  one_loaded = record {
-    was = [];
-    made = growth ∷ [];
-    dealt_are = record { chained = chained; by_growers = by_growers; records_are = records_are };
-    all = all;
-    stands = λ model. record {
-      file = opens_none;
-      images = leaves_one (OpensToGrown form [] (growth ∷ [])) (record { count = 1; known = omega arith; opens = opens_one });
-      settled = opens_then;
-    };
-    size_is = refl;
-  }
-    where
-      chained : (g : ℕ) (e : Growth R) → slice_get (growth ∷ []) g ≡ Some e → IsNextGrowth (take g (growth ∷ [])) e
-      chained zero e at = let same : growth ≡ e = cc in subst (IsNextGrowth []) same (record { number = refl; start = refl })
-      chained (suc g) e at = absurd cc
-
-      by_growers : All (λ (e : Growth R). e.seat < 1) (growth ∷ [])
-      by_growers = All-cons (λ (e : Growth R). e.seat < 1) growth [] (omega arith) (All-nil (λ (e : Growth R). e.seat < 1))
-
-      records_are : (grower j : ℕ) (e : Growth R) → grower < 1 → slice_get (own_of grower (growth ∷ [])) j ≡ Some e → e.records ≡ dealt ((r ∷ []) ∷ []) 1 grower j
-      records_are zero zero e lt at = let same : e ≡ growth = cc in ap (λ (g : Growth R). g.records) same
-      records_are zero (suc j) e lt at = absurd cc
-      records_are (suc grower) j e lt at = absurd (omega (arith, lt))
-
-      all : AllMade ((r ∷ []) ∷ []) 1 (growth ∷ [])
-      all zero lt = refl
-      all (suc grower) lt = absurd (omega (arith, lt))
-
-  chain_records : (made : List (Growth R)) → joined made ≡ lists.joined (each_records made)
-  chain_records [] = refl
-  chain_records (e ∷ made) = ap (λ rs. e.records ++ rs) (chain_records made)
-
-  loaded_long : (left : Disk) (size : ℕ) (loaded : Loaded left size) → length (loaded.was ++ joined loaded.made) ≡ 1
-  loaded_long left size loaded =
-      let records : joined loaded.made ≡ r ∷ [] = chain_records loaded.made ∙ ap lists.joined (all_dealt ((r ∷ []) ∷ []) loaded.made loaded.dealt_are loaded.all) in
-      let was = none_before loaded.was (loaded.stands tt).file in
-      omega (arith, length-append loaded.was (joined loaded.made), ap length records, was)
-
-  loaded_right : (size : ℕ) → Loaded later size → size ≡ 1
-  loaded_right size loaded = loaded.size_is ∙ loaded_long later size loaded
-
-  not_loaded_lost : (size : ℕ) → Loaded still size → ⊥
-  not_loaded_lost size loaded =
-      omega (arith, loaded_long still size loaded, as_long none (loaded.was ++ joined loaded.made) [] ((loaded.stands tt).settled none (settled_image none)) opens_none)
 
   -- ---- a list in the place of another
 

@@ -1,4 +1,4 @@
--- What the definitions of words, lines and refusals say, on small examples: what each allows, and the nearest that it doesn't.
+-- What the definitions of words and refusals say, on small examples: what each allows, and the nearest that it doesn't.
 use Rattle.std.proofs.Common.{◌≡◌, ◌≢◌, inl, inr, ℕ, zero, suc, ◌+◌, ◌^◌, ◌<◌, ◌≤◌, List, [], ◌∷◌, ◌++◌, length, take, get_or, Some, None}
 use Rattle.std.proofs.Common.{refl, sym, ap, subst, ◌∙◌, arith, codes, length-append, min, ◌-◌, Option}
 use Rattle.std.specs.Fmt.{digits}
@@ -14,7 +14,6 @@ use Rattle.segment_core.proofs.Decided.{one_fault}
 use Rattle.segment_core.proofs.OneVector.{memory_alone}
 use Rattle.text_core.specs.Text.{Spelling}
 use Rattle.text_core.specs.declared.refusal.Refusal.TheVariants as refusals
-use Rattle.block_core.specs.Growth.{Growth}
 use Rattle.book_core.specs.declared.fault.GrowFault.TheVariants.{Full}
 use Rattle.pen_core.specs.declared.fault.OpenFault.{OpenFault}
 use Rattle.pen_core.specs.declared.fault.OpenFault.TheVariants.{Scan, Disk}
@@ -25,19 +24,14 @@ use Rattle.vault_core.specs.declared.fault.VaultFault.{VaultFault}
 use Rattle.vault_core.specs.declared.fault.VaultFault.TheVariants.{Pen}
 use Rattle.vault_core.specs.declared.upgrading.UpgradeFault.TheVariants.{NotOld}
 use Rattle.vault_core.specs.Vault.{VaultOf}
-use Rattle.files_core.specs.declared.appended.Appended.{Appended}
 use Rattle.files_core.specs.declared.ended.Ended.TheVariants.{Done, OutputFailed, Refused}
 use Rattle.files_core.specs.declared.fault.FileFault.{FileFault}
 use Rattle.files_core.specs.declared.fault.FileFault.TheVariants as told
 use Rattle.files_core.specs.declared.fault.Stopped.{Stopped}
 use Rattle.files_core.specs.declared.fault.Word.TheVariants.{Records, Start}
-use Rattle.files_core.specs.Appending.{AreAllTold, GrowthsStand, HasAppendedAll, IsAppendFault, IsBatchStop, IsStopTold, each_records}
 use Rattle.files_core.specs.Asked.{IsNoNumber, IsNumber, IsNumberOr, IsRecord, IsRecordsRefusal, IsWordPart, SpellsRecords}
 use Rattle.files_core.specs.Faults.{fault_line, file_fault_name, upgrade_name}
 use Rattle.files_core.specs.Folding.{IsFoldRefusal, IsFoldingFault, IsNotFolded, KeepsList, failed_folding}
-use Rattle.files_core.specs.GrowthLines.{AllGrowthsFit, IsLinesRefusal}
-use Rattle.files_core.specs.InputBlocks.{AreOfAllLines}
-use Rattle.files_core.specs.Loading.{AreDealt, IsLoadNotBegun, IsLoadRefusal, IsNotEnded, IsStopReason, line_behind}
 use Rattle.files_core.specs.Upgraded.{IsUpgradeRefusal}
 use Rattle.files_core.specs.Opened.{IsNotOpened, failed_reading}
 use Rattle.files_core.specs.SoundFront.{IsCutAt, IsFrontRefusal, IsNoCut, closed_at}
@@ -137,30 +131,6 @@ letter_refused so = elim so [
   | inr memory ↦ absurd cc
 ]
 
--- ---- lines
-
-module _ (big : List ℕ) (long : length big ≡ 131072) where
-  big_fits_not : AllGrowthsFit 8 ((1 ∷ []) ∷ big ∷ []) → ⊥
-  big_fits_not fit = omega (arith, long, fit 1 big refl)
-
-one_fits : AllGrowthsFit {R = ℕ} 8 ((1 ∷ []) ∷ [])
-one_fits zero growth at = let same : 1 ∷ [] ≡ growth = cc in omega (arith, ap length same)
-one_fits (suc k) growth at = absurd cc
-
--- lines are counted from 1
-large_line : (input : List ℕ) → IsLinesRefusal 8 letters input (refusals.TooLargeAtLine 0) → ⊥
-large_line input so = omega (arith, so.4)
-
--- growths that fit are never too large
-not_too_large : (input : List ℕ) (n : ℕ) → IsLinesRefusal 8 letters input (refusals.TooLargeAtLine n) → (growths : List (List ℕ)) × (k : ℕ) × (n ≡ k + 1) × (AllGrowthsFit 8 growths → ⊥)
-not_too_large input n so = (so.0, so.1, so.4, λ fit. omega (arith, so.3.large, fit so.1 so.3.growth so.3.at))
-
-short_input : (input : List ℕ) → length input ≤ 67108864 → IsLinesRefusal 8 letters input refusals.InputTooLong → ⊥
-short_input input short so = omega (arith, short, so)
-
-no_hex : (input : List ℕ) → IsLinesRefusal 8 letters input refusals.NotHex → ⊥
-no_hex input so = so
-
 -- ---- fronts that are cut short
 
 module _ {R : Type 0} (form : Encoding R) (front : List ℕ) where
@@ -215,33 +185,6 @@ short_at_55 none = (none 55 (omega arith) (omega arith)).1 refl
 past_54 : IsNoCut 54 (damaged 55 NoGate)
 past_54 end within small = (λ same. (let is : 55 ≡ end = cc in omega (arith, is, within)), λ same. absurd cc)
 
--- ---- what is told of a stop
-
-abbrev told_so : ℕ → ℕ → ℕ → Appended
-told_so growths lines size = record { growths = growths; lines = lines; size = size }
-
-abbrev stop : ℕ → ℕ → Stopped
-stop line size = record { grower = 0; line = line; fault = Full; size = size }
-
--- of four growths of ten lines behind two, the third wasn't made: two more stand, and the line behind theirs is told
-stop_told : IsStopTold 10 (record { growths = 2; lines = 20; size = 5 }) (told.Grower (stop 3 9)) (record { growths = 4; lines = 40; size = 9 }) (told.Grower (stop 41 9))
-stop_told = (refl, refl, refl, refl)
-
-not_the_batch_line : (after : Appended) → IsStopTold 10 (record { growths = 2; lines = 20; size = 5 }) (told.Grower (stop 3 9)) after (told.Grower (stop 3 9)) → ⊥
-not_the_batch_line after so = let line = ap line_of so.3 in omega (arith, line, so.1)
-  where
-    line_of : FileFault → ℕ
-    line_of (told.Grower stopped) = stopped.line
-    line_of other = 0
-
--- else nothing more is told
-same_told : (before after : Appended) (fault : VaultFault) (now : FileFault) → IsStopTold 10 before (told.Vault fault) after now → (after ≡ before) × (now ≡ told.Vault fault)
-same_told before after fault now so = so
-
--- line 8 is that of the third growth of the second of three growers, which made two
-lines_of_growers : (line_behind 3 1 2 ≡ 8) × (line_behind 1 0 0 ≡ 1)
-lines_of_growers = (refl, refl)
-
 -- ---- refusals of commands, on disks that are their states
 
 abbrev Disks : Type 0
@@ -273,28 +216,6 @@ module _ (form : Encoding ℕ) (b : ℕ) where
   not_unheard : (left : Disks) → IsNotOpened form known itself no_fault disk left (Disk Sync) → ⊥
   not_unheard left so = omega (arith, so.faults_are)
 
-  -- nor appended to, nor loaded into
-  abbrev Appended_not : Disks → Appended → FileFault → Type 0
-  Appended_not left appended fault = IsAppendFault form known itself no_fault letters 1 None disk left appended fault
-
-  unopened : (left : Disks) (appended : Appended) (fault : OpenFault) → Appended_not left appended (told.Open fault)
-      → (appended ≡ told_so 0 0 0) × IsNotOpened form known itself no_fault disk left fault
-  unopened left appended fault so = so
-
-  never_by_a_word : (left : Disks) (appended : Appended) → Appended_not left appended (told.Word Start) → ⊥
-  never_by_a_word left appended so = so
-
-  -- at a line all that stands is told
-  at_a_line : (left : Disks) (appended : Appended) → Appended_not left appended (told.Input (refusals.Line 3)) → (made : List (Growth ℕ)) × GrowthsStand form itself disk left appended made []
-  at_a_line left appended so = (so.0, so.1 tt)
-
-  unloaded : (left : Disks) (fault : OpenFault) → IsLoadRefusal form known itself no_fault ((b ∷ []) ∷ []) 1 disk left (told.Open fault) → IsNotOpened form known itself no_fault disk left fault
-  unloaded left fault so = so
-
-  -- a stop's grower is one of them
-  no_other_grower : (left : Disks) (stopped : Stopped) → stopped.grower ≡ 1 → IsLoadRefusal form known itself no_fault ((b ∷ []) ∷ []) 1 disk left (told.Grower stopped) → ⊥
-  no_other_grower left stopped one so = omega (arith, one, so.5.inside)
-
   unfolded : (left : Disks) → IsFoldRefusal form known itself no_fault disk left (told.Open (Disk Sync)) → ⊥
   unfolded left so = omega (arith, so.1)
 
@@ -318,44 +239,15 @@ module _ (form : Encoding ℕ) (b : ℕ) where
   never_upgraded_so : (left left_new : Disks) → IsUpgradeRefusal form known itself known itself no_fault disk disk left left_new (told.Word Start) → ⊥
   never_upgraded_so left left_new so = so
 
-  -- ---- all that stands is told
-
-  module _ (left : Disks) (appended : Appended) where
-    all_appended : HasAppendedAll form known itself letters 1 None disk left appended
-        → (made : List (Growth ℕ)) × GrowthsStand form itself disk left appended made [] × AreAllTold letters 1 None appended made
-    all_appended so = (so.0, so.1 tt, so.2)
-
--- the lines that are told are all of the input
-all_lines : (input : Option (List ℕ)) (appended : Appended) (made : List (Growth ℕ)) → AreAllTold letters 2 input appended made
-    → (count : ℕ) × AreOfAllLines letters 2 input (each_records made) count × (appended.lines ≡ min (2 ^ 64 - 1) count)
-all_lines input appended made so = so
-
--- behind 40 lines that are told the grower stopped at the next one, and that is told of just what stands
-stopped_behind : (made : List (Growth ℕ)) (stopped : Stopped) → IsBatchStop 8 (told_so 4 40 9) made stopped → (stopped.grower ≡ 0) × (stopped.line ≡ 41) × (stopped.size ≡ 9)
-stopped_behind made stopped so = (so.grower_is, so.line_is, so.size_is)
-
-in_its_batch : (made : List (Growth ℕ)) (stopped : Stopped) (so : IsBatchStop 8 (told_so 4 40 9) made stopped)
-    → (made ≡ so.before ++ so.own) × AreDealt so.batch 1 so.own × IsStopReason 8 so.batch 1 so.own stopped
-in_its_batch made stopped so = (so.made_are, so.own_are, so.why)
-
--- what a crew gave up is what its flusher knows, of a phase with a seat for each grower
-module _ {R D : Type 0} (keeps : D → Type 0) (left : D) (made : List (Growth R)) (fault : VaultFault) where
-  given_up : (so : IsNotEnded keeps 5 2 left made fault) → (so.live.directory.room ≡ 5) × (length so.seats ≡ 2) × (so.flusher.pen.disk ≡ left) × (so.flusher.pass.entries ≡ made)
-  given_up so = (so.room_is, so.as_many, so.disk_is, so.made_are)
-
--- no grower, or too many growths, begin no load
-no_grower : {R D : Type 0} (v : VaultOf R D) → IsLoadNotBegun 5 0 v (Pen faults.TooLarge)
-no_grower v = inl (refl, inl refl)
-
-too_many : {R D : Type 0} (v : VaultOf R D) → IsLoadNotBegun (2 ^ 32) 4 v (Pen faults.TooLarge)
-too_many v = inl (refl, inr (omega arith))
-
 -- how many calls failed
 failures : (failed_reading Done ≡ 0) × (failed_reading OutputFailed ≡ 0) × (failed_reading (Refused (told.Open (Disk Sync))) ≡ 1) × (failed_reading (Refused (told.Open (Scan Unborn))) ≡ 0)
     × (failed_folding Done ≡ 0) × (failed_folding (Refused (told.Vault (Pen (faults.Disk Sync)))) ≡ 1) × (failed_folding (Refused (told.Vault (Pen faults.Memory))) ≡ 0)
 failures = (refl, refl, refl, refl, refl, refl, refl)
 
 -- ---- names
+
+abbrev stop : ℕ → ℕ → Stopped
+stop line size = record { grower = 0; line = line; fault = Full; size = size }
 
 names : (file_fault_name (told.Word Start) ≡ codes "word") × (file_fault_name (told.Input (refusals.Line 3)) ≡ codes "line 3") × (file_fault_name (told.Grower (stop 3 9)) ≡ codes "full")
     × (upgrade_name NotOld ≡ codes "not version 1") × (fault_line (told.Word Start) ≡ codes "refused: word\n")

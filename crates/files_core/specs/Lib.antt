@@ -1,7 +1,6 @@
 pub mod Faults
 pub mod Given
 pub mod Asked
-pub mod Dealt
 pub mod Ended
 pub mod Texts
 pub mod Opened
@@ -15,9 +14,3 @@ pub mod Watched
 pub mod SoundFront
 pub mod Folding
 pub mod Upgraded
-pub mod GrowthLines
-pub mod LineBlocks
-pub mod InputBlocks
-pub mod Batches
-pub mod Loading
-pub mod Appending

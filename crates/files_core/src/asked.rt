@@ -17,14 +17,14 @@ pub struct Setting<R> {
 }
 
 /// What `resize` is asked for: so many records, new ones as this one.
-#[derive(Clone, Copy, Debug)]
+#[derive(Clone, Copy)]
 pub struct Resizing<R> {
     pub len: u64,
     pub filler: R,
 }
 
 /// Which positions `list` lists: `count` of them at most, from `from` on.
-#[derive(Clone, Copy, Debug, PartialEq, Eq)]
+#[derive(Clone, Copy)]
 pub struct Window {
     pub from: u64,
     pub count: u64,

@@ -6,7 +6,7 @@ use crate::fault::FileFault;
 use std::io;
 
 /// How a command over a file ended.
-#[derive(Clone, Copy, Debug, PartialEq, Eq)]
+#[derive(Clone, Copy)]
 pub enum Ended {
     /// Its work is done, and all of its answer was written.
     Done,
@@ -20,7 +20,7 @@ impl Ended {
     ghost use Rattle.files_core.specs.declared.ended.Ended.{Ended};
 
     /// Its work is done, and its answer was given to a writer so.
-    pub(crate) fn told(written: io::Result<()>) -> Ended
+    pub fn told(written: io::Result<()>) -> Ended
         ensures { MatchResult written (λ _. result ≡ Ended.Done) (λ _. result ≡ Ended.OutputFailed) }
     {
         match written {

@@ -13,7 +13,7 @@ use text_core::{Refusal, Status, write_refusal};
 use vault_core::{UpgradeFault, VaultFault};
 
 /// The words of a command that have to be of a form.
-#[derive(Clone, Copy, Debug, PartialEq, Eq)]
+#[derive(Clone, Copy)]
 pub enum Word {
     /// START of `set`: a number.
     Start,
@@ -30,7 +30,7 @@ pub enum Word {
 }
 
 /// Where a grower stopped, and what the file has then.
-#[derive(Clone, Copy, Debug, PartialEq, Eq)]
+#[derive(Clone, Copy)]
 pub struct Stopped {
     /// Which grower, counted from 0.
     pub grower: u16,
@@ -42,7 +42,7 @@ pub struct Stopped {
 }
 
 /// Why a command over a file is refused.
-#[derive(Clone, Copy, Debug, PartialEq, Eq)]
+#[derive(Clone, Copy)]
 pub enum FileFault {
     /// This word isn't of its form. No disk was touched.
     Word(Word),

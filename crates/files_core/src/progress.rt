@@ -6,11 +6,3 @@ pub trait Progress {
     /// work: growths of `append`, records of `list`, and bytes of a disk that is `Watched`.
     fn at(&self, done: u64, of: u64);
 }
-
-/// Tells nobody.
-#[derive(Clone, Copy, Debug)]
-pub struct Silent;
-
-impl Progress for Silent {
-    fn at(&self, _done: u64, _of: u64) {}
-}

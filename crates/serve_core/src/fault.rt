@@ -10,7 +10,7 @@ use std::fmt::{self, Display, Formatter};
 use vault_core::VaultFault;
 
 /// Why not all was served, or not all is settled.
-#[derive(Clone, Copy, Debug, PartialEq, Eq)]
+#[derive(Clone, Copy, Debug)]
 pub enum ServeFault {
     /// The file wasn't opened. Nothing was written to it.
     Open(OpenFault),

@@ -9,7 +9,7 @@ use std::fmt;
 
 /// Why a client's request is refused. Behind the first six the seat's conversation ends, since what follows can't be told from
 /// a request; behind the others it goes on.
-#[derive(Clone, Copy, Debug, PartialEq, Eq)]
+#[derive(Clone, Copy, Debug)]
 pub enum Refusal {
     /// There is no request of this kind.
     UnknownKind,

@@ -15,7 +15,7 @@ use segment_core::{
 pub(crate) const HEAD_LEN: u64 = FRAME_HEAD_LEN as u64;
 
 /// What the first bytes of a frame tell of it.
-#[derive(Clone, Copy, Debug, PartialEq, Eq)]
+#[derive(Clone, Copy)]
 pub(crate) enum Outline {
     /// How many growths it has, and how many records these have.
     Group { growths: u64, records: u64 },

@@ -8,7 +8,7 @@ use crate::outline::{HEAD_LEN, Outline};
 use segment_core::{HEADER_LEN, Shape, Tally};
 
 /// What a file has. Places and lengths are in bytes.
-#[derive(Clone, Copy, Debug, PartialEq, Eq)]
+#[derive(Clone, Copy, Debug)]
 pub struct Summary {
     /// The version of the file, 1 or 2.
     pub version: u8,

@@ -15,7 +15,7 @@ use std::io;
 use std::io::Write;
 
 /// How `stat` ended.
-#[derive(Debug, Drop)]
+#[derive(Drop)]
 pub enum Ended {
     /// All of its answer was written.
     Done,

@@ -13,7 +13,7 @@ use segment_core::FRONT_LEN;
 pub(crate) const WINDOW_LEN: usize = 65_536;
 
 /// Which part of the file a buffer holds.
-#[derive(Clone, Copy, Debug)]
+#[derive(Clone, Copy)]
 pub(crate) struct Window {
     /// The place of its first byte.
     pub(crate) start: u64,

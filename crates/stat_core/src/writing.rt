@@ -10,7 +10,7 @@ use std::io;
 use std::io::Write;
 
 /// How a summary is written.
-#[derive(Clone, Copy, Debug, PartialEq, Eq)]
+#[derive(Clone, Copy)]
 pub enum Form {
     /// A name, a space and a number a line.
     Lines,

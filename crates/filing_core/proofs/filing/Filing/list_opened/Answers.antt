@@ -1,0 +1,15 @@
+use Rattle.std.proofs.Common.{sym, subst}
+use Rattle.files_core.specs.Watched.{below}
+use Rattle.filing_core.specs.Complaints.{Disk, IsComplaintOf, IsJustOpened, IsStatusOf}
+use Rattle.filing_core.proofs.Watching.{reads_below}
+use Rattle.filing_core.proofs.filing.Filing.list_opened.Goals as goal
+
+pub returns : goal.returns
+returns g c = λ opened. record {
+  disk = below c.watched.result;
+  left = below c.list-disk.result.0;
+  ended = c.list-disk.result.1;
+  opened = subst (λ (d : Disk). IsJustOpened d) (sym c.watched.ensures) opened;
+  engine = (reads_below _ _ _ _ c.list-disk.ensures.reads, c.list-disk.ensures.writes);
+  told = subst (λ (d : Disk). IsStatusOf (IsComplaintOf g.R.Record.form d) c.list-disk.result.1 c.status_on.result) c.into_disk.ensures c.status_on.ensures;
+}

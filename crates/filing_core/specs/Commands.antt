@@ -1,0 +1,242 @@
+-- What each command over a file has done that its words ask for. The disk is that of the file which was opened, left is what its
+-- engine gave back; in between hold the engine's own clauses.
+use Rattle.std.specs.Prelude.{◌≡◌, ◌⊎◌, ◌+◌, ◌++◌, ℕ, Bool, true, false, List, [], length, codes, decimal, Option, IfErr, Result, Ok, Err}
+use Rattle.std.specs.Io.KnownBytes.{Appends, Keeps}
+use Rattle.std.specs.Option.{option_copied}
+use Rattle.std.specs.NonZero.{non_zero_u32_get}
+use Rattle.record_core.specs.Bytes.{Encoding}
+use Rattle.disk_core.specs.State.{now, IsImage}
+use Rattle.disk_core.specs.Calls.{bytes_of}
+use Rattle.disk_core.specs.Moments.{LeavesOnly, clock}
+use Rattle.disk_core.specs.FileDisk.{KeepsSoFar, faults_of, states_of}
+use Rattle.disk_core.specs.declared.fault.DiskFault.{DiskFault}
+use Rattle.segment_core.specs.declared.format.Format.{Format}
+use Rattle.segment_core.specs.Shape.{shape_of}
+use Rattle.pen_core.specs.Opening.{OnlySyncs}
+use Rattle.pen_core.specs.declared.fault.PenFault.TheVariants as pens
+use Rattle.vault_core.specs.Commands.{resized}
+use Rattle.vault_core.specs.Touched.{IsTouched}
+use Rattle.vault_core.specs.Vault.{VaultOf}
+use Rattle.vault_core.specs.declared.fault.VaultFault.{VaultFault}
+use Rattle.vault_core.specs.declared.fault.VaultFault.TheVariants as vaults
+use Rattle.pen_core.specs.Refusals.{one_run}
+use Rattle.text_core.specs.Text.{Spelling, ended_line}
+use Rattle.text_core.specs.declared.status.Status.{Status}
+use Rattle.text_core.specs.declared.status.Status.TheVariants as statuses
+use Rattle.load_core.specs.Appending.{HasAppendedAll, IsAppendFault}
+use Rattle.files_core.specs.Asked.{IsNumber, IsRecord, SpellsRecords}
+use Rattle.files_core.specs.Changing.{HasWorked, IsCleared, IsClearFault, IsResized, IsResizeFault, IsSet, IsSetFault, IsWorkFault, Replaces}
+use Rattle.files_core.specs.Checking.{IsChecked}
+use Rattle.files_core.specs.Creating.{IsCreated, IsCreateRefusal}
+use Rattle.files_core.specs.Ended.{EndsAs, WritesAnswer, WritesText}
+use Rattle.files_core.specs.Folding.{IsFolded, IsFoldRefusal, KeepsList, NoneLive, failed_folding}
+use Rattle.files_core.specs.Given.{given_from}
+use Rattle.files_core.specs.Listing.{IsWindowListed}
+use Rattle.load_core.specs.Loading.{IsLoaded, IsLoadRefusal}
+use Rattle.files_core.specs.Opened.{OnlyReads}
+use Rattle.files_core.specs.Searching.{IsCounted, IsFound}
+use Rattle.files_core.specs.Texts.{appended_line, created_line, loaded_line, ok_line}
+use Rattle.files_core.specs.Upgraded.{IsUpgraded, IsUpgradeRefusal, failed_upgrading}
+use Rattle.files_core.specs.Vacant.{IsVacant}
+use Rattle.files_core.specs.declared.appended.Appended.{Appended}
+use Rattle.files_core.specs.declared.asked.Window.{Window}
+use Rattle.files_core.specs.declared.ended.Ended.{Ended}
+use Rattle.files_core.specs.declared.fault.FileFault.{FileFault}
+use Rattle.files_core.specs.declared.fault.FileFault.TheVariants.{Vault}
+use Rattle.serve_core.specs.Serving.{CountsFailed, IsLeft, IsServeRefusal, serve_failures}
+use Rattle.serve_core.specs.declared.fault.ServeFault.{ServeFault}
+use Rattle.stat_core.specs.Calls.{AreCalls, failed_at}
+use Rattle.stat_core.specs.Ended.{IsTold}
+use Rattle.stat_core.specs.Window.{OnlyReads as OnlyLooks}
+use Rattle.stat_core.specs.declared.telling.Ended.{Ended as StatEnded}
+use Rattle.stat_core.specs.declared.writing.Form.{Form}
+use Rattle.sentences.specs.declared.complaint.Complaint.{Complaint}
+use Rattle.sentences.specs.declared.role.Role.TheVariants as roles
+use Rattle.words_core.specs.declared.request.FileTask.{FileTask}
+use Rattle.words_core.specs.declared.request.FileTask.TheVariants.{Create, Load, Append, Check, List as Listed, Count, Find, Set, Resize, Clear, Fold, Upgrade, Serve}
+use Rattle.filing_core.specs.Asked.{IsWindow, IsNoWindow, IsNoRecord, IsNoSetting, IsNoResizing, AreInputGrowths, IsNoInput}
+use Rattle.filing_core.specs.Complaints.{Disk, IsJustOpened, IsComplaintOf, IsAppendComplaint, IsServeComplaint, IsStatusOf, IsStatStatus, IsRefusedBefore, IsLeftAlone, IsShut, IsUnserved}
+
+-- of a server that has ended
+abbrev pub served_line : ℕ → List ℕ
+served_line growths = ended_line ((codes "served " ++ decimal growths) ++ codes " growths")
+
+-- a disk was only read
+pub record IsLookedAt (disk after : Disk) : Type 0 where
+  pub same : KeepsSoFar after → now (states_of after) ≡ now (states_of disk)
+  pub images : KeepsSoFar after → LeavesOnly (states_of disk) (states_of after) (IsImage (now (states_of disk)))
+  pub no_fault : faults_of after ≡ faults_of disk
+  pub model : KeepsSoFar after → KeepsSoFar disk
+
+-- An engine ended so over a disk that was opened, and the command with it.
+pub record IsDone (filed : Result Status Complaint) (IsComplaint : Disk → FileFault → Complaint → Type 0) (HasEnded : Disk → Disk → Ended → Type 0) : Type 0 where
+  pub disk : Disk
+  pub left : Disk
+  pub ended : Ended
+  pub opened : IsJustOpened disk
+  pub engine : HasEnded disk left ended
+  pub told : IsStatusOf (IsComplaint left) ended filed
+
+module _ {R : Type 0} (form : Encoding R) where
+  -- a file of this version may be made on the disk, where nothing but what a stopped creation leaves stands there, or the words say so
+  abbrev pub MayBeMadeOn : Format → Bool → Disk → Disk → Type 0
+  MayBeMadeOn format true disk asked = asked ≡ disk
+  MayBeMadeOn format false disk asked = IsLookedAt disk asked × (KeepsSoFar asked → IsVacant (shape_of format form) (bytes_of (states_of disk)))
+
+  -- it may not: something else stands there, or that couldn't be asked
+  abbrev pub IsTaken : Format → Bool → FileFault → Type 0
+  IsTaken format true fault = ⊥
+  IsTaken format false fault = (disk asked : Disk) × IsJustOpened disk
+      × (((fault ≡ Vault (vaults.Pen pens.Exists)) × (KeepsSoFar asked → ¬ (IsVacant (shape_of format form) (bytes_of (states_of disk)))))
+      ⊎ ((cause : DiskFault) × (fault ≡ Vault (vaults.Pen (pens.Disk cause))) × (faults_of asked ≡ faults_of disk + 1)))
+
+module _ {R : Type 0} (form : Encoding R) (old new : Option (List ℕ)) (filed : Result Status Complaint) where
+  -- The words or the input were refused, for such a reason; or the file wasn't opened; or the engine ended so over it.
+  abbrev pub IsOverFile : (FileFault → Type 0) → (Disk → Disk → Ended → Type 0) → Type 0
+  IsOverFile IsReason HasEnded = IsRefusedBefore old new filed IsReason ⊎ (IsShut old new filed roles.File ⊎ IsDone filed (IsComplaintOf form) HasEnded)
+
+  -- an engine only read the disk, and wrote such an answer, by its bytes where the file keeps the model
+  abbrev pub Reads : (Type 0 → List ℕ → List ℕ → Type 0) → Disk → Disk → Ended → Type 0
+  Reads IsAnswer disk left ended =
+      OnlyReads form KeepsSoFar states_of faults_of disk left ended × WritesAnswer old new (IsAnswer (KeepsSoFar left) (bytes_of (states_of disk))) ended
+
+  -- an engine put one list in the place of another, of one vault and one more, and wrote `ok`
+  abbrev pub Works : (List R → List R → Type 0) → (VaultOf R Disk → VaultOf R Disk → Type 0) → (VaultOf R Disk → VaultOf R Disk → VaultFault → Type 0) → Disk → Disk → Ended → Type 0
+  Works IsMadeOf IsDoneBy IsFaultOf disk left ended =
+      EndsAs (KeepsSoFar left → Replaces form states_of IsMadeOf disk left) (IsWorkFault form KeepsSoFar states_of faults_of IsFaultOf disk left) ended
+      × EndsAs (HasWorked form KeepsSoFar states_of faults_of IsDoneBy disk left) (λ _. Unit {0}) ended × WritesText old new ok_line ended
+
+  -- ---- each command
+
+  -- `check`
+  abbrev pub IsCheckRun : Type 0
+  IsCheckRun = IsOverFile (λ _. ⊥) (Reads (IsChecked form))
+
+  -- `list`: the records of the window that the words name
+  abbrev pub IsListRun : Spelling R → Option (List ℕ) → Option (List ℕ) → Type 0
+  IsListRun spelling from count =
+      IsOverFile (IsNoWindow from count) (λ disk left ended. (window : Window) × IsWindow from count window × Reads (IsWindowListed form spelling.text_of window) disk left ended)
+
+  -- `count`: how many records are the one that the word is
+  abbrev pub IsCountRun : Spelling R → List ℕ → Type 0
+  IsCountRun spelling word =
+      IsOverFile (IsNoRecord spelling word) (λ disk left ended. (r : R) × IsRecord spelling word r × Reads (IsCounted form r) disk left ended)
+
+  -- `find`: the least position of one that is
+  abbrev pub IsFindRun : Spelling R → List ℕ → Type 0
+  IsFindRun spelling word =
+      IsOverFile (IsNoRecord spelling word) (λ disk left ended. (r : R) × IsRecord spelling word r × Reads (IsFound form r) disk left ended)
+
+  -- `set`: the records that the words are, from the position on that they name
+  abbrev pub IsSetRun : Spelling R → List ℕ → List ℕ → Type 0
+  IsSetRun spelling at word =
+      IsOverFile (IsNoSetting spelling at word) (λ disk left ended. (start : ℕ) × (records : List R) × IsNumber at start × SpellsRecords spelling word records
+      × Works (IsTouched (given_from start records) (one_run start (length records))) (IsSet form KeepsSoFar states_of faults_of start records)
+      (IsSetFault form KeepsSoFar states_of faults_of start records) disk left ended)
+
+  -- `resize`: the length and the filler that the words are
+  abbrev pub IsResizeRun : Spelling R → List ℕ → List ℕ → Type 0
+  IsResizeRun spelling len word =
+      IsOverFile (IsNoResizing spelling len word) (λ disk left ended. (n : ℕ) × (r : R) × IsNumber len n × IsRecord spelling word r
+      × Works (λ was behind. behind ≡ resized n r was) (IsResized form KeepsSoFar states_of faults_of n r) (IsResizeFault form KeepsSoFar states_of faults_of n r) disk left ended)
+
+  -- `clear`
+  abbrev pub IsClearRun : Type 0
+  IsClearRun =
+      IsOverFile (λ _. ⊥) (Works (λ was behind. behind ≡ []) (IsCleared form KeepsSoFar states_of faults_of) (IsClearFault form KeepsSoFar states_of faults_of))
+
+  -- `fold`: none is live then
+  abbrev pub IsFoldRun : Type 0
+  IsFoldRun = IsOverFile (λ _. ⊥) (λ disk left ended.
+      EndsAs (KeepsSoFar left → KeepsList form states_of disk left) (IsFoldRefusal form KeepsSoFar states_of faults_of disk left) ended
+      × EndsAs (NoneLive KeepsSoFar states_of left) (λ _. Unit {0}) ended × (faults_of left ≡ faults_of disk + failed_folding ended)
+      × WritesAnswer old new (IsFolded form (KeepsSoFar left) (bytes_of (states_of disk))) ended)
+
+  -- `load`: the growths of the input's lines, by so many growers
+  abbrev pub IsLoadRun : Spelling R → Option (List ℕ) → ℕ → Type 0
+  IsLoadRun spelling input growers =
+      IsOverFile (IsNoInput spelling form.width input) (λ disk left ended. (growths : List (List R)) × AreInputGrowths spelling form.width input growths
+      × EndsAs ((size : ℕ) × IsLoaded form KeepsSoFar states_of growths growers disk left size) (IsLoadRefusal form KeepsSoFar states_of faults_of growths growers disk left) ended
+      × WritesAnswer old new (λ text. (size : ℕ) × IsLoaded form KeepsSoFar states_of growths growers disk left size × (text ≡ loaded_line (length growths) size)) ended)
+
+  -- `append`: growths of so many lines of the input each; the complaint tells what was settled
+  abbrev pub IsAppendRun : Spelling R → Option (List ℕ) → ℕ → Type 0
+  IsAppendRun spelling input block =
+      IsShut old new filed roles.File ⊎ ((appended : Appended) × IsDone filed (IsAppendComplaint form appended) (λ disk left ended.
+      EndsAs (HasAppendedAll form KeepsSoFar states_of spelling block input disk left appended)
+      (IsAppendFault form KeepsSoFar states_of faults_of spelling block input disk left appended) ended
+      × WritesText old new (appended_line appended.growths appended.size) ended))
+
+  -- `create`: an empty file of this version
+  abbrev pub IsCreateRun : Format → Bool → Type 0
+  IsCreateRun format over = IsOverFile (IsTaken form format over) (λ disk left ended. (asked : Disk) × MayBeMadeOn form format over disk asked
+      × EndsAs (IsCreated form KeepsSoFar states_of faults_of format asked left) (IsCreateRefusal form KeepsSoFar states_of faults_of format asked left) ended
+      × WritesText old new created_line ended)
+
+  -- `upgrade`: the vector of the old file stands in the new one
+  pub record HasUpgraded : Type 0 where
+    pub disk : Disk
+    pub made : Disk
+    pub left : Disk
+    pub left_new : Disk
+    pub ended : Ended
+    pub opened : IsJustOpened disk × IsJustOpened made
+    pub stays : KeepsSoFar left → OnlySyncs (states_of disk) (states_of left)
+    pub faults_are : faults_of left ≡ faults_of disk + failed_upgrading ended
+    pub engine : EndsAs ((text : List ℕ) × IsUpgraded form KeepsSoFar states_of KeepsSoFar states_of faults_of disk made left left_new text)
+        (IsUpgradeRefusal form KeepsSoFar states_of KeepsSoFar states_of faults_of disk made left left_new) ended
+    pub writes : WritesAnswer old new (IsUpgraded form KeepsSoFar states_of KeepsSoFar states_of faults_of disk made left left_new) ended
+    pub told : IsStatusOf (IsComplaintOf form left) ended filed
+
+  abbrev pub IsUpgradeRun : Type 0
+  IsUpgradeRun = IsShut old new filed roles.File ⊎ (IsShut old new filed roles.New ⊎ HasUpgraded)
+
+  -- how `serve` ends whose engine gave that disk back, ended so, and settled so many growths
+  abbrev pub IsServedAs : Disk → ℕ → Result (Unit {0}) ServeFault → Type 0
+  IsServedAs left growths (Ok all) = (filed ≡ Ok statuses.OutputFailed) ⊎ ((filed ≡ Ok statuses.Done) × Appends old new (served_line growths))
+  IsServedAs left growths (Err fault) = (complaint : Complaint) × (filed ≡ Err complaint) × IsServeComplaint form left growths fault complaint × Keeps old new
+
+  -- `serve`: so many clients grew the vector
+  pub record HasServed (clients : ℕ) : Type 0 where
+    pub disk : Disk
+    pub left : Disk
+    pub growths : ℕ
+    pub served : Result (Unit {0}) ServeFault
+    pub opened : IsJustOpened disk
+    pub leaves : KeepsSoFar left → IsLeft form states_of disk left growths served
+    pub refused : IfErr served (IsServeRefusal form KeepsSoFar states_of clients left growths)
+    pub faults_are : CountsFailed serve_failures (faults_of disk) (faults_of left) served
+    pub told : IsServedAs left growths served
+
+  abbrev pub IsServeRun : ℕ → Type 0
+  IsServeRun clients = IsLeftAlone old new filed IsUnserved ⊎ (IsShut old new filed roles.File ⊎ HasServed clients)
+
+-- what a command on records of these bytes and texts has done: its task is what the words ask for
+abbrev pub IsCommandRun : {R : Type 0} → Encoding R → Spelling R → FileTask → Option (List ℕ) → Option (List ℕ) → Option (List ℕ) → Result Status Complaint → Type 0
+IsCommandRun form spelling (Create format over) input old new filed = IsCreateRun form old new filed format over
+IsCommandRun form spelling (Load growers) input old new filed = IsLoadRun form old new filed spelling input growers
+IsCommandRun form spelling (Append block) input old new filed = IsAppendRun form old new filed spelling input (non_zero_u32_get block)
+IsCommandRun form spelling Check input old new filed = IsCheckRun form old new filed
+IsCommandRun form spelling (Listed from count) input old new filed = IsListRun form old new filed spelling (option_copied from) (option_copied count)
+IsCommandRun form spelling (Count wanted) input old new filed = IsCountRun form old new filed spelling wanted.now
+IsCommandRun form spelling (Find wanted) input old new filed = IsFindRun form old new filed spelling wanted.now
+IsCommandRun form spelling (Set start records) input old new filed = IsSetRun form old new filed spelling start.now records.now
+IsCommandRun form spelling (Resize len filler) input old new filed = IsResizeRun form old new filed spelling len.now filler.now
+IsCommandRun form spelling Clear input old new filed = IsClearRun form old new filed
+IsCommandRun form spelling Fold input old new filed = IsFoldRun form old new filed
+IsCommandRun form spelling (Upgrade name) input old new filed = IsUpgradeRun form old new filed
+IsCommandRun form spelling (Serve clients) input old new filed = IsServeRun form old new filed clients
+
+-- `stat`: the file's summary was told in that form
+pub record HasToldStat (told_as : Form) (old new : Option (List ℕ)) (filed : Result Status Complaint) : Type 0 where
+  pub disk : Disk
+  pub left : Disk
+  pub ended : StatEnded
+  pub opened : IsJustOpened disk
+  pub engine : IsTold (KeepsSoFar left) (bytes_of (states_of disk)) (AreCalls (clock (states_of disk)) (clock (states_of left))) told_as old new ended
+  pub only_reads : KeepsSoFar left → OnlyLooks (states_of disk) (states_of left)
+  pub faults_are : faults_of left ≡ faults_of disk + failed_at ended
+  pub told : IsStatStatus ended filed
+
+abbrev pub IsStatRun : Form → Option (List ℕ) → Option (List ℕ) → Result Status Complaint → Type 0
+IsStatRun told_as old new filed = IsShut old new filed roles.File ⊎ HasToldStat told_as old new filed

@@ -1,0 +1,99 @@
+//! How a command over a file ends, by how its engine did.
+
+ghost use Rattle.std.specs.Prelude.{◌≡◌};
+ghost use Rattle.filing_core.specs.Complaints.{IsAppendComplaint, IsComplaintOf, IsStatusOf, damage_of};
+ghost use Rattle.filing_core.specs.Commands.{IsServedAs};
+
+use crate::serving::{fault_of, write_served};
+use disk_core::FileDisk;
+use files_core::{Appended, Ended, FileFault, sound_front};
+use pen_core::OpenFault;
+use segment_core::ScanFault;
+use sentences::Complaint;
+use serve_core::{ServeFault, Served};
+use std::alloc::Global;
+use std::io::Write;
+use text_core::{Status, TextRecord};
+use vault_core::UpgradeFault;
+
+/// The place of the damage that a fault tells of.
+fn damage_of(fault: FileFault) -> Option<u64>
+    ensures { result ≡ damage_of fault }
+{
+    match fault {
+        FileFault::Open(OpenFault::Scan(ScanFault::Damaged { at, .. }))
+        | FileFault::Upgrade(UpgradeFault::Old(OpenFault::Scan(ScanFault::Damaged { at, .. }))) =>
+            Some(at),
+        _ => None,
+    }
+}
+
+/// The complaint of a command whose engine gave its disk back with this fault: of a damaged file with what is sound of it.
+fn complaint_of<R: TextRecord>(alloc: Global, disk: FileDisk, fault: FileFault) -> Complaint
+    ensures { IsComplaintOf R.form disk fault result }
+{
+    let mut disk = disk;
+    let Some(at) = damage_of(fault) else {
+        return Complaint::Fault(fault);
+    };
+    match sound_front::<R, FileDisk>(alloc, &mut disk, at) {
+        Ok(sound) => Complaint::Damaged(sound, fault),
+        Err(_) => Complaint::Fault(fault),
+    }
+}
+
+/// How a command ended whose engine gave its disk back so.
+pub fn status_on<R: TextRecord>(
+    alloc: Global,
+    disk: FileDisk,
+    ended: Ended,
+) -> Result<Status, Complaint>
+    ensures { IsStatusOf (IsComplaintOf R.form disk) ended result }
+{
+    match ended {
+        Ended::Done => Ok(Status::Done),
+        Ended::OutputFailed => Ok(Status::OutputFailed),
+        Ended::Refused(fault) => Err(complaint_of::<R>(alloc, disk, fault)),
+    }
+}
+
+/// How `append` ended whose engine gave its disk back so.
+pub fn status_of_append<R: TextRecord>(
+    alloc: Global,
+    disk: FileDisk,
+    appended: Appended,
+    ended: Ended,
+) -> Result<Status, Complaint>
+    ensures { IsStatusOf (IsAppendComplaint R.form appended disk) ended result }
+{
+    match ended {
+        Ended::Done => Ok(Status::Done),
+        Ended::OutputFailed => Ok(Status::OutputFailed),
+        Ended::Refused(FileFault::Open(fault)) => {
+            Err(complaint_of::<R>(alloc, disk, FileFault::Open(fault)))
+        }
+        Ended::Refused(fault) => Err(Complaint::Appended(appended, fault)),
+    }
+}
+
+/// How `serve` ended whose engine gave its disk back so, and its answer.
+pub fn status_of_serve<R: TextRecord, W: Write>(
+    alloc: Global,
+    disk: FileDisk,
+    served: Served,
+    ended: Result<(), ServeFault>,
+    writer: &mut W,
+) -> Result<Status, Complaint>
+    ensures { IsServedAs R.form (W.contents writer.old) (W.contents writer.new) result disk served.growths ended }
+{
+    match ended {
+        Ok(()) => match write_served(served.growths, writer) {
+            Ok(()) => Ok(Status::Done),
+            Err(_) => Ok(Status::OutputFailed),
+        },
+        Err(ServeFault::Open(fault)) => {
+            Err(complaint_of::<R>(alloc, disk, FileFault::Open(fault)))
+        }
+        Err(fault) => Err(Complaint::Served(served.growths, fault_of(fault))),
+    }
+}

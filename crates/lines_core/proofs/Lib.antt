@@ -1,0 +1,5 @@
+pub mod Blocks
+pub mod FirstBlocks
+pub mod GrowthLines
+pub mod WholeBlocks
+mod WorkedInputs

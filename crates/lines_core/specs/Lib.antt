@@ -1,0 +1,4 @@
+pub mod GrowthLines
+pub mod LineBlocks
+pub mod InputBlocks
+pub mod Batches

@@ -1,0 +1,11 @@
+//! Lines of records, as growths: all lines of an input, one growth each (`growths_of_input`), or those of an input of any
+//! length, a batch after the other, with a growth for each block of so many lines (`read_batch`).
+#![tactic(auto)]
+
+mod batches;
+mod gathering;
+mod growth_lines;
+mod line_blocks;
+
+pub use batches::{Batch, Rest, behind, read_batch};
+pub use growth_lines::growths_of_input;

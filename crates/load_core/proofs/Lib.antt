@@ -1,0 +1,7 @@
+pub mod Stops
+pub mod Crewed
+pub mod OneGrower
+pub mod Standing
+mod WorkedGrowers
+mod WorkedGrowths
+mod WorkedStops
