@@ -87,10 +87,7 @@ pub(crate) fn read_lines<R: TextRecord>(alloc: Global, input: &[u8]) -> Result<G
 }
 
 /// The growths that the lines spell, one each. Each line is read before a size is tested.
-fn growths_of_lines<R: TextRecord>(
-    alloc: Global,
-    input: &[u8],
-) -> Result<Growths<R>, Refusal>
+fn growths_of_lines<R: TextRecord>(alloc: Global, input: &[u8]) -> Result<Growths<R>, Refusal>
     ensures read { IfOk result (λ growths. AreGrowthLines R.spelling input.now growths.0 × AllGrowthsFit R.form.width growths.0) }
     ensures refused { IfErr result (IsLinesRefusal R.form.width R.spelling input.now) }
 {
