@@ -32,12 +32,12 @@ fn word<'a>(alloc: Global, name: &'a str) -> Arg<'a> {
         .allow_negative_numbers(true)
 }
 
-/// A value that is joined to its name.
-fn joined<'a>(alloc: Global, name: &'a str) -> Arg<'a> {
+/// A value behind its name, with `=` or as the next word. That may be a negative number, but no other word of an option.
+fn valued<'a>(alloc: Global, name: &'a str) -> Arg<'a> {
     Arg::new(alloc, name)
         .long(name)
-        .require_equals(true)
         .action(ArgAction::Set)
+        .allow_negative_numbers(true)
 }
 
 /// A word that is there or isn't.
@@ -67,15 +67,20 @@ fn with_words<'a>(
     with_word(alloc, name, first)?.arg(second)
 }
 
-/// A value that is joined to its name and has to be there.
+/// A value that has to be there.
 fn needed<'a>(alloc: Global, name: &'a str) -> Arg<'a> {
-    joined(alloc, name).required(true)
+    valued(alloc, name).required(true)
+}
+
+/// Records that have to be there, of which the first one may be negative.
+fn needed_records<'a>(alloc: Global) -> Arg<'a> {
+    needed(alloc, "records").allow_hyphen_values(true)
 }
 
 /// A command that reads, with the words that are its own.
 fn reading<'a>(alloc: Global, name: &'a str) -> Result<Command<'a>, AllocError> {
     match name {
-        "list" => with_words(alloc, name, joined(alloc, "from"), joined(alloc, "count")),
+        "list" => with_words(alloc, name, valued(alloc, "from"), valued(alloc, "count")),
         "count" | "find" => with_word(alloc, name, needed(alloc, "record")),
         _ => over_file(alloc, name),
     }
@@ -84,8 +89,8 @@ fn reading<'a>(alloc: Global, name: &'a str) -> Result<Command<'a>, AllocError> 
 /// A command that appends, with the words that are its own.
 fn growing<'a>(alloc: Global, name: &'a str) -> Result<Command<'a>, AllocError> {
     let own = match name {
-        "load" => joined(alloc, "seats"),
-        "append" => joined(alloc, "block"),
+        "load" => valued(alloc, "seats"),
+        "append" => valued(alloc, "block"),
         "serve" => needed(alloc, "seats"),
         _ => word(alloc, "NEW"),
     };
@@ -94,14 +99,14 @@ fn growing<'a>(alloc: Global, name: &'a str) -> Result<Command<'a>, AllocError> 
 
 /// `create`, with the words that are its own.
 fn creating<'a>(alloc: Global, name: &'a str) -> Result<Command<'a>, AllocError> {
-    let format = joined(alloc, "format").value_parser(FORMATS.as_slice());
+    let format = valued(alloc, "format").value_parser(FORMATS.as_slice());
     with_words(alloc, name, format, flag(alloc, "over"))
 }
 
 /// A command that changes what is there, with the words that are its own.
 fn changing<'a>(alloc: Global, name: &'a str) -> Result<Command<'a>, AllocError> {
     match name {
-        "set" => with_words(alloc, name, word(alloc, "START"), needed(alloc, "records")),
+        "set" => with_words(alloc, name, word(alloc, "START"), needed_records(alloc)),
         "resize" => with_words(alloc, name, word(alloc, "N"), needed(alloc, "record")),
         _ => over_file(alloc, name),
     }
