@@ -9,8 +9,8 @@ const TYPES: [&str; 5] = ["u32", "u64", "i64", "pair", "flagged"];
 /// The words for the versions of a file.
 const FORMATS: [&str; 2] = ["1", "2"];
 
-/// The commands, in the order in which usage tells them.
-const COMMANDS: [&str; 17] = [
+/// The commands over records, in the order in which usage tells them. `help` and `version` tell of the program.
+pub const COMMANDS: [&str; 17] = [
     "image", "show", "play", "create", "load", "append", "serve", "upgrade", "check", "list",
     "count", "find", "stat", "set", "resize", "clear", "fold",
 ];
@@ -120,6 +120,14 @@ fn stat_command<'a>(alloc: Global) -> Result<Command<'a>, AllocError> {
         .arg(flag(alloc, "quiet"))
 }
 
+/// `help`, which may be asked of a command.
+fn help_command<'a>(alloc: Global) -> Result<Command<'a>, AllocError> {
+    let of_command = Arg::new(alloc, "COMMAND")
+        .action(ArgAction::Set)
+        .value_parser(COMMANDS.as_slice());
+    Command::new(alloc, "help").arg(of_command)
+}
+
 /// A command with its words.
 fn command_of<'a>(alloc: Global, name: &'a str) -> Result<Command<'a>, AllocError> {
     match name {
@@ -128,6 +136,7 @@ fn command_of<'a>(alloc: Global, name: &'a str) -> Result<Command<'a>, AllocErro
         "load" | "append" | "serve" | "upgrade" => growing(alloc, name),
         "check" | "list" | "count" | "find" => reading(alloc, name),
         "stat" => stat_command(alloc),
+        "help" => help_command(alloc),
         _ => changing(alloc, name),
     }
 }
@@ -137,6 +146,7 @@ fn program<'a>(alloc: Global) -> Command<'a> {
     Command::new(alloc, "cvec")
         .no_binary_name(true)
         .subcommand_required(true)
+        .disable_help_subcommand(true)
 }
 
 /// The program with one more command.
@@ -151,11 +161,16 @@ fn with_command<'a>(
     }
 }
 
+/// The commands that tell of the program, behind the others.
+fn with_telling<'a>(alloc: Global, all: Command<'a>) -> Result<Command<'a>, AllocError> {
+    with_command(alloc, all, "help")?.subcommand(Command::new(alloc, "version"))
+}
+
 /// All commands.
 pub fn all_commands<'a>(alloc: Global) -> Result<Command<'a>, AllocError> {
     let mut all = program(alloc);
     for name in COMMANDS.iter() {
         all = with_command(alloc, all, *name)?;
     }
-    Ok(all)
+    with_telling(alloc, all)
 }
