@@ -49,21 +49,14 @@ answers() {
 # Standard error has a line with this text.
 tells() { grep -qF -- "$1" "$err"; }
 
-# The program ended with usage, of which this text tells what is wrong with the words.
+# The program ended with usage, of which this text tells what is wrong with the words; the last line says where to read on.
 ends_with_usage() {
     [ "$status" -eq 2 ]
     [ ! -s "$out" ]
     [ "$(head -n 1 "$err")" = 'usage: cvec COMMAND TYPE ..' ]
     tells "$1"
-    tells 'image TYPE'
-    tells 'show TYPE'
-    tells 'play TYPE'
-    tells 'u32, u64, i64, pair'
-    tells 'cvec image u64'
-}
-
-tells_no_fault() {
-    if tells error; then return 1; fi
+    tail -n 1 "$err" | grep -q "'cvec help"
+    [ "$(wc -l <"$err")" -lt 8 ]
 }
 
 # Standard output can't be written, for this reason.

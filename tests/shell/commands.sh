@@ -133,10 +133,46 @@ words_that_are_not_of_their_form_are_refused() (
     [ "$before" = "$(cksum <"$work/t.cv")" ]
 )
 
+# The value of an option stands behind `=`, or is the next word.
+values_are_words_of_their_own_too() (
+    t=$work/t.cv
+    run create i64 "$t" --format 2
+    did 'created\n'
+    run check i64 "$t" --quiet
+    did 'ok version 2 width 8 size 0 frames 0 live 0\n'
+    given '1 2\n-3\n4 5\n'
+    run load i64 "$t" --seats 1
+    did 'loaded 3 growths, size 5\n'
+    run append i64 "$t" --block 3
+    did 'appended 1 growths, size 10\n'
+    run list i64 "$t" --from 1 --count 3
+    did '2\n-3\n4\n'
+    run list i64 --count 1 "$t"
+    did '1\n'
+    run count i64 "$t" --record -3
+    did '2\n'
+    run find i64 "$t" --record -3 --quiet
+    did '2\n'
+    run set i64 "$t" 0 --records -8,-9
+    did 'ok\n'
+    run resize i64 "$t" 11 --record -7
+    did 'ok\n'
+    run list i64 "$t" --from 10
+    did '-7\n'
+    run list i64 "$t" --count 2
+    did '-8\n-9\n'
+    run list i64 "$t" --from -1
+    was_refused word '--from'
+    run list i64 "$t" --from --quiet
+    ends_with_usage "error: "
+    run load i64 --seats "$t"
+    ends_with_usage "error: "
+)
+
 words_that_are_missing_end_with_usage() (
     t=$work/t.cv
     for words in 'count u64 t' 'find u64 t' 'set u64 t 0' 'set u64 t' 'resize u64 t 1' 'upgrade u64 t' 'list u64' \
-        'create u64' 'create u64 t --format=3' 'create u64 t --format' 'count u64 t --record 5' 'check u16 t' \
+        'create u64' 'create u64 t --format=3' 'create u64 t --format' 'count u64 t --record' 'check u16 t' \
         'list u64 t u' 'fold u64 t --record=5' 'load u16 t' 'count u16 t --record=x'; do
         # shellcheck disable=SC2086 # each word is one
         run $words

@@ -49,13 +49,56 @@ words_that_clap_refuses_end_with_usage() (
     ends_with_usage 'error: '
 )
 
-help_ends_with_usage_and_tells_no_fault() (
-    for words in --help -h help 'show --help u64'; do
+# Behind what is wrong stands a line: how to ask for help on the command, or on the one whose name is nearest.
+usage_says_where_to_read_on() (
+    while IFS='=' read -r words line; do
         # shellcheck disable=SC2086 # each word is one
         run $words
-        ends_with_usage ''
-        tells_no_fault
-    done
+        ends_with_usage 'error: '
+        [ "$(tail -n 1 "$err")" = "$line" ]
+    done <<'ROWS'
+lists u64='list' may be meant: 'cvec help list' tells of it
+lst='list' may be meant: 'cvec help list' tells of it
+ls u64='list' may be meant: 'cvec help list' tells of it
+Set u64 t 0='set' may be meant: 'cvec help set' tells of it
+gets u64 t 0='set' may be meant: 'cvec help set' tells of it
+help apend='append' may be meant: 'cvec help append' tells of it
+help delete='cvec help' lists the commands
+remove u64='cvec help' lists the commands
+listlistlist='cvec help' lists the commands
+--kind='cvec help' lists the commands
+image u16='cvec help image' tells of it
+count u64 t='cvec help count' tells of it
+load u64 t --seats 65='cvec help load' tells of it
+help list more='cvec help list' tells of it
+version more='cvec help' lists the commands
+ROWS
+    run lists u64
+    printf '%s\n' 'usage: cvec COMMAND TYPE ..' "error: unrecognized subcommand 'lists'" \
+        "'list' may be meant: 'cvec help list' tells of it" | cmp - "$err"
+)
+
+# A parse that asks for help is refused as any other, and the help is told on standard error.
+help_as_an_option_ends_with_usage() (
+    run help
+    cp "$out" "$work/all"
+    run help show
+    cp "$out" "$work/show"
+    while IFS='=' read -r words told; do
+        # shellcheck disable=SC2086 # each word is one
+        run $words
+        [ "$status" -eq 2 ]
+        [ ! -s "$out" ]
+        { printf '%s\n\n' 'usage: cvec COMMAND TYPE ..' && cat "$work/$told"; } | cmp - "$err"
+    done <<'ROWS'
+--help=all
+-h=all
+help --help=all
+version -h=all
+show --help=show
+show -h=show
+show --help u64=show
+ROWS
 )
 
 a_word_that_is_no_utf8_ends_with_usage() (
@@ -77,7 +120,7 @@ usage_needs_no_standard_error() (
 
 the_program_tells_of_itself() (
     for command in image show play create load append serve check stat list count find set resize clear fold upgrade; do
-        run $command --help
+        run help $command
         [ "$status" -eq 0 ]
         [ ! -s "$err" ]
         case $command in
@@ -86,14 +129,27 @@ the_program_tells_of_itself() (
         esac
         grep -qF '  $ ' "$out"
         grep -qF 'Refused: ' "$out"
-        cp "$out" "$work/told"
-        run help $command
-        cmp "$out" "$work/told"
+        run help
+        [ "$status" -eq 0 ]
+        [ ! -s "$err" ]
+        grep -q "^$command .*   *[a-z]" "$out"
     done
-    run --version
-    [ "$status" -eq 0 ]
-    grep -qF 'files of version 1 and 2' "$out"
-    kit=$(sed -n 's/.*The toolchain (`\([^`]*\)`).*/\1/p' "$top/README.md")
-    [ -n "$kit" ]
-    grep -qF "$kit" "$out"
+    for words in version --version; do
+        run $words
+        [ "$status" -eq 0 ]
+        [ ! -s "$err" ]
+        grep -qF 'files of version 1 and 2' "$out"
+        kit=$(sed -n 's/.*The toolchain (`\([^`]*\)`).*/\1/p' "$top/README.md")
+        [ -n "$kit" ]
+        grep -qF "$kit" "$out"
+    done
+)
+
+what_the_program_tells_of_itself_may_be_cut() (
+    out=/dev/full
+    for words in help 'help load' version; do
+        # shellcheck disable=SC2086 # each word is one
+        run $words
+        ends_with_a_failed_write 'No space left on device'
+    done
 )

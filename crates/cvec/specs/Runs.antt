@@ -8,7 +8,7 @@ use Rattle.words_core.specs.declared.request.Task.TheVariants.{Image, Show, Play
 use Rattle.words_core.specs.declared.request.RecordType.{RecordType}
 use Rattle.words_core.specs.declared.request.RecordType.TheVariants.{U32, U64, I64, Pair, Flagged}
 use Rattle.words_core.specs.declared.request.Request.{Request}
-use Rattle.words_core.specs.declared.request.Request.TheVariants.{Input, File, Stat}
+use Rattle.words_core.specs.declared.request.Request.TheVariants.{Input, File, Stat, Tell}
 use Rattle.words_core.specs.declared.request.FileTask.{FileTask}
 use Rattle.filing_core.specs.Commands.{IsCommandRun, IsStatRun}
 use Rattle.text_core.specs.declared.refusal.Refusal.TheVariants as refusals
@@ -82,9 +82,17 @@ IsIdleRun old new statuses.Refused = Appends old new (refusal_line refusals.Memo
 IsIdleRun old new statuses.OutputFailed = Unit {0}
 IsIdleRun old new statuses.Usage = Keeps old new
 
+-- what the program tells of itself was written, or output failed
+abbrev pub IsTellRun : List ℕ → Option (List ℕ) → Option (List ℕ) → Status → Type 0
+IsTellRun text old new statuses.Done = Appends old new text
+IsTellRun text old new statuses.Refused = ⊥
+IsTellRun text old new statuses.OutputFailed = Unit {0}
+IsTellRun text old new statuses.Usage = ⊥
+
 -- the program did what it was asked for, or answered that it was asked for nothing
 abbrev pub IsAskedRun : Option Request → Option (List ℕ) → Option (List ℕ) → Option (List ℕ) → Status → Option Complaint → Type 0
 IsAskedRun None input old new status complaint = IsIdleRun old new status × (complaint ≡ None)
 IsAskedRun (Some (Input task record_type)) input old new status complaint = IfSome input (λ bytes. IsProgramRun task record_type bytes old new status) × (complaint ≡ None)
 IsAskedRun (Some (File words)) input old new status complaint = IsFileRun (IsTypedCommandRun words.record_type words.task input old) new status complaint
 IsAskedRun (Some (Stat words)) input old new status complaint = IsFileRun (IsStatRun words.form old) new status complaint
+IsAskedRun (Some (Tell text)) input old new status complaint = IsTellRun text.now old new status × (complaint ≡ None)

@@ -19,8 +19,8 @@ use std::process::ExitCode;
 use std::sync::Wait;
 use std::thread::Threads;
 use std::time::Clock;
-use text_core::{Refusal, Status, refuse, write_text};
-use words_core::{fault_of_words, told_of, write_usage};
+use text_core::{Refusal, Status, refuse};
+use words_core::{HELP, Look, Usage, usage_of, write_usage, write_wrong};
 
 const OUTPUT_BUFFER_LEN: usize = 65_536;
 
@@ -28,7 +28,8 @@ fn main(rt: HostRuntime) -> ExitCode {
     let status = match words_of(&rt) {
         Ok(words) => run_words(&rt, &rt, words.as_slice()),
         Err(error) if error.kind() == ErrorKind::InvalidData => {
-            let _ = write_usage(&mut rt.stderr(), Some("error: a word is no UTF-8"));
+            let sentence = "error: a word is no UTF-8";
+            let _ = write_wrong(&mut rt.stderr(), sentence, Look::Commands);
             Status::Usage
         }
         Err(_) => refuse_memory(&rt),
@@ -66,9 +67,6 @@ fn answer<W: Write, E: Threads + Wait + Clock + Sync + Copy + Send + 'static>(
     meter: &Meter<'_>,
     output: &mut Noting<W>,
 ) -> Status {
-    if let Some(text) = told_of(words) {
-        return tell(rt, text, output);
-    }
     let system = System {
         alloc: rt.alloc(),
         files: rt,
@@ -96,17 +94,6 @@ fn tell_ended(rt: &HostRuntime, words: &[String], ended: &Outcome<'_>, error: Op
     }
 }
 
-/// Writes what the program tells of itself.
-fn tell<W: Write>(rt: &HostRuntime, text: &[u8], output: &mut Noting<W>) -> Status {
-    match write_text(text, output) {
-        Ok(()) => Status::Done,
-        Err(_) => {
-            tell_failed_write(rt, output.error());
-            Status::OutputFailed
-        }
-    }
-}
-
 /// Answers want of memory.
 fn refuse_memory(rt: &HostRuntime) -> Status {
     let mut output = Noting::new(io::writer(rt));
@@ -117,10 +104,10 @@ fn refuse_memory(rt: &HostRuntime) -> Status {
     status
 }
 
-/// Tells how the program is used, and what is wrong with the words. Where memory is refused for that, only the former.
+/// Tells how the program is used, and what is wrong with the words. Where memory is refused for that, all of its help.
 fn tell_usage(rt: &HostRuntime, words: &[String]) {
-    let fault = fault_of_words(rt.alloc(), words).unwrap_or(None);
-    let _ = write_usage(&mut rt.stderr(), fault.as_ref().map(|text| text.as_str()));
+    let usage = usage_of(rt.alloc(), words).unwrap_or(Usage::Help(HELP));
+    let _ = write_usage(&mut rt.stderr(), &usage);
 }
 
 /// Tells why standard output can't be written.

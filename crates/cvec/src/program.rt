@@ -5,7 +5,7 @@ ghost use Rattle.std.specs.Io.KnownBytes.{Keeps, Appends};
 ghost use Rattle.text_core.specs.Text.{ended_line};
 ghost use Rattle.words_core.specs.declared.request.Request.TheVariants as requests;
 ghost use Rattle.filing_core.specs.Commands.{IsStatRun};
-ghost use Rattle.cvec.specs.Runs.{IsTaskRun, IsProgramRun, IsAskedRun, IsTypedCommandRun, IsIdleRun, IsComplaintRun, IsToldRun};
+ghost use Rattle.cvec.specs.Runs.{IsTaskRun, IsProgramRun, IsAskedRun, IsTypedCommandRun, IsIdleRun, IsComplaintRun, IsTellRun, IsToldRun};
 
 use crate::quiet::ToldUnless;
 use files_core::{Progress, refuse_file};
@@ -22,7 +22,7 @@ use std::io::{Read, Write};
 use std::rt::Files;
 use std::sync::Wait;
 use std::thread::Threads;
-use text_core::{Refusal, Status, TextRecord, refuse, write_line};
+use text_core::{Refusal, Status, TextRecord, refuse, write_line, write_text};
 use words_core::{FileWords, RecordType, Request, StatWords, Task, WordsFault, read_words};
 
 /// What the program has of the system beside its input and output.
@@ -166,6 +166,17 @@ fn run_stat<W: Write, F: Files<File = File> + AllocGlobal, P: Progress>(
     tell_stat::<W, F, ToldUnless<'_, P>>(system.files, &progress, words, writer)
 }
 
+/// Writes what the program tells of itself.
+fn tell<W: Write>(text: &[u8], writer: &mut W) -> Status
+    ensures ends { IsTellRun text.now (W.contents writer.old) (W.contents writer.new) result }
+    ensures no_usage { result ≢ Status.Usage }
+{
+    match write_text(text, writer) {
+        Ok(()) => Status::Done,
+        Err(_) => Status::OutputFailed,
+    }
+}
+
 /// How a run of the program ended, and what standard error has to tell of it.
 #[derive(Clone, Copy)]
 pub struct Outcome<'a> {
@@ -259,5 +270,10 @@ pub fn run<
             let filed = run_stat(system, &words, writer);
             outcome_of(request, filed, writer)
         }
+        Request::Tell(text) => Outcome {
+            status: tell(text, writer),
+            asked: Some(request),
+            complaint: None,
+        },
     }
 }

@@ -165,7 +165,7 @@ impl<'a> Display for Sentence<'a> {
         match &self.request {
             Request::File(words) => write_of_file(f, words, &self.complaint),
             Request::Stat(words) => write_of_stat(f, words, &self.complaint),
-            Request::Input(..) => Ok(()),
+            Request::Input(..) | Request::Tell(_) => Ok(()),
         }
     }
 }

@@ -9,8 +9,8 @@ const TYPES: [&str; 5] = ["u32", "u64", "i64", "pair", "flagged"];
 /// The words for the versions of a file.
 const FORMATS: [&str; 2] = ["1", "2"];
 
-/// The commands, in the order in which usage tells them.
-const COMMANDS: [&str; 17] = [
+/// The commands over records, in the order in which usage tells them. `help` and `version` tell of the program.
+pub const COMMANDS: [&str; 17] = [
     "image", "show", "play", "create", "load", "append", "serve", "upgrade", "check", "list",
     "count", "find", "stat", "set", "resize", "clear", "fold",
 ];
@@ -32,12 +32,12 @@ fn word<'a>(alloc: Global, name: &'a str) -> Arg<'a> {
         .allow_negative_numbers(true)
 }
 
-/// A value that is joined to its name.
-fn joined<'a>(alloc: Global, name: &'a str) -> Arg<'a> {
+/// A value behind its name, with `=` or as the next word. That may be a negative number, but no other word of an option.
+fn valued<'a>(alloc: Global, name: &'a str) -> Arg<'a> {
     Arg::new(alloc, name)
         .long(name)
-        .require_equals(true)
         .action(ArgAction::Set)
+        .allow_negative_numbers(true)
 }
 
 /// A word that is there or isn't.
@@ -67,15 +67,20 @@ fn with_words<'a>(
     with_word(alloc, name, first)?.arg(second)
 }
 
-/// A value that is joined to its name and has to be there.
+/// A value that has to be there.
 fn needed<'a>(alloc: Global, name: &'a str) -> Arg<'a> {
-    joined(alloc, name).required(true)
+    valued(alloc, name).required(true)
+}
+
+/// Records that have to be there, of which the first one may be negative.
+fn needed_records<'a>(alloc: Global) -> Arg<'a> {
+    needed(alloc, "records").allow_hyphen_values(true)
 }
 
 /// A command that reads, with the words that are its own.
 fn reading<'a>(alloc: Global, name: &'a str) -> Result<Command<'a>, AllocError> {
     match name {
-        "list" => with_words(alloc, name, joined(alloc, "from"), joined(alloc, "count")),
+        "list" => with_words(alloc, name, valued(alloc, "from"), valued(alloc, "count")),
         "count" | "find" => with_word(alloc, name, needed(alloc, "record")),
         _ => over_file(alloc, name),
     }
@@ -84,8 +89,8 @@ fn reading<'a>(alloc: Global, name: &'a str) -> Result<Command<'a>, AllocError> 
 /// A command that appends, with the words that are its own.
 fn growing<'a>(alloc: Global, name: &'a str) -> Result<Command<'a>, AllocError> {
     let own = match name {
-        "load" => joined(alloc, "seats"),
-        "append" => joined(alloc, "block"),
+        "load" => valued(alloc, "seats"),
+        "append" => valued(alloc, "block"),
         "serve" => needed(alloc, "seats"),
         _ => word(alloc, "NEW"),
     };
@@ -94,14 +99,14 @@ fn growing<'a>(alloc: Global, name: &'a str) -> Result<Command<'a>, AllocError> 
 
 /// `create`, with the words that are its own.
 fn creating<'a>(alloc: Global, name: &'a str) -> Result<Command<'a>, AllocError> {
-    let format = joined(alloc, "format").value_parser(FORMATS.as_slice());
+    let format = valued(alloc, "format").value_parser(FORMATS.as_slice());
     with_words(alloc, name, format, flag(alloc, "over"))
 }
 
 /// A command that changes what is there, with the words that are its own.
 fn changing<'a>(alloc: Global, name: &'a str) -> Result<Command<'a>, AllocError> {
     match name {
-        "set" => with_words(alloc, name, word(alloc, "START"), needed(alloc, "records")),
+        "set" => with_words(alloc, name, word(alloc, "START"), needed_records(alloc)),
         "resize" => with_words(alloc, name, word(alloc, "N"), needed(alloc, "record")),
         _ => over_file(alloc, name),
     }
@@ -115,6 +120,14 @@ fn stat_command<'a>(alloc: Global) -> Result<Command<'a>, AllocError> {
         .arg(flag(alloc, "quiet"))
 }
 
+/// `help`, which may be asked of a command.
+fn help_command<'a>(alloc: Global) -> Result<Command<'a>, AllocError> {
+    let of_command = Arg::new(alloc, "COMMAND")
+        .action(ArgAction::Set)
+        .value_parser(COMMANDS.as_slice());
+    Command::new(alloc, "help").arg(of_command)
+}
+
 /// A command with its words.
 fn command_of<'a>(alloc: Global, name: &'a str) -> Result<Command<'a>, AllocError> {
     match name {
@@ -123,6 +136,7 @@ fn command_of<'a>(alloc: Global, name: &'a str) -> Result<Command<'a>, AllocErro
         "load" | "append" | "serve" | "upgrade" => growing(alloc, name),
         "check" | "list" | "count" | "find" => reading(alloc, name),
         "stat" => stat_command(alloc),
+        "help" => help_command(alloc),
         _ => changing(alloc, name),
     }
 }
@@ -132,6 +146,7 @@ fn program<'a>(alloc: Global) -> Command<'a> {
     Command::new(alloc, "cvec")
         .no_binary_name(true)
         .subcommand_required(true)
+        .disable_help_subcommand(true)
 }
 
 /// The program with one more command.
@@ -146,11 +161,16 @@ fn with_command<'a>(
     }
 }
 
+/// The commands that tell of the program, behind the others.
+fn with_telling<'a>(alloc: Global, all: Command<'a>) -> Result<Command<'a>, AllocError> {
+    with_command(alloc, all, "help")?.subcommand(Command::new(alloc, "version"))
+}
+
 /// All commands.
 pub fn all_commands<'a>(alloc: Global) -> Result<Command<'a>, AllocError> {
     let mut all = program(alloc);
     for name in COMMANDS.iter() {
         all = with_command(alloc, all, *name)?;
     }
-    Ok(all)
+    with_telling(alloc, all)
 }

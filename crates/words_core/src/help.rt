@@ -1,5 +1,38 @@
 //! What the program tells of itself: of each command what it does, its words, an example with its output, and its refusals.
 
+ghost use Rattle.std.specs.Prelude.{◌≡◌, Some, IfSome, IfNone, option_map};
+ghost use Rattle.words_core.specs.Usage.{IsHelpOf};
+
+/// What the words may be, and an example.
+pub const HELP: &[u8] =
+    b"image TYPE                                makes a segment file of group lines, and writes it as hex
+show TYPE                                 lists the records of a segment file, which is given as hex
+play TYPE                                 runs a script of steps over a disk in memory
+create TYPE FILE [--format=1|2] [--over]  makes a file with an empty vector
+load TYPE FILE [--seats=N]                appends a growth for each line of the input
+append TYPE FILE [--block=N]              the same for input of any length, a growth for N lines
+serve TYPE FILE --seats=N                 lets N other programs grow it, through pipes
+check TYPE FILE                           reads the file, and tells what it has
+stat FILE [--json]                        tells what any file has, without reading its records
+list TYPE FILE [--from=I] [--count=N]     writes its records, one a line
+count TYPE FILE --record=R                counts the records that equal R
+find TYPE FILE --record=R                 writes the position of the first one
+set TYPE FILE START --records=R,R,..      replaces the records from START on
+resize TYPE FILE N --record=R             makes the length N, new records are R
+clear TYPE FILE                           takes all records away
+fold TYPE FILE                            puts live changes into their home bytes
+upgrade TYPE FILE NEW                     copies a vector to a new file of version 2
+
+'cvec help COMMAND' tells of each, 'cvec version' of the program. --quiet: no progress on the terminal.
+TYPE is u32, u64, i64, pair (a u64 and an i64, as 7:-3) or flagged (a u64 and 0 or 1, as 5:1).
+A growth has records with a space between each two, and a group line growths with ' | ' between each two.
+
+cvec create u64 t.cv
+echo '5 6 7' | cvec load u64 t.cv
+cvec list u64 t.cv
+echo '1 2 | 3' | cvec image u64
+";
+
 /// The program's version, the versions of files that it reads and writes, and what it was proved and built with.
 pub const VERSION: &[u8] = b"cvec 1.0
 files of version 1 and 2
@@ -225,51 +258,39 @@ Refused: file, old and FILE's first fault, not version 1, new exists (remove NEW
 faults of a write.
 ";
 
-/// The commands, and what is told of each.
-const TOLD: [(&str, &[u8]); 17] = [
-    ("image", IMAGE),
-    ("show", SHOW),
-    ("play", PLAY),
-    ("create", CREATE),
-    ("load", LOAD),
-    ("append", APPEND),
-    ("check", CHECK),
-    ("list", LIST),
-    ("count", COUNT),
-    ("find", FIND),
-    ("set", SET),
-    ("resize", RESIZE),
-    ("clear", CLEAR),
-    ("fold", FOLD),
-    ("upgrade", UPGRADE),
-    ("stat", STAT),
-    ("serve", SERVE),
-];
-
 /// What is told of a command.
-pub fn help_of(command: &str) -> Option<&'static [u8]> {
-    for told in TOLD.iter() {
-        if told.0 == command {
-            return Some(told.1);
-        }
-    }
-    None
-}
-
-/// What two words that ask the program of itself are answered with.
-fn told_of_two(first: &str, second: &str) -> Option<&'static [u8]> {
-    match (first, second) {
-        (command, "--help" | "-h") => help_of(command),
-        ("help", command) => help_of(command),
+pub fn help_of(command: &str) -> Option<&'static [u8]>
+    ensures { IfSome result (λ text. IsHelpOf command.now text.now) }
+{
+    match command {
+        "image" => Some(IMAGE),
+        "show" => Some(SHOW),
+        "play" => Some(PLAY),
+        "create" => Some(CREATE),
+        "load" => Some(LOAD),
+        "append" => Some(APPEND),
+        "check" => Some(CHECK),
+        "list" => Some(LIST),
+        "count" => Some(COUNT),
+        "find" => Some(FIND),
+        "set" => Some(SET),
+        "resize" => Some(RESIZE),
+        "clear" => Some(CLEAR),
+        "fold" => Some(FOLD),
+        "upgrade" => Some(UPGRADE),
+        "stat" => Some(STAT),
+        "serve" => Some(SERVE),
         _ => None,
     }
 }
 
-/// What words that ask the program of itself are answered with: `COMMAND --help`, `help COMMAND` and `--version`.
-pub fn told_of(words: &[String]) -> Option<&'static [u8]> {
-    match words {
-        [word] if word.as_str() == "--version" => Some(VERSION),
-        [first, second] => told_of_two(first.as_str(), second.as_str()),
-        _ => None,
+/// What `help` writes: of a command, or of all.
+pub fn help_text(command: Option<&str>) -> Option<&'static [u8]>
+    ensures one { IfSome command.entry (λ name. IfSome result (λ text. IsHelpOf name.now text.now)) }
+    ensures all { IfNone command.entry (option_map (λ text. text.now) result ≡ Some HELP.now) }
+{
+    match command {
+        Some(command) => help_of(command),
+        None => Some(HELP),
     }
 }

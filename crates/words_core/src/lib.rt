@@ -6,8 +6,10 @@ mod help;
 mod request;
 mod usage;
 mod words;
+mod wrong;
 
-pub use help::told_of;
+pub use help::HELP;
 pub use request::{FileTask, FileWords, RecordType, Request, StatWords, Task};
-pub use usage::write_usage;
-pub use words::{WordsFault, fault_of_words, read_words};
+pub use usage::{Look, Usage, write_usage, write_wrong};
+pub use words::{WordsFault, read_words};
+pub use wrong::usage_of;

@@ -129,4 +129,6 @@ pub enum Request<'a> {
     File(FileWords<'a>),
     /// What a file has is told, whatever its records are.
     Stat(StatWords<'a>),
+    /// The program tells this of itself.
+    Tell(&'static [u8]),
 }

@@ -7,6 +7,7 @@ ghost use Rattle.words_core.specs.declared.words.WordsFault.TheVariants as fault
 ghost use Rattle.words_core.specs.Words.{task_word, type_word};
 
 use crate::commands::all_commands;
+use crate::help::{VERSION, help_text};
 use crate::request::{FileTask, FileWords, RecordType, Request, StatWords, Task};
 use clap::error::ErrorKind;
 use clap::{ArgMatches, Error};
@@ -82,7 +83,7 @@ fn record_type_of(word: &str) -> Option<RecordType>
 }
 
 /// What `clap` makes of the words.
-fn matches_of<'a, S: AsStr>(alloc: Global, words: &'a [S]) -> Result<ArgMatches<'a>, Error> {
+pub fn matches_of<'a, S: AsStr>(alloc: Global, words: &'a [S]) -> Result<ArgMatches<'a>, Error> {
     all_commands(alloc)?.try_get_matches_from(words)
 }
 
@@ -216,44 +217,38 @@ fn typed_request<'a>(name: &str, words: &ArgMatches<'a>) -> Result<Request<'a>, 
     }
 }
 
+/// What `help` and the words behind it ask for.
+fn help_request<'a>(words: &ArgMatches<'a>) -> Result<Request<'a>, WordsFault> {
+    let text = help_text(words.get_str("COMMAND")).ok_or(WordsFault::Usage)?;
+    Ok(Request::Tell(text))
+}
+
 /// What the words that `clap` has matched ask for.
 fn request_of<'a>(matches: &ArgMatches<'a>) -> Result<Request<'a>, WordsFault> {
     match matches.subcommand() {
         Some(("stat", words)) => Ok(Request::Stat(stat_words(words)?)),
+        Some(("help", words)) => help_request(words),
+        Some(("version", _)) => Ok(Request::Tell(VERSION)),
         Some((name, words)) => typed_request(name, words),
         None => Err(WordsFault::Usage),
     }
 }
 
+/// They ask for the version as other programs are asked.
+fn are_version<S: AsStr>(words: &[S]) -> bool {
+    match words {
+        [word] => word.as_str() == "--version",
+        _ => false,
+    }
+}
+
 /// What the words ask for.
 pub fn read_words<'a, S: AsStr>(alloc: Global, words: &'a [S]) -> Result<Request<'a>, WordsFault> {
+    if are_version(words) {
+        return Ok(Request::Tell(VERSION));
+    }
     match matches_of(alloc, words) {
         Ok(matches) => request_of(&matches),
         Err(error) => Err(WordsFault::from(error)),
     }
-}
-
-/// The error's own words, without the usage behind them. `None`: it is a request for help.
-fn sentence_of(alloc: Global, error: &Error) -> Result<Option<String>, AllocError> {
-    if !error.use_stderr() {
-        return Ok(None);
-    }
-    let text = format!(in alloc; "{error}")?;
-    match text.as_str().split_once("\n\n") {
-        Some((sentence, _)) => Ok(Some(String::from_str(alloc, sentence)?)),
-        None => Ok(Some(text)),
-    }
-}
-
-/// What is wrong with the words, as `clap` says it. `None`: nothing is wrong, or they ask for help.
-pub fn fault_of_words<S: AsStr>(alloc: Global, words: &[S]) -> Result<Option<String>, AllocError> {
-    if let Err(error) = matches_of(alloc, words) {
-        return sentence_of(alloc, &error);
-    }
-    let sentence = match read_words(alloc, words) {
-        Err(WordsFault::Seats) => "error: the value of --seats is a number from 1 to 64",
-        Err(WordsFault::Block) => "error: the value of --block is a number from 1 to 4294967295",
-        _ => return Ok(None),
-    };
-    Ok(Some(String::from_str(alloc, sentence)?))
 }
