@@ -29,7 +29,7 @@ COMMANDS = ('image', 'show', 'play', 'create', 'load', 'append', 'serve', 'check
 
 def lacking():
     """The commands that the program's usage doesn't name."""
-    named = [line.split(' ')[0] for line in run(['help'])[2].decode().splitlines()]
+    named = [line.split(' ')[0] for line in run(['help'])[1].decode().splitlines()]
     return [command for command in COMMANDS if command not in named]
 
 

@@ -13,7 +13,7 @@ is_told_to_be_full() {
 }
 
 what_the_program_prints_of_itself_may_be_cut() (
-    for words in --version 'create --help' 'stat --help' 'help load'; do
+    for words in --version help 'help stat' 'help load'; do
         # shellcheck disable=SC2086 # each word is one
         is_told_to_be_full $words
     done

@@ -50,7 +50,7 @@ each_command_has_a_manual_page() (
     "$program" --help 2>&1 | sed 's/^usage: //' >"$work/help"
     has_the_help "$pages" cvec
     for command in $(commands); do
-        "$program" "$command" --help >"$work/help"
+        "$program" help "$command" >"$work/help"
         has_the_help "$pages" "cvec-$command"
         grep -qF "cvec-$command - $("$program" --help 2>&1 | sed -n "s/^$command .*   *//p")" "$out"
     done
@@ -76,7 +76,7 @@ cvec odd TYPE [--a='b']
 Refused: a-b, .c.
 HELP
     printf 'usage: cvec COMMAND\n\nodd TYPE [--a='"'b'"']   does \\- "it", .or not\n' >"$work/usage"
-    printf '#!/bin/sh\n[ "$1" = odd ] && exec cat "%s"\n[ "$1" != --version ] || exec echo cvec 1.0\ncat "%s" >&2\nexit 2\n' \
+    printf '#!/bin/sh\n[ "$2" = odd ] && exec cat "%s"\n[ "$1" != --version ] || exec echo cvec 1.0\ncat "%s" >&2\nexit 2\n' \
         "$work/help" "$work/usage" >"$work/cvec"
     chmod +x "$work/cvec"
     "$top/tools/manual" "$work/cvec" "$work/man/man1"
