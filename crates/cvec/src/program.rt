@@ -21,6 +21,7 @@ use std::io::{Read, Write};
 use std::rt::Files;
 use std::sync::Wait;
 use std::thread::Threads;
+use std::time::Clock;
 use text_core::{Refusal, Status, TextRecord, refuse, write_line, write_text};
 use words_core::{FileWords, RecordType, Request, StatWords, Task, WordsFault, read_words};
 
@@ -104,7 +105,7 @@ fn run_filing<
     I: Read,
     W: Write,
     E: Threads + Wait + Sync,
-    F: Files<File = File> + AllocGlobal,
+    F: Files<File = File> + Clock + AllocGlobal,
     P: Progress + Sync,
 >(
     filing: &Filing<'_, F, P>,
@@ -132,7 +133,7 @@ fn run_file<
     I: Read,
     W: Write,
     E: Threads + Wait + Sync,
-    F: Files<File = File> + AllocGlobal,
+    F: Files<File = File> + Clock + AllocGlobal,
     P: Progress + Sync,
 >(
     system: &System<'_, F, P>,
@@ -146,12 +147,14 @@ fn run_file<
     let alloc = system.alloc;
     let files = system.files;
     let file = words.file;
+    let wait = words.wait;
     if words.quiet {
         let progress = &Silent;
         let filing = Filing {
             alloc,
             files,
             file,
+            wait,
             progress,
         };
         run_filing::<I, W, E, F, Silent>(&filing, rt, words, reader, writer)
@@ -161,6 +164,7 @@ fn run_file<
             alloc,
             files,
             file,
+            wait,
             progress,
         };
         run_filing::<I, W, E, F, P>(&filing, rt, words, reader, writer)
@@ -168,7 +172,7 @@ fn run_file<
 }
 
 /// Tells what a file has.
-fn run_stat<W: Write, F: Files<File = File> + AllocGlobal, P: Progress>(
+fn run_stat<W: Write, F: Files<File = File> + Clock + AllocGlobal, P: Progress>(
     system: &System<'_, F, P>,
     words: &StatWords<'_>,
     writer: &mut W,
@@ -244,7 +248,8 @@ fn answer_fault<'a, W: Write>(fault: WordsFault, writer: &mut W) -> Outcome<'a>
 {
     let status = match fault {
         WordsFault::Memory => refuse(writer, Refusal::Memory),
-        WordsFault::Usage | WordsFault::Seats | WordsFault::Block => Status::Usage,
+        WordsFault::Usage | WordsFault::Seats | WordsFault::Block | WordsFault::Wait =>
+            Status::Usage,
     };
     Outcome {
         status,
@@ -261,7 +266,7 @@ pub fn run<
     I: Read,
     W: Write,
     E: Threads + Wait + Sync,
-    F: Files<File = File> + AllocGlobal,
+    F: Files<File = File> + Clock + AllocGlobal,
     P: Progress + Sync,
 >(system: &System<'_, F, P>, rt: &E, words: &'a [S], reader: &mut I, writer: &mut W) -> Outcome<'a>
     ensures no_words { words.now ≡ [] → result.asked ≡ Some (requests.Input Task.Image RecordType.U64) }
