@@ -202,6 +202,95 @@ a_server_has_its_file_alone_until_its_clients_have_ended() (
     the_next_one_has "$work/t.cv" '5\n7\n3\n4\n4\n4\n4\n4\n4\n'
 )
 
+# Words that wait, with a second command each that finds the file taken for a while.
+waiting_words() {
+    cat <<'ROWS'
+append u64 FILE=appended 1 growths, size 4\n
+load u64 FILE=loaded 1 growths, size 4\n
+list u64 FILE=5\n7\n3\n
+check u64 FILE=ok version 1 width 8 size 3 frames 3 live 1\n
+count u64 FILE --record 3=1\n
+fold u64 FILE=folded 1\n
+create u64 FILE --over=created\n
+upgrade u64 FILE NEW=upgraded size 3\n
+ROWS
+}
+
+# An `append` has the file until its pipe ends: for a second, or for longer.
+is_taken_by_an_append() {
+    pipe
+    "$program" append u64 "$1" <"$work/pipe" >"$work/first_out" 2>"$work/first_err" 8>&- &
+    first=$!
+    until_locked WRITE "$1"
+}
+
+a_command_waits_for_another_one() (
+    has_locks_listed || exit $is_skipped
+    two_files
+    t=$work/t.cv
+    cp "$t" "$work/before.cv"
+    waiting_words >"$work/rows"
+    for wait in --wait --wait=20; do
+        while IFS='=' read -r words answer; do
+            cp "$work/before.cv" "$t"
+            rm -f "$work/n.cv"
+            is_taken_by_an_append "$t"
+            # It is held for a second, behind which it appends the record 3.
+            (sleep 1 && echo 3 >&8) &
+            exec 8>&-
+            # shellcheck disable=SC2046 # each word is one
+            second $(echo "$words" | sed "s|FILE|$t|; s|NEW|$work/n.cv|") "$wait" 8>&-
+            did "$answer"
+            wait
+            [ "$(cat "$work/first_out")" = 'appended 1 growths, size 3' ]
+        done <"$work/rows"
+    done
+)
+
+a_command_that_has_waited_is_refused() (
+    has_locks_listed || exit $is_skipped
+    two_files
+    t=$work/t.cv
+    is_taken_by_an_append "$t"
+    sum=$(cksum <"$t")
+    for words in 'append u64 FILE' 'list u64 FILE' 'stat FILE' 'create u64 FILE --over' "upgrade u64 $work/other.cv FILE"; do
+        begun=$(date +%s%N)
+        # shellcheck disable=SC2046 # each word is one
+        second $(echo "$words" | sed "s|FILE|$t|") --wait=1
+        answers_refusal file
+        echo "cvec: $t: another command uses it; nothing was read or written; wait for its end; it was waited for 1 s" |
+            cmp - "$err"
+        [ $(($(date +%s%N) - begun)) -ge 1000000000 ]
+        # shellcheck disable=SC2046 # each word is one
+        is_kept_from "$t" $(echo "$words" | sed "s|FILE|$t|") --wait=0
+    done
+    [ "$(cksum <"$t")" = "$sum" ]
+    exec 8>&-
+    wait "$first"
+    for word in '' x 1.5 -1 01 18446744073709551616; do
+        run list u64 "$t" "--wait=$word"
+        ends_with_usage 'error: the value of --wait is a number of seconds'
+    done
+    run list u64 "$t" --wait
+    did '5\n7\n'
+)
+
+# What another file has by now that name is what a command finds that has waited.
+a_file_that_was_put_in_its_place_is_found() (
+    has_locks_listed || exit $is_skipped
+    two_files
+    t=$work/t.cv
+    run fold u64 "$work/other.cv"
+    run clear u64 "$work/other.cv" --wait=1
+    did 'ok\n'
+    is_taken_by_an_append "$t"
+    (sleep 1 && mv "$work/other.cv" "$t") 8>&- &
+    second list u64 "$t" --wait=20
+    did ''
+    exec 8>&-
+    wait "$first"
+)
+
 # Commands that read share the file, and whoever writes is kept from it.
 commands_that_read_share_a_file() (
     has_locks_listed || exit $is_skipped

@@ -22,6 +22,7 @@ use std::io::{Read, Write};
 use std::rt::Files;
 use std::sync::Wait;
 use std::thread::Threads;
+use std::time::Clock;
 use text_core::{Refusal, Status, TextRecord, refuse, write_line, write_text};
 use words_core::{FileWords, RecordType, Request, StatWords, Task, WordsFault, read_words};
 
@@ -105,7 +106,7 @@ fn run_filing<
     I: Read,
     W: Write,
     E: Threads + Wait + Sync,
-    F: Files<File = File> + AllocGlobal,
+    F: Files<File = File> + Clock + AllocGlobal,
     P: Progress + Sync,
 >(
     filing: &Filing<'_, F, P>,
@@ -133,7 +134,7 @@ fn run_file<
     I: Read,
     W: Write,
     E: Threads + Wait + Sync,
-    F: Files<File = File> + AllocGlobal,
+    F: Files<File = File> + Clock + AllocGlobal,
     P: Progress + Sync,
 >(
     system: &System<'_, F, P>,
@@ -149,13 +150,14 @@ fn run_file<
         alloc: system.alloc,
         files: system.files,
         file: words.file,
+        wait: words.wait,
         progress: &progress,
     };
     run_filing::<I, W, E, F, ToldUnless<'_, P>>(&filing, rt, words, reader, writer)
 }
 
 /// Tells what a file has.
-fn run_stat<W: Write, F: Files<File = File> + AllocGlobal, P: Progress>(
+fn run_stat<W: Write, F: Files<File = File> + Clock + AllocGlobal, P: Progress>(
     system: &System<'_, F, P>,
     words: &StatWords<'_>,
     writer: &mut W,
@@ -228,7 +230,8 @@ fn answer_fault<'a, W: Write>(fault: WordsFault, writer: &mut W) -> Outcome<'a>
 {
     let status = match fault {
         WordsFault::Memory => refuse(writer, Refusal::Memory),
-        WordsFault::Usage | WordsFault::Seats | WordsFault::Block => Status::Usage,
+        WordsFault::Usage | WordsFault::Seats | WordsFault::Block | WordsFault::Wait =>
+            Status::Usage,
     };
     Outcome {
         status,
@@ -245,7 +248,7 @@ pub fn run<
     I: Read,
     W: Write,
     E: Threads + Wait + Sync,
-    F: Files<File = File> + AllocGlobal,
+    F: Files<File = File> + Clock + AllocGlobal,
     P: Progress + Sync,
 >(system: &System<'_, F, P>, rt: &E, words: &'a [S], reader: &mut I, writer: &mut W) -> Outcome<'a>
     ensures no_words { words.now ≡ [] → result.asked ≡ Some (requests.Input Task.Image RecordType.U64) }

@@ -7,6 +7,13 @@ use disk_core::FileDisk;
 use sentences::{Complaint, Role};
 use std::fs::{File, OpenOptions, TryLockError};
 use std::rt::Files;
+use std::thread;
+use std::time::{Clock, Duration};
+
+/// The milliseconds between two tries for a lock, and how many are a second.
+const NAP: u64 = 5;
+
+const NAPS: u64 = 200;
 
 /// What a command does with a file.
 #[derive(Clone, Copy)]
@@ -71,18 +78,39 @@ fn lock<F: Files<File = File>>(
     }
 }
 
-/// Locks and opens the file at this path. Nothing is read, and nothing written but to empty it where that is asked for.
-/// Refused where it can't be opened or made, and where another command has it.
-pub fn open<F: Files<File = File> + AllocGlobal>(
+/// Locks the file at this path, and tries again for so many seconds while another command has it. Each try opens it anew, for
+/// meanwhile another file may have got this name.
+fn lock_within<F: Files<File = File> + Clock>(
     files: &F,
     path: &str,
     access: Access,
     role: Role,
+    seconds: u64,
+) -> Result<File, Complaint>
+    ensures { IfErr result (IsUnopened role) }
+{
+    for _ in 0..seconds.saturating_mul(NAPS) {
+        match lock(files, path, access, role) {
+            Err(Complaint::InUse(_)) => thread::sleep(files, Duration::from_millis(NAP)),
+            locked => return locked,
+        }
+    }
+    lock(files, path, access, role)
+}
+
+/// Locks and opens the file at this path. Nothing is read, and nothing written but to empty it where that is asked for.
+/// Refused where it can't be opened or made, and where another command has it and keeps it for so many seconds.
+pub fn open<F: Files<File = File> + Clock + AllocGlobal>(
+    files: &F,
+    path: &str,
+    access: Access,
+    role: Role,
+    seconds: u64,
 ) -> Result<Opened, Complaint>
     ensures opened { IfOk result (λ opened. IsJustOpened opened.disk) }
     ensures shut { IfErr result (IsUnopened role) }
 {
-    let lock = lock(files, path, access, role)?;
+    let lock = lock_within(files, path, access, role, seconds)?;
     let opened = match access {
         Access::Makes | Access::Empties => FileDisk::make(files, path),
         Access::Reads | Access::Writes => FileDisk::open(files, path),

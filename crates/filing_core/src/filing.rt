@@ -30,6 +30,7 @@ use std::num::NonZeroU32;
 use std::rt::Files;
 use std::sync::Wait;
 use std::thread::Threads;
+use std::time::Clock;
 use text_core::{Status, TextRecord};
 use vault_core::VaultFault;
 use words_core::FileTask;
@@ -88,15 +89,17 @@ pub struct Filing<'a, F, P> {
     pub files: &'a F,
     /// The file's name.
     pub file: &'a str,
+    /// For how many seconds another command is waited for that has the file.
+    pub wait: u64,
     pub progress: &'a P,
 }
 
-impl<'a, F: Files<File = File> + AllocGlobal, P: Progress + Sync> Filing<'a, F, P> {
+impl<'a, F: Files<File = File> + Clock + AllocGlobal, P: Progress + Sync> Filing<'a, F, P> {
     fn open(&self, access: Access) -> Result<Opened, Complaint>
         ensures opened { IfOk result (λ opened. IsJustOpened opened.disk) }
         ensures shut { IfErr result (IsUnopened Role.File) }
     {
-        open(self.files, self.file, access, Role::File)
+        open(self.files, self.file, access, Role::File, self.wait)
     }
 
     /// The disk of a file that is read as a whole, told of as it is.
@@ -297,7 +300,7 @@ impl<'a, F: Files<File = File> + AllocGlobal, P: Progress + Sync> Filing<'a, F, 
         let Opened {
             disk: new,
             lock: _lock_of_new,
-        } = open(self.files, new, Access::Makes, Role::New)?;
+        } = open(self.files, new, Access::Makes, Role::New, self.wait)?;
         let old = self.watched(old);
         let (old, _new, ended) = upgrade_file::<R, Watched<'_, FileDisk, P>, FileDisk, W>(
             self.alloc, old, new, writer,

@@ -13,6 +13,7 @@ use stat_core::{Ended, StatFault, stat};
 use std::fs::File;
 use std::io::Write;
 use std::rt::Files;
+use std::time::Clock;
 use text_core::Status;
 use words_core::StatWords;
 
@@ -42,7 +43,7 @@ fn status_of(ended: Ended) -> Result<Status, Complaint>
 }
 
 /// Locks and opens the file, and writes what it has. A complaint: it was refused, and nothing of an answer was written.
-pub fn tell_stat<W: Write, F: Files<File = File> + AllocGlobal, P: Progress>(
+pub fn tell_stat<W: Write, F: Files<File = File> + Clock + AllocGlobal, P: Progress>(
     files: &F,
     progress: &P,
     words: &StatWords<'_>,
@@ -50,7 +51,13 @@ pub fn tell_stat<W: Write, F: Files<File = File> + AllocGlobal, P: Progress>(
 ) -> Result<Status, Complaint>
     ensures { IsStatRun words.now.form (W.contents writer.old) (W.contents writer.new) result }
 {
-    let Opened { disk, lock: _lock } = open(files, words.file, Access::Reads, Role::File)?;
+    let Opened { disk, lock: _lock } = open(
+        files,
+        words.file,
+        Access::Reads,
+        Role::File,
+        words.wait,
+    )?;
     let disk = Watched::new(disk, progress);
     let (_disk, ended) = stat::<Watched<'_, FileDisk, P>, W>(disk, words.form, writer);
     status_of(ended)

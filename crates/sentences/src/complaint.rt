@@ -92,7 +92,7 @@ fn write_wrong<W: fmt::Write>(
         Complaint::NotOpened(role, error) => {
             write_not_opened(f, name_of(words, *role), *role, error)
         }
-        Complaint::InUse(role) => write_in_use(f, name_of(words, *role)),
+        Complaint::InUse(role) => write_in_use(f, name_of(words, *role), words.wait),
         Complaint::Fault(fault)
         | Complaint::Damaged(_, fault)
         | Complaint::Appended(_, fault)
@@ -150,7 +150,7 @@ fn write_of_stat<W: fmt::Write>(
     let name = words.file;
     match complaint {
         Complaint::NotOpened(role, error) => write_not_opened(f, name, *role, error),
-        Complaint::InUse(_) => write_in_use(f, name),
+        Complaint::InUse(_) => write_in_use(f, name, words.wait),
         Complaint::Fault(fault) | Complaint::Appended(_, fault) | Complaint::Served(_, fault) =>
             write_stat_fault(f, name, *fault),
         Complaint::Damaged(before, fault) => {

@@ -47,9 +47,18 @@ pub fn write_not_opened<W: fmt::Write>(
     write!(f, "{name}: {about} ({error}); nothing was read or written")
 }
 
-pub fn write_in_use<W: fmt::Write>(f: &mut Formatter<W>, name: &str) -> fmt::Result {
+/// For how long another command was waited for, where it was.
+fn write_wait<W: fmt::Write>(f: &mut Formatter<W>, wait: u64) -> fmt::Result {
+    match wait {
+        0 => Ok(()),
+        seconds => write!(f, "; it was waited for {seconds} s"),
+    }
+}
+
+pub fn write_in_use<W: fmt::Write>(f: &mut Formatter<W>, name: &str, wait: u64) -> fmt::Result {
     write!(
         f,
         "{name}: another command uses it; nothing was read or written; wait for its end"
-    )
+    )?;
+    write_wait(f, wait)
 }

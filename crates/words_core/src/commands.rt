@@ -9,6 +9,9 @@ const TYPES: [&str; 5] = ["u32", "u64", "i64", "pair", "flagged"];
 /// The words for the versions of a file.
 const FORMATS: [&str; 2] = ["1", "2"];
 
+/// The seconds that are waited where `--wait` has no number: for good.
+const FOR_GOOD: &str = "18446744073709551615";
+
 /// The commands over records, in the order in which usage tells them. `help` and `version` tell of the program.
 pub const COMMANDS: [&str; 17] = [
     "image", "show", "play", "create", "load", "append", "serve", "upgrade", "check", "list",
@@ -45,11 +48,25 @@ fn flag<'a>(alloc: Global, name: &'a str) -> Arg<'a> {
     Arg::new(alloc, name).long(name).action(ArgAction::SetTrue)
 }
 
+/// For how many seconds another command is waited for. Without a number it is for good.
+fn waiting<'a>(alloc: Global) -> Arg<'a> {
+    valued(alloc, "wait")
+        .num_args(0..=1)
+        .require_equals(true)
+        .default_missing_value(FOR_GOOD)
+}
+
+/// A command with the words that all have over a file.
+fn with_file<'a>(alloc: Global, command: Command<'a>) -> Result<Command<'a>, AllocError> {
+    command
+        .arg(word(alloc, "FILE"))?
+        .arg(flag(alloc, "quiet"))?
+        .arg(waiting(alloc))
+}
+
 /// A command over a file.
 fn over_file<'a>(alloc: Global, name: &'a str) -> Result<Command<'a>, AllocError> {
-    typed(alloc, name)?
-        .arg(word(alloc, "FILE"))?
-        .arg(flag(alloc, "quiet"))
+    with_file(alloc, typed(alloc, name)?)
 }
 
 /// A command over a file, with a word of its own.
@@ -114,10 +131,7 @@ fn changing<'a>(alloc: Global, name: &'a str) -> Result<Command<'a>, AllocError>
 
 /// `stat`, which takes no word of a type.
 fn stat_command<'a>(alloc: Global) -> Result<Command<'a>, AllocError> {
-    Command::new(alloc, "stat")
-        .arg(word(alloc, "FILE"))?
-        .arg(flag(alloc, "json"))?
-        .arg(flag(alloc, "quiet"))
+    with_file(alloc, Command::new(alloc, "stat"))?.arg(flag(alloc, "json"))
 }
 
 /// `help`, which may be asked of a command.

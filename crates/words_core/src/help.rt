@@ -24,6 +24,7 @@ fold TYPE FILE                            puts live changes into their home byte
 upgrade TYPE FILE NEW                     copies a vector to a new file of version 2
 
 'cvec help COMMAND' tells of each, 'cvec version' of the program. --quiet: no progress on the terminal.
+--wait[=SECONDS]: where another command has FILE, its end is waited for, so long or for good.
 TYPE is u32, u64, i64, pair (a u64 and an i64, as 7:-3) or flagged (a u64 and 0 or 1, as 5:1).
 A growth has records with a space between each two, and a group line growths with ' | ' between each two.
 

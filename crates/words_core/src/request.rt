@@ -107,6 +107,8 @@ pub struct FileWords<'a> {
     pub file: &'a str,
     /// Nothing is told of how far the work is.
     pub quiet: bool,
+    /// For how many seconds another command is waited for that has the file.
+    pub wait: u64,
 }
 
 /// A look at a file whose type of record needn't be known.
@@ -118,6 +120,8 @@ pub struct StatWords<'a> {
     pub form: Form,
     /// Nothing is told of how far the work is.
     pub quiet: bool,
+    /// For how many seconds another command is waited for that has the file.
+    pub wait: u64,
 }
 
 /// What the words ask for.

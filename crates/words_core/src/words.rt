@@ -1,6 +1,6 @@
 //! The words that the program takes, read by `clap`.
 
-ghost use Rattle.std.specs.Prelude.{◌≡◌, ◌≢◌, ◌↔◌, ◌<◌, ◌≤◌, IfSome, IfNone, IfOk};
+ghost use Rattle.std.specs.Prelude.{◌≡◌, ◌≢◌, ◌↔◌, ◌<◌, ◌≤◌, IfSome, IfNone, IfOk, Ok, decimal};
 ghost use Rattle.clap.specs.Values.{kind_of};
 ghost use Rattle.clap.specs.declared.error.kind.ErrorKind.TheVariants as kinds;
 ghost use Rattle.words_core.specs.declared.words.WordsFault.TheVariants as faults;
@@ -30,6 +30,8 @@ pub enum WordsFault {
     Seats,
     /// The number of lines of a block is none from 1 to 4294967295.
     Block,
+    /// The time to wait is no number.
+    Wait,
     /// A growth of memory was refused.
     Memory,
 }
@@ -109,6 +111,17 @@ fn block_of(word: Option<&str>) -> Result<NonZeroU32, WordsFault> {
     NonZeroU32::new(lines).ok_or(WordsFault::Block)
 }
 
+/// For how many seconds a word asks to wait.
+fn wait_of(word: Option<&str>) -> Result<u64, WordsFault>
+    ensures none { IfNone word.entry (result ≡ Ok 0) }
+    ensures number { IfSome word.entry (λ text. IfOk result (λ seconds. text.now ≡ decimal seconds)) }
+{
+    match word {
+        Some(word) => u64::parse(word.as_bytes()).ok_or(WordsFault::Wait),
+        None => Ok(0),
+    }
+}
+
 /// The version of a file that a word asks for.
 fn format_of(word: Option<&str>) -> Format {
     match word {
@@ -186,6 +199,7 @@ fn stat_words<'a>(words: &ArgMatches<'a>) -> Result<StatWords<'a>, WordsFault> {
             Form::Lines
         },
         quiet: words.get_flag("quiet"),
+        wait: wait_of(words.get_str("wait"))?,
     })
 }
 
@@ -200,6 +214,7 @@ fn file_words<'a>(
         record_type,
         file: words.get_str("FILE").ok_or(WordsFault::Usage)?,
         quiet: words.get_flag("quiet"),
+        wait: wait_of(words.get_str("wait"))?,
     })
 }
 
