@@ -81,6 +81,11 @@ a_file_is_upgraded() (
     did 'created\n'
     run check u64 "$work/two.cv"
     did 'ok version 2 width 8 size 0 frames 0 live 0\n'
+    # A file of few bytes, which aren't those of a creation that was stopped, is not written over.
+    printf 'secret=abc1\n' >"$work/s.cv"
+    run upgrade u64 "$work/t.cv" "$work/s.cv"
+    was_refused 'new exists' 'a vector or other bytes; it is as it was; remove it, or name another file'
+    printf 'secret=abc1\n' | cmp - "$work/s.cv"
 )
 
 every_type_has_files() (

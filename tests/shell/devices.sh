@@ -167,7 +167,8 @@ an_append_that_fills_a_device_leaves_the_first_lines() (
     head -n "$(wc -l <"$out")" "$in" | cmp - "$out"
 )
 
-a_new_file_that_a_full_device_takes_no_more_is_a_part() (
+# What was written of it would look like a vector.
+a_new_file_that_a_full_device_takes_no_more_is_emptied() (
     run create u64 "$work/t.cv"
     seq -s ' ' 1 100 >"$in"
     run load u64 "$work/t.cv"
@@ -175,10 +176,9 @@ a_new_file_that_a_full_device_takes_no_more_is_a_part() (
     on_a_full_device upgrade u64 "$work/t.cv" "$work/n.cv"
     was_refused 'new disk write' "cvec: $work/n.cv: the system didn't write it, or put it on the device, which may be full; it may have a part; "
     [ "$(cksum <"$work/t.cv")" = "$sum" ]
-    run list u64 "$work/n.cv"
-    did ''
+    [ -f "$work/n.cv" ] && [ ! -s "$work/n.cv" ]
     run upgrade u64 "$work/t.cv" "$work/n.cv"
-    was_refused 'new exists' 'remove it, or name another file'
+    did 'upgraded size 100\n'
 )
 
 # ---- an input that fails in its midst

@@ -11,14 +11,17 @@ use Rattle.disk_core.specs.Moments.{LeavesOnly, clock}
 use Rattle.disk_core.specs.FileDisk.{KeepsSoFar, faults_of, states_of}
 use Rattle.disk_core.specs.declared.fault.DiskFault.{DiskFault}
 use Rattle.segment_core.specs.declared.format.Format.{Format}
+use Rattle.segment_core.specs.declared.format.Format.TheVariants.{Two}
 use Rattle.segment_core.specs.Shape.{shape_of}
 use Rattle.pen_core.specs.Opening.{OnlySyncs}
+use Rattle.pen_core.specs.declared.fault.PenFault.{PenFault}
 use Rattle.pen_core.specs.declared.fault.PenFault.TheVariants as pens
 use Rattle.vault_core.specs.Commands.{resized}
 use Rattle.vault_core.specs.Touched.{IsTouched}
 use Rattle.vault_core.specs.Vault.{VaultOf}
 use Rattle.vault_core.specs.declared.fault.VaultFault.{VaultFault}
 use Rattle.vault_core.specs.declared.fault.VaultFault.TheVariants as vaults
+use Rattle.vault_core.specs.declared.upgrading.UpgradeFault.TheVariants as upgrades
 use Rattle.pen_core.specs.Refusals.{one_run}
 use Rattle.text_core.specs.Text.{Spelling, ended_line}
 use Rattle.text_core.specs.declared.status.Status.{Status}
@@ -42,7 +45,7 @@ use Rattle.files_core.specs.declared.appended.Appended.{Appended}
 use Rattle.files_core.specs.declared.asked.Window.{Window}
 use Rattle.files_core.specs.declared.ended.Ended.{Ended}
 use Rattle.files_core.specs.declared.fault.FileFault.{FileFault}
-use Rattle.files_core.specs.declared.fault.FileFault.TheVariants.{Vault}
+use Rattle.files_core.specs.declared.fault.FileFault.TheVariants.{Vault, Upgrade as Unupgraded}
 use Rattle.serve_core.specs.Serving.{CountsFailed, IsLeft, IsServeRefusal, serve_failures}
 use Rattle.serve_core.specs.declared.fault.ServeFault.{ServeFault}
 use Rattle.stat_core.specs.Calls.{AreCalls, failed_at}
@@ -84,11 +87,19 @@ module _ {R : Type 0} (form : Encoding R) where
   MayBeMadeOn format false disk asked = IsLookedAt disk asked × (KeepsSoFar asked → IsVacant (shape_of format form) (bytes_of (states_of disk)))
 
   -- it may not: something else stands there, or that couldn't be asked
-  abbrev pub IsTaken : Format → Bool → FileFault → Type 0
-  IsTaken format true fault = ⊥
-  IsTaken format false fault = (disk asked : Disk) × IsJustOpened disk
-      × (((fault ≡ Vault (vaults.Pen pens.Exists)) × (KeepsSoFar asked → ¬ (IsVacant (shape_of format form) (bytes_of (states_of disk)))))
-      ⊎ ((cause : DiskFault) × (fault ≡ Vault (vaults.Pen (pens.Disk cause))) × (faults_of asked ≡ faults_of disk + 1)))
+  abbrev pub IsTaken : Format → PenFault → Type 0
+  IsTaken format fault = (disk asked : Disk) × IsJustOpened disk
+      × (((fault ≡ pens.Exists) × (KeepsSoFar asked → ¬ (IsVacant (shape_of format form) (bytes_of (states_of disk)))))
+      ⊎ ((cause : DiskFault) × (fault ≡ pens.Disk cause) × (faults_of asked ≡ faults_of disk + 1)))
+
+  -- `create` may not make it, as its words say
+  abbrev pub IsPlaceTaken : Format → Bool → FileFault → Type 0
+  IsPlaceTaken format true fault = ⊥
+  IsPlaceTaken format false fault = (cause : PenFault) × (fault ≡ Vault (vaults.Pen cause)) × IsTaken format cause
+
+  -- `upgrade` may not make its new file
+  abbrev pub IsNewTaken : FileFault → Type 0
+  IsNewTaken fault = (cause : PenFault) × (fault ≡ Unupgraded (upgrades.New (vaults.Pen cause))) × IsTaken Two cause
 
 module _ {R : Type 0} (form : Encoding R) (old new : Option (List ℕ)) (filed : Result Status Complaint) where
   -- The words or the input were refused, for such a reason; or the file wasn't opened; or the engine ended so over it.
@@ -169,27 +180,29 @@ module _ {R : Type 0} (form : Encoding R) (old new : Option (List ℕ)) (filed :
 
   -- `create`: an empty file of this version
   abbrev pub IsCreateRun : Format → Bool → Type 0
-  IsCreateRun format over = IsOverFile (IsTaken form format over) (λ disk left ended. (asked : Disk) × MayBeMadeOn form format over disk asked
+  IsCreateRun format over = IsOverFile (IsPlaceTaken form format over) (λ disk left ended. (asked : Disk) × MayBeMadeOn form format over disk asked
       × EndsAs (IsCreated form KeepsSoFar states_of faults_of format asked left) (IsCreateRefusal form KeepsSoFar states_of faults_of format asked left) ended
       × WritesText old new created_line ended)
 
-  -- `upgrade`: the vector of the old file stands in the new one
+  -- `upgrade`: the vector of the old file stands in the new one, which was made where nothing else stood
   pub record HasUpgraded : Type 0 where
     pub disk : Disk
     pub made : Disk
+    pub asked : Disk
     pub left : Disk
     pub left_new : Disk
     pub ended : Ended
     pub opened : IsJustOpened disk × IsJustOpened made
+    pub vacant : MayBeMadeOn form Two false made asked
     pub stays : KeepsSoFar left → OnlySyncs (states_of disk) (states_of left)
     pub faults_are : faults_of left ≡ faults_of disk + failed_upgrading ended
-    pub engine : EndsAs ((text : List ℕ) × IsUpgraded form KeepsSoFar states_of KeepsSoFar states_of faults_of disk made left left_new text)
-        (IsUpgradeRefusal form KeepsSoFar states_of KeepsSoFar states_of faults_of disk made left left_new) ended
-    pub writes : WritesAnswer old new (IsUpgraded form KeepsSoFar states_of KeepsSoFar states_of faults_of disk made left left_new) ended
+    pub engine : EndsAs ((text : List ℕ) × IsUpgraded form KeepsSoFar states_of KeepsSoFar states_of faults_of disk asked left left_new text)
+        (IsUpgradeRefusal form KeepsSoFar states_of KeepsSoFar states_of faults_of disk asked left left_new) ended
+    pub writes : WritesAnswer old new (IsUpgraded form KeepsSoFar states_of KeepsSoFar states_of faults_of disk asked left left_new) ended
     pub told : IsStatusOf (IsComplaintOf form left) ended filed
 
   abbrev pub IsUpgradeRun : Type 0
-  IsUpgradeRun = IsShut old new filed roles.File ⊎ (IsShut old new filed roles.New ⊎ HasUpgraded)
+  IsUpgradeRun = IsShut old new filed roles.File ⊎ (IsShut old new filed roles.New ⊎ (IsRefusedBefore old new filed (IsNewTaken form) ⊎ HasUpgraded))
 
   -- how `serve` ends whose engine gave that disk back, ended so, and settled so many growths
   abbrev pub IsServedAs : Disk → ℕ → Result (Unit {0}) ServeFault → Type 0

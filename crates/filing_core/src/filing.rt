@@ -7,7 +7,7 @@ ghost use Rattle.files_core.specs.Listing.{IsWindowListed};
 ghost use Rattle.files_core.specs.Watched.{below};
 ghost use Rattle.filing_core.specs.Asked.{IsNoWindow, IsWindow};
 ghost use Rattle.filing_core.specs.Complaints.{IsComplaintOf, IsJustOpened, IsUnopened};
-ghost use Rattle.filing_core.specs.Commands.{IsAppendRun, IsCheckRun, IsClearRun, IsCommandRun, IsCountRun, IsCreateRun, IsDone, IsFindRun, IsFoldRun, IsListRun, IsLoadRun, IsResizeRun, IsServeRun, IsSetRun, IsTaken, IsUpgradeRun, MayBeMadeOn, Reads};
+ghost use Rattle.filing_core.specs.Commands.{IsAppendRun, IsCheckRun, IsClearRun, IsCommandRun, IsCountRun, IsCreateRun, IsDone, IsFindRun, IsFoldRun, IsListRun, IsLoadRun, IsNewTaken, IsPlaceTaken, IsResizeRun, IsServeRun, IsSetRun, IsTaken, IsUpgradeRun, MayBeMadeOn, Reads};
 
 use crate::access::{Access, Opened, open};
 use crate::counting::CountingGate;
@@ -32,7 +32,7 @@ use std::sync::Wait;
 use std::thread::Threads;
 use std::time::Clock;
 use text_core::{Status, TextRecord};
-use vault_core::VaultFault;
+use vault_core::{UpgradeFault, VaultFault};
 use words_core::FileTask;
 
 /// The bytes of a word, if there is one.
@@ -54,31 +54,52 @@ fn window_of(from: Option<&str>, count: Option<&str>) -> Result<Window, FileFaul
 }
 
 /// The disk, where nothing stands on it but what a stopped creation of such a file leaves.
-fn vacant<R: TextRecord>(disk: FileDisk, format: Format) -> Result<FileDisk, FileFault>
+fn vacant<R: TextRecord>(disk: FileDisk, format: Format) -> Result<FileDisk, PenFault>
     ensures vacant { IfOk result (MayBeMadeOn R.form format false disk) }
-    ensures taken { IsJustOpened disk → IfErr result (IsTaken R.form format false) }
+    ensures taken { IsJustOpened disk → IfErr result (IsTaken R.form format) }
 {
     let mut disk = disk;
     match is_vacant::<R, FileDisk>(&mut disk, format) {
         Ok(true) => Ok(disk),
-        Ok(false) => Err(FileFault::Vault(VaultFault::Pen(PenFault::Exists))),
-        Err(fault) => Err(FileFault::Vault(VaultFault::Pen(PenFault::Disk(fault)))),
+        Ok(false) => Err(PenFault::Exists),
+        Err(fault) => Err(PenFault::Disk(fault)),
     }
 }
 
-/// The disk, where such a file may be made on it: nothing else stands there, or it is to be made over what does.
+/// The disk, where `create` may make such a file on it: nothing else stands there, or it is to be made over what does.
 fn takeable<R: TextRecord>(
     disk: FileDisk,
     format: Format,
     over: bool,
 ) -> Result<FileDisk, FileFault>
     ensures vacant { IfOk result (MayBeMadeOn R.form format over disk) }
-    ensures taken { IsJustOpened disk → IfErr result (IsTaken R.form format over) }
+    ensures taken { IsJustOpened disk → IfErr result (IsPlaceTaken R.form format over) }
 {
     if over {
-        Ok(disk)
-    } else {
-        vacant::<R>(disk, format)
+        return Ok(disk);
+    }
+    match vacant::<R>(disk, format) {
+        Ok(disk) => Ok(disk),
+        Err(fault) => Err(FileFault::Vault(VaultFault::Pen(fault))),
+    }
+}
+
+/// The disk, where `upgrade` may make its new file on it.
+fn new_place<R: TextRecord>(disk: FileDisk) -> Result<FileDisk, FileFault>
+    ensures vacant { IfOk result (MayBeMadeOn R.form Format.Two false disk) }
+    ensures taken { IsJustOpened disk → IfErr result (IsNewTaken R.form) }
+{
+    match vacant::<R>(disk, Format::Two) {
+        Ok(disk) => Ok(disk),
+        Err(fault) => Err(FileFault::Upgrade(UpgradeFault::New(VaultFault::Pen(fault)))),
+    }
+}
+
+/// Takes away what an upgrade that was refused has written of its new file: that would look like a vector. Where the system
+/// doesn't, it stays, and the next upgrade refuses to write over it.
+fn take_back(file: &File, ended: Ended) {
+    if let Ended::Refused(FileFault::Upgrade(UpgradeFault::New(_))) = ended {
+        let _ = file.set_len(0);
     }
 }
 
@@ -299,12 +320,14 @@ impl<'a, F: Files<File = File> + Clock + AllocGlobal, P: Progress + Sync> Filing
         } = self.open(Access::Reads)?;
         let Opened {
             disk: new,
-            lock: _lock_of_new,
+            lock: lock_of_new,
         } = open(self.files, new, Access::Makes, Role::New, self.wait)?;
+        let new = new_place::<R>(new)?;
         let old = self.watched(old);
         let (old, _new, ended) = upgrade_file::<R, Watched<'_, FileDisk, P>, FileDisk, W>(
             self.alloc, old, new, writer,
         );
+        take_back(&lock_of_new, ended);
         status_on::<R>(self.alloc, old.into_disk(), ended)
     }
 
