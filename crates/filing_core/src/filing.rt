@@ -15,8 +15,9 @@ use crate::ending::{status_of_append, status_of_serve, status_on};
 use crate::serving::pipes_of;
 use disk_core::FileDisk;
 use files_core::{
-    FileFault, Progress, Watched, Window, check, clear, count, create, find, fold, is_vacant, list,
-    read_record, read_resizing, read_setting, read_window, resize, set, upgrade_file,
+    Ended, FileFault, Progress, Watched, Window, check, clear, count, create, find, fold,
+    is_vacant, list, read_record, read_resizing, read_setting, read_window, resize, set,
+    upgrade_file,
 };
 use load_core::{Deck, append, load, read_growth_lines};
 use pen_core::PenFault;
