@@ -8,8 +8,8 @@ pub returns : goal.returns
 returns g c = inr (inr (inr (record {
   disk = below c.watched-old.result;
   made = c.in_ok-new.field-0.disk;
-  asked = c.in_ok-new-1.new;
-  vacant = c.in_ok-new-1.ensures.vacant;
+  asked = c.in_ok-new-2.new;
+  vacant = c.in_ok-new-2.ensures.vacant;
   left = below c.upgrade_file-old.result.0;
   left_new = c.upgrade_file-old.result.1;
   ended = c.upgrade_file-old.result.2;
