@@ -8,7 +8,7 @@ ghost use Rattle.std.proofs.Common.{rules, refl};
 ghost use Rattle.std.proofs.Math.Bool.{beq};
 ghost use Rattle.std.proofs.lemmas.Nat.{le_bytes_8};
 ghost use Rattle.record_core.specs.Bytes.{unsigned, signed, boolean};
-ghost use Rattle.record_core.specs.WritesBack.{unsigned_back, signed_back, boolean_back, joined_back, joined_exact};
+ghost use Rattle.record_core.specs.WritesBack.{unsigned_back, signed_back, boolean_back, of_parts_back, of_parts_exact};
 ghost use Rattle.cvec_c.specs.Records.{c_pair, c_pair_parts, c_flagged, c_flagged_parts};
 
 use record_core::{Flagged, Pair, Record};
@@ -64,9 +64,9 @@ impl Record for CvecPair {
 
     ghost width_of_bytes = { λ _. refl };
 
-    ghost writes_back = { joined_back c_pair_parts (unsigned w64) (signed w64) (unsigned_back w64 le_bytes_8) (signed_back w64 le_bytes_8) };
+    ghost writes_back = { of_parts_back c_pair_parts (unsigned w64) (signed w64) (unsigned_back w64 le_bytes_8) (signed_back w64 le_bytes_8) };
 
-    ghost exact = { joined_exact c_pair_parts nat_eq int_eq (λ x y. (unsigned_Decides x y).0) (λ x y. (signed_Decides x y).0) };
+    ghost exact = { of_parts_exact c_pair_parts nat_eq int_eq (λ x y. (unsigned_Decides x y).0) (λ x y. (signed_Decides x y).0) };
 }
 
 impl Record for CvecFlagged {
@@ -107,7 +107,7 @@ impl Record for CvecFlagged {
 
     ghost width_of_bytes = { λ _. refl };
 
-    ghost writes_back = { joined_back c_flagged_parts (unsigned w64) boolean (unsigned_back w64 le_bytes_8) boolean_back };
+    ghost writes_back = { of_parts_back c_flagged_parts (unsigned w64) boolean (unsigned_back w64 le_bytes_8) boolean_back };
 
-    ghost exact = { joined_exact c_flagged_parts nat_eq beq (λ x y. (unsigned_Decides x y).0) (λ x y. (booleans_Decides x y).0) };
+    ghost exact = { of_parts_exact c_flagged_parts nat_eq beq (λ x y. (unsigned_Decides x y).0) (λ x y. (booleans_Decides x y).0) };
 }
