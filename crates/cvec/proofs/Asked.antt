@@ -73,7 +73,8 @@ module _ {R : Type 0} (form : Encoding R) (old new : Option (List ℕ)) (filed :
   no_usage_of_task spelling Fold input run = no_usage_over _ _ run
   no_usage_of_task spelling (Upgrade name) input (inl shut) = no_usage_alone old new filed _ shut
   no_usage_of_task spelling (Upgrade name) input (inr (inl shut)) = no_usage_alone old new filed _ shut
-  no_usage_of_task spelling (Upgrade name) input (inr (inr done)) = no_usage_of_status _ done.ended filed done.told
+  no_usage_of_task spelling (Upgrade name) input (inr (inr (inl taken))) = subst IsNoUsage (sym taken.told) tt
+  no_usage_of_task spelling (Upgrade name) input (inr (inr (inr done))) = no_usage_of_status _ done.ended filed done.told
   no_usage_of_task spelling (Serve clients) input (inl unserved) = no_usage_alone old new filed _ unserved
   no_usage_of_task spelling (Serve clients) input (inr (inl shut)) = no_usage_alone old new filed _ shut
   no_usage_of_task spelling (Serve clients) input (inr (inr served)) = no_usage_served served.left served.growths served.served served.told

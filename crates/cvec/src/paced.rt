@@ -1,5 +1,7 @@
 //! Standard input that a thread of its own reads ahead, so that what has come is handed on while more is waited for.
 
+ghost use Rattle.std.specs.Io.{ReadsAtMost};
+
 use crossbeam_channel::{Receiver, Sender, bounded};
 use std::alloc::{AllocError, Global};
 use std::io::{self, Cursor, ErrorKind, Read};
@@ -169,7 +171,9 @@ impl Ahead {
         false
     }
 
-    fn read<E: Wait + Clock>(&mut self, rt: &E, buf: &mut [u8]) -> io::Result<usize> {
+    fn read<E: Wait + Clock>(&mut self, rt: &E, buf: &mut [u8]) -> io::Result<usize>
+        ensures { ReadsAtMost result buf.new }
+    {
         self.send_buffers(rt);
         let mut filled = 0;
         for _ in rt.forever() {
