@@ -35,7 +35,7 @@ of_kind_9() { bytes '\0001CVECSEG\0001\0010\0000\0001\0011\0010\0000\0000\0000\0
 
 closed() { bytes '\0000CVECSEG\0001\0010\0000\0000' "$work/t.cv"; }
 
-new_closed() { bytes '\0000CVECSEG\0001\0010\0000\0000' "$work/n.cv"; }
+new_closed() { bytes '\0000CVECSEG\0002\0010\0000\0000' "$work/n.cv"; }
 
 new_empty() { run create u64 "$work/n.cv"; }
 
