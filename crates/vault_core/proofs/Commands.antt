@@ -1,5 +1,5 @@
 -- What every command promises.
-use Rattle.std.proofs.Common.{◌≡◌, ℕ, ◌+◌, ◌-◌, ◌*◌, List, Bool, true, false, [], ◌∷◌, length, Option, Some, None, inl, inr, refl, sym, ap, subst, ◌∙◌, arith}
+use Rattle.std.proofs.Common.{◌≡◌, ℕ, ◌+◌, ◌-◌, List, Bool, true, false, [], ◌∷◌, Option, Some, None, inl, inr, refl, sym, ap, subst, ◌∙◌, arith}
 use Rattle.std.specs.Prelude.{Result, Ok, Err, IfErr, MatchOption, MatchResult, ◌≤◌}
 use Rattle.std.specs.Option.{is_some}
 use Rattle.std.specs.List.{AllByRecursion}
@@ -7,9 +7,8 @@ use Rattle.std.proofs.lemmas.Option.{same_Some}
 use Rattle.record_core.specs.Bytes.{Encoding}
 use Rattle.disk_core.specs.State.{State}
 use Rattle.disk_core.specs.Moments.{LeavesOnly, clock}
-use Rattle.segment_core.specs.Frame.{Run, Frame}
-use Rattle.segment_core.specs.Tally.{after}
-use Rattle.segment_core.specs.Raw.{AreCellsOf, after_frame}
+use Rattle.segment_core.specs.Frame.{Frame}
+use Rattle.segment_core.specs.Raw.{after_frame}
 use Rattle.segment_core.specs.declared.format.Shape.{Shape}
 use Rattle.segment_core.specs.Written.{joined}
 use Rattle.pen_core.specs.declared.fault.PenFault.{PenFault}
@@ -22,10 +21,11 @@ use Rattle.pen_core.specs.Pen.{MayOpen, FileSame, FileGains, IsUnchanged, vector
 use Rattle.pen_core.specs.Refusals.{first_refusal, IsRefusal}
 use Rattle.vault_core.specs.declared.fault.VaultFault.TheVariants.{Pen}
 use Rattle.vault_core.specs.declared.fault.VaultFault.{VaultFault}
-use Rattle.vault_core.specs.Vault.{VaultOf, IsVault, OpensToEither, list_of, vault_of}
+use Rattle.vault_core.specs.Vault.{VaultOf, IsVault, OpensToEither, vault_of}
 use Rattle.pen_core.specs.Settled.{IsLogSettled, IsLogFault, frames_after, frames_and}
 use Rattle.pen_core.specs.Vectors.{frames_with}
 use Rattle.vault_core.specs.Commands.{IsBegun, IsCommand, IsStopFault, StandsCommanded, calls_if}
+use Rattle.vault_core.proofs.Devices.{Device}
 use Rattle.vault_core.proofs.Kept.{before, done_sure, done_pen, failed_sure, failed_pen, failed_stands, stopped, command_images, sure_same}
 
 -- ---- tests
@@ -131,22 +131,22 @@ stands_made made was (Err fault) stops it = subst (StandsCommanded made was) (sy
 
 -- ---- begun
 
-module _ {R D : Type 0} {form : Encoding R} {keeps : D → Type 0} (states : D → List State) (faults_of : D → ℕ) {v : VaultOf R D} {frame : Frame} {mid : PenOf D} {blocks : List (List R)}
-    (b : IsBegun form keeps v frame mid blocks) (lines : List (Bool × PenFault)) (allowed : first_refusal lines ≡ None)
-    (new : PenOf D) (model : keeps new.disk → keeps mid.disk) (images : keeps new.disk → LeavesOnly (states mid.disk) (states new.disk) (MayOpen mid)) where
-  back : keeps new.disk → keeps v.pen.disk
+module _ {R D : Type 0} {form : Encoding R} (device : Device D) {v : VaultOf R D} {frame : Frame} {mid : PenOf D} {blocks : List (List R)}
+    (b : IsBegun form device.keeps v frame mid blocks) (new : PenOf D) (model : device.keeps new.disk → device.keeps mid.disk)
+    (images : device.keeps new.disk → LeavesOnly (device.states mid.disk) (device.states new.disk) (MayOpen mid)) where
+  back : device.keeps new.disk → device.keeps v.pen.disk
   back now = before b (model now)
 
   left : log_left mid.job ≡ 4
   left = ap log_left b.begins.job_is
 
-  leaves : keeps new.disk → LeavesOnly (states v.pen.disk) (states new.disk) (OpensToEither form v.sure (joined blocks))
+  leaves : device.keeps new.disk → LeavesOnly (device.states v.pen.disk) (device.states new.disk) (OpensToEither form v.sure (joined blocks))
   leaves now =
-      command_images b (states new.disk) (states v.pen.disk) (back now)
-      (subst (λ (d : D). LeavesOnly (states d) (states new.disk) (MayOpen mid)) b.begins.disk_same (images now))
+      command_images b (device.states new.disk) (device.states v.pen.disk) (back now)
+      (subst (λ (d : D). LeavesOnly (device.states d) (device.states new.disk) (MayOpen mid)) b.begins.disk_same (images now))
 
-  module _ (settled : IsLogSettled mid new) (still : new.broken ≡ false) (file : keeps new.disk → new.vector ≡ vector_after mid) where
-    gained : keeps new.disk → new.frames ≡ frames_after mid → FileGains frame v.pen new
+  module _ (settled : IsLogSettled mid new) (still : new.broken ≡ false) (file : device.keeps new.disk → new.vector ≡ vector_after mid) where
+    gained : device.keeps new.disk → new.frames ≡ frames_after mid → FileGains frame v.pen new
     gained now frames = record {
       frames_more = frames ∙ ap (frames_and mid.frames) b.begins.job_is ∙ ap (λ fs. frames_with fs frame) b.begins.file_same.frames_same;
       vector_is =
@@ -154,26 +154,28 @@ module _ {R D : Type 0} {form : Encoding R} {keeps : D → Type 0} (states : D �
           ∙ ap (λ cells. after_frame v.pen.shape.width cells frame) b.begins.file_same.vector_same;
     }
 
-    pub committed_command : clock (states new.disk) ≡ clock (states mid.disk) + log_left mid.job → faults_of new.disk ≡ faults_of mid.disk
-        → (keeps mid.disk → keeps new.disk) → (keeps new.disk → new.frames ≡ frames_after mid)
-        → IsCommand form keeps states faults_of frame lines v (vault_of form new blocks) (Ok tt)
-    committed_command time calls goes_on frames = record {
+    pub committed_command : (lines : List (Bool × PenFault)) → first_refusal lines ≡ None
+        → clock (device.states new.disk) ≡ clock (device.states mid.disk) + log_left mid.job → device.faults new.disk ≡ device.faults mid.disk
+        → (device.keeps mid.disk → device.keeps new.disk) → (device.keeps new.disk → new.frames ≡ frames_after mid)
+        → IsCommand form device.keeps device.states device.faults frame lines v (vault_of form new blocks) (Ok tt)
+    committed_command lines allowed time calls goes_on frames = record {
       pen = done_pen b new model settled still file;
       allowed = allowed;
       file = λ now. gained now (frames now);
       sure = done_sure b new model settled still file;
       images = leaves;
-      time = time ∙ ap (λ n. clock (states mid.disk) + n) left ∙ ap (λ d. clock (states d) + 4) b.begins.disk_same;
-      failed_calls = calls ∙ ap faults_of b.begins.disk_same;
+      time = time ∙ ap (λ n. clock (device.states mid.disk) + n) left ∙ ap (λ d. clock (device.states d) + 4) b.begins.disk_same;
+      failed_calls = calls ∙ ap device.faults b.begins.disk_same;
       model = back;
-      goes_on = λ now. goes_on (subst keeps (sym b.begins.disk_same) now);
+      goes_on = λ now. goes_on (subst device.keeps (sym b.begins.disk_same) now);
     }
 
-  module _ (fault : PenFault) (why : IsLogFault mid new fault) (file : keeps new.disk → FileSame mid new) where
-    pub stopped_command : clock (states new.disk) + log_left new.job ≡ clock (states mid.disk) + log_left mid.job + failed_calls fault
-        → faults_of new.disk ≡ faults_of mid.disk + failed_calls fault
-        → IsCommand form keeps states faults_of frame lines v (vault_of form new blocks) (Err (Pen fault))
-    stopped_command time calls =
+  module _ (fault : PenFault) (why : IsLogFault mid new fault) (file : device.keeps new.disk → FileSame mid new) where
+    pub stopped_command : (lines : List (Bool × PenFault)) → first_refusal lines ≡ None
+        → clock (device.states new.disk) + log_left new.job ≡ clock (device.states mid.disk) + log_left mid.job + failed_calls fault
+        → device.faults new.disk ≡ device.faults mid.disk + failed_calls fault
+        → IsCommand form device.keeps device.states device.faults frame lines v (vault_of form new blocks) (Err (Pen fault))
+    stopped_command lines allowed time calls =
         let at = stopped b new model fault why file in
         let one : failed_calls fault ≡ 1 = ap failed_calls at.1 in
         let here : log_left new.job ≡ steps_left at.0 = ap log_left at.2.job_is in
@@ -189,9 +191,9 @@ module _ {R D : Type 0} {form : Encoding R} {keeps : D → Type 0} (states : D �
           images = λ now. failed_stands b new model fault why file _ (new.disk ≡ v.pen.disk) (leaves now);
           time =
               let all : calls_if (failed_calls fault) (5 - log_left new.job) ≡ 5 - log_left new.job = ap (λ n. calls_if n (5 - log_left new.job)) one in
-              let disk : clock (states mid.disk) ≡ clock (states v.pen.disk) = ap (λ d. clock (states d)) b.begins.disk_same in
+              let disk : clock (device.states mid.disk) ≡ clock (device.states v.pen.disk) = ap (λ d. clock (device.states d)) b.begins.disk_same in
               omega (arith, all, time, left, one, here, most);
-          failed_calls = calls ∙ ap (λ d. faults_of d + failed_calls fault) b.begins.disk_same;
+          failed_calls = calls ∙ ap (λ d. device.faults d + failed_calls fault) b.begins.disk_same;
           model = back;
           goes_on = λ _. tt;
         }

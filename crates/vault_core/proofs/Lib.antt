@@ -4,6 +4,7 @@ pub mod Kept
 pub mod BlockParts
 pub mod Cuts
 pub mod Ends
+pub mod Devices
 pub mod Commands
 pub mod Changes
 pub mod Lent

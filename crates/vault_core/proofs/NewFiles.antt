@@ -9,6 +9,7 @@ use Rattle.disk_core.specs.Calls.{bytes_of}
 use Rattle.disk_core.specs.Moments.{LeavesOnly, clock}
 use Rattle.disk_core.proofs.JoinedMoments.{LeavesOnly-before, Follows-later}
 use Rattle.segment_core.specs.declared.format.Format.TheVariants.{Two}
+use Rattle.segment_core.specs.declared.format.Shape.{Shape}
 use Rattle.segment_core.specs.Shape.{limit_of, shape_of}
 use Rattle.segment_core.specs.Raw.{AreCellsOf}
 use Rattle.segment_core.specs.Written.{joined}
@@ -26,6 +27,7 @@ use Rattle.flush_core.specs.Flusher.{tally_with}
 use Rattle.flush_core.proofs.Kept.{read_as-cells}
 use Rattle.vault_core.specs.Upgrading.{HasWritten, IsCopied, IsCopyStop, IsUnbornOrCopied, OpensToCopied, StaysUnbornOrCopied, copied, growth_count}
 use Rattle.vault_core.specs.Vault.{IsVault, vault_of}
+use Rattle.vault_core.proofs.Devices.{Device}
 
 module _ {R : Type 0} (form : Encoding R) (piece : ℕ) (records : List R) where
   -- no growth yet
@@ -55,24 +57,38 @@ module _ {R : Type 0} (form : Encoding R) (piece : ℕ) (records : List R) where
           | inr has ↦ inr has
         ]
 
--- the vault of a whole copy
-module _ {R D : Type 0} (form : Encoding R) (keeps : Type 0) (piece growths : ℕ) (records : List R) (pen : PenOf D) (blocks : List (List R)) (written : HasWritten form piece records growths pen)
-    (all : copied piece records growths ≡ records) (cells : keeps → AreCellsOf form pen.vector records) (list : joined blocks ≡ records) where
-  pub new_sure : keeps → (vault_of form pen blocks).sure ≡ records
-  new_sure now = read_as-cells form pen.vector records (cells now)
+-- All of the records stand in a pen's file, and these blocks have them.
+pub record HasAll {R D : Type 0} (form : Encoding R) (keeps : Type 0) (piece : ℕ) (records : List R) (pen : PenOf D) (blocks : List (List R)) : Type 0 where
+  pub some : 1 ≤ piece
+  pub written : HasWritten form piece records (growth_count piece (length records)) pen
+  pub cells : keeps → AreCellsOf form pen.vector records
+  pub list : joined blocks ≡ records
 
-  pub new_kept : IsVault keeps form (vault_of form pen blocks)
-  new_kept = record {
-    one_width = sym (ap (λ s. s.width) written.shape_is);
-    size_then = ap (λ j. (tally_with pen.tally j).size) written.no_job ∙ size;
+-- the vault of a whole copy
+module _ {R D : Type 0} {form : Encoding R} {keeps : Type 0} {piece : ℕ} {records : List R} {pen : PenOf D} {blocks : List (List R)}
+    (has : HasAll form keeps piece records pen blocks) where
+  all : copied piece records (growth_count piece (length records)) ≡ records
+  all =
+      let whole = (div_ceil_times (length records) piece has.some).0 in
+      take_all (growth_count piece (length records) * piece) records (omega (arith, whole))
+
+  pub all_sure : keeps → (vault_of form pen blocks).sure ≡ records
+  all_sure now = read_as-cells form pen.vector records (has.cells now)
+
+  pub all_kept : IsVault keeps form (vault_of form pen blocks)
+  all_kept = record {
+    one_width = sym (ap (λ s. s.width) has.written.shape_is);
+    size_then = ap (λ j. (tally_with pen.tally j).size) has.written.no_job ∙ size;
     size_is = λ _. size;
-    file_is = λ now. subst (AreCellsOf form pen.vector) (sym (new_sure now)) (cells now);
-    file_then = λ now. subst (λ cs. AreCellsOf form cs (joined blocks)) (sym (vector_after-none pen written.no_job)) (subst (AreCellsOf form pen.vector) (sym list) (cells now));
-    whole = λ now _. new_sure now ∙ sym list;
+    file_is = λ now. subst (AreCellsOf form pen.vector) (sym (all_sure now)) (has.cells now);
+    file_then = λ now.
+        subst (λ cs. AreCellsOf form cs (joined blocks)) (sym (vector_after-none pen has.written.no_job))
+        (subst (AreCellsOf form pen.vector) (sym has.list) (has.cells now));
+    whole = λ now _. all_sure now ∙ sym has.list;
   }
     where
       size : pen.tally.size ≡ length (joined blocks)
-      size = ap (λ t. t.size) written.tally_is ∙ ap length (all ∙ sym list)
+      size = ap (λ t. t.size) has.written.tally_is ∙ ap length (all ∙ sym has.list)
 
 -- the one block has all records
 pub only_block : {R : Type 0} (vecs : List (Vec R)) (block : Vec R) (blocks : List (List R)) (records : List R) → records_of vecs ≡ blocks
@@ -115,73 +131,90 @@ not_existing form keeps left piece records calls fault stop exists = elim stop.w
   ]
 ]
 
-module _ {R D : Type 0} (form : Encoding R) (keeps : D → Type 0) (states : D → List State) (failures : D → ℕ) (piece : ℕ) (records : List R)
-    (fits : 8 + piece * form.width ≤ limit_of Two) (disk mid new : D)
-    (born : keeps mid → StaysUnbornOrEmpty (shape_of Two form) (states disk) (states mid)) (none : keeps mid → IsExisting (bytes_of (states disk)) → ⊥)
-    (time : clock (states mid) ≤ clock (states disk) + 8) (calls : keeps mid → clock (states mid) ≡ clock (states disk) + length (calls_of_creation (bytes_of (states disk))))
-    (quiet : failures mid ≡ failures disk) (was : keeps mid → keeps disk)
-    (leaves : keeps new → LeavesOnly (states mid) (states new) (OpensToCopied form piece records)) (model : keeps new → keeps mid) where
+-- ---- a new file that was begun
+
+-- What the creation of a new file makes of a disk.
+pub record IsBegunOn {D : Type 0} (device : Device D) (shape : Shape) (disk mid : D) : Type 0 where
+  pub born : device.keeps mid → StaysUnbornOrEmpty shape (device.states disk) (device.states mid)
+  pub none_existed : device.keeps mid → IsExisting (bytes_of (device.states disk)) → ⊥
+  pub time : clock (device.states mid) ≤ clock (device.states disk) + 8
+  pub calls : device.keeps mid → clock (device.states mid) ≡ clock (device.states disk) + length (calls_of_creation (bytes_of (device.states disk)))
+  pub no_fault : device.faults mid ≡ device.faults disk
+  pub model : device.keeps mid → device.keeps disk
+
+-- What the commits of growths of these pieces, one after the other, make of it then.
+pub record IsGrownOn {R D : Type 0} (form : Encoding R) (device : Device D) (piece : ℕ) (records : List R) (disk mid new : D) : Type 0 where
+  pub begun : IsBegunOn device (shape_of Two form) disk mid
+  pub fits : 8 + piece * form.width ≤ limit_of Two
+  pub images : device.keeps new → LeavesOnly (device.states mid) (device.states new) (OpensToCopied form piece records)
+  pub model : device.keeps new → device.keeps mid
+
+module _ {R D : Type 0} {form : Encoding R} {device : Device D} {piece : ℕ} {records : List R} {disk mid new : D}
+    (grown : IsGrownOn form device piece records disk mid new) where
+  made : device.keeps new → clock (device.states mid) ≡ clock (device.states disk) + length (calls_of_creation (bytes_of (device.states disk)))
+  made kept = grown.begun.calls (grown.model kept)
+
+  stays : device.keeps new → StaysUnbornOrCopied form piece records (device.states disk) (device.states new)
+  stays kept =
+      copied_stays form piece records (device.states disk) (device.states mid) (grown.begun.born (grown.model kept)) (device.states new)
+      (made kept) (grown.images kept)
+
   -- a commit was refused
-  pub stopped_copied : (fault : PenFault) → IsCopyStop form (keeps new) (now (states new)) piece records (clock (states new) - clock (states mid))
-      fault → failures new ≡ failures mid + failed_calls fault
-      → IsCopied form keeps states failures piece records disk (Err (new, fault))
+  pub stopped_copied : (fault : PenFault)
+      → IsCopyStop form (device.keeps new) (now (device.states new)) piece records (clock (device.states new) - clock (device.states mid)) fault
+      → device.faults new ≡ device.faults mid + failed_calls fault
+      → IsCopied form device.keeps device.states device.faults piece records disk (Err (new, fault))
   stopped_copied fault stop failed = record {
     list = tt;
     written = tt;
     fits = tt;
     sure = tt;
     opens = tt;
-    stays = λ kept. copied_stays form piece records (states disk) (states mid) (born (model kept)) (states new) (calls (model kept)) (leaves kept);
+    stays = stays;
     none_existed = tt;
-    existed = λ kept is. absurd (none (model kept) is);
-    exists = λ kept is. absurd (not_existing form (keeps new) (now (states new)) piece records _ fault stop is);
+    existed = λ kept is. absurd (grown.begun.none_existed (grown.model kept) is);
+    exists = λ kept is. absurd (not_existing form (device.keeps new) (now (device.states new)) piece records _ fault stop is);
     refused = inr (
-      fits,
+      grown.fits,
       inr (inr (
-        clock (states new) - clock (states mid),
+        clock (device.states new) - clock (device.states mid),
         (λ kept. (
-            let later = Follows-later (states mid) (states new) (leaves kept).past in
-            let made = calls (model kept) in
-            omega (arith, later, made))),
+            let later = Follows-later (device.states mid) (device.states new) (grown.images kept).past in
+            let calls = made kept in
+            omega (arith, later, calls))),
         stop,
       )),
     );
     calls = tt;
-    time = (let most = stop_calls form (keeps new) (now (states new)) piece records _ fault stop in omega (arith, most, time));
-    failed = failed ∙ ap (λ n. n + failed_calls fault) quiet;
-    model = λ kept. was (model kept);
+    time = (
+        let most = stop_calls form (device.keeps new) (now (device.states new)) piece records _ fault stop in
+        let early = grown.begun.time in
+        omega (arith, most, early));
+    failed = failed ∙ ap (λ n. n + failed_calls fault) grown.begun.no_fault;
+    model = λ kept. grown.begun.model (grown.model kept);
   }
 
 -- all growths stand in the file
-module _ {R D : Type 0} (form : Encoding R) (keeps : D → Type 0) (states : D → List State) (failures : D → ℕ) (piece : ℕ) (records : List R)
-    (some : 1 ≤ piece) (fits : 8 + piece * form.width ≤ limit_of Two) (disk mid : D) (pen : PenOf D) (blocks : List (List R))
-    (born : keeps mid → StaysUnbornOrEmpty (shape_of Two form) (states disk) (states mid)) (none : keeps mid → IsExisting (bytes_of (states disk)) → ⊥)
-    (time : clock (states mid) ≤ clock (states disk) + 8) (calls : keeps mid → clock (states mid) ≡ clock (states disk) + length (calls_of_creation (bytes_of (states disk))))
-    (quiet : failures mid ≡ failures disk) (was : keeps mid → keeps disk)
-    (leaves : keeps pen.disk → LeavesOnly (states mid) (states pen.disk) (OpensToCopied form piece records)) (model : keeps pen.disk → keeps mid)
-    (written : HasWritten form piece records (growth_count piece (length records)) pen) (cells : keeps pen.disk → AreCellsOf form pen.vector records)
-    (list : joined blocks ≡ records) where
-  all : copied piece records (growth_count piece (length records)) ≡ records
-  all = let is = div_ceil_times (length records) piece some in let whole = is.0 in take_all (growth_count piece (length records) * piece) records (omega (arith, whole))
-
-  pub all_kept : IsVault (keeps pen.disk) form (vault_of form pen blocks)
-  all_kept = new_kept form (keeps pen.disk) piece (growth_count piece (length records)) records pen blocks written all cells list
-
-  pub all_copied : clock (states pen.disk) ≡ clock (states mid) + growth_count piece (length records) * 4 → failures pen.disk ≡ failures mid → (keeps pen.disk → IsKept (states pen.disk) pen)
-      → IsCopied form keeps states failures piece records disk (Ok (vault_of form pen blocks))
-  all_copied later failed kept_is = record {
-    list = list;
-    written = written;
-    fits = fits;
-    sure = new_sure form (keeps pen.disk) piece (growth_count piece (length records)) records pen blocks written all cells list;
-    opens = λ kept image is. MayOpen_rest form pen image records (sym (ap (λ s. s.width) written.shape_is)) written.no_job (cells kept) ((kept_is kept).images_open image is);
-    stays = λ kept. copied_stays form piece records (states disk) (states mid) (born (model kept)) (states pen.disk) (calls (model kept)) (leaves kept);
-    none_existed = λ kept. none (model kept);
+module _ {R D : Type 0} {form : Encoding R} {device : Device D} {piece : ℕ} {records : List R} {disk mid : D} {pen : PenOf D}
+    (grown : IsGrownOn form device piece records disk mid pen.disk) where
+  pub all_copied : {blocks : List (List R)} → HasAll form (device.keeps pen.disk) piece records pen blocks
+      → clock (device.states pen.disk) ≡ clock (device.states mid) + growth_count piece (length records) * 4 → device.faults pen.disk ≡ device.faults mid
+      → (device.keeps pen.disk → IsKept (device.states pen.disk) pen)
+      → IsCopied form device.keeps device.states device.faults piece records disk (Ok (vault_of form pen blocks))
+  all_copied has later failed kept_is = record {
+    list = has.list;
+    written = has.written;
+    fits = grown.fits;
+    sure = all_sure has;
+    opens = λ kept image is.
+        MayOpen_rest form pen image records (sym (ap (λ s. s.width) has.written.shape_is)) has.written.no_job (has.cells kept) ((kept_is kept).images_open image is);
+    stays = stays grown;
+    none_existed = λ kept. grown.begun.none_existed (grown.model kept);
     existed = tt;
     exists = tt;
     refused = tt;
-    calls = λ kept. (let made = calls (model kept) in omega (arith, later, made));
-    time = omega (arith, later, time);
-    failed = failed ∙ quiet;
-    model = λ kept. was (model kept);
+    calls = λ kept. (let calls = made grown kept in omega (arith, later, calls));
+    time = (let early = grown.begun.time in omega (arith, later, early));
+    failed = failed ∙ grown.begun.no_fault;
+    model = λ kept. grown.begun.model (grown.model kept);
   }

@@ -7,7 +7,7 @@ use Rattle.std.proofs.lemmas.Nat.{mul-le}
 use Rattle.std.proofs.lemmas.Bool.{leb-true, leb-false, le-ltb}
 use Rattle.std.proofs.lemmas.List.{take_all, length-drop, length-take}
 use Rattle.record_core.specs.Bytes.{Encoding}
-use Rattle.disk_core.specs.State.{State, now}
+use Rattle.disk_core.specs.State.{now}
 use Rattle.disk_core.specs.Moments.{LeavesOnly, clock}
 use Rattle.disk_core.proofs.JoinedMoments.{LeavesOnly-start, LeavesOnly-join, LeavesOnly-weaker}
 use Rattle.segment_core.specs.declared.format.Format.TheVariants.{Two}
@@ -30,31 +30,31 @@ use Rattle.pen_core.specs.Step.{steps_left}
 use Rattle.pen_core.proofs.Typed.{MayOpen_typed, MayOpen_rest}
 use Rattle.vault_core.specs.Upgrading.{HasWritten, IsCopyStop, IsFilledBehind, OpensToCopied, copied, gate_behind, growth_count}
 use Rattle.vault_core.specs.Vault.{OpensToEither}
+use Rattle.vault_core.proofs.Devices.{Device}
 use Rattle.vault_core.proofs.Commands.{passes}
 use Rattle.vault_core.proofs.CopyCounts.{count_above, count_is, gate_more, copied_more, left_more, skip, last, steps_left-most}
 
 -- ---- the pen between two growths
 
 -- The first so many growths stand in the file, and these records are left.
-pub record Writes {R D : Type 0} (form : Encoding R) (keeps : D → Type 0) (states : D → List State) (failures : D → ℕ) (piece : ℕ) (records : List R)
-    (old new : PenOf D) (rest : List R) (growths : ℕ) : Type 0 where
+pub record Writes {R D : Type 0} (form : Encoding R) (device : Device D) (piece : ℕ) (records : List R) (old new : PenOf D) (rest : List R) (growths : ℕ) : Type 0 where
   pub some : 1 ≤ piece
   pub fits : 8 + piece * form.width ≤ limit_of Two
   pub few : length records ≤ 2 ^ 32
   pub written : HasWritten form piece records growths new
   pub within : growths * piece < length records + piece
   pub rest_is : rest ≡ drop (growths * piece) records
-  pub cells : keeps new.disk → AreCellsOf form new.vector (copied piece records growths)
-  pub images : keeps new.disk → LeavesOnly (states old.disk) (states new.disk) (OpensToCopied form piece records)
-  pub time : clock (states new.disk) ≡ clock (states old.disk) + growths * 4
-  pub no_fault : failures new.disk ≡ failures old.disk
-  pub model : keeps new.disk → keeps old.disk
+  pub cells : device.keeps new.disk → AreCellsOf form new.vector (copied piece records growths)
+  pub images : device.keeps new.disk → LeavesOnly (device.states old.disk) (device.states new.disk) (OpensToCopied form piece records)
+  pub time : clock (device.states new.disk) ≡ clock (device.states old.disk) + growths * 4
+  pub no_fault : device.faults new.disk ≡ device.faults old.disk
+  pub model : device.keeps new.disk → device.keeps old.disk
 
-module _ {R D : Type 0} (form : Encoding R) (keeps : D → Type 0) (states : D → List State) (failures : D → ℕ) (piece : ℕ) (records : List R) where
+module _ {R D : Type 0} (form : Encoding R) (device : Device D) (piece : ℕ) (records : List R) where
   -- none yet
   pub writes_none : (pen : PenOf D) → 1 ≤ piece → 8 + piece * form.width ≤ limit_of Two → length records ≤ 2 ^ 32
-      → IsNew (shape_of Two form) pen → (keeps pen.disk → IsEmpty pen) → (keeps pen.disk → IsKept (states pen.disk) pen)
-      → Writes form keeps states failures piece records pen pen records 0
+      → IsNew (shape_of Two form) pen → (device.keeps pen.disk → IsEmpty pen) → (device.keeps pen.disk → IsKept (device.states pen.disk) pen)
+      → Writes form device piece records pen pen records 0
   writes_none pen some fits few new empty kept = record {
     some = some;
     fits = fits;
@@ -70,7 +70,7 @@ module _ {R D : Type 0} (form : Encoding R) (keeps : D → Type 0) (states : D �
     within = omega (arith, some);
     rest_is = ap (λ n. drop n records) (sym zero_is);
     cells = cells;
-    images = λ now. LeavesOnly-start (states pen.disk) (OpensToCopied form piece records) (λ image is. (
+    images = λ now. LeavesOnly-start (device.states pen.disk) (OpensToCopied form piece records) (λ image is. (
       0,
       MayOpen_rest form pen image (copied piece records 0) (sym (ap (λ s. s.width) new.shape_is)) new.no_job (cells now) ((kept now).images_open image is),
     ));
@@ -85,27 +85,27 @@ module _ {R D : Type 0} (form : Encoding R) (keeps : D → Type 0) (states : D �
       first_gate : 11 ≡ gate_behind form.width 0 (length (take 0 records))
       first_gate = omega arith
 
-      cells : keeps pen.disk → AreCellsOf form pen.vector (copied piece records 0)
+      cells : device.keeps pen.disk → AreCellsOf form pen.vector (copied piece records 0)
       cells kept' = subst (λ n. AreCellsOf form pen.vector (take n records)) (sym zero_is) (record { written = (empty kept').vector_is; read_again = tt })
 
 -- The next chunk of the records that are left is taken.
-pub record Takes {R D : Type 0} (form : Encoding R) (keeps : D → Type 0) (states : D → List State) (failures : D → ℕ) (piece : ℕ) (records : List R)
+pub record Takes {R D : Type 0} (form : Encoding R) (device : Device D) (piece : ℕ) (records : List R)
     (old pen : PenOf D) (chunk left : List R) (growths : ℕ) : Type 0 where
   pub rest : List R
-  pub so_far : Writes form keeps states failures piece records old pen rest growths
+  pub so_far : Writes form device piece records old pen rest growths
   pub parts : rest ≡ chunk ++ left
   pub size : length chunk ≡ min piece (length rest)
   pub more : 0 < length rest
 
-pub takes : {R D : Type 0} {form : Encoding R} {keeps : D → Type 0} {states : D → List State} {failures : D → ℕ} {piece : ℕ} {records : List R}
-    {old pen : PenOf D} {rest : List R} {growths : ℕ} → Writes form keeps states failures piece records old pen rest growths
+pub takes : {R D : Type 0} {form : Encoding R} {device : Device D} {piece : ℕ} {records : List R}
+    {old pen : PenOf D} {rest : List R} {growths : ℕ} → Writes form device piece records old pen rest growths
     → (chunk left : List R) (most : ℕ) → most ≡ piece → rest ≡ chunk ++ left → length chunk ≡ min most (length rest) → 0 < length rest
-    → Takes form keeps states failures piece records old pen chunk left growths
+    → Takes form device piece records old pen chunk left growths
 takes {rest = rest} so_far chunk left most is parts size more =
     record { rest = rest; so_far = so_far; parts = parts; size = size ∙ ap (λ n. min n (length rest)) is; more = more }
 
-module _ {R D : Type 0} {form : Encoding R} {keeps : D → Type 0} {states : D → List State} {failures : D → ℕ} {piece : ℕ} {records : List R}
-    {old pen : PenOf D} {chunk left : List R} {growths : ℕ} (taken : Takes form keeps states failures piece records old pen chunk left growths) where
+module _ {R D : Type 0} {form : Encoding R} {device : Device D} {piece : ℕ} {records : List R}
+    {old pen : PenOf D} {chunk left : List R} {growths : ℕ} (taken : Takes form device piece records old pen chunk left growths) where
   before : growths * piece < length records
   before = let is = ap length taken.so_far.rest_is ∙ length-drop (growths * piece) records in omega (arith, is, taken.more)
 
@@ -184,14 +184,14 @@ module _ {R D : Type 0} {form : Encoding R} {keeps : D → Type 0} {states : D �
   not_filled : full ≡ false → IsFilledBehind form piece records growths → ⊥
   not_filled room filled = let below = leb-false (2 ^ 48) _ (sym full_is ∙ room) in omega (arith, below, filled)
 
-  pub refused_stop : (new : PenOf D) → IsUnchanged pen new → (keeps new.disk → IsKept (states new.disk) new) → (fault : PenFault) → IsRefusal lines fault
-      → (calls : ℕ) → calls ≡ growths * 4 → IsCopyStop form (keeps new.disk) (now (states new.disk)) piece records calls fault
+  pub refused_stop : (new : PenOf D) → IsUnchanged pen new → (device.keeps new.disk → IsKept (device.states new.disk) new) → (fault : PenFault) → IsRefusal lines fault
+      → (calls : ℕ) → calls ≡ growths * 4 → IsCopyStop form (device.keeps new.disk) (now (device.states new.disk)) piece records calls fault
   refused_stop new same kept fault why calls is = record {
     growths = growths;
     opens = λ here image is. inl (
         MayOpen_rest form new image (copied piece records growths) (sym (ap (λ s. s.width) (same.shape_same ∙ taken.so_far.written.shape_is)))
         (same.job_same ∙ taken.so_far.written.no_job)
-        (subst (λ cells. AreCellsOf form cells (copied piece records growths)) (sym same.file_same.vector_same) (taken.so_far.cells (subst keeps same.disk_same here)))
+        (subst (λ cells. AreCellsOf form cells (copied piece records growths)) (sym same.file_same.vector_same) (taken.so_far.cells (subst device.keeps same.disk_same here)))
         ((kept here).images_open image is));
     before = count_above piece (length records) growths taken.so_far.some before;
     why = elim (last full faults.FileFull fault (no_others fault why)) [
@@ -204,50 +204,51 @@ module _ {R D : Type 0} {form : Encoding R} {keeps : D → Type 0} {states : D �
 
   module _ (mid new : PenOf D) (begun : BeginsFrame (group_frame form (chunk ∷ [])) pen mid) (allowed : first_refusal lines ≡ None)
       (next : (list : List R) → AreCellsOf form pen.vector list → AreCellsOf form (vector_after mid) (list ++ joined (chunk ∷ [])))
-      (images : keeps new.disk → LeavesOnly (states mid.disk) (states new.disk) (MayOpen mid)) (model : keeps new.disk → keeps mid.disk) where
-    was : keeps new.disk → keeps pen.disk
-    was now = subst keeps begun.disk_same (model now)
+      (images : device.keeps new.disk → LeavesOnly (device.states mid.disk) (device.states new.disk) (MayOpen mid)) (model : device.keeps new.disk → device.keeps mid.disk) where
+    was : device.keeps new.disk → device.keeps pen.disk
+    was now = subst device.keeps begun.disk_same (model now)
 
-    pub begun_model : keeps new.disk → keeps old.disk
+    pub begun_model : device.keeps new.disk → device.keeps old.disk
     begun_model now = taken.so_far.model (was now)
 
     left_is : log_left mid.job ≡ 4
     left_is = ap log_left begun.job_is
 
-    same_clock : clock (states mid.disk) ≡ clock (states pen.disk)
-    same_clock = ap (λ d. clock (states d)) begun.disk_same
+    same_clock : clock (device.states mid.disk) ≡ clock (device.states pen.disk)
+    same_clock = ap (λ d. clock (device.states d)) begun.disk_same
 
-    cells_next : keeps pen.disk → AreCellsOf form (vector_after mid) (copied piece records (growths + 1))
+    cells_next : device.keeps pen.disk → AreCellsOf form (vector_after mid) (copied piece records (growths + 1))
     cells_next now =
         subst (AreCellsOf form (vector_after mid)) (ap (λ (ls : List R). copied piece records growths ++ ls) one ∙ sym list_is)
         (next (copied piece records growths) (taken.so_far.cells now))
 
     -- the growths that stand in the file, or one more
-    one_more : keeps new.disk → (image : List ℕ) → MayOpen mid image → OpensToEither form (copied piece records growths) (copied piece records (growths + 1)) image
+    one_more : device.keeps new.disk → (image : List ℕ) → MayOpen mid image → OpensToEither form (copied piece records growths) (copied piece records (growths + 1)) image
     one_more now image opens =
         MayOpen_typed form mid image (copied piece records growths) (copied piece records (growths + 1))
         (sym (ap (λ s. s.width) (begun.shape_same ∙ taken.so_far.written.shape_is)))
         (subst (λ cells. AreCellsOf form cells (copied piece records growths)) (sym begun.file_same.vector_same) (taken.so_far.cells (was now)))
         (cells_next (was now)) opens
 
-    either : keeps new.disk → (image : List ℕ) → MayOpen mid image → OpensToCopied form piece records image
+    either : device.keeps new.disk → (image : List ℕ) → MayOpen mid image → OpensToCopied form piece records image
     either now image opens = elim (one_more now image opens) [
       | inl first ↦ (growths, first)
       | inr second ↦ (growths + 1, second)
     ]
 
-    pub begun_images : keeps new.disk → LeavesOnly (states old.disk) (states new.disk) (OpensToCopied form piece records)
+    pub begun_images : device.keeps new.disk → LeavesOnly (device.states old.disk) (device.states new.disk) (OpensToCopied form piece records)
     begun_images now =
-        LeavesOnly-join (states old.disk) (states pen.disk) (states new.disk) (OpensToCopied form piece records) (taken.so_far.images (was now))
-        (LeavesOnly-weaker (states pen.disk) (states new.disk) (MayOpen mid) (OpensToCopied form piece records) (either now)
-        (subst (λ (d : D). LeavesOnly (states d) (states new.disk) (MayOpen mid)) begun.disk_same (images now)))
+        LeavesOnly-join (device.states old.disk) (device.states pen.disk) (device.states new.disk) (OpensToCopied form piece records) (taken.so_far.images (was now))
+        (LeavesOnly-weaker (device.states pen.disk) (device.states new.disk) (MayOpen mid) (OpensToCopied form piece records) (either now)
+        (subst (λ (d : D). LeavesOnly (device.states d) (device.states new.disk) (MayOpen mid)) begun.disk_same (images now)))
 
-    pub begun_faults : (n : ℕ) → failures new.disk ≡ failures mid.disk + n → failures new.disk ≡ failures old.disk + n
-    begun_faults n is = is ∙ ap (λ d. failures d + n) begun.disk_same ∙ ap (λ k. k + n) taken.so_far.no_fault
+    pub begun_faults : (n : ℕ) → device.faults new.disk ≡ device.faults mid.disk + n → device.faults new.disk ≡ device.faults old.disk + n
+    begun_faults n is = is ∙ ap (λ d. device.faults d + n) begun.disk_same ∙ ap (λ k. k + n) taken.so_far.no_fault
 
     -- a call of its commit failed
-    pub stopped_stop : (fault : PenFault) → IsLogFault mid new fault → clock (states new.disk) + log_left new.job ≡ clock (states mid.disk) + log_left mid.job + failed_calls fault
-        → IsCopyStop form (keeps new.disk) (now (states new.disk)) piece records (clock (states new.disk) - clock (states old.disk)) fault
+    pub stopped_stop : (fault : PenFault) → IsLogFault mid new fault
+        → clock (device.states new.disk) + log_left new.job ≡ clock (device.states mid.disk) + log_left mid.job + failed_calls fault
+        → IsCopyStop form (device.keeps new.disk) (now (device.states new.disk)) piece records (clock (device.states new.disk) - clock (device.states old.disk)) fault
     stopped_stop fault why time = elim why [
       | inl barred ↦ (let yes = barred.1 in let whole = begun.broken_same ∙ taken.so_far.written.whole in absurd cc)
       | inr at ↦ record {
@@ -278,15 +279,15 @@ module _ {R D : Type 0} {form : Encoding R} {keeps : D → Type 0} {states : D �
             (passes full faults.FileFull [] (passes past faults.TooLarge from_full inside.1).1).0
 
     -- all of them succeeded
-    module _ (settled : IsLogSettled mid new) (still : new.broken ≡ false) (file : keeps new.disk → new.vector ≡ vector_after mid)
-        (time : clock (states new.disk) ≡ clock (states mid.disk) + log_left mid.job) (calls : failures new.disk ≡ failures mid.disk) where
+    module _ (settled : IsLogSettled mid new) (still : new.broken ≡ false) (file : device.keeps new.disk → new.vector ≡ vector_after mid)
+        (time : clock (device.states new.disk) ≡ clock (device.states mid.disk) + log_left mid.job) (calls : device.faults new.disk ≡ device.faults mid.disk) where
       abbrev frame : Frame
       frame = group_frame form (chunk ∷ [])
 
       counts : CountsDone frame mid new
       counts = subst (λ (o : Option JobOf). MatchOption o (new ≡ mid) (λ job. CountsDone job.frame mid new)) begun.job_is settled
 
-      pub writes_more : ((r : R) → length (form.bytes_of r) ≡ form.width) → Writes form keeps states failures piece records old new left (growths + 1)
+      pub writes_more : ((r : R) → length (form.bytes_of r) ≡ form.width) → Writes form device piece records old new left (growths + 1)
       writes_more wide = record {
         some = taken.so_far.some;
         fits = taken.so_far.fits;
@@ -310,14 +311,14 @@ module _ {R D : Type 0} {form : Encoding R} {keeps : D → Type 0} {states : D �
         cells = λ now. subst (λ cells. AreCellsOf form cells (copied piece records (growths + 1))) (sym (file now)) (cells_next (was now));
         images = begun_images;
         time = (let past = taken.so_far.time in omega (arith, time, left_is, same_clock, past));
-        no_fault = calls ∙ ap failures begun.disk_same ∙ taken.so_far.no_fault;
+        no_fault = calls ∙ ap device.faults begun.disk_same ∙ taken.so_far.no_fault;
         model = begun_model;
       }
 
 -- ---- none is left
 
-module _ {R D : Type 0} {form : Encoding R} {keeps : D → Type 0} {states : D → List State} {failures : D → ℕ} {piece : ℕ} {records : List R}
-    {old new : PenOf D} {rest : List R} {growths : ℕ} (so_far : Writes form keeps states failures piece records old new rest growths) (none : length rest ≡ 0) where
+module _ {R D : Type 0} {form : Encoding R} {device : Device D} {piece : ℕ} {records : List R}
+    {old new : PenOf D} {rest : List R} {growths : ℕ} (so_far : Writes form device piece records old new rest growths) (none : length rest ≡ 0) where
   all : length records ≤ growths * piece
   all = let is = ap length so_far.rest_is ∙ length-drop (growths * piece) records in omega (arith, is, none)
 
@@ -327,8 +328,8 @@ module _ {R D : Type 0} {form : Encoding R} {keeps : D → Type 0} {states : D �
   pub writes_all : HasWritten form piece records (growth_count piece (length records)) new
   writes_all = subst (λ n. HasWritten form piece records n new) count so_far.written
 
-  pub writes_cells : keeps new.disk → AreCellsOf form new.vector records
+  pub writes_cells : device.keeps new.disk → AreCellsOf form new.vector records
   writes_cells now = subst (AreCellsOf form new.vector) (take_all (growths * piece) records all) (so_far.cells now)
 
-  pub writes_time : clock (states new.disk) ≡ clock (states old.disk) + growth_count piece (length records) * 4
-  writes_time = so_far.time ∙ ap (λ n. clock (states old.disk) + n * 4) count
+  pub writes_time : clock (device.states new.disk) ≡ clock (device.states old.disk) + growth_count piece (length records) * 4
+  writes_time = so_far.time ∙ ap (λ n. clock (device.states old.disk) + n * 4) count

@@ -7,7 +7,7 @@ use Rattle.flush_core.specs.Flusher.{FlusherOf, FlusherLearns, read_as}
 use Rattle.vault_core.specs.Vault.{VaultOf}
 use Rattle.vault_core.specs.Gathering.{MayGather, AreOfPhase}
 use Rattle.vault_core.proofs.Endings.{all_known, whole}
-use Rattle.vault_core.proofs.Vaults.{gathered_kept, gathered_few, holds_sure}
+use Rattle.vault_core.proofs.Vaults.{HasEnded, HasPen, gathered_kept, gathered_few, holds_sure}
 use Rattle.vault_core.proofs.ending.gather.Goals as goal
 
 pub take_in_all-requires-clause-of : goal.take_in_all-requires-clause-of
@@ -37,13 +37,17 @@ invariant_of-vault g c =
     let same = c.prepare.ensures.same in
     let list : joined_pieces (records_of c.put_behind-blocks.result.items) ≡ opening_of c.args.live ++ joined c.args.flusher.pass.entries =
     c.put_behind-blocks.ensures.joined ∙ ap₂ (λ bs rs. joined_pieces bs ++ rs) c.into_blocks.ensures c.in-Ok.ensures.copied in
-    let limit = c.in-Ok.ensures.in_limit in
-    rw c.with_ends.ensures (
-    gathered_kept g.D.Disk.keeps g.R.Record.form c.args.live c.args.flusher c.take_in_all.new.flusher (records_of c.put_behind-blocks.result.items) c.into_pen-pen.result.0
-    c.requires.flusher_of may.settled limit list
-    (subst (λ (f : FlusherOf _ _). FlusherLearns f c.take_in_all.new.flusher) same c.take_in_all.ensures.learns)
-    (c.take_in_all.ensures.entries ∙ ap (λ (f : FlusherOf _ _). f.pass.entries) same)
-    c.into_pen-pen.ensures.parts.0 c.into_pen-pen.ensures.order (c.into_pen-pen.ensures.size, c.into_pen-pen.ensures.size_then) c.into_pen-pen.ensures.file c.into_pen-pen.ensures.width)
+    let ended : HasEnded g.D.Disk.keeps c.args.live c.args.flusher c.take_in_all.new.flusher (records_of c.put_behind-blocks.result.items) = record {
+      of = c.requires.flusher_of;
+      settled = may.settled;
+      list = list;
+      learns = subst (λ (f : FlusherOf _ _). FlusherLearns f c.take_in_all.new.flusher) same c.take_in_all.ensures.learns;
+      known_same = c.take_in_all.ensures.entries ∙ ap (λ (f : FlusherOf _ _). f.pass.entries) same;
+    } in
+    let p = c.into_pen-pen.ensures in
+    let has : HasPen g.D.Disk.keeps g.R.Record.form c.take_in_all.new.flusher =
+    record { order = p.order; size = p.size; size_then = p.size_then; file = p.file; width = p.width } in
+    rw c.with_ends.ensures (gathered_kept ended has c.into_pen-pen.result.0 p.parts.0)
 
 pub returns-clause-whole : goal.returns-clause-whole
 returns-clause-whole g c =

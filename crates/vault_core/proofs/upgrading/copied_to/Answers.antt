@@ -2,11 +2,12 @@ use Rattle.std.proofs.Common.{◌≡◌, ◌≤◌, ◌+◌, ◌*◌, ◌∙◌,
 use Rattle.std.proofs.lemmas.Result.{err_from_is_err_and}
 use Rattle.segment_core.specs.declared.format.Shape.{Shape}
 use Rattle.segment_core.specs.declared.format.Format.TheVariants.{Two}
-use Rattle.segment_core.specs.Shape.{limit_of}
+use Rattle.segment_core.specs.Shape.{limit_of, shape_of}
 use Rattle.pen_core.specs.Births.{StaysUnbornOrEmpty}
 use Rattle.pen_core.specs.Pen.{IsKept}
 use Rattle.vault_core.specs.Upgrading.{IsCopied}
-use Rattle.vault_core.proofs.NewFiles.{born_stays, only_block, stopped_copied, all_kept, all_copied}
+use Rattle.vault_core.proofs.Devices.{device_of}
+use Rattle.vault_core.proofs.NewFiles.{IsBegunOn, IsGrownOn, HasAll, born_stays, only_block, stopped_copied, all_kept, all_copied}
 use Rattle.vault_core.specs.Vault.{vault_of}
 use Rattle.vault_core.proofs.upgrading.copied_to.Goals as goal
 
@@ -40,6 +41,7 @@ returns-in-Err g c =
     let e = c.in_ok-pen.ensures in
     let w = c.in-Err.ensures in
     let form = g.R.Record.form in
+    let device = device_of g.D.Disk.keeps g.D.Disk.states g.D.Disk.faults in
     let rs = c.as_slice-2.result.now in
     let disk = c.args.disk in
     let fits : 8 + c.args.piece * form.width ≤ limit_of Two = (c.greatest_piece.ensures c.args.piece).0 c.if-piece-greatest_piece.false in
@@ -47,34 +49,38 @@ returns-in-Err g c =
     c.as_slice-2.ensures.value ∙ only_block c.as_slice.result.now c.index-as_slice-0.result c.in-Ok.blocks c.args.records.items c.as_slice.ensures
     c.in-Ok.ensures.one c.in-Ok.ensures.whole c.index-as_slice-0.is in
     let shape : ℕ → Shape = λ v. record { format = Two; width = v } in
+    let begun : IsBegunOn device (shape_of Two form) disk c.in_ok-pen.pen.disk = record {
+      born = λ kept. subst (λ v. StaysUnbornOrEmpty (shape v) (g.D.Disk.states disk) (g.D.Disk.states c.in_ok-pen.pen.disk)) c.width_of.ensures.is (e.born kept);
+      none_existed = e.none_existed;
+      time = e.time;
+      calls = e.calls;
+      no_fault = e.faults;
+      model = e.model;
+    } in
+    let grown : IsGrownOn form device c.args.piece rs disk c.in_ok-pen.pen.disk c.write_growths.new.pen.disk =
+    record { begun = begun; fits = fits; images = w.images; model = w.model } in
     rw c.into_disk.ensures.disk (
     subst (λ (list : List g.row.R.Denot). IsCopied form g.D.Disk.keeps g.D.Disk.states g.D.Disk.faults c.args.piece list disk (Err (c.write_growths.new.pen.disk, c.in-Err.fault))) same
-    (stopped_copied form g.D.Disk.keeps g.D.Disk.states g.D.Disk.faults c.args.piece rs fits disk c.in_ok-pen.pen.disk c.write_growths.new.pen.disk
-    (λ kept. subst (λ v. StaysUnbornOrEmpty (shape v) (g.D.Disk.states disk) (g.D.Disk.states c.in_ok-pen.pen.disk)) c.width_of.ensures.is (e.born kept))
-    e.none_existed e.time e.calls e.faults e.model w.images w.model c.in-Err.fault w.refused w.faults))
+    (stopped_copied grown c.in-Err.fault w.refused w.faults))
 
 pub invariant_of-result : goal.invariant_of-result
 invariant_of-result g c =
-    let e = c.in_ok-pen.ensures in
     let w = c.in_default-write_growths.ensures in
-    let form = g.R.Record.form in
-    let rs = c.as_slice-2.result.now in
-    let disk = c.args.disk in
     let pen = c.write_growths.new.pen in
-    let fits : 8 + c.args.piece * form.width ≤ limit_of Two = (c.greatest_piece.ensures c.args.piece).0 c.if-piece-greatest_piece.false in
+    let rs = c.as_slice-2.result.now in
     let same : rs ≡ c.args.records.items =
     c.as_slice-2.ensures.value ∙ only_block c.as_slice.result.now c.index-as_slice-0.result c.in-Ok.blocks c.args.records.items c.as_slice.ensures
     c.in-Ok.ensures.one c.in-Ok.ensures.whole c.index-as_slice-0.is in
-    let shape : ℕ → Shape = λ v. record { format = Two; width = v } in
-    all_kept form g.D.Disk.keeps g.D.Disk.states g.D.Disk.faults c.args.piece rs c.requires.some fits disk c.in_ok-pen.pen.disk pen c.in-Ok.blocks
-    (λ kept. subst (λ v. StaysUnbornOrEmpty (shape v) (g.D.Disk.states disk) (g.D.Disk.states c.in_ok-pen.pen.disk)) c.width_of.ensures.is (e.born kept))
-    e.none_existed e.time e.calls e.faults e.model w.images w.model w.written w.cells (c.in-Ok.ensures.whole ∙ sym same)
+    let has : HasAll g.R.Record.form (g.D.Disk.keeps pen.disk) c.args.piece rs pen c.in-Ok.blocks =
+    record { some = c.requires.some; written = w.written; cells = w.cells; list = c.in-Ok.ensures.whole ∙ sym same } in
+    all_kept has
 
 pub returns : goal.returns
 returns g c =
     let e = c.in_ok-pen.ensures in
     let w = c.in_default-write_growths.ensures in
     let form = g.R.Record.form in
+    let device = device_of g.D.Disk.keeps g.D.Disk.states g.D.Disk.faults in
     let rs = c.as_slice-2.result.now in
     let disk = c.args.disk in
     let pen = c.write_growths.new.pen in
@@ -83,9 +89,19 @@ returns g c =
     c.as_slice-2.ensures.value ∙ only_block c.as_slice.result.now c.index-as_slice-0.result c.in-Ok.blocks c.args.records.items c.as_slice.ensures
     c.in-Ok.ensures.one c.in-Ok.ensures.whole c.index-as_slice-0.is in
     let shape : ℕ → Shape = λ v. record { format = Two; width = v } in
+    let begun : IsBegunOn device (shape_of Two form) disk c.in_ok-pen.pen.disk = record {
+      born = λ kept. subst (λ v. StaysUnbornOrEmpty (shape v) (g.D.Disk.states disk) (g.D.Disk.states c.in_ok-pen.pen.disk)) c.width_of.ensures.is (e.born kept);
+      none_existed = e.none_existed;
+      time = e.time;
+      calls = e.calls;
+      no_fault = e.faults;
+      model = e.model;
+    } in
+    let grown : IsGrownOn form device c.args.piece rs disk c.in_ok-pen.pen.disk pen.disk =
+    record { begun = begun; fits = fits; images = w.images; model = w.model } in
+    let has : HasAll form (g.D.Disk.keeps pen.disk) c.args.piece rs pen c.in-Ok.blocks =
+    record { some = c.requires.some; written = w.written; cells = w.cells; list = c.in-Ok.ensures.whole ∙ sym same } in
     subst (λ (list : List g.row.R.Denot). IsCopied form g.D.Disk.keeps g.D.Disk.states g.D.Disk.faults c.args.piece list disk
     (Ok (vault_of form pen c.in-Ok.blocks))) same
-    (all_copied form g.D.Disk.keeps g.D.Disk.states g.D.Disk.faults c.args.piece rs c.requires.some fits disk c.in_ok-pen.pen.disk pen c.in-Ok.blocks
-    (λ kept. subst (λ v. StaysUnbornOrEmpty (shape v) (g.D.Disk.states disk) (g.D.Disk.states c.in_ok-pen.pen.disk)) c.width_of.ensures.is (e.born kept))
-    e.none_existed e.time e.calls e.faults e.model w.images w.model w.written w.cells (c.in-Ok.ensures.whole ∙ sym same) w.time w.faults
+    (all_copied grown has w.time w.faults
     (subst (λ (d : g.row.D.Denot). g.D.Disk.keeps d → IsKept (g.D.Disk.states d) pen) c.disk-disk.ensures.disk c.disk-disk.ensures.kept))

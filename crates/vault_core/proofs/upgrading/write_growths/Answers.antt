@@ -1,9 +1,10 @@
-use Rattle.std.proofs.Common.{◌≡◌, ◌∙◌, ◌∷◌, [], List, length, ap, subst, sym, refl, rules, arith, min, ◌+◌, ◌*◌, ◌-◌}
+use Rattle.std.proofs.Common.{◌≡◌, ◌∙◌, ◌∷◌, [], List, length, ap, subst, sym, refl, rules, arith, ◌+◌, ◌*◌, ◌-◌}
 use Rattle.disk_core.specs.Moments.{LeavesOnly, clock}
 use Rattle.segment_core.specs.Written.{joined, payload_len}
 use Rattle.pen_core.specs.Pen.{failed_calls}
 use Rattle.pen_core.specs.Refusals.{group_lines}
 use Rattle.vault_core.specs.Upgrading.{OpensToCopied}
+use Rattle.vault_core.proofs.Devices.{device_of}
 use Rattle.vault_core.proofs.Commands.{quiet}
 use Rattle.std.proofs.lemmas.Result.{err_from_is_err_and}
 use Rattle.std.specs.Slice.Iter.{chunks_rest}
@@ -18,8 +19,8 @@ loop-growth-init g c =
       search rules,
       0,
       subst (λ (rs : List g.row.R.Denot).
-          Writes g.R.Record.form g.D.Disk.keeps g.D.Disk.states g.D.Disk.faults c.args.piece c.args.records.now c.args.pen.now c.args.pen.now rs 0) (sym rest)
-          (writes_none g.R.Record.form g.D.Disk.keeps g.D.Disk.states g.D.Disk.faults c.args.piece c.args.records.now
+          Writes g.R.Record.form (device_of g.D.Disk.keeps g.D.Disk.states g.D.Disk.faults) c.args.piece c.args.records.now c.args.pen.now c.args.pen.now rs 0) (sym rest)
+          (writes_none g.R.Record.form (device_of g.D.Disk.keeps g.D.Disk.states g.D.Disk.faults) c.args.piece c.args.records.now
           c.args.pen.now c.requires.some c.requires.fits c.requires.few c.requires.new c.requires.empty c.requires.kept),
     )
 

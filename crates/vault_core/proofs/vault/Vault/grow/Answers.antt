@@ -20,32 +20,33 @@ returns-in-Err-begin_growths-clause-command g c = rw (← c.self.view_is) (
     let back : c.pop.new.self ≡ s.blocks =
     c.pop.ensures ∙ ap (λ (bs : List (List g.row.R.Denot)). take (length bs - 1) bs) pushed
     ∙ take_at s.blocks copies _ (omega (arith, length-append s.blocks copies)) in
-    let why =
-    grown_refused form g.D.Disk.keeps _ c.self.invariant c.in_default.ensures.whole c.args.more c.args.v c.push.new.self
-    (records_of c.last.result.now) pushed c.last.ensures fault f.refused in
+    let why = grown_refused c.args.more c.args.v s.blocks c.push.new.self (records_of c.last.result.now) pushed c.last.ensures form s.pen fault f.refused in
     rw back (
     refused_command form g.D.Disk.keeps g.D.Disk.states g.D.Disk.faults _ c.self.invariant _ (group_lines s.pen c.args.more (8 + c.args.more * form.width))
     c.begin_growths.new.self fault f.unchanged (refl, (refl, (refl, (refl, (refl, tt))))) why))
 
 pub invariant_of-self-2 : goal.invariant_of-self-2
 invariant_of-self-2 g c =
-    let begun = grown g.R.Record.form g.D.Disk.keeps _ c.self.invariant c.in_default.ensures.whole c.args.more c.args.v c.push.new.self (records_of c.last.result.now)
-    (c.in-Ok-push.ensures.ok ∙ ap (λ b. c.self.inside.blocks ++ b ∷ []) c.in-Ok.ensures) c.last.ensures
-    c.begin_growths.new.self c.in_default-begin_growths.ensures.begun c.in_default-begin_growths.ensures.next in
+    let s = c.self.inside in
+    let begun = grown c.args.more c.args.v s.blocks c.push.new.self (records_of c.last.result.now)
+    (c.in-Ok-push.ensures.ok ∙ ap (λ b. s.blocks ++ b ∷ []) c.in-Ok.ensures) c.last.ensures g.R.Record.form g.D.Disk.keeps s.pen c.self.invariant
+    c.in_default.ensures.whole c.begin_growths.new.self c.in_default-begin_growths.ensures.begun c.in_default-begin_growths.ensures.next in
     c.commit.ensures.kept _ _ begun
 
 pub returns-clause-blocks : goal.returns-clause-blocks
 returns-clause-blocks g c = rw (← c.self.view_is) (
-    let begun = grown g.R.Record.form g.D.Disk.keeps _ c.self.invariant c.in_default.ensures.whole c.args.more c.args.v c.push.new.self (records_of c.last.result.now)
-    (c.in-Ok-push.ensures.ok ∙ ap (λ b. c.self.inside.blocks ++ b ∷ []) c.in-Ok.ensures) c.last.ensures
-    c.begin_growths.new.self c.in_default-begin_growths.ensures.begun c.in_default-begin_growths.ensures.next in
+    let s = c.self.inside in
+    let begun = grown c.args.more c.args.v s.blocks c.push.new.self (records_of c.last.result.now)
+    (c.in-Ok-push.ensures.ok ∙ ap (λ b. s.blocks ++ b ∷ []) c.in-Ok.ensures) c.last.ensures g.R.Record.form g.D.Disk.keeps s.pen c.self.invariant
+    c.in_default.ensures.whole c.begin_growths.new.self c.in_default-begin_growths.ensures.begun c.in_default-begin_growths.ensures.next in
     stands_made _ _ c.commit.result (c.commit.ensures.stops (mid_whole begun)) (c.in-Ok-push.ensures.ok ∙ ap (λ b. c.self.inside.blocks ++ b ∷ []) c.in-Ok.ensures))
 
 pub returns-clause-command : goal.returns-clause-command
 returns-clause-command g c = rw (← c.self.view_is) (
-    let begun = grown g.R.Record.form g.D.Disk.keeps _ c.self.invariant c.in_default.ensures.whole c.args.more c.args.v c.push.new.self (records_of c.last.result.now)
-    (c.in-Ok-push.ensures.ok ∙ ap (λ b. c.self.inside.blocks ++ b ∷ []) c.in-Ok.ensures) c.last.ensures
-    c.begin_growths.new.self c.in_default-begin_growths.ensures.begun c.in_default-begin_growths.ensures.next in
+    let s = c.self.inside in
+    let begun = grown c.args.more c.args.v s.blocks c.push.new.self (records_of c.last.result.now)
+    (c.in-Ok-push.ensures.ok ∙ ap (λ b. s.blocks ++ b ∷ []) c.in-Ok.ensures) c.last.ensures g.R.Record.form g.D.Disk.keeps s.pen c.self.invariant
+    c.in_default.ensures.whole c.begin_growths.new.self c.in_default-begin_growths.ensures.begun c.in_default-begin_growths.ensures.next in
     c.commit.ensures.command _ _ begun _ c.in_default.ensures.allowed)
 
 -- ---- refused
@@ -88,12 +89,12 @@ returns-in_default-push-clause-command g c = rw (← c.self.view_is) (
 
 pub begin_growths-requires-clause-some : goal.begin_growths-requires-clause-some
 begin_growths-requires-clause-some g c κs within =
-    grown_some g.R.Record.form g.D.Disk.keeps _ c.self.invariant c.in_default.ensures.whole c.args.more c.args.v c.push.new.self (records_of c.last.result.now)
+    grown_some c.args.more c.args.v c.self.inside.blocks c.push.new.self (records_of c.last.result.now)
     (c.in-Ok-push.ensures.ok ∙ ap (λ b. c.self.inside.blocks ++ b ∷ []) c.in-Ok.ensures) c.last.ensures
 
 pub begin_growths-requires-clause-each : goal.begin_growths-requires-clause-each
 begin_growths-requires-clause-each g c κs within =
-    grown_each g.R.Record.form g.D.Disk.keeps _ c.self.invariant c.in_default.ensures.whole c.args.more c.args.v c.push.new.self (records_of c.last.result.now)
+    grown_each c.args.more c.args.v c.self.inside.blocks c.push.new.self (records_of c.last.result.now)
     (c.in-Ok-push.ensures.ok ∙ ap (λ b. c.self.inside.blocks ++ b ∷ []) c.in-Ok.ensures) c.last.ensures c.requires
 
 pub invariant_of-self-in-Err-begin_growths : goal.invariant_of-self-in-Err-begin_growths
@@ -121,6 +122,6 @@ returns-in-Err-begin_growths-clause-blocks g c = rw (← c.self.view_is) (
     c.pop.ensures ∙ ap (λ (bs : List (List g.row.R.Denot)). take (length bs - 1) bs) pushed
     ∙ take_at s.blocks copies _ (omega (arith, length-append s.blocks copies)) in
     let why =
-    grown_refused form g.D.Disk.keeps _ c.self.invariant c.in_default.ensures.whole c.args.more c.args.v c.push.new.self
-    (records_of c.last.result.now) pushed c.last.ensures fault c.in-Err-begin_growths.ensures.refused in
+    grown_refused c.args.more c.args.v s.blocks c.push.new.self (records_of c.last.result.now) pushed c.last.ensures form s.pen fault
+    c.in-Err-begin_growths.ensures.refused in
     stands_was _ _ fault (quiet (group_lines s.pen c.args.more (8 + c.args.more * form.width)) fault (refl, (refl, (refl, (refl, (refl, tt))))) why) back)
