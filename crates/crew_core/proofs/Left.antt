@@ -1,5 +1,5 @@
 -- What is left of a crew whose phase wasn't ended.
-use Rattle.std.proofs.Common.{◌≡◌, ◌≢◌, ℕ, zero, suc, ◌+◌, ◌<◌, ◌≤◌, inl, inr, List, [], ◌∷◌, ◌++◌, length, take, max, get_or, slice_get, Some, Option, All, refl, sym, ap, subst, ◌∙◌, eq-or-lt_of_le, arith}
+use Rattle.std.proofs.Common.{◌≡◌, ℕ, zero, suc, ◌+◌, ◌<◌, ◌≤◌, inl, inr, List, [], ◌∷◌, ◌++◌, length, take, max, get_or, slice_get, Some, Option, All, refl, sym, ap, subst, ◌∙◌, eq-or-lt_of_le, arith}
 use Rattle.std.specs.List.{AllWithin}
 use Rattle.std.proofs.lemmas.List.{take_more, get_or-map, length-map}
 use Rattle.std.proofs.lemmas.Option.{slice_get_within, get_or_from_slice_get}
@@ -107,44 +107,43 @@ module _ {R D : Type 0} (live : Phase R) (seats : List (Seated R)) (old new : Fl
   refused_still (Unsettled number) why =
       (broken-same ∙ why.0, all_still why.1, why.2 ∙ sym learns.settled_same, subst (λ (m : ℕ). number < m) (sym same_most) why.3)
 
--- The seats of growers that are home, where their lists begin one that is known.
-module _ {R : Type 0} (width : ℕ) (live : Phase R) (count : ℕ → ℕ) (block : ℕ → ℕ → List R) (may_stop : ℕ → ℕ → Type 0) (has_let : ℕ → ℕ → Type 0)
-    (was_told : ℕ → Receipt → Type 0) (n : ℕ) (seats : List (Seated R)) (receipts : List (List Receipt)) (faults : List (Option GrowFault))
-    (home : AreHome width live count block may_stop has_let was_told n seats receipts faults) (es : List (Growth R))
-    (stand : All StandInList seats) (begin : All (λ s. IsPrefix s.pass.entries es) seats) where
-  pub left_seat : (k : ℕ) → k < n → (seat : Seated R) × (slice_get seats k ≡ Some seat) × IsLeftSeat (count k) (block k) k es seat
-  left_seat k lt =
-      let there = home.each k lt in
-      let seat = there.seat in
-      let within = slice_get_within seats k seat there.seat_is in
-      let here = get_or_from_slice_get seats k seat seat there.seat_is in
-      let stands : StandInList seat = subst StandInList here (stand k seat within) in
-      let begins : IsPrefix seat.pass.entries es = subst (λ (s : Seated R). IsPrefix s.pass.entries es) here (begin k seat within) in
-      let grown = there.come.grown in (
-        seat,
-        there.seat_is,
-        record {
-          id_is = grown.id_is;
-          few = grown.few;
-          blocks_are = grown.blocks_are;
-          first = stands.first;
-          inside = let le = begins-le seat.pass.entries es begins in let inside = stands.inside in omega arith;
-          are = stands.are ∙ ap (own_of seat.id) (sym (take-begins seat.pass.entries es stands.first begins stands.inside))
-              ∙ ap (λ (id : ℕ). own_of id (take stands.first es)) grown.id_is;
-        },
-      )
+-- The seat of the grower of that id is in its place, and made growths of the first of its blocks.
+pub record HasItsSeat {R : Type 0} (count : ℕ) (block : ℕ → List R) (id : ℕ) (seats : List (Seated R)) : Type 0 where
+  pub seat : Seated R
+  pub seat_is : slice_get seats id ≡ Some seat
+  pub id_is : seat.id ≡ id
+  pub few : length seat.made ≤ count
+  pub blocks_are : (k : ℕ) (growth : Growth R) → slice_get seat.made k ≡ Some growth → growth.records ≡ block k
 
+-- so it is for each of n growers
+pub record HaveTheirSeats {R : Type 0} (count : ℕ → ℕ) (block : ℕ → ℕ → List R) (n : ℕ) (seats : List (Seated R)) : Type 0 where
+  pub as_many : length seats ≡ n
+  pub each : (k : ℕ) → k < n → HasItsSeat (count k) (block k) k seats
+
+-- growers that are home have brought their seats
+pub home_seats : {R : Type 0} {width : ℕ} {live : Phase R} {count : ℕ → ℕ} {block : ℕ → ℕ → List R} {may_stop : ℕ → ℕ → Type 0} {has_let : ℕ → ℕ → Type 0}
+    {was_told : ℕ → Receipt → Type 0} {n : ℕ} {seats : List (Seated R)} {receipts : List (List Receipt)} {faults : List (Option GrowFault)}
+    → AreHome width live count block may_stop has_let was_told n seats receipts faults → HaveTheirSeats count block n seats
+home_seats home = record {
+  as_many = home.as_many_seats;
+  each = λ k lt.
+      let there = home.each k lt in
+      let grown = there.come.grown in
+      record { seat = there.seat; seat_is = there.seat_is; id_is = grown.id_is; few = grown.few; blocks_are = grown.blocks_are };
+}
+
+module _ {R : Type 0} {count : ℕ → ℕ} {block : ℕ → ℕ → List R} {n : ℕ} {seats : List (Seated R)} (have : HaveTheirSeats count block n seats) where
   id-at : (k : ℕ) (d : Seated R) → k < length seats → (get_or seats k d).id ≡ k
   id-at k d lt =
-      let there = home.each k (let many = home.as_many_seats in omega arith) in
-      ap (λ (s : Seated R). s.id) (get_or_from_slice_get seats k there.seat d there.seat_is) ∙ there.come.grown.id_is
+      let there = have.each k (let many = have.as_many in omega arith) in
+      ap (λ (s : Seated R). s.id) (get_or_from_slice_get seats k there.seat d there.seat_is) ∙ there.id_is
 
   grower-at : (id : ℕ) → HasId id seats → id < n
   grower-at id has =
       let lt : has.0 < length seats = let within = has.1 in let long = length-map seats (λ (s : Seated R). s.id) in omega arith in
-      let there = home.each has.0 (let many = home.as_many_seats in omega arith) in
+      let there = have.each has.0 (let many = have.as_many in omega arith) in
       let is : id ≡ has.0 = sym has.2 ∙ get_or-map (λ (s : Seated R). s.id) seats has.0 there.seat id lt ∙ id-at has.0 there.seat lt in
-      let many = home.as_many_seats in omega arith
+      let many = have.as_many in omega arith
 
   distinct : AreDistinct seats
   distinct i j d lt within same =
@@ -152,12 +151,35 @@ module _ {R : Type 0} (width : ℕ) (live : Phase R) (count : ℕ → ℕ) (bloc
       let other = id-at j d within in
       omega (arith, sym one ∙ same ∙ other)
 
-  pub of_growers : made_by seats ≡ length es → AreOfGrowers n seats es
-  of_growers as_many = record {
-    by_growers = λ k d lt. grower-at (get_or es k d).seat (by_seats seats es distinct as_many stand begin k d lt);
-    made_once = λ k seat lt there.
-        let within = slice_get_within seats k seat there in
-        let here = get_or_from_slice_get seats k seat seat there in
-        let id = ap (λ (s : Seated R). s.id) (sym here) ∙ id-at k seat within in
-        ap (λ (i : ℕ). own_of i es) (sym id) ∙ subst (λ (s : Seated R). own_of s.id es ≡ s.made) here (made_once seats es distinct as_many stand begin k seat within);
-  }
+  -- the lists of the seats begin one that is known
+  module _ {es : List (Growth R)} (stand : All StandInList seats) (begin : All (λ s. IsPrefix s.pass.entries es) seats) where
+    pub left_seat : (k : ℕ) → k < n → (seat : Seated R) × (slice_get seats k ≡ Some seat) × IsLeftSeat (count k) (block k) k es seat
+    left_seat k lt =
+        let there = have.each k lt in
+        let seat = there.seat in
+        let within = slice_get_within seats k seat there.seat_is in
+        let here = get_or_from_slice_get seats k seat seat there.seat_is in
+        let stands : StandInList seat = subst StandInList here (stand k seat within) in
+        let begins : IsPrefix seat.pass.entries es = subst (λ (s : Seated R). IsPrefix s.pass.entries es) here (begin k seat within) in (
+          seat,
+          there.seat_is,
+          record {
+            id_is = there.id_is;
+            few = there.few;
+            blocks_are = there.blocks_are;
+            first = stands.first;
+            inside = let le = begins-le seat.pass.entries es begins in let inside = stands.inside in omega arith;
+            are = stands.are ∙ ap (own_of seat.id) (sym (take-begins seat.pass.entries es stands.first begins stands.inside))
+                ∙ ap (λ (id : ℕ). own_of id (take stands.first es)) there.id_is;
+          },
+        )
+
+    pub of_growers : made_by seats ≡ length es → AreOfGrowers n seats es
+    of_growers as_many = record {
+      by_growers = λ k d lt. grower-at (get_or es k d).seat (by_seats seats es distinct as_many stand begin k d lt);
+      made_once = λ k seat lt there.
+          let within = slice_get_within seats k seat there in
+          let here = get_or_from_slice_get seats k seat seat there in
+          let id = ap (λ (s : Seated R). s.id) (sym here) ∙ id-at k seat within in
+          ap (λ (i : ℕ). own_of i es) (sym id) ∙ subst (λ (s : Seated R). own_of s.id es ≡ s.made) here (made_once seats es distinct as_many stand begin k seat within);
+    }

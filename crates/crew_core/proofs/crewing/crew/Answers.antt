@@ -1,4 +1,4 @@
-use Rattle.std.proofs.Common.{◌≡◌, ℕ, ◌+◌, List, length, map, All, Vec, refl, sym, ap, subst, ◌∙◌, arith, rules}
+use Rattle.std.proofs.Common.{◌≡◌, ℕ, length, map, All, Vec, sym, ap, subst, ◌∙◌, arith}
 use Rattle.pen_core.specs.PenOf.{PenOf}
 use Rattle.book_core.specs.declared.seat.Receipt.{Receipt}
 use Rattle.directory_core.specs.Chain.{IsPrefix}
@@ -7,8 +7,8 @@ use Rattle.flush_core.specs.Flusher.{FlusherOf, FlusherLearns, IsFlusherOf}
 use Rattle.vault_core.proofs.Handed.{IsFlusherOf-learns}
 use Rattle.crew_core.specs.Crewing.{AreHome}
 use Rattle.crew_core.proofs.Homes.{all-of, all_heed, crewed}
-use Rattle.crew_core.proofs.Left.{left_seat, of_growers}
-use Rattle.crew_core.proofs.Served.{served_first, served_more, is_back}
+use Rattle.crew_core.proofs.Left.{HaveTheirSeats, home_seats, left_seat, of_growers}
+use Rattle.crew_core.proofs.Served.{ServesVault, served_first, served_more, is_back}
 use Rattle.crew_core.proofs.crewing.crew.Goals as goal
 
 pub gather-requires-after_bounds : goal.gather-requires-after_bounds
@@ -29,6 +29,9 @@ returns-in-Ok-gather-clause-crewed g c =
     let has_let = g.G.Gate.has_let c.args.gate.now in
     let was_told = g.G.Gate.was_told c.args.gate.now in
     let home = c.run_phase-flusher.result.1 in
+    let shares = c.in-Ok-share.ensures.shares in
+    let serves : ServesVault g.R.Record.form g.D.Disk.keeps g.D.Disk.states c.args.vault c.in-Ok-share.begun.0 c.in-Ok-share.begun.1 c.run_phase-flusher.result.0 =
+    record { blocks = shares.blocks; pen = shares.pen; of = c.run_phase-flusher.ensures.flusher; goes = c.run_phase-flusher.ensures.served } in
     let seats = c.in-Ok-share.ensures.seats in
     let many = seats.0 ∙ c.growers-growers.ensures in
     let receipts = map (λ (its : Vec Receipt _). its.items) home.receipts.items in
@@ -37,16 +40,10 @@ returns-in-Ok-gather-clause-crewed g c =
     (let ok = c.in-Ok-share.begun.2.ok in omega arith) c.run_phase-flusher.ensures.home in (
       c.run_phase-flusher.result.0.pass.entries,
       crewed g.R.Record.form.width c.in-Ok-share.begun.0 count block may_stop has_let was_told (g.S.Source.growers_of source) home.seats.items receipts home.faults.items all
-          c.args.vault c.in-Ok-gather.vault c.run_phase-flusher.result.0 c.in-Ok-share.ensures.shares.blocks
-          (c.in-Ok-share.ensures.shares.room_is ∙ c.room_of-room.ensures) c.in-Ok-gather.ensures.whole c.in-Ok-gather.ensures.list,
-      is_back g.R.Record.form g.D.Disk.keeps g.D.Disk.states c.args.vault c.in-Ok-share.begun.1 c.run_phase-flusher.result.0 c.in-Ok-share.ensures.shares.pen c.run_phase-flusher.ensures.served
-          c.in-Ok-gather.vault c.in-Ok-gather.ensures.pen c.in-Ok-gather.ensures.whole.pen_whole c.in-Ok-gather.ensures.told,
-      λ now.
-          let pen = c.in-Ok-gather.ensures.pen in
-          let shares = c.in-Ok-share.ensures.shares in
-          served_first g.R.Record.form g.D.Disk.keeps g.D.Disk.states c.args.vault c.in-Ok-share.begun.0 c.in-Ok-share.begun.1
-          c.run_phase-flusher.result.0 shares.blocks shares.pen c.run_phase-flusher.ensures.flusher c.run_phase-flusher.ensures.served
-          c.in-Ok-gather.vault.pen pen now,
+          c.args.vault c.in-Ok-gather.vault c.run_phase-flusher.result.0 shares.blocks
+          (shares.room_is ∙ c.room_of-room.ensures) c.in-Ok-gather.ensures.whole c.in-Ok-gather.ensures.list,
+      is_back serves c.in-Ok-gather.vault c.in-Ok-gather.ensures.pen c.in-Ok-gather.ensures.whole.pen_whole c.in-Ok-gather.ensures.told,
+      λ now. served_first serves c.in-Ok-gather.vault.pen c.in-Ok-gather.ensures.pen now,
     )
 
 pub returns-in-Ok-gather-clause-heeds : goal.returns-in-Ok-gather-clause-heeds
@@ -92,6 +89,8 @@ returns-in-Err-gather-clause-refused g c =
     let home = c.run_phase-flusher.result.1 in
     let served = c.run_phase-flusher.result.0 in
     let shares = c.in-Ok-share.ensures.shares in
+    let serves : ServesVault g.R.Record.form g.D.Disk.keeps g.D.Disk.states c.args.vault begun.0 begun.1 served =
+    record { blocks = shares.blocks; pen = shares.pen; of = c.run_phase-flusher.ensures.flusher; goes = c.run_phase-flusher.ensures.served } in
     let live : left.live ≡ begun.0 = known.same.0 ∙ back.0 in
     let seats : left.seats.items ≡ home.seats.items = known.same.1 ∙ back.1 in
     let learns : FlusherLearns served left.flusher = subst (λ (f : FlusherOf _ _). FlusherLearns f left.flusher) back.2 known.learns in
@@ -111,8 +110,7 @@ returns-in-Err-gather-clause-refused g c =
             (IsFlusherOf-learns g.D.Disk.keeps begun.0 served left.flusher c.run_phase-flusher.ensures.flusher learns);
       },
       known.refused,
-      served_more g.R.Record.form g.D.Disk.keeps g.D.Disk.states c.args.vault begun.0 begun.1 served shares.blocks shares.pen
-          c.run_phase-flusher.ensures.flusher c.run_phase-flusher.ensures.served left.flusher.pass.entries learns.begins left.flusher.pen learns.pen_same,
+      served_more serves left.flusher.pass.entries learns.begins left.flusher.pen learns.pen_same,
     )
 
 pub returns-in-Err-gather-clause-leaves : goal.returns-in-Err-gather-clause-leaves
@@ -138,7 +136,5 @@ returns-in-Err-gather-clause-leaves g c =
     (let ok = c.in-Ok-share.begun.2.ok in omega arith) c.run_phase-flusher.ensures.home in
     let stand : All StandInList home.seats.items = subst (All StandInList) back.1 known.stand in
     let begin : All (λ s. IsPrefix s.pass.entries es) home.seats.items = subst (All (λ (s : Seated _). IsPrefix s.pass.entries es)) back.1 known.begin in
-    rw (known.same.1, back.1) (
-      left_seat width live count block may_stop has_let was_told growers home.seats.items receipts home.faults.items all es stand begin,
-      of_growers width live count block may_stop has_let was_told growers home.seats.items receipts home.faults.items all es stand begin,
-    )
+    let have : HaveTheirSeats count block growers home.seats.items = home_seats all in
+    rw (known.same.1, back.1) (left_seat have stand begin, of_growers have stand begin)
