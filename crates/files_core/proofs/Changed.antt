@@ -14,42 +14,48 @@ use Rattle.files_core.specs.Changing.{Replaces}
 use Rattle.files_core.specs.Opened.{IsOpenedOn, LeavesBeforeOr}
 use Rattle.files_core.proofs.Opened.{opened_list, opened_alone, opened_then, opens_same}
 
-module _ {R D : Type 0} (form : Encoding R) (keeps : D → Type 0) (states : D → List State) (faults : D → ℕ) (IsMadeOf : List R → List R → Type 0)
-    (disk left : D) (v w : VaultOf R D) (opened : IsOpenedOn form keeps states faults disk v) (same : left ≡ w.pen.disk)
-    (may : keeps left → (image : List ℕ) → IsImage (now (states left)) image → MayHold form w image) (made : IsMadeOf (list_of v) (list_of w)) where
+-- A vault's disk was taken out of it: what a crash may leave of it is what may be left of the vault.
+pub record IsTakenFrom {R D : Type 0} (form : Encoding R) (keeps : D → Type 0) (states : D → List State) (v : VaultOf R D) (left : D) : Type 0 where
+  pub disk : left ≡ v.pen.disk
+  pub images : keeps left → (image : List ℕ) → IsImage (now (states left)) image → MayHold form v image
+
+module _ {R D : Type 0} {form : Encoding R} {keeps : D → Type 0} {states : D → List State} {faults : D → ℕ} {disk left : D} {v w : VaultOf R D}
+    (opened : IsOpenedOn form keeps states faults disk v) (taken : IsTakenFrom form keeps states w left) where
   -- by a command that was committed
-  pub replaced_by : (frame : Frame) (lines : List (Bool × PenFault)) → IsCommand form keeps states faults frame lines v w (Ok tt) → keeps left → Replaces form states IsMadeOf disk left
-  replaced_by frame lines command model = record {
+  pub replaced_by : (IsMadeOf : List R → List R → Type 0) → IsMadeOf (list_of v) (list_of w)
+      → (frame : Frame) (lines : List (Bool × PenFault)) → IsCommand form keeps states faults frame lines v w (Ok tt) → keeps left → Replaces form states IsMadeOf disk left
+  replaced_by IsMadeOf made frame lines command model = record {
     was = list_of v;
     behind = list_of w;
     file = opened_list form (bytes_of (states disk)) v.pen (list_of v) (opened.opened before);
     made = made;
-    images = subst (λ d. LeavesBeforeOr (states disk) (states d) (OpensToEither form (list_of v) (list_of w))) (sym same)
+    images = subst (λ d. LeavesBeforeOr (states disk) (states d) (OpensToEither form (list_of v) (list_of w))) (sym taken.disk)
         (opened_then (states disk) (states v.pen.disk) (states w.pen.disk) (OpensToEither form (list_of v) (list_of w)) (opened.only_syncs before)
         (subst (λ sure. LeavesOnly (states v.pen.disk) (states w.pen.disk) (OpensToEither form sure (list_of w))) (opened.sure before) (command.images own)));
-    settled = λ image is. opens_same form w.sure (list_of w) (list_of w) image (command.sure own) refl (may model image is);
+    settled = λ image is. opens_same form w.sure (list_of w) (list_of w) image (command.sure own) refl (taken.images model image is);
   }
     where
       own : keeps w.pen.disk
-      own = subst keeps same model
+      own = subst keeps taken.disk model
 
       before : keeps v.pen.disk
       before = command.model own
 
   -- by one that had nothing to do
-  pub replaced_by_none : w ≡ v → keeps left → Replaces form states IsMadeOf disk left
-  replaced_by_none none model = record {
+  pub replaced_by_none : (IsMadeOf : List R → List R → Type 0) → IsMadeOf (list_of v) (list_of w) → w ≡ v → keeps left
+      → Replaces form states IsMadeOf disk left
+  replaced_by_none IsMadeOf made none model = record {
     was = list_of v;
     behind = list_of w;
     file = opened_list form (bytes_of (states disk)) v.pen (list_of v) (opened.opened before);
     made = made;
     images = subst (λ d. LeavesBeforeOr (states disk) (states d) (OpensToEither form (list_of v) (list_of w))) (sym stays)
         (opened_alone (states disk) (states v.pen.disk) (OpensToEither form (list_of v) (list_of w)) (opened.only_syncs before));
-    settled = λ image is. opens_same form w.sure (list_of w) (list_of w) image (subst (λ x. x.sure ≡ list_of x) (sym none) (opened.sure before)) refl (may model image is);
+    settled = λ image is. opens_same form w.sure (list_of w) (list_of w) image (subst (λ x. x.sure ≡ list_of x) (sym none) (opened.sure before)) refl (taken.images model image is);
   }
     where
       stays : left ≡ v.pen.disk
-      stays = same ∙ ap (λ x. x.pen.disk) none
+      stays = taken.disk ∙ ap (λ x. x.pen.disk) none
 
       before : keeps v.pen.disk
       before = subst keeps stays model

@@ -40,25 +40,28 @@ failed_upgrading (Refused fault) = failed_before fault
 abbrev pub IsGreatestPiece : ℕ → ℕ → Type 0
 IsGreatestPiece width piece = (n : ℕ) → (n ≤ piece) ↔ (8 + n * width ≤ limit_of Two)
 
+-- how the records are written, and what is known of the disks
 module _ {R D N : Type 0} (form : Encoding R) (keeps : D → Type 0) (states : D → List State) (keeps_new : N → Type 0) (states_new : N → List State)
-    (faults_new : N → ℕ) (old : D) (new : N) (left : D) (left_new : N) where
-  -- The records of the file of version 1 stand in the new one, copied in the longest growths.
-  pub record IsUpgraded (text : List ℕ) : Type 0 where
-    pub piece : ℕ
-    pub greatest : IsGreatestPiece form.width piece
-    pub vault : VaultOf R N
-    pub file : keeps left → IsFileOfFormat One form (bytes_of (states old)) (list_of vault)
-    pub copied : IsCopied form keeps_new states_new faults_new piece (list_of vault) new (Ok vault)
-    pub disk_is : vault.pen.disk ≡ left_new
-    pub told : text ≡ upgraded_line (length (list_of vault))
+    (faults_new : N → ℕ) where
+  -- the disks that were given, and what is left of them
+  module _ (old : D) (new : N) (left : D) (left_new : N) where
+    -- The records of the file of version 1 stand in the new one, copied in the longest growths.
+    pub record IsUpgraded (text : List ℕ) : Type 0 where
+      pub piece : ℕ
+      pub greatest : IsGreatestPiece form.width piece
+      pub vault : VaultOf R N
+      pub file : keeps left → IsFileOfFormat One form (bytes_of (states old)) (list_of vault)
+      pub copied : IsCopied form keeps_new states_new faults_new piece (list_of vault) new (Ok vault)
+      pub disk_is : vault.pen.disk ≡ left_new
+      pub told : text ≡ upgraded_line (length (list_of vault))
 
-  -- they weren't copied
-  abbrev pub IsUpgradeRefusal : FileFault → Type 0
-  IsUpgradeRefusal (Upgrade fault) =
-      (piece : ℕ) × IsGreatestPiece form.width piece × IsUpgradeFault form (keeps left) (bytes_of (states old)) keeps_new states_new faults_new piece
-      new left_new fault
-  IsUpgradeRefusal (Word word) = ⊥
-  IsUpgradeRefusal (Input refusal) = ⊥
-  IsUpgradeRefusal (Open fault) = ⊥
-  IsUpgradeRefusal (Vault fault) = ⊥
-  IsUpgradeRefusal (Grower stopped) = ⊥
+    -- they weren't copied
+    abbrev pub IsUpgradeRefusal : FileFault → Type 0
+    IsUpgradeRefusal (Upgrade fault) =
+        (piece : ℕ) × IsGreatestPiece form.width piece × IsUpgradeFault form (keeps left) (bytes_of (states old)) keeps_new states_new faults_new piece
+        new left_new fault
+    IsUpgradeRefusal (Word word) = ⊥
+    IsUpgradeRefusal (Input refusal) = ⊥
+    IsUpgradeRefusal (Open fault) = ⊥
+    IsUpgradeRefusal (Vault fault) = ⊥
+    IsUpgradeRefusal (Grower stopped) = ⊥

@@ -1,7 +1,7 @@
 use Rattle.std.proofs.Common.{◌≡◌, [], sym, inl, inr}
 use Rattle.files_core.specs.Opened.{IsOpenedOn}
 use Rattle.files_core.proofs.Opened.{told_ends}
-use Rattle.files_core.proofs.Changed.{replaced_by, replaced_by_none, empty_or, not_broken}
+use Rattle.files_core.proofs.Changed.{IsTakenFrom, replaced_by, replaced_by_none, empty_or, not_broken}
 use Rattle.vault_core.specs.Vault.{list_of}
 use Rattle.files_core.proofs.resizing.clear.Goals as goal
 
@@ -11,11 +11,12 @@ returns-in-Ok-clear-clause-cleared g c =
     let e = c.in-Ok.ensures in
     let opened : IsOpenedOn g.R.Record.form g.D.Disk.keeps g.D.Disk.states g.D.Disk.faults c.args.disk c.in-Ok.vault =
     record { rests = e.rests; opened = e.opened; sure = e.sure; only_syncs = e.only_syncs; faults_same = e.faults; model = e.model } in
+    let taken : IsTakenFrom g.R.Record.form g.D.Disk.keeps g.D.Disk.states c.clear.new.self c.into_disk.result =
+    record { disk = c.into_disk.ensures.disk; images = c.into_disk.ensures.images } in
+    let list = c.in-Ok-clear.ensures.list in
     told_ends _ _ _ _ c.told.ensures (elim (empty_or (list_of v)) [
-      | inl none ↦ replaced_by_none g.R.Record.form g.D.Disk.keeps g.D.Disk.states g.D.Disk.faults (λ was behind. behind ≡ []) _ _ v c.clear.new.self
-          opened c.into_disk.ensures.disk c.into_disk.ensures.images c.in-Ok-clear.ensures.list (c.in-Ok-clear.ensures.nothing none).0
-      | inr some ↦ replaced_by g.R.Record.form g.D.Disk.keeps g.D.Disk.states g.D.Disk.faults (λ was behind. behind ≡ []) _ _ v c.clear.new.self
-          opened c.into_disk.ensures.disk c.into_disk.ensures.images c.in-Ok-clear.ensures.list _ _ (c.in-Ok-clear.ensures.command some)
+      | inl none ↦ replaced_by_none opened taken (λ was behind. behind ≡ []) list (c.in-Ok-clear.ensures.nothing none).0
+      | inr some ↦ replaced_by opened taken (λ was behind. behind ≡ []) list _ _ (c.in-Ok-clear.ensures.command some)
     ])
 
 pub returns-in-Err-clear-clause-cleared : goal.returns-in-Err-clear-clause-cleared

@@ -3,7 +3,7 @@ use Rattle.vault_core.specs.Commands.{resized}
 use Rattle.vault_core.specs.Vault.{list_of}
 use Rattle.files_core.specs.Opened.{IsOpenedOn}
 use Rattle.files_core.proofs.Opened.{told_ends}
-use Rattle.files_core.proofs.Changed.{replaced_by, replaced_by_none, three_ways, not_broken}
+use Rattle.files_core.proofs.Changed.{IsTakenFrom, replaced_by, replaced_by_none, three_ways, not_broken}
 use Rattle.files_core.proofs.resizing.resize.Goals as goal
 
 pub returns-in-Ok-resize-clause-resized : goal.returns-in-Ok-resize-clause-resized
@@ -13,16 +13,14 @@ returns-in-Ok-resize-clause-resized g c =
     let n = c.args.asked.now.len in
     let opened : IsOpenedOn g.R.Record.form g.D.Disk.keeps g.D.Disk.states g.D.Disk.faults c.args.disk c.in-Ok.vault =
     record { rests = e.rests; opened = e.opened; sure = e.sure; only_syncs = e.only_syncs; faults_same = e.faults; model = e.model } in
+    let taken : IsTakenFrom g.R.Record.form g.D.Disk.keeps g.D.Disk.states c.resize.new.self c.into_disk.result =
+    record { disk = c.into_disk.ensures.disk; images = c.into_disk.ensures.images } in
+    let filler = c.args.asked.now.filler in
+    let list = c.in-Ok-resize.ensures.list in
     told_ends _ _ _ _ c.told.ensures (elim (three_ways (length (list_of v)) n) [
-      | inl up ↦ replaced_by g.R.Record.form g.D.Disk.keeps g.D.Disk.states g.D.Disk.faults
-          (λ was behind. behind ≡ resized n c.args.asked.now.filler was) _ _ v c.resize.new.self opened c.into_disk.ensures.disk
-          c.into_disk.ensures.images c.in-Ok-resize.ensures.list _ _ (c.in-Ok-resize.ensures.up up)
-      | inr (inl down) ↦ replaced_by g.R.Record.form g.D.Disk.keeps g.D.Disk.states g.D.Disk.faults
-          (λ was behind. behind ≡ resized n c.args.asked.now.filler was) _ _ v c.resize.new.self opened c.into_disk.ensures.disk
-          c.into_disk.ensures.images c.in-Ok-resize.ensures.list _ _ (c.in-Ok-resize.ensures.down down)
-      | inr (inr same) ↦ replaced_by_none g.R.Record.form g.D.Disk.keeps g.D.Disk.states g.D.Disk.faults
-          (λ was behind. behind ≡ resized n c.args.asked.now.filler was) _ _ v c.resize.new.self opened c.into_disk.ensures.disk
-          c.into_disk.ensures.images c.in-Ok-resize.ensures.list (c.in-Ok-resize.ensures.nothing (sym same)).0
+      | inl up ↦ replaced_by opened taken (λ was behind. behind ≡ resized n filler was) list _ _ (c.in-Ok-resize.ensures.up up)
+      | inr (inl down) ↦ replaced_by opened taken (λ was behind. behind ≡ resized n filler was) list _ _ (c.in-Ok-resize.ensures.down down)
+      | inr (inr same) ↦ replaced_by_none opened taken (λ was behind. behind ≡ resized n filler was) list (c.in-Ok-resize.ensures.nothing (sym same)).0
     ])
 
 pub returns-in-Err-resize-clause-resized : goal.returns-in-Err-resize-clause-resized

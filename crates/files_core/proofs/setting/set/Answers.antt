@@ -6,7 +6,7 @@ use Rattle.files_core.specs.Changing.{IsSet, IsSetFault}
 use Rattle.files_core.specs.Given.{given_from}
 use Rattle.files_core.specs.Opened.{IsOpenedOn}
 use Rattle.files_core.proofs.Opened.{told_ends}
-use Rattle.files_core.proofs.Changed.{replaced_by}
+use Rattle.files_core.proofs.Changed.{IsTakenFrom, replaced_by}
 use Rattle.files_core.proofs.setting.set.Goals as goal
 
 pub returns-in-Ok-put-clause-set : goal.returns-in-Ok-put-clause-set
@@ -17,7 +17,9 @@ returns-in-Ok-put-clause-set g c =
     let start = c.args.asked.now.start in
     let opened : IsOpenedOn g.R.Record.form g.D.Disk.keeps g.D.Disk.states g.D.Disk.faults c.args.disk c.in-Ok.vault =
     record { rests = e.rests; opened = e.opened; sure = e.sure; only_syncs = e.only_syncs; faults_same = e.faults; model = e.model } in
-    told_ends _ _ _ _ c.told.ensures (replaced_by g.R.Record.form g.D.Disk.keeps g.D.Disk.states g.D.Disk.faults _ _ _ v w opened c.into_disk.ensures.disk c.into_disk.ensures.images
+    let taken : IsTakenFrom g.R.Record.form g.D.Disk.keeps g.D.Disk.states w c.into_disk.result =
+    record { disk = c.into_disk.ensures.disk; images = c.into_disk.ensures.images } in
+    told_ends _ _ _ _ c.told.ensures (replaced_by opened taken _
     (subst (λ (rs : List g.row.R.Denot). IsTouched (given_from start rs) (one_run start (length rs)) (list_of v) (list_of w)) c.as_slice.ensures.value
     c.in-Ok-put.ensures.list) _ _ c.in-Ok-put.ensures.command)
 
