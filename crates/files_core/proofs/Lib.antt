@@ -8,7 +8,8 @@ pub mod Fronts
 pub mod Wanted
 mod WorkedAnswers
 mod WorkedWindows
-pub mod WorkedFiles
+pub mod WorkedDisks
+mod WorkedFiles
 mod WorkedChanges
 mod WorkedRefusals
 pub mod WorkedVacant

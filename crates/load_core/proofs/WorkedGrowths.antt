@@ -1,114 +1,61 @@
 -- What the definitions of growths that stand allow and rule out, on disks of one or two states.
-use Rattle.std.proofs.Common.{◌≡◌, ◌⊎◌, inl, inr, ℕ, zero, suc, ◌+◌, ◌^◌, ◌<◌, ◌≤◌, List, [], ◌∷◌, ◌++◌, length, take, All, Some, refl, sym, ap, subst, ◌∙◌, arith}
+use Rattle.std.proofs.Common.{◌≡◌, ℕ, zero, suc, ◌+◌, ◌<◌, ◌≤◌, List, [], ◌∷◌, ◌++◌, length, take, All, Some, refl, ap, subst, ◌∙◌, arith}
 use Rattle.std.specs.Prelude.{slice_get}
 use Rattle.std.proofs.lemmas.List.{length-append}
 use Rattle.std.proofs.lemmas.List.Elements.{All-nil, All-cons}
 use Rattle.record_core.specs.Bytes.{Encoding}
-use Rattle.disk_core.specs.State.{State, now, settled, IsImage}
-use Rattle.disk_core.specs.Moments.{LeftSince}
-use Rattle.disk_core.proofs.ImageLemmas.{IsImage-settled, settled_image}
+use Rattle.disk_core.specs.State.{settled}
+use Rattle.disk_core.proofs.ImageLemmas.{settled_image}
 use Rattle.segment_core.specs.Written as lists
 use Rattle.block_core.specs.Growth.{Growth}
 use Rattle.directory_core.specs.Chain.{IsNextGrowth, joined}
 use Rattle.book_core.specs.Lists.{own_of}
-use Rattle.pen_core.specs.Typed.{OpensTo}
-use Rattle.pen_core.proofs.Typed.{OpensTo_same}
 use Rattle.vault_core.specs.Sharing.{OpensToGrown}
 use Rattle.files_core.specs.declared.appended.Appended.{Appended}
-use Rattle.files_core.specs.Opened.{LeavesBeforeOr}
+use Rattle.files_core.proofs.WorkedDisks.{Disk, ThreeFiles, itself, known, as_long, old, later, still, past_two, leaves_one, never_two, none_before, opens_then}
 use Rattle.load_core.specs.Appending.{GrowthsStand, each_records}
 use Rattle.load_core.specs.Dealt.{dealt}
 use Rattle.load_core.specs.Loading.{AllMade, IsLoaded}
 use Rattle.load_core.proofs.OneGrower.{all_dealt}
 
--- a disk that is its states, all of them known
-abbrev Disk : Type 0
-Disk = List State
-
-abbrev itself : Disk → List State
-itself states = states
-
-abbrev known : Disk → Type 0
-known states = Unit {0}
-
 abbrev told : ℕ → ℕ → ℕ → Appended
 told growths lines size = record { growths = growths; lines = lines; size = size }
 
--- three files: of no record, of one, and of two
-module _ {R : Type 0} (form : Encoding R) (small : form.width < 2 ^ 16) (r : R) (none one two : List ℕ)
-    (opens_none : OpensTo form none []) (opens_one : OpensTo form one (r ∷ [])) (opens_two : OpensTo form two (r ∷ r ∷ [])) where
-  as_long : (image : List ℕ) (a b : List R) → OpensTo form image a → OpensTo form image b → length a ≡ length b
-  as_long image a b to_a to_b = ap length (OpensTo_same form image a b small to_a to_b)
-
-  -- a disk of the first, and what it is later
-  abbrev old : Disk
-  old = settled none ∷ []
-
-  abbrev later : Disk
-  later = settled one ∷ old
-
-  abbrev still : Disk
-  still = settled none ∷ old
-
-  -- meanwhile it was the third
-  abbrev past_two : Disk
-  past_two = settled one ∷ settled two ∷ old
-
-  leaves_one : (P : List ℕ → Type 0) → P one → LeavesBeforeOr old later P
-  leaves_one P holds = record { past = (settled one ∷ [], refl); each = each; newest = λ image is. inr (subst P (sym (IsImage-settled one image is)) holds) }
-    where
-      each : (image : List ℕ) → LeftSince later 1 image → IsImage (now old) image ⊎ P image
-      each image left = elim left.1 [
-        | inl is ↦ inr (subst P (sym (IsImage-settled one image is)) holds)
-        | inr earlier ↦ elim earlier.1 [ inl is ↦ inl is | inr never ↦ absurd never ]
-      ]
-
-  never_two : (P : List ℕ → Type 0) → (P two → ⊥) → LeavesBeforeOr old past_two P → ⊥
-  never_two P other leaves = elim (leaves.each two (omega arith, inr (omega arith, inl (settled_image two)))) [
-    | inl is ↦ absurd (omega (arith, as_long two [] (r ∷ r ∷ []) (subst (λ image. OpensTo form image []) (sym (IsImage-settled none two is)) opens_none) opens_two))
-    | inr holds ↦ absurd (other holds)
-  ]
-
-  opens_then : (image : List ℕ) → IsImage (settled one) image → OpensTo form image (r ∷ [])
-  opens_then image is = subst (λ bytes. OpensTo form bytes (r ∷ [])) (sym (IsImage-settled one image is)) opens_one
-
+module _ {R : Type 0} {form : Encoding R} {r : R} (files : ThreeFiles form r) where
   -- ---- growths that stand
 
   abbrev growth : Growth R
   growth = record { number = 0; start = 0; seat = 0; serial = 0; records = r ∷ [] }
 
   abbrev Stand : Disk → Appended → List (Growth R) → List (Growth R) → Type 0
-  Stand left appended made more = GrowthsStand form itself old left appended made more
+  Stand left appended made more = GrowthsStand form itself (old files) left appended made more
 
-  one_stands : Stand later (told 1 1 1) (growth ∷ []) []
+  one_stands : Stand (later files) (told 1 1 1) (growth ∷ []) []
   one_stands = record {
     was = [];
-    file = opens_none;
-    images = leaves_one (OpensToGrown form [] (growth ∷ [])) (record { count = 1; known = omega arith; opens = opens_one });
-    settled = λ image is. record { count = 0; known = omega arith; opens = opens_then image is };
+    file = files.opens_none;
+    images = leaves_one files (OpensToGrown form [] (growth ∷ [])) (record { count = 1; known = omega arith; opens = files.opens_one });
+    settled = λ image is. record { count = 0; known = omega arith; opens = opens_then files image is };
     size_is = refl;
     growths_are = refl;
   }
 
   -- one that was begun may stand, or not
-  one_may_stand : Stand later (told 0 0 0) [] (growth ∷ [])
+  one_may_stand : Stand (later files) (told 0 0 0) [] (growth ∷ [])
   one_may_stand = record {
     was = [];
-    file = opens_none;
-    images = leaves_one (OpensToGrown form [] (growth ∷ [])) (record { count = 1; known = omega arith; opens = opens_one });
-    settled = λ image is. record { count = 1; known = omega arith; opens = opens_then image is };
+    file = files.opens_none;
+    images = leaves_one files (OpensToGrown form [] (growth ∷ [])) (record { count = 1; known = omega arith; opens = files.opens_one });
+    settled = λ image is. record { count = 1; known = omega arith; opens = opens_then files image is };
     size_is = refl;
     growths_are = refl;
   }
 
-  none_before : (was : List R) → OpensTo form none was → length was ≡ 0
-  none_before was opens = as_long none was [] opens opens_none
-
   -- one that is told stands in each image
-  not_lost : (lines : ℕ) → Stand still (told 1 lines 1) (growth ∷ []) [] → ⊥
+  not_lost : (lines : ℕ) → Stand (still files) (told 1 lines 1) (growth ∷ []) [] → ⊥
   not_lost lines stands =
-      let grown = stands.settled none (settled_image none) in
-      let long = as_long none ((stands.was ++ (r ∷ [])) ++ joined (take grown.count [])) [] grown.opens opens_none in
+      let grown = stands.settled files.none (settled_image files.none) in
+      let long = as_long files files.none ((stands.was ++ (r ∷ [])) ++ joined (take grown.count [])) [] grown.opens files.opens_none in
       omega (arith, long, length-append (stands.was ++ (r ∷ [])) (joined (take grown.count [])), length-append stands.was (r ∷ []))
 
   -- none stands that wasn't made
@@ -117,49 +64,49 @@ module _ {R : Type 0} (form : Encoding R) (small : form.width < 2 ^ 16) (r : R) 
   grown_long was (suc zero) within empty = omega (arith, length-append was (r ∷ []), empty)
   grown_long was (suc (suc count)) within empty = absurd (omega (arith, within))
 
-  not_two : (was : List R) → length was ≡ 0 → OpensToGrown form was (growth ∷ []) two → ⊥
+  not_two : (was : List R) → length was ≡ 0 → OpensToGrown form was (growth ∷ []) files.two → ⊥
   not_two was empty grown =
-      omega (arith, as_long two (was ++ joined (take grown.count (growth ∷ []))) (r ∷ r ∷ []) grown.opens opens_two, grown_long was grown.count grown.known empty)
+      omega (arith, as_long files files.two (was ++ joined (take grown.count (growth ∷ []))) (r ∷ r ∷ []) grown.opens files.opens_two, grown_long was grown.count grown.known empty)
 
-  not_past_two : Stand past_two (told 1 1 1) (growth ∷ []) [] → ⊥
-  not_past_two stands = never_two (OpensToGrown form stands.was (growth ∷ [])) (not_two stands.was (none_before stands.was stands.file)) stands.images
+  not_past_two : Stand (past_two files) (told 1 1 1) (growth ∷ []) [] → ⊥
+  not_past_two stands = never_two files (OpensToGrown form stands.was (growth ∷ [])) (not_two stands.was (none_before files stands.was stands.file)) stands.images
 
   none_more : (count : ℕ) → length (joined (take {A = Growth R} count [])) ≡ 0
   none_more zero = refl
   none_more (suc count) = refl
 
-  not_unmade : Stand later (told 0 0 0) [] [] → ⊥
+  not_unmade : Stand (later files) (told 0 0 0) [] [] → ⊥
   not_unmade stands =
-      let grown = stands.settled one (settled_image one) in
+      let grown = stands.settled files.one (settled_image files.one) in
       omega (
         arith,
-        as_long one ((stands.was ++ []) ++ joined (take grown.count [])) (r ∷ []) grown.opens opens_one,
+        as_long files files.one ((stands.was ++ []) ++ joined (take grown.count [])) (r ∷ []) grown.opens files.opens_one,
         length-append (stands.was ++ []) (joined (take grown.count [])),
         length-append stands.was [],
-        none_before stands.was stands.file,
+        none_before files stands.was stands.file,
         none_more grown.count,
       )
 
   -- and what is told is that
-  told_right : (growths lines size : ℕ) → Stand later (told growths lines size) (growth ∷ []) [] → (growths ≡ 1) × (size ≡ 1)
+  told_right : (growths lines size : ℕ) → Stand (later files) (told growths lines size) (growth ∷ []) [] → (growths ≡ 1) × (size ≡ 1)
   told_right growths lines size stands =
-      (stands.growths_are, stands.size_is ∙ length-append stands.was (r ∷ []) ∙ ap (λ n. n + 1) (none_before stands.was stands.file))
+      (stands.growths_are, stands.size_is ∙ length-append stands.was (r ∷ []) ∙ ap (λ n. n + 1) (none_before files stands.was stands.file))
 
   -- ---- growths that were loaded
 
   abbrev Loaded : Disk → ℕ → Type 0
-  Loaded left size = IsLoaded form known itself ((r ∷ []) ∷ []) 1 old left size
+  Loaded left size = IsLoaded form known itself ((r ∷ []) ∷ []) 1 (old files) left size
 
-  one_loaded : Loaded later 1
+  one_loaded : Loaded (later files) 1
   one_loaded = record {
     was = [];
     made = growth ∷ [];
     dealt_are = record { chained = chained; by_growers = by_growers; records_are = records_are };
     all = all;
     stands = λ model. record {
-      file = opens_none;
-      images = leaves_one (OpensToGrown form [] (growth ∷ [])) (record { count = 1; known = omega arith; opens = opens_one });
-      settled = opens_then;
+      file = files.opens_none;
+      images = leaves_one files (OpensToGrown form [] (growth ∷ [])) (record { count = 1; known = omega arith; opens = files.opens_one });
+      settled = opens_then files;
     };
     size_is = refl;
   }
@@ -187,12 +134,12 @@ module _ {R : Type 0} (form : Encoding R) (small : form.width < 2 ^ 16) (r : R) 
   loaded_long : (left : Disk) (size : ℕ) (loaded : Loaded left size) → length (loaded.was ++ joined loaded.made) ≡ 1
   loaded_long left size loaded =
       let records : joined loaded.made ≡ r ∷ [] = chain_records loaded.made ∙ ap lists.joined (all_dealt ((r ∷ []) ∷ []) loaded.made loaded.dealt_are loaded.all) in
-      let was = none_before loaded.was (loaded.stands tt).file in
+      let was = none_before files loaded.was (loaded.stands tt).file in
       omega (arith, length-append loaded.was (joined loaded.made), ap length records, was)
 
-  loaded_right : (size : ℕ) → Loaded later size → size ≡ 1
-  loaded_right size loaded = loaded.size_is ∙ loaded_long later size loaded
+  loaded_right : (size : ℕ) → Loaded (later files) size → size ≡ 1
+  loaded_right size loaded = loaded.size_is ∙ loaded_long (later files) size loaded
 
-  not_loaded_lost : (size : ℕ) → Loaded still size → ⊥
+  not_loaded_lost : (size : ℕ) → Loaded (still files) size → ⊥
   not_loaded_lost size loaded =
-      omega (arith, loaded_long still size loaded, as_long none (loaded.was ++ joined loaded.made) [] ((loaded.stands tt).settled none (settled_image none)) opens_none)
+      omega (arith, loaded_long (still files) size loaded, as_long files files.none (loaded.was ++ joined loaded.made) [] ((loaded.stands tt).settled files.none (settled_image files.none)) files.opens_none)
