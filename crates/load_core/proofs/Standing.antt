@@ -257,81 +257,93 @@ module _ {R D : Type 0} (form : Encoding R) (keeps : D → Type 0) (states : D �
     growths_are = gone.growths_are;
   }
 
-  -- a grower stopped behind that: what it made stands too
-  module _ (spelling : Spelling R) (block : ℕ) (known coming more : Option (List ℕ)) (batch : List (List R)) (lines : ℕ) (rest : Rest)
-      (v mid : VaultOf R D) (left : D) (before after : Appended) (stopped : Stopped) (told : FileFault)
-      (few : length batch < 2 ^ 64) (read : IsBatch spelling block coming more batch lines rest)
-      (gone : HasGone form keeps states (AreFirstBlocks spelling block known coming) block v mid before)
-      (stops : StopsAt form keeps states batch mid left (faults.Grower stopped))
-      (tells : IsStopTold block before (faults.Grower stopped) after told) where
-    count_own : stopped.line - 1 ≡ length stops.more
-    count_own = made_by_one form.width batch stops.more stopped few stops.settled.2 stops.settled.3
+  -- A crew stopped at the batch that comes next behind growths that are told, and this is told of it.
+  pub record StopsBehind (spelling : Spelling R) (block : ℕ) (known : Option (List ℕ)) (v : VaultOf R D) (left : D) (after : Appended) (fault told : FileFault) : Type 0 where
+    pub coming : Option (List ℕ)
+    pub more : Option (List ℕ)
+    pub batch : List (List R)
+    pub lines : ℕ
+    pub rest : Rest
+    pub mid : VaultOf R D
+    pub before : Appended
+    pub few : length batch < 2 ^ 64
+    pub read : IsBatch spelling block coming more batch lines rest
+    pub gone : HasGone form keeps states (AreFirstBlocks spelling block known coming) block v mid before
+    pub stops : StopsAt form keeps states batch mid left fault
+    pub tells : IsStopTold block before fault after told
 
-    count_all : length gone.made + (stopped.line - 1) ≡ length (gone.made ++ stops.more)
-    count_all = ap (λ n. length gone.made + n) count_own ∙ sym (length-append gone.made stops.more)
+  -- a grower stopped so: what it made stands too
+  module _ {spelling : Spelling R} {block : ℕ} {known : Option (List ℕ)} {v : VaultOf R D} {left : D} {after : Appended} {stopped : Stopped} {told : FileFault}
+      (it : StopsBehind spelling block known v left after (faults.Grower stopped) told) where
+    count_own : stopped.line - 1 ≡ length it.stops.more
+    count_own = made_by_one form.width it.batch it.stops.more stopped it.few it.stops.settled.2 it.stops.settled.3
 
-    list_all : list_of mid ++ joined stops.more ≡ list_of v ++ joined (gone.made ++ stops.more)
-    list_all = list_on (list_of v) (list_of mid) gone.made stops.more gone.goes.list
+    count_all : length it.gone.made + (stopped.line - 1) ≡ length (it.gone.made ++ it.stops.more)
+    count_all = ap (λ n. length it.gone.made + n) count_own ∙ sym (length-append it.gone.made it.stops.more)
 
-    size_all : stopped.size ≡ length (list_of v ++ joined (gone.made ++ stops.more))
-    size_all = stops.settled.1 ∙ ap length list_all
+    list_all : list_of it.mid ++ joined it.stops.more ≡ list_of v ++ joined (it.gone.made ++ it.stops.more)
+    list_all = list_on (list_of v) (list_of it.mid) it.gone.made it.stops.more it.gone.goes.list
 
-    stands_all : StandBehindList form keeps states v left after (gone.made ++ stops.more) []
+    size_all : stopped.size ≡ length (list_of v ++ joined (it.gone.made ++ it.stops.more))
+    size_all = it.stops.settled.1 ∙ ap length list_all
+
+    stands_all : StandBehindList form keeps states v left after (it.gone.made ++ it.stops.more) []
     stands_all = record {
       images = λ model. subst (λ gs. LeavesOnly (states v.pen.disk) (states left) (OpensToGrown form (list_of v) gs))
-          (sym (append-nil (gone.made ++ stops.more)))
-          (leaves_further v mid left gone.made stops.more gone.goes (stops.model model) (stops.images model));
-      settled = λ model image is. none_grown form (list_of v ++ joined (gone.made ++ stops.more)) [] image (subst (OpensTo form image) list_all (stops.settled.0 model image is));
-      size_is = tells.2 ∙ size_all;
-      growths_are = tells.0 ∙ counts_on (2 ^ 64 - 1) before.growths (length gone.made) (stopped.line - 1) gone.growths_are ∙ ap (min (2 ^ 64 - 1)) count_all;
+          (sym (append-nil (it.gone.made ++ it.stops.more)))
+          (leaves_further v it.mid left it.gone.made it.stops.more it.gone.goes (it.stops.model model) (it.stops.images model));
+      settled = λ model image is. none_grown form (list_of v ++ joined (it.gone.made ++ it.stops.more)) [] image (subst (OpensTo form image) list_all (it.stops.settled.0 model image is));
+      size_is = it.tells.2 ∙ size_all;
+      growths_are = it.tells.0 ∙ counts_on (2 ^ 64 - 1) it.before.growths (length it.gone.made) (stopped.line - 1) it.gone.growths_are ∙ ap (min (2 ^ 64 - 1)) count_all;
     }
 
-    lines_all : AreOfBlocks block after (gone.made ++ stops.more)
-    lines_all = lines_on (2 ^ 64 - 1) block before.lines (length gone.made) (stopped.line - 1) after.lines gone.lines_are tells.1 ∙ ap (λ n. min (2 ^ 64 - 1) (n * block)) count_all
+    lines_all : AreOfBlocks block after (it.gone.made ++ it.stops.more)
+    lines_all = lines_on (2 ^ 64 - 1) block it.before.lines (length it.gone.made) (stopped.line - 1) after.lines it.gone.lines_are it.tells.1 ∙ ap (λ n. min (2 ^ 64 - 1) (n * block)) count_all
 
-    batch_stop : IsBatchStop form.width after (gone.made ++ stops.more) (record stopped { line = min (2 ^ 64 - 1) (after.lines + 1) })
+    batch_stop : IsBatchStop form.width after (it.gone.made ++ it.stops.more) (record stopped { line = min (2 ^ 64 - 1) (after.lines + 1) })
     batch_stop = record {
-      grower_is = omega (arith, stops.settled.3.inside);
+      grower_is = omega (arith, it.stops.settled.3.inside);
       line_is = refl;
-      size_is = sym tells.2;
-      batch = batch;
-      before = gone.made;
-      own = stops.more;
+      size_is = sym it.tells.2;
+      batch = it.batch;
+      before = it.gone.made;
+      own = it.stops.more;
       made_are = refl;
-      own_are = stops.settled.2;
-      why = stops.settled.3.why;
+      own_are = it.stops.settled.2;
+      why = it.stops.settled.3.why;
     }
 
-    records_all : AreOfFirstLines spelling block known (each_records (gone.made ++ stops.more))
+    records_all : AreOfFirstLines spelling block known (each_records (it.gone.made ++ it.stops.more))
     records_all =
-        let first = made_first form.width batch stops.more stopped stops.settled.2 stops.settled.3 in
-        let short : length stops.more ≤ length batch = elim first [ inl less ↦ omega (arith, less) | inr none ↦ omega (arith, none) ] in
-        let own : each_records stops.more ≡ take (length stops.more) batch = dealt_first batch stops.more stops.settled.2 short in
+        let first = made_first form.width it.batch it.stops.more stopped it.stops.settled.2 it.stops.settled.3 in
+        let short : length it.stops.more ≤ length it.batch = elim first [ inl less ↦ omega (arith, less) | inr none ↦ omega (arith, none) ] in
+        let own : each_records it.stops.more ≡ take (length it.stops.more) it.batch = dealt_first it.batch it.stops.more it.stops.settled.2 short in
         subst (λ gs. AreOfFirstLines spelling block known gs)
-        (sym (map-append (λ growth. growth.records) gone.made stops.more ∙ ap (λ gs. each_records gone.made ++ gs) own))
-        (then_first spelling block known coming (each_records gone.made) (take (length stops.more) batch) gone.records_are
-        (some_read spelling block coming more batch lines (length stops.more) rest first read))
+        (sym (map-append (λ growth. growth.records) it.gone.made it.stops.more ∙ ap (λ gs. each_records it.gone.made ++ gs) own))
+        (then_first spelling block known it.coming (each_records it.gone.made) (take (length it.stops.more) it.batch) it.gone.records_are
+        (some_read spelling block it.coming it.more it.batch it.lines (length it.stops.more) it.rest first it.read))
 
     stopped_grower : HasAppended form keeps states spelling block known v left after (Err told)
-    stopped_grower = subst (λ fault. HasAppended form keeps states spelling block known v left after (Err fault)) (sym tells.3)
-        (gone.made ++ stops.more, stands_all, lines_all, records_all, batch_stop)
+    stopped_grower = subst (λ fault. HasAppended form keeps states spelling block known v left after (Err fault)) (sym it.tells.3)
+        (it.gone.made ++ it.stops.more, stands_all, lines_all, records_all, batch_stop)
 
-  -- a crew stopped behind that
-  module _ (spelling : Spelling R) (block : ℕ) (known coming more : Option (List ℕ)) (batch : List (List R)) (lines : ℕ) (rest : Rest)
-      (v mid : VaultOf R D) (left : D) (before after : Appended) where
-    pub stopped_with : (fault told : FileFault) → length batch < 2 ^ 64 → IsBatch spelling block coming more batch lines rest
-        → HasGone form keeps states (AreFirstBlocks spelling block known coming) block v mid before → StopsAt form keeps states batch mid left fault
-        → IsStopTold block before fault after told → HasAppended form keeps states spelling block known v left after (Err told)
-    stopped_with (faults.Vault fault) told few read gone stops tells =
-        subst (λ f. HasAppended form keeps states spelling block known v left after (Err f)) (sym tells.1)
-        (subst (λ a. HasAppended form keeps states spelling block known v left a (Err (faults.Vault fault))) (sym tells.0)
-        (gone.made, stops.more, stands_with (AreFirstBlocks spelling block known coming) block batch v mid left before (faults.Vault fault) gone stops, gone.lines_are, (coming, gone.records_are)))
-    stopped_with (faults.Grower stopped) told few read gone stops tells =
-        stopped_grower spelling block known coming more batch lines rest v mid left before after stopped told few read gone stops tells
-    stopped_with (faults.Open fault) told few read gone stops tells = absurd stops.by_crew
-    stopped_with (faults.Word word) told few read gone stops tells = absurd stops.by_crew
-    stopped_with (faults.Input refusal) told few read gone stops tells = absurd stops.by_crew
-    stopped_with (faults.Upgrade fault) told few read gone stops tells = absurd stops.by_crew
+  -- a crew stopped so
+  pub stopped_with : {spelling : Spelling R} {block : ℕ} {known : Option (List ℕ)} {v : VaultOf R D} {left : D} {after : Appended} (fault told : FileFault)
+      → StopsBehind spelling block known v left after fault told → HasAppended form keeps states spelling block known v left after (Err told)
+  stopped_with {spelling = spelling} {block = block} {known = known} {v = v} {left = left} {after = after} (faults.Vault fault) told it =
+      subst (λ f. HasAppended form keeps states spelling block known v left after (Err f)) (sym it.tells.1)
+      (subst (λ a. HasAppended form keeps states spelling block known v left a (Err (faults.Vault fault))) (sym it.tells.0) (
+        it.gone.made,
+        it.stops.more,
+        stands_with (AreFirstBlocks spelling block known it.coming) block it.batch v it.mid left it.before (faults.Vault fault) it.gone it.stops,
+        it.gone.lines_are,
+        (it.coming, it.gone.records_are),
+      ))
+  stopped_with (faults.Grower stopped) told it = stopped_grower it
+  stopped_with (faults.Open fault) told it = absurd it.stops.by_crew
+  stopped_with (faults.Word word) told it = absurd it.stops.by_crew
+  stopped_with (faults.Input refusal) told it = absurd it.stops.by_crew
+  stopped_with (faults.Upgrade fault) told it = absurd it.stops.by_crew
 
   -- ---- of a file
 

@@ -4,7 +4,7 @@ use Rattle.lines_core.specs.Batches.{AreReadSo}
 use Rattle.lines_core.specs.InputBlocks.{AreFirstBlocks}
 use Rattle.lines_core.specs.declared.batches.Rest.TheVariants.{More}
 use Rattle.lines_core.proofs.FirstBlocks.{counted_on, read_more}
-use Rattle.load_core.proofs.Standing.{gone_counted, gone_same, stopped_with}
+use Rattle.load_core.proofs.Standing.{StopsBehind, gone_counted, gone_same, stopped_with}
 use Rattle.load_core.proofs.appending.append_batch.Goals as goal
 
 pub returns-in-Ok-clause-on : goal.returns-in-Ok-clause-on
@@ -35,6 +35,20 @@ returns-in-Ok-clause-over g c v input coming left read gone =
 
 pub returns-in-Err-clause-over : goal.returns-in-Err-clause-over
 returns-in-Err-clause-over g c v input coming left read gone =
-    stopped_with g.R.Record.form g.D.Disk.keeps g.D.Disk.states g.R.TextRecord.spelling (non_zero_u32_get c.args.block) input coming left c.args.batch.growths.0 c.args.batch.lines c.args.batch.rest
-    v c.args.vault c.in-Err.disk c.args.appended.now c.tell_stop.new.appended c.in-Err.fault c.tell_stop.result
-    (omega (arith, c.count-count.ensures)) read gone c.in-Err.ensures.stops c.tell_stop.ensures
+    let spelling = g.R.TextRecord.spelling in
+    let block = non_zero_u32_get c.args.block in
+    let stops : StopsBehind g.R.Record.form g.D.Disk.keeps g.D.Disk.states spelling block input v c.in-Err.disk c.tell_stop.new.appended c.in-Err.fault c.tell_stop.result = record {
+      coming = coming;
+      more = left;
+      batch = c.args.batch.growths.0;
+      lines = c.args.batch.lines;
+      rest = c.args.batch.rest;
+      mid = c.args.vault;
+      before = c.args.appended.now;
+      few = omega (arith, c.count-count.ensures);
+      read = read;
+      gone = gone;
+      stops = c.in-Err.ensures.stops;
+      tells = c.tell_stop.ensures;
+    } in
+    stopped_with g.R.Record.form g.D.Disk.keeps g.D.Disk.states c.in-Err.fault c.tell_stop.result stops
