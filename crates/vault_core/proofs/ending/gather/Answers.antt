@@ -8,6 +8,7 @@ use Rattle.vault_core.specs.Vault.{VaultOf}
 use Rattle.vault_core.specs.Gathering.{MayGather, AreOfPhase}
 use Rattle.vault_core.proofs.Endings.{all_known, whole}
 use Rattle.vault_core.proofs.Vaults.{HasEnded, HasPen, gathered_kept, gathered_few, holds_sure}
+use Rattle.std.proofs.lemmas.Grind.{common_steps}
 use Rattle.vault_core.proofs.ending.gather.Goals as goal
 
 pub take_in_all-requires-clause-of : goal.take_in_all-requires-clause-of
@@ -65,3 +66,9 @@ returns-clause-told g c = λ kept image is.
     let pen = c.into_pen-pen.result.0 in
     let vault : VaultOf g.row.R.Denot g.row.D.Denot = record { pen = pen; blocks = c.with_ends.result; sure = read_as g.R.Record.form pen.vector } in
     holds_sure g.R.Record.form vault image (d.whole at (ap (λ (p : PenOf _). p.broken) same ∙ may.whole)) (d.images at image (subst (λ k. IsImage (now (g.D.Disk.states k)) image) (sym d.disk) is))
+
+pub with_ends-requires-clause-room : goal.with_ends-requires-clause-room
+with_ends-requires-clause-room g c κs within = grind (arith, common_steps)
+
+pub put_behind-blocks-requires-after_bounds : goal.put_behind-blocks-requires-after_bounds
+put_behind-blocks-requires-after_bounds g c κs within = grind (arith, common_steps)

@@ -9,6 +9,7 @@ use Rattle.vault_core.specs.Upgrading.{IsCopied}
 use Rattle.vault_core.proofs.Devices.{device_of}
 use Rattle.vault_core.proofs.NewFiles.{IsBegunOn, IsGrownOn, HasAll, born_stays, only_block, stopped_copied, all_kept, all_copied}
 use Rattle.vault_core.specs.Vault.{vault_of}
+use Rattle.std.proofs.lemmas.Grind.{common_steps}
 use Rattle.vault_core.proofs.upgrading.copied_to.Goals as goal
 
 pub returns-in_err-pen : goal.returns-in_err-pen
@@ -105,3 +106,9 @@ returns g c =
     (Ok (vault_of form pen c.in-Ok.blocks))) same
     (all_copied grown has w.time w.faults
     (subst (λ (d : g.row.D.Denot). g.D.Disk.keeps d → IsKept (g.D.Disk.states d) pen) c.disk-disk.ensures.disk c.disk-disk.ensures.kept))
+
+pub bounds-as_slice-0 : goal.bounds-as_slice-0
+bounds-as_slice-0 g c = grind (arith, common_steps)
+
+pub write_growths-requires-clause-few : goal.write_growths-requires-clause-few
+write_growths-requires-clause-few g c κs within = grind (arith, common_steps)

@@ -5,6 +5,7 @@ use Rattle.book_core.specs.Lists.{records_of}
 use Rattle.vault_core.specs.Parts.{block_at, slice_of}
 use Rattle.vault_core.specs.declared.parts.Part.{Part}
 use Rattle.vault_core.proofs.BlockParts.{part_at, block_is}
+use Rattle.std.proofs.lemmas.Grind.{common_steps}
 use Rattle.vault_core.proofs.parts.PartListGrowthList.growth.Goals as goal
 
 abbrev none : Part
@@ -53,3 +54,12 @@ slice_bounds-result-end g c =
     let len = ap length same in
     let short = c.deref.type_inv.0 in
     omega arith
+
+pub bounds-self-k : goal.bounds-self-k
+bounds-self-k g c = grind (arith, common_steps)
+
+pub offset_bounds-self-k : goal.offset_bounds-self-k
+offset_bounds-self-k g c = grind (arith, common_steps)
+
+pub offset_bounds-self-part : goal.offset_bounds-self-part
+offset_bounds-self-part g c = grind (arith, common_steps)

@@ -9,6 +9,7 @@ use Rattle.vault_core.specs.Settles.{CarriesOn, calls_left}
 use Rattle.vault_core.proofs.CallsLeft.{lane_calls-ticked, lane_calls-few, lane_time}
 use Rattle.vault_core.proofs.Carried.{carries-tick, carries-ticked}
 use Rattle.vault_core.proofs.Settles.{settles_images, settles_more}
+use Rattle.std.proofs.lemmas.Grind.{common_steps}
 use Rattle.vault_core.proofs.vault.Vault.advance.Goals as goal
 
 pub returns-clause-images : goal.returns-clause-images
@@ -65,3 +66,6 @@ returns-clause-time g c =
     (λ _. behind ≤ clock (g.D.Disk.states pen.disk) + calls_left pen))
     none.1
     (lane_time Home mid new (clock (g.D.Disk.states mid.disk)) behind c.tick-2.result c.tick-2.ensures.time c.tick-2.ensures.whole c.tick-2.ensures.ticked)
+
+pub returns-in_err-tick-clause-refused : goal.returns-in_err-tick-clause-refused
+returns-in_err-tick-clause-refused g c = grind (arith, common_steps)

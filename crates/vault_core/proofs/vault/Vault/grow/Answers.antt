@@ -7,6 +7,7 @@ use Rattle.vault_core.specs.Vault.{IsVault, vault_of}
 use Rattle.vault_core.proofs.Kept.{mid_whole, unchanged_kept}
 use Rattle.vault_core.proofs.Commands.{refused_command, first_refused, memory_refused, quiet, stands_was, stands_made, unchanged-refl}
 use Rattle.vault_core.proofs.Grows.{grown, grown_refused, grown_some, grown_each}
+use Rattle.std.proofs.lemmas.Grind.{common_steps}
 use Rattle.vault_core.proofs.vault.Vault.grow.Goals as goal
 
 pub returns-in-Err-begin_growths-clause-command : goal.returns-in-Err-begin_growths-clause-command
@@ -125,3 +126,9 @@ returns-in-Err-begin_growths-clause-blocks g c = rw (← c.self.view_is) (
     grown_refused c.args.more c.args.v s.blocks c.push.new.self (records_of c.last.result.now) pushed c.last.ensures form s.pen fault
     c.in-Err-begin_growths.ensures.refused in
     stands_was _ _ fault (quiet (group_lines s.pen c.args.more (8 + c.args.more * form.width)) fault (refl, (refl, (refl, (refl, (refl, tt))))) why) back)
+
+pub last-requires-after_bounds : goal.last-requires-after_bounds
+last-requires-after_bounds g c κs within = grind (arith, common_steps)
+
+pub push-requires-after_bounds : goal.push-requires-after_bounds
+push-requires-after_bounds g c κs within = grind (arith, common_steps)
