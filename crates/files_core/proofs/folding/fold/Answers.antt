@@ -7,7 +7,7 @@ use Rattle.vault_core.specs.Vault.{MayHold}
 use Rattle.files_core.specs.Folding.{failed_folding}
 use Rattle.files_core.specs.Opened.{IsOpenedOn}
 use Rattle.files_core.specs.Texts.{folded_line}
-use Rattle.files_core.proofs.Opened.{told_answer, told_counts, told_ends, opened_again}
+use Rattle.files_core.proofs.Opened.{told_answer, told_counts, told_ends, opened_again, keeps_same}
 use Rattle.files_core.proofs.Folded.{stays_by}
 use Rattle.files_core.proofs.folding.fold.Goals as goal
 
@@ -93,3 +93,6 @@ returns-in-Err-fold_vault-clause-faults g c = ap g.D.Disk.faults c.into_disk-in-
 
 pub returns-in-Err-open-clause-faults : goal.returns-in-Err-open-clause-faults
 returns-in-Err-open-clause-faults g c = c.in-Err-open.ensures.faults ∙ ap (λ n. n + failed_openings c.in-Err-open.fault) c.in-Ok.ensures.faults
+
+pub returns-in-Err-fold_vault-clause-writes : goal.returns-in-Err-fold_vault-clause-writes
+returns-in-Err-fold_vault-clause-writes g c = keeps_same (g.W.Write.contents c.args.writer.now)

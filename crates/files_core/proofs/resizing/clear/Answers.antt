@@ -1,8 +1,9 @@
-use Rattle.std.proofs.Common.{◌≡◌, [], sym, inl, inr}
+use Rattle.std.proofs.Common.{◌≡◌, [], sym, inl, inr, arith}
 use Rattle.files_core.specs.Opened.{IsOpenedOn}
-use Rattle.files_core.proofs.Opened.{told_ends}
+use Rattle.files_core.proofs.Opened.{told_ends, told_text}
 use Rattle.files_core.proofs.Changed.{IsTakenFrom, replaced_by, replaced_by_none, empty_or, not_broken}
 use Rattle.vault_core.specs.Vault.{list_of}
+use Rattle.std.proofs.lemmas.Grind.{common_steps}
 use Rattle.files_core.proofs.resizing.clear.Goals as goal
 
 pub returns-in-Ok-clear-clause-cleared : goal.returns-in-Ok-clear-clause-cleared
@@ -50,3 +51,12 @@ returns-in-Ok-clear-clause-written g c =
       kept = c.into_disk.ensures.kept;
       done = record { list = r.list; some = r.command; none = λ none. (r.nothing none).0 };
     })
+
+pub returns-in-Ok-clear-clause-model : goal.returns-in-Ok-clear-clause-model
+returns-in-Ok-clear-clause-model g c = grind (arith, common_steps)
+
+pub returns-in-Err-clear-clause-model : goal.returns-in-Err-clear-clause-model
+returns-in-Err-clear-clause-model g c = grind (arith, common_steps)
+
+pub returns-in-Ok-clear-clause-writes : goal.returns-in-Ok-clear-clause-writes
+returns-in-Ok-clear-clause-writes g c = told_text _ _ _ _ _ c.told.ensures c.write_line.ensures

@@ -2,7 +2,7 @@ use Rattle.std.proofs.Common.{◌≡◌, length, sym, inl, inr}
 use Rattle.vault_core.specs.Commands.{resized}
 use Rattle.vault_core.specs.Vault.{list_of}
 use Rattle.files_core.specs.Opened.{IsOpenedOn}
-use Rattle.files_core.proofs.Opened.{told_ends}
+use Rattle.files_core.proofs.Opened.{told_ends, told_text, keeps_same}
 use Rattle.files_core.proofs.Changed.{IsTakenFrom, replaced_by, replaced_by_none, three_ways, not_broken}
 use Rattle.files_core.proofs.resizing.resize.Goals as goal
 
@@ -53,3 +53,9 @@ returns-in-Ok-resize-clause-written g c =
       kept = c.into_disk.ensures.kept;
       done = record { list = r.list; up = r.up; down = r.down; same = λ same. (r.nothing same).0 };
     })
+
+pub returns-in-Ok-resize-clause-writes : goal.returns-in-Ok-resize-clause-writes
+returns-in-Ok-resize-clause-writes g c = told_text _ _ _ _ _ c.told.ensures c.write_line.ensures
+
+pub returns-in-Err-resize-clause-writes : goal.returns-in-Err-resize-clause-writes
+returns-in-Err-resize-clause-writes g c = keeps_same (g.W.Write.contents c.args.writer.now)

@@ -1,6 +1,6 @@
 use Rattle.std.proofs.Common.{ap}
 use Rattle.files_core.specs.Texts.{number_line}
-use Rattle.files_core.proofs.Opened.{opened_list, told_answer, same_keeps}
+use Rattle.files_core.proofs.Opened.{opened_list, told_answer, same_keeps, told_reads}
 use Rattle.files_core.proofs.Wanted.{equals_alone}
 use Rattle.files_core.proofs.searching.count.Goals as goal
 
@@ -15,3 +15,8 @@ returns-clause-writes g c =
       file = λ model. opened_list _ _ _ _ (c.in-Ok.ensures.opened (same_keeps g.D.Disk.keeps _ _ c.into_disk.ensures.disk model));
       told = ap number_line c.count_where-total.ensures;
     })
+
+pub returns-clause-reads : goal.returns-clause-reads
+returns-clause-reads g c =
+    told_reads g.R.Record.form g.D.Disk.keeps g.D.Disk.states g.D.Disk.faults _ _ _ _ _ c.into_disk.ensures.disk c.in-Ok.ensures.only_syncs c.in-Ok.ensures.faults
+    c.in-Ok.ensures.model c.told.ensures

@@ -1,5 +1,5 @@
 use Rattle.std.proofs.Common.{refl}
-use Rattle.files_core.proofs.Opened.{opened_list, told_answer, same_keeps}
+use Rattle.files_core.proofs.Opened.{opened_list, told_answer, same_keeps, told_reads}
 use Rattle.files_core.proofs.Wanted.{equals_alone}
 use Rattle.files_core.proofs.searching.find.Goals as goal
 
@@ -16,3 +16,8 @@ returns-clause-writes g c =
       first = c.find_first-found.ensures;
       told = refl;
     })
+
+pub returns-clause-reads : goal.returns-clause-reads
+returns-clause-reads g c =
+    told_reads g.R.Record.form g.D.Disk.keeps g.D.Disk.states g.D.Disk.faults _ _ _ _ _ c.into_disk.ensures.disk c.in-Ok.ensures.only_syncs c.in-Ok.ensures.faults
+    c.in-Ok.ensures.model c.told.ensures

@@ -5,7 +5,7 @@ use Rattle.vault_core.specs.Vault.{list_of}
 use Rattle.files_core.specs.Changing.{IsSet, IsSetFault}
 use Rattle.files_core.specs.Given.{given_from}
 use Rattle.files_core.specs.Opened.{IsOpenedOn}
-use Rattle.files_core.proofs.Opened.{told_ends}
+use Rattle.files_core.proofs.Opened.{told_ends, told_text, keeps_same}
 use Rattle.files_core.proofs.Changed.{IsTakenFrom, replaced_by}
 use Rattle.files_core.proofs.setting.set.Goals as goal
 
@@ -54,3 +54,9 @@ returns-in-Ok-put-clause-written g c =
       done = subst (λ (rs : List g.row.R.Denot). IsSet g.R.Record.form g.D.Disk.keeps g.D.Disk.states g.D.Disk.faults start rs v w)
           c.as_slice.ensures.value (record { list = c.in-Ok-put.ensures.list; command = c.in-Ok-put.ensures.command });
     })
+
+pub returns-in-Ok-put-clause-writes : goal.returns-in-Ok-put-clause-writes
+returns-in-Ok-put-clause-writes g c = told_text _ _ _ _ _ c.told.ensures c.write_line.ensures
+
+pub returns-in-Err-put-clause-writes : goal.returns-in-Err-put-clause-writes
+returns-in-Err-put-clause-writes g c = keeps_same (g.W.Write.contents c.args.writer.now)
