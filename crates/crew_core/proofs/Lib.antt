@@ -1,5 +1,6 @@
 mod Gates
 mod Growers
+mod Comes
 mod Homes
 mod Left
 mod Served

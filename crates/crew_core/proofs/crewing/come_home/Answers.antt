@@ -5,6 +5,7 @@ use Rattle.book_core.specs.declared.seat.Receipt.{Receipt}
 use Rattle.book_core.specs.Lists.{Seated}
 use Rattle.crew_core.specs.Crewing.{AreSent, AreHome}
 use Rattle.crew_core.proofs.Homes.{home-more, sent_last, sent_rest, at_home}
+use Rattle.std.proofs.lemmas.Grind.{common_steps}
 use Rattle.crew_core.proofs.crewing.come_home.Goals as goal
 
 pub loop-preserved : goal.loop-preserved
@@ -54,3 +55,6 @@ loop-preserved g c =
         map_push (λ (its : Vec Receipt _). its.items) c.loop.receipts.items c.join-seat.result.receipts,
       ) more;
     }
+
+pub loop-init : goal.loop-init
+loop-init g c = grind (arith, common_steps)

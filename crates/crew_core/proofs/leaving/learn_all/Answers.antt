@@ -5,6 +5,7 @@ use Rattle.directory_core.specs.Chain.{IsLongerOf}
 use Rattle.book_core.specs.Lists.{Seated, StandInList}
 use Rattle.vault_core.proofs.Handed.{FlusherLearns-trans}
 use Rattle.crew_core.proofs.Left.{get_or_any, known_more, begin_more, stand_more}
+use Rattle.std.proofs.lemmas.Grind.{common_steps}
 use Rattle.crew_core.proofs.leaving.learn_all.Goals as goal
 
 pub loop-k-preserved : goal.loop-k-preserved
@@ -33,3 +34,9 @@ loop-k-preserved g c =
       begin = begin_more seats k most lt old new seat longer i.begin;
       stand = stand_more seats k most lt old new seat longer here i.stand;
     }
+
+pub returns-clause-known : goal.returns-clause-known
+returns-clause-known g c = grind (arith, common_steps)
+
+pub loop-k-init : goal.loop-k-init
+loop-k-init g c = grind (arith, common_steps)

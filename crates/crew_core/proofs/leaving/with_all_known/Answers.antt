@@ -14,3 +14,6 @@ returns-clause-refused g c =
     let known = c.learn_all.ensures.known ∙ ap (λ (ss : List (Seated _)). most_known ss (length gathering.flusher.pass.entries)) c.as_mut_slice.ensures.value in
     subst (λ (ss : List (Seated _)). IsGatherFault gathering.live ss c.learn_all.new.flusher gathering.fault) (sym all)
     (refused_still gathering.live seats gathering.flusher c.learn_all.new.flusher c.learn_all.ensures.learns known gathering.fault c.requires.refused)
+
+pub returns-clause-same : goal.returns-clause-same
+returns-clause-same g c = grind (arith, common_steps)

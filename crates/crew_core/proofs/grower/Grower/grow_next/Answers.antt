@@ -1,9 +1,10 @@
-use Rattle.std.proofs.Common.{◌≡◌, ℕ, ◌<◌, List, [], ◌∷◌, ◌++◌, length, All, Some, None, sym, ap, ap₂, subst, ◌∙◌}
+use Rattle.std.proofs.Common.{◌≡◌, ℕ, ◌<◌, List, [], ◌∷◌, ◌++◌, length, All, Some, None, sym, ap, ap₂, subst, ◌∙◌, arith}
 use Rattle.book_core.specs.declared.seat.Receipt.{Receipt}
 use Rattle.book_core.specs.Lists.{opening_of}
 use Rattle.crew_core.specs.Crewing.{HasGrown, ComesNext}
 use Rattle.crew_core.proofs.Gates.{comes_next, told_more}
 use Rattle.crew_core.proofs.Growers.{refused, grown_on}
+use Rattle.std.proofs.lemmas.Grind.{common_steps}
 use Rattle.crew_core.proofs.grower.Grower.grow_next.Goals.{in-Ok, in-Err}
 use Rattle.crew_core.proofs.grower.Grower.grow_next.Goals as goal
 
@@ -49,3 +50,6 @@ returns-clause-told g c =
           rw w.self-is (subst (All told) (sym more) (told_more told receipts w.in-Ok.receipt c.requires.told here))
       | in-Err w ↦ rw w.self-is (subst (All told) (sym c.reserve.ensures.items) c.requires.told)
     ]
+
+pub returns-clause-more : goal.returns-clause-more
+returns-clause-more g c = grind (arith, common_steps)

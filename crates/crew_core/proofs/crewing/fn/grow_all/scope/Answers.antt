@@ -3,6 +3,7 @@ use Rattle.book_core.proofs.Owns.{seats-pop}
 use Rattle.crew_core.specs.Crewing.{SentOf, AreSent}
 use Rattle.crew_core.proofs.Growers.{ready}
 use Rattle.crew_core.proofs.Homes.{sent_more}
+use Rattle.std.proofs.lemmas.Grind.{common_steps}
 use Rattle.crew_core.proofs.crewing.fn.grow_all.scope.Goals.{in-Ok, in-Err}
 use Rattle.crew_core.proofs.crewing.fn.grow_all.scope.Goals as goal
 
@@ -83,3 +84,6 @@ loop-preserved g c =
         room = ((let r = room.0 in let p = w.push_reserved-in-Err.ensures.capacity in omega arith), (let r = room.1 in omega arith));
       })
     ]
+
+pub loop-init : goal.loop-init
+loop-init g c = grind (arith, common_steps)
