@@ -31,3 +31,11 @@ module _ {R : Type 0} {width : ℕ} {live : Phase R} {count : ℕ} {block : ℕ 
     all_made = λ none. absurd cc;
     heeds = record { each_let = λ j lt. lets j (let long = as_many_receipts grown in omega (arith, lt, long)); each_told = told; stop_let = inl next };
   }
+
+-- it came by the same phase, source and gate
+pub HasCome_same : {R S G : Type 0} {width : ℕ} (count_of : S → ℕ → ℕ) (block_of : S → ℕ → ℕ → List R) (may_stop has_let : G → ℕ → ℕ → Type 0)
+    (was_told : G → ℕ → Receipt → Type 0) {live live' : Phase R} {source source' : S} {gate gate' : G} {id id' : ℕ} {seat : Seated R} {receipts : List Receipt}
+    {fault : Option GrowFault} → live' ≡ live → source' ≡ source → gate' ≡ gate → id' ≡ id
+    → HasCome width live (count_of source id) (block_of source id) (may_stop gate id) (has_let gate id) (was_told gate id) id seat receipts fault
+    → HasCome width live' (count_of source' id') (block_of source' id') (may_stop gate' id') (has_let gate' id') (was_told gate' id') id' seat receipts fault
+HasCome_same count_of block_of may_stop has_let was_told of by at is come = rw (of, by, at, is) come

@@ -2,6 +2,7 @@ use Rattle.std.proofs.Common.{◌≡◌, ℕ, ◌+◌, ◌<◌, List, [], ◌∷
 use Rattle.book_core.proofs.Owns.{seats-pop}
 use Rattle.crew_core.specs.Crewing.{SentOf, AreSent}
 use Rattle.crew_core.proofs.Growers.{ready}
+use Rattle.crew_core.proofs.Comes.{HasCome_same}
 use Rattle.crew_core.proofs.Homes.{sent_more}
 use Rattle.std.proofs.lemmas.Grind.{common_steps}
 use Rattle.crew_core.proofs.crewing.fn.grow_all.scope.Goals.{in-Ok, in-Err}
@@ -15,7 +16,7 @@ spawn_with-started-requires-clause-runs g c κs within =
     let rest = c.take_last-seat.new.self.items in
     let seat = c.take_last-seat.result in
     let new = (seats-pop live.directory live.mark c.loop.seats.items rest (Some seat) i.new c.take_last-seat.ensures.items).1 in
-    let growers : vec_len c.captures.seats ≡ g.S.Source.growers_of source = search rules in
+    let growers : vec_len c.captures.seats ≡ g.S.Source.growers_of source = c.requires.1 in
     let left = i.left in
     let len = c.take_last-seat.ensures.len in
     let ok = c.take_last-seat.new.self.ok in
@@ -35,7 +36,7 @@ spawn_with-grower-requires-after_bounds g c κs within =
     let rest = c.take_last-seat.new.self.items in
     let seat = c.take_last-seat.result in
     let new = (seats-pop live.directory live.mark c.loop.seats.items rest (Some seat) i.new c.take_last-seat.ensures.items).1 in
-    let growers : vec_len c.captures.seats ≡ g.S.Source.growers_of source = search rules in
+    let growers : vec_len c.captures.seats ≡ g.S.Source.growers_of source = c.requires.1 in
     let left = i.left in
     let len = c.take_last-seat.ensures.len in
     let ok = c.take_last-seat.new.self.ok in
@@ -87,3 +88,17 @@ loop-preserved g c =
 
 pub loop-init : goal.loop-init
 loop-init g c = grind (arith, common_steps)
+
+pub spawn_with-started-requires-clause-keeps : goal.spawn_with-started-requires-clause-keeps
+spawn_with-started-requires-clause-keeps g c = λ κs within r come.
+    HasCome_same g.S.Source.count_of g.S.Source.block_of g.G.Gate.may_stop g.G.Gate.has_let g.G.Gate.was_told c.of.ensures.0 c.of.ensures.1 c.of.ensures.2
+    c.of.ensures.3 come
+
+pub home-requires-after_bounds : goal.home-requires-after_bounds
+home-requires-after_bounds g c κs within = rw c.in-Err.ensures.err at c.spawn_with-grower.ensures
+
+pub come_home-requires-clause-sent : goal.come_home-requires-clause-sent
+come_home-requires-clause-sent g c = λ κs within.
+    let many : vec_len c.captures.seats ≡ vec_len c.loop.sent =
+    omega (arith, c.loop.invariant.count, c.loop-test.false, c.loop.auto.counter-end, c.requires.2) in
+    subst (λ (n : ℕ). AreSent c.captures.live.now c.captures.source.now c.captures.gate.now n c.loop.sent.items) many c.loop.invariant.sent
