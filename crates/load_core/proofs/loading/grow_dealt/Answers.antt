@@ -1,4 +1,6 @@
+use Rattle.std.proofs.Common.{arith}
 use Rattle.load_core.proofs.Crewed.{dealt_all, dealt_stopped, dealt_given_up}
+use Rattle.std.proofs.lemmas.Grind.{common_steps}
 use Rattle.load_core.proofs.loading.grow_dealt.Goals as goal
 
 pub returns-in-Ok-clause-grown : goal.returns-in-Ok-clause-grown
@@ -14,3 +16,6 @@ returns-in-Ok-clause-stopped g c growths growers so =
 pub returns-in-Err-clause-stopped : goal.returns-in-Err-clause-stopped
 returns-in-Err-clause-stopped g c growths growers so =
     dealt_given_up g.R.Record.form g.D.Disk.keeps g.D.Disk.states _ _ _ growths growers so c.args.vault c.in-Err.fault c.give_up.result.0 c.give_up.result.1 c.in-Err.ensures.refused c.give_up.ensures
+
+pub all_made-requires-after_bounds : goal.all_made-requires-after_bounds
+all_made-requires-after_bounds g c κs within = grind (arith, common_steps)
