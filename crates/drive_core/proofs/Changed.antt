@@ -9,7 +9,7 @@ use Rattle.segment_core.specs.Frame as frames
 use Rattle.segment_core.specs.Tally.{are_ascending, are_inside}
 use Rattle.segment_core.specs.Command.{Command, Change, after_command}
 use Rattle.segment_core.specs.Written.{joined}
-use Rattle.pen_core.specs.Refusals.{first_refusal, change_lines}
+use Rattle.pen_core.specs.Refusals.{first_refusal}
 use Rattle.vault_core.specs.Touched.{IsTouched}
 use Rattle.vault_core.specs.Vault.{VaultOf, list_of}
 use Rattle.vault_core.specs.Commands.{changed_frame}
@@ -49,5 +49,5 @@ module _ {R D : Type 0} {m : Medium R D} {w : World R} {v : VaultOf R D} (tie : 
 
   -- asked for by this step
   pub changes : (asked : Step R) → Asks m w new asked (Some change)
-      → IsWritten m w v new asked change (changed_frame m.form (piece_runs pieces) (list_of new)) (change_lines v.pen (piece_runs pieces)) IsMade
-  changes asked asks = record { asks = asks; size = size; rests = rests; lines_are = refl; made_is = made_is }
+      → IsWritten m w v new asked change (changed_frame m.form (piece_runs pieces) (list_of new)) IsMade
+  changes asked asks = record { asks = asks; size = size; rests = rests; made_is = made_is }

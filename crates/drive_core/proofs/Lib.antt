@@ -19,6 +19,7 @@ pub mod Told
 pub mod LoopRuns
 pub mod PutTable
 pub mod PutRow
+pub mod PutAsked
 pub mod Put
 pub mod PutRefused
 pub mod Blocked

@@ -41,7 +41,7 @@ module _ {R D : Type 0} {m : Medium R D} {w : World R} {v : VaultOf R D} (tie : 
 
   -- what is written of a step that asks for a change of these runs
   abbrev WritesRuns : Step R → List Run → List R → Type 0 → Type 0
-  WritesRuns asked runs records made = IsWritten m w v new asked (Change runs records) (changed_frame m.form runs (list_of new)) (change_lines v.pen runs) made
+  WritesRuns asked runs records made = IsWritten m w v new asked (Change runs records) (changed_frame m.form runs (list_of new)) made
 
   abbrev WritesOne : ℕ → List R → List Run → Type 0
   WritesOne start records run = WritesRuns (step.Change start records) run records (IsGiven ((start, records) ∷ []) run)

@@ -5,7 +5,9 @@ use Rattle.std.proofs.lemmas.List.{take-append-le}
 use Rattle.block_core.specs.Growth as block
 use Rattle.directory_core.specs.Chain.{IsPrefix}
 use Rattle.book_core.specs.Lists.{Seated}
-use Rattle.drive_core.specs.Ties.{AreSeated, MeetsIn}
+use Rattle.drive_core.specs.Medium.{Medium}
+use Rattle.drive_core.specs.World.{World, Growth}
+use Rattle.drive_core.specs.Ties.{GrowingOf, IsGrowing, MeetsIn}
 use Rattle.drive_core.proofs.Looked.{same-front, none-or}
 use Rattle.drive_core.proofs.Seats.{same_or_not, get_set_same, get_set_other, begins-le, length_set, lent_at, there_is}
 
@@ -35,16 +37,28 @@ module _ {X : Type 0} where
   set-twice (x ∷ xs) zero a b = refl
   set-twice (x ∷ xs) (suc k) a b = ap (λ rest. x ∷ rest) (set-twice xs k a b)
 
--- The seat at this place was that one, is this one, and has met the last.
-pub record HasMet {R : Type 0} (seats : List (Seated R)) (last k : ℕ) (old new other : Seated R) (row : List (Seated R)) : Type 0 where
-  pub inside : k < length seats
+-- The seat at this place was that one, is this one, and has met the last, which was another or is this one too.
+pub record HasMet {R : Type 0} (seats : List (Seated R)) (last k : ℕ) (old new : Seated R) (row : List (Seated R)) : Type 0 where
   pub at : slice_get seats k ≡ Some old
+  pub other : Seated R
   pub at_last : slice_get (slice_set seats k new) last ≡ Some other
   pub meets : MeetsIn (slice_set seats k new) row k new other
 
-module _ {R : Type 0} {known made told : List ℕ} {seats : List (Seated R)} {count last : ℕ} {entries : List (block.Growth R)} (seated : AreSeated known made told seats count last entries)
-    {k : ℕ} {old new other : Seated R} {row : List (Seated R)} (has_met : HasMet seats last k old new other row) where
-  abbrev pub met : Seated R
+module _ {R D : Type 0} {m : Medium R D} {w : World R} {phase : Growth} {g : GrowingOf R D} (tie : IsGrowing m w phase g)
+    {k : ℕ} {old new : Seated R} {row : List (Seated R)} (has_met : HasMet g.seats g.last k old new row) where
+  abbrev seats : List (Seated R)
+  seats = g.seats
+
+  abbrev last : ℕ
+  last = g.last
+
+  abbrev entries : List (block.Growth R)
+  entries = tie.entries
+
+  abbrev other : Seated R
+  other = has_met.other
+
+  abbrev met : Seated R
   met = has_met.meets.met
 
   pub row_is : row ≡ slice_set seats k met
@@ -59,7 +73,7 @@ module _ {R : Type 0} {known made told : List ℕ} {seats : List (Seated R)} {co
 
   -- who knows all is this seat or another, which knows all still
   knows_all : 0 < length entries → ((old.pass.entries ≡ entries) × (other ≡ new)) ⊎ (other.pass.entries ≡ entries)
-  knows_all some = let knew = seated.last_knows some in elim (same_or_not last k) [
+  knows_all some = let knew = tie.seats.last_knows some in elim (same_or_not last k) [
     | inl same ↦ inl (ap (λ (s : Seated R). s.pass.entries) (same_Some old knew.0 (sym has_met.at ∙ ap (slice_get seats) (sym same) ∙ knew.1)) ∙ knew.2, same_seat same)
     | inr not_same ↦ inr (ap (λ (s : Seated R). s.pass.entries) (same_Some other knew.0 (sym (other_seat not_same) ∙ knew.1)) ∙ knew.2)
   ]
@@ -84,7 +98,7 @@ module _ {R : Type 0} {known made told : List ℕ} {seats : List (Seated R)} {co
     | inr theirs ↦ elim (same_or_not last k) [
       | inl same ↦ theirs ∙ ap (λ (s : Seated R). s.pass.entries) (same_seat same)
       | inr not_same ↦
-          let few = begins-le other.pass.entries entries (seated.each last other (other_seat not_same)).knows in
+          let few = begins-le other.pass.entries entries (tie.seats.each last other (other_seat not_same)).knows in
           let same = ap length theirs in
           same-front new.pass.entries met.pass.entries has_met.meets.meets.begins_mine (omega (arith, few, all, same))
     ]
@@ -98,17 +112,17 @@ lent_new seats k old new lent less at is =
     same_Some lent new (sym (lent_at (slice_set seats k new) k lent (omega (arith, less, long)) is) ∙ get_set_same seats k old new at)
 
 -- the last of the row is some seat
-pub find_met : {R : Type 0} {seats row : List (Seated R)} {k last : ℕ} {old : Seated R} (new : Seated R) → k < length seats → slice_get seats k ≡ Some old → last < length seats
+pub find_met : {R : Type 0} {seats row : List (Seated R)} {k last : ℕ} {old : Seated R} (new : Seated R) → slice_get seats k ≡ Some old → last < length seats
     → ((mine theirs : Seated R) → slice_get (slice_set seats k new) k ≡ Some mine → slice_get (slice_set seats k new) last ≡ Some theirs
     → MeetsIn (slice_set seats k new) row k mine theirs)
-    → (other : Seated R) × HasMet seats last k old new other row
-find_met {seats = seats} {k = k} {last = last} {old = old} new inside at last_inside meets =
+    → HasMet seats last k old new row
+find_met {seats = seats} {k = k} {last = last} {old = old} new at last_inside meets =
     let long = length_set seats k new in
     let other = there_is (slice_set seats k new) last (omega (arith, long, last_inside)) in
-    (other.0, record { inside = inside; at = at; at_last = other.1; meets = meets new other.0 (get_set_same seats k old new at) other.1 })
+    record { at = at; other = other.0; at_last = other.1; meets = meets new other.0 (get_set_same seats k old new at) other.1 }
 
 -- the row keeps its length
-pub met_inside : {R : Type 0} {seats row : List (Seated R)} {last k : ℕ} {old new other : Seated R} (n : ℕ) → HasMet seats last k old new other row → n < length seats → n < length row
+pub met_inside : {R : Type 0} {seats row : List (Seated R)} {last k : ℕ} {old new : Seated R} (n : ℕ) → HasMet seats last k old new row → n < length seats → n < length row
 met_inside {seats = seats} {k = k} {new = new} n has_met less =
     let one = length_set seats k new in
     let all = ap length has_met.meets.row_is ∙ length_set (slice_set seats k new) k has_met.meets.met in

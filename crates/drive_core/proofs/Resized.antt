@@ -82,21 +82,24 @@ module _ {R D : Type 0} {m : Medium R D} {w : World R} {v : VaultOf R D} (tie : 
         let all : payload_len m.form.width (copies ∷ []) ≡ 8 + (n - len) * m.form.width = ap (λ k. 8 + k * m.form.width) (ap length (append-nil copies) ∙ long) in
         ap (λ k. group_lines v.pen k (8 + (n - len) * m.form.width)) (sym long) ∙ ap (λ p. group_lines v.pen (length copies) p) (sym all)
 
-    up : len < n → IsWritten m w v new (step.Resize n r) (Grow copies) (group_frame m.form (copies ∷ [])) up_lines IsResized
+    -- the pen tests a growth of so many copies so
+    by_pen : {result : Result (Unit {0}) VaultFault} → Says (group_frame m.form (copies ∷ [])) up_lines result
+        → Says (group_frame m.form (copies ∷ [])) (pen_tests m.form v.pen (Grow copies)) result
+    by_pen {result} says = subst (λ lines. Says (group_frame m.form (copies ∷ [])) lines result) up_lines_are says
+
+    up : len < n → IsWritten m w v new (step.Resize n r) (Grow copies) (group_frame m.form (copies ∷ [])) IsResized
     up more = record {
       asks = asks (Some (Grow copies)) (resized_up r len n more);
       size = size;
       rests = rests;
-      lines_are = up_lines_are;
       made_is = λ allowed is. (is ∙ ap (λ l. l ++ copies) (take_all n (list_of v) (omega (arith, more))), refl);
     }
 
-    down : n < len → IsWritten m w v new (step.Resize n r) (Shrink n) (frames.Shrink n) (shrink_lines v.pen n) IsResized
+    down : n < len → IsWritten m w v new (step.Resize n r) (Shrink n) (frames.Shrink n) IsResized
     down less = record {
       asks = asks (Some (Shrink n)) (resized_down r len n less);
       size = size;
       rests = rests;
-      lines_are = refl;
       made_is = λ allowed is. (is ∙ ap (λ k. take n (list_of v) ++ replicate k r) (let none : n - len ≡ 0 = omega (arith, less) in none) ∙ append-nil (take n (list_of v)), refl);
     }
 
@@ -104,7 +107,7 @@ module _ {R D : Type 0} {m : Medium R D} {w : World R} {v : VaultOf R D} (tie : 
         → (len < n → Says (group_frame m.form (copies ∷ [])) up_lines (Ok tt)) → (n < len → Says (frames.Shrink n) (shrink_lines v.pen n) (Ok tt))
         → (n ≡ len → (new ≡ v) × (v.pen.broken ≡ false)) → VaultStep m w v new (step.Resize n r) answer
     resize_answers is list says_up says_down nothing = elim (compared n len) [
-      | inl more ↦ committed_steps tie (up more) (says_up more) list is
+      | inl more ↦ committed_steps tie (up more) (by_pen (says_up more)) list is
       | inr other ↦ elim other [
         | inl less ↦ committed_steps tie (down less) (says_down less) list is
         | inr same ↦ nothing_steps tie (nothing same).0 (asks None (resized_same r len n same)) (nothing same).1 is
@@ -115,7 +118,7 @@ module _ {R D : Type 0} {m : Medium R D} {w : World R} {v : VaultOf R D} (tie : 
         → (len < n → Says (group_frame m.form (copies ∷ [])) up_lines (Err fault)) → (n < len → Says (frames.Shrink n) (shrink_lines v.pen n) (Err fault))
         → (n ≡ len → (new ≡ v) × commands.IsNothingFault v.pen fault) → VaultStep m w v new (step.Resize n r) answer
     resize_refuses fault is list says_up says_down nothing = elim (compared n len) [
-      | inl more ↦ failed_steps tie (up more) fault (says_up more) list is
+      | inl more ↦ failed_steps tie (up more) fault (by_pen (says_up more)) list is
       | inr other ↦ elim other [
         | inl less ↦ failed_steps tie (down less) fault (says_down less) list is
         | inr same ↦ nothing_refused tie (nothing same).0 (asks None (resized_same r len n same)) (nothing same).1 is
@@ -127,12 +130,11 @@ module _ {R D : Type 0} {m : Medium R D} {w : World R} {v : VaultOf R D} (tie : 
   clears : (command : Option (Command R)) → cleared {R = R} (length (list_of v)) ≡ command → Asks m w new step.Clear command
   clears command is = subst (Asks m w new step.Clear) (ap (λ l. cleared {R = R} (length l)) tie.list_is ∙ is) (λ answer w' k row calls. (row, calls))
 
-  to_none : 0 < length (list_of v) → IsWritten m w v new step.Clear (Shrink 0) (frames.Shrink 0) (shrink_lines v.pen 0) (list_of new ≡ [])
+  to_none : 0 < length (list_of v) → IsWritten m w v new step.Clear (Shrink 0) (frames.Shrink 0) (list_of new ≡ [])
   to_none some = record {
     asks = clears (Some (Shrink 0)) (cleared_some (length (list_of v)) some);
     size = size;
     rests = rests;
-    lines_are = refl;
     made_is = λ allowed made. (made, refl);
   }
 

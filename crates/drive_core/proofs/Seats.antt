@@ -71,7 +71,7 @@ module _ {X : Type 0} where
   there_at (x ∷ xs) zero d less = refl
   there_at (x ∷ xs) (suc k) d less = there_at xs k d (omega (arith, less))
 
-  set_same : (xs : List X) (k : ℕ) (y : X) → slice_get xs k ≡ Some y → slice_set xs k y ≡ xs
+  pub set_same : (xs : List X) (k : ℕ) (y : X) → slice_get xs k ≡ Some y → slice_set xs k y ≡ xs
   set_same [] k y at = refl
   set_same (x ∷ xs) zero y at = ap (λ z. z ∷ xs) (sym (same_Some x y at))
   set_same (x ∷ xs) (suc k) y at = ap (λ rest. x ∷ rest) (set_same xs k y at)

@@ -38,18 +38,17 @@ use Rattle.drive_core.proofs.Tables.{pen_passes, pen_refuses}
 use Rattle.drive_core.proofs.Ties.{content-append}
 use Rattle.drive_core.proofs.VaultEvents.{Holds, Asks, vault_steps, still_steps, vault_rests, vault_leaves}
 
--- A step that asks for a command: what the vault writes it as, tests it by and makes of its list.
+-- A step that asks for a command: what the vault writes it as, and makes of its list.
 pub record IsWritten {R D : Type 0} (m : Medium R D) (w : World R) (v new : VaultOf R D)
-    (asked : Step R) (command : Command R) (frame : Frame) (lines : List (Bool × PenFault)) (made : Type 0) : Type 0 where
+    (asked : Step R) (command : Command R) (frame : Frame) (made : Type 0) : Type 0 where
   pub asks : Asks m w new asked (Some command)
   -- the vault counts the length of its list
   pub size : v.pen.broken ≡ false → v.pen.tally.size ≡ length (list_of v)
   pub rests : Holds m new new.pen.disk
-  pub lines_are : lines ≡ pen_tests m.form v.pen command
   pub made_is : first_refusal (pen_tests m.form v.pen command) ≡ None → made → (list_of new ≡ after_command (list_of v) command) × (frame ≡ frame_of m.form command)
 
-module _ {R D : Type 0} {m : Medium R D} {w : World R} {v new : VaultOf R D} {asked : Step R} {command : Command R} {frame : Frame} {lines : List (Bool × PenFault)} {made : Type 0}
-    (tie : IsExclusive m w v) (written : IsWritten m w v new asked command frame lines made) where
+module _ {R D : Type 0} {m : Medium R D} {w : World R} {v new : VaultOf R D} {asked : Step R} {command : Command R} {frame : Frame} {made : Type 0}
+    (tie : IsExclusive m w v) (written : IsWritten m w v new asked command frame made) where
   abbrev tests : List (Bool × PenFault)
   tests = pen_tests m.form v.pen command
 
@@ -59,16 +58,9 @@ module _ {R D : Type 0} {m : Medium R D} {w : World R} {v new : VaultOf R D} {as
   abbrev TableAllows : List (Bool × PenFault) → Option Fault → Type 0
   TableAllows lines answer = Allows (pen_table lines (Might is_vault_memory ∷ Might is_disk ∷ [])) answer
 
-  -- what the vault promises of the command, of a frame and by the tests that the world knows
+  -- what the vault promises of the command as this frame
   abbrev Says : Frame → Result (Unit {0}) VaultFault → Type 0
   Says f result = commands.IsCommand m.form m.keeps m.states m.faults f tests v new result
-
-  abbrev Promised : Result (Unit {0}) VaultFault → Type 0
-  Promised result = commands.IsCommand m.form m.keeps m.states m.faults frame lines v new result
-
-  says_of : (f : Frame) → frame ≡ f → (result : Result (Unit {0}) VaultFault) → Promised result → Says f result
-  says_of f is result says =
-      subst (λ x. Says x result) is (subst (λ ls. commands.IsCommand m.form m.keeps m.states m.faults frame ls v new result) written.lines_are says)
 
   -- the world's tables are the pen's
   tests_are : v.pen.broken ≡ false → world_tests ≡ tests
@@ -121,10 +113,10 @@ module _ {R D : Type 0} {m : Medium R D} {w : World R} {v new : VaultOf R D} {as
 
   -- ---- all four calls have succeeded
 
-  pub committed_steps : {answer : Answer R} → Promised (Ok tt) → made → answer ≡ step.Fine → VaultStep m w v new asked answer
+  pub committed_steps : {answer : Answer R} → Says frame (Ok tt) → made → answer ≡ step.Fine → VaultStep m w v new asked answer
   committed_steps promised made_so is =
-      let made_is = written.made_is (says_of frame refl (Ok tt) promised).allowed made_so in
-      let says = says_of (frame_of m.form command) made_is.1 (Ok tt) promised in
+      let made_is = written.made_is promised.allowed made_so in
+      let says : Says (frame_of m.form command) (Ok tt) = subst (λ f. Says f (Ok tt)) made_is.1 promised in
       let ready = ready_of m.form v.pen command says.allowed in
       let all = tie.whole ready.0 in
       let count : w.settled + 1 ≡ length history = omega (arith, more, all) in
@@ -222,20 +214,19 @@ module _ {R D : Type 0} {m : Medium R D} {w : World R} {v new : VaultOf R D} {as
       vault_steps tie new (behind w.settled (hand_of new.pen)) n both.0 both.1 time (omega (arith, most)) (λ none. absurd (omega (arith, some, none))) refl tied
       (λ kept. leaves_either w.settled (says.model kept) is (says.images kept)) (λ kept. vault_rests tied kept written.rests)
 
-  torn_at : (fault : PenFault) (at : pen_step.Step) → fault ≡ pen.Disk (fault_of at) → Promised (Err (vault.Pen fault)) → StandsCommanded made (new.blocks ≡ v.blocks) (vault.Pen fault)
+  torn_at : (fault : PenFault) (at : pen_step.Step) → fault ≡ pen.Disk (fault_of at) → Says frame (Err (vault.Pen fault)) → StandsCommanded made (new.blocks ≡ v.blocks) (vault.Pen fault)
       → first_refusal tests ≡ None → IsStopped frame at v.pen new.pen → VaultStep m w v new asked (step.Refused (Vault (vault.Pen fault)))
   torn_at fault at is promised list allowed stopped =
       let made_is = written.made_is allowed (subst (λ f. StandsCommanded made (new.blocks ≡ v.blocks) (vault.Pen f)) is list) in
-      let says = says_of (frame_of m.form command) made_is.1 (Err (vault.Pen (pen.Disk (fault_of at)))) (subst (λ f. Promised (Err (vault.Pen f))) is promised) in
+      let torn : Says frame (Err (vault.Pen (pen.Disk (fault_of at)))) = subst (λ f. Says frame (Err (vault.Pen f))) is promised in
+      let says : Says (frame_of m.form command) (Err (vault.Pen (pen.Disk (fault_of at)))) = subst (λ f. Says f (Err (vault.Pen (pen.Disk (fault_of at))))) made_is.1 torn in
       answered (ap (λ f. step.Refused (Vault (vault.Pen f))) is) (torn_steps at allowed (subst (λ f. IsStopped f at v.pen new.pen) made_is.1 stopped) made_is.0 says)
 
-  pub failed_steps : {answer : Answer R} (fault : VaultFault) → Promised (Err fault) → StandsCommanded made (new.blocks ≡ v.blocks) fault → answer ≡ step.Refused (Vault fault)
+  pub failed_steps : {answer : Answer R} (fault : VaultFault) → Says frame (Err fault) → StandsCommanded made (new.blocks ≡ v.blocks) fault → answer ≡ step.Refused (Vault fault)
       → VaultStep m w v new asked answer
   failed_steps (vault.Unsettled number) promised list is = absurd promised.pen
   failed_steps vault.WrongPhase promised list is = absurd promised.pen
-  failed_steps (vault.Pen fault) promised list is =
-      let says = says_of frame refl (Err (vault.Pen fault)) promised in
-      answered is (elim says.pen [
-        | inl refused ↦ refused_steps fault refused.0 refused.1 (stands_was _ _ fault (no_failed_call m.form v.pen command fault refused.0) list) says.sure
-        | inr torn ↦ torn_at fault torn.0 torn.2 promised list torn.1 torn.3
-      ])
+  failed_steps (vault.Pen fault) promised list is = answered is (elim promised.pen [
+    | inl refused ↦ refused_steps fault refused.0 refused.1 (stands_was _ _ fault (no_failed_call m.form v.pen command fault refused.0) list) promised.sure
+    | inr torn ↦ torn_at fault torn.0 torn.2 promised list torn.1 torn.3
+  ])

@@ -1,6 +1,6 @@
 -- The list as a seat knows it.
-use Rattle.std.proofs.Common.{◌≡◌, inl, inr, ℕ, zero, suc, [], ◌∷◌, slice_set, ◌<◌, List, ◌++◌, length, Some, refl, sym, ap, ◌∙◌, slice_get, slice_index}
-use Rattle.std.proofs.lemmas.Option.{same_Some}
+use Rattle.std.proofs.Common.{◌≡◌, inl, inr, ℕ, slice_set, ◌<◌, List, ◌++◌, length, Some, refl, sym, ap, ◌∙◌, slice_get, slice_index}
+use Rattle.std.proofs.lemmas.Option.{slice_get_within}
 use Rattle.pen_core.specs.declared.fault.PenFault.TheVariants as pen
 use Rattle.directory_core.specs.Chain.{joined}
 use Rattle.book_core.specs.Lists.{Seated, opening_of, seat_list}
@@ -15,16 +15,15 @@ use Rattle.drive_core.specs.Ties.{GrowingOf, IsGrowing}
 use Rattle.drive_core.specs.GrowthTies.{GrowthStep}
 use Rattle.drive_core.proofs.Quiet.{quiet_steps, seat_row, same_hand}
 use Rattle.drive_core.proofs.Seated.{known_at}
+use Rattle.drive_core.proofs.Seats.{set_same}
 use Rattle.drive_core.proofs.Steps.{answered}
 use Rattle.drive_core.proofs.Ties.{list_at, behind_of}
 
-set_same : {X : Type 0} (xs : List X) (k : ℕ) (x : X) → slice_get xs k ≡ Some x → slice_set xs k x ≡ xs
-set_same [] k x at = refl
-set_same (y ∷ xs) zero x at = λ i. same_Some x y (sym at) i ∷ xs
-set_same (y ∷ xs) (suc k) x at = ap (λ rest. y ∷ rest) (set_same xs k x at)
-
 module _ {R D : Type 0} {m : Medium R D} {w : World R} {phase : Growth} {g : GrowingOf R D} (tie : IsGrowing m w phase g)
-    {k : ℕ} {seat : Seated R} (inside : k < length g.seats) (at : slice_get g.seats k ≡ Some seat) {new : Seated R} (new_is : new ≡ seat) where
+    (k : ℕ) {seat : Seated R} (at : slice_get g.seats k ≡ Some seat) {new : Seated R} (new_is : new ≡ seat) where
+  inside : k < length g.seats
+  inside = slice_get_within g.seats k seat at
+
   -- nothing of the seat has changed
   same : record g { seats = slice_set g.seats k new } ≡ g
   same i = record g { seats = (ap (slice_set g.seats k) new_is ∙ set_same g.seats k seat at) i }

@@ -1,5 +1,5 @@
 -- What a put that is refused leaves, and what is left of a file that a making finds.
-use Rattle.std.proofs.Common.{◌≡◌, ℕ, ◌+◌, ◌<◌, ◌≤◌, inl, inr, List, [], ◌∷◌, length, max, Some, None, refl, sym, ap, ◌∙◌, arith}
+use Rattle.std.proofs.Common.{◌≡◌, ℕ, inl, inr, List, [], ◌∷◌, length, Some, None, refl, ap, arith}
 use Rattle.std.specs.Prelude.{replicate, slice_index}
 use Rattle.disk_core.specs.State.{State, IsImage, settled}
 use Rattle.disk_core.specs.Moments.{LeftSince}

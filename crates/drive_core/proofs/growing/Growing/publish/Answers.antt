@@ -6,6 +6,7 @@ use Rattle.drive_core.specs.Step as step
 use Rattle.book_core.specs.Lists.{IsSeatOf}
 use Rattle.drive_core.proofs.Seats.{of_replaced, lent_at, length_set}
 use Rattle.drive_core.proofs.Put.{put_answers}
+use Rattle.drive_core.proofs.PutAsked.{asked_put}
 use Rattle.drive_core.proofs.PutRefused.{put_errs, put_strays}
 use Rattle.drive_core.proofs.PutRow.{find_met, met_inside, lent_new}
 use Rattle.drive_core.proofs.Quiet.{same_hand}
@@ -42,24 +43,24 @@ invariant_of-self g c =
     let s = c.self.inside in
     let inside = subst (λ (v : _). c.args.seat < length v.seats) (sym c.self.view_is) c.requires.inside in
     let at = lent_at s.seats.items c.args.seat c.index_mut.result.now inside c.index_mut.ensures.value in
-    let met = find_met c.grow-grown.new.seat inside at c.self.invariant.2 c.meet_in.ensures.meets in
-    (c.self.invariant.0, c.meet_in.ensures.of, met_inside s.last met.1 c.self.invariant.2)
+    let met = find_met c.grow-grown.new.seat at c.self.invariant.2 c.meet_in.ensures.meets in
+    (c.self.invariant.0, c.meet_in.ensures.of, met_inside s.last met c.self.invariant.2)
 
 pub invariant_of-self-in-Ok : goal.invariant_of-self-in-Ok
 invariant_of-self-in-Ok g c =
     let s = c.self.inside in
     let inside = subst (λ (v : _). c.args.seat < length v.seats) (sym c.self.view_is) c.requires.inside in
     let at = lent_at s.seats.items c.args.seat c.index_mut.result.now inside c.index_mut.ensures.value in
-    let met = find_met c.grow-grown.new.seat inside at c.self.invariant.2 c.meet_in.ensures.meets in
-    (c.self.invariant.0, c.meet_in.ensures.of, met_inside c.args.seat met.1 inside)
+    let met = find_met c.grow-grown.new.seat at c.self.invariant.2 c.meet_in.ensures.meets in
+    (c.self.invariant.0, c.meet_in.ensures.of, met_inside c.args.seat met inside)
 
 pub invariant_of-self-in-Err : goal.invariant_of-self-in-Err
 invariant_of-self-in-Err g c =
     let s = c.self.inside in
     let inside = subst (λ (v : _). c.args.seat < length v.seats) (sym c.self.view_is) c.requires.inside in
     let at = lent_at s.seats.items c.args.seat c.index_mut.result.now inside c.index_mut.ensures.value in
-    let met = find_met c.grow-grown.new.seat inside at c.self.invariant.2 c.meet_in.ensures.meets in
-    (c.self.invariant.0, c.meet_in.ensures.of, met_inside s.last met.1 c.self.invariant.2)
+    let met = find_met c.grow-grown.new.seat at c.self.invariant.2 c.meet_in.ensures.meets in
+    (c.self.invariant.0, c.meet_in.ensures.of, met_inside s.last met c.self.invariant.2)
 
 pub returns-then-receipt-self-clause-steps : goal.returns-then-receipt-self-clause-steps
 returns-then-receipt-self-clause-steps g c = rw (← c.self.view_is) (λ w phase tie.
@@ -67,8 +68,8 @@ returns-then-receipt-self-clause-steps g c = rw (← c.self.view_is) (λ w phase
     let inside = subst (λ (v : _). c.args.seat < length v.seats) (sym c.self.view_is) c.requires.inside in
     let not_closed = subst (λ (v : _). v.closed ≡ false) (sym c.self.view_is) c.requires.not_closed in
     let at = lent_at s.seats.items c.args.seat c.index_mut.result.now inside c.index_mut.ensures.value in
-    let met = find_met c.grow-grown.new.seat inside at c.self.invariant.2 c.meet_in.ensures.meets in
-    put_strays tie met.1 c.args.fresh not_closed c.requires.block _ s.puts refl refl)
+    let met = find_met c.grow-grown.new.seat at c.self.invariant.2 c.meet_in.ensures.meets in
+    put_strays tie (asked_put tie c.args.fresh c.requires.block not_closed met) _ s.puts refl refl)
 
 pub returns-clause-steps : goal.returns-clause-steps
 returns-clause-steps g c = rw (← c.self.view_is) (
@@ -80,7 +81,7 @@ returns-clause-steps g c = rw (← c.self.view_is) (
     let inside = subst (λ (v : _). k < length v.seats) (sym c.self.view_is) c.requires.inside in
     let not_closed = subst (λ (v : _). v.closed ≡ false) (sym c.self.view_is) c.requires.not_closed in
     let at = lent_at seats k m0 inside c.index_mut.ensures.value in
-    let met = find_met m1 inside at c.self.invariant.2 c.meet_in.ensures.meets in
+    let met = find_met m1 at c.self.invariant.2 c.meet_in.ensures.meets in
     let seen = lent_new seats k m0 m1 c.index.result.now inside at c.index.ensures in
     let seen' = lent_new seats k m0 m1 c.index-2.result.now inside at c.index-2.ensures in
     let known_is = c.known-known.ensures.count ∙ ap (λ (s : _). length s.pass.entries) seen in
@@ -91,9 +92,11 @@ returns-clause-steps g c = rw (← c.self.view_is) (
           let size = ap (size_of s.live) seen' in
           let sized = c.size.ensures.size in
           let in_limit = c.size.ensures.in_limit in
-          same_hand b.self-is (put_answers tie met.1 not_closed c.requires.block b.in-Ok.ensures.list b.if-receipt-self.false known_is (ap answer_of b.result-is)
+          let asked = asked_put tie c.args.fresh c.requires.block not_closed met in
+          same_hand b.self-is (put_answers tie asked b.in-Ok.ensures.list b.if-receipt-self.false known_is (ap answer_of b.result-is)
           (omega (arith, in_room, room)) (omega (arith, size, sized, in_limit)))
       | in-Err b ↦ λ w phase tie.
-          same_hand b.self-is (put_errs tie met.1 c.args.fresh not_closed c.requires.block b.in-Err.fault (c.known-known.result == s.puts)
+          let asked = asked_put tie c.args.fresh c.requires.block not_closed met in
+          same_hand b.self-is (put_errs tie asked b.in-Err.fault (c.known-known.result == s.puts)
           (ap answer_of b.result-is ∙ ap (λ f. step.Refused (told.Grow f)) b.put_fault.ensures) b.in-Err.ensures.list.1 b.in-Err.ensures.fault known_is (eqb-true c.known-known.result s.puts))
     ])

@@ -28,6 +28,6 @@ returns-clause-steps g c = rw (← c.self.view_is) (
     let at = lent_at c.self.inside.seats.items c.args.seat c.index_mut.result.now inside c.index_mut.ensures.value in
     let same = c.copy_view.ensures.same in
     elim c.match-copy_view.branch [
-      | in-Ok b ↦ λ w phase tie. view_answers tie inside at same b.in-Ok.records.items (ap answer_of b.result-is) b.in-Ok.ensures.list
-      | in-Err b ↦ λ w phase tie. view_refuses tie inside at same (ap answer_of b.result-is)
+      | in-Ok b ↦ λ w phase tie. view_answers tie c.args.seat at same b.in-Ok.records.items (ap answer_of b.result-is) b.in-Ok.ensures.list
+      | in-Err b ↦ λ w phase tie. view_refuses tie c.args.seat at same (ap answer_of b.result-is)
     ])
