@@ -10,7 +10,7 @@ use std::fmt;
 use vault_core::VaultFault;
 
 /// Why a step is refused.
-#[derive(Clone, Copy, Debug, PartialEq, Eq)]
+#[derive(Clone, Copy, Debug)]
 pub enum Fault {
     /// By the vault or by the pen, or the step doesn't fit the phase.
     Vault(VaultFault),
