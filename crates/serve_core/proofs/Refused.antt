@@ -17,7 +17,7 @@ use Rattle.flush_core.specs.Serving.{IsServeFault}
 use Rattle.vault_core.specs.declared.fault.VaultFault.{VaultFault}
 use Rattle.vault_core.specs.declared.fault.VaultFault.TheVariants as vaults
 use Rattle.vault_core.specs.Vault.{VaultOf}
-use Rattle.vault_core.specs.Sharing.{Shares, IsShareFault, IsNotShared, IsTooLarge}
+use Rattle.vault_core.specs.Sharing.{IsShareFault, IsNotShared, IsTooLarge}
 use Rattle.serve_core.specs.declared.fault.ServeFault.{ServeFault}
 use Rattle.serve_core.specs.declared.fault.ServeFault.TheVariants.{Open, Share, Thread, Flush}
 use Rattle.serve_core.specs.Serving.{IsShareRefusal, IsFlusherStop, IsServeRefusal, CountsFailed, ComesBack, IsPhaseLeft, serve_failures}
@@ -64,66 +64,60 @@ stopped width old new (flushes.Pen pens.Exists) whole is = absurd is
 stopped width old new (flushes.Pen (pens.Disk cause)) whole is = is
 stopped width old new (flushes.Strayed number) whole is = (is.1, is.0)
 
--- the flusher of a phase that was begun over that vault, and what came of it
-module _ {R D X : Type 0} (form : Encoding R) (keeps : D → Type 0) (states : D → List State) (faults : D → ℕ) (vault : VaultOf R D) (room seats : ℕ) (live : Phase R) (begun : FlusherOf R D)
-    (shares : Shares (keeps vault.pen.disk) vault room seats live begun) (left : D) (settled : ℕ) (result : Result X ServeFault)
-    (ended : IsPhaseLeft form keeps states faults live begun left settled result) where
-  -- as many seats as clients, so their number is in bounds
-  in_bounds : (clients : ℕ) → seats ≡ min clients 65535 → MayBegin room seats → (0 < clients) × (clients ≤ seat_limit)
-  in_bounds clients is may = (omega (arith, is, may.seats_in.0), omega (arith, is, may.seats_in.1))
+-- as many seats as clients, so their number is in bounds
+pub in_bounds : (clients seats : ℕ) {room : ℕ} → seats ≡ min clients 65535 → MayBegin room seats → (0 < clients) × (clients ≤ seat_limit)
+in_bounds clients seats is may = (omega (arith, is, may.seats_in.0), omega (arith, is, may.seats_in.1))
 
-  pub phase_refused : (clients size : ℕ) → seats ≡ min clients 65535 → MayBegin room seats → IsAtRest form.width size vault.pen → IfErr result (IsServeRefusal form keeps states clients left settled)
-  phase_refused clients size is may rest = by_result result ended.comes
+-- a flusher of a phase, and what came of it
+module _ {R D : Type 0} (form : Encoding R) (keeps : D → Type 0) (states : D → List State) (faults : D → ℕ) (live : Phase R) (old new : FlusherOf R D) where
+  as_it_was : new ≡ old → faults new.pen.disk ≡ faults old.pen.disk
+  as_it_was is = ap (λ (f : FlusherOf R D). faults f.pen.disk) is
+
+  comes_counts : {X : Type 0} (result : Result X ServeFault) → ComesBack form keeps states faults live old new result → CountsFailed serve_failures (faults old.pen.disk) (faults new.pen.disk) result
+  comes_counts (Ok x) comes = comes.counts
+  comes_counts (Err (Open fault)) comes = absurd comes
+  comes_counts (Err (Share (vaults.Pen fault))) comes = let same = as_it_was comes.1 in omega (arith, same)
+  comes_counts (Err (Share (vaults.Unsettled number))) comes = let same = as_it_was comes.1 in omega (arith, same)
+  comes_counts (Err (Share vaults.WrongPhase)) comes = let same = as_it_was comes.1 in omega (arith, same)
+  comes_counts (Err Thread) comes = let same = as_it_was comes in omega (arith, same)
+  comes_counts (Err (Flush fault)) comes = comes.counts
+
+  comes_keeps : {X : Type 0} (result : Result X ServeFault) → ComesBack form keeps states faults live old new result → keeps new.pen.disk → keeps old.pen.disk
+  comes_keeps (Ok x) comes = comes.served.model
+  comes_keeps (Err (Open fault)) comes = absurd comes
+  comes_keeps (Err (Share fault)) comes = subst (λ (f : FlusherOf R D). keeps f.pen.disk) comes.1
+  comes_keeps (Err Thread) comes = subst (λ (f : FlusherOf R D). keeps f.pen.disk) comes
+  comes_keeps (Err (Flush fault)) comes = comes.served.model
+
+-- what is left of a phase that was begun over that vault
+module _ {R D : Type 0} (form : Encoding R) (keeps : D → Type 0) (states : D → List State) (faults : D → ℕ) (vault : VaultOf R D) {live : Phase R} {begun : FlusherOf R D}
+    (same : begun.pen ≡ vault.pen) where
+  pub phase_refused : {X : Type 0} {left : D} {settled : ℕ} {result : Result X ServeFault} → IsPhaseLeft form keeps states faults live begun left settled result
+      → (clients : ℕ) → (0 < clients) × (clients ≤ seat_limit) → vault.pen.broken ≡ false → IfErr result (IsServeRefusal form keeps states clients left settled)
+  phase_refused {left = left} {settled = settled} {result = result} ended clients bounds whole = by_result result ended.comes
     where
-      whole : begun.pen.broken ≡ false
-      whole = ap (λ (p : PenOf D). p.broken) shares.pen ∙ rest.whole
-
       by_result : {X : Type 0} (result : Result X ServeFault) → ComesBack form keeps states faults live begun ended.flusher result
           → IfErr result (IsServeRefusal form keeps states clients left settled)
       by_result (Ok x) comes = tt
       by_result (Err (Open fault)) comes = tt
-      by_result (Err (Share fault)) comes = subst (IsShareRefusal clients) (sym comes.0) (in_bounds clients is may)
-      by_result (Err Thread) comes = in_bounds clients is may
+      by_result (Err (Share fault)) comes = subst (IsShareRefusal clients) (sym comes.0) bounds
+      by_result (Err Thread) comes = bounds
       by_result (Err (Flush fault)) comes = record {
         flusher = ended.flusher;
         disk_is = ended.disk_is;
         settled_is = ended.settled_is;
         file = ended.images;
-        why = stopped form.width begun ended.flusher fault whole comes.refused;
+        why = stopped form.width begun ended.flusher fault (ap (λ (p : PenOf D). p.broken) same ∙ whole) comes.refused;
       }
 
-  -- the disk is that of the flusher, which is as at the beginning
-  same_disk : ended.flusher ≡ begun → left ≡ vault.pen.disk
-  same_disk is = ended.disk_is ∙ ap (λ (f : FlusherOf R D). f.pen.disk) is ∙ ap (λ (p : PenOf D). p.disk) shares.pen
+  pub phase_counts : {X : Type 0} {left : D} {settled : ℕ} {result : Result X ServeFault} → IsPhaseLeft form keeps states faults live begun left settled result
+      → CountsFailed serve_failures (faults vault.pen.disk) (faults left) result
+  phase_counts {result = result} ended =
+      subst (λ d. CountsFailed serve_failures (faults vault.pen.disk) (faults d) result) (sym ended.disk_is)
+      (subst (λ (p : PenOf D). CountsFailed serve_failures (faults p.disk) (faults ended.flusher.pen.disk) result) same
+      (comes_counts form keeps states faults live begun ended.flusher result ended.comes))
 
-  pub phase_counts : CountsFailed serve_failures (faults vault.pen.disk) (faults left) result
-  phase_counts = by_result result ended.comes
-    where
-      before : faults begun.pen.disk ≡ faults vault.pen.disk
-      before = ap (λ (p : PenOf D). faults p.disk) shares.pen
-
-      after : faults left ≡ faults ended.flusher.pen.disk
-      after = ap faults ended.disk_is
-
-      by_result : {X : Type 0} (result : Result X ServeFault) → ComesBack form keeps states faults live begun ended.flusher result
-          → CountsFailed serve_failures (faults vault.pen.disk) (faults left) result
-      by_result (Ok x) comes = after ∙ comes.counts ∙ before
-      by_result (Err (Open fault)) comes = absurd comes
-      by_result (Err (Share (vaults.Pen fault))) comes = let is = ap faults (same_disk comes.1) in omega (arith, is)
-      by_result (Err (Share (vaults.Unsettled number))) comes = let is = ap faults (same_disk comes.1) in omega (arith, is)
-      by_result (Err (Share vaults.WrongPhase)) comes = let is = ap faults (same_disk comes.1) in omega (arith, is)
-      by_result (Err Thread) comes = let is = ap faults (same_disk comes) in omega (arith, is)
-      by_result (Err (Flush fault)) comes = let counts = comes.counts in omega (arith, after, counts, before)
-
-  pub phase_keeps : keeps left → keeps vault.pen.disk
-  phase_keeps kept = by_result result ended.comes
-    where
-      goes : (keeps ended.flusher.pen.disk → keeps begun.pen.disk) → keeps vault.pen.disk
-      goes model = subst (λ (p : PenOf D). keeps p.disk) shares.pen (model (subst keeps ended.disk_is kept))
-
-      by_result : {X : Type 0} (result : Result X ServeFault) → ComesBack form keeps states faults live begun ended.flusher result → keeps vault.pen.disk
-      by_result (Ok x) comes = goes comes.served.model
-      by_result (Err (Open fault)) comes = absurd comes
-      by_result (Err (Share fault)) comes = subst keeps (same_disk comes.1) kept
-      by_result (Err Thread) comes = subst keeps (same_disk comes) kept
-      by_result (Err (Flush fault)) comes = goes comes.served.model
+  pub phase_keeps : {X : Type 0} {left : D} {settled : ℕ} {result : Result X ServeFault} → IsPhaseLeft form keeps states faults live begun left settled result
+      → keeps left → keeps vault.pen.disk
+  phase_keeps {result = result} ended kept =
+      subst (λ (p : PenOf D). keeps p.disk) same (comes_keeps form keeps states faults live begun ended.flusher result ended.comes (subst keeps ended.disk_is kept))

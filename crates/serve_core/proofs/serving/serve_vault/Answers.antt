@@ -2,7 +2,7 @@ use Rattle.std.proofs.Common.{◌≡◌, min, vec_len, length, arith}
 use Rattle.directory_core.specs.Limits.{growth_limit}
 use Rattle.vault_core.specs.Vault.{list_of}
 use Rattle.serve_core.proofs.Left.{handed_back, phase_left}
-use Rattle.serve_core.proofs.Refused.{none_served, phase_refused, phase_counts, phase_keeps}
+use Rattle.serve_core.proofs.Refused.{in_bounds, none_served, phase_refused, phase_counts, phase_keeps}
 use Rattle.serve_core.proofs.serving.serve_vault.Goals as goal
 
 pub returns-in-Err-clause-left : goal.returns-in-Err-clause-left
@@ -25,21 +25,16 @@ returns-in-Ok-clause-left g c = λ disk from kept.
 
 pub returns-in-Ok-clause-refused : goal.returns-in-Ok-clause-refused
 returns-in-Ok-clause-refused g c =
-    let phase = c.serve_phase.result in
     let len = c.len.ensures in
     let least = c.min-count.ensures in
     let is : c.min-count.result ≡ min (vec_len c.args.pipes) 65535 = omega (arith, len, least) in
-    phase_refused g.R.Record.form g.D.Disk.keeps g.D.Disk.states g.D.Disk.faults c.args.vault growth_limit c.min-count.result c.in-Ok.live c.in-Ok.flusher c.in-Ok.ensures.shares
-    phase.0 phase.1.growths phase.2 c.serve_phase.ensures (vec_len c.args.pipes) (length (list_of c.args.vault)) is c.in-Ok.ensures.may.bounds c.requires
+    phase_refused g.R.Record.form g.D.Disk.keeps g.D.Disk.states g.D.Disk.faults c.args.vault c.in-Ok.ensures.shares.pen c.serve_phase.ensures
+    (vec_len c.args.pipes) (in_bounds (vec_len c.args.pipes) c.min-count.result is c.in-Ok.ensures.may.bounds) c.requires.whole
 
 pub returns-in-Ok-clause-faults : goal.returns-in-Ok-clause-faults
 returns-in-Ok-clause-faults g c =
-    let phase = c.serve_phase.result in
-    phase_counts g.R.Record.form g.D.Disk.keeps g.D.Disk.states g.D.Disk.faults c.args.vault growth_limit c.min-count.result c.in-Ok.live c.in-Ok.flusher c.in-Ok.ensures.shares
-    phase.0 phase.1.growths phase.2 c.serve_phase.ensures
+    phase_counts g.R.Record.form g.D.Disk.keeps g.D.Disk.states g.D.Disk.faults c.args.vault c.in-Ok.ensures.shares.pen c.serve_phase.ensures
 
 pub returns-in-Ok-clause-model : goal.returns-in-Ok-clause-model
 returns-in-Ok-clause-model g c =
-    let phase = c.serve_phase.result in
-    phase_keeps g.R.Record.form g.D.Disk.keeps g.D.Disk.states g.D.Disk.faults c.args.vault growth_limit c.min-count.result c.in-Ok.live c.in-Ok.flusher c.in-Ok.ensures.shares
-    phase.0 phase.1.growths phase.2 c.serve_phase.ensures
+    phase_keeps g.R.Record.form g.D.Disk.keeps g.D.Disk.states g.D.Disk.faults c.args.vault c.in-Ok.ensures.shares.pen c.serve_phase.ensures
