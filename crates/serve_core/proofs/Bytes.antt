@@ -1,5 +1,7 @@
--- Bytes that are appended in parts.
-use Rattle.std.proofs.Common.{◌≡◌, List, ◌++◌, Result, Ok, Err, OnOk, ap, ◌∙◌, append_assoc}
+-- Bytes that are appended in parts, and how many records they hold.
+use Rattle.std.proofs.Common.{◌≡◌, ℕ, ◌*◌, ◌^◌, ◌<◌, ◌≤◌, List, ◌++◌, Result, Ok, Err, OnOk, ap, ◌∙◌, append_assoc, arith, le_refl}
+use Rattle.std.proofs.lemmas.Nat.{mul-le}
+use Rattle.record_core.specs.Limits.{payload_limit}
 
 pub on_ok : {X E : Type 0} (P Q : Type 0) (result : Result X E) → (P → Q) → OnOk result P → OnOk result Q
 on_ok P Q (Ok x) then holds = then holds
@@ -18,3 +20,7 @@ in_parts old a b c d e first second third fourth new is_first is_second is_third
     let three = more old (a ++ b) c second third two is_third in
     let four = more old (a ++ b ++ c) d third fourth three is_fourth in
     more old (a ++ b ++ c ++ d) e fourth new four is_new
+
+-- records of one payload are few
+pub few_records : (n width : ℕ) → 1 ≤ width → n * width ≤ payload_limit → n < 2 ^ 32
+few_records n width wide few = let least = mul-le n 1 n width (le_refl n) wide in omega (arith, few, least)

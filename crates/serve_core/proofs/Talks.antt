@@ -10,17 +10,15 @@ use Rattle.record_core.specs.Cells.{AreRecords}
 use Rattle.block_core.specs.Growth.{Growth}
 use Rattle.book_core.specs.declared.seat.Receipt.{Receipt}
 use Rattle.book_core.specs.Lists.{Phase, Seated, IsSeatOf}
-use Rattle.book_core.specs.Growing.{Grown, SeatIsTold, growth_of}
-use Rattle.book_core.specs.Marks.{MarkEnd}
-use Rattle.book_core.specs.declared.mark.MarkState.{MarkState}
+use Rattle.book_core.specs.Growing.{Grown, growth_of}
 use Rattle.serve_core.specs.declared.refusal.Refusal.{Refusal}
 use Rattle.serve_core.specs.declared.refusal.Refusal.TheVariants as refusals
 use Rattle.serve_core.specs.declared.talking.TalkEnd.{TalkEnd}
 use Rattle.serve_core.specs.declared.talking.TalkEnd.TheVariants.{Ended, Gone, Cut, InputFailed, Refused, OutputFailed, Memory}
 use Rattle.serve_core.specs.Answers.{answer_bytes}
 use Rattle.serve_core.specs.Talks.{IsBlock, IsBlockOfRecords, IsGrowRefusal, IsOfRecords, IsGrowthRefusal, IsOfGrowth}
-use Rattle.serve_core.specs.Talks.{AllBelow, IsNextOf, HasUnsettled, AreExchanges, Exchange, IsExchange, IsOfRequest, IsDone, IsUntold, TalkGoesOn, AllGoOn, EndsTalk, EndsSo, HasTalked, asked, told, told_of}
-use Rattle.serve_core.specs.Talks.{EndsReading, end_within, IsCutRead, IsCutGrowth, IsCutRequest}
+use Rattle.serve_core.specs.Talks.{IsNextOf, AreExchanges, Exchange, IsExchange, IsOfRequest, IsDone, IsUntold, TalkGoesOn, AllGoOn, EndsTalk, EndsSo, HasTalked, asked, told, told_of}
+use Rattle.serve_core.specs.Talks.{EndsReading, end_within, IsCutGrowth, IsCutRequest}
 use Rattle.serve_core.specs.Requests.{IsRequestHead, head_of}
 use Rattle.serve_core.specs.declared.request.Head.{Head}
 use Rattle.serve_core.specs.declared.request.Request.{Request}
@@ -38,23 +36,8 @@ Appends-nil : (a : Option (List ℕ)) → Appends a a []
 Appends-nil None = tt
 Appends-nil (Some x) = sym (append-nil x)
 
--- all that were made are below that
-pub next_below : {R : Type 0} (n m : ℕ) (made : List (Growth R)) (seat : Seated R) → IsNextOf n made → seat.made ≡ made → n ≤ m → AllBelow m seat
-next_below {R} n m made seat next is le =
-    subst (All (λ (g : Growth R). g.number < m)) (sym is) (All-weaker (λ (g : Growth R). g.number < n) (λ (g : Growth R). g.number < m) (λ g lt. omega (arith, le, lt)) made next.below)
-
 pub next_same : {R : Type 0} (n m : ℕ) (made : List (Growth R)) → IsNextOf n made → n ≡ m → IsNextOf m made
 next_same n m made next is = subst (λ k. IsNextOf k made) is next
-
--- the last isn't settled
-pub last_unsettled : {R : Type 0} (number count : ℕ) (state : MarkState) (old new : Seated R) → IsNextOf (number + 1) old.made → SeatIsTold old new count state → count ≤ number → HasUnsettled new
-last_unsettled {R} number count state old new next is le =
-    let last = next.last (omega arith) in
-    let told : new.mark.told.count ≡ count = ap (λ (m : MarkEnd). m.told.count) is.mark in (
-      last.0,
-      subst (λ (made : List (Growth R)). Contains made last.0) (sym is.same.1) last.1,
-      omega (arith, told, le, last.2),
-    )
 
 -- none was made
 next_of_none : {R : Type 0} (made : List (Growth R)) → made ≡ [] → IsNextOf 0 made
@@ -136,10 +119,6 @@ not_failed (answers.Piece start) is = is
 
 -- ---- requests that are cut
 
--- less than a head was read
-cut_head : {R : Type 0} (form : Encoding R) (input rest : Option (List ℕ)) (end : TalkEnd) → IsCutRead 16 input rest end → IsCutRequest form input rest end
-cut_head form input rest end cut = record { part = cut.part; unfinished = inl cut.short; read = cut.read; ended = cut.ended }
-
 -- reading ended within a request
 ends_within : (rest : Option (List ℕ)) (part whole : List ℕ) (end : TalkEnd) → 0 < length whole → EndsReading rest part end → EndsReading rest whole (end_within end)
 ends_within rest part whole Gone some is = (some, is.1)
@@ -173,10 +152,6 @@ untold_cut form live old new input rest part Ended same ends cut = absurd ends
 untold_cut form live old new input rest part (Refused refusal) same ends cut = absurd ends
 untold_cut form live old new input rest part OutputFailed same ends cut = absurd ends
 untold_cut form live old new input rest part Memory same ends cut = absurd ends
-
-pub untold_by_head : {R : Type 0} (form : Encoding R) (live : Phase R) (old new : Seated R) (input rest : Option (List ℕ)) (end : TalkEnd) → new ≡ old
-    → IsCutRead 16 input rest end → IsUntold form live old new input rest end
-untold_by_head form live old new input rest end same cut = untold_cut form live old new input rest cut.part end same cut.ended (cut_head form input rest end cut)
 
 pub untold_by_growth : {R : Type 0} (form : Encoding R) (live : Phase R) (old new : Seated R) (input mid rest : Option (List ℕ)) (end : TalkEnd) → new ≡ old
     → (head : List ℕ) (count : ℕ) → IsRequestHead head (head_of (requests.Grow count)) → Consumes input mid head → IsCutGrowth form count mid rest end

@@ -1,4 +1,5 @@
-use Rattle.std.proofs.Common.{length, max, arith}
+use Rattle.std.proofs.Common.{length, max, arith, sym, subst}
+use Rattle.serve_core.specs.Talks.{IsNextOf}
 use Rattle.serve_core.proofs.Talks.{next_same, next_grown}
 use Rattle.serve_core.proofs.growing.grow_fresh.Goals as goal
 
@@ -9,3 +10,6 @@ returns-clause-numbers g c =
     let known = c.known.ensures.count in
     let most = c.max.ensures in
     next_same (max (length now.pass.entries) c.args.next.now) c.max.result now.made grown (omega (arith, known, most))
+
+pub returns-in-Err-clause-numbers : goal.returns-in-Err-clause-numbers
+returns-in-Err-clause-numbers g c = subst (IsNextOf c.args.next.now) (sym c.in-Err.ensures.list.1.made) c.requires.numbers

@@ -1,6 +1,7 @@
-use Rattle.std.proofs.Common.{◌++◌, ◌∙◌, ap, refl}
+use Rattle.std.proofs.Common.{◌++◌, ◌∙◌, length, ap, refl}
 use Rattle.std.proofs.KnownBytes.{Consumes-trans}
 use Rattle.serve_core.specs.Answers.{answer_bytes}
+use Rattle.serve_core.proofs.Bytes.{few_records}
 use Rattle.serve_core.proofs.Talks.{untold_by_growth}
 use Rattle.serve_core.proofs.talking.exchange.Goals as goal
 
@@ -32,3 +33,8 @@ returns-in-Err-respond-clause-untold g c =
     let cut = c.in-Err-respond.ensures.cut in
     untold_by_growth g.R.Record.form c.args.live.now c.args.seat.now c.respond.new.seat (remaining c.args.requests.now) (remaining c.fill.new.requests)
     (remaining c.respond.new.requests) c.in-Err-respond.end c.in-Err-respond.ensures.same c.fill.new.buffer cut.0 cut.1 c.in_default.ensures cut.2
+
+pub append_to-requires-clause-few : goal.append_to-requires-clause-few
+append_to-requires-clause-few g c κs within =
+    let laws = g.met.R.Record g.world.𝓛 g.world.𝓜 g.world.𝓡 ((λ s x. x), (λ x. x), (λ x. x), λ x. x) in
+    few_records (length c.in-Ok.answered.1.now) g.R.Record.form.width laws.width_in_range.0 c.in-Ok.ensures.few
