@@ -6,7 +6,7 @@ use Rattle.std.specs.Global.{Vec}
 use Rattle.std.proofs.lemmas.Grind.{flat_map-append}
 use Rattle.std.proofs.lemmas.List.{append_assoc, append-nil, length-append, map-append}
 use Rattle.text_core.specs.Text.{Spelling, AreWords, HasOneValue}
-use Rattle.text_core.specs.Numbers.{number_spelling, one_decimal}
+use Rattle.text_core.specs.Numbers.{one_decimal}
 use Rattle.play_core.specs.LineWords.{StartsWithNone}
 use Rattle.drive_core.specs.Given.{pieces_of}
 use Rattle.play_core.specs.LineRuns.{IsLineRun, IsPushed, AreLineRuns, run_words, barred_words, runs_words}
@@ -40,11 +40,6 @@ same_records spelling (r ∷ rs) (s ∷ ss) t u one values others none free is =
     (ap (λ x. x ∷ rs) first ∙ ap (λ xs. s ∷ xs) rest.0, rest.1)
 
 -- ---- one run
-
--- the first word is no number
-pub no_number_first : {R : Type 0} (spelling : Spelling R) (words tail : List (List ℕ)) (run : ℕ × List R) → StartsWithNone (number_spelling 64) words
-    → IsLineRun spelling run → words ≢ run_words spelling.text_of run ++ tail
-no_number_first spelling words tail run none so is = none run.0 (map spelling.text_of run.1 ++ tail) so.small is
 
 no_record_here : {R : Type 0} (spelling : Spelling R) (words tail : List (List ℕ)) (records : List R) → 0 < length records
     → AllByRecursion spelling.is_value records → StartsWithNone spelling words → words ≢ map spelling.text_of records ++ tail

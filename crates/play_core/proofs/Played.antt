@@ -48,13 +48,6 @@ module _ {R : Type 0} (form : Encoding R) (text_of : R → List ℕ) where
     pub fresh : disk ≡ fresh_disk bytes
     pub goes_on : (rest : List ℕ) → ArePartsPlayed form text_of bytes left script.last rest → IsScriptPlayed form text_of script (text ++ rest)
 
-  pub HasPlayed_start : (script : ScriptOf R) (disk : DiskOf) (text : List ℕ) → disk ≡ fresh_disk [] → text ≡ [] → HasPlayed script script.parts disk text
-  HasPlayed_start script disk text fresh none = record {
-    bytes = [];
-    fresh = fresh;
-    goes_on = λ rest so. subst (IsScriptPlayed form text_of script) (ap (λ (t : List ℕ). t ++ rest) (sym none)) so;
-  }
-
   pub HasPlayed_more : (script : ScriptOf R) (left more : List (PartOf R)) (part : PartOf R) (disk new : DiskOf) (text after image own : List ℕ)
       → left ≡ part ∷ more → after ≡ text ++ own → IsPartPlayed form text_of disk part image own → new ≡ fresh_disk image
       → HasPlayed script left disk text → HasPlayed script more new after

@@ -1,11 +1,14 @@
 -- Reading the lines of an input as a script.
-use Rattle.std.proofs.Common.{◌≡◌, ℕ, ◌+◌, ◌≤◌, List, [], ◌∷◌, ◌++◌, length, refl, sym, ap, subst, arith}
-use Rattle.std.specs.List.{AllByRecursion}
-use Rattle.std.proofs.lemmas.List.{append-nil, length-append}
+use Rattle.std.proofs.Common.{◌≡◌, ℕ, ◌+◌, ◌≤◌, List, [], ◌∷◌, ◌++◌, length, map, refl, sym, ap, subst, ◌∙◌, arith}
+use Rattle.std.specs.List.{AllByRecursion, flat_map}
+use Rattle.std.proofs.lemmas.List.{append_assoc, append-nil, length-append, map-append}
+use Rattle.std.proofs.lemmas.List.Concat.{flat_map-append}
+use Rattle.disk_core.specs.declared.choice.Choice.{Choice}
+use Rattle.drive_core.specs.Step.{Step}
 use Rattle.text_core.specs.Text.{Spelling}
 use Rattle.text_core.specs.Lines.{IsFirstLine, AreLines, IsFirstBadLine}
-use Rattle.play_core.specs.StepLine.{Asked, IsStepLineOf, IsStepLine}
-use Rattle.play_core.specs.Script.{AreAsked}
+use Rattle.play_core.specs.StepLine.{Asked, Does, Crashes, IsStepLineOf, IsStepLine}
+use Rattle.play_core.specs.Script.{PartOf, part_asks, script_asks, AreAsked}
 use Rattle.text_core.proofs.LineLemmas.{Continues, Continues_start, Continues_next, no_lines, first_bad_line}
 
 -- so many lines are read, which ask for these, and the rest is left
@@ -57,3 +60,19 @@ pub first_bad_step : {R : Type 0} (spelling : Spelling R) (input : List ℕ) (as
 first_bad_step spelling input asked count text line rest first bad so =
     let counted = ap (λ n. n + 1) so.counted in
     first_bad_line (IsStepLine spelling) input so.read text line rest (count + 1) first bad counted (are_step_lines spelling so.read asked so.each) so.lines
+
+-- ---- one more is asked
+
+pub step_pushed : {R : Type 0} (parts : List (PartOf R)) (last : List (Step R)) (step : Step R)
+    → script_asks (record { parts = parts; last = last ++ step ∷ [] }) ≡ script_asks (record { parts = parts; last = last }) ++ Does step ∷ []
+step_pushed parts last step =
+    let before = flat_map part_asks parts in
+    ap (λ asks. before ++ asks) (map-append Does last (step ∷ [])) ∙ sym (append_assoc before (map Does last) (Does step ∷ []))
+
+pub crash_pushed : {R : Type 0} (parts : List (PartOf R)) (last : List (Step R)) (crash : Choice)
+    → script_asks (record { parts = parts ++ record { steps = last; crash = crash } ∷ []; last = [] }) ≡ script_asks (record { parts = parts; last = last }) ++ Crashes crash ∷ []
+crash_pushed {R} parts last crash =
+    let part : PartOf R = record { steps = last; crash = crash } in
+    let before = flat_map part_asks parts in
+    append-nil (flat_map part_asks (parts ++ part ∷ [])) ∙ flat_map-append part_asks parts (part ∷ []) ∙ ap (λ asks. before ++ asks) (append-nil (part_asks part))
+    ∙ sym (append_assoc before (map Does last) (Crashes crash ∷ []))

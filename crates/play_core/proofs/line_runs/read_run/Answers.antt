@@ -1,4 +1,4 @@
-use Rattle.std.proofs.Common.{◌≡◌, ◌≢◌, [], true, false, ap, sym, ◌∙◌, Err}
+use Rattle.std.proofs.Common.{◌≡◌, ◌≢◌, ◌++◌, [], true, false, refl, ap, sym, ◌∙◌, Err}
 use Rattle.std.proofs.lemmas.List.{append-nil}
 use Rattle.play_core.specs.LineWords.{words_left}
 use Rattle.play_core.specs.LineRuns.{run_words}
@@ -17,3 +17,9 @@ returns-then-not-is_ended-clause-bad g c = λ bad run so is.
     let read = c.in_ok-number.ensures.read in
     let some : words_left c.in_ok-number.rest ≢ [] = λ none. let ended : false ≡ true = sym c.if-not-is_ended.true ∙ c.is_ended.ensures.1 none in cc ended in
     more_behind g.R.TextRecord.spelling _ _ (c.in_ok-number.number, c.in_ok-number.records.items) run laws.one_value read.1 some read.0 c.in_ok-number.ensures.all so is
+
+pub returns-clause-read : goal.returns-clause-read
+returns-clause-read g c =
+    let read = c.in_ok-number.ensures.read in
+    let words = run_words g.R.TextRecord.spelling.text_of (c.in_ok-number.number, c.in_ok-number.records.items) in
+    (read.0, read.1 ∙ ap (λ ws. words ++ ws) (c.if-not-is_ended.ensures.0 refl) ∙ append-nil words)
