@@ -53,12 +53,12 @@ use Rattle.std.below.core.specs.contracts.slice.slice+T.split_at_mut as cut
 use Rattle.std.below.core.proofs.slice.slice+T.split_at_mut.Met as cut_met
 
 -- what follows a part follows what that part follows
-module _ {M : Type 1} {𝓤 : Ura M} (𝓛 : Logic 𝓤) (R T U V : RattleType) (F : T.Denot → R.Denot) (J : U.Denot → V.Denot → T.Denot) (γ γ' γ₁ γ₂ : GName) where
+module _ {M : Type 1} {𝓤 : Ura M} (𝓛 : Logic 𝓤) (R T U V : RattleType) (F : T.Denot → R.Denot) (J : U.Denot → V.Denot → T.Denot) where
   open 𝓛 use {A}
 
-  follows_then_both : ent 𝓤 (sep 𝓤 (sem 𝓛 (follows R T γ γ' F)) (sem 𝓛 (follows_both T U V γ' γ₁ γ₂ J))) (sem 𝓛 (follows_both R U V γ γ₁ γ₂ (λ x y. F (J x y))))
+  follows_then_both : (γ γ' γ₁ γ₂ : GName) → ent 𝓤 (sep 𝓤 (sem 𝓛 (follows R T γ γ' F)) (sem 𝓛 (follows_both T U V γ' γ₁ γ₂ J))) (sem 𝓛 (follows_both R U V γ γ₁ γ₂ (λ x y. F (J x y))))
   unfolding both_by
-  follows_then_both = qed 𝓛 (‵ (follows R T γ γ' F) ∷ ‵ (follows_both T U V γ' γ₁ γ₂ J) ∷ []) ∵
+  follows_then_both γ γ' γ₁ γ₂ = qed 𝓛 (‵ (follows R T γ γ' F) ∷ ‵ (follows_both T U V γ' γ₁ γ₂ J) ∷ []) ∵
       each ! (λ (w : U.Denot × V.Denot). wand 𝓤 (sep 𝓤 (A.res γ₁ (U.coded.code w.0)) (A.res γ₂ (V.coded.code w.1))) (A.res γ (R.coded.code (F (J w.0 w.1))))) (λ w.
       assume ! (‵ (fsep (fres γ₁ (U.coded.code w.0)) (fres γ₂ (V.coded.code w.1)))) $ move ! (0 ∷ 2 ∷ []) $
       use2 𝓛 (‵ (fres γ' (T.coded.code (J w.0 w.1)))) (followed₂ 𝓛 (mem T) (mem U) (mem V) J γ' γ₁ γ₂ w.0 w.1) $ move ! (1 ∷ 0 ∷ []) $
