@@ -169,13 +169,14 @@ module _ {R : Type 0} {buckets : List (Option (List ℕ))} {cells : List ℕ} {k
 
 -- a pass that took in the growth which a note knows
 module _ {R : Type 0} {width room limit : ℕ} {buckets : List (Option (List ℕ))} {cells : List ℕ} {known : List (Option (Growth R))} {starts : List ℕ}
-    {size noted kept : ℕ} {was : Bool} {end : Option (Note (Growth R))} (h : PassHolds width room limit buckets cells known starts size noted kept was end) where
-  pub added : (at place : ℕ) (bucket : Option (List ℕ)) (cell : ℕ) (note : Option (Growth R)) (len : ℕ) → at < 17
+    {size noted kept : ℕ} where
+  pub added : {was : Bool} {end : Option (Note (Growth R))} → PassHolds width room limit buckets cells known starts size noted kept was end
+      → (at place : ℕ) (bucket : Option (List ℕ)) (cell : ℕ) (note : Option (Growth R)) (len : ℕ) → at < 17
       → (length (somes known) < room) × IfSome (get_or buckets at None) (λ names. bucket ≡ Some names)
       × StandsIn (length (somes known)) at place bucket cell × MatchOption note ⊥ (IsNextInLimit width limit (somes known) len) × (was ≡ false)
       → PassHolds width room limit (set buckets at bucket) (cells ++ cell ∷ []) (known ++ note ∷ []) (starts ++ size ∷ []) (size + len) noted kept was end
-  added at place bucket cell None len in17 asked = absurd asked.3
-  added at place bucket cell (Some e) len in17 asked = record {
+  added h at place bucket cell None len in17 asked = absurd asked.3
+  added h at place bucket cell (Some e) len in17 asked = record {
     notes = notes_added h.notes at place bucket cell e in17 asked.1 asked.2;
     list = rw (somes-append known (Some e ∷ [])) (list_added h.list e len asked.0 asked.3);
     reserved = h.reserved;
@@ -183,10 +184,11 @@ module _ {R : Type 0} {width room limit : ℕ} {buckets : List (Option (List ℕ
   }
 
   -- and one that found the end
-  pub ended : (at place : ℕ) (bucket : Option (List ℕ)) (stands : Option (Note (Growth R))) → at < 17
+  pub ended : {was : Bool} {end : Option (Note (Growth R))} → PassHolds width room limit buckets cells known starts size noted kept was end
+      → (at place : ℕ) (bucket : Option (List ℕ)) (stands : Option (Note (Growth R))) → at < 17
       → IfSome (get_or buckets at None) (λ names. bucket ≡ Some names) × IsSpot (length (somes known)) at place × MatchOption bucket ⊥ (EndsIn place stands)
       → PassHolds width room limit (set buckets at bucket) cells known starts size noted kept true stands
-  ended at place bucket stands in17 asked = record {
+  ended h at place bucket stands in17 asked = record {
     notes = notes_kept h.notes at bucket in17 asked.0;
     list = h.list;
     reserved = h.reserved;
