@@ -231,12 +231,15 @@ a_command_waits_for_another_one() (
     cp "$t" "$work/before.cv"
     waiting_words >"$work/rows"
     for wait in --wait --wait=20; do
+        # The first file is held for longer than a second.
+        seconds=2.5
         while IFS='=' read -r words answer; do
             cp "$work/before.cv" "$t"
             rm -f "$work/n.cv"
             is_taken_by_an_append "$t"
-            # It is held for a second, behind which it appends the record 3.
-            (sleep 1 && echo 3 >&8) &
+            # It is held for so long, behind which it appends the record 3.
+            (sleep $seconds && echo 3 >&8) &
+            seconds=1
             exec 8>&-
             # shellcheck disable=SC2046 # each word is one
             second $(echo "$words" | sed "s|FILE|$t|; s|NEW|$work/n.cv|") "$wait" 8>&-

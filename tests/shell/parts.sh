@@ -44,6 +44,42 @@ input_is_taken_in_parts() (
     did 'ok\nok\ncrashed 34\nsize 1\n5\n'
 )
 
+# A library is built that interrupts each second read of standard input before it is made.
+has_interrupted_reads() {
+    has cc 'reads that are interrupted' || return 1
+    cc -std=gnu99 -Wall -Wextra -Werror -O1 -shared -fPIC -x c - -o "$work/interrupts.so" -ldl <<'C'
+#define _GNU_SOURCE
+#include <dlfcn.h>
+#include <errno.h>
+#include <unistd.h>
+
+ssize_t read(int fd, void *bytes, size_t n) {
+    static int reads;
+    if (fd == STDIN_FILENO && __atomic_fetch_add(&reads, 1, __ATOMIC_SEQ_CST) % 2 == 0) {
+        errno = EINTR;
+        return -1;
+    }
+    return ((__typeof__(&read))dlsym(RTLD_NEXT, "read"))(fd, bytes, n);
+}
+C
+}
+
+# A read that a signal interrupts neither ends the input nor fails: it is made again.
+an_input_whose_reads_are_interrupted_is_appended_whole() (
+    has_calls && has_interrupted_reads || exit $is_skipped
+    seq 1 100000 >"$in"
+    for most in 1000 65536; do
+        rm -f "$work/t.cv"
+        run create u64 "$work/t.cv"
+        status=0
+        env "CALLS_PART=$most" "LD_PRELOAD=$work/interrupts.so $work/calls.so" \
+            "$program" append u64 "$work/t.cv" <"$in" >"$out" 2>"$err" || status=$?
+        did 'appended 100000 growths, size 100000\n'
+        run list u64 "$work/t.cv"
+        did_as_in "$in"
+    done
+)
+
 files_are_read_in_parts() (
     has_calls || exit $is_skipped
     seq 1 1000 >"$in"
