@@ -17,13 +17,17 @@ const PIECE_LEN: usize = 65_536;
 const PIECES: usize = 16;
 
 /// How many milliseconds what has come waits for more: so not each line of a slow input is committed for itself.
-const PAUSE: u64 = 200;
+const WAIT_FOR_MORE: u64 = 200;
 
 /// What one read gave. It is empty at the end of the input.
 type Piece = io::Result<Vec<u8>>;
 
 /// Reads, and again where a signal came in between.
-fn read_some<I: Read, E: Wait>(rt: &E, input: &mut I, buffer: &mut [u8]) -> io::Result<usize> {
+fn read_uninterrupted<I: Read, E: Wait>(
+    rt: &E,
+    input: &mut I,
+    buffer: &mut [u8],
+) -> io::Result<usize> {
     for _ in rt.forever() {
         match input.read(buffer) {
             Err(error) if error.kind() == ErrorKind::Interrupted => {}
@@ -37,7 +41,7 @@ fn read_some<I: Read, E: Wait>(rt: &E, input: &mut I, buffer: &mut [u8]) -> io::
 fn read_piece<I: Read, E: Wait>(rt: &E, input: &mut I, buffer: Vec<u8>) -> Piece {
     let mut buffer = buffer;
     buffer.resize(PIECE_LEN, 0)?;
-    let n = read_some(rt, input, buffer.as_mut_slice())?;
+    let n = read_uninterrupted(rt, input, buffer.as_mut_slice())?;
     buffer.truncate(n);
     Ok(buffer)
 }
@@ -70,11 +74,11 @@ fn read_ahead<I: Read + Drop, E: Wait>(
     }
 }
 
-/// What comes behind the bytes that are at hand.
+/// Whether more may come behind the bytes that are at hand.
 #[derive(Clone, Copy)]
-enum Rest {
-    More,
-    Nothing,
+enum InputState {
+    Open,
+    Ended,
     Failed(io::Error),
 }
 
@@ -87,7 +91,7 @@ struct Ahead {
     unsent: Vec<Vec<u8>>,
     /// The bytes at hand.
     bytes: Cursor<Vec<u8>>,
-    rest: Rest,
+    state: InputState,
     /// When the first byte came that was handed on behind the last pause.
     since: Option<Instant>,
 }
@@ -123,7 +127,7 @@ impl Ahead {
             free,
             unsent,
             bytes: Cursor::new(none),
-            rest: Rest::More,
+            state: InputState::Open,
             since: None,
         })
     }
@@ -140,7 +144,9 @@ impl Ahead {
     /// The next piece. The first one of a read is waited for; another as long as the pause isn't over.
     fn next<E: Wait + Clock>(&mut self, rt: &E, is_first: bool) -> Option<Piece> {
         if !is_first {
-            let until = self.since?.checked_add(Duration::from_millis(PAUSE))?;
+            let until = self
+                .since?
+                .checked_add(Duration::from_millis(WAIT_FOR_MORE))?;
             return self.pieces.recv_deadline(rt, until).ok();
         }
         let piece = match self.pieces.recv(rt) {
@@ -155,17 +161,17 @@ impl Ahead {
 
     /// Takes the next piece, and gives the buffer of the last one back. Whether there are bytes at hand then.
     fn takes_next<E: Wait + Clock>(&mut self, rt: &E, is_first: bool) -> bool {
-        if !matches!(self.rest, Rest::More) {
+        if !matches!(self.state, InputState::Open) {
             return false;
         }
         match self.next(rt, is_first) {
-            Some(Ok(bytes)) if bytes.is_empty() => self.rest = Rest::Nothing,
+            Some(Ok(bytes)) if bytes.is_empty() => self.state = InputState::Ended,
             Some(Ok(bytes)) => {
                 let last = mem::replace(&mut self.bytes, Cursor::new(bytes));
                 let _ = self.free.send(rt, last.into_inner());
                 return true;
             }
-            Some(Err(error)) => self.rest = Rest::Failed(error),
+            Some(Err(error)) => self.state = InputState::Failed(error),
             None => self.since = None,
         }
         false
@@ -182,8 +188,8 @@ impl Ahead {
                 return Ok(filled);
             }
             if !self.takes_next(rt, filled == 0) {
-                return match self.rest {
-                    Rest::Failed(error) if filled == 0 => Err(error),
+                return match self.state {
+                    InputState::Failed(error) if filled == 0 => Err(error),
                     _ => Ok(filled),
                 };
             }
