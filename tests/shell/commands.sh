@@ -148,7 +148,7 @@ values_are_words_of_their_own_too() (
     given '1 2\n-3\n4 5\n'
     run load i64 "$t" --seats 1
     did 'loaded 3 growths, size 5\n'
-    run append i64 "$t" --block 3
+    run append i64 "$t" --block 3 --every 5
     did 'appended 1 growths, size 10\n'
     run list i64 "$t" --from 1 --count 3
     did '2\n-3\n4\n'

@@ -111,6 +111,76 @@ whole_blocks_are_committed_while_more_is_waited_for() (
     echo 'appended 3 growths, size 5' | cmp - "$work/first_out"
 )
 
+# An `append` with these words has its input from a pipe.
+is_fed_by_a_pipe() {
+    rm -f "$work/t.cv" "$work/pipe"
+    run create u64 "$work/t.cv"
+    mkfifo "$work/pipe"
+    "$top/crates/cvec/out/cvec" append u64 "$work/t.cv" "$@" <"$work/pipe" >"$work/first_out" 2>"$work/first_err" &
+    exec 8>"$work/pipe"
+}
+
+# It gets ten lines, each when the one before is in the file, and this counts the milliseconds.
+counts_the_time_of_ten_lines() {
+    begun=$(date +%s%N)
+    for k in $(seq 10); do
+        before=$(stat -c %s "$work/t.cv")
+        echo "$k" >&8
+        turns=10000
+        until [ "$(stat -c %s "$work/t.cv")" -gt "$before" ]; do
+            turns=$((turns - 1))
+            [ "$turns" -gt 0 ]
+        done
+    done
+    taken=$((($(date +%s%N) - begun) / 1000000))
+    echo "ten lines take $taken ms"
+}
+
+# Its input ends, and so does it, with so many lines in the file.
+ends_with_lines() {
+    exec 8>&-
+    wait "$!"
+    echo "appended $1 growths, size $1" | cmp - "$work/first_out"
+    [ ! -s "$work/first_err" ]
+    run list u64 "$work/t.cv"
+    seq "$1" | cmp - "$out"
+}
+
+# Each of ten lines waits a fifth of a second without a word. The end of the input is never waited for.
+lines_wait_for_more_as_long_as_is_asked() (
+    is_fed_by_a_pipe
+    counts_the_time_of_ten_lines
+    [ "$taken" -ge 2000 ]
+    ends_with_lines 10
+    is_fed_by_a_pipe --every 1
+    counts_the_time_of_ten_lines
+    [ "$taken" -lt 2000 ]
+    ends_with_lines 10
+    is_fed_by_a_pipe --every=60000
+    before=$(stat -c %s "$work/t.cv")
+    seq 5 >&8
+    sleep 1
+    [ "$(stat -c %s "$work/t.cv")" -eq "$before" ]
+    seq 6 10 >&8
+    begun=$(date +%s)
+    ends_with_lines 10
+    [ $(($(date +%s) - begun)) -lt 30 ]
+)
+
+# From 1 to 60,000: another word is a usage error, and nothing is read or written.
+the_milliseconds_that_lines_wait_are_a_number() (
+    run create u64 "$work/t.cv"
+    given '5\n'
+    for every in 0 60001 x -1 01 1.5 '' 18446744073709551617; do
+        run append u64 "$work/t.cv" "--every=$every"
+        ends_with_usage 'error: the value of --every is a number of milliseconds from 1 to 60000'
+    done
+    run load u64 "$work/t.cv" --every=5
+    ends_with_usage "error: unexpected argument '--every' found"
+    run check u64 "$work/t.cv"
+    did 'ok version 1 width 8 size 0 frames 0 live 0\n'
+)
+
 # The end doesn't wait for an input that stays open.
 a_refused_line_ends_an_append_at_once() (
     run create u64 "$work/t.cv"

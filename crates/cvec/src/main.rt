@@ -20,7 +20,9 @@ use std::sync::Wait;
 use std::thread::Threads;
 use std::time::Clock;
 use text_core::{Refusal, Status, refuse};
-use words_core::{HELP, Look, Usage, usage_of, write_usage, write_wrong};
+use words_core::{
+    FileTask, HELP, Look, Request, Usage, read_words, usage_of, write_usage, write_wrong,
+};
 
 const OUTPUT_BUFFER_LEN: usize = 65_536;
 
@@ -59,6 +61,21 @@ fn run_words<E: Threads + Wait + Clock + Sync + Copy + Send + 'static>(
     answer(rt, threads, words, &meter, &mut output)
 }
 
+/// How many milliseconds what has come of the input waits for more. `None`: it isn't committed while it waits.
+fn pause_of(alloc: Global, words: &[String]) -> Option<u64> {
+    // The words of no other command are read twice.
+    if !words.first().is_some_and(|word| word.as_str() == "append") {
+        return None;
+    }
+    match read_words(alloc, words) {
+        Ok(Request::File(words)) => match words.task {
+            FileTask::Append { every, .. } => Some(every),
+            _ => None,
+        },
+        _ => None,
+    }
+}
+
 /// Answers the words on this output.
 fn answer<W: Write, E: Threads + Wait + Clock + Sync + Copy + Send + 'static>(
     rt: &HostRuntime,
@@ -72,9 +89,7 @@ fn answer<W: Write, E: Threads + Wait + Clock + Sync + Copy + Send + 'static>(
         files: rt,
         progress: meter,
     };
-    // An append commits what has come while it waits for more.
-    let is_append = words.first().is_some_and(|word| word.as_str() == "append");
-    let mut input = Paced::new(threads, rt, is_append);
+    let mut input = Paced::new(threads, rt, pause_of(rt.alloc(), words));
     let ended = run(&system, threads, words, &mut input, output);
     meter.end();
     tell_ended(rt, words, &ended, output.error());

@@ -16,9 +16,6 @@ const PIECE_LEN: usize = 65_536;
 /// The pieces that are read ahead at most.
 const PIECES: usize = 16;
 
-/// How many milliseconds what has come waits for more: so not each line of a slow input is committed for itself.
-const WAIT_FOR_MORE: u64 = 200;
-
 /// What one read gave. It is empty at the end of the input.
 type Piece = io::Result<Vec<u8>>;
 
@@ -92,6 +89,8 @@ struct Ahead {
     /// The bytes at hand.
     bytes: Cursor<Vec<u8>>,
     state: InputState,
+    /// How long what has come waits for more: so not each line of a slow input is committed for itself.
+    pause: Duration,
     /// When the first byte came that was handed on behind the last pause.
     since: Option<Instant>,
 }
@@ -110,6 +109,7 @@ impl Ahead {
     fn begin<E: Threads + Wait + Copy + Send + 'static>(
         threads: &E,
         host: &HostRuntime,
+        pause: Duration,
     ) -> Option<Ahead> {
         let alloc = host.alloc();
         let unsent = buffers(alloc).ok()?;
@@ -128,6 +128,7 @@ impl Ahead {
             unsent,
             bytes: Cursor::new(none),
             state: InputState::Open,
+            pause,
             since: None,
         })
     }
@@ -144,9 +145,7 @@ impl Ahead {
     /// The next piece. The first one of a read is waited for; another as long as the pause isn't over.
     fn next<E: Wait + Clock>(&mut self, rt: &E, is_first: bool) -> Option<Piece> {
         if !is_first {
-            let until = self
-                .since?
-                .checked_add(Duration::from_millis(WAIT_FOR_MORE))?;
+            let until = self.since?.checked_add(self.pause)?;
             return self.pieces.recv_deadline(rt, until).ok();
         }
         let piece = match self.pieces.recv(rt) {
@@ -209,13 +208,12 @@ pub struct Paced<'a, E> {
 }
 
 impl<'a, E: Threads + Wait + Copy + Send + 'static> Paced<'a, E> {
-    /// Read ahead, if that is asked for, and neither memory nor a thread is refused for it. Nothing is read before the first
-    /// read.
-    pub fn new(threads: &'a E, host: &'a HostRuntime, is_ahead: bool) -> Paced<'a, E> {
-        let ahead = if is_ahead {
-            Ahead::begin(threads, host)
-        } else {
-            None
+    /// Read ahead, if a pause of so many milliseconds is asked for, and neither memory nor a thread is refused for it. Nothing
+    /// is read before the first read.
+    pub fn new(threads: &'a E, host: &'a HostRuntime, pause: Option<u64>) -> Paced<'a, E> {
+        let ahead = match pause {
+            Some(millis) => Ahead::begin(threads, host, Duration::from_millis(millis)),
+            None => None,
         };
         Paced {
             threads,

@@ -230,8 +230,11 @@ fn answer_fault<'a, W: Write>(fault: WordsFault, writer: &mut W) -> Outcome<'a>
 {
     let status = match fault {
         WordsFault::Memory => refuse(writer, Refusal::Memory),
-        WordsFault::Usage | WordsFault::Seats | WordsFault::Block | WordsFault::Wait =>
-            Status::Usage,
+        WordsFault::Usage
+        | WordsFault::Seats
+        | WordsFault::Block
+        | WordsFault::Every
+        | WordsFault::Wait => Status::Usage,
     };
     Outcome {
         status,

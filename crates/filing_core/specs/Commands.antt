@@ -228,7 +228,7 @@ module _ {R : Type 0} (form : Encoding R) (old new : Option (List ℕ)) (filed :
 abbrev pub IsCommandRun : {R : Type 0} → Encoding R → Spelling R → FileTask → Option (List ℕ) → Option (List ℕ) → Option (List ℕ) → Result Status Complaint → Type 0
 IsCommandRun form spelling (Create format over) input old new filed = IsCreateRun form old new filed format over
 IsCommandRun form spelling (Load growers) input old new filed = IsLoadRun form old new filed spelling input growers
-IsCommandRun form spelling (Append block) input old new filed = IsAppendRun form old new filed spelling input (non_zero_u32_get block)
+IsCommandRun form spelling (Append block every) input old new filed = IsAppendRun form old new filed spelling input (non_zero_u32_get block)
 IsCommandRun form spelling Check input old new filed = IsCheckRun form old new filed
 IsCommandRun form spelling (Listed from count) input old new filed = IsListRun form old new filed spelling (option_copied from) (option_copied count)
 IsCommandRun form spelling (Count wanted) input old new filed = IsCountRun form old new filed spelling wanted.now

@@ -361,7 +361,9 @@ impl<'a, F: Files<File = File> + Clock + AllocGlobal, P: Progress + Sync> Filing
         match task {
             FileTask::Create { format, over } => self.create::<R, W>(format, over, writer),
             FileTask::Load(seats) => self.load::<R, S, I, W, E>(rt, seats, reader, writer),
-            FileTask::Append(block) => self.append::<R, S, I, W, E>(rt, block, reader, writer),
+            FileTask::Append { block, .. } => {
+                self.append::<R, S, I, W, E>(rt, block, reader, writer)
+            }
             FileTask::Check => self.check::<R, W>(writer),
             FileTask::List { from, count } => self.list::<R, W>(from, count, writer),
             FileTask::Count(record) => self.count::<R, W, E>(rt, record, writer),

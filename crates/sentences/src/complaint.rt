@@ -73,7 +73,7 @@ fn write_fault<W: fmt::Write>(
         FileFault::Input(refusal) => write_input(f, words, refusal),
         FileFault::Open(fault) => write_open(f, words.file, Some(words.record_type), fault),
         FileFault::Vault(fault) => match words.task {
-            FileTask::Load(_) | FileTask::Append(_) => write_growth_fault(f, words.file, fault),
+            FileTask::Load(_) | FileTask::Append { .. } => write_growth_fault(f, words.file, fault),
             FileTask::Serve(_) => write_served_fault(f, words.file, fault),
             _ => write_vault(f, words.file, fault),
         },

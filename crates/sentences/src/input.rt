@@ -50,7 +50,7 @@ pub fn write_word<W: fmt::Write>(
 /// What the file has after a refusal of the input.
 fn stands_after_input(task: FileTask<'_>) -> &'static str {
     match task {
-        FileTask::Append(_) => "it and the lines behind it weren't grown",
+        FileTask::Append { .. } => "it and the lines behind it weren't grown",
         FileTask::Serve(_) => "no client was served",
         _ => "no file was opened, and nothing was grown",
     }
@@ -68,7 +68,7 @@ fn no_memory(task: FileTask<'_>) -> &'static str {
 /// What to do about a growth that is longer than a frame, behind what stands.
 fn about_long_growth(task: FileTask<'_>) -> &'static str {
     match task {
-        FileTask::Append(_) => "; give a smaller --block, or cut the line into shorter ones",
+        FileTask::Append { .. } => "; give a smaller --block, or cut the line into shorter ones",
         _ => "; cut the line into shorter ones",
     }
 }
@@ -76,7 +76,8 @@ fn about_long_growth(task: FileTask<'_>) -> &'static str {
 /// What to do about too long an input, or one growth of it, behind what stands.
 fn about_long_input(task: FileTask<'_>) -> &'static str {
     match task {
-        FileTask::Append(_) => "; that is of one growth: give a smaller --block, or cut its lines",
+        FileTask::Append { .. } =>
+            "; that is of one growth: give a smaller --block, or cut its lines",
         _ => "; `cvec append` takes input of any length",
     }
 }

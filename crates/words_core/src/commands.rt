@@ -105,13 +105,12 @@ fn reading<'a>(alloc: Global, name: &'a str) -> Result<Command<'a>, AllocError> 
 
 /// A command that appends, with the words that are its own.
 fn growing<'a>(alloc: Global, name: &'a str) -> Result<Command<'a>, AllocError> {
-    let own = match name {
-        "load" => valued(alloc, "seats"),
-        "append" => valued(alloc, "block"),
-        "serve" => needed(alloc, "seats"),
-        _ => word(alloc, "NEW"),
-    };
-    with_word(alloc, name, own)
+    match name {
+        "load" => with_word(alloc, name, valued(alloc, "seats")),
+        "append" => with_words(alloc, name, valued(alloc, "block"), valued(alloc, "every")),
+        "serve" => with_word(alloc, name, needed(alloc, "seats")),
+        _ => with_word(alloc, name, word(alloc, "NEW")),
+    }
 }
 
 /// `create`, with the words that are its own.

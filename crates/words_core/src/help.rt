@@ -5,23 +5,23 @@ ghost use Rattle.words_core.specs.Usage.{IsHelpOf};
 
 /// What the words may be, and an example.
 pub const HELP: &[u8] =
-    b"image TYPE                                makes a segment file of group lines, and writes it as hex
-show TYPE                                 lists the records of a segment file, which is given as hex
-play TYPE                                 runs a script of steps over a disk in memory
-create TYPE FILE [--format=1|2] [--over]  makes a file with an empty vector
-load TYPE FILE [--seats=N]                appends a growth for each line of the input
-append TYPE FILE [--block=N]              the same for input of any length, a growth for N lines
-serve TYPE FILE --seats=N                 lets N other programs grow it, through pipes
-check TYPE FILE                           reads the file, and tells what it has
-stat FILE [--json]                        tells what any file has, without reading its records
-list TYPE FILE [--from=I] [--count=N]     writes its records, one a line
-count TYPE FILE --record=R                counts the records that equal R
-find TYPE FILE --record=R                 writes the position of the first one
-set TYPE FILE START --records=R,R,..      replaces the records from START on
-resize TYPE FILE N --record=R             makes the length N, new records are R
-clear TYPE FILE                           takes all records away
-fold TYPE FILE                            puts live changes into their home bytes
-upgrade TYPE FILE NEW                     copies a vector to a new file of version 2
+    b"image TYPE                                 makes a segment file of group lines, and writes it as hex
+show TYPE                                  lists the records of a segment file, which is given as hex
+play TYPE                                  runs a script of steps over a disk in memory
+create TYPE FILE [--format=1|2] [--over]   makes a file with an empty vector
+load TYPE FILE [--seats=N]                 appends a growth for each line of the input
+append TYPE FILE [--block=N] [--every=MS]  the same for input of any length, a growth for N lines
+serve TYPE FILE --seats=N                  lets N other programs grow it, through pipes
+check TYPE FILE                            reads the file, and tells what it has
+stat FILE [--json]                         tells what any file has, without reading its records
+list TYPE FILE [--from=I] [--count=N]      writes its records, one a line
+count TYPE FILE --record=R                 counts the records that equal R
+find TYPE FILE --record=R                  writes the position of the first one
+set TYPE FILE START --records=R,R,..       replaces the records from START on
+resize TYPE FILE N --record=R              makes the length N, new records are R
+clear TYPE FILE                            takes all records away
+fold TYPE FILE                             puts live changes into their home bytes
+upgrade TYPE FILE NEW                      copies a vector to a new file of version 2
 
 'cvec help COMMAND' tells of each, 'cvec version' of the program. --quiet: no progress on the terminal.
 --wait[=SECONDS]: where another command has FILE, its end is waited for, so long or for good.
@@ -152,11 +152,12 @@ large (too many lines; nothing is grown), closed, full, too long, broken (the de
 stand), memory, and the disk's faults.
 ";
 
-const APPEND: &[u8] = b"cvec append TYPE FILE [--block=N] [--quiet] < LINES
+const APPEND: &[u8] = b"cvec append TYPE FILE [--block=N] [--every=MS] [--quiet] < LINES
 
 Appends growths of an input of any length, and puts them on the device some lines at a time. The records of N lines, else of
-one, are a growth; the last one may have fewer lines. Where a line is refused, the growths before the one that it is in
-stand, and standard error tells of how many lines they are.
+one, are a growth; the last one may have fewer lines. Lines that have come wait for more MS milliseconds (1 to 60000, else
+200), and no longer than until there is a MiB. Where a line is refused, the growths before the one that it is in stand, and
+standard error tells of how many lines they are.
 
   $ seq 1 1000000 | cvec append u64 t.cv --block=1000
   appended 1000 growths, size 1000000

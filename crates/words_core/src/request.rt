@@ -65,8 +65,12 @@ pub enum FileTask<'a> {
     },
     /// Growths of the input are appended, by so many growers.
     Load(u16),
-    /// Growths of an input of any length are appended, each of so many lines.
-    Append(NonZeroU32),
+    /// Growths of an input of any length are appended, each of so many lines. Lines that have come wait for more so
+    /// many milliseconds at most.
+    Append {
+        block: NonZeroU32,
+        every: u64,
+    },
     /// The file is read, and what it has is told.
     Check,
     /// Records are listed: from which position on, and how many at most.

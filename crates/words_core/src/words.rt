@@ -21,6 +21,11 @@ use text_core::TextRecord;
 /// The most growers that `load` takes, and the most clients of `serve`.
 const SEATS_LIMIT: u64 = 64;
 
+/// The milliseconds that lines of `append` wait for more where no word says how many, and the most that one may say.
+const EVERY: u64 = 200;
+
+const EVERY_LIMIT: u64 = 60_000;
+
 /// Why words ask for nothing.
 #[derive(Clone, Copy, Debug, PartialEq, Eq)]
 pub enum WordsFault {
@@ -30,6 +35,8 @@ pub enum WordsFault {
     Seats,
     /// The number of lines of a block is none from 1 to 4294967295.
     Block,
+    /// The number of milliseconds that lines wait for more is none from 1 to 60000.
+    Every,
     /// The time to wait is no number.
     Wait,
     /// A growth of memory was refused.
@@ -111,6 +118,21 @@ fn block_of(word: Option<&str>) -> Result<NonZeroU32, WordsFault> {
     NonZeroU32::new(lines).ok_or(WordsFault::Block)
 }
 
+/// How many milliseconds a word has lines wait for more: a number from 1 to 60000.
+fn every_of(word: Option<&str>) -> Result<u64, WordsFault>
+    ensures none { IfNone word.entry (result ≡ Ok 200) }
+    ensures number { IfSome word.entry (λ text. IfOk result (λ every. text.now ≡ decimal every)) }
+    ensures within { IfOk result (λ every. (0 < every) × (every ≤ 60000)) }
+{
+    let Some(word) = word else {
+        return Ok(EVERY);
+    };
+    match u64::parse(word.as_bytes()) {
+        Some(every) if 1 <= every && every <= EVERY_LIMIT => Ok(every),
+        _ => Err(WordsFault::Every),
+    }
+}
+
 /// For how many seconds a word asks to wait.
 fn wait_of(word: Option<&str>) -> Result<u64, WordsFault>
     ensures none { IfNone word.entry (result ≡ Ok 0) }
@@ -172,7 +194,10 @@ fn worded_task<'a>(name: &str, words: &ArgMatches<'a>) -> Option<FileTask<'a>> {
 /// The task that appends, by the command's name.
 fn growing_task<'a>(name: &str, words: &ArgMatches<'a>) -> Result<FileTask<'a>, WordsFault> {
     match name {
-        "append" => Ok(FileTask::Append(block_of(words.get_str("block"))?)),
+        "append" => Ok(FileTask::Append {
+            block: block_of(words.get_str("block"))?,
+            every: every_of(words.get_str("every"))?,
+        }),
         "load" => Ok(FileTask::Load(seats_of(words.get_str("seats"))?)),
         _ => Ok(FileTask::Serve(seats_of(words.get_str("seats"))?)),
     }
