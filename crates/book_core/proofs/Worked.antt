@@ -1,6 +1,6 @@
 -- Worked values of definitions that stand in conclusions alone.
 use Rattle.std.proofs.Common.{◌≡◌, ℕ, zero, suc, ◌+◌, ◌<◌, List, [], ◌∷◌, false, Some, Ok, Err, ap}
-use Rattle.std.proofs.Common.{sym, ◌∙◌, refl, length, take, drop, slice_get, get_or, sum_by, inl, inr, arith, Bor, None, codes}
+use Rattle.std.proofs.Common.{sym, subst, ◌∙◌, ◌*◌, ◌⊎◌, refl, length, take, drop, slice_get, get_or, sum_by, inl, inr, arith, Bor, None, codes}
 use Rattle.std.specs.Fmt.{digits}
 use Rattle.std.specs.Prelude.{◌^◌, ◌≤◌}
 use Rattle.std.proofs.lemmas.List.{length-drop}
@@ -12,9 +12,11 @@ use Rattle.book_core.specs.declared.fault.GrowFault.{GrowFault}
 use Rattle.book_core.specs.declared.fault.GrowFault.TheVariants as grow
 use Rattle.book_core.specs.declared.fault.SettleFault.{SettleFault}
 use Rattle.book_core.specs.declared.fault.SettleFault.TheVariants as settle
+use Rattle.book_core.specs.declared.mark.Raise.{Raise}
+use Rattle.book_core.specs.declared.mark.Reading.{Reading}
 use Rattle.book_core.specs.declared.mark.MarkState.{MarkState}
 use Rattle.book_core.specs.declared.mark.MarkState.TheVariants.{Running, Ended, Broken}
-use Rattle.book_core.specs.Marks.{MarkName, MarkEnd, nothing_told, word_of, Rises}
+use Rattle.book_core.specs.Marks.{MarkName, MarkEnd, HasAllRaises, IsRaiseOf, nothing_told, raised_to, word_of, Rises}
 use Rattle.book_core.specs.Lists.{Phase, Seated, IsFirstOf, IsPlaceIn, IsRestOfPiece, IsSeatOf, joined_pieces, own_of, seat_list, seat_pieces, StandInList}
 use Rattle.book_core.specs.Pieces.{from_place, IsLeftOf}
 use Rattle.book_core.specs.Snapshots.{AreEven, AreFoundAt, HasRoomFor, HaveStarts, IsFoundAt, IsStepWith, Shown, ShowsSeat, full_of, list_in, pieces_in}
@@ -54,6 +56,28 @@ joined_three = refl
 words : (word_of (record { count = 5; state = Running }) ≡ 20) × (word_of (record { count = 5; state = Ended }) ≡ 21) × (word_of (record { count = 5; state = Broken }) ≡ 22)
 words = (refl, refl, refl)
 
+-- ---- its raises: to one growth at the time 4, then to three at 9
+
+abbrev raises_to_three : List Raise
+raises_to_three = record { count = 3; at = 9 } ∷ record { count = 1; at = 4 } ∷ []
+
+raised_to_three : raised_to raises_to_three ≡ 3
+raised_to_three = refl
+
+earlier_raise : IsRaiseOf raises_to_three (record { count = 1; at = 4 })
+earlier_raise = inr (inl refl)
+
+-- each of the two is one, and no other count or time is
+other_raise : (raise : Raise) → IsRaiseOf raises_to_three raise → 4 * raise.count + raise.at ≡ 21 ⊎ (4 * raise.count + raise.at ≡ 8)
+other_raise raise is = elim is [
+  | inl newest ↦ inl (sym (ap (λ (r : Raise). 4 * r.count + r.at) newest))
+  | inr earlier ↦ elim earlier [ inl first ↦ inr (sym (ap (λ (r : Raise). 4 * r.count + r.at) first)) | inr none ↦ absurd none ]
+]
+
+-- who has the newest alone lacks the earlier one
+lacks_earlier : HasAllRaises (record { count = 3; at = 9 } ∷ []) raises_to_three → ⊥
+lacks_earlier has = elim (has (record { count = 1; at = 4 }) earlier_raise) [ inl same ↦ omega (arith, ap (λ (r : Raise). r.count) same) | inr none ↦ none ]
+
 -- ---- what a seat is told
 
 -- the second growth isn't settled where one is, and the first is even where the mark is broken
@@ -74,7 +98,7 @@ module _ (name : Name) (mark : MarkName) (held : Held) where
   of = record { name = name; room = 2; limit = 2 ^ 32 }
 
   abbrev seat : List (Growth ℕ) → List (Growth ℕ) → Seated ℕ
-  seat made known = record { id = 0; made = made; pass = record { of = of; entries = known; ended = false; strayed = false; held = held }; mark = record { of = mark; told = nothing_told } }
+  seat made known = record { id = 0; made = made; pass = record { of = of; entries = known; ended = false; strayed = false; held = held }; mark = record { of = mark; told = nothing_told; raises = [] } }
 
   abbrev mine : ℕ → Growth ℕ
   mine serial = record { number = serial; start = serial; seat = 0; serial = serial; records = 7 ∷ [] }
@@ -108,14 +132,24 @@ module _ (name : Name) (mark : MarkName) (held : Held) where
   told_none_made count state told = let same = ap length told.same.1 in omega arith
 
   told_nothing : (count : ℕ) (state : MarkState) → SeatIsTold (seat [] []) (seat [] []) count state → count ≡ 0
-  told_nothing count state told = sym (ap (λ (end : MarkEnd). end.told.count) told.mark)
+  told_nothing count state told = sym (ap (λ (r : Reading). r.count) told.told)
 
   -- once one growth was told, none is told of no growth, and the seat is no new one
   abbrev told_one : Seated ℕ
-  told_one = record (seat [] []) { mark = record { of = mark; told = record { count = 1; state = Running } } }
+  told_one = record (seat [] []) { mark = record { of = mark; told = record { count = 1; state = Running }; raises = record { count = 1; at = 9 } ∷ [] } }
 
   told_no_less : (new : Seated ℕ) (state : MarkState) → SeatIsTold told_one new 0 state → ⊥
   told_no_less new state told = let up = told.rises.count in omega arith
+
+  -- it has seen a raise to just that, and doesn't forget it
+  told_by_a_raise : (count : ℕ) → SeatIsTold (seat [] []) told_one count Running → count ≡ 1
+  told_by_a_raise count told = sym told.raised
+
+  told_without_a_raise : (old new : Seated ℕ) (count : ℕ) → new.mark.raises ≡ [] → SeatIsTold old new (count + 1) Running → ⊥
+  told_without_a_raise old new count none told = omega (arith, ap raised_to none, told.raised)
+
+  no_raise_forgotten : (new : Seated ℕ) (count : ℕ) → new.mark.raises ≡ [] → SeatIsTold told_one new count Running → ⊥
+  no_raise_forgotten new count none told = subst (λ (raises : List Raise). IsRaiseOf raises (record { count = 1; at = 9 })) none (told.seen (record { count = 1; at = 9 }) (inl refl))
 
   not_new : IsNewSeat of mark 0 told_one → ⊥
   not_new new = let count = ap (λ (end : MarkEnd). end.told.count) new.marked in omega arith

@@ -29,7 +29,7 @@ module _ (name : Name) (mark : MarkName) where
     id = 0;
     made = made;
     pass = record { of = live.directory; entries = known; ended = false; strayed = false; held = record { buckets = []; cells = [] } };
-    mark = record { of = mark; told = nothing_told };
+    mark = record { of = mark; told = nothing_told; raises = [] };
   }
 
   -- a growth of the seat 1, and two of the seat 0 behind it

@@ -17,7 +17,7 @@ pub record IsNewSeat {R : Type 0} (directory : Identity) (mark : MarkName) (id :
   pub made : seat.made ≡ []
   pub of : seat.pass.of ≡ directory
   pub knows : seat.pass.entries ≡ []
-  pub marked : seat.mark ≡ record { of = mark; told = nothing_told }
+  pub marked : seat.mark ≡ record { of = mark; told = nothing_told; raises = [] }
 
 -- seats with the ids 0, 1, ..
 abbrev pub AreNewSeats : {R : Type 0} → Identity → MarkName → List (Seated R) → Type 0

@@ -11,7 +11,7 @@ use Rattle.book_core.specs.declared.fault.SettleFault.{SettleFault}
 use Rattle.book_core.specs.declared.mark.MarkState.{MarkState}
 use Rattle.book_core.specs.declared.mark.Reading.{Reading}
 use Rattle.book_core.specs.Faults.{state_of}
-use Rattle.book_core.specs.Marks.{Rises, IsOver}
+use Rattle.book_core.specs.Marks.{HasAllRaises, Rises, IsOver, raised_to}
 use Rattle.book_core.specs.Lists.{Phase, opening_of, Seated, own_of, HasJustItsOwn}
 
 -- the same seat, which made no growth and knows at least what it knew
@@ -121,10 +121,14 @@ IsFillRefusal width live seat n TooLong = HasJustItsOwn seat × PhaseHasRoom liv
 IsFillRefusal width live seat n Memory = HasJustItsOwn seat × PhaseHasRoom live seat × (size_of live seat < n) × IsBlockLength width (n - size_of live seat) × (n ≤ record_limit)
 IsFillRefusal width live seat n Empty = ⊥
 
--- the seat was told this by the mark, and nothing else changed. No count falls, and what is over doesn't run again
+-- the seat was told this by the mark, by the newest of the raises that it has seen then, and nothing else changed. It has seen
+-- those that it had seen. No count falls, and what is over doesn't run again
 pub record SeatIsTold {R : Type 0} (old new : Seated R) (count : ℕ) (state : MarkState) : Type 0 where
   pub same : (new.id ≡ old.id) × (new.made ≡ old.made) × (new.pass ≡ old.pass)
-  pub mark : new.mark ≡ record { of = old.mark.of; told = record { count = count; state = state } }
+  pub mark : new.mark.of ≡ old.mark.of
+  pub told : new.mark.told ≡ record { count = count; state = state }
+  pub raised : raised_to new.mark.raises ≡ count
+  pub seen : HasAllRaises new.mark.raises old.mark.raises
   pub rises : Rises old.mark.told (record { count = count; state = state })
 
 -- the growth of that number is settled, or no more will be

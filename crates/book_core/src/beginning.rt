@@ -59,7 +59,7 @@ fn seats_of<R: Record>(
     writer: &mut Writer,
     count: u16,
 ) -> Option<Vec<Seat<R>>>
-    requires mark { writer.old ≡ record { of = mark.now; told = nothing_told } }
+    requires mark { writer.old ≡ record { of = mark.now; told = nothing_told; raises = [] } }
     ensures same { writer.new ≡ writer.old }
     ensures seats { IfSome result (λ seats.
         (length seats.items ≡ count) × AreNewSeats directory.now mark.now seats.items) }
@@ -87,7 +87,7 @@ impl<R: Record> Parts<R> {
         ensures pass { IfSome result (λ parts.
             (parts.pass.of ≡ parts.directory) × (parts.pass.entries ≡ [])) }
         ensures mark { IfSome result (λ parts.
-            parts.writer ≡ record { of = parts.mark; told = nothing_told }) }
+            parts.writer ≡ record { of = parts.mark; told = nothing_told; raises = [] }) }
     {
         let doors = doors_of(alloc, seats)?;
         let Ok(directory) = Directory::with_limit(alloc, room, limit) else {
@@ -129,7 +129,7 @@ impl<R: Record> Live<R> {
         ensures pass { IfOk result (λ begun.
             (begun.pass.of ≡ begun.live.directory) × (begun.pass.entries ≡ [])) }
         ensures mark { IfOk result (λ begun.
-            begun.mark ≡ record { of = begun.live.mark; told = nothing_told }) }
+            begun.mark ≡ record { of = begun.live.mark; told = nothing_told; raises = [] }) }
         ensures seat_count { IfOk result (λ begun. begun.live.seat_count ≡ seats) }
         ensures may { OnOk result (MayBegin room seats) }
         ensures refused { IfErr result (λ refused.

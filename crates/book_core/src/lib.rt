@@ -34,6 +34,6 @@ pub use appender::Appender;
 pub use beginning::{Begun, SEAT_LIMIT};
 pub use fault::{GrowFault, SettleFault};
 pub use live::Live;
-pub use mark::{Mark, MarkState, Reader, Reading, Writer};
+pub use mark::{Mark, MarkState, Moment, Raise, Reader, Reading, Writer};
 pub use seat::{Receipt, Seat};
 pub use snapshot::{Records, Snapshot};

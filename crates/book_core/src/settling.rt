@@ -3,7 +3,7 @@
 ghost use Rattle.std.specs.Prelude.{◌≡◌, ◌<◌, ◌≤◌, false, true, ◌↔◌, IsTrue, length, slice_get, Some, IfErr, MatchOption, MatchResult};
 ghost use Rattle.directory_core.specs.Chain.{IsPrefix, Agree, IsLongerOf};
 ghost use Rattle.directory_core.specs.Known.{KnowsAll};
-ghost use Rattle.book_core.specs.Marks.{Rises};
+ghost use Rattle.book_core.specs.Marks.{HasAllRaises, Rises};
 ghost use Rattle.book_core.specs.Lists.{IsSeatOf};
 ghost use Rattle.book_core.specs.Growing.{SeatLearns};
 
@@ -83,9 +83,9 @@ impl<R: Record> Live<R> {
         seat.pass.meet(pass);
     }
 
-    /// Takes in a seat that is given up, for who settles the growths: the pass learns what the seat knew, and what
-    /// the seat was told rises to what the mark tells. A pass that knows all has nothing to learn: the seat knew, and
-    /// made, no growth but those.
+    /// Takes in a seat that is given up, for who settles the growths: the pass learns what the seat knew, what the seat
+    /// was told rises to what the mark tells, and each raise that it has seen is one of the mark's. A pass that knows all has
+    /// nothing to learn: the seat knew, and made, no growth but those.
     pub fn take_in(&self, pass: &mut Pass<R>, mark: &mut Writer, seat: Seat<R>)
         requires of { (pass.old.of ≡ self.now.directory) × (mark.old.of ≡ self.now.mark) × IsSeatOf self.now seat }
         ensures of { pass.new.of ≡ self.now.directory }
@@ -95,6 +95,7 @@ impl<R: Record> Live<R> {
         ensures all { KnowsAll pass.old → length seat.pass.entries ≤ length pass.old.entries }
         ensures same { mark.new ≡ mark.old }
         ensures told { Rises seat.mark.told mark.old.told }
+        ensures seen { HasAllRaises mark.old.raises seat.mark.raises }
     {
         let (mut known, reader) = seat.into_parts();
         pass.meet(&mut known);

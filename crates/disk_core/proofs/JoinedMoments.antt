@@ -35,7 +35,7 @@ LeftSince-between states t m image le inside left =
     ]
 
 -- since the newest moment there is the newest state alone
-LeftSince-clock : (states : List State) (image : List ℕ) → LeftSince states (clock states) image → IsImage (now states) image
+pub LeftSince-clock : (states : List State) (image : List ℕ) → LeftSince states (clock states) image → IsImage (now states) image
 LeftSince-clock [] image left = absurd left
 LeftSince-clock (s ∷ earlier) image left = elim left.1 [ inl here ↦ here | inr before ↦ absurd (past before) ]
   where

@@ -17,6 +17,13 @@ loop-id-preserved g c =
         made = ap (λ s. s.made) c.of.ensures;
         of = ap (λ s. s.pass.of) c.of.ensures ∙ c.in-Ok-pass.ensures.0;
         knows = ap (λ s. s.pass.entries) c.of.ensures ∙ c.in-Ok-pass.ensures.1;
-        marked = ap (λ s. s.mark) c.of.ensures ∙ (λ k. record { of = c.split.ensures.reader.0 k; told = (c.split.ensures.reader.1 ∙ ap (λ w. w.told) (i.0 ∙ c.requires.mark)) k });
+        marked =
+            let writer = i.0 ∙ c.requires.mark in
+            let reader = c.split.ensures.reader in
+            ap (λ s. s.mark) c.of.ensures ∙ (λ k. record {
+              of = reader.0 k;
+              told = (reader.1 ∙ ap (λ w. w.told) writer) k;
+              raises = (reader.2 ∙ ap (λ w. w.raises) writer) k;
+            });
       })),
     )
