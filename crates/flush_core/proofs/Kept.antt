@@ -20,11 +20,7 @@ use Rattle.directory_core.specs.Chain.{total, joined}
 use Rattle.directory_core.specs.Known.{Known}
 use Rattle.record_core.specs.Limits.{record_limit}
 use Rattle.book_core.specs.Marks.{MarkEnd, nothing_told}
-use Rattle.flush_core.specs.Flusher.{FlusherOf, IsFlusher, OpensToJob, list_to, read_as, tally_with}
-
--- what contracts see of a flusher that has these
-abbrev pub flusher_of : {R D : Type 0} → Encoding R → PenOf D → Known R → MarkEnd → ℕ → ℕ → ℕ → FlusherOf R D
-flusher_of form pen pass mark before taken settled = record { pen = pen; pass = pass; mark = mark; opening = read_as form (take before pen.vector); before = before; taken = taken; settled = settled }
+use Rattle.flush_core.specs.Flusher.{FlusherOf, IsFlusher, OpensToJob, flusher_of, list_to, read_as, tally_with}
 
 module _ {R : Type 0} (form : Encoding R) where
   -- ---- the records from before the phase
@@ -57,11 +53,11 @@ module _ {R : Type 0} (form : Encoding R) where
         read_as-whole before pen.vector records (ap length same ∙ there.2) are
 
     pub begins : (pass : Known R) (mark : MarkEnd) → form.width ≡ pen.shape.width → pen.job ≡ None → pen.tally.size ≡ before
-        → before + pass.of.limit ≤ record_limit → mark.told ≡ nothing_told
+        → before + pass.of.limit ≤ record_limit → (mark.told ≡ nothing_told) × (mark.raises ≡ [])
         → IsFlusher keeps form (flusher_of form pen pass mark before 0 0)
     begins pass mark width idle size limit told = record {
       one_width = width;
-      told_settled = let none = ap (λ (r : _). r.count) told in omega (arith, none);
+      told_settled = let none = ap (λ (r : _). r.count) told.0 in omega (arith, none);
       settled_taken = omega arith;
       taken_known = omega arith;
       idle_settled = λ _. refl;
@@ -111,7 +107,19 @@ module _ {R D : Type 0} {form : Encoding R} {keeps : Type 0} {f : FlusherOf R D}
       opening : keeps' → read_as form (take f.before pen.vector) ≡ f.opening
       opening model = opening_kept pen settled (back model) (file model)
 
-  -- the last tick of a job: what was taken is settled
+  -- behind the last tick of a job the file has what was taken
+  ticked_cells : (pen : PenOf D) (tick : Ticked) → tick ≡ Done → IsTicked f.pen pen tick → FileTicked f.pen pen tick → keeps → AreCellsOf form pen.vector (list_to f f.taken)
+  ticked_cells pen tick done ticked file model =
+      let was = subst (IsTicked f.pen pen) done ticked in
+      let gains = subst (λ (j : _). IfSome j (λ job. FileGains job.frame f.pen pen)) was.1 (subst (FileTicked f.pen pen) done file) in
+      subst (λ (cells : List (List ℕ)). AreCellsOf form cells (list_to f f.taken))
+      (ap (vector_with f.pen.shape f.pen.vector) was.1 ∙ sym gains.vector_is) (is.file_then model)
+
+  -- and the records from before the phase
+  pub ticked_opening : (pen : PenOf D) (tick : Ticked) → tick ≡ Done → IsTicked f.pen pen tick → FileTicked f.pen pen tick → keeps → read_as form (take f.before pen.vector) ≡ f.opening
+  ticked_opening pen tick done ticked file model = opening_kept pen f.taken model (ticked_cells pen tick done ticked file model)
+
+  -- what was taken is settled then
   pub ticked_kept : (pen : PenOf D) (tick : Ticked) (keeps' : Type 0) → tick ≡ Done → IsTicked f.pen pen tick → (keeps' → FileTicked f.pen pen tick) → (keeps' → keeps)
       → IsFlusher keeps' form (flusher_of form pen f.pass f.mark f.before f.taken f.taken)
   ticked_kept pen tick keeps' done ticked file back =
@@ -121,11 +129,7 @@ module _ {R D : Type 0} {form : Encoding R} {keeps : Type 0} {f : FlusherOf R D}
       let order = is.settled_taken in
       let size : pen.tally.size ≡ f.before + total (take f.taken f.pass.entries) =
       ap (λ (t : Tally). t.size) counts.tally_is ∙ sym (ap (λ (j : _). (tally_with f.pen.tally j).size) was.1) ∙ is.size_then in
-      let cells : keeps' → AreCellsOf form pen.vector (list_to f f.taken) =
-      λ model.
-      let gains = subst (λ (j : _). IfSome j (λ job. FileGains job.frame f.pen pen)) was.1 (subst (FileTicked f.pen pen) done (file model)) in
-      subst (λ (cells : List (List ℕ)). AreCellsOf form cells (list_to f f.taken))
-      (ap (vector_with f.pen.shape f.pen.vector) was.1 ∙ sym gains.vector_is) (is.file_then (back model)) in
+      let cells : keeps' → AreCellsOf form pen.vector (list_to f f.taken) = λ model. ticked_cells pen tick done ticked (file model) (back model) in
       kept pen f.taken f.taken keeps' counts.shape_same (omega arith) (omega arith) is.taken_known (λ _. refl) size
       (ap (λ (j : _). (tally_with pen.tally j).size) counts.job_done ∙ size) back cells
       (λ model. subst (λ (cells : List (List ℕ)). AreCellsOf form cells (list_to f f.taken)) (sym (vector_after-none pen counts.job_done)) (cells model))

@@ -1,6 +1,7 @@
 pub mod Kept
 mod FoldsBehind
 pub mod Goes
+pub mod Told
 mod Learned
 mod LogLeft
 mod ServeFaults

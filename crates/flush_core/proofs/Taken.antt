@@ -18,9 +18,9 @@ use Rattle.pen_core.specs.Refusals.{IsRefusal, group_lines, room_lines, is_full}
 use Rattle.block_core.specs.Growth.{Growth}
 use Rattle.directory_core.specs.Chain.{total}
 use Rattle.directory_core.specs.Chain as chains
-use Rattle.flush_core.specs.Flusher.{FlusherOf, IsFlusher, list_to, untaken, tally_with}
+use Rattle.flush_core.specs.Flusher.{FlusherOf, IsFlusher, flusher_of, list_to, untaken, tally_with}
 use Rattle.flush_core.proofs.Next.{joined-take_on, total-take_on}
-use Rattle.flush_core.proofs.Kept.{flusher_of, kept}
+use Rattle.flush_core.proofs.Kept.{kept}
 
 -- ---- what it keeps
 

@@ -1,5 +1,7 @@
 -- What contracts see of a flusher.
 use Rattle.std.specs.Prelude.{◌≡◌, ◌⊎◌, ℕ, ◌+◌, ◌≤◌, List, [], ◌∷◌, ◌++◌, length, take, drop, map, Option, Some, None, option_to_list}
+use Rattle.disk_core.specs.State.{State}
+use Rattle.disk_core.specs.Moments.{LeftSince, clock}
 use Rattle.record_core.specs.Bytes.{Encoding}
 use Rattle.segment_core.specs.declared.tally.Tally.{Tally}
 use Rattle.segment_core.specs.Tally.{after}
@@ -11,7 +13,8 @@ use Rattle.directory_core.specs.Chain.{total, joined}
 use Rattle.directory_core.specs.Chain as chains
 use Rattle.directory_core.specs.Known.{Known}
 use Rattle.record_core.specs.Limits.{record_limit}
-use Rattle.book_core.specs.Marks.{MarkEnd}
+use Rattle.book_core.specs.declared.mark.Raise.{Raise}
+use Rattle.book_core.specs.Marks.{MarkEnd, IsRaiseOf}
 use Rattle.book_core.specs.Lists.{Phase, opening_of}
 
 -- Its pen, the growths that it knows, its end of the mark, the records from before the phase and how many they are,
@@ -38,6 +41,33 @@ abbrev pub read_as : {R : Type 0} → Encoding R → List (List ℕ) → List R
 read_as form [] = []
 read_as form (cell ∷ cells) = option_to_list (form.value_of cell) ++ read_as form cells
 
+-- what contracts see of one that has these
+abbrev pub flusher_of : {R D : Type 0} → Encoding R → PenOf D → Known R → MarkEnd → ℕ → ℕ → ℕ → FlusherOf R D
+flusher_of form pen pass mark before taken settled = record {
+  pen = pen;
+  pass = pass;
+  mark = mark;
+  opening = read_as form (take before pen.vector);
+  before = before;
+  taken = taken;
+  settled = settled;
+}
+
+-- ---- what a crash may leave
+
+-- The image opens to the records from before the phase and the first growths that it knows, those that were settled
+-- among them.
+pub record OpensToFirst {R D : Type 0} (form : Encoding R) (settled : ℕ) (f : FlusherOf R D) (image : List ℕ) : Type 0 where
+  pub count : ℕ
+  pub at_least : settled ≤ count
+  pub known : count ≤ length f.pass.entries
+  pub opens : OpensTo form image (list_to f count)
+
+-- What the mark told by these raises stands: whatever a crash at some moment since a raise might have left opens to the
+-- records from before the phase and the first growths, so many of them at least as the raise told.
+abbrev pub ToldIsLeft : {R D : Type 0} → Encoding R → List State → FlusherOf R D → List Raise → Type 0
+ToldIsLeft form states f raises = (raise : Raise) → IsRaiseOf raises raise → (image : List ℕ) → LeftSince states raise.at image → OpensToFirst form raise.count f image
+
 -- ---- what holds of one
 
 -- what the frames leave once the job in hand is done
@@ -60,6 +90,16 @@ pub record IsFlusher {R D : Type 0} (keeps : Type 0) (form : Encoding R) (f : Fl
   pub file_is : keeps → AreCellsOf form f.pen.vector (list_to f f.settled)
   pub file_then : keeps → AreCellsOf form (vector_after f.pen) (list_to f f.taken)
 
+-- a raise told of growths that are settled, and its time, by the disk's clock, has come
+pub record IsPastRaise {R D : Type 0} (states : List State) (f : FlusherOf R D) (raise : Raise) : Type 0 where
+  pub settled : raise.count ≤ f.settled
+  pub past : raise.at ≤ clock states
+
+-- what its mark told is settled, and stands
+pub record HasTold {R D : Type 0} (keeps : Type 0) (states : List State) (form : Encoding R) (f : FlusherOf R D) : Type 0 where
+  pub past : (raise : Raise) → IsRaiseOf f.mark.raises raise → IsPastRaise states f raise
+  pub left : keeps → ToldIsLeft form states f f.mark.raises
+
 -- it is of that phase
 pub record IsFlusherOf {R D : Type 0} (keeps : Type 0) (live : Phase R) (f : FlusherOf R D) : Type 0 where
   pub directory : f.pass.of ≡ live.directory
@@ -67,17 +107,9 @@ pub record IsFlusherOf {R D : Type 0} (keeps : Type 0) (live : Phase R) (f : Flu
   pub before : f.before ≡ length (opening_of live)
   pub opening : keeps → f.opening ≡ opening_of live
 
--- ---- what a crash may leave
+-- ---- what a crash may leave now
 
--- The image opens to the records from before the phase and the first growths that it knows, those that were settled
--- among them.
-pub record OpensToFirst {R D : Type 0} (form : Encoding R) (settled : ℕ) (f : FlusherOf R D) (image : List ℕ) : Type 0 where
-  pub count : ℕ
-  pub at_least : settled ≤ count
-  pub known : count ≤ length f.pass.entries
-  pub opens : OpensTo form image (list_to f count)
-
--- the settled ones now among them
+-- the settled ones among them
 abbrev pub OpensToSettled : {R D : Type 0} → Encoding R → FlusherOf R D → List ℕ → Type 0
 OpensToSettled form f image = OpensToFirst form f.settled f image
 

@@ -9,7 +9,7 @@ ghost use Rattle.directory_core.specs.Limits.{growth_limit};
 ghost use Rattle.record_core.specs.Limits.{record_limit};
 ghost use Rattle.directory_core.specs.Chain.{total, IsChained, AreBlocks};
 ghost use Rattle.book_core.specs.Marks.{nothing_told};
-ghost use Rattle.flush_core.specs.Flusher.{OpensToJob, list_to, tally_with};
+ghost use Rattle.flush_core.specs.Flusher.{OpensToJob, ToldIsLeft, list_to, tally_with};
 
 use book_core::{Live, Writer};
 use directory_core::Pass;
@@ -36,35 +36,19 @@ pub struct Flusher<R: Record, D: Disk> {
 }
 
 impl<R: Record, D: Disk> Model for Flusher<R, D> {
-    ghost use Rattle.std.specs.Prelude.{take};
-    ghost use Rattle.flush_core.specs.Flusher.{FlusherOf, IsFlusher, read_as};
+    ghost use Rattle.flush_core.specs.Flusher.{FlusherOf, HasTold, IsFlusher, flusher_of};
 
     ghost Value = { FlusherOf R D };
 
-    ghost view = { λ f. record {
-      pen = f.pen;
-      pass = f.pass;
-      mark = f.mark;
-      opening = read_as R.form (take f.before f.pen.vector);
-      before = f.before;
-      taken = f.taken;
-      settled = f.settled;
-    } };
+    ghost view = { λ f. flusher_of R.form f.pen f.pass f.mark f.before f.taken f.settled };
 
-    ghost invariant = { λ f. IsFlusher (D.keeps f.pen.disk) R.form (record {
-      pen = f.pen;
-      pass = f.pass;
-      mark = f.mark;
-      opening = read_as R.form (take f.before f.pen.vector);
-      before = f.before;
-      taken = f.taken;
-      settled = f.settled;
-    }) };
+    ghost invariant = { λ f. IsFlusher (D.keeps f.pen.disk) R.form (flusher_of R.form f.pen f.pass f.mark f.before f.taken f.settled)
+        × HasTold (D.keeps f.pen.disk) (D.states f.pen.disk) R.form (flusher_of R.form f.pen f.pass f.mark f.before f.taken f.settled) };
 }
 
 impl<R: Record, D: Disk> Flusher<R, D> {
     /// A flusher at the beginning of a phase: its pen has no job in hand, and a vector of `before` records; its pass and
-    /// its end of the mark are those of a phase that begins behind so many records.
+    /// its end of the mark, which was never raised, are those of a phase that begins behind so many records.
     pub fn begin(
         alloc: Global,
         pen: Pen<D>,
@@ -77,7 +61,7 @@ impl<R: Record, D: Disk> Flusher<R, D> {
         requires size { pen.tally.size ≡ before }
         requires knows { pass.entries ≡ [] }
         requires in_limit { before + pass.of.limit ≤ record_limit }
-        requires told { mark.told ≡ nothing_told }
+        requires told { (mark.told ≡ nothing_told) × (mark.raises ≡ []) }
         requires list { D.keeps pen.disk → (records : List R) × AreCellsOf R.form pen.vector records × (length records ≡ before) }
         ensures parts { (result.pen ≡ pen) × (result.pass ≡ pass) × (result.mark ≡ mark) }
         ensures counts { (result.before ≡ before) × (result.taken ≡ 0) × (result.settled ≡ 0) }
@@ -149,9 +133,11 @@ impl<R: Record, D: Disk> Flusher<R, D> {
     }
 
     /// The disk as it stands. Whatever a crash leaves of it opens to the records from before the phase and just the growths
-    /// that are settled, or, with a group in hand, just those that are taken.
+    /// that are settled, or, with a group in hand, just those that are taken. What the mark told stands: whatever a crash has
+    /// left since a raise, also inside a call that failed, opens to so many growths at least.
     pub fn disk(&self) -> &D
         ensures disk { result.now ≡ self.now.pen.disk }
+        ensures told { D.keeps result.now → ToldIsLeft R.form (D.states result.now) self.now self.now.mark.raises }
         ensures images { D.keeps result.now → (image : List ℕ) → IsImage (now (D.states result.now)) image → OpensToJob R.form self.now image }
     {
         self.pen.disk()
@@ -159,8 +145,9 @@ impl<R: Record, D: Disk> Flusher<R, D> {
 
     /// The disk, and how many growths are settled, also behind a fault of the pen. Whatever a crash leaves of the disk opens
     /// to the records from before the phase and just the growths that are settled, or, with a group in hand, just those that
-    /// are taken.
+    /// are taken. What the mark told stands: whatever a crash has left since a raise opens to so many growths at least.
     pub fn into_parts(self) -> (D, u64)
+        ensures told { D.keeps result.0 → ToldIsLeft R.form (D.states result.0) self self.mark.raises }
         ensures disk { result.0 ≡ self.pen.disk }
         ensures count { result.1 ≡ self.settled }
         ensures images { D.keeps result.0 → (image : List ℕ) → IsImage (now (D.states result.0)) image → OpensToJob R.form self image }

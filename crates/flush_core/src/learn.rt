@@ -1,19 +1,34 @@
 //! What a flusher learns of the growers, and what it tells them.
 
-ghost use Rattle.std.specs.Prelude.{◌≡◌, ◌≤◌, ◌+◌, false, true, length, IfOk, IfErr, MatchResult};
+ghost use Rattle.std.specs.Prelude.{◌≡◌, ◌≤◌, ◌<◌, ◌+◌, ◌∷◌, ◌^◌, false, true, length, IfOk, IfErr, MatchResult};
+ghost use Rattle.disk_core.specs.Moments.{clock};
 ghost use Rattle.directory_core.specs.Chain.{Agree, IsLongerOf, IsPrefix, total};
 ghost use Rattle.directory_core.specs.Known.{KnowsAll};
 ghost use Rattle.book_core.specs.Lists as lists;
 ghost use Rattle.book_core.specs.Growing as growing;
 ghost use Rattle.book_core.specs.Marks.{Rises};
-ghost use Rattle.flush_core.specs.Flusher.{IsFlusherOf, FlusherLearns};
+ghost use Rattle.flush_core.specs.Flusher.{IsFlusherOf, FlusherLearns, ToldIsLeft};
 
 use crate::fault::FlushFault;
 use crate::flusher::Flusher;
-use book_core::{Live, Seat};
+use book_core::{Live, Mark, Moment, Seat, Writer};
 use directory_core::DirFault;
 use disk_core::Disk;
 use record_core::Record;
+use std::marker::Brand;
+
+/// The mark tells of so many growths as settled, from the disk's moment on.
+fn raise_at<D: Disk, M: Moment>(writer: &mut Writer, mark: &Mark, disk: &D, count: u64)
+    requires of { writer.old.of ≡ mark.now }
+    requires no_fall { writer.old.told.count ≤ count }
+    requires fits { count < 2 ^ 62 }
+    requires at { M.at ≡ clock (D.states disk.now) }
+    ensures of { writer.new.of ≡ mark.now }
+    ensures told { writer.new.told ≡ record { count = count; state = writer.old.told.state } }
+    ensures raises { writer.new.raises ≡ record { count = count; at = clock (D.states disk.now) } ∷ writer.old.raises }
+{
+    writer.raise::<M>(mark, count);
+}
 
 impl<R: Record, D: Disk> Flusher<R, D> {
     /// Learns what growers have published, and answers how many records it then knows, those from before the phase
@@ -57,21 +72,28 @@ impl<R: Record, D: Disk> Flusher<R, D> {
         live.tell_by(seat, &mut self.pass);
     }
 
-    /// The mark tells from now on how many growths are settled, which is answered. Its state stays. It wakes nobody:
-    /// `Live::wake_settled` does.
+    /// The mark tells from now on how many growths are settled, which is answered: a raise at the disk's moment. Its state
+    /// stays. It wakes nobody: `Live::wake_settled` does.
     pub fn raise(&mut self, live: &Live<R>) -> u64
         requires of { IsFlusherOf (D.keeps self.old.pen.disk) live.now self.old }
-        ensures raised { self.new ≡ record self.old { mark = record self.old.mark { told = record { count = self.old.settled; state = self.old.mark.told.state } } } }
+        ensures raised { self.new ≡ record self.old {
+          mark = record {
+            of = self.old.mark.of;
+            told = record { count = self.old.settled; state = self.old.mark.told.state };
+            raises = record { count = self.old.settled; at = clock (D.states self.old.pen.disk) } ∷ self.old.mark.raises;
+          };
+        } }
         ensures count { result ≡ self.old.settled }
     {
         // No more growths are known than the mark can tell.
         let known = self.pass.known();
         prove!(self.settled <= known);
-        self.mark.raise(live.mark(), self.settled);
+        raise_at::<D, Brand>(&mut self.mark, live.mark(), self.pen.disk(), self.settled);
         self.settled
     }
 
-    /// Gives a seat up: what it knows is known, and what it was told by the mark is settled. So also behind a fault of the
+    /// Gives a seat up: what it knows is known, and what it was told by the mark is settled, and stands: whatever a crash has
+    /// left since a raise that the seat has seen, up to now, opens to so many growths at least. So also behind a fault of the
     /// pen. Who knows all the growths of the phase, as behind an `Ok` of `serve`, learns nothing: each growth that the seat
     /// made or knows is among them.
     pub fn take_in(&mut self, live: &Live<R>, seat: Seat<R>)
@@ -80,6 +102,7 @@ impl<R: Record, D: Disk> Flusher<R, D> {
         ensures agree { Agree self.old.pass.entries seat.pass.entries }
         ensures meets { IsLongerOf self.old.pass.entries seat.pass.entries self.new.pass.entries }
         ensures told { seat.mark.told.count ≤ self.new.settled }
+        ensures left { D.keeps self.new.pen.disk → ToldIsLeft R.form (D.states self.new.pen.disk) self.new seat.mark.raises }
         ensures all { KnowsAll self.old.pass → IsPrefix seat.pass.entries self.old.pass.entries × (self.new.pass.entries ≡ self.old.pass.entries) × KnowsAll self.new.pass }
     {
         live.take_in(&mut self.pass, &mut self.mark, seat);

@@ -4,7 +4,7 @@ ghost use Rattle.std.specs.Prelude.{◌≡◌, length, IsTrue, None, OnOk, OnErr
 ghost use Rattle.disk_core.specs.Fault.{CountsFailures};
 ghost use Rattle.disk_core.specs.Moments.{LeavesOnly};
 ghost use Rattle.directory_core.specs.Known.{KnowsAll};
-ghost use Rattle.flush_core.specs.Flusher.{IsFlusherOf, FlusherLearns, FlusherGoesOn, OpensToFirst};
+ghost use Rattle.flush_core.specs.Flusher.{IsFlusherOf, FlusherLearns, FlusherGoesOn, OpensToFirst, ToldIsLeft};
 ghost use Rattle.flush_core.specs.Refusals.{failed};
 ghost use Rattle.flush_core.specs.Serving.{Serves, HasSettledAll, TellsBroken, IsServeFault, fold_with};
 
@@ -90,7 +90,8 @@ impl<R: Record, D: Disk> Flusher<R, D> {
     ///
     /// On a refusal the mark says Broken. Refused: `Strayed`; `Pen(Broken)`, where the pen was; `Pen(FileFull)`, where the file
     /// has no room for the next group; `Pen(Memory)`; `Pen(Disk)`. None of them but `Pen(Broken)` and `Pen(Disk)` leaves a log
-    /// job in hand.
+    /// job in hand. What the mark told stands, whatever came of it: each image that a crash might have left since a raise
+    /// opens to so many growths at least.
     pub fn serve<E: Wait>(&mut self, rt: &E, live: &Live<R>) -> Result<(), FlushFault>
         requires of { IsFlusherOf (D.keeps self.old.pen.disk) live.now self.old }
         ensures ended { OnOk result (HasSettledAll self.new) }
@@ -100,6 +101,7 @@ impl<R: Record, D: Disk> Flusher<R, D> {
         ensures goes_on { FlusherGoesOn (D.keeps self.new.pen.disk) self.old self.new }
         ensures images { D.keeps self.new.pen.disk → LeavesOnly (D.states self.old.pen.disk) (D.states self.new.pen.disk) (OpensToFirst R.form self.old.settled self.new) }
         ensures fold { fold_with self.new.pen.job self.new.pen.fold ≡ fold_with self.old.pen.job self.old.pen.fold }
+        ensures told { D.keeps self.new.pen.disk → ToldIsLeft R.form (D.states self.new.pen.disk) self.new self.new.mark.raises }
         ensures faults { CountsFailures failed (D.faults self.old.pen.disk) (D.faults self.new.pen.disk) result }
         ensures model { D.keeps self.new.pen.disk → D.keeps self.old.pen.disk }
     {
@@ -110,6 +112,8 @@ impl<R: Record, D: Disk> Flusher<R, D> {
             Err(_) => self.mark.set_broken(live.mark()),
         }
         live.wake_settled();
+        // What the mark told stands.
+        let _disk = self.disk();
         served
     }
 }

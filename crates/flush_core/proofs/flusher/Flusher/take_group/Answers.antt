@@ -7,10 +7,12 @@ use Rattle.segment_core.specs.Shape.{limit_of}
 use Rattle.segment_core.specs.Written.{joined, group_frame, payload_len}
 use Rattle.pen_core.specs.Pen.{BeginsFrame, vector_after}
 use Rattle.pen_core.specs.Refusals.{IsRefusal, group_lines, is_full}
-use Rattle.flush_core.specs.Flusher.{IsFlusher}
+use Rattle.directory_core.specs.Known.{Known}
+use Rattle.flush_core.specs.Flusher.{FlusherOf, HasTold, IsFlusher, flusher_of, read_as}
 use Rattle.flush_core.specs.Group.{IsGreatest}
 use Rattle.flush_core.proofs.Next.{from_on, row_is}
-use Rattle.flush_core.proofs.Kept.{flusher_of}
+use Rattle.flush_core.proofs.Goes.{FlusherGoesOn-same}
+use Rattle.flush_core.proofs.Told.{HasTold-on}
 use Rattle.flush_core.proofs.Taken.{idle_is, size_in_limit, taken_kept, only_memory, full_refused, memory_refused}
 use Rattle.flush_core.proofs.flusher.Flusher.take_group.Goals as goal
 
@@ -78,7 +80,7 @@ returns-in-Err-begin_group-clause-refused g c = rw (← c.self.view_is) (
     (ap (λ p. p.entries) c.next_group-group.ensures.same) c.as_slice.ensures.value c.in-Ok.ensures.growths in
     let room = ap (is_full s.pen) (sym c.next_group-group.ensures.payload) ∙ sym c.is_full.ensures ∙ c.if-is_full.false in
     let idle = idle_is s.pen.job c.in_default.ensures.idle in
-    let short = size_in_limit c.self.invariant idle n greatest.there c.next_group-group.ensures.bounds.1 in
+    let short = size_in_limit c.self.invariant.0 idle n greatest.there c.next_group-group.ensures.bounds.1 in
     let fault = c.in-Err-begin_group.fault in
     let refused = subst (λ gs. IsRefusal (group_lines s.pen (length (joined gs)) (payload_len width gs)) fault) row c.in-Err-begin_group.ensures.refused in
     inr (record {
@@ -101,11 +103,18 @@ invariant_of-self-2 g c =
     let row = row_is s.pass.entries s.taken c.next_group-group.new.pass.entries c.as_slice.result.now c.in-Ok.row.items n
     (ap (λ p. p.entries) c.next_group-group.ensures.same) c.as_slice.ensures.value c.in-Ok.ensures.growths in
     let begun = subst (λ gs. BeginsFrame (group_frame form gs) s.pen pen) row c.in_default-begin_group.ensures.begun in
-    subst (λ pass. IsFlusher (g.D.Disk.keeps pen.disk) form (flusher_of form pen pass s.mark s.before (s.taken + n) s.settled))
-    (sym (c.in-Ok.ensures.same ∙ c.next_group-group.ensures.same))
-    (taken_kept c.self.invariant (idle_is s.pen.job c.in_default.ensures.idle) n c.next_group-group.ensures.greatest.there
-    pen (g.D.Disk.keeps pen.disk) begun (subst g.D.Disk.keeps begun.disk_same)
-    (λ records are. subst (λ gs. AreCellsOf form (vector_after pen) (records ++ joined gs)) row (c.in_default-begin_group.ensures.next records are)))
+    let new = flusher_of form pen s.pass s.mark s.before (s.taken + n) s.settled in
+    let back = subst g.D.Disk.keeps begun.disk_same in
+    let goes = FlusherGoesOn-same (g.D.Disk.keeps pen.disk) (flusher_of form s.pen s.pass s.mark s.before s.taken s.settled) new refl refl refl (omega arith) (omega arith)
+    (λ _. ap (λ cells. read_as form (take s.before cells)) begun.file_same.vector_same) in
+    subst (λ pass. IsFlusher (g.D.Disk.keeps pen.disk) form (flusher_of form pen pass s.mark s.before (s.taken + n) s.settled)
+    × HasTold (g.D.Disk.keeps pen.disk) (g.D.Disk.states pen.disk) form (flusher_of form pen pass s.mark s.before (s.taken + n) s.settled))
+    (sym (c.in-Ok.ensures.same ∙ c.next_group-group.ensures.same)) (
+      taken_kept c.self.invariant.0 (idle_is s.pen.job c.in_default.ensures.idle) n c.next_group-group.ensures.greatest.there
+          pen (g.D.Disk.keeps pen.disk) begun back
+          (λ records are. subst (λ gs. AreCellsOf form (vector_after pen) (records ++ joined gs)) row (c.in_default-begin_group.ensures.next records are)),
+      HasTold-on c.self.invariant.1 (g.D.Disk.keeps pen.disk) (g.D.Disk.states pen.disk) new (ap g.D.Disk.states begun.disk_same) back goes refl,
+    )
 
 pub returns-clause-begun : goal.returns-clause-begun
 returns-clause-begun g c = rw (← c.self.view_is) (λ some.
@@ -118,13 +127,15 @@ returns-clause-begun g c = rw (← c.self.view_is) (λ some.
 pub invariant_of-self : goal.invariant_of-self
 invariant_of-self g c =
     let s = c.self.inside in
-    subst (λ pass. IsFlusher (g.D.Disk.keeps s.pen.disk) g.R.Record.form (flusher_of g.R.Record.form s.pen pass s.mark s.before s.taken s.settled))
+    let same : Known g.row.R.Denot → FlusherOf g.row.R.Denot g.row.D.Denot = λ pass. flusher_of g.R.Record.form s.pen pass s.mark s.before s.taken s.settled in
+    subst (λ pass. IsFlusher (g.D.Disk.keeps s.pen.disk) g.R.Record.form (same pass) × HasTold (g.D.Disk.keeps s.pen.disk) (g.D.Disk.states s.pen.disk) g.R.Record.form (same pass))
     (sym c.next_group-group.ensures.same) c.self.invariant
 
 pub invariant_of-self-then-is_full : goal.invariant_of-self-then-is_full
 invariant_of-self-then-is_full g c =
     let s = c.self.inside in
-    subst (λ pass. IsFlusher (g.D.Disk.keeps s.pen.disk) g.R.Record.form (flusher_of g.R.Record.form s.pen pass s.mark s.before s.taken s.settled))
+    let same : Known g.row.R.Denot → FlusherOf g.row.R.Denot g.row.D.Denot = λ pass. flusher_of g.R.Record.form s.pen pass s.mark s.before s.taken s.settled in
+    subst (λ pass. IsFlusher (g.D.Disk.keeps s.pen.disk) g.R.Record.form (same pass) × HasTold (g.D.Disk.keeps s.pen.disk) (g.D.Disk.states s.pen.disk) g.R.Record.form (same pass))
     (sym c.next_group-group.ensures.same) c.self.invariant
 
 pub returns-clause-greatest : goal.returns-clause-greatest
