@@ -7,7 +7,7 @@ ghost use Rattle.pen_core.specs.Typed.{OpensTo};
 ghost use Rattle.directory_core.specs.Chain.{joined, total, IsPrefix, IsChained};
 ghost use Rattle.record_core.specs.Limits.{record_limit};
 ghost use Rattle.book_core.specs.Lists.{records_of, joined_pieces, opening_of, StandInList};
-ghost use Rattle.flush_core.specs.Flusher.{IsFlusherOf, FlusherLearns};
+ghost use Rattle.flush_core.specs.Flusher.{IsFlusherOf, FlusherLearns, ToldIsLeft};
 ghost use Rattle.vault_core.specs.Vault.{list_of};
 ghost use Rattle.vault_core.specs.Gathering.{AreOfPhase, AreDistinct, IsWhole, IsGatherFault, MayGather, made_by, most_known};
 
@@ -146,7 +146,7 @@ fn copy_growths<R: Record, D: Disk>(
     Ok(block)
 }
 
-/// Gives the seats up: what each knows is found to begin what the flusher knows, and what it was told is settled.
+/// Gives the seats up: what each knows is found to begin what the flusher knows, and what it was told is settled, and stands.
 fn take_in_all<R: Record, D: Disk>(live: &Live<R>, flusher: &mut Flusher<R, D>, seats: Vec<Seat<R>>)
     requires of { AreOfPhase (D.keeps flusher.old.pen.disk) live.now seats.items flusher.old }
     requires known { All (λ seat. length seat.pass.entries ≤ length flusher.old.pass.entries) seats.items }
@@ -154,6 +154,7 @@ fn take_in_all<R: Record, D: Disk>(live: &Live<R>, flusher: &mut Flusher<R, D>, 
     ensures entries { flusher.new.pass.entries ≡ flusher.old.pass.entries }
     ensures begin { All (λ seat. IsPrefix seat.pass.entries flusher.old.pass.entries) seats.items }
     ensures told { All (λ seat. seat.mark.told.count ≤ flusher.old.settled) seats.items }
+    ensures left { D.keeps flusher.old.pen.disk → All (λ seat. ToldIsLeft R.form (D.states flusher.old.pen.disk) flusher.old seat.mark.raises) seats.items }
 {
     let mut seats = seats;
     let count = seats.len();
@@ -238,7 +239,8 @@ fn prepare<R: Record, D: Disk>(
 }
 
 /// Ends a growth phase, and gives back the vault: its list is that from before the phase, and behind it all growths, each
-/// of which one of the seats made, and which are settled. A fold goes on, and so does its frame where it is in hand.
+/// of which one of the seats made, and which are settled. A fold goes on, and so does its frame where it is in hand. What the
+/// seats were told stands: whatever a crash has left since a raise that one of them has seen opens to so many growths at least.
 ///
 /// Refused, in this order, with the parts as they were: `Pen(Broken)`; `WrongPhase`, where these aren't as many seats as
 /// the phase has, two have one id, or they made more or fewer growths than are known; `Unsettled`, with the number of the
@@ -255,6 +257,7 @@ pub fn gather<R: Record, D: Disk>(
     ensures pen { IfOk result (λ vault. vault.pen ≡ flusher.pen) }
     ensures told { IfOk result (λ vault. D.keeps vault.pen.disk → (image : List ℕ) → IsImage (now (D.states vault.pen.disk)) image → OpensTo R.form image (list_of vault)) }
     ensures whole { OnOk result (IsWhole live seats.items flusher) }
+    ensures left { OnOk result (D.keeps flusher.pen.disk → All (λ seat. ToldIsLeft R.form (D.states flusher.pen.disk) flusher seat.mark.raises) seats.items) }
     ensures back { IfErr result (λ g. (g.live ≡ live) × (g.seats.items ≡ seats.items) × (g.flusher ≡ flusher)) }
     ensures refused { IfErr result (λ g. IsGatherFault live seats.items flusher g.fault) }
 {

@@ -3,7 +3,7 @@ use Rattle.disk_core.specs.State.{now, IsImage}
 use Rattle.pen_core.specs.PenOf.{PenOf}
 use Rattle.directory_core.specs.Chain.{IsPrefix, joined}
 use Rattle.book_core.specs.Lists.{Seated, StandInList, records_of, joined_pieces, opening_of}
-use Rattle.flush_core.specs.Flusher.{FlusherOf, FlusherLearns, read_as}
+use Rattle.flush_core.specs.Flusher.{FlusherOf, FlusherLearns, ToldIsLeft, read_as}
 use Rattle.vault_core.specs.Vault.{VaultOf}
 use Rattle.vault_core.specs.Gathering.{MayGather, AreOfPhase}
 use Rattle.vault_core.proofs.Endings.{all_known, whole}
@@ -72,3 +72,8 @@ with_ends-requires-clause-room g c κs within = grind (arith, common_steps)
 
 pub put_behind-blocks-requires-after_bounds : goal.put_behind-blocks-requires-after_bounds
 put_behind-blocks-requires-after_bounds g c κs within = grind (arith, common_steps)
+
+pub returns-clause-left : goal.returns-clause-left
+returns-clause-left g c =
+    subst (λ (f : FlusherOf _ _). g.D.Disk.keeps f.pen.disk → All (λ (s : Seated _). ToldIsLeft g.R.Record.form (g.D.Disk.states f.pen.disk) f s.mark.raises) c.args.seats.items)
+    c.prepare.ensures.same c.take_in_all.ensures.left
