@@ -29,7 +29,7 @@ module _ {R D : Type 0} {m : Medium R D} {w : World R} {phase : Growth} {g : Gro
     told_tie : IsGrowing m (within w hearing) hearing (record g { seats = slice_set g.seats k new })
     told_tie = other_seats tie phase.known (slice_set phase.told k count) (replaced tie.seats k at new refl
         (counts_kept knows g.seats tie.seats.known_are k new at (ap (λ (p : _). length p.entries) told.same.2))
-        (counts_set hears g.seats tie.seats.told_are k new (sym (ap (λ (m : _). m.told.count) told.mark)))
+        (counts_set hears g.seats tie.seats.told_are k new (sym (ap (λ (r : _). r.count) told.told)))
         (ap length told.same.1)
         (let was = tie.seats.each k old at in record { id_is = told.same.0 ∙ was.id_is; knows = subst (λ (p : _). IsPrefix p.entries tie.entries) (sym told.same.2) was.knows })
         (λ all. ap (λ (p : _). p.entries) told.same.2 ∙ all))

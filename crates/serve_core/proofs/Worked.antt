@@ -8,7 +8,7 @@ use Rattle.std.specs.Io.KnownBytes.{Consumes}
 use Rattle.record_core.specs.Bytes.{Encoding, unsigned}
 use Rattle.block_core.specs.Growth.{Growth}
 use Rattle.book_core.specs.Lists.{Phase, Seated}
-use Rattle.book_core.specs.Marks.{MarkEnd}
+use Rattle.book_core.specs.declared.mark.Reading.{Reading}
 use Rattle.serve_core.specs.declared.answer.Answer.{Answer}
 use Rattle.serve_core.specs.declared.answer.Answer.TheVariants as answers
 use Rattle.serve_core.specs.declared.refusal.Refusal.{Refusal}
@@ -110,7 +110,7 @@ not_done_unsettled old new (answers.Looked size settled) is lacks done = is
 not_done_unsettled old new (answers.Piece start) is lacks done = is
 not_done_unsettled old new (answers.Refused refusal) is lacks done = never_zero refusal done
 not_done_unsettled {R} old new (answers.Settled growths) is lacks done =
-    let count : new.mark.told.count ≡ growths = ap (λ (m : MarkEnd). m.told.count) is.0.mark in
+    let count : new.mark.told.count ≡ growths = ap (λ (r : Reading). r.count) is.0.told in
     let at = lacks.1 in
     let below = is.1 at.0 lacks.0 at.1 in
     let named : (get_or new.made at.0 lacks.0).number ≡ lacks.0.number = ap (λ (g : Growth R). g.number) at.2 in

@@ -17,6 +17,9 @@ load-requires c =
     let mine = ap (λ e. e.of.table) c.self.view_is ∙ ap (λ m. m.table) (c.requires.of.0 ∙ sym c.mark.view_is) in
     let one = c.mark.invariant in
     let j = c.join_seat.ensures in
-    let is = ap (λ me. me.0) j.2 ∙ ap (λ v. shown v c.theirs.inside.seat.me.0) c.self.invariant.0 in
-    (j.0 ∙ mine, omega arith, checks {S = ℕ} _ c.join_seat.new.seat.id c.join_seat.new.seat.me c.self.inside.told c.theirs.inside.seat.me.0.told
-    c.self.inside.seat.me.0.raises c.theirs.inside.seat.me.0.raises is)
+    let is = ap (λ me. me.0) j.2 ∙ ap (λ v. shown v c.theirs.inside.seat.me.0) c.self.invariant.0 in (
+      j.0 ∙ mine,
+      omega arith,
+      checks {S = ℕ} _ c.join_seat.new.seat.id c.join_seat.new.seat.me c.self.inside.told c.theirs.inside.seat.me.0.told
+          c.self.inside.seat.me.0.raises c.theirs.inside.seat.me.0.raises is,
+    )
