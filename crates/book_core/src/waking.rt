@@ -218,7 +218,8 @@ impl<R: Record> Live<R> {
     }
 
     /// How many growths are settled as the mark tells now, and whether more may be. It may lag behind the flusher
-    /// and never leads. For a seat no count falls, and no state goes back to Running.
+    /// and never leads. For a seat no count falls, and no state goes back to Running. The seat has then seen all raises of the
+    /// mark so far; the newest was to that count.
     pub fn settled(&self, seat: &mut Seat<R>) -> (u64, MarkState)
         requires of { IsSeatOf self.now seat.old }
         ensures of { IsSeatOf self.now seat.new }

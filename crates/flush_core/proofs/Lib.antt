@@ -11,3 +11,4 @@ mod Taken
 mod Worked
 mod WorkedServing
 mod WorkedTaking
+mod WorkedTold
