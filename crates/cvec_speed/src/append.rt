@@ -4,6 +4,7 @@ ghost use Rattle.book_core.specs.Lists.{IsSeatOf};
 
 use crate::barrier::{Barrier, Span};
 use crate::fault::SpeedFault;
+use crate::grower::Grower;
 use crate::phase::Seated;
 use crate::reading::Total;
 use book_core::{Appender, GrowFault, Live};

@@ -6,10 +6,11 @@ use crate::barrier::{Barrier, Span};
 use crate::clock::{now, since};
 use crate::fault::SpeedFault;
 use crate::figure::Figure;
+use crate::grower::{Grower, put_blocks};
 use crate::mix::mixed;
-use crate::phase::Seated;
 use crate::reading::Total;
-use crate::together::{Role, Task, run_free};
+use crate::role::{Role, Task};
+use crate::together::run_free;
 use std::alloc::Global;
 use std::sync::atomic::{AtomicBool, Ordering};
 use std::sync::{Mutex, Wait};
@@ -56,7 +57,7 @@ pub struct Course<'a> {
 }
 
 /// Sums all that there is, and compares it. Answers how many records it summed.
-fn sum_once(own: &mut Seated, block: &[u64]) -> Result<u64, SpeedFault> {
+fn sum_once<G: Grower>(own: &mut G, block: &[u64]) -> Result<u64, SpeedFault> {
     own.look()?;
     let total = own.total();
     total.check(Total::of_copies(block, own.piece_count()))?;
@@ -81,13 +82,13 @@ impl<'a> Course<'a> {
     }
 
     /// Makes the growths that come before.
-    pub fn grow_before<E: Wait>(
+    pub fn grow_before<E: Wait, G: Grower>(
         &self,
         rt: &E,
         alloc: Global,
-        own: &mut Seated,
+        own: &mut G,
     ) -> Result<(), SpeedFault> {
-        own.put_blocks(rt, alloc, self.block, self.before)
+        put_blocks(rt, alloc, own, self.block, self.before)
     }
 
     /// Whether there is nothing more to sum.
@@ -96,11 +97,11 @@ impl<'a> Course<'a> {
     }
 
     /// Makes growths from that moment on, as many as it can in the time, then tells the others that it has ended.
-    fn grow<E: Wait + Clock>(
+    fn grow<E: Wait + Clock, G: Grower>(
         &self,
         rt: &E,
         alloc: Global,
-        own: &mut Seated,
+        own: &mut G,
         start: Instant,
     ) -> Result<(), SpeedFault> {
         let mut growths: u64 = 0;
@@ -120,10 +121,10 @@ impl<'a> Course<'a> {
     }
 
     /// Sums all that there is, again and again, until the grower has ended or the time is over.
-    fn sum<E: Wait + Clock>(
+    fn sum<E: Wait + Clock, G: Grower>(
         &self,
         rt: &E,
-        own: &mut Seated,
+        own: &mut G,
         start: Instant,
     ) -> Result<(), SpeedFault> {
         let mut records: u64 = 0;
@@ -139,11 +140,11 @@ impl<'a> Course<'a> {
     }
 
     /// What one thread does once all threads are there: that of the first seat grows, and the others sum.
-    fn work<E: Wait + Clock>(
+    fn work<E: Wait + Clock, G: Grower>(
         &self,
         rt: &E,
         alloc: Global,
-        own: &mut Seated,
+        own: &mut G,
     ) -> Result<Span, SpeedFault> {
         let came = self.barrier.pass(rt)?;
         let start = now(rt)?;
@@ -156,7 +157,7 @@ impl<'a> Course<'a> {
     }
 
     /// The same, and tells when it was done.
-    pub fn play<E: Wait + Clock>(&self, rt: &E, alloc: Global, own: &mut Seated) {
+    pub fn play<E: Wait + Clock, G: Grower>(&self, rt: &E, alloc: Global, own: &mut G) {
         self.barrier.leave(rt, self.work(rt, alloc, own));
     }
 

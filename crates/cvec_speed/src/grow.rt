@@ -6,10 +6,11 @@ use crate::append::{Records, total_of_threads};
 use crate::barrier::{Barrier, Span};
 use crate::fault::SpeedFault;
 use crate::figure::Figure;
+use crate::grower::{Grower, put_copies};
 use crate::mix::mixed;
-use crate::phase::Seated;
 use crate::reading::Total;
-use crate::together::{Role, Task, run_free};
+use crate::role::{Play, Role, Task};
+use crate::together::run_free;
 use std::alloc::{AllocError, Global};
 use std::sync::Wait;
 use std::thread::Threads;
@@ -50,10 +51,10 @@ pub struct Copies<'a> {
 }
 
 /// So many growths by copies of the thread's block, once all threads are there.
-pub fn grow_copies<E: Wait + Clock>(
+pub fn grow_copies<E: Wait + Clock, G: Grower>(
     rt: &E,
     alloc: Global,
-    own: &mut Seated,
+    own: &mut G,
     copies: Copies,
     barrier: &Barrier,
 ) -> Result<Span, SpeedFault> {
@@ -61,18 +62,18 @@ pub fn grow_copies<E: Wait + Clock>(
         return Err(SpeedFault::Room);
     };
     let came = barrier.pass(rt)?;
-    own.put_copies(rt, alloc, block.as_slice(), copies.growths)?;
+    put_copies(rt, alloc, own, block.as_slice(), copies.growths)?;
     Span::since(rt, came)
 }
 
 /// Runs the role's threads, of which each makes at most so many growths. What they have grown, and the figure of that.
-fn run_role<E: Threads + Wait + Clock + Eprint + Sync>(
+fn run_role<E: Threads + Wait + Clock + Eprint + Sync, R: Play>(
     rt: &E,
     alloc: Global,
     name: &'static str,
     threads: u16,
     growths: u64,
-    role: Role,
+    role: R,
     barrier: &Barrier,
 ) -> Result<(Total, Figure), SpeedFault> {
     let room = growths.saturating_mul(threads as u64);

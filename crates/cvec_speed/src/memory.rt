@@ -5,7 +5,7 @@ ghost use Rattle.std.specs.Prelude.{◌<◌};
 use crate::clock::{now, since};
 use crate::fault::SpeedFault;
 use crate::figure::{Detail, Figure, MemoryUse};
-use crate::phase::Seated;
+use crate::grower::{Grower, put_copies};
 use std::alloc::{AllocGlobal, Global};
 use std::fs;
 use std::rt::Files;
@@ -31,9 +31,12 @@ struct Resident {
 
 /// The number of KiB behind that name in the text of the process's status.
 fn kib_of(status: &str, name: &str) -> Option<u64> {
-    let line = status.lines().find(|line| line.starts_with(name))?;
-    let word = line.split_whitespace().nth(1)?;
-    word.parse().ok()
+    for line in status.lines() {
+        if line.starts_with(name) {
+            return line.split_whitespace().nth(1)?.parse().ok();
+        }
+    }
+    None
 }
 
 impl Resident {
@@ -85,16 +88,16 @@ impl Filled {
 }
 
 /// Fills the vector by so many copies of the block. The process's memory is asked before it and after it.
-fn fill<E: Wait + Clock + Files + AllocGlobal>(
+fn fill<E: Wait + Clock + Files + AllocGlobal, G: Grower>(
     rt: &E,
     alloc: Global,
-    own: &mut Seated,
+    own: &mut G,
     block: &[u64],
     growths: u64,
 ) -> Result<Filled, SpeedFault> {
     let before = Resident::now(rt)?;
     let start = now(rt)?;
-    own.put_copies(rt, alloc, block, growths)?;
+    put_copies(rt, alloc, own, block, growths)?;
     let time = since(rt, start)?;
     Ok(Filled {
         records: own.size(),
@@ -105,10 +108,10 @@ fn fill<E: Wait + Clock + Files + AllocGlobal>(
 }
 
 /// Fills the vector, and tells the memory that it then takes.
-pub fn fill_and_tell<E: Wait + Clock + Files + AllocGlobal>(
+pub fn fill_and_tell<E: Wait + Clock + Files + AllocGlobal, G: Grower>(
     rt: &E,
     alloc: Global,
-    own: &mut Seated,
+    own: &mut G,
     block: &[u64],
     growths: u64,
     figures: &mut Vec<Figure>,

@@ -4,13 +4,17 @@ ghost use Rattle.std.specs.Prelude.{IfOk};
 ghost use Rattle.book_core.specs.Lists.{IsSeatOf};
 ghost use Rattle.book_core.specs.Beginning.{AreNewSeats};
 
+use crate::append::{Records, append_all};
+use crate::barrier::{Barrier, Span};
 use crate::fault::SpeedFault;
+use crate::grower::{Grower, Phase};
 use crate::reading::Total;
 use block_core::Fresh;
 use book_core::{Begun, GrowFault, Live, Receipt, Seat, Snapshot};
 use directory_core::GROWTH_LIMIT;
 use std::alloc::{AllocError, Global};
 use std::sync::Wait;
+use std::time::Clock;
 
 /// A phase over no records, with room for so many growths, and its seats, which are so many.
 pub fn begin(
@@ -74,16 +78,6 @@ pub fn seat_one<'a>(live: &'a Live<u64>, seats: Vec<Seat<u64>>) -> Result<Seated
 }
 
 impl<'a> Seated<'a> {
-    /// The vector that the seat is of.
-    pub fn live(&self) -> &'a Live<u64> {
-        self.live
-    }
-
-    /// Its number among the seats.
-    pub fn number(&self) -> usize {
-        self.number
-    }
-
     /// The vector, and the seat.
     pub fn into_parts(self) -> (&'a Live<u64>, Seat<u64>)
         ensures { IsSeatOf result.0.now result.1 }
@@ -92,13 +86,21 @@ impl<'a> Seated<'a> {
         (live, seat)
     }
 
-    /// Appends a block. Its number.
-    pub fn put<E: Wait>(
-        &mut self,
-        rt: &E,
-        alloc: Global,
-        block: &[u64],
-    ) -> Result<u64, SpeedFault> {
+    /// All that it knows, to be read at random.
+    pub fn snapshot(&mut self) -> Result<Snapshot<'a, u64>, SpeedFault> {
+        match self.live.snapshot(&mut self.seat) {
+            Ok(snapshot) => Ok(snapshot),
+            Err(fault) => Err(SpeedFault::Grow(fault)),
+        }
+    }
+}
+
+impl Grower for Seated<'_> {
+    fn number(&self) -> usize {
+        self.number
+    }
+
+    fn put<E: Wait>(&mut self, rt: &E, alloc: Global, block: &[u64]) -> Result<u64, SpeedFault> {
         let fresh = Fresh::from_slice(alloc, block)?;
         match self.live.grow(rt, &mut self.seat, fresh) {
             Ok(receipt) => Ok(receipt.number),
@@ -106,7 +108,6 @@ impl<'a> Seated<'a> {
         }
     }
 
-    /// Appends a record.
     fn put_record<E: Wait>(&mut self, rt: &E, record: u64) -> Result<(), SpeedFault> {
         match self.live.push_back(rt, &mut self.seat, record) {
             Ok(_) => Ok(()),
@@ -114,12 +115,7 @@ impl<'a> Seated<'a> {
         }
     }
 
-    /// Makes the growth of that number, by each call in its turn.
-    pub fn grow_in_turn<E: Wait>(
-        &mut self,
-        rt: &E,
-        number: u64,
-    ) -> Result<Option<Receipt>, GrowFault> {
+    fn grow_in_turn<E: Wait>(&mut self, rt: &E, number: u64) -> Result<Option<Receipt>, GrowFault> {
         match number % 3 {
             0 => Ok(Some(self.live.grow_by(rt, &mut self.seat, 3, number)?)),
             1 => {
@@ -131,55 +127,11 @@ impl<'a> Seated<'a> {
         }
     }
 
-    /// Grows so many times by copies of the block.
-    pub fn put_blocks<E: Wait>(
-        &mut self,
-        rt: &E,
-        alloc: Global,
-        block: &[u64],
-        growths: u64,
-    ) -> Result<(), SpeedFault> {
-        for _ in 0..growths {
-            self.put(rt, alloc, block)?;
-        }
-        Ok(())
-    }
-
-    /// Grows so many times by one record.
-    fn put_records<E: Wait>(
-        &mut self,
-        rt: &E,
-        record: u64,
-        growths: u64,
-    ) -> Result<(), SpeedFault> {
-        for _ in 0..growths {
-            self.put_record(rt, record)?;
-        }
-        Ok(())
-    }
-
-    /// Grows so many times by copies of the block, or by its record, where it has one.
-    pub fn put_copies<E: Wait>(
-        &mut self,
-        rt: &E,
-        alloc: Global,
-        block: &[u64],
-        growths: u64,
-    ) -> Result<(), SpeedFault> {
-        if let [record] = block {
-            self.put_records(rt, *record, growths)
-        } else {
-            self.put_blocks(rt, alloc, block, growths)
-        }
-    }
-
-    /// How many growths are durable, as far as it is told.
-    pub fn settled(&mut self) -> u64 {
+    fn settled(&mut self) -> u64 {
         self.live.settled(&mut self.seat).0
     }
 
-    /// Waits until the growth of that number is durable.
-    pub fn wait_for<E: Wait>(&mut self, rt: &E, number: u64) -> Result<(), SpeedFault> {
+    fn wait_for<E: Wait>(&mut self, rt: &E, number: u64) -> Result<(), SpeedFault> {
         let (settled, _) = self.live.await_settled(rt, &mut self.seat, number);
         if settled <= number {
             return Err(SpeedFault::Unsettled);
@@ -187,26 +139,26 @@ impl<'a> Seated<'a> {
         Ok(())
     }
 
-    /// Learns what all seats have grown.
-    pub fn look(&mut self) -> Result<(), SpeedFault> {
+    fn close<E: Wait>(&self, rt: &E) {
+        self.live.close(rt);
+    }
+
+    fn look(&mut self) -> Result<(), SpeedFault> {
         match self.live.look(&mut self.seat) {
             Ok(_) => Ok(()),
             Err(fault) => Err(SpeedFault::Grow(fault)),
         }
     }
 
-    /// How many records it knows.
-    pub fn size(&self) -> u64 {
+    fn size(&self) -> u64 {
         self.live.size(&self.seat)
     }
 
-    /// In how many pieces the records stand that it knows.
-    pub fn piece_count(&self) -> u64 {
+    fn piece_count(&self) -> u64 {
         self.live.piece_count(&self.seat)
     }
 
-    /// All that it knows, read piece by piece.
-    pub fn total(&mut self) -> Total {
+    fn total(&mut self) -> Total {
         let mut total = Total::NOTHING;
         for number in 0..self.live.piece_count(&self.seat) {
             let Some(piece) = self.live.piece_at(&mut self.seat, number) else {
@@ -217,11 +169,20 @@ impl<'a> Seated<'a> {
         total
     }
 
-    /// All that it knows, to be read at random.
-    pub fn snapshot(&mut self) -> Result<Snapshot<'a, u64>, SpeedFault> {
-        match self.live.snapshot(&mut self.seat) {
-            Ok(snapshot) => Ok(snapshot),
-            Err(fault) => Err(SpeedFault::Grow(fault)),
-        }
+    fn append_all<E: Wait + Clock>(
+        self,
+        rt: &E,
+        alloc: Global,
+        records: Records,
+        barrier: &Barrier,
+    ) -> Result<Span, SpeedFault> {
+        append_all(rt, alloc, self, records, barrier)
+    }
+}
+
+impl Phase for Live<u64> {
+    fn break_off<E: Wait>(&self, rt: &E) {
+        self.close(rt);
+        self.wake_settled();
     }
 }

@@ -3,7 +3,7 @@
 use crate::barrier::{Barrier, Span};
 use crate::clock::now;
 use crate::fault::SpeedFault;
-use crate::phase::Seated;
+use crate::grower::Grower;
 use crate::pool::Pool;
 use std::alloc::Global;
 use std::sync::{Mutex, Wait};
@@ -71,11 +71,11 @@ struct Producer {
 
 impl Producer {
     /// Appends the next block. Its number in the vector.
-    fn put<E: Wait>(
+    fn put<E: Wait, G: Grower>(
         &mut self,
         rt: &E,
         alloc: Global,
-        own: &mut Seated,
+        own: &mut G,
         pool: &Pool,
     ) -> Result<u64, SpeedFault> {
         let block = pool.block(self.thread, self.blocks);
@@ -84,11 +84,11 @@ impl Producer {
     }
 
     /// Appends the next so many blocks. The number of the last one in the vector.
-    fn put_all<E: Wait>(
+    fn put_all<E: Wait, G: Grower>(
         &mut self,
         rt: &E,
         alloc: Global,
-        own: &mut Seated,
+        own: &mut G,
         pool: &Pool,
         blocks: u64,
     ) -> Result<u64, SpeedFault> {
@@ -100,11 +100,11 @@ impl Producer {
     }
 
     /// Appends so many blocks, waits until they are durable, and notes how long that took since then. When they were.
-    fn put_and_wait<E: Wait + Clock>(
+    fn put_and_wait<E: Wait + Clock, G: Grower>(
         &mut self,
         rt: &E,
         alloc: Global,
-        own: &mut Seated,
+        own: &mut G,
         pool: &Pool,
         blocks: u64,
         last: Instant,
@@ -123,11 +123,11 @@ impl Producer {
     }
 
     /// Appends blocks and waits, round by round, for so long.
-    fn put_in_rounds<E: Wait + Clock>(
+    fn put_in_rounds<E: Wait + Clock, G: Grower>(
         &mut self,
         rt: &E,
         alloc: Global,
-        own: &mut Seated,
+        own: &mut G,
         pool: &Pool,
         batch: u64,
         most: Duration,
@@ -144,11 +144,11 @@ impl Producer {
     }
 
     /// Appends its blocks.
-    fn produce<E: Wait + Clock>(
+    fn produce<E: Wait + Clock, G: Grower>(
         &mut self,
         rt: &E,
         alloc: Global,
-        own: &mut Seated,
+        own: &mut G,
         course: &Course,
     ) -> Result<(), SpeedFault> {
         let pool = &course.pool;
@@ -162,11 +162,11 @@ impl Producer {
     }
 
     /// Appends its blocks once all threads are there. From when to when.
-    fn run<E: Wait + Clock>(
+    fn run<E: Wait + Clock, G: Grower>(
         &mut self,
         rt: &E,
         alloc: Global,
-        own: &mut Seated,
+        own: &mut G,
         course: &Course,
     ) -> Result<Span, SpeedFault> {
         let came = course.barrier.pass(rt)?;
@@ -185,7 +185,7 @@ impl Course {
     }
 
     /// What one thread does: it appends its blocks once all threads are there, and tells what it did.
-    pub fn play<E: Wait + Clock>(&self, rt: &E, alloc: Global, own: &mut Seated) {
+    pub fn play<E: Wait + Clock, G: Grower>(&self, rt: &E, alloc: Global, own: &mut G) {
         let mut producer = Producer {
             thread: own.number() as u64,
             blocks: 0,

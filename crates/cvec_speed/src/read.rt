@@ -6,6 +6,7 @@ use crate::barrier::{Barrier, Span};
 use crate::clock::{now, since};
 use crate::fault::SpeedFault;
 use crate::figure::Figure;
+use crate::grower::Grower;
 use crate::mix::{below, mix, mixed, sum_of_mixed};
 use crate::phase::Seated;
 use crate::reading::Total;
@@ -18,6 +19,25 @@ use std::time::{Clock, Instant};
 
 /// How many places are looked for at once.
 const MANY: usize = 32;
+
+/// Records that are read at places. Reading is written over any, and so proved without what a snapshot is made of.
+pub trait Places {
+    /// The record at that place.
+    fn record_at(&self, place: u64) -> Option<&u64>;
+
+    /// The record at each of the places, over what stands in `found`.
+    fn records_at<'a>(&'a self, places: &[u64; MANY], found: &mut [Option<&'a u64>; MANY]);
+}
+
+impl Places for Snapshot<'_, u64> {
+    fn record_at(&self, place: u64) -> Option<&u64> {
+        self.get(place)
+    }
+
+    fn records_at<'a>(&'a self, places: &[u64; MANY], found: &mut [Option<&'a u64>; MANY]) {
+        self.get_many(places, found);
+    }
+}
 
 /// How records at random are asked for.
 #[derive(Clone, Copy)]
@@ -66,10 +86,10 @@ impl ReadSizes {
 }
 
 /// Grows up to so many records. The record at a place is `mix` of it.
-fn fill<E: Wait>(
+fn fill<E: Wait, G: Grower>(
     rt: &E,
     alloc: Global,
-    own: &mut Seated,
+    own: &mut G,
     block: u64,
     n: u64,
 ) -> Result<(), SpeedFault>
@@ -85,11 +105,11 @@ fn fill<E: Wait>(
 }
 
 /// The sum of the records at places without a pattern.
-fn sum_at_random(snapshot: &Snapshot<'_, u64>, first: u64, sizes: ReadSizes) -> u64 {
+fn sum_at_random<P: Places>(snapshot: &P, first: u64, sizes: ReadSizes) -> u64 {
     let mut sum: u64 = 0;
     for k in 0..sizes.draws {
         let place = below(mix(first.wrapping_add(k)), sizes.n);
-        if let Some(record) = snapshot.get(place) {
+        if let Some(record) = snapshot.record_at(place) {
             sum = sum.wrapping_add(*record);
         }
     }
@@ -108,12 +128,12 @@ fn sum_of_found(found: &[Option<&u64>]) -> u64 {
 }
 
 /// As `sum_at_random`, by 32 places at once.
-fn sum_of_many(snapshot: &Snapshot<'_, u64>, first: u64, sizes: ReadSizes) -> u64 {
+fn sum_of_many<P: Places>(snapshot: &P, first: u64, sizes: ReadSizes) -> u64 {
     let mut sum: u64 = 0;
     let mut found: [Option<&u64>; MANY] = [None; MANY];
     for row in 0..sizes.draws / MANY as u64 {
         let places = places_of(first.wrapping_add(row.wrapping_mul(MANY as u64)), sizes.n);
-        snapshot.get_many(&places, &mut found);
+        snapshot.records_at(&places, &mut found);
         sum = sum.wrapping_add(sum_of_found(&found));
     }
     sum
@@ -139,11 +159,11 @@ fn wanted_sum(first: u64, sizes: ReadSizes) -> u64 {
 }
 
 /// The last record of a row of reads, of which each is at a place that the one before it gives.
-fn last_of_row(snapshot: &Snapshot<'_, u64>, sizes: ReadSizes) -> u64 {
+fn last_of_row<P: Places>(snapshot: &P, sizes: ReadSizes) -> u64 {
     let mut last: u64 = 1;
     for k in 0..sizes.draws / 4 {
         let place = below(mix(last ^ k), sizes.n);
-        if let Some(record) = snapshot.get(place) {
+        if let Some(record) = snapshot.record_at(place) {
             last = *record;
         }
     }
@@ -160,7 +180,7 @@ fn wanted_last(sizes: ReadSizes) -> u64 {
 }
 
 /// The sum of what a thread reads.
-fn sum_as(asking: Asking, snapshot: &Snapshot<'_, u64>, first: u64, sizes: ReadSizes) -> u64 {
+fn sum_as<P: Places>(asking: Asking, snapshot: &P, first: u64, sizes: ReadSizes) -> u64 {
     match asking {
         Asking::OneByOne => sum_at_random(snapshot, first, sizes),
         Asking::ManyAtOnce => sum_of_many(snapshot, first, sizes),
@@ -168,9 +188,9 @@ fn sum_as(asking: Asking, snapshot: &Snapshot<'_, u64>, first: u64, sizes: ReadS
 }
 
 /// One thread reads at random once all threads are there, and compares the sum.
-fn read_once<E: Wait + Clock>(
+fn read_once<E: Wait + Clock, P: Places>(
     rt: &E,
-    snapshot: &Snapshot<'_, u64>,
+    snapshot: &P,
     barrier: &Barrier,
     id: u64,
     sizes: ReadSizes,
@@ -187,9 +207,9 @@ fn read_once<E: Wait + Clock>(
 }
 
 /// The same, and tells the barrier. Whether it went well.
-fn read_as<E: Wait + Clock>(
+fn read_as<E: Wait + Clock, P: Places>(
     rt: &E,
-    snapshot: &Snapshot<'_, u64>,
+    snapshot: &P,
     barrier: &Barrier,
     id: u64,
     sizes: ReadSizes,
@@ -201,10 +221,10 @@ fn read_as<E: Wait + Clock>(
 }
 
 /// So many threads read one snapshot at random.
-fn read_at_random<E: Threads + Wait + Clock + Sync>(
+fn read_at_random<E: Threads + Wait + Clock + Sync, P: Places + Sync>(
     rt: &E,
     alloc: Global,
-    snapshot: &Snapshot<'_, u64>,
+    snapshot: &P,
     threads: usize,
     sizes: ReadSizes,
     asking: Asking,
@@ -221,7 +241,7 @@ fn read_at_random<E: Threads + Wait + Clock + Sync>(
 }
 
 /// Reads all records in order, and compares their sum.
-fn read_in_order<E: Clock>(rt: &E, own: &mut Seated, n: u64) -> Result<Figure, SpeedFault> {
+fn read_in_order<E: Clock, G: Grower>(rt: &E, own: &mut G, n: u64) -> Result<Figure, SpeedFault> {
     let start = now(rt)?;
     let total = own.total();
     let time = since(rt, start)?;
@@ -234,9 +254,9 @@ fn read_in_order<E: Clock>(rt: &E, own: &mut Seated, n: u64) -> Result<Figure, S
 
 /// Reads a row of a quarter as many records, each at a place that the one before it gives, and compares the last
 /// one.
-fn read_in_a_row<E: Clock>(
+fn read_in_a_row<E: Clock, P: Places>(
     rt: &E,
-    snapshot: &Snapshot<'_, u64>,
+    snapshot: &P,
     sizes: ReadSizes,
 ) -> Result<Figure, SpeedFault> {
     let start = now(rt)?;
@@ -249,10 +269,10 @@ fn read_in_a_row<E: Clock>(
 }
 
 /// Reads from a snapshot, at random by 1, 2 and 4 threads, one by one and many at once, and in a row.
-fn read_snapshot<E: Threads + Wait + Clock + Sync>(
+fn read_snapshot<E: Threads + Wait + Clock + Sync, P: Places + Sync>(
     rt: &E,
     alloc: Global,
-    snapshot: &Snapshot<'_, u64>,
+    snapshot: &P,
     sizes: ReadSizes,
     figures: &mut Vec<Figure>,
 ) -> Result<(), SpeedFault> {

@@ -80,23 +80,19 @@ pub struct Committer<'a, D: Disk> {
     ghost of: { IsFlusherOf (D.keeps flusher.pen.disk) live.now flusher },
 }
 
-impl<D: Disk + Drop> Committer<'_, D> {
-    /// Commits what others grow until the phase is closed and all of it is durable.
-    fn commit<E: Wait>(&mut self, rt: &E) -> Result<(), SpeedFault> {
-        match self.flusher.serve(rt, self.live) {
-            Ok(()) => Ok(()),
+/// Who commits what the threads of a phase grow. They run beside any, and so are proved without what a file is made of.
+pub trait Commits {
+    /// What the thread does that commits: it commits what others grow until the phase is closed and all of it is
+    /// durable. When all was.
+    fn serve<E: Wait + Clock>(self, rt: &E) -> Result<Instant, SpeedFault>;
+}
+
+impl<D: Disk + Drop> Commits for Committer<'_, D> {
+    fn serve<E: Wait + Clock>(mut self, rt: &E) -> Result<Instant, SpeedFault> {
+        let live = self.live;
+        match self.flusher.serve(rt, live) {
+            Ok(()) => now(rt),
             Err(fault) => Err(SpeedFault::Flush(fault)),
         }
-    }
-
-    /// Commits it, and answers when all was durable.
-    fn commit_all<E: Wait + Clock>(&mut self, rt: &E) -> Result<Instant, SpeedFault> {
-        self.commit(rt)?;
-        now(rt)
-    }
-
-    /// What the thread does that commits.
-    pub fn serve<E: Wait + Clock>(mut self, rt: &E) -> Result<Instant, SpeedFault> {
-        self.commit_all(rt)
     }
 }

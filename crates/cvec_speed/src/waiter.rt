@@ -1,10 +1,10 @@
 //! A thread that waits for each of its growths, and who watches whether it is woken.
 
 use crate::fault::SpeedFault;
+use crate::grower::{Grower, Phase};
 use crate::mix::{below, mix};
-use crate::phase::Seated;
 use crate::watch::Watch;
-use book_core::{GrowFault, Live};
+use book_core::GrowFault;
 use std::alloc::Global;
 use std::sync::Wait;
 use std::time::{Clock, Duration};
@@ -85,10 +85,10 @@ impl Course {
 }
 
 /// One round: a growth of that record, a pause, and the wait for the growth. The next record, and the next pause.
-fn make_round<E: Wait>(
+fn make_round<E: Wait, G: Grower>(
     rt: &E,
     alloc: Global,
-    own: &mut Seated,
+    own: &mut G,
     record: u64,
     draws: u64,
 ) -> Result<(u64, u64), SpeedFault> {
@@ -100,10 +100,10 @@ fn make_round<E: Wait>(
 }
 
 /// Makes all rounds of a thread.
-fn make_rounds<E: Wait>(
+fn make_rounds<E: Wait, G: Grower>(
     rt: &E,
     alloc: Global,
-    own: &mut Seated,
+    own: &mut G,
     course: Course,
     watch: &Watch,
 ) -> Result<(), SpeedFault> {
@@ -111,7 +111,7 @@ fn make_rounds<E: Wait>(
     let mut draws = below(record, FIRST_PAUSE);
     for round in 0..course.rounds {
         if course.closes_at(round) {
-            own.live().close(rt);
+            own.close(rt);
         }
         (record, draws) = make_round(rt, alloc, own, record, draws)?;
         watch.count();
@@ -120,27 +120,32 @@ fn make_rounds<E: Wait>(
 }
 
 /// What one thread does: it makes its rounds, and leaves.
-pub fn wait_as<E: Wait>(rt: &E, alloc: Global, own: &mut Seated, course: Course, watch: &Watch) {
+pub fn wait_as<E: Wait, G: Grower>(
+    rt: &E,
+    alloc: Global,
+    own: &mut G,
+    course: Course,
+    watch: &Watch,
+) {
     let made = make_rounds(rt, alloc, own, course, watch);
     watch.leave(rt, course.end.judged(made));
 }
 
 /// Waits until the threads are through. Where they stand still it tells so, and closes the phase, so that those end that
 /// it can wake.
-pub fn watch_over<E: Wait + Clock + Eprint>(
+pub fn watch_over<E: Wait + Clock + Eprint, P: Phase>(
     rt: &E,
-    live: &Live<u64>,
+    phase: &P,
     watch: &Watch,
     threads: u64,
-    phase: u64,
+    number: u64,
 ) -> Result<(), SpeedFault> {
     let Some(rounds) = watch.stands_still(rt, threads, Duration::from_secs(PATIENCE)) else {
         return Ok(());
     };
     eprintln!(rt;
-        "cvec_speed: {threads} threads stand still in phase {phase} behind {rounds} rounds"
+        "cvec_speed: {threads} threads stand still in phase {number} behind {rounds} rounds"
     )?;
-    live.close(rt);
-    live.wake_settled();
-    Err(SpeedFault::Still(phase))
+    phase.break_off(rt);
+    Err(SpeedFault::Still(number))
 }

@@ -1,0 +1,103 @@
+//! What works do by one thread's seat.
+
+use crate::append::Records;
+use crate::barrier::{Barrier, Span};
+use crate::fault::SpeedFault;
+use crate::reading::Total;
+use book_core::{GrowFault, Receipt};
+use std::alloc::Global;
+use std::sync::Wait;
+use std::time::Clock;
+
+/// One thread's seat in a phase. Works are written over any, so that they are proved without what a vector is made of.
+pub trait Grower {
+    /// Its number among the seats.
+    fn number(&self) -> usize;
+
+    /// Appends a block. Its number.
+    fn put<E: Wait>(&mut self, rt: &E, alloc: Global, block: &[u64]) -> Result<u64, SpeedFault>;
+
+    /// Appends a record.
+    fn put_record<E: Wait>(&mut self, rt: &E, record: u64) -> Result<(), SpeedFault>;
+
+    /// Makes the growth of that number, by each call in its turn.
+    fn grow_in_turn<E: Wait>(&mut self, rt: &E, number: u64) -> Result<Option<Receipt>, GrowFault>;
+
+    /// How many growths are durable, as far as it is told.
+    fn settled(&mut self) -> u64;
+
+    /// Waits until the growth of that number is durable.
+    fn wait_for<E: Wait>(&mut self, rt: &E, number: u64) -> Result<(), SpeedFault>;
+
+    /// Closes the phase.
+    fn close<E: Wait>(&self, rt: &E);
+
+    /// Learns what all seats have grown.
+    fn look(&mut self) -> Result<(), SpeedFault>;
+
+    /// How many records it knows.
+    fn size(&self) -> u64;
+
+    /// In how many pieces the records stand that it knows.
+    fn piece_count(&self) -> u64;
+
+    /// All that it knows, read piece by piece.
+    fn total(&mut self) -> Total;
+
+    /// Appends so many records by blocks of so many, once all threads are there.
+    fn append_all<E: Wait + Clock>(
+        self,
+        rt: &E,
+        alloc: Global,
+        records: Records,
+        barrier: &Barrier,
+    ) -> Result<Span, SpeedFault>;
+}
+
+/// A phase whose threads are watched.
+pub trait Phase {
+    /// Closes it, and wakes who waits in it.
+    fn break_off<E: Wait>(&self, rt: &E);
+}
+
+/// Grows so many times by copies of the block.
+pub fn put_blocks<E: Wait, G: Grower>(
+    rt: &E,
+    alloc: Global,
+    own: &mut G,
+    block: &[u64],
+    growths: u64,
+) -> Result<(), SpeedFault> {
+    for _ in 0..growths {
+        own.put(rt, alloc, block)?;
+    }
+    Ok(())
+}
+
+/// Grows so many times by one record.
+fn put_records<E: Wait, G: Grower>(
+    rt: &E,
+    own: &mut G,
+    record: u64,
+    growths: u64,
+) -> Result<(), SpeedFault> {
+    for _ in 0..growths {
+        own.put_record(rt, record)?;
+    }
+    Ok(())
+}
+
+/// Grows so many times by copies of the block, or by its record, where it has one.
+pub fn put_copies<E: Wait, G: Grower>(
+    rt: &E,
+    alloc: Global,
+    own: &mut G,
+    block: &[u64],
+    growths: u64,
+) -> Result<(), SpeedFault> {
+    if let [record] = block {
+        put_records(rt, own, *record, growths)
+    } else {
+        put_blocks(rt, alloc, own, block, growths)
+    }
+}

@@ -1,0 +1,130 @@
+//! What the threads of a work do.
+
+use crate::append::Records;
+use crate::barrier::Barrier;
+use crate::fault::SpeedFault;
+use crate::grow::{Copies, grow_copies};
+use crate::grower::{Grower, Phase};
+use crate::waiter::{wait_as, watch_over};
+use crate::watch::Watch;
+use crate::{beside, producer, waiter};
+use std::alloc::Global;
+use std::sync::Wait;
+use std::time::Clock;
+
+/// What a thread does by its seat.
+#[derive(Clone, Copy)]
+pub enum Task<'a> {
+    /// Grows by copies of its block.
+    Grow(Copies<'a>, &'a Barrier),
+    /// Grows, or sums what there is.
+    Beside(&'a beside::Course<'a>),
+    /// Appends blocks.
+    Produce(&'a producer::Course),
+    /// Waits for each of its growths, and is watched.
+    Wait(waiter::Course, &'a Watch),
+}
+
+impl Task<'_> {
+    fn play<E: Wait + Clock, G: Grower>(self, rt: &E, alloc: Global, own: &mut G) {
+        match self {
+            Task::Grow(copies, barrier) => {
+                barrier.leave(rt, grow_copies(rt, alloc, own, copies, barrier))
+            }
+            Task::Beside(course) => course.play(rt, alloc, own),
+            Task::Produce(course) => course.play(rt, alloc, own),
+            Task::Wait(course, watch) => wait_as(rt, alloc, own, course, watch),
+        }
+    }
+}
+
+/// What each of the threads of a phase does. They are run over any such, and so proved without what a work is made of.
+pub trait Play: Copy + Send + Sync {
+    /// What comes before, by a seat that has no thread.
+    fn prepare<E: Wait, G: Grower>(
+        self,
+        rt: &E,
+        alloc: Global,
+        last: &mut G,
+    ) -> Result<(), SpeedFault>;
+
+    /// What one thread does.
+    fn play<E: Wait + Clock, G: Grower + Drop>(self, rt: &E, alloc: Global, own: G);
+
+    /// Tells those that wait for all threads that one of them can't be started.
+    fn give_up(self);
+
+    /// Waits until the threads are through, where they are watched.
+    fn watch_over<E: Wait + Clock + Eprint, P: Phase>(
+        self,
+        rt: &E,
+        phase: &P,
+        threads: u64,
+    ) -> Result<(), SpeedFault>;
+}
+
+/// What each of the threads does.
+#[derive(Clone, Copy)]
+pub enum Role<'a> {
+    /// Appends single records: it gives its seat to an appender.
+    Append(Records, &'a Barrier),
+    Keep(Task<'a>),
+}
+
+impl<'a> Role<'a> {
+    /// Where its threads wait for all of them.
+    fn barrier(self) -> Option<&'a Barrier> {
+        match self {
+            Role::Append(_, barrier) | Role::Keep(Task::Grow(_, barrier)) => Some(barrier),
+            Role::Keep(Task::Beside(course)) => Some(&course.barrier),
+            Role::Keep(Task::Produce(course)) => Some(&course.barrier),
+            Role::Keep(Task::Wait(_, _)) => None,
+        }
+    }
+}
+
+impl Play for Role<'_> {
+    fn prepare<E: Wait, G: Grower>(
+        self,
+        rt: &E,
+        alloc: Global,
+        last: &mut G,
+    ) -> Result<(), SpeedFault> {
+        match self {
+            Role::Keep(Task::Beside(course)) => course.grow_before(rt, alloc, last),
+            _ => Ok(()),
+        }
+    }
+
+    fn play<E: Wait + Clock, G: Grower + Drop>(self, rt: &E, alloc: Global, own: G) {
+        match self {
+            Role::Append(records, barrier) => {
+                barrier.leave(rt, own.append_all(rt, alloc, records, barrier))
+            }
+            Role::Keep(task) => {
+                let mut own = own;
+                task.play(rt, alloc, &mut own)
+            }
+        }
+    }
+
+    fn give_up(self) {
+        if let Some(barrier) = self.barrier() {
+            barrier.give_up();
+        }
+    }
+
+    fn watch_over<E: Wait + Clock + Eprint, P: Phase>(
+        self,
+        rt: &E,
+        phase: &P,
+        threads: u64,
+    ) -> Result<(), SpeedFault> {
+        match self {
+            Role::Keep(Task::Wait(course, watch)) => {
+                watch_over(rt, phase, watch, threads, course.phase)
+            }
+            _ => Ok(()),
+        }
+    }
+}
