@@ -96,6 +96,21 @@ lines_that_came_are_committed_while_more_are_waited_for() (
     [ ! -s "$work/first_err" ]
 )
 
+# Also where they have just the bytes that a read asks for.
+lines_that_fill_a_read_are_committed_too() (
+    run create u64 "$work/t.cv"
+    mkfifo "$work/pipe"
+    "$top/crates/cvec/out/cvec" append u64 "$work/t.cv" <"$work/pipe" >"$work/first_out" 2>"$work/first_err" &
+    exec 8>"$work/pipe"
+    seq 1000000 1008191 >"$work/lines"
+    [ "$(wc -c <"$work/lines")" -eq 65536 ]
+    cat "$work/lines" >&8
+    copy_comes_to_have "$(cat "$work/lines")\n"
+    exec 8>&-
+    wait "$!"
+    echo 'appended 8192 growths, size 8192' | cmp - "$work/first_out"
+)
+
 # Of blocks only whole ones are committed so.
 whole_blocks_are_committed_while_more_is_waited_for() (
     run create u64 "$work/t.cv"

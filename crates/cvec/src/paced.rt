@@ -1,5 +1,6 @@
 //! Standard input that a thread of its own reads ahead, so that what has come is handed on while more is waited for.
 
+ghost use Rattle.std.specs.Prelude.{◌≤◌};
 ghost use Rattle.std.specs.Io.{ReadsAtMost};
 
 use crossbeam_channel::{Receiver, Sender, bounded};
@@ -176,6 +177,23 @@ impl Ahead {
         false
     }
 
+    /// How many of the bytes that fill a read are kept for the next one: one, where no more comes in a pause. So that read
+    /// gives less than it is asked for, and what has come isn't waited with.
+    fn kept_back<E: Wait + Clock>(&mut self, rt: &E, filled: usize) -> usize
+        ensures { result ≤ filled }
+    {
+        let at = self.bytes.position();
+        if filled == 0 || at == 0 || at < self.bytes.get_ref().len() as u64 {
+            return 0;
+        }
+        self.since = Instant::now(rt).ok();
+        if self.takes_next(rt, false) || !matches!(self.state, InputState::Open) {
+            return 0;
+        }
+        self.bytes.set_position(at - 1);
+        1
+    }
+
     fn read<E: Wait + Clock>(&mut self, rt: &E, buf: &mut [u8]) -> io::Result<usize>
         ensures { ReadsAtMost result buf.new }
     {
@@ -184,7 +202,7 @@ impl Ahead {
         for _ in rt.forever() {
             filled += self.bytes.read(&mut buf[filled..])?;
             if filled == buf.len() {
-                return Ok(filled);
+                return Ok(filled - self.kept_back(rt, filled));
             }
             if !self.takes_next(rt, filled == 0) {
                 return match self.state {
