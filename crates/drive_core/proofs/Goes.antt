@@ -1,5 +1,5 @@
--- Each step of a file that is there keeps the base, makes the history longer, and settles no less.
-use Rattle.std.proofs.Common.{◌≡◌, ◌⊎◌, inl, inr, ℕ, ◌≤◌, Bool, true, false, List, [], ◌∷◌, ◌++◌, length, Option, Some, None, refl, sym, subst, ◌∙◌, arith, append-nil}
+-- Each step of a file that is there keeps the base, makes the history longer, settles no less, and raises no mark past that.
+use Rattle.std.proofs.Common.{◌≡◌, ◌⊎◌, inl, inr, ℕ, ◌≤◌, Bool, true, false, List, [], ◌∷◌, ◌++◌, ◌+◌, ◌-◌, length, Option, Some, None, refl, sym, subst, ◌∙◌, arith, append-nil}
 use Rattle.record_core.specs.Bytes.{Encoding}
 use Rattle.segment_core.specs.Command.{Command}
 use Rattle.segment_core.specs.Command as commands
@@ -16,31 +16,53 @@ use Rattle.drive_core.specs.Step.{Step, Answer}
 use Rattle.drive_core.specs.Step as step
 use Rattle.drive_core.specs.World.{World, Growth, Phase, Shut, Exclusive, Growing, vector, next_group, is_live, changed, changed_runs, resize_command, cleared}
 use Rattle.drive_core.specs.Outcome.{RefusedAt, elsewhere}
-use Rattle.drive_core.specs.GrowthRows.{with_group}
+use Rattle.drive_core.specs.GrowthRows.{knowing, with_group}
 use Rattle.drive_core.specs.ExclusiveRows.{IsCommand, TornAt}
 use Rattle.drive_core.specs.LaneRows.{IsLog, IsHome, log_fault_due, home_due, IsFold, IsJobLogged, IsLogged, IsFoldHomed, IsHomed, IsFiled, HasBegun, broken_by}
 use Rattle.drive_core.specs.Rows.{IsStep, PhaseRow, StrayRow, ExclusiveRow, GrowthRow, OfSeat, has_seat}
 use Rattle.drive_core.specs.Run.{HasCalls, LaneCalls, CommandCalls}
 use Rattle.drive_core.specs.Headline.{HasFile}
 
+-- a file is there, and in a growth phase the mark tells of no more growths than are settled
+abbrev pub IsMarked : ℕ → Phase → Type 0
+IsMarked settled Shut = ⊥
+IsMarked settled Exclusive = Unit {0}
+IsMarked settled (Growing phase) = phase.mark ≤ settled - phase.before
+
+-- as many settled, or more
+IsMarked-more : (settled more : ℕ) (phase : Phase) → settled ≤ more → IsMarked settled phase → IsMarked more phase
+IsMarked-more settled more Shut le marked = marked
+IsMarked-more settled more Exclusive le marked = tt
+IsMarked-more settled more (Growing phase) le marked = omega arith
+
+-- whatever a pass knows
+IsMarked-knowing : (settled known : ℕ) (phase : Growth) (pass : Option ℕ) → IsMarked settled (Growing phase) → IsMarked settled (Growing (knowing phase pass known))
+IsMarked-knowing settled known phase None marked = marked
+IsMarked-knowing settled known phase (Some seat) marked = marked
+
+pub HasFile-marked : (settled : ℕ) (phase : Phase) → IsMarked settled phase → HasFile phase
+HasFile-marked settled Shut marked = marked
+HasFile-marked settled Exclusive marked = tt
+HasFile-marked settled (Growing phase) marked = tt
+
 pub record Goes {R : Type 0} (w w' : World R) (n : ℕ) : Type 0 where
   pub base_same : w'.base ≡ w.base
   pub added : List (Command R)
   pub history_is : w'.history ≡ w.history ++ added
   pub settled_le : w.settled ≤ w'.settled
-  pub file_there : HasFile w'.phase
+  pub marked : IsMarked w'.settled w'.phase
   -- without a device call nothing is settled
   pub quiet : n ≡ 0 → w'.settled ≡ w.settled
 
-module _ {R : Type 0} (w w' : World R) (n : ℕ) (there : HasFile w.phase) where
+module _ {R : Type 0} (w w' : World R) (n : ℕ) (there : IsMarked w.settled w.phase) where
   -- to a world with this base, history and settled count
-  to : {x : World R} → w' ≡ x → x.base ≡ w.base → x.history ≡ w.history → x.settled ≡ w.settled → HasFile x.phase → Goes w w' n
+  to : {x : World R} → w' ≡ x → x.base ≡ w.base → x.history ≡ w.history → x.settled ≡ w.settled → IsMarked x.settled x.phase → Goes w w' n
   to is base history settled file = subst (λ y. Goes w y n) (sym is) (record {
     base_same = base;
     added = [];
     history_is = history ∙ sym (append-nil w.history);
     settled_le = omega (arith, settled);
-    file_there = file;
+    marked = file;
     quiet = λ none. settled;
   })
 
@@ -48,15 +70,15 @@ module _ {R : Type 0} (w w' : World R) (n : ℕ) (there : HasFile w.phase) where
   stays is = to is refl refl refl there
 
   -- one command more
-  longer : {x : World R} → w' ≡ x → (command : Command R) → x.base ≡ w.base → x.history ≡ w.history ++ command ∷ [] → w.settled ≤ x.settled → HasFile x.phase
+  longer : {x : World R} → w' ≡ x → (command : Command R) → x.base ≡ w.base → x.history ≡ w.history ++ command ∷ [] → w.settled ≤ x.settled → IsMarked x.settled x.phase
       → (n ≡ 0 → x.settled ≡ w.settled) → Goes w w' n
   longer is command base history settled file quiet = subst (λ y. Goes w y n) (sym is)
-      (record { base_same = base; added = command ∷ []; history_is = history; settled_le = settled; file_there = file; quiet = quiet })
+      (record { base_same = base; added = command ∷ []; history_is = history; settled_le = settled; marked = file; quiet = quiet })
 
   -- and none, but more of them settled
-  settles : {x : World R} → w' ≡ x → x.base ≡ w.base → x.history ≡ w.history → w.settled ≤ x.settled → HasFile x.phase → (n ≡ 0 → x.settled ≡ w.settled) → Goes w w' n
+  settles : {x : World R} → w' ≡ x → x.base ≡ w.base → x.history ≡ w.history → w.settled ≤ x.settled → IsMarked x.settled x.phase → (n ≡ 0 → x.settled ≡ w.settled) → Goes w w' n
   settles is base history settled file quiet = subst (λ y. Goes w y n) (sym is)
-      (record { base_same = base; added = []; history_is = history ∙ sym (append-nil w.history); settled_le = settled; file_there = file; quiet = quiet })
+      (record { base_same = base; added = []; history_is = history ∙ sym (append-nil w.history); settled_le = settled; marked = file; quiet = quiet })
 
   by_outcome : {Fits Accepted : Type 0} {May By : Fault → Type 0} {answer : Answer R} → (Fits × Accepted) ⊎ ((fault : Fault) × May fault × (answer ≡ step.Refused fault) × By fault)
       → (Accepted → Goes w w' n) → ((fault : Fault) → By fault → Goes w w' n) → Goes w w' n
@@ -69,9 +91,9 @@ module _ {R : Type 0} (w w' : World R) (n : ℕ) (there : HasFile w.phase) where
   refused_at due failed (Scan fault) goes by = stays by
 
   module _ (form : Encoding R) where
-    group_goes : (phase : Growth) (growths : List (List R)) → w' ≡ with_group form w phase growths → Goes w w' n
-    group_goes phase [] is = stays is
-    group_goes phase (growth ∷ growths) is = to is refl refl refl tt
+    group_goes : (phase : Growth) → phase.mark ≤ w.settled - phase.before → (growths : List (List R)) → w' ≡ with_group form w phase growths → Goes w w' n
+    group_goes phase marked [] is = stays is
+    group_goes phase marked (growth ∷ growths) is = to is refl refl refl marked
 
     torn_goes : (command : Command R) (fault : Fault) → TornAt form w command w' fault → Goes w w' n
     torn_goes command (Vault (vault.Pen (pen_fault.Disk fault))) by = longer by.1.2 command refl refl (omega arith) there (λ none. refl)
@@ -83,7 +105,7 @@ module _ {R : Type 0} (w w' : World R) (n : ℕ) (there : HasFile w.phase) where
     command_goes None answer calls row = by_outcome row (λ ok. stays ok.1) (λ fault by. stays by)
     command_goes (Some command) answer calls row = by_outcome row
         (λ ok. let four : n ≡ 4 = subst (λ a. CommandCalls (Some command) a n) ok.0 calls in
-        longer ok.1 command refl refl (omega arith) there (λ none. absurd (omega (arith, four, none))))
+        longer ok.1 command refl refl (omega arith) (IsMarked-more w.settled (w.settled + 1) w.phase (omega arith) there) (λ none. absurd (omega (arith, four, none))))
         (torn_goes command)
 
     fold_goes : (keeps : Type 0) (live : Bool) → HasBegun keeps w live w' → Goes w w' n
@@ -93,7 +115,7 @@ module _ {R : Type 0} (w w' : World R) (n : ℕ) (there : HasFile w.phase) where
     logged_goes : (job : JobOf) (next : Option pen_step.Step) (answer : Answer R) → LaneCalls answer n → IsLogged w job next answer w' → Goes w w' n
     logged_goes job None answer calls row =
         let one : n ≡ 1 = subst (λ a. LaneCalls a n) row.0 calls in
-        settles row.1 refl refl (omega arith) there (λ none. absurd (omega (arith, one, none)))
+        settles row.1 refl refl (omega arith) (IsMarked-more w.settled _ w.phase (omega arith) there) (λ none. absurd (omega (arith, one, none)))
     logged_goes job (Some next) answer calls row = to row.1 refl refl refl there
 
     job_goes : (job : Option JobOf) (answer : Answer R) → LaneCalls answer n → IsJobLogged w job answer w' → Goes w w' n
@@ -129,7 +151,7 @@ module _ {R : Type 0} (w w' : World R) (n : ℕ) (there : HasFile w.phase) where
     fold_row keeps answer row = by_outcome row (λ ok. fold_goes keeps (is_live w.hand.file) ok.1) (λ fault by. stays by)
 
     exclusive_goes : (keeps : Type 0) (asked : Step R) (answer : Answer R) → HasCalls w asked answer n → ExclusiveRow form keeps w asked answer w' → Goes w w' n
-    exclusive_goes keeps (step.Share room seats) answer calls row = by_outcome row (λ ok. to ok.1 refl refl refl tt) (λ fault by. stays by)
+    exclusive_goes keeps (step.Share room seats) answer calls row = by_outcome row (λ ok. to ok.1 refl refl refl (omega arith)) (λ fault by. stays by)
     exclusive_goes keeps (step.Change start records) answer calls row = command_goes (changed start records) answer calls row
     exclusive_goes keeps (step.Changes pieces) answer calls row = elim row [ inl memory ↦ stays memory.2 | inr command ↦ command_goes (changed_runs pieces) answer calls command ]
     exclusive_goes keeps (step.Resize size r) answer calls row = command_goes (resize_command (length (vector w)) size r) answer calls row
@@ -149,36 +171,36 @@ module _ {R : Type 0} (w w' : World R) (n : ℕ) (there : HasFile w.phase) where
     exclusive_goes keeps step.Close answer calls row = stays row.1
     exclusive_goes keeps step.Gather answer calls row = stays row.1
 
-    growth_goes : (keeps : Type 0) (phase : Growth) (asked : Step R) (answer : Answer R) → HasCalls w asked answer n → GrowthRow form keeps w phase asked answer w' → Goes w w' n
-    growth_goes keeps phase (step.Put seat records) answer calls row = seat_goes answer (has_seat phase (Some seat)) row
-        (λ put. by_outcome put (λ ok. longer ok.1 (commands.Grow records) refl refl (omega arith) tt (λ none. refl)) (λ fault by. to by.2 refl refl refl tt))
-    growth_goes keeps phase (step.Look pass) answer calls row = seat_goes answer (has_seat phase pass) row
-        (λ look. by_outcome look (λ ok. to ok.3 refl refl refl tt) (λ fault by. to by refl refl refl there))
-    growth_goes keeps phase (step.View seat) answer calls row = seat_goes answer (has_seat phase (Some seat)) row
+    growth_goes : (keeps : Type 0) (phase : Growth) → phase.mark ≤ w.settled - phase.before → (asked : Step R) (answer : Answer R) → HasCalls w asked answer n → GrowthRow form keeps w phase asked answer w' → Goes w w' n
+    growth_goes keeps phase marked (step.Put seat records) answer calls row = seat_goes answer (has_seat phase (Some seat)) row
+        (λ put. by_outcome put (λ ok. longer ok.1 (commands.Grow records) refl refl (omega arith) marked (λ none. refl)) (λ fault by. to by.2 refl refl refl marked))
+    growth_goes keeps phase marked (step.Look pass) answer calls row = seat_goes answer (has_seat phase pass) row
+        (λ look. by_outcome look (λ ok. to ok.3 refl refl refl (IsMarked-knowing w.settled ok.0 phase pass marked)) (λ fault by. to by refl refl refl there))
+    growth_goes keeps phase marked (step.View seat) answer calls row = seat_goes answer (has_seat phase (Some seat)) row
         (λ view. by_outcome view (λ ok. stays ok.1) (λ fault by. stays by))
-    growth_goes keeps phase (step.Settled seat) answer calls row = seat_goes answer (has_seat phase (Some seat)) row
-        (λ read. by_outcome read (λ ok. to ok.4 refl refl refl tt) (λ fault by. to by refl refl refl there))
-    growth_goes keeps phase step.Take answer calls row = by_outcome row (λ ok. group_goes phase (next_group form.width w phase) ok.1) (λ fault by. stays by)
-    growth_goes keeps phase step.Raise answer calls row = to row.1 refl refl refl tt
-    growth_goes keeps phase step.Close answer calls row = to row.1 refl refl refl tt
-    growth_goes keeps phase step.Gather answer calls row = by_outcome row (λ ok. to ok.1 refl refl refl tt) (λ fault by. stays by)
-    growth_goes keeps phase step.Fold answer calls row = fold_row keeps answer row
-    growth_goes keeps phase step.Log answer calls row = log_goes answer calls row
-    growth_goes keeps phase step.Home answer calls row = home_goes answer row
-    growth_goes keeps phase (step.Create format) answer calls row = stays row.1
-    growth_goes keeps phase step.Open answer calls row = stays row.1
-    growth_goes keeps phase (step.Share room seats) answer calls row = stays row.1
-    growth_goes keeps phase (step.Change start records) answer calls row = stays row.1
-    growth_goes keeps phase (step.Changes pieces) answer calls row = stays row.1
-    growth_goes keeps phase (step.Resize size r) answer calls row = stays row.1
-    growth_goes keeps phase step.Clear answer calls row = stays row.1
-    growth_goes keeps phase step.Listing answer calls row = stays row.1
+    growth_goes keeps phase marked (step.Settled seat) answer calls row = seat_goes answer (has_seat phase (Some seat)) row
+        (λ read. by_outcome read (λ ok. to ok.4 refl refl refl marked) (λ fault by. to by refl refl refl there))
+    growth_goes keeps phase marked step.Take answer calls row = by_outcome row (λ ok. group_goes phase marked (next_group form.width w phase) ok.1) (λ fault by. stays by)
+    growth_goes keeps phase marked step.Raise answer calls row = to row.1 refl refl refl (omega arith)
+    growth_goes keeps phase marked step.Close answer calls row = to row.1 refl refl refl marked
+    growth_goes keeps phase marked step.Gather answer calls row = by_outcome row (λ ok. to ok.1 refl refl refl tt) (λ fault by. stays by)
+    growth_goes keeps phase marked step.Fold answer calls row = fold_row keeps answer row
+    growth_goes keeps phase marked step.Log answer calls row = log_goes answer calls row
+    growth_goes keeps phase marked step.Home answer calls row = home_goes answer row
+    growth_goes keeps phase marked (step.Create format) answer calls row = stays row.1
+    growth_goes keeps phase marked step.Open answer calls row = stays row.1
+    growth_goes keeps phase marked (step.Share room seats) answer calls row = stays row.1
+    growth_goes keeps phase marked (step.Change start records) answer calls row = stays row.1
+    growth_goes keeps phase marked (step.Changes pieces) answer calls row = stays row.1
+    growth_goes keeps phase marked (step.Resize size r) answer calls row = stays row.1
+    growth_goes keeps phase marked step.Clear answer calls row = stays row.1
+    growth_goes keeps phase marked step.Listing answer calls row = stays row.1
 
-    phase_goes : (keeps : Type 0) (phase : Phase) → HasFile phase → (asked : Step R) (answer : Answer R) → HasCalls w asked answer n → PhaseRow form keeps w phase asked answer w'
+    phase_goes : (keeps : Type 0) (phase : Phase) → IsMarked w.settled phase → (asked : Step R) (answer : Answer R) → HasCalls w asked answer n → PhaseRow form keeps w phase asked answer w'
         → Goes w w' n
     phase_goes keeps Shut has asked answer calls row = absurd has
     phase_goes keeps Exclusive has asked answer calls row = exclusive_goes keeps asked answer calls row
-    phase_goes keeps (Growing phase) has asked answer calls row = growth_goes keeps phase asked answer calls row
+    phase_goes keeps (Growing phase) has asked answer calls row = growth_goes keeps phase has asked answer calls row
 
     stray_goes : (keeps : Type 0) (stray : Option ℕ) (asked : Step R) (answer : Answer R) → HasCalls w asked answer n → StrayRow form keeps w stray asked answer w' → Goes w w' n
     stray_goes keeps None asked answer calls row = phase_goes keeps w.phase there asked answer calls row

@@ -10,7 +10,7 @@ use Rattle.disk_core.specs.State.{State}
 use Rattle.drive_core.specs.World.{World}
 use Rattle.drive_core.specs.Driving.{HasRun}
 use Rattle.drive_core.specs.Ties.{disk_of}
-use Rattle.drive_core.proofs.Headline.{headline}
+use Rattle.drive_core.proofs.Headline.{headline, leaves_told}
 
 pub driven : {R : Type 0} (form : Encoding R) (keeps : Type 0) (old new : DiskOf) (steps : List (Step R)) (answers : List (Answer R)) (calls : List ℕ) (events : List (Event R))
     → AreEventsOf steps answers calls events → Run form keeps (start old) events → (last (start old) events).disk ≡ new → (keeps → AllInner form (start old) events)
@@ -20,7 +20,8 @@ driven form keeps old new steps answers calls events are run ends inner = record
   are_of = are;
   run = run;
   ends = ends;
-  leaves = λ k. headline form keeps (start old) events (λ has. absurd has) run (inner k);
+  leaves = λ k. headline form keeps (start old) events (λ has. absurd has) (λ has. absurd has) run (inner k);
+  told = λ k. leaves_told form keeps (start old) events (λ has. absurd has) (λ has. absurd has) run (inner k);
 }
 
 -- the run of all steps, on the disk that is handed back

@@ -1,11 +1,13 @@
 -- What a crash leaves of a run: the vector after a prefix of the history that holds every settled command.
-use Rattle.std.specs.Prelude.{◌≡◌, ℕ, ◌+◌, ◌≤◌, ◌<◌, List, [], ◌∷◌, length, map, sum, take, slice_get, Some}
+use Rattle.std.specs.Prelude.{◌≡◌, ℕ, suc, ◌+◌, ◌≤◌, ◌<◌, List, [], ◌∷◌, length, map, sum, take, slice_get, Some}
 use Rattle.record_core.specs.Bytes.{Encoding}
 use Rattle.disk_core.specs.State.{IsImage, now}
 use Rattle.disk_core.specs.Moments.{clock, LeftSince, LeavesOnly}
 use Rattle.segment_core.specs.Command.{Command, content}
 use Rattle.pen_core.specs.Typed.{OpensTo}
-use Rattle.drive_core.specs.World.{World, Phase, Shut, Exclusive, Growing}
+use Rattle.book_core.specs.declared.mark.MarkState.{MarkState}
+use Rattle.drive_core.specs.Step as step
+use Rattle.drive_core.specs.World.{World, Growth, Phase, Shut, Exclusive, Growing}
 use Rattle.drive_core.specs.Run.{Event, last}
 
 -- a file was created or opened
@@ -28,6 +30,15 @@ module _ {R : Type 0} (form : Encoding R) where
       (j : ℕ) (before : World R) → slice_get (w ∷ map (λ e. e.after) events) j ≡ Some before → HasFile before.phase
       → (image : List ℕ) → LeftSince (last w events).disk.states (clock w.disk.states + sum (take j (map (λ e. e.calls) events))) image
       → OpensToPrefix (last w events).base (last w events).history before.settled image
+
+  -- Once a seat that asked was told that so many growths of its phase are settled, each of them stands in every image left
+  -- since: opening that gives a prefix which has the commands from before the phase and the growths up to that one.
+  abbrev pub LeavesTold : World R → List (Event R) → Type 0
+  LeavesTold w events =
+      (j : ℕ) (event : Event R) (seat : ℕ) (phase : Growth) (told : ℕ) (state : MarkState) → slice_get events j ≡ Some event → event.asked ≡ step.Settled seat
+      → event.after.phase ≡ Growing phase → event.answer ≡ step.Told told state → (number : ℕ) → number < told
+      → (image : List ℕ) → LeftSince (last w events).disk.states (clock w.disk.states + sum (take (suc j) (map (λ e. e.calls) events))) image
+      → OpensToPrefix (last w events).base (last w events).history (phase.before + number + 1) image
 
   -- ---- what each step's call says, from which it follows
 
