@@ -7,7 +7,7 @@ use Rattle.std.proofs.lemmas.List.Concat.{length-flat_map}
 use Rattle.std.proofs.lemmas.List.Elements.{filter-append, filter_more}
 use Rattle.std.proofs.lemmas.Option.{slice_get_within, get_or_from_slice_get}
 use Rattle.block_core.specs.Growth.{Growth}
-use Rattle.directory_core.specs.Chain.{total, joined, IsPrefix}
+use Rattle.directory_core.specs.Chain.{total, grown_records, IsPrefix}
 use Rattle.directory_core.specs.Identity.{Identity}
 use Rattle.book_core.specs.Marks.{MarkName, MarkEnd}
 use Rattle.book_core.specs.Lists.{Phase, Seated, IsSeatOf, own_of}
@@ -50,8 +50,8 @@ seats-push {R} directory mark seats seat all new k s is =
       | inr last ↦ subst (λ (x : ℕ × Seated R). IsNewSeat directory mark x.0 x.1) (λ i. (sym last.0 i, last.1 i)) new
     ]
 
-pub length-list : {R : Type 0} (opening : List R) (es : List (Growth R)) → length (opening ++ joined es) ≡ length opening + total es
-length-list opening es = length-append opening (joined es) ∙ ap (λ (n : ℕ). length opening + n) (length-flat_map (λ (e : Growth _). e.records) es)
+pub length-list : {R : Type 0} (opening : List R) (es : List (Growth R)) → length (opening ++ grown_records es) ≡ length opening + total es
+length-list opening es = length-append opening (grown_records es) ∙ ap (λ (n : ℕ). length opening + n) (length-flat_map (λ (e : Growth _). e.records) es)
 
 get-push : {X : Type 0} (xs : List X) (x : X) (k : ℕ) (y : X) → slice_get xs k ≡ Some y → slice_get (xs ++ x ∷ []) k ≡ Some y
 get-push [] x k y is = grind arith

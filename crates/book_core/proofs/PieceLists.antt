@@ -9,12 +9,12 @@ use Rattle.std.proofs.lemmas.List.Folds.{flat_map-map}
 use Rattle.std.proofs.lemmas.List.Sums.{sum_by-cons}
 use Rattle.std.proofs.lemmas.Option.{get_or_from_slice_get, slice_get_within, slice_get-map}
 use Rattle.block_core.specs.Growth.{Growth}
-use Rattle.directory_core.specs.Chain.{total, joined}
+use Rattle.directory_core.specs.Chain.{total, grown_records}
 use Rattle.directory_core.specs.Finding.{IsPieceAt, IsPlaceOf}
 use Rattle.book_core.specs.Lists.{joined_pieces, IsPlaceIn, IsRestOfPiece}
 use Rattle.book_core.specs.Pieces.{from_place}
 
-pub joined_pieces-growths : {R : Type 0} (blocks : List (List R)) (es : List (Growth R)) → joined_pieces (blocks ++ map (λ e. e.records) es) ≡ joined_pieces blocks ++ joined es
+pub joined_pieces-growths : {R : Type 0} (blocks : List (List R)) (es : List (Growth R)) → joined_pieces (blocks ++ map (λ e. e.records) es) ≡ joined_pieces blocks ++ grown_records es
 joined_pieces-growths blocks es =
     flat_map-append (λ (p : List _). p) blocks (map (λ e. e.records) es)
     ∙ ap (λ (xs : List _). joined_pieces blocks ++ xs) (flat_map-map (λ (p : List _). p) (λ (e : Growth _). e.records) es)
@@ -94,7 +94,7 @@ IsPieceAt-rest pieces i rest at =
 
 -- the list of blocks and growths
 module _ {R : Type 0} (blocks : List (List R)) (es : List (Growth R)) where
-  pub growths_rest : (i : ℕ) (rest : List R) → IsRestOfPiece (blocks ++ map (λ e. e.records) es) i rest → IsPieceAt (joined_pieces blocks ++ joined es) i rest
+  pub growths_rest : (i : ℕ) (rest : List R) → IsRestOfPiece (blocks ++ map (λ e. e.records) es) i rest → IsPieceAt (joined_pieces blocks ++ grown_records es) i rest
   growths_rest i rest at = subst (λ (xs : List R). IsPieceAt xs i rest) (joined_pieces-growths blocks es) (IsPieceAt-rest (blocks ++ map (λ e. e.records) es) i rest at)
 
   -- what is found of the growths, behind the blocks
@@ -104,8 +104,8 @@ module _ {R : Type 0} (blocks : List (List R)) (es : List (Growth R)) where
       let sum : length (joined_pieces blocks) + (i - before) ≡ i = omega arith in
       rw (← sum) (place-append_right blocks (map (λ e. e.records) es) (i - before) number place (place-growths es (i - before) number place at))
 
-  pub none_behind : (i before : ℕ) → before ≡ length (joined_pieces blocks) → before ≤ i → total es ≤ i - before → length (joined_pieces blocks ++ joined es) ≤ i
-  none_behind i before is le told = omega (arith, length-append (joined_pieces blocks) (joined es), length-flat_map (λ (e : Growth R). e.records) es)
+  pub none_behind : (i before : ℕ) → before ≡ length (joined_pieces blocks) → before ≤ i → total es ≤ i - before → length (joined_pieces blocks ++ grown_records es) ≤ i
+  none_behind i before is le told = omega (arith, length-append (joined_pieces blocks) (grown_records es), length-flat_map (λ (e : Growth R). e.records) es)
 
 -- what stands at a place is the first of what is left there
 pub drop_next : {X : Type 0} (xs : List X) (k : ℕ) (x : X) → slice_get xs k ≡ Some x → drop k xs ≡ x ∷ drop (k + 1) xs

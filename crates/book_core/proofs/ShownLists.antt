@@ -4,7 +4,7 @@ use Rattle.std.proofs.lemmas.Grind.{flat_map-append}
 use Rattle.std.proofs.lemmas.List.{append-nil, append_assoc, length-append, length-map, length-take-le, get_or-map, take_all, take_more, take-map, take-append-drop, drop-append-le}
 use Rattle.std.proofs.lemmas.Option.{slice_get_within, get_or_from_slice_get}
 use Rattle.block_core.specs.Growth.{Growth}
-use Rattle.directory_core.specs.Chain.{total, joined, Agree, IsPrefix}
+use Rattle.directory_core.specs.Chain.{total, grown_records, Agree, IsPrefix}
 use Rattle.book_core.specs.Lists.{Phase, Seated, opening_of, joined_pieces}
 use Rattle.book_core.specs.Snapshots.{Shown, ShowsSeat, full_of, growth_records}
 use Rattle.book_core.proofs.Owns.{length-list}
@@ -44,7 +44,7 @@ shows_all {R} shown seat same = record {
   of = refl;
   growths = same;
   list = ap (λ (gs : List (List R)). joined_pieces (full_of shown.of.blocks ++ gs)) same
-      ∙ (joined_pieces-growths (full_of shown.of.blocks) seat.pass.entries ∙ ap (λ (rs : List R). rs ++ joined seat.pass.entries) (joined-full_of shown.of.blocks));
+      ∙ (joined_pieces-growths (full_of shown.of.blocks) seat.pass.entries ∙ ap (λ (rs : List R). rs ++ grown_records seat.pass.entries) (joined-full_of shown.of.blocks));
 }
 
 -- where it has as many it has the same ones
@@ -66,7 +66,7 @@ module _ {R : Type 0} (live : Phase R) (seat : Seated R) (pieces : List (List R)
       let cut : pieces ≡ full_of live.blocks ++ map (λ e. e.records) (take n seat.pass.entries) = sym (take-append-drop blocks pieces)
       ∙ ap₂ (λ (xs ys : List (List R)). xs ++ ys) first (begins ∙ take-map (λ (e : Growth R). e.records) n seat.pass.entries) in
       ap (λ (ps : List (List R)). length (joined_pieces ps)) cut
-      ∙ (ap length (joined_pieces-growths (full_of live.blocks) (take n seat.pass.entries) ∙ ap (λ (rs : List R). rs ++ joined (take n seat.pass.entries)) (joined-full_of live.blocks))
+      ∙ (ap length (joined_pieces-growths (full_of live.blocks) (take n seat.pass.entries) ∙ ap (λ (rs : List R). rs ++ grown_records (take n seat.pass.entries)) (joined-full_of live.blocks))
       ∙ length-list (opening_of live) (take n seat.pass.entries))
 
   pub all_added : drop blocks (pieces ++ drop n (growth_records seat)) ≡ growth_records seat

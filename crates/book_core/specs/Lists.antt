@@ -2,7 +2,7 @@
 use Rattle.std.specs.Prelude.{◌≡◌, ℕ, ◌==◌, ◌+◌, ◌<◌, ◌≤◌, List, ◌++◌, length, map, take, drop, filter, flat_map, sum_by, slice_get, Some}
 use Rattle.std.specs.Global.{Vec}
 use Rattle.block_core.specs.Growth.{Growth}
-use Rattle.directory_core.specs.Chain.{joined}
+use Rattle.directory_core.specs.Chain.{grown_records}
 use Rattle.directory_core.specs.Identity.{Identity}
 use Rattle.directory_core.specs.Known.{Known}
 use Rattle.book_core.specs.Marks.{MarkName, MarkEnd}
@@ -41,7 +41,7 @@ pub record IsSeatOf {R : Type 0} (live : Phase R) (seat : Seated R) : Type 0 whe
 
 -- the whole list as the seat knows it: the records from before the phase, then those of the growths
 abbrev pub seat_list : {R : Type 0} → Phase R → Seated R → List R
-seat_list live seat = opening_of live ++ joined seat.pass.entries
+seat_list live seat = opening_of live ++ grown_records seat.pass.entries
 
 -- the pieces in which it stands: the blocks from before the phase, then the growths by their numbers
 abbrev pub seat_pieces : {R : Type 0} → Phase R → Seated R → List (List R)

@@ -40,5 +40,5 @@ pub use record_core::{Flagged, PAYLOAD_LIMIT, Pair, RECORD_LIMIT, Record};
 pub use search_core::{Equals, Pick, count_where, find_first};
 pub use segment_core::{Format, ScanFault};
 pub use vault_core::{
-    Gathering, Pieces, UpgradeFault, Vault, VaultFault, gather, greatest_piece, upgrade,
+    Gathering, UpgradeFault, Vault, VaultFault, VaultPieces, gather, greatest_piece, upgrade,
 };

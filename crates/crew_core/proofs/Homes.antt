@@ -8,7 +8,7 @@ use Rattle.std.proofs.lemmas.List.Elements.{filter-append, filter_more}
 use Rattle.std.proofs.lemmas.List.Sums.{sum_by-take-le}
 use Rattle.std.proofs.lemmas.Option.{slice_get_within, get_or_from_slice_get}
 use Rattle.block_core.specs.Growth.{Growth}
-use Rattle.directory_core.specs.Chain.{joined, total, IsPrefix}
+use Rattle.directory_core.specs.Chain.{grown_records, total, IsPrefix}
 use Rattle.directory_core.specs.Identity.{Identity}
 use Rattle.book_core.specs.declared.fault.GrowFault.{GrowFault}
 use Rattle.book_core.specs.declared.fault.GrowFault.TheVariants.{Closed, Full, TooLong, Strayed, Memory, Empty, TooLarge}
@@ -21,7 +21,7 @@ use Rattle.flush_core.specs.Flusher.{FlusherOf}
 use Rattle.vault_core.proofs.Prefixes.{begins-le}
 use Rattle.vault_core.specs.Vault.{VaultOf, list_of}
 use Rattle.vault_core.specs.Gathering.{IsWhole, HasId}
-use Rattle.crew_core.specs.Crewing.{AllHeed, HeedsGate, HasCome, StopsGrower, IsReason, IsHome, AreHome, IsCrewed, SentOf, AreSent, receipt_of, crew_room, IsStrayFor}
+use Rattle.crew_core.specs.Crewing.{AllHeed, HeedsGate, HasCome, StopsGrower, IsReason, IsGrowerHome, AreHome, IsCrewed, SentOf, AreSent, receipt_of, crew_room, IsStrayFor}
 
 some_is : {X : Type 0} (x y : X) → Some x ≡ Some y → x ≡ y
 some_is x y is = cc
@@ -72,8 +72,8 @@ module _ {R : Type 0} (width : ℕ) (live : Phase R) (count : ℕ → ℕ) (bloc
       each = λ k lt. at k (eq-or-lt_of_le (omega arith));
     }
       where
-        before : (k : ℕ) → IsHome width live count block may_stop has_let was_told seats receipts faults k
-            → IsHome width live count block may_stop has_let was_told (seats ++ seat ∷ []) (receipts ++ its ∷ []) (faults ++ fault ∷ []) k
+        before : (k : ℕ) → IsGrowerHome width live count block may_stop has_let was_told seats receipts faults k
+            → IsGrowerHome width live count block may_stop has_let was_told (seats ++ seat ∷ []) (receipts ++ its ∷ []) (faults ++ fault ∷ []) k
         before k there = record {
           seat = there.seat;
           seat_is = get-push seats seat k there.seat there.seat_is;
@@ -84,7 +84,7 @@ module _ {R : Type 0} (width : ℕ) (live : Phase R) (count : ℕ → ℕ) (bloc
           come = there.come;
         }
 
-        last : IsHome width live count block may_stop has_let was_told (seats ++ seat ∷ []) (receipts ++ its ∷ []) (faults ++ fault ∷ []) n
+        last : IsGrowerHome width live count block may_stop has_let was_told (seats ++ seat ∷ []) (receipts ++ its ∷ []) (faults ++ fault ∷ []) n
         last = record {
           seat = seat;
           seat_is = get-last seats seat n home.as_many_seats;
@@ -95,8 +95,8 @@ module _ {R : Type 0} (width : ℕ) (live : Phase R) (count : ℕ → ℕ) (bloc
           come = come;
         }
 
-        at : (k : ℕ) → (k ≡ n) ⊎ (k < n) → IsHome width live count block may_stop has_let was_told (seats ++ seat ∷ []) (receipts ++ its ∷ []) (faults ++ fault ∷ []) k
-        at k (inl here) = subst (IsHome width live count block may_stop has_let was_told (seats ++ seat ∷ []) (receipts ++ its ∷ []) (faults ++ fault ∷ [])) (sym here) last
+        at : (k : ℕ) → (k ≡ n) ⊎ (k < n) → IsGrowerHome width live count block may_stop has_let was_told (seats ++ seat ∷ []) (receipts ++ its ∷ []) (faults ++ fault ∷ []) k
+        at k (inl here) = subst (IsGrowerHome width live count block may_stop has_let was_told (seats ++ seat ∷ []) (receipts ++ its ∷ []) (faults ++ fault ∷ [])) (sym here) last
         at k (inr lt) = before k (home.each k lt)
 
     -- the seats are those of the growers
@@ -118,7 +118,7 @@ module _ {R : Type 0} (width : ℕ) (live : Phase R) (count : ℕ → ℕ) (bloc
 
     -- what comes of a crew whose growers are home and whose phase has ended whole
     module _ {D : Type 0} (old new : VaultOf R D) (f : FlusherOf R D) (blocks : live.blocks ≡ old.blocks) (room : live.directory.room ≡ crew_room count n) (whole : IsWhole live seats f)
-        (list : list_of new ≡ opening_of live ++ joined f.pass.entries) where
+        (list : list_of new ≡ opening_of live ++ grown_records f.pass.entries) where
       own-is : (k : ℕ) (lt : k < n) → own_of k f.pass.entries ≡ (home.each k lt).seat.made
       own-is k lt =
           let there = home.each k lt in
@@ -188,7 +188,7 @@ module _ {R : Type 0} (width : ℕ) (live : Phase R) (count : ℕ → ℕ) (bloc
 
       pub crewed : IsCrewed width count block may_stop n old new receipts faults f.pass.entries
       crewed = record {
-        list_is = list ∙ ap (λ (bs : List (List R)). joined_pieces bs ++ joined f.pass.entries) blocks;
+        list_is = list ∙ ap (λ (bs : List (List R)). joined_pieces bs ++ grown_records f.pass.entries) blocks;
         chained = whole.chained;
         by_growers = λ k d lt. grower-is (get_or f.pass.entries k d).seat (whole.by_seats k d lt);
         as_many = (home.as_many_receipts, home.as_many_faults);

@@ -7,7 +7,7 @@ use Rattle.disk_core.proofs.JoinedMoments.{LeavesOnly-weaker}
 use Rattle.pen_core.specs.PenOf.{PenOf}
 use Rattle.pen_core.specs.Typed.{OpensTo}
 use Rattle.block_core.specs.Growth.{Growth}
-use Rattle.directory_core.specs.Chain.{joined, IsPrefix}
+use Rattle.directory_core.specs.Chain.{grown_records, IsPrefix}
 use Rattle.book_core.specs.Lists.{Phase, joined_pieces}
 use Rattle.flush_core.specs.Flusher.{FlusherOf, IsFlusherOf, OpensToFirst}
 use Rattle.flush_core.specs.Serving.{Serves}
@@ -34,7 +34,7 @@ module _ {R D : Type 0} {form : Encoding R} {keeps : D → Type 0} {states : D �
       record {
         count = kept.count;
         known = kept.known;
-        opens = subst (λ (before : List R). OpensTo form image (before ++ joined (take kept.count served.pass.entries))) opening kept.opens;
+        opens = subst (λ (before : List R). OpensTo form image (before ++ grown_records (take kept.count served.pass.entries))) opening kept.opens;
       }
 
   pub served_first : (last : PenOf D) → last ≡ served.pen → keeps last.disk → LeavesOnly (states vault.pen.disk) (states last.disk) (OpensToGrown form (list_of vault) served.pass.entries)
@@ -57,7 +57,7 @@ module _ {R D : Type 0} {form : Encoding R} {keeps : D → Type 0} {states : D �
       known_more image opens = record {
         count = opens.count;
         known = let le = begins-le served.pass.entries more begins in let known = opens.known in omega arith;
-        opens = subst (λ (es : List (Growth R)). OpensTo form image (list_of vault ++ joined es))
+        opens = subst (λ (es : List (Growth R)). OpensTo form image (list_of vault ++ grown_records es))
             (sym (take-begins served.pass.entries more opens.count begins opens.known)) opens.opens;
       }
 

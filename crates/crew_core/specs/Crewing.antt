@@ -10,7 +10,7 @@ use Rattle.block_core.specs.Growth.{Growth}
 use Rattle.block_core.specs.Length.{payload_len}
 use Rattle.block_core.specs.declared.fault.FreshFault.{FreshFault}
 use Rattle.block_core.specs.declared.fault.FreshFault.TheVariants as fresh
-use Rattle.directory_core.specs.Chain.{joined, IsChained}
+use Rattle.directory_core.specs.Chain.{grown_records, IsChained}
 use Rattle.book_core.specs.declared.fault.GrowFault.{GrowFault}
 use Rattle.book_core.specs.declared.fault.GrowFault.TheVariants.{Closed, Full, TooLong, Strayed, Memory, Empty, TooLarge}
 use Rattle.book_core.specs.declared.seat.Receipt.{Receipt}
@@ -128,7 +128,7 @@ AreSent {R} {S} {G} live source gate n sent = (k : ℕ) (s : SentOf R S G) → s
     × (s.gate ≡ gate) × (s.grower + k + 1 ≡ n)
 
 -- the growers from 0 up to n have come home, each with its seat, its receipts and its fault
-pub record IsHome {R : Type 0} (width : ℕ) (live : Phase R) (count : ℕ → ℕ) (block : ℕ → ℕ → List R) (may_stop : ℕ → ℕ → Type 0) (has_let : ℕ → ℕ → Type 0)
+pub record IsGrowerHome {R : Type 0} (width : ℕ) (live : Phase R) (count : ℕ → ℕ) (block : ℕ → ℕ → List R) (may_stop : ℕ → ℕ → Type 0) (has_let : ℕ → ℕ → Type 0)
     (was_told : ℕ → Receipt → Type 0) (seats : List (Seated R)) (receipts : List (List Receipt)) (faults : List (Option GrowFault)) (k : ℕ) : Type 0 where
   pub seat : Seated R
   pub seat_is : slice_get seats k ≡ Some seat
@@ -143,7 +143,7 @@ pub record AreHome {R : Type 0} (width : ℕ) (live : Phase R) (count : ℕ → 
   pub as_many_seats : length seats ≡ n
   pub as_many_receipts : length receipts ≡ n
   pub as_many_faults : length faults ≡ n
-  pub each : (k : ℕ) → k < n → IsHome width live count block may_stop has_let was_told seats receipts faults k
+  pub each : (k : ℕ) → k < n → IsGrowerHome width live count block may_stop has_let was_told seats receipts faults k
 
 -- the room of a crew's phase: a growth for each block, and one at least
 abbrev pub crew_room : (ℕ → ℕ) → ℕ → ℕ
@@ -175,7 +175,7 @@ IsReason width room size count block id growths m TooLarge = (m < count) × (pay
 -- all of its growths, unless its gate might stop it before the next one.
 pub record IsCrewed {R D : Type 0} (width : ℕ) (count : ℕ → ℕ) (block : ℕ → ℕ → List R) (may_stop : ℕ → ℕ → Type 0) (n : ℕ) (old new : VaultOf R D)
     (receipts : List (List Receipt)) (faults : List (Option GrowFault)) (growths : List (Growth R)) : Type 0 where
-  pub list_is : list_of new ≡ list_of old ++ joined growths
+  pub list_is : list_of new ≡ list_of old ++ grown_records growths
   pub chained : IsChained growths
   pub by_growers : All (λ growth. growth.seat < n) growths
   pub as_many : (length receipts ≡ n) × (length faults ≡ n)

@@ -7,8 +7,8 @@ use Rattle.text_core.specs.Text.{Spelling}
 use Rattle.files_core.specs.declared.ended.Ended.{Ended}
 use Rattle.files_core.specs.declared.ended.Ended.TheVariants.{Done, OutputFailed, Refused}
 use Rattle.files_core.specs.declared.fault.FileFault.{FileFault}
-use Rattle.stat_core.specs.declared.telling.Ended.{Ended as StatEnded}
-use Rattle.stat_core.specs.declared.telling.Ended.TheVariants as stat_ends
+use Rattle.stat_core.specs.declared.telling.StatEnded.{StatEnded}
+use Rattle.stat_core.specs.declared.telling.StatEnded.TheVariants as stat_ends
 use Rattle.stat_core.specs.declared.writing.Form.{Form}
 use Rattle.serve_core.specs.declared.fault.ServeFault.{ServeFault}
 use Rattle.words_core.specs.declared.request.FileTask.{FileTask}
@@ -20,7 +20,7 @@ use Rattle.sentences.specs.declared.complaint.Complaint.{Complaint}
 use Rattle.text_core.specs.declared.status.Status.{Status}
 use Rattle.text_core.specs.declared.status.Status.TheVariants as statuses
 use Rattle.filing_core.specs.Complaints.{Disk, IsLeftAlone, IsStatStatus, IsStatusOf}
-use Rattle.filing_core.specs.Commands.{IsCommandRun, IsDone, IsOverFile, IsServedAs, IsStatRun}
+use Rattle.filing_core.specs.Commands.{IsCommandRun, IsEngineDone, IsOverFile, IsServedAs, IsStatRun}
 use Rattle.cvec.specs.Runs.{IsAskedRun, IsComplaintRun, IsToldRun, IsTypedCommandRun}
 
 -- a command doesn't end so
@@ -41,7 +41,7 @@ no_usage_of_stat stat_ends.Done filed is = subst IsNoUsage (sym is) tt
 no_usage_of_stat (stat_ends.Unwritten error) filed is = subst IsNoUsage (sym is) tt
 no_usage_of_stat (stat_ends.Refused fault) filed is = subst IsNoUsage (sym is) tt
 
-no_usage_of_done : (filed : Result Status Complaint) (IsComplaint : Disk → FileFault → Complaint → Type 0) (HasEnded : Disk → Disk → Ended → Type 0) → IsDone filed IsComplaint HasEnded → IsNoUsage filed
+no_usage_of_done : (filed : Result Status Complaint) (IsComplaint : Disk → FileFault → Complaint → Type 0) (HasEnded : Disk → Disk → Ended → Type 0) → IsEngineDone filed IsComplaint HasEnded → IsNoUsage filed
 no_usage_of_done filed IsComplaint HasEnded done = no_usage_of_status (IsComplaint done.left) done.ended filed done.told
 
 no_usage_alone : (old new : Option (List ℕ)) (filed : Result Status Complaint) (IsWhy : Complaint → Type 0) → IsLeftAlone old new filed IsWhy → IsNoUsage filed

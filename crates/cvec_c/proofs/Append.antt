@@ -23,17 +23,17 @@ use Rattle.segment_core.proofs.OneMore.{IsVectorOf_begins, IsVectorOf_group}
 use Rattle.segment_core.proofs.ReadAgain.{is_frame, may_follow}
 use Rattle.segment_core.proofs.Written.{length-group_frame}
 use Rattle.cvec_c.specs.declared.stat.CvecStat.{CvecStat}
-use Rattle.cvec_c.specs.declared.status.Status.{Status}
+use Rattle.cvec_c.specs.declared.status.CallStatus.{CallStatus}
 use Rattle.cvec_c.specs.Stat.{HasStat}
 use Rattle.cvec_c.specs.Append.{first_status, append_lines, IsSameTo, IsShutAt, limit_in, append_len}
 
 -- ---- tests
 
-abbrev AreClear : List (Bool × Status) → Type 0
+abbrev AreClear : List (Bool × CallStatus) → Type 0
 AreClear [] = Unit {0}
 AreClear (line ∷ lines) = (line.0 ≡ false) × AreClear lines
 
-clear_by_none : (lines : List (Bool × Status)) → first_status lines ≡ None → AreClear lines
+clear_by_none : (lines : List (Bool × CallStatus)) → first_status lines ≡ None → AreClear lines
 clear_by_none [] is = tt
 clear_by_none ((true, status) ∷ lines) is = absurd cc
 clear_by_none ((false, status) ∷ lines) is = (refl, clear_by_none lines is)

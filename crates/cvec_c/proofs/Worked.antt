@@ -25,8 +25,8 @@ use Rattle.segment_core.proofs.OneVector.{one_list, sound_header, same_vector}
 use Rattle.cvec_c.specs.declared.frame.CvecFrame.{CvecFrame}
 use Rattle.cvec_c.specs.declared.stat.CvecStat.{CvecStat}
 use Rattle.cvec_c.specs.declared.status.CvecFault.{CvecFault}
-use Rattle.cvec_c.specs.declared.status.Status.{Status}
-use Rattle.cvec_c.specs.declared.status.Status.TheVariants as statuses
+use Rattle.cvec_c.specs.declared.status.CallStatus.{CallStatus}
+use Rattle.cvec_c.specs.declared.status.CallStatus.TheVariants as statuses
 use Rattle.cvec_c.specs.Stat.{HasStat, IsScanToldOf}
 use Rattle.cvec_c.specs.Status.{code_of, status_of, told}
 use Rattle.cvec_c.specs.Append.{first_status, append_lines, AppendsTo}
@@ -300,7 +300,7 @@ not_fewer are = absurd (let same = are.count_is in cc)
 -- ---- refusals
 
 -- the first one that holds is told
-abbrev asked : ℕ → ℕ → ℕ → CvecStat → Option Status
+abbrev asked : ℕ → ℕ → ℕ → CvecStat → Option CallStatus
 asked width records room stat = first_status (append_lines width stat records room)
 
 refusals_in_order :

@@ -4,15 +4,15 @@ use Rattle.record_core.specs.Bytes.{Encoding}
 use Rattle.record_core.specs.Limits.{record_limit, payload_limit}
 use Rattle.segment_core.specs.Fault.{is_version}
 use Rattle.segment_core.specs.Found.{StandsAt}
-use Rattle.cvec_c.specs.declared.status.Status.{Status}
-use Rattle.cvec_c.specs.declared.status.Status.TheVariants.{Version, Width, Empty, OutOfRange, TooLarge, FileFull, NoRoom}
+use Rattle.cvec_c.specs.declared.status.CallStatus.{CallStatus}
+use Rattle.cvec_c.specs.declared.status.CallStatus.TheVariants.{Version, Width, Empty, OutOfRange, TooLarge, FileFull, NoRoom}
 use Rattle.cvec_c.specs.declared.stat.CvecStat.{CvecStat}
 use Rattle.cvec_c.specs.Stat.{HasStat}
 
 -- ---- refusals
 
 -- what is answered at the first test that holds
-abbrev pub first_status : List (Bool × Status) → Option Status
+abbrev pub first_status : List (Bool × CallStatus) → Option CallStatus
 first_status [] = None
 first_status (line ∷ lines) = if line.0 then Some line.1 else first_status lines
 
@@ -25,7 +25,7 @@ abbrev pub append_len : ℕ → ℕ → ℕ
 append_len width records = 15 + records * width
 
 -- so many records of this width behind a file, and so many bytes that may be written over
-abbrev pub append_lines : ℕ → CvecStat → ℕ → ℕ → List (Bool × Status)
+abbrev pub append_lines : ℕ → CvecStat → ℕ → ℕ → List (Bool × CallStatus)
 append_lines width stat records room =
     (not (is_version stat.version), Version)
     ∷ (not (stat.width == width), Width)

@@ -4,11 +4,11 @@ use Rattle.segment_core.specs.declared.fault.Cause.{Cause}
 use Rattle.segment_core.specs.declared.fault.Cause.TheVariants as causes
 use Rattle.segment_core.specs.declared.fault.ScanFault.{ScanFault}
 use Rattle.segment_core.specs.declared.fault.ScanFault.TheVariants as faults
-use Rattle.cvec_c.specs.declared.status.Status.{Status}
-use Rattle.cvec_c.specs.declared.status.Status.TheVariants.{Done, Unborn, NotSegment, Version, Width, Damaged, Memory, Empty, OutOfRange, TooLarge, FileFull, NoRoom, NoFrame}
+use Rattle.cvec_c.specs.declared.status.CallStatus.{CallStatus}
+use Rattle.cvec_c.specs.declared.status.CallStatus.TheVariants.{Done, Unborn, NotSegment, Version, Width, Damaged, Memory, Empty, OutOfRange, TooLarge, FileFull, NoRoom, NoFrame}
 use Rattle.cvec_c.specs.declared.status.CvecFault.{CvecFault}
 
-abbrev pub code_of : Status → ℕ
+abbrev pub code_of : CallStatus → ℕ
 code_of Done = 0
 code_of Unborn = 1
 code_of NotSegment = 2
@@ -23,7 +23,7 @@ code_of FileFull = 10
 code_of NoRoom = 11
 code_of NoFrame = 12
 
-abbrev pub status_of : ScanFault → Status
+abbrev pub status_of : ScanFault → CallStatus
 status_of faults.Unborn = Unborn
 status_of faults.NotSegment = NotSegment
 status_of (faults.Version version) = Version

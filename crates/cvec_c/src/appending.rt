@@ -13,7 +13,7 @@ ghost use Rattle.cvec_c.specs.Records.{c_pair, c_flagged};
 
 use crate::records::{CvecFlagged, CvecPair};
 use crate::stat::CvecStat;
-use crate::status::Status;
+use crate::status::CallStatus;
 use record_core::{GROWTH_HEAD_LEN, RECORD_LIMIT, Record, width_of};
 use segment_core::{CLOSED_GATE, FRAME_HEAD_LEN, Format, GATE_LIMIT, append_group};
 use std::alloc::{AllocError, Global};
@@ -22,31 +22,31 @@ use std::alloc::{AllocError, Global};
 const HEAD_LEN: u64 = (FRAME_HEAD_LEN + GROWTH_HEAD_LEN) as u64;
 
 /// Why so many records can't be appended, whatever memory there is.
-fn refusal<R: Record>(stat: &CvecStat, records: u64, room: u64) -> Option<Status>
+fn refusal<R: Record>(stat: &CvecStat, records: u64, room: u64) -> Option<CallStatus>
     ensures { result ≡ first_status (append_lines R.form.width stat.now records room) }
 {
     let Some(format) = Format::from_version(stat.version) else {
-        return Some(Status::Version);
+        return Some(CallStatus::Version);
     };
     let width = width_of::<R>() as u64;
     if u64::from(stat.width) != width {
-        return Some(Status::Width);
+        return Some(CallStatus::Width);
     }
     if records == 0 {
-        return Some(Status::Empty);
+        return Some(CallStatus::Empty);
     }
     if stat.size > RECORD_LIMIT || records > RECORD_LIMIT - stat.size {
-        return Some(Status::OutOfRange);
+        return Some(CallStatus::OutOfRange);
     }
     let bytes = records * width;
     if GROWTH_HEAD_LEN as u64 + bytes > format.payload_limit() as u64 {
-        return Some(Status::TooLarge);
+        return Some(CallStatus::TooLarge);
     }
     if stat.gate >= GATE_LIMIT || stat.gate + HEAD_LEN + bytes >= GATE_LIMIT {
-        return Some(Status::FileFull);
+        return Some(CallStatus::FileFull);
     }
     if HEAD_LEN + bytes + 1 > room {
-        return Some(Status::NoRoom);
+        return Some(CallStatus::NoRoom);
     }
     None
 }
@@ -90,7 +90,7 @@ fn append<R: Record>(
         return status.code();
     }
     let Ok(bytes) = frame_of(alloc, records) else {
-        return Status::Memory.code();
+        return CallStatus::Memory.code();
     };
     let len = bytes.len();
     out[..len].copy_from_slice(&bytes);
@@ -100,7 +100,7 @@ fn append<R: Record>(
         gate: stat.gate + (len as u64 - 1),
         ..*stat
     };
-    Status::Done.code()
+    CallStatus::Done.code()
 }
 
 /// Appends records of u32, as `append` says.

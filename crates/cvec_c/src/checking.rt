@@ -11,7 +11,7 @@ ghost use Rattle.cvec_c.specs.Records.{c_pair, c_flagged};
 
 use crate::records::{CvecFlagged, CvecPair};
 use crate::stat::CvecStat;
-use crate::status::{CvecFault, Status};
+use crate::status::{CallStatus, CvecFault};
 use record_core::Record;
 use segment_core::{ScanFault, scan};
 use std::alloc::Global;
@@ -34,11 +34,11 @@ fn check<R: Record>(alloc: Global, image: &[u8], stat: &mut CvecStat, fault: &mu
     match stat_of::<R>(alloc, image) {
         Ok(found) => {
             *stat = found;
-            Status::Done.code()
+            CallStatus::Done.code()
         }
         Err(refusal) => {
             *fault = CvecFault::of(refusal);
-            Status::of(refusal).code()
+            CallStatus::of(refusal).code()
         }
     }
 }

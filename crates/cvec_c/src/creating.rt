@@ -10,7 +10,7 @@ ghost use Rattle.cvec_c.specs.Records.{c_pair, c_flagged};
 
 use crate::records::{CvecFlagged, CvecPair};
 use crate::stat::CvecStat;
-use crate::status::Status;
+use crate::status::CallStatus;
 use record_core::{Record, width_of};
 use segment_core::{EMPTY_FILE_LEN, Format, HEADER_LEN, empty_file};
 
@@ -23,10 +23,10 @@ fn empty<R: Record>(version: u8, out: &mut [u8], stat: &mut CvecStat) -> u32
     ensures refused { result ≢ 0 → (out.new ≡ out.old) × (stat.new ≡ stat.old) }
 {
     let Some(format) = Format::from_version(version) else {
-        return Status::Version.code();
+        return CallStatus::Version.code();
     };
     if out.len() < EMPTY_FILE_LEN {
-        return Status::NoRoom.code();
+        return CallStatus::NoRoom.code();
     }
     let width = width_of::<R>() as u16;
     out[..EMPTY_FILE_LEN].copy_from_slice(&empty_file(format, width));
@@ -39,7 +39,7 @@ fn empty<R: Record>(version: u8, out: &mut [u8], stat: &mut CvecStat) -> u32
         width,
         version,
     };
-    Status::Done.code()
+    CallStatus::Done.code()
 }
 
 /// Makes a file of u32, as `empty` says.

@@ -14,7 +14,7 @@ ghost use Rattle.cvec_c.specs.Homes.{HasHomes, as_homes};
 
 use crate::records::{CvecFlagged, CvecPair};
 use crate::stat::CvecStat;
-use crate::status::{CvecFault, Status};
+use crate::status::{CallStatus, CvecFault};
 use record_core::Record;
 use segment_core::{Home, ScanFault, Scanner};
 use std::alloc::Global;
@@ -78,15 +78,15 @@ fn homes<R: Record>(
         Ok((found, homes)) => {
             *count = homes.len() as u64;
             if homes.len() > out.len() {
-                return Status::NoRoom.code();
+                return CallStatus::NoRoom.code();
             }
             copy_homes(&homes, out);
             *stat = found;
-            Status::Done.code()
+            CallStatus::Done.code()
         }
         Err(refusal) => {
             *fault = CvecFault::of(refusal);
-            Status::of(refusal).code()
+            CallStatus::of(refusal).code()
         }
     }
 }

@@ -10,7 +10,7 @@ ghost use Rattle.cvec_c.specs.declared.records.CvecFlagged.{CvecFlagged};
 ghost use Rattle.cvec_c.specs.Records.{c_pair, c_flagged};
 
 use crate::records::{CvecFlagged, CvecPair};
-use crate::status::{CvecFault, Status};
+use crate::status::{CallStatus, CvecFault};
 use record_core::Record;
 use segment_core::scan;
 use std::alloc::Global;
@@ -44,11 +44,11 @@ fn read<R: Record>(
     match scan::<R>(alloc, image) {
         Ok(scanned) => {
             *count = copy_from(scanned.records.as_slice(), from, out);
-            Status::Done.code()
+            CallStatus::Done.code()
         }
         Err(refusal) => {
             *fault = CvecFault::of(refusal);
-            Status::of(refusal).code()
+            CallStatus::of(refusal).code()
         }
     }
 }

@@ -7,7 +7,7 @@ use segment_core::{Cause, ScanFault};
 
 /// What a call answers.
 #[derive(Clone, Copy)]
-pub(crate) enum Status {
+pub(crate) enum CallStatus {
     /// It has done what was asked.
     Done = 0,
     /// No file was begun: at most one byte, or the first gate isn't open.
@@ -48,7 +48,7 @@ pub struct CvecFault {
     pub found: u32,
 }
 
-impl Status {
+impl CallStatus {
     /// Its number.
     pub(crate) fn code(self) -> u32
         ensures { result ≡ code_of self }
@@ -57,16 +57,16 @@ impl Status {
     }
 
     /// That of an image which is refused for this.
-    pub(crate) fn of(fault: ScanFault) -> Status
+    pub(crate) fn of(fault: ScanFault) -> CallStatus
         ensures { result ≡ status_of fault }
     {
         match fault {
-            ScanFault::Unborn => Status::Unborn,
-            ScanFault::NotSegment => Status::NotSegment,
-            ScanFault::Version(_) => Status::Version,
-            ScanFault::Width(_) => Status::Width,
-            ScanFault::Damaged { at: _, cause: _ } => Status::Damaged,
-            ScanFault::Memory => Status::Memory,
+            ScanFault::Unborn => CallStatus::Unborn,
+            ScanFault::NotSegment => CallStatus::NotSegment,
+            ScanFault::Version(_) => CallStatus::Version,
+            ScanFault::Width(_) => CallStatus::Width,
+            ScanFault::Damaged { at: _, cause: _ } => CallStatus::Damaged,
+            ScanFault::Memory => CallStatus::Memory,
         }
     }
 }

@@ -2,11 +2,11 @@
 use Rattle.std.specs.Prelude.{ℕ, List, Option}
 use Rattle.std.specs.Int.{w32, w64}
 use Rattle.record_core.specs.Bytes.{Encoding, unsigned, signed, pair, flagged}
-use Rattle.cvec_hex.specs.declared.request.Request.{Request}
-use Rattle.cvec_hex.specs.declared.request.Task.{Task}
-use Rattle.cvec_hex.specs.declared.request.Task.TheVariants.{Image, Show}
-use Rattle.cvec_hex.specs.declared.request.RecordType.{RecordType}
-use Rattle.cvec_hex.specs.declared.request.RecordType.TheVariants.{U32, U64, I64, Pair, Flagged}
+use Rattle.cvec_hex.specs.declared.request.HexRequest.{HexRequest}
+use Rattle.cvec_hex.specs.declared.request.HexTask.{HexTask}
+use Rattle.cvec_hex.specs.declared.request.HexTask.TheVariants.{Image, Show}
+use Rattle.cvec_hex.specs.declared.request.HexType.{HexType}
+use Rattle.cvec_hex.specs.declared.request.HexType.TheVariants.{U32, U64, I64, Pair, Flagged}
 use Rattle.text_core.specs.declared.status.Status.{Status}
 use Rattle.text_core.specs.Text.{Spelling}
 use Rattle.text_core.specs.Numbers.{number_spelling}
@@ -15,12 +15,12 @@ use Rattle.text_core.specs.Keyed.{pair_spelling, flagged_spelling}
 use Rattle.image_core.specs.Engines.{IsImageRun, IsShowRun}
 
 -- how the task's engine may end over records of these bytes and texts, and what it has written then
-abbrev pub IsHexTaskRun : {R : Type 0} → Task → Encoding R → Spelling R → List ℕ → Option (List ℕ) → Option (List ℕ) → Status → Type 0
+abbrev pub IsHexTaskRun : {R : Type 0} → HexTask → Encoding R → Spelling R → List ℕ → Option (List ℕ) → Option (List ℕ) → Status → Type 0
 IsHexTaskRun Image form spelling input old new status = IsImageRun form spelling input old new status
 IsHexTaskRun Show form spelling input old new status = IsShowRun form spelling input old new status
 
 -- the same over records of one of the program's types
-abbrev pub IsRunOn : RecordType → Task → List ℕ → Option (List ℕ) → Option (List ℕ) → Status → Type 0
+abbrev pub IsRunOn : HexType → HexTask → List ℕ → Option (List ℕ) → Option (List ℕ) → Status → Type 0
 IsRunOn U32 task = IsHexTaskRun task (unsigned w32) (number_spelling 32)
 IsRunOn U64 task = IsHexTaskRun task (unsigned w64) (number_spelling 64)
 IsRunOn I64 task = IsHexTaskRun task (signed w64) signed_spelling
@@ -28,5 +28,5 @@ IsRunOn Pair task = IsHexTaskRun task pair pair_spelling
 IsRunOn Flagged task = IsHexTaskRun task flagged flagged_spelling
 
 -- how the program may end that was asked for this
-abbrev pub IsHexRun : Request → List ℕ → Option (List ℕ) → Option (List ℕ) → Status → Type 0
+abbrev pub IsHexRun : HexRequest → List ℕ → Option (List ℕ) → Option (List ℕ) → Status → Type 0
 IsHexRun request = IsRunOn request.record_type request.task

@@ -5,7 +5,7 @@ mod program;
 mod request;
 
 use crate::program::run;
-use crate::request::{Request, request_of};
+use crate::request::{HexRequest, request_of};
 use std::env;
 use std::io::{self, BufWriter, ErrorKind, Write};
 use std::process::ExitCode;
@@ -39,7 +39,7 @@ fn words_of(rt: &HostRuntime) -> io::Result<Vec<String>> {
 }
 
 /// Does what is asked for on standard input and output, or tells how the program is used.
-fn answer(rt: &HostRuntime, asked: Option<Request>) -> Status {
+fn answer(rt: &HostRuntime, asked: Option<HexRequest>) -> Status {
     let Some(request) = asked else {
         let _ = write_text(USAGE, &mut rt.stderr());
         return Status::Usage;

@@ -3,7 +3,7 @@
 ghost use Rattle.std.specs.Prelude.{◌≡◌, ◌≢◌, IfSome};
 ghost use Rattle.cvec_hex.specs.Runs.{IsHexTaskRun, IsHexRun};
 
-use crate::request::{RecordType, Request, Task};
+use crate::request::{HexRequest, HexTask, HexType};
 use image_core::{image, show};
 use record_core::{Flagged, Pair};
 use std::alloc::Global;
@@ -13,7 +13,7 @@ use text_core::{Status, TextRecord};
 /// Does the task on records of one type.
 fn run_of<R: TextRecord, I: Read, W: Write>(
     alloc: Global,
-    task: Task,
+    task: HexTask,
     reader: &mut I,
     writer: &mut W,
 ) -> Status
@@ -22,15 +22,15 @@ fn run_of<R: TextRecord, I: Read, W: Write>(
     ensures no_usage { result ≢ Status.Usage }
 {
     match task {
-        Task::Image => image::<R, I, W>(alloc, reader, writer),
-        Task::Show => show::<R, I, W>(alloc, reader, writer),
+        HexTask::Image => image::<R, I, W>(alloc, reader, writer),
+        HexTask::Show => show::<R, I, W>(alloc, reader, writer),
     }
 }
 
 /// Does what is asked for.
 pub fn run<I: Read, W: Write>(
     alloc: Global,
-    request: Request,
+    request: HexRequest,
     reader: &mut I,
     writer: &mut W,
 ) -> Status
@@ -40,10 +40,10 @@ pub fn run<I: Read, W: Write>(
 {
     let task = request.task;
     match request.record_type {
-        RecordType::U32 => run_of::<u32, I, W>(alloc, task, reader, writer),
-        RecordType::U64 => run_of::<u64, I, W>(alloc, task, reader, writer),
-        RecordType::I64 => run_of::<i64, I, W>(alloc, task, reader, writer),
-        RecordType::Pair => run_of::<Pair, I, W>(alloc, task, reader, writer),
-        RecordType::Flagged => run_of::<Flagged, I, W>(alloc, task, reader, writer),
+        HexType::U32 => run_of::<u32, I, W>(alloc, task, reader, writer),
+        HexType::U64 => run_of::<u64, I, W>(alloc, task, reader, writer),
+        HexType::I64 => run_of::<i64, I, W>(alloc, task, reader, writer),
+        HexType::Pair => run_of::<Pair, I, W>(alloc, task, reader, writer),
+        HexType::Flagged => run_of::<Flagged, I, W>(alloc, task, reader, writer),
     }
 }

@@ -4,7 +4,7 @@ ghost use Rattle.std.specs.Prelude.{◌≡◌, [], None};
 
 /// What is done with the input.
 #[derive(Clone, Copy)]
-pub enum Task {
+pub enum HexTask {
     /// A segment file is made of group lines.
     Image,
     /// The records of a segment file are listed.
@@ -13,7 +13,7 @@ pub enum Task {
 
 /// The types of record that the program knows.
 #[derive(Clone, Copy)]
-pub enum RecordType {
+pub enum HexType {
     U32,
     U64,
     I64,
@@ -23,40 +23,40 @@ pub enum RecordType {
 
 /// A task on records of one type.
 #[derive(Clone, Copy)]
-pub struct Request {
-    pub task: Task,
-    pub record_type: RecordType,
+pub struct HexRequest {
+    pub task: HexTask,
+    pub record_type: HexType,
 }
 
 /// The task of this word.
-fn task_of(word: &str) -> Option<Task> {
+fn task_of(word: &str) -> Option<HexTask> {
     match word {
-        "image" => Some(Task::Image),
-        "show" => Some(Task::Show),
+        "image" => Some(HexTask::Image),
+        "show" => Some(HexTask::Show),
         _ => None,
     }
 }
 
 /// The type of this word.
-fn type_of(word: &str) -> Option<RecordType> {
+fn type_of(word: &str) -> Option<HexType> {
     match word {
-        "u32" => Some(RecordType::U32),
-        "u64" => Some(RecordType::U64),
-        "i64" => Some(RecordType::I64),
-        "pair" => Some(RecordType::Pair),
-        "flagged" => Some(RecordType::Flagged),
+        "u32" => Some(HexType::U32),
+        "u64" => Some(HexType::U64),
+        "i64" => Some(HexType::I64),
+        "pair" => Some(HexType::Pair),
+        "flagged" => Some(HexType::Flagged),
         _ => None,
     }
 }
 
 /// What the words ask for: with none, an image of u64.
-pub fn request_of(words: &[String]) -> Option<Request> {
+pub fn request_of(words: &[String]) -> Option<HexRequest> {
     match words {
-        [] => Some(Request {
-            task: Task::Image,
-            record_type: RecordType::U64,
+        [] => Some(HexRequest {
+            task: HexTask::Image,
+            record_type: HexType::U64,
         }),
-        [task, record_type] => Some(Request {
+        [task, record_type] => Some(HexRequest {
             task: task_of(task.as_str())?,
             record_type: type_of(record_type.as_str())?,
         }),

@@ -9,7 +9,7 @@ use crate::figure::Figure;
 use crate::grower::{Grower, put_blocks};
 use crate::mix::mixed;
 use crate::reading::Total;
-use crate::role::{Role, Task};
+use crate::role::{Role, ThreadTask};
 use crate::together::run_free;
 use std::alloc::Global;
 use std::sync::atomic::{AtomicBool, Ordering};
@@ -170,7 +170,7 @@ impl<'a> Course<'a> {
         figures: &mut Vec<Figure>,
     ) -> Result<(), SpeedFault> {
         let room = self.before.saturating_add(self.growths);
-        let role = Role::Keep(Task::Beside(self));
+        let role = Role::Keep(ThreadTask::Beside(self));
         let total = run_free(rt, alloc, room, readers.saturating_add(1), role)?;
         let time = self.barrier.time(rt)?;
         let done = *self.done.lock(rt);

@@ -6,7 +6,7 @@ use crate::grow::GrowSizes;
 use crate::pool::Pool;
 use crate::producer::{Course, Pace};
 use crate::reading::Total;
-use crate::role::{Role, Task};
+use crate::role::{Role, ThreadTask};
 use crate::served::Served;
 use crate::store::{make_disk, total_opened};
 use crate::together::run_all;
@@ -117,7 +117,7 @@ fn append<E: Threads + Wait + Clock + Eprint + Sync + Files<File = File> + Alloc
 ) -> Result<Instant, SpeedFault> {
     let disk = make_disk(rt, alloc, sizes.dir)?;
     let phase = Served::begin(alloc, disk, sizes.room(), sizes.grow.threads)?;
-    let outcome = run_all(rt, alloc, phase, Role::Keep(Task::Produce(course)));
+    let outcome = run_all(rt, alloc, phase, Role::Keep(ThreadTask::Produce(course)));
     match outcome.run {
         Ok(()) => outcome.ended,
         Err(fault) => Err(fault),

@@ -9,7 +9,7 @@ use crate::figure::Figure;
 use crate::grower::{Grower, put_copies};
 use crate::mix::mixed;
 use crate::reading::Total;
-use crate::role::{Play, Role, Task};
+use crate::role::{Play, Role, ThreadTask};
 use crate::together::run_free;
 use std::alloc::{AllocError, Global};
 use std::sync::Wait;
@@ -92,7 +92,7 @@ fn grow_blocks<E: Threads + Wait + Clock + Eprint + Sync>(
     figures: &mut Vec<Figure>,
 ) -> Result<(), SpeedFault> {
     let growths = sizes.n / sizes.threads as u64 / sizes.block as u64;
-    let role = Role::Keep(Task::Grow(Copies { blocks, growths }, barrier));
+    let role = Role::Keep(ThreadTask::Grow(Copies { blocks, growths }, barrier));
     let (total, figure) = run_role(rt, alloc, "grow", sizes.threads, growths, role, barrier)?;
     total.check(total_of_blocks(blocks, growths))?;
     figure.put(figures)

@@ -14,7 +14,7 @@ use std::time::Clock;
 
 /// What a thread does by its seat.
 #[derive(Clone, Copy)]
-pub enum Task<'a> {
+pub enum ThreadTask<'a> {
     /// Grows by copies of its block.
     Grow(Copies<'a>, &'a Barrier),
     /// Grows, or sums what there is.
@@ -25,15 +25,15 @@ pub enum Task<'a> {
     Wait(waiter::Course, &'a Watch),
 }
 
-impl Task<'_> {
+impl ThreadTask<'_> {
     fn play<E: Wait + Clock, G: Grower>(self, rt: &E, alloc: Global, own: &mut G) {
         match self {
-            Task::Grow(copies, barrier) => {
+            ThreadTask::Grow(copies, barrier) => {
                 barrier.leave(rt, grow_copies(rt, alloc, own, copies, barrier))
             }
-            Task::Beside(course) => course.play(rt, alloc, own),
-            Task::Produce(course) => course.play(rt, alloc, own),
-            Task::Wait(course, watch) => wait_as(rt, alloc, own, course, watch),
+            ThreadTask::Beside(course) => course.play(rt, alloc, own),
+            ThreadTask::Produce(course) => course.play(rt, alloc, own),
+            ThreadTask::Wait(course, watch) => wait_as(rt, alloc, own, course, watch),
         }
     }
 }
@@ -68,17 +68,17 @@ pub trait Play: Copy + Send + Sync {
 pub enum Role<'a> {
     /// Appends single records: it gives its seat to an appender.
     Append(Records, &'a Barrier),
-    Keep(Task<'a>),
+    Keep(ThreadTask<'a>),
 }
 
 impl<'a> Role<'a> {
     /// Where its threads wait for all of them.
     fn barrier(self) -> Option<&'a Barrier> {
         match self {
-            Role::Append(_, barrier) | Role::Keep(Task::Grow(_, barrier)) => Some(barrier),
-            Role::Keep(Task::Beside(course)) => Some(&course.barrier),
-            Role::Keep(Task::Produce(course)) => Some(&course.barrier),
-            Role::Keep(Task::Wait(_, _)) => None,
+            Role::Append(_, barrier) | Role::Keep(ThreadTask::Grow(_, barrier)) => Some(barrier),
+            Role::Keep(ThreadTask::Beside(course)) => Some(&course.barrier),
+            Role::Keep(ThreadTask::Produce(course)) => Some(&course.barrier),
+            Role::Keep(ThreadTask::Wait(_, _)) => None,
         }
     }
 }
@@ -91,7 +91,7 @@ impl Play for Role<'_> {
         last: &mut G,
     ) -> Result<(), SpeedFault> {
         match self {
-            Role::Keep(Task::Beside(course)) => course.grow_before(rt, alloc, last),
+            Role::Keep(ThreadTask::Beside(course)) => course.grow_before(rt, alloc, last),
             _ => Ok(()),
         }
     }
@@ -121,7 +121,7 @@ impl Play for Role<'_> {
         threads: u64,
     ) -> Result<(), SpeedFault> {
         match self {
-            Role::Keep(Task::Wait(course, watch)) => {
+            Role::Keep(ThreadTask::Wait(course, watch)) => {
                 watch_over(rt, phase, watch, threads, course.phase)
             }
             _ => Ok(()),

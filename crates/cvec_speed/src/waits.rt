@@ -5,7 +5,7 @@ use crate::clock::{now, since};
 use crate::fault::SpeedFault;
 use crate::figure::Figure;
 use crate::mix::{below, mix};
-use crate::role::{Role, Task};
+use crate::role::{Role, ThreadTask};
 use crate::served::Served;
 use crate::together::{Outcome, run_all};
 use crate::waiter::{Course, End};
@@ -90,7 +90,7 @@ fn run_phase<E: Threads + Wait + Clock + Eprint + Sync>(
     let disk = FuseDisk::new(RamDisk::new(alloc), course.end.calls(), Blow::Stop);
     let served = Served::begin(alloc, disk, room, threads)?;
     let watch = Watch::new();
-    let role = Role::Keep(Task::Wait(course, &watch));
+    let role = Role::Keep(ThreadTask::Wait(course, &watch));
     let outcome = run_all(rt, alloc, served, role);
     judge(rt, &watch, outcome, course.end)
 }

@@ -6,10 +6,10 @@ use Rattle.std.proofs.lemmas.List.Concat.{length-flat_map}
 use Rattle.std.proofs.lemmas.List.Sums.{sum_by_more, sum_by_more_le}
 use Rattle.std.proofs.lemmas.Option.{slice_get_within, get_or_from_slice_get}
 use Rattle.block_core.specs.Growth.{Growth}
-use Rattle.directory_core.specs.Chain.{total, joined, IsNextGrowth, IsChained, IsPrefix, IsLongerOf}
+use Rattle.directory_core.specs.Chain.{total, grown_records, IsNextGrowth, IsChained, IsPrefix, IsLongerOf}
 
-pub length-joined : {R : Type 0} (es : List (Growth R)) → length (joined es) ≡ total es
-length-joined es = length-flat_map (λ (e : Growth _). e.records) es
+pub length-grown_records : {R : Type 0} (es : List (Growth R)) → length (grown_records es) ≡ total es
+length-grown_records es = length-flat_map (λ (e : Growth _). e.records) es
 
 pub begun_still : {X : Type 0} (xs ys zs : List X) → IsPrefix xs ys → IsPrefix ys zs → IsPrefix xs zs
 begun_still xs ys zs a b =

@@ -7,7 +7,7 @@ use Rattle.std.proofs.lemmas.List.Sums.{sum_by-cons}
 use Rattle.once_cell.specs.Once.{Agrees}
 use Rattle.once_cell.specs.declared.race.note.Note.{Note}
 use Rattle.block_core.specs.Growth.{Growth}
-use Rattle.directory_core.specs.Chain.{total, joined}
+use Rattle.directory_core.specs.Chain.{total, grown_records}
 use Rattle.directory_core.specs.Finding.{IsPlaceOf, IsPieceAt, IsRestAt}
 use Rattle.directory_core.specs.Notes.{cell_in, cells_of}
 
@@ -44,18 +44,18 @@ drop_past : {X : Type 0} (xs ys : List X) (n : ℕ) → drop (length xs + n) (xs
 drop_past xs ys n = sym (drop-drop n (length xs) (xs ++ ys)) ∙ ap (drop n) (drop_at xs ys (length xs) refl)
 
 -- the rest of a growth stands in the records joined
-joined_rest : {R : Type 0} (es : List (Growth R)) (g : ℕ) (e : Growth R) (place : ℕ) → slice_get es g ≡ Some e → place < length e.records
-    → drop place e.records ≡ take (length (drop place e.records)) (drop (total (take g es) + place) (joined es))
-joined_rest [] g e place is lt = grind arith
-joined_rest (f ∷ es) zero e place is lt =
+grown_records_rest : {R : Type 0} (es : List (Growth R)) (g : ℕ) (e : Growth R) (place : ℕ) → slice_get es g ≡ Some e → place < length e.records
+    → drop place e.records ≡ take (length (drop place e.records)) (drop (total (take g es) + place) (grown_records es))
+grown_records_rest [] g e place is lt = grind arith
+grown_records_rest (f ∷ es) zero e place is lt =
     let same : f ≡ e = grind arith in
-    let at : drop (0 + place) (e.records ++ joined es) ≡ drop place e.records ++ joined es = rw zero-add (drop-append-le place e.records (joined es) (le_of_lt lt)) in
-    rw (same, at) (sym (take_at (drop place e.records) (joined es) (length (drop place e.records)) refl))
-joined_rest (f ∷ es) (suc g) e place is lt =
+    let at : drop (0 + place) (e.records ++ grown_records es) ≡ drop place e.records ++ grown_records es = rw zero-add (drop-append-le place e.records (grown_records es) (le_of_lt lt)) in
+    rw (same, at) (sym (take_at (drop place e.records) (grown_records es) (length (drop place e.records)) refl))
+grown_records_rest (f ∷ es) (suc g) e place is lt =
     let sum : total (f ∷ take g es) ≡ length f.records + total (take g es) = sum_by-cons (λ (h : Growth _). length h.records) f (take g es) in
-    let at : drop ((length f.records + total (take g es)) + place) (f.records ++ joined es) ≡ drop (total (take g es) + place) (joined es) =
-    rw add_assoc (drop_past f.records (joined es) (total (take g es) + place)) in
-    rw (sum, at) (joined_rest es g e place is lt)
+    let at : drop ((length f.records + total (take g es)) + place) (f.records ++ grown_records es) ≡ drop (total (take g es) + place) (grown_records es) =
+    rw add_assoc (drop_past f.records (grown_records es) (total (take g es) + place)) in
+    rw (sum, at) (grown_records_rest es g e place is lt)
 
 -- the first record that is lent
 pub piece_first : {R : Type 0} (records piece : List R) (i : ℕ) (r : R) → 0 < length piece → piece ≡ take (length piece) (drop i records) → r ≡ get_or piece 0 r
@@ -83,10 +83,10 @@ module _ {R : Type 0} (es : List (Growth R)) (i g place : ℕ) (e : Growth R) (r
   pub rest_is : IsRestAt es i (take (length records - place) (drop place records))
   rest_is = rw (records_are, take_rest found.growth.records place) (record { number = g; place = place; found = found; is = refl })
 
-  pub piece_is : IsPieceAt (joined es) i (take (length records - place) (drop place records))
+  pub piece_is : IsPieceAt (grown_records es) i (take (length records - place) (drop place records))
   piece_is =
       let inside = found.inside in
       rw (records_are, take_rest found.growth.records place) (record {
         some = omega (arith, length-drop place found.growth.records);
-        is = rw (← found.at) (joined_rest es g found.growth place found.is found.inside);
+        is = rw (← found.at) (grown_records_rest es g found.growth place found.is found.inside);
       })

@@ -5,7 +5,7 @@ use Rattle.once_cell.specs.declared.race.note.Note.{Note}
 use Rattle.block_core.specs.Growth.{Growth}
 use Rattle.directory_core.specs.declared.fault.DirFault.{DirFault}
 use Rattle.directory_core.specs.declared.fault.DirFault.TheVariants.{Taken, Full, Strayed, Memory}
-use Rattle.directory_core.specs.Chain.{total, joined, IsNextGrowth, IsChained, AreBlocks, IsPrefix, Agree, IsLongerOf}
+use Rattle.directory_core.specs.Chain.{total, grown_records, IsNextGrowth, IsChained, AreBlocks, IsPrefix, Agree, IsLongerOf}
 use Rattle.directory_core.specs.Fault.{DirectoryKeepsLimit, IsPublishRefusal}
 use Rattle.directory_core.specs.Finding.{IsPlaceOf, IsRestAt, IsPieceAt}
 use Rattle.directory_core.specs.Identity.{Name, Identity}
@@ -46,7 +46,7 @@ one = record { number = 0; start = 0; seat = 3; serial = 0; records = 7 ∷ 8 �
 abbrev other : Growth ℕ
 other = record { number = 1; start = 2; seat = 1; serial = 0; records = 9 ∷ [] }
 
-of_both : (total (one ∷ other ∷ []) ≡ 3) × (joined (one ∷ other ∷ []) ≡ 7 ∷ 8 ∷ 9 ∷ [])
+of_both : (total (one ∷ other ∷ []) ≡ 3) × (grown_records (one ∷ other ∷ []) ≡ 7 ∷ 8 ∷ 9 ∷ [])
 of_both = (refl, refl)
 
 -- what is behind the first has its number and its start

@@ -8,8 +8,8 @@ abbrev pub total : {R : Type 0} → List (Growth R) → ℕ
 total entries = sum_by (λ e. length e.records) entries
 
 -- their records in order
-abbrev pub joined : {R : Type 0} → List (Growth R) → List R
-joined entries = flat_map (λ e. e.records) entries
+abbrev pub grown_records : {R : Type 0} → List (Growth R) → List R
+grown_records entries = flat_map (λ e. e.records) entries
 
 -- the growth behind these: its number is their count, and its start the sum of their lengths
 pub record IsNextGrowth {R : Type 0} (entries : List (Growth R)) (e : Growth R) : Type 0 where

@@ -4,7 +4,7 @@ ghost use Rattle.std.specs.Prelude.{◌≡◌, ◌+◌, ◌<◌, ◌≤◌, ◌�
 ghost use Rattle.directory_core.specs.Limits.{growth_limit};
 ghost use Rattle.record_core.specs.Limits.{record_limit};
 ghost use Rattle.directory_core.specs.Spot.{span};
-ghost use Rattle.directory_core.specs.Chain.{total, joined, IsNextGrowth, IsPrefix};
+ghost use Rattle.directory_core.specs.Chain.{total, grown_records, IsNextGrowth, IsPrefix};
 ghost use Rattle.directory_core.specs.Fault.{IsPublishRefusal};
 ghost use Rattle.directory_core.specs.Known.{KnowsAll};
 ghost use Rattle.directory_core.specs.Finding.{IsPieceAt, IsRestAt};
@@ -301,7 +301,7 @@ impl<R: Record> Directory<R> {
         ensures value { MatchOption result
             (total pass.old.entries ≤ i)
             (λ piece. IsRestAt pass.old.entries i piece.now) }
-        ensures in_order { IfSome result (λ piece. IsPieceAt (joined pass.old.entries) i piece.now) }
+        ensures in_order { IfSome result (λ piece. IsPieceAt (grown_records pass.old.entries) i piece.now) }
     {
         let Some((number, place)) = pass.find(i) else {
             return None;
@@ -318,7 +318,7 @@ impl<R: Record> Directory<R> {
         ensures same { pass.new ≡ pass.old }
         ensures value { MatchOption result
             (total pass.old.entries ≤ i)
-            (λ found. slice_get (joined pass.old.entries) i ≡ Some found.now) }
+            (λ found. slice_get (grown_records pass.old.entries) i ≡ Some found.now) }
     {
         match self.piece(pass, i) {
             Some(piece) => Some(&piece[0]),

@@ -5,13 +5,13 @@ use Rattle.block_core.specs.Length.{IsBlockLength, IsBlockRefusal}
 use Rattle.block_core.specs.declared.fault.FreshFault.{FreshFault}
 use Rattle.block_core.specs.declared.fault.FreshFault.TheVariants as fresh
 use Rattle.book_core.specs.declared.fault.GrowFault.TheVariants as grow
-use Rattle.drive_core.specs.declared.fault.Fault.{Fault}
-use Rattle.drive_core.specs.declared.fault.Fault.TheVariants as told
+use Rattle.drive_core.specs.declared.fault.StepFault.{StepFault}
+use Rattle.drive_core.specs.declared.fault.StepFault.TheVariants as told
 use Rattle.drive_core.specs.Line.{of_block, Allows, stray_of}
 use Rattle.drive_core.specs.Medium.{Medium}
 use Rattle.drive_core.specs.Step.{Answer}
 use Rattle.drive_core.specs.Step as step
-use Rattle.drive_core.specs.World.{World, Growth, Growing}
+use Rattle.drive_core.specs.World.{World, GrowthPhase, Growing}
 use Rattle.drive_core.specs.Outcome.{struck}
 use Rattle.drive_core.specs.GrowthRows.{put_lines, IsPut, knowing, within}
 use Rattle.drive_core.specs.Ties.{GrowingOf, IsGrowing}
@@ -29,14 +29,14 @@ set-index [] k = refl
 set-index (n ∷ ns) zero = refl
 set-index (n ∷ ns) (suc k) = ap (λ rest. n ∷ rest) (set-index ns k)
 
-module _ {R D : Type 0} {m : Medium R D} {w : World R} {phase : Growth} {g : GrowingOf R D} (tie : IsGrowing m w phase g) {k : ℕ} (inside : k < length g.seats) (records : List R) where
-  unchanged : (fault : Fault) → stray_of fault ≡ None → w ≡ struck (within w (knowing phase (Some k) (slice_index phase.known k))) fault
+module _ {R D : Type 0} {m : Medium R D} {w : World R} {phase : GrowthPhase} {g : GrowingOf R D} (tie : IsGrowing m w phase g) {k : ℕ} (inside : k < length g.seats) (records : List R) where
+  unchanged : (fault : StepFault) → stray_of fault ≡ None → w ≡ struck (within w (knowing phase (Some k) (slice_index phase.known k))) fault
   unchanged fault calm i = record w { phase = at i; strayed = (tie.calm ∙ sym calm) i }
     where
       at : w.phase ≡ Growing (knowing phase (Some k) (slice_index phase.known k))
       at = tie.phase_is ∙ ap (λ ns. Growing (record phase { known = ns })) (sym (set-index phase.known k))
 
-  refused_with : {answer : Answer R} (fault : Fault) → answer ≡ step.Refused fault → stray_of fault ≡ None → Allows (put_lines m.form.width w phase records) (Some fault)
+  refused_with : {answer : Answer R} (fault : StepFault) → answer ≡ step.Refused fault → stray_of fault ≡ None → Allows (put_lines m.form.width w phase records) (Some fault)
       → GrowthStep m w g (step.Put k records) answer 0
   refused_with fault is calm allows =
       let seat = there_is g.seats k inside in

@@ -10,7 +10,7 @@ use Rattle.drive_core.specs.Line.{of_flush}
 use Rattle.drive_core.specs.Medium.{Medium}
 use Rattle.drive_core.specs.Step.{Answer}
 use Rattle.drive_core.specs.Step as step
-use Rattle.drive_core.specs.World.{World, Growth, Hand, DiskOf, hand_of}
+use Rattle.drive_core.specs.World.{World, GrowthPhase, Hand, DiskOf, hand_of}
 use Rattle.drive_core.specs.Ties.{GrowingOf, IsGrowing, IsBehindStep, growths_in_hand, disk_of}
 use Rattle.drive_core.specs.GrowthTies.{GrowthStep}
 use Rattle.drive_core.proofs.Hands.{hand_unchanged}
@@ -19,7 +19,7 @@ use Rattle.drive_core.proofs.Quiet.{quiet_steps}
 use Rattle.drive_core.proofs.Steps.{answered}
 use Rattle.drive_core.proofs.Ties.{other_flusher, flushes_on, behind_of}
 
-module _ {R D : Type 0} {m : Medium R D} {w : World R} {phase : Growth} {g : GrowingOf R D} (tie : IsGrowing m w phase g)
+module _ {R D : Type 0} {m : Medium R D} {w : World R} {phase : GrowthPhase} {g : GrowingOf R D} (tie : IsGrowing m w phase g)
     (new : FlusherOf R D) (pass_same : new.pass ≡ g.flusher.pass) (taken_same : new.taken ≡ g.flusher.taken) (settled_same : new.settled ≡ g.flusher.settled) where
   -- only the pen is another, and not its disk or its job
   tied : (hand : Hand) → hand ≡ hand_of new.pen → new.pen.disk ≡ g.flusher.pen.disk → new.pen.job ≡ g.flusher.pen.job → IsBehindStep m (record w { hand = hand }) (record g { flusher = new })

@@ -15,14 +15,14 @@ use Rattle.vault_core.specs.declared.fault.VaultFault.{VaultFault}
 use Rattle.vault_core.specs.declared.fault.VaultFault.TheVariants as vault
 use Rattle.vault_core.specs.Vault.{VaultOf, list_of}
 use Rattle.vault_core.specs.Gathering.{IsWhole, IsGatherFault, AreAll, AreDistinct, made_by, most_known}
-use Rattle.drive_core.specs.declared.fault.Fault.{Fault}
-use Rattle.drive_core.specs.declared.fault.Fault.TheVariants.{Vault}
-use Rattle.drive_core.specs.declared.phase.Phase.TheVariants as hands
+use Rattle.drive_core.specs.declared.fault.StepFault.{StepFault}
+use Rattle.drive_core.specs.declared.fault.StepFault.TheVariants.{Vault}
+use Rattle.drive_core.specs.declared.phase.DrivePhase.TheVariants as hands
 use Rattle.drive_core.specs.Line.{Allows, When, Might, is_vault_memory}
 use Rattle.drive_core.specs.Medium.{Medium}
 use Rattle.drive_core.specs.Step.{Answer}
 use Rattle.drive_core.specs.Step as step
-use Rattle.drive_core.specs.World.{World, Growth, Hand, hand_of, vector}
+use Rattle.drive_core.specs.World.{World, GrowthPhase, Hand, hand_of, vector}
 use Rattle.drive_core.specs.World as worlds
 use Rattle.drive_core.specs.Ties.{GrowingOf, IsGrowing, IsBehindStep, growths_in_hand, disk_of}
 use Rattle.drive_core.specs.VaultTies.{IsExclusive}
@@ -65,7 +65,7 @@ made_is (s ∷ seats) =
     let rest = made_is seats in
     omega (arith, one, all, rest)
 
-module _ {R D : Type 0} {m : Medium R D} {w : World R} {phase : Growth} {g : GrowingOf R D} (tie : IsGrowing m w phase g) where
+module _ {R D : Type 0} {m : Medium R D} {w : World R} {phase : GrowthPhase} {g : GrowingOf R D} (tie : IsGrowing m w phase g) where
   each_le : (k : ℕ) (s : Seated R) → slice_get g.seats k ≡ Some s → length s.pass.entries ≤ length tie.entries
   each_le k s at = begins-le s.pass.entries tie.entries (tie.seats.each k s at).knows
 
@@ -100,7 +100,7 @@ module _ {R D : Type 0} {m : Medium R D} {w : World R} {phase : Growth} {g : Gro
           let second = (tie.seats.each j _ (slice_get-get_or g.seats j d inside)).id_is in
           omega (arith, less, first, second, same))
 
-  abbrev gather_lines : Option Fault → Type 0
+  abbrev gather_lines : Option StepFault → Type 0
   gather_lines answer = Allows (
       When w.hand.broken (Vault (vault.Pen pen.Broken))
       ∷ When (nat_lt w.settled (length w.history)) (Vault (vault.Unsettled (w.settled - phase.before)))
@@ -112,7 +112,7 @@ module _ {R D : Type 0} {m : Medium R D} {w : World R} {phase : Growth} {g : Gro
 
   -- ---- ended
 
-  module _ (v : VaultOf R D) (pen_is : v.pen ≡ g.flusher.pen) (list : list_of v ≡ opening_of g.live ++ chains.joined g.flusher.pass.entries) (whole : IsWhole g.live g.seats g.flusher)
+  module _ (v : VaultOf R D) (pen_is : v.pen ≡ g.flusher.pen) (list : list_of v ≡ opening_of g.live ++ chains.grown_records g.flusher.pass.entries) (whole : IsWhole g.live g.seats g.flusher)
       (sure : m.keeps v.pen.disk → v.pen.broken ≡ false → v.sure ≡ list_of v) where
     at_all : (P : Seated R → Type 0) (seats : List (Seated R)) (k : ℕ) (s : Seated R) → slice_get seats k ≡ Some s → All P seats → P s
     at_all P seats k s at all = subst P (get_or_from_slice_get seats k s s at) (all k s (slice_get_within seats k s at))
@@ -125,7 +125,7 @@ module _ {R D : Type 0} {m : Medium R D} {w : World R} {phase : Growth} {g : Gro
     same_list =
         let known = all_known in
         let same = same-front g.flusher.pass.entries tie.entries tie.flusher.knows (omega (arith, known)) in
-        vector_is tie ∙ ap (λ es. opening_of g.live ++ chains.joined es) same ∙ sym list
+        vector_is tie ∙ ap (λ es. opening_of g.live ++ chains.grown_records es) same ∙ sym list
 
     all_settled : w.settled ≡ length w.history
     all_settled =

@@ -7,40 +7,40 @@ use Rattle.disk_core.specs.declared.fault.DiskFault.{DiskFault}
 use Rattle.pen_core.specs.PenOf.{JobOf, FoldOf}
 use Rattle.pen_core.specs.Step.{step_after}
 use Rattle.pen_core.specs.InHand.{has_call}
-use Rattle.pen_core.specs.declared.step.Step as pen_step
+use Rattle.pen_core.specs.declared.step.PenStep as pen_step
 use Rattle.pen_core.specs.declared.fault.PenFault.TheVariants as pen_fault
-use Rattle.drive_core.specs.declared.fault.Fault.{Fault}
-use Rattle.drive_core.specs.declared.fault.Fault.TheVariants.{Vault, Grow, Scan}
+use Rattle.drive_core.specs.declared.fault.StepFault.{StepFault}
+use Rattle.drive_core.specs.declared.fault.StepFault.TheVariants.{Vault, Grow, Scan}
 use Rattle.vault_core.specs.declared.fault.VaultFault.TheVariants as vault
 use Rattle.drive_core.specs.Step.{Step, Answer}
 use Rattle.drive_core.specs.Step as step
-use Rattle.drive_core.specs.World.{World, Growth, Phase, Shut, Exclusive, Growing, vector, next_group, is_live, changed, changed_runs, resize_command, cleared}
+use Rattle.drive_core.specs.World.{World, GrowthPhase, DrivePhase, Shut, Exclusive, Growing, vector, next_group, is_live, changed, changed_runs, resize_command, cleared}
 use Rattle.drive_core.specs.Outcome.{RefusedAt, elsewhere}
 use Rattle.drive_core.specs.GrowthRows.{knowing, with_group}
-use Rattle.drive_core.specs.ExclusiveRows.{IsCommand, TornAt}
+use Rattle.drive_core.specs.ExclusiveRows.{IsCommandStep, TornAt}
 use Rattle.drive_core.specs.LaneRows.{IsLog, IsHome, log_fault_due, home_due, IsFold, IsJobLogged, IsLogged, IsFoldHomed, IsHomed, IsFiled, HasBegun, broken_by}
 use Rattle.drive_core.specs.Rows.{IsStep, PhaseRow, StrayRow, ExclusiveRow, GrowthRow, OfSeat, has_seat}
 use Rattle.drive_core.specs.Run.{HasCalls, LaneCalls, CommandCalls}
 use Rattle.drive_core.specs.Headline.{HasFile}
 
 -- a file is there, and in a growth phase the mark tells of no more growths than are settled
-abbrev pub IsMarked : ℕ → Phase → Type 0
+abbrev pub IsMarked : ℕ → DrivePhase → Type 0
 IsMarked settled Shut = ⊥
 IsMarked settled Exclusive = Unit {0}
 IsMarked settled (Growing phase) = phase.mark ≤ settled - phase.before
 
 -- as many settled, or more
-IsMarked-more : (settled more : ℕ) (phase : Phase) → settled ≤ more → IsMarked settled phase → IsMarked more phase
+IsMarked-more : (settled more : ℕ) (phase : DrivePhase) → settled ≤ more → IsMarked settled phase → IsMarked more phase
 IsMarked-more settled more Shut le marked = marked
 IsMarked-more settled more Exclusive le marked = tt
 IsMarked-more settled more (Growing phase) le marked = omega arith
 
 -- whatever a pass knows
-IsMarked-knowing : (settled known : ℕ) (phase : Growth) (pass : Option ℕ) → IsMarked settled (Growing phase) → IsMarked settled (Growing (knowing phase pass known))
+IsMarked-knowing : (settled known : ℕ) (phase : GrowthPhase) (pass : Option ℕ) → IsMarked settled (Growing phase) → IsMarked settled (Growing (knowing phase pass known))
 IsMarked-knowing settled known phase None marked = marked
 IsMarked-knowing settled known phase (Some seat) marked = marked
 
-pub HasFile-marked : (settled : ℕ) (phase : Phase) → IsMarked settled phase → HasFile phase
+pub HasFile-marked : (settled : ℕ) (phase : DrivePhase) → IsMarked settled phase → HasFile phase
 HasFile-marked settled Shut marked = marked
 HasFile-marked settled Exclusive marked = tt
 HasFile-marked settled (Growing phase) marked = tt
@@ -80,28 +80,28 @@ module _ {R : Type 0} (w w' : World R) (n : ℕ) (there : IsMarked w.settled w.p
   settles is base history settled file quiet = subst (λ y. Goes w y n) (sym is)
       (record { base_same = base; added = []; history_is = history ∙ sym (append-nil w.history); settled_le = settled; marked = file; quiet = quiet })
 
-  by_outcome : {Fits Accepted : Type 0} {May By : Fault → Type 0} {answer : Answer R} → (Fits × Accepted) ⊎ ((fault : Fault) × May fault × (answer ≡ step.Refused fault) × By fault)
-      → (Accepted → Goes w w' n) → ((fault : Fault) → By fault → Goes w w' n) → Goes w w' n
+  by_outcome : {Fits Accepted : Type 0} {May By : StepFault → Type 0} {answer : Answer R} → (Fits × Accepted) ⊎ ((fault : StepFault) × May fault × (answer ≡ step.Refused fault) × By fault)
+      → (Accepted → Goes w w' n) → ((fault : StepFault) → By fault → Goes w w' n) → Goes w w' n
   by_outcome outcome ok not_ok = elim outcome [ inl accepted ↦ ok accepted.1 | inr refused ↦ not_ok refused.0 refused.3 ]
 
-  refused_at : (due : Option DiskFault) (failed : World R) (fault : Fault) → (w' ≡ elsewhere failed w' → Goes w w' n) → RefusedAt w due failed w' fault → Goes w w' n
+  refused_at : (due : Option DiskFault) (failed : World R) (fault : StepFault) → (w' ≡ elsewhere failed w' → Goes w w' n) → RefusedAt w due failed w' fault → Goes w w' n
   refused_at due failed (Vault (vault.Pen (pen_fault.Disk fault))) goes by = goes by.2
   refused_at due failed (Vault other) goes by = stays by
   refused_at due failed (Grow fault) goes by = stays by
   refused_at due failed (Scan fault) goes by = stays by
 
   module _ (form : Encoding R) where
-    group_goes : (phase : Growth) → phase.mark ≤ w.settled - phase.before → (growths : List (List R)) → w' ≡ with_group form w phase growths → Goes w w' n
+    group_goes : (phase : GrowthPhase) → phase.mark ≤ w.settled - phase.before → (growths : List (List R)) → w' ≡ with_group form w phase growths → Goes w w' n
     group_goes phase marked [] is = stays is
     group_goes phase marked (growth ∷ growths) is = to is refl refl refl marked
 
-    torn_goes : (command : Command R) (fault : Fault) → TornAt form w command w' fault → Goes w w' n
+    torn_goes : (command : Command R) (fault : StepFault) → TornAt form w command w' fault → Goes w w' n
     torn_goes command (Vault (vault.Pen (pen_fault.Disk fault))) by = longer by.1.2 command refl refl (omega arith) there (λ none. refl)
     torn_goes command (Vault other) by = stays by
     torn_goes command (Grow fault) by = stays by
     torn_goes command (Scan fault) by = stays by
 
-    command_goes : (command : Option (Command R)) (answer : Answer R) → CommandCalls command answer n → IsCommand form w command answer w' → Goes w w' n
+    command_goes : (command : Option (Command R)) (answer : Answer R) → CommandCalls command answer n → IsCommandStep form w command answer w' → Goes w w' n
     command_goes None answer calls row = by_outcome row (λ ok. stays ok.1) (λ fault by. stays by)
     command_goes (Some command) answer calls row = by_outcome row
         (λ ok. let four : n ≡ 4 = subst (λ a. CommandCalls (Some command) a n) ok.0 calls in
@@ -112,7 +112,7 @@ module _ {R : Type 0} (w w' : World R) (n : ℕ) (there : IsMarked w.settled w.p
     fold_goes keeps true begun = to begun.3 refl refl refl there
     fold_goes keeps false begun = stays begun
 
-    logged_goes : (job : JobOf) (next : Option pen_step.Step) (answer : Answer R) → LaneCalls answer n → IsLogged w job next answer w' → Goes w w' n
+    logged_goes : (job : JobOf) (next : Option pen_step.PenStep) (answer : Answer R) → LaneCalls answer n → IsLogged w job next answer w' → Goes w w' n
     logged_goes job None answer calls row =
         let one : n ≡ 1 = subst (λ a. LaneCalls a n) row.0 calls in
         settles row.1 refl refl (omega arith) (IsMarked-more w.settled _ w.phase (omega arith) there) (λ none. absurd (omega (arith, one, none)))
@@ -122,7 +122,7 @@ module _ {R : Type 0} (w w' : World R) (n : ℕ) (there : IsMarked w.settled w.p
     job_goes None answer calls row = stays row.1
     job_goes (Some job) answer calls row = logged_goes job (step_after job.step) answer calls row
 
-    lane_refused : (due : Option DiskFault) (fault : Fault) → RefusedAt w due (broken_by w) w' fault → Goes w w' n
+    lane_refused : (due : Option DiskFault) (fault : StepFault) → RefusedAt w due (broken_by w) w' fault → Goes w w' n
     lane_refused due fault by = refused_at due (broken_by w) fault (λ is. to is refl refl refl there) by
 
     log_goes : (answer : Answer R) → LaneCalls answer n → IsLog w answer w' → Goes w w' n
@@ -171,7 +171,7 @@ module _ {R : Type 0} (w w' : World R) (n : ℕ) (there : IsMarked w.settled w.p
     exclusive_goes keeps step.Close answer calls row = stays row.1
     exclusive_goes keeps step.Gather answer calls row = stays row.1
 
-    growth_goes : (keeps : Type 0) (phase : Growth) → phase.mark ≤ w.settled - phase.before → (asked : Step R) (answer : Answer R) → HasCalls w asked answer n → GrowthRow form keeps w phase asked answer w' → Goes w w' n
+    growth_goes : (keeps : Type 0) (phase : GrowthPhase) → phase.mark ≤ w.settled - phase.before → (asked : Step R) (answer : Answer R) → HasCalls w asked answer n → GrowthRow form keeps w phase asked answer w' → Goes w w' n
     growth_goes keeps phase marked (step.Put seat records) answer calls row = seat_goes answer (has_seat phase (Some seat)) row
         (λ put. by_outcome put (λ ok. longer ok.1 (commands.Grow records) refl refl (omega arith) marked (λ none. refl)) (λ fault by. to by.2 refl refl refl marked))
     growth_goes keeps phase marked (step.Look pass) answer calls row = seat_goes answer (has_seat phase pass) row
@@ -196,7 +196,7 @@ module _ {R : Type 0} (w w' : World R) (n : ℕ) (there : IsMarked w.settled w.p
     growth_goes keeps phase marked step.Clear answer calls row = stays row.1
     growth_goes keeps phase marked step.Listing answer calls row = stays row.1
 
-    phase_goes : (keeps : Type 0) (phase : Phase) → IsMarked w.settled phase → (asked : Step R) (answer : Answer R) → HasCalls w asked answer n → PhaseRow form keeps w phase asked answer w'
+    phase_goes : (keeps : Type 0) (phase : DrivePhase) → IsMarked w.settled phase → (asked : Step R) (answer : Answer R) → HasCalls w asked answer n → PhaseRow form keeps w phase asked answer w'
         → Goes w w' n
     phase_goes keeps Shut has asked answer calls row = absurd has
     phase_goes keeps Exclusive has asked answer calls row = exclusive_goes keeps asked answer calls row

@@ -4,13 +4,13 @@ use Rattle.std.proofs.lemmas.List.{length-map}
 use Rattle.disk_core.specs.Moments.{clock}
 use Rattle.segment_core.specs.Command.{Command}
 use Rattle.vault_core.specs.declared.fault.VaultFault.TheVariants as vault
-use Rattle.drive_core.specs.declared.fault.Fault.TheVariants.{Vault}
+use Rattle.drive_core.specs.declared.fault.StepFault.TheVariants.{Vault}
 use Rattle.drive_core.specs.declared.step.Step as code
 use Rattle.drive_core.specs.Asked.{step_of}
 use Rattle.drive_core.specs.Medium.{Medium}
 use Rattle.drive_core.specs.Step.{Step, Answer}
 use Rattle.drive_core.specs.Step as step
-use Rattle.drive_core.specs.World.{World, Growth, DiskOf, vector, changed, changed_runs, resize_command, cleared}
+use Rattle.drive_core.specs.World.{World, GrowthPhase, DiskOf, vector, changed, changed_runs, resize_command, cleared}
 use Rattle.drive_core.specs.Rows.{GrowthRow, OfSeat, has_seat}
 use Rattle.drive_core.specs.Run.{HasCalls, CommandCalls}
 use Rattle.drive_core.specs.Ties.{GrowingOf, IsGrowing}
@@ -41,7 +41,7 @@ misplaced_calls w step.Log = refl
 misplaced_calls w step.Home = refl
 misplaced_calls w other = refl
 
-module _ {R D : Type 0} {m : Medium R D} {w : World R} {phase : Growth} {g : GrowingOf R D} (tie : IsGrowing m w phase g) where
+module _ {R D : Type 0} {m : Medium R D} {w : World R} {phase : GrowthPhase} {g : GrowingOf R D} (tie : IsGrowing m w phase g) where
   -- with as many calls as the clock tells
   abbrev ByClock : GrowingOf R D → Step R → Answer R → Type 0
   ByClock g' asked answer = GrowthStep m w g' asked answer (calls_between (m.states g.flusher.pen.disk) (m.states g'.flusher.pen.disk))

@@ -9,8 +9,8 @@ use Rattle.segment_core.specs.declared.tally.Tally.{Tally}
 use Rattle.pen_core.specs.PenOf.{PenOf, FoldOf}
 use Rattle.pen_core.specs.Pen.{IsUnchanged, BeginsFold, BeginsFrame, CountsSame, CountsDone, IsBrokenBy, HomesCalled, FilesFold, fold_behind}
 use Rattle.pen_core.specs.InHand.{called}
-use Rattle.pen_core.specs.declared.step.Step as pen_step
-use Rattle.pen_core.specs.declared.step.Step.TheVariants.{Body}
+use Rattle.pen_core.specs.declared.step.PenStep as pen_step
+use Rattle.pen_core.specs.declared.step.PenStep.TheVariants.{Body}
 use Rattle.pen_core.specs.declared.stage.FoldStage.TheVariants as stages
 use Rattle.vault_core.specs.Commands.{IsCommitted, IsStopped}
 use Rattle.drive_core.specs.World.{hand_of, file_with, frame_of}
@@ -125,7 +125,7 @@ module _ {D : Type 0} (old new : PenOf D) where
     broken = (by.whole ∙ sym whole) i;
   }
 
-  pub hand_stopped : (frame : Frame) (at : pen_step.Step) → IsStopped frame at old new
+  pub hand_stopped : (frame : Frame) (at : pen_step.PenStep) → IsStopped frame at old new
       → hand_of new ≡ record (hand_of old) { job = Some (record { frame = frame; step = at }); broken = true }
   hand_stopped frame at by i = record {
     file = file_same by.shape_same by.gate_same by.tally_same i;

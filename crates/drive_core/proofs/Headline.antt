@@ -13,18 +13,18 @@ use Rattle.segment_core.specs.Shape.{shape_of}
 use Rattle.segment_core.specs.Command.{Command, content}
 use Rattle.pen_core.specs.Typed.{OpensTo}
 use Rattle.pen_core.specs.declared.fault.PenFault.TheVariants as pen_fault
-use Rattle.drive_core.specs.declared.fault.Fault.{Fault}
-use Rattle.drive_core.specs.declared.fault.Fault.TheVariants.{Vault, Grow, Scan}
+use Rattle.drive_core.specs.declared.fault.StepFault.{StepFault}
+use Rattle.drive_core.specs.declared.fault.StepFault.TheVariants.{Vault, Grow, Scan}
 use Rattle.vault_core.specs.declared.fault.VaultFault.TheVariants as vault
 use Rattle.drive_core.specs.Step.{Step, Answer}
 use Rattle.drive_core.specs.Step as step
 use Rattle.book_core.specs.declared.mark.MarkState.{MarkState}
 use Rattle.book_core.specs.declared.mark.MarkState.TheVariants.{Running}
 use Rattle.drive_core.specs.GrowthRows.{IsMarkRead}
-use Rattle.drive_core.specs.World.{World, Growth, Phase, Shut, Exclusive, Growing}
+use Rattle.drive_core.specs.World.{World, GrowthPhase, DrivePhase, Shut, Exclusive, Growing}
 use Rattle.drive_core.specs.OpeningRows.{NotCreated, NotOpened}
 use Rattle.drive_core.specs.Rows.{IsStep, OfSeat, PhaseRow, ShutRow, StrayRow, has_seat}
-use Rattle.drive_core.specs.Run.{Event, IsEvent, Run, HasCalls, CreateCalls, OpenCalls, last}
+use Rattle.drive_core.specs.Run.{Event, IsEvent, AreEvents, HasCalls, CreateCalls, OpenCalls, last}
 use Rattle.drive_core.specs.Headline.{HasFile, OpensToPrefix, LeavesPrefixes, LeavesTold, Rests, Inner, AllInner}
 use Rattle.drive_core.proofs.Goes.{Goes, HasFile-marked, IsMarked, step_goes}
 
@@ -44,7 +44,7 @@ abbrev pub Marks : {R : Type 0} → World R → Type 0
 Marks w = HasFile w.phase → IsMarked w.settled w.phase
 
 -- a phase, and what a seat was told, is one
-growing_is : {a b : Growth} → Growing a ≡ Growing b → a ≡ b
+growing_is : {a b : GrowthPhase} → Growing a ≡ Growing b → a ≡ b
 growing_is same = cc
 
 told_is : {R : Type 0} (answer : Answer R) (m n : ℕ) (s t : MarkState) → answer ≡ step.Told m s → answer ≡ step.Told n t → m ≡ n
@@ -66,14 +66,14 @@ module _ {R : Type 0} (form : Encoding R) where
 
   module _ (keeps : Type 0) where
     -- ---- a step that makes a file calls the device
-    not_created : (shape : Shape) (w w' : World R) (fault : Fault) → w.phase ≡ Shut → NotCreated keeps shape w w' fault → w'.phase ≡ Shut
+    not_created : (shape : Shape) (w w' : World R) (fault : StepFault) → w.phase ≡ Shut → NotCreated keeps shape w w' fault → w'.phase ≡ Shut
     not_created shape w w' (Vault (vault.Pen (pen_fault.Disk fault))) shut by = ap (λ x. x.phase) by.2 ∙ shut
     not_created shape w w' (Vault (vault.Pen pen_fault.Exists)) shut by = ap (λ x. x.phase) by.2 ∙ shut
     not_created shape w w' (Vault other) shut by = ap (λ x. x.phase) by ∙ shut
     not_created shape w w' (Grow fault) shut by = absurd by
     not_created shape w w' (Scan fault) shut by = absurd by
 
-    not_opened : (w w' : World R) (fault : Fault) → w.phase ≡ Shut → NotOpened form keeps w w' fault → w'.phase ≡ Shut
+    not_opened : (w w' : World R) (fault : StepFault) → w.phase ≡ Shut → NotOpened form keeps w w' fault → w'.phase ≡ Shut
     not_opened w w' (Vault (vault.Pen (pen_fault.Disk fault))) shut by = ap (λ x. x.phase) by.2 ∙ shut
     not_opened w w' (Vault other) shut by = absurd by
     not_opened w w' (Grow fault) shut by = absurd by
@@ -108,13 +108,13 @@ module _ {R : Type 0} (form : Encoding R) where
     shut_row w w' n step.Home answer shut calls row = inl (ap (λ x. x.phase) row.1 ∙ shut)
 
     -- what a step may make of a world in which no file is there
-    phase_row : (w w' : World R) (n : ℕ) (phase : Phase) → w.phase ≡ phase → (asked : Step R) (answer : Answer R) → HasCalls w asked answer n → PhaseRow form keeps w phase asked answer w'
+    phase_row : (w w' : World R) (n : ℕ) (phase : DrivePhase) → w.phase ≡ phase → (asked : Step R) (answer : Answer R) → HasCalls w asked answer n → PhaseRow form keeps w phase asked answer w'
         → HasFile phase ⊎ (w'.phase ≡ Shut) ⊎ (w'.phase ≡ Exclusive) × (0 < n)
     phase_row w w' n Shut at asked answer calls row = inr (shut_row w w' n asked answer at calls row)
     phase_row w w' n Exclusive at asked answer calls row = inl tt
     phase_row w w' n (Growing phase) at asked answer calls row = inl tt
 
-    has_or_not : (phase : Phase) → HasFile phase ⊎ (phase ≡ Shut)
+    has_or_not : (phase : DrivePhase) → HasFile phase ⊎ (phase ≡ Shut)
     has_or_not Shut = inr refl
     has_or_not Exclusive = inl tt
     has_or_not (Growing phase) = inl tt
@@ -162,7 +162,7 @@ module _ {R : Type 0} (form : Encoding R) where
 
     -- ---- the run
 
-    run_extends : (w : World R) (events : List (Event R)) → IsMarked w.settled w.phase → Run form keeps w events → Extends w (last w events)
+    run_extends : (w : World R) (events : List (Event R)) → IsMarked w.settled w.phase → AreEvents form keeps w events → Extends w (last w events)
     run_extends w [] has run = record { base_same = refl; added = []; history_is = sym (append-nil w.history); settled_le = omega arith }
     run_extends w (e ∷ events) has run =
         let g = event_goes w e run.0 has in
@@ -190,7 +190,7 @@ module _ {R : Type 0} (form : Encoding R) where
         then = LeavesOnly-weaker e.after.disk.states end.disk.states (OpensToPrefix form end.base end.history e.after.settled) (OpensToPrefix form end.base end.history w.settled)
             (λ image p. prefix_later end end e.after.settled w.settled image refl [] (sym (append-nil end.history)) g.settled_le p) rest
 
-    pub run_leaves : (w : World R) (events : List (Event R)) → IsMarked w.settled w.phase → Rests form w → Run form keeps w events → AllInner form w events
+    pub run_leaves : (w : World R) (events : List (Event R)) → IsMarked w.settled w.phase → Rests form w → AreEvents form keeps w events → AllInner form w events
         → LeavesOnly w.disk.states (last w events).disk.states (OpensToPrefix form (last w events).base (last w events).history w.settled)
     run_leaves w [] has rests run inner = LeavesOnly-start w.disk.states _ rests
     run_leaves w (e ∷ events) has rests run inner =
@@ -210,7 +210,7 @@ module _ {R : Type 0} (form : Encoding R) where
     nothing_more : (w : World R) (events : List (Event R)) → clock w.disk.states + sum (take 0 (map (λ (e : Event R). e.calls) events)) ≡ clock w.disk.states
     nothing_more w events = omega arith
 
-    pub headline : (w : World R) (events : List (Event R)) → Marks w → (HasFile w.phase → Rests form w) → Run form keeps w events → AllInner form w events → LeavesPrefixes form w events
+    pub headline : (w : World R) (events : List (Event R)) → Marks w → (HasFile w.phase → Rests form w) → AreEvents form keeps w events → AllInner form w events → LeavesPrefixes form w events
     headline w events marks rests run inner zero before at has image left =
         let same : w ≡ before = same_Some w before at in
         let there : HasFile w.phase = subst (λ x. HasFile x.phase) (sym same) has in
@@ -223,31 +223,31 @@ module _ {R : Type 0} (form : Encoding R) where
 
     -- ---- what a seat was told
 
-    told_seat : (w w' : World R) (seat : ℕ) (phase mine : Growth) (count : ℕ) (state : MarkState) (known : Bool) → w'.phase ≡ Growing phase
+    told_seat : (w w' : World R) (seat : ℕ) (phase mine : GrowthPhase) (count : ℕ) (state : MarkState) (known : Bool) → w'.phase ≡ Growing phase
         → OfSeat w (step.Told count state) w' known (IsMarkRead w mine seat (step.Told count state) w') → count ≤ phase.mark
     told_seat w w' seat phase mine count state false growing row = absurd (let answer = row.0 in cc)
     told_seat w w' seat phase mine count state true growing row = elim row [
       | inl read ↦
           let same : record mine { told = slice_set mine.told seat read.1.0 } ≡ phase = growing_is (sym (ap (λ x. x.phase) read.1.4) ∙ growing) in
-          let mark = ap (λ (p : Growth). p.mark) same in
+          let mark = ap (λ (p : GrowthPhase). p.mark) same in
           let count_is = told_is (step.Told count state) count read.1.0 state Running refl read.1.3 in
           omega (arith, mark, count_is, read.1.2)
       | inr refused ↦ absurd (let answer = refused.2 in cc)
     ]
 
-    told_row : (w w' : World R) (seat : ℕ) (phase : Growth) (count : ℕ) (state : MarkState) (at : Phase) → w'.phase ≡ Growing phase
+    told_row : (w w' : World R) (seat : ℕ) (phase : GrowthPhase) (count : ℕ) (state : MarkState) (at : DrivePhase) → w'.phase ≡ Growing phase
         → PhaseRow form keeps w at (step.Settled seat) (step.Told count state) w' → count ≤ phase.mark
     told_row w w' seat phase count state Shut growing row = absurd (let answer = row.0 in cc)
     told_row w w' seat phase count state Exclusive growing row = absurd (let answer = row.0 in cc)
     told_row w w' seat phase count state (Growing mine) growing row = told_seat w w' seat phase mine count state (has_seat mine (Some seat)) growing row
 
-    told_stray : (w w' : World R) (seat : ℕ) (phase : Growth) (count : ℕ) (state : MarkState) (stray : Option ℕ) → w'.phase ≡ Growing phase
+    told_stray : (w w' : World R) (seat : ℕ) (phase : GrowthPhase) (count : ℕ) (state : MarkState) (stray : Option ℕ) → w'.phase ≡ Growing phase
         → StrayRow form keeps w stray (step.Settled seat) (step.Told count state) w' → count ≤ phase.mark
     told_stray w w' seat phase count state None growing row = told_row w w' seat phase count state w.phase growing row
     told_stray w w' seat phase count state (Some number) growing row = absurd (let answer = row.0 in cc)
 
     -- it is settled
-    told_settled : (w : World R) (e : Event R) (seat : ℕ) (phase : Growth) (count : ℕ) (state : MarkState) → IsEvent form keeps w e → e.asked ≡ step.Settled seat
+    told_settled : (w : World R) (e : Event R) (seat : ℕ) (phase : GrowthPhase) (count : ℕ) (state : MarkState) → IsEvent form keeps w e → e.asked ≡ step.Settled seat
         → e.after.phase ≡ Growing phase → e.answer ≡ step.Told count state → IsMarked e.after.settled e.after.phase → count ≤ e.after.settled - phase.before
     told_settled w e seat phase count state is asked growing answer marked =
         let fits : phase.mark ≤ e.after.settled - phase.before = subst (IsMarked e.after.settled) growing marked in
@@ -255,7 +255,7 @@ module _ {R : Type 0} (form : Encoding R) where
         let read = told_stray w e.after seat phase count state w.strayed growing row in
         omega arith
 
-    pub leaves_told : (w : World R) (events : List (Event R)) → Marks w → (HasFile w.phase → Rests form w) → Run form keeps w events → AllInner form w events → LeavesTold form w events
+    pub leaves_told : (w : World R) (events : List (Event R)) → Marks w → (HasFile w.phase → Rests form w) → AreEvents form keeps w events → AllInner form w events → LeavesTold form w events
     leaves_told w [] marks rests run inner j event seat phase told state at asked growing answer number less image left = absurd cc
     leaves_told w (e ∷ events) marks rests run inner zero event seat phase told state at asked growing answer number less image left =
         let same : e ≡ event = same_Some e event at in

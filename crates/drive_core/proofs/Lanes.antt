@@ -17,7 +17,7 @@ use Rattle.drive_core.specs.LaneRows.{lane_step}
 use Rattle.drive_core.specs.Medium.{Medium}
 use Rattle.drive_core.specs.Step.{Step, Answer}
 use Rattle.drive_core.specs.Step as step
-use Rattle.drive_core.specs.World.{World, Growth, Growing, DiskOf, hand_of}
+use Rattle.drive_core.specs.World.{World, GrowthPhase, Growing, DiskOf, hand_of}
 use Rattle.drive_core.specs.Outcome.{stray_in}
 use Rattle.drive_core.specs.Run.{HasCalls}
 use Rattle.book_core.specs.Lists as book
@@ -37,7 +37,7 @@ pub record IsTick {R D : Type 0} (m : Medium R D) (live : book.Phase R) (old new
   pub images : m.keeps new.pen.disk → LeavesOnly (m.states old.pen.disk) (m.states new.pen.disk) (OpensToJob m.form old)
   pub rests : m.keeps new.pen.disk → (image : List ℕ) → IsImage (now (m.states new.pen.disk)) image → OpensToSettled m.form new image
 
-module _ {R D : Type 0} {m : Medium R D} {w : World R} {phase : Growth} {g : GrowingOf R D} (tie : IsGrowing m w phase g) {new : FlusherOf R D} (tick : IsTick m g.live g.flusher new) where
+module _ {R D : Type 0} {m : Medium R D} {w : World R} {phase : GrowthPhase} {g : GrowingOf R D} (tie : IsGrowing m w phase g) {new : FlusherOf R D} (tick : IsTick m g.live g.flusher new) where
   -- the world behind it
   abbrev behind : World R
   behind = behind_call w (phase.before + new.settled) (hand_of new.pen) (disk_of m.states m.faults new.pen.disk)

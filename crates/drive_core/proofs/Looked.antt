@@ -9,11 +9,11 @@ use Rattle.book_core.specs.Growing as growing
 use Rattle.book_core.specs.declared.fault.GrowFault.TheVariants as grow
 use Rattle.flush_core.specs.Flusher.{FlusherOf, FlusherLearns, IsFlusherOf}
 use Rattle.book_core.specs.Lists as book
-use Rattle.drive_core.specs.declared.fault.Fault.TheVariants as told
+use Rattle.drive_core.specs.declared.fault.StepFault.TheVariants as told
 use Rattle.drive_core.specs.Medium.{Medium}
 use Rattle.drive_core.specs.Step.{Answer}
 use Rattle.drive_core.specs.Step as step
-use Rattle.drive_core.specs.World.{World, Growth, Growing, hand_of}
+use Rattle.drive_core.specs.World.{World, GrowthPhase, Growing, hand_of}
 use Rattle.drive_core.specs.Outcome.{struck}
 use Rattle.drive_core.specs.GrowthRows.{within}
 use Rattle.drive_core.specs.Ties.{GrowingOf, IsGrowing, AreSeated, IsFlushing, growths_in_hand, disk_of}
@@ -41,7 +41,7 @@ module _ {X : Type 0} where
   none-or [] = inl refl
   none-or (x ∷ xs) = inr (omega arith)
 
-module _ {R D : Type 0} {m : Medium R D} {w : World R} {phase : Growth} {g : GrowingOf R D} (tie : IsGrowing m w phase g) (new : FlusherOf R D) (row : List (Seated R)) where
+module _ {R D : Type 0} {m : Medium R D} {w : World R} {phase : GrowthPhase} {g : GrowingOf R D} (tie : IsGrowing m w phase g) (new : FlusherOf R D) (row : List (Seated R)) where
   -- something that no step made
   pub look_strays : {answer : Answer R} (n : ℕ) → answer ≡ step.Refused (told.Grow (grow.Strayed n)) → new.pen ≡ g.flusher.pen
       → GrowthStep m w (record g { flusher = new; seats = row }) (step.Look None) answer 0
@@ -75,7 +75,7 @@ module _ {R D : Type 0} {m : Medium R D} {w : World R} {phase : Growth} {g : Gro
       ])
     ]
 
-    abbrev found_phase : Growth
+    abbrev found_phase : GrowthPhase
     found_phase = record phase { flusher = length new.pass.entries }
 
     met_row : AreSeated phase.known phase.made phase.told row g.live.seat_count g.last tie.entries

@@ -5,11 +5,11 @@ use Rattle.directory_core.specs.Chain.{IsPrefix}
 use Rattle.book_core.specs.Lists.{Seated}
 use Rattle.book_core.specs.Growing.{SeatLearns, size_of}
 use Rattle.book_core.specs.declared.fault.GrowFault.TheVariants as grow
-use Rattle.drive_core.specs.declared.fault.Fault.TheVariants as told
+use Rattle.drive_core.specs.declared.fault.StepFault.TheVariants as told
 use Rattle.drive_core.specs.Medium.{Medium}
 use Rattle.drive_core.specs.Step.{Answer}
 use Rattle.drive_core.specs.Step as step
-use Rattle.drive_core.specs.World.{World, Growth}
+use Rattle.drive_core.specs.World.{World, GrowthPhase}
 use Rattle.drive_core.specs.Outcome.{struck}
 use Rattle.drive_core.specs.GrowthRows.{within, IsLook}
 use Rattle.drive_core.specs.Ties.{GrowingOf, IsGrowing, AreSeated, MeetsIn}
@@ -21,7 +21,7 @@ use Rattle.drive_core.proofs.Seats.{same_or_not, get_set_same, get_set_other, be
 use Rattle.drive_core.proofs.Steps.{answered}
 use Rattle.drive_core.proofs.Ties.{growths_count, known_long, other_seats, behind_of, strayed_behind}
 
-module _ {R D : Type 0} {m : Medium R D} {w : World R} {phase : Growth} {g : GrowingOf R D} (tie : IsGrowing m w phase g)
+module _ {R D : Type 0} {m : Medium R D} {w : World R} {phase : GrowthPhase} {g : GrowingOf R D} (tie : IsGrowing m w phase g)
     {k : ℕ} {m0 : Seated R} (inside : k < length g.seats) (at0 : slice_get g.seats k ≡ Some m0) (row : List (Seated R)) where
   pub seat_strays : {answer : Answer R} (n : ℕ) → answer ≡ step.Refused (told.Grow (grow.Strayed n)) → GrowthStep m w (record g { seats = row }) (step.Look (Some k)) answer 0
   seat_strays n is =
@@ -91,7 +91,7 @@ module _ {R D : Type 0} {m : Medium R D} {w : World R} {phase : Growth} {g : Gro
         (record { id_is = met.learns.id ∙ (learnt_row.each g.last t at_t).id_is; knows = subst (λ xs. IsPrefix xs tie.entries) (sym met_same) t_begins })
         (λ all. met_same ∙ all)
 
-    abbrev found_phase : Growth
+    abbrev found_phase : GrowthPhase
     found_phase = record phase { known = slice_set phase.known k (length m1.pass.entries) }
 
     look_tie : IsGrowing m (within w found_phase) found_phase (record g { seats = row })

@@ -3,8 +3,8 @@ use Rattle.std.proofs.Common.{◌≡◌, ℕ, Bool, true, false, List, [], ◌�
 use Rattle.std.specs.Prelude.{Option, Some, None}
 use Rattle.std.proofs.Common.{inl, inr}
 use Rattle.pen_core.specs.declared.fault.PenFault.TheVariants as pen_fault
-use Rattle.drive_core.specs.declared.fault.Fault.{Fault}
-use Rattle.drive_core.specs.declared.fault.Fault.TheVariants.{Vault, Grow, Scan}
+use Rattle.drive_core.specs.declared.fault.StepFault.{StepFault}
+use Rattle.drive_core.specs.declared.fault.StepFault.TheVariants.{Vault, Grow, Scan}
 use Rattle.vault_core.specs.declared.fault.VaultFault.TheVariants as vault
 use Rattle.record_core.specs.Bytes.{Encoding}
 use Rattle.segment_core.specs.declared.format.Format.{Format}
@@ -14,8 +14,8 @@ use Rattle.drive_core.specs.Step as step
 use Rattle.drive_core.specs.OpeningRows.{IsCreate, IsOpen, NotCreated, NotOpened}
 use Rattle.drive_core.specs.LaneRows.{IsFold, HasBegun}
 use Rattle.drive_core.specs.Rows.{ShutRow, ExclusiveRow, GrowthRow, PhaseRow, StrayRow}
-use Rattle.drive_core.specs.World.{World, Growth, Phase, Shut, Exclusive, Growing, is_live}
-use Rattle.drive_core.specs.Run.{Event, IsEvent, Run, last}
+use Rattle.drive_core.specs.World.{World, GrowthPhase, DrivePhase, Shut, Exclusive, Growing, is_live}
+use Rattle.drive_core.specs.Run.{Event, IsEvent, AreEvents, last}
 use Rattle.drive_core.specs.Headline.{Inner, AllInner}
 
 module _ {R : Type 0} (form : Encoding R) where
@@ -23,9 +23,10 @@ module _ {R : Type 0} (form : Encoding R) where
   last-more w [] e = refl
   last-more w (first ∷ events) e = last-more first.after events e
 
-  pub Run-more : (keeps : Type 0) (w : World R) (events : List (Event R)) (e : Event R) → Run form keeps w events → IsEvent form keeps (last w events) e → Run form keeps w (events ++ e ∷ [])
-  Run-more keeps w [] e run is = (is, tt)
-  Run-more keeps w (first ∷ events) e run is = (run.0, Run-more keeps first.after events e run.1 is)
+  pub AreEvents-more : (keeps : Type 0) (w : World R) (events : List (Event R)) (e : Event R) → AreEvents form keeps w events
+      → IsEvent form keeps (last w events) e → AreEvents form keeps w (events ++ e ∷ [])
+  AreEvents-more keeps w [] e run is = (is, tt)
+  AreEvents-more keeps w (first ∷ events) e run is = (run.0, AreEvents-more keeps first.after events e run.1 is)
 
   pub AllInner-more : (w : World R) (events : List (Event R)) (e : Event R) → AllInner form w events → Inner form (last w events) e → AllInner form w (events ++ e ∷ [])
   AllInner-more w [] e inner is = (is, tt)
@@ -39,7 +40,7 @@ module _ {R : Type 0} (form : Encoding R) where
       | inr no_ ↦ inr (no_.0, no_.1, no_.2, refused no_.0 no_.3)
     ]
       where
-        refused : (fault : Fault) → NotCreated before (shape_of format form) w w' fault → NotCreated now (shape_of format form) w w' fault
+        refused : (fault : StepFault) → NotCreated before (shape_of format form) w w' fault → NotCreated now (shape_of format form) w w' fault
         refused (Vault (vault.Pen (pen_fault.Disk fault))) by = (by.0, (λ k. by.1 (goes_back k)), by.2)
         refused (Vault (vault.Pen pen_fault.Exists)) by = ((λ k. by.0 (goes_back k)), (λ k. by.1 (goes_back k)), by.2)
         refused (Vault other) by = by
@@ -52,7 +53,7 @@ module _ {R : Type 0} (form : Encoding R) where
       | inr no_ ↦ inr (no_.0, no_.1, no_.2, refused no_.0 no_.3)
     ]
       where
-        refused : (fault : Fault) → NotOpened form before w w' fault → NotOpened form now w w' fault
+        refused : (fault : StepFault) → NotOpened form before w w' fault → NotOpened form now w w' fault
         refused (Vault (vault.Pen (pen_fault.Disk fault))) by = (by.0, (λ k. by.1 (goes_back k)), by.2)
         refused (Vault other) by = by
         refused (Grow fault) by = by
@@ -77,11 +78,11 @@ module _ {R : Type 0} (form : Encoding R) where
     exclusive_weaker w step.Fold answer w' row = fold_weaker w answer w' row
     exclusive_weaker w other answer w' row = row
 
-    growth_weaker : (w : World R) (phase : Growth) (asked : Step R) (answer : Answer R) (w' : World R) → GrowthRow form before w phase asked answer w' → GrowthRow form now w phase asked answer w'
+    growth_weaker : (w : World R) (phase : GrowthPhase) (asked : Step R) (answer : Answer R) (w' : World R) → GrowthRow form before w phase asked answer w' → GrowthRow form now w phase asked answer w'
     growth_weaker w phase step.Fold answer w' row = fold_weaker w answer w' row
     growth_weaker w phase other answer w' row = row
 
-    phase_weaker : (w : World R) (phase : Phase) (asked : Step R) (answer : Answer R) (w' : World R) → PhaseRow form before w phase asked answer w' → PhaseRow form now w phase asked answer w'
+    phase_weaker : (w : World R) (phase : DrivePhase) (asked : Step R) (answer : Answer R) (w' : World R) → PhaseRow form before w phase asked answer w' → PhaseRow form now w phase asked answer w'
     phase_weaker w Shut asked answer w' row = shut_weaker w asked answer w' row
     phase_weaker w Exclusive asked answer w' row = exclusive_weaker w asked answer w' row
     phase_weaker w (Growing phase) asked answer w' row = growth_weaker w phase asked answer w' row
@@ -90,9 +91,9 @@ module _ {R : Type 0} (form : Encoding R) where
     stray_weaker w None asked answer w' row = phase_weaker w w.phase asked answer w' row
     stray_weaker w (Some n) asked answer w' row = row
 
-    pub Run-weaker : (w : World R) (events : List (Event R)) → Run form before w events → Run form now w events
-    Run-weaker w [] run = tt
-    Run-weaker w (e ∷ events) run = (
+    pub AreEvents-weaker : (w : World R) (events : List (Event R)) → AreEvents form before w events → AreEvents form now w events
+    AreEvents-weaker w [] run = tt
+    AreEvents-weaker w (e ∷ events) run = (
       record { row = stray_weaker w w.strayed e.asked e.answer e.after run.0.row; called = run.0.called; time = run.0.time; still = run.0.still },
-      Run-weaker e.after events run.1,
+      AreEvents-weaker e.after events run.1,
     )

@@ -3,7 +3,7 @@ use Rattle.std.proofs.Common.{◌≤◌, ◌≡◌, ℕ, ◌+◌, List, [], ◌�
 use Rattle.record_core.specs.Bytes.{Encoding}
 use Rattle.disk_core.specs.Moments.{clock}
 use Rattle.book_core.specs.declared.fault.GrowFault.TheVariants as grow
-use Rattle.drive_core.specs.declared.fault.Fault.TheVariants.{Grow}
+use Rattle.drive_core.specs.declared.fault.StepFault.TheVariants.{Grow}
 use Rattle.drive_core.specs.declared.step.Step as code
 use Rattle.drive_core.specs.declared.step.Answer as told
 use Rattle.drive_core.specs.Asked.{step_of, answer_of}
@@ -17,7 +17,7 @@ use Rattle.drive_core.specs.Outcome.{stray_in}
 use Rattle.drive_core.specs.Rows.{StrayRow}
 use Rattle.drive_core.specs.Run.{Event, HasCalls, last}
 use Rattle.segment_core.specs.Command.{Command}
-use Rattle.drive_core.specs.declared.phase.Phase as phases
+use Rattle.drive_core.specs.declared.phase.DrivePhase as phases
 use Rattle.drive_core.specs.World.{vector, changed, changed_runs, resize_command, cleared}
 use Rattle.drive_core.specs.Run.{CommandCalls}
 use Rattle.drive_core.specs.Driving.{IsDriver, DriverStep, HasRun}
@@ -25,7 +25,7 @@ use Rattle.drive_core.specs.Phases.{disk_in, IsPhaseInHand, PhaseStep}
 use Rattle.drive_core.specs.Ties.{Steps}
 use Rattle.drive_core.specs.VaultTies.{calls_between}
 use Rattle.drive_core.proofs.Steps.{answered, counted, still}
-use Rattle.drive_core.proofs.Loop.{last-more, Run-more, Run-weaker, AllInner-more}
+use Rattle.drive_core.proofs.Loop.{last-more, AreEvents-more, AreEvents-weaker, AllInner-more}
 
 stray_command : {R : Type 0} (command : Option (Command R)) (number : ℕ) → CommandCalls command (step.Refused (Grow (grow.Strayed number))) 0
 stray_command None number = refl
@@ -44,7 +44,7 @@ stray_calls w other number = refl
 
 module _ {R D : Type 0} {m : Medium R D} {w : World R} where
   -- a step behind one that strayed
-  pub stray_steps : {phase : phases.Phase R D} {strayed : Option ℕ} {number : ℕ} {answer : Answer R} (asked : Step R) → IsDriver m w phase strayed → strayed ≡ Some number
+  pub stray_steps : {phase : phases.DrivePhase R D} {strayed : Option ℕ} {number : ℕ} {answer : Answer R} (asked : Step R) → IsDriver m w phase strayed → strayed ≡ Some number
       → answer ≡ step.Refused (Grow (grow.Strayed number))
       → DriverStep m w (disk_in phase) phase strayed asked answer
   stray_steps {phase} {number = number} asked tie some is =
@@ -53,7 +53,7 @@ module _ {R D : Type 0} {m : Medium R D} {w : World R} where
       answered is (counted none (still w row (stray_calls w asked number) refl (tie.strayed_is ∙ some) tie))
 
   -- as the driver's step answers
-  pub driver_steps : {phase new : phases.Phase R D} {asked : Step R} {answer : Answer R} {strayed strayed' : Option ℕ} → IsDriver m w phase strayed → strayed ≡ None
+  pub driver_steps : {phase new : phases.DrivePhase R D} {asked : Step R} {answer : Answer R} {strayed strayed' : Option ℕ} → IsDriver m w phase strayed → strayed ≡ None
       → strayed' ≡ stray_in answer
       → (IsPhaseInHand m w phase → PhaseStep m w (disk_in phase) new asked answer) → DriverStep m w (disk_in phase) new strayed' asked answer
   driver_steps tie none told steps =
@@ -68,7 +68,7 @@ module _ {R D : Type 0} {m : Medium R D} {w : World R} where
       }
 
   -- the clock goes on by the calls of a step
-  pub clock_goes : {phase new : phases.Phase R D} {strayed strayed' : Option ℕ} {asked : Step R} {answer : Answer R} → IsDriver m w phase strayed
+  pub clock_goes : {phase new : phases.DrivePhase R D} {strayed strayed' : Option ℕ} {asked : Step R} {answer : Answer R} → IsDriver m w phase strayed
       → (s : DriverStep m w (disk_in phase) new strayed' asked answer)
       → clock (m.states (disk_in new)) ≡ clock (m.states (disk_in phase)) + calls_between (m.states (disk_in phase)) (m.states (disk_in new))
   clock_goes tie s =
@@ -99,7 +99,7 @@ module _ {R : Type 0} (form : Encoding R) where
           answers_are = map-snoc (λ (e : Event R). e.answer) so_far.events e ∙ ap (λ xs. xs ++ answer ∷ []) so_far.are_of.answers_are;
           calls_are = map-snoc (λ (e : Event R). e.calls) so_far.events e ∙ ap (λ xs. xs ++ n ∷ []) so_far.are_of.calls_are ∙ ap (λ k. calls ++ k ∷ []) (sym (counted end so_far.tied));
         };
-        run = Run-more form keeps' w so_far.events e (Run-weaker form keeps keeps' back w so_far.events so_far.run) s.is_event;
+        run = AreEvents-more form keeps' w so_far.events e (AreEvents-weaker form keeps keeps' back w so_far.events so_far.run) s.is_event;
         inner = λ kept. AllInner-more form w so_far.events e (so_far.inner (back kept)) (s.inner kept);
         tied = subst Tied' (sym (last-more form w so_far.events e)) s.tied;
       }

@@ -16,7 +16,7 @@ use Rattle.vault_core.specs.Touched.{IsTouched}
 use Rattle.vault_core.specs.Vault.{VaultOf, list_of}
 use Rattle.vault_core.specs.Commands as commands
 use Rattle.vault_core.specs.Commands.{StandsCommanded, changed_frame}
-use Rattle.drive_core.specs.declared.fault.Fault.TheVariants.{Vault}
+use Rattle.drive_core.specs.declared.fault.StepFault.TheVariants.{Vault}
 use Rattle.drive_core.specs.Given.{given_by_runs, pieces_of}
 use Rattle.drive_core.specs.Medium.{Medium}
 use Rattle.drive_core.specs.Step.{Step, Answer}

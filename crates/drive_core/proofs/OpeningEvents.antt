@@ -24,16 +24,16 @@ use Rattle.drive_core.specs.Line.{of_open}
 use Rattle.vault_core.specs.declared.fault.VaultFault.TheVariants as vault
 use Rattle.vault_core.specs.Making.{IsMade}
 use Rattle.vault_core.specs.Vault.{VaultOf, list_of}
-use Rattle.drive_core.specs.declared.fault.Fault.TheVariants.{Vault, Scan}
-use Rattle.drive_core.specs.declared.phase.Phase.TheVariants as hands
+use Rattle.drive_core.specs.declared.fault.StepFault.TheVariants.{Vault, Scan}
+use Rattle.drive_core.specs.declared.phase.DrivePhase.TheVariants as hands
 use Rattle.drive_core.specs.Medium.{Medium}
-use Rattle.drive_core.specs.declared.phase.Phase as code
+use Rattle.drive_core.specs.declared.phase.DrivePhase as code
 use Rattle.drive_core.specs.Step.{Step, Answer}
 use Rattle.drive_core.specs.Step as step
 use Rattle.drive_core.specs.World.{World, File, Hand, DiskOf, hand_of, vector}
 use Rattle.drive_core.specs.World as worlds
 use Rattle.drive_core.specs.Outcome.{stray_in}
-use Rattle.drive_core.specs.OpeningRows.{IsOpening, AreCallsOfOpening, opened, empty_file, at_rest, IsMaking, AreCallsOfMaking, HasRead}
+use Rattle.drive_core.specs.OpeningRows.{IsOpening, AreCallsOfOpening, opened, empty_file, at_rest, IsMaking, AreCallsOfMaking, HasReadFile}
 use Rattle.drive_core.specs.Rows.{ShutRow}
 use Rattle.drive_core.specs.Run.{HasCalls}
 use Rattle.drive_core.specs.Headline.{HasFile, Rests}
@@ -53,7 +53,7 @@ module _ {R D : Type 0} {m : Medium R D} {w : World R} {disk : D} (tie : IsPhase
   calls_to new = clock (m.states new) - clock (m.states disk)
 
   -- an event with device calls
-  called : {new : code.Phase R D} {asked : Step R} {answer : Answer R} (w' : World R) → ShutRow m.form (m.keeps (disk_in new)) w asked answer w'
+  called : {new : code.DrivePhase R D} {asked : Step R} {answer : Answer R} (w' : World R) → ShutRow m.form (m.keeps (disk_in new)) w asked answer w'
       → HasCalls w asked answer (calls_to (disk_in new)) → clock (m.states disk) < clock (m.states (disk_in new)) → calls_to (disk_in new) < 2 ^ 64
       → w'.disk ≡ disk_of m.states m.faults (disk_in new) → w'.strayed ≡ stray_in answer → IsWorldLeft m w' new → (m.keeps (disk_in new) → HasFile w'.phase → Rests m.form w')
       → PhaseStep m w disk new asked answer
@@ -181,7 +181,7 @@ module _ {R D : Type 0} {m : Medium R D} {w : World R} {disk : D} (tie : IsPhase
 
   -- ---- a file is opened
 
-  read_file : (format : Format) (p : PenOf D) (bytes : List ℕ) (base : List R) → (o : IsOpened m.form bytes p base) → HasRead m.form bytes base (hand_of p).file
+  read_file : (format : Format) (p : PenOf D) (bytes : List ℕ) (base : List R) → (o : IsOpened m.form bytes p base) → HasReadFile m.form bytes base (hand_of p).file
   read_file format p bytes base o = record {
     format = o.format;
     frames = o.found;
@@ -243,7 +243,7 @@ module _ {R D : Type 0} {m : Medium R D} {w : World R} {disk : D} (tie : IsPhase
         hand_is = λ i. record { file = (hand_of v.pen).file; job = sym rest.no_job i; fold = sym rest.no_fold i; broken = sym rest.whole i };
         disk_is = refl;
       } in
-      let reads : m.keeps v.pen.disk → HasRead m.form (bytes_of w.disk.states) (list_of v) (hand_of v.pen).file
-      = λ kept. subst (λ bytes. HasRead m.form bytes (list_of v) (hand_of v.pen).file) (sym bytes_are) (let o = read kept in read_file o.format v.pen (bytes_of (m.states disk)) (list_of v) o) in
+      let reads : m.keeps v.pen.disk → HasReadFile m.form (bytes_of w.disk.states) (list_of v) (hand_of v.pen).file
+      = λ kept. subst (λ bytes. HasReadFile m.form bytes (list_of v) (hand_of v.pen).file) (sym bytes_are) (let o = read kept in read_file o.format v.pen (bytes_of (m.states disk)) (list_of v) o) in
       answered (is ∙ ap step.Size long) (called w' (inl (inr (inr refl), (list_of v, (hand_of v.pen).file, refl, reads, looked syncs all None calls, refl)))
       (omega (arith, two)) (omega (arith, two)) (few_pieces len (calls_to v.pen.disk) calls.1 calls.2) refl tie.calm (left_exclusive tied) (λ kept has. vault_rests tied kept rests))

@@ -7,9 +7,9 @@ use Rattle.pen_core.specs.Folds.{IsWholeFold}
 use Rattle.pen_core.specs.Pen.{MayOpen, IsFoldAnswer, IsFoldRefusal, IsFoldBarred, IsReadyToFold, BeginsFold, gate_behind_fold}
 use Rattle.pen_core.specs.declared.fault.PenFault.{PenFault}
 use Rattle.pen_core.specs.declared.fault.PenFault.TheVariants as pen
-use Rattle.drive_core.specs.declared.fault.Fault.TheVariants.{Vault}
+use Rattle.drive_core.specs.declared.fault.StepFault.TheVariants.{Vault}
 use Rattle.vault_core.specs.declared.fault.VaultFault.TheVariants as vault
-use Rattle.drive_core.specs.declared.fault.Fault.{Fault}
+use Rattle.drive_core.specs.declared.fault.StepFault.{StepFault}
 use Rattle.drive_core.specs.Line.{Line, When, Allows}
 use Rattle.drive_core.specs.Step.{Answer}
 use Rattle.drive_core.specs.Step as step
@@ -46,7 +46,7 @@ module _ {D : Type 0} where
   FoldRefuses p live fault = Allows (fold_lines (hand_of p) live) (Some (Vault (vault.Pen fault)))
 
   -- neither broken nor with a fold in hand
-  past_two : (p : PenOf D) (lines : List Line) (answer : Option Fault) → p.broken ≡ false → p.fold ≡ None → Allows lines answer
+  past_two : (p : PenOf D) (lines : List Line) (answer : Option StepFault) → p.broken ≡ false → p.fold ≡ None → Allows lines answer
       → Allows (When p.broken (Vault (vault.Pen pen.Broken)) ∷ When (is_some p.fold) (Vault (vault.Pen pen.Busy)) ∷ lines) answer
   past_two p lines answer whole none allows =
       passes p.broken (Vault (vault.Pen pen.Broken)) _ answer whole (passes (is_some p.fold) (Vault (vault.Pen pen.Busy)) lines answer (ap is_some none) allows)

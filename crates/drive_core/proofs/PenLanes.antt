@@ -7,18 +7,18 @@ use Rattle.pen_core.specs.PenOf.{PenOf, JobOf, FoldOf}
 use Rattle.pen_core.specs.Pen.{IsTicked, CountsSame, CountsDone, IsTickFault, IsBrokenBy, calls_due, IsHomeTicked, HomesCalled, IsHomeFault, home_calls_due}
 use Rattle.pen_core.specs.Pen as pens
 use Rattle.pen_core.specs.InHand.{has_call, called, home_fault}
-use Rattle.pen_core.specs.declared.step.Step.TheVariants.{Body}
+use Rattle.pen_core.specs.declared.step.PenStep.TheVariants.{Body}
 use Rattle.pen_core.specs.declared.stage.FoldStage.TheVariants as stages
 use Rattle.pen_core.specs.Step.{step_after, fault_of}
-use Rattle.pen_core.specs.declared.step.Step as pen_step
+use Rattle.pen_core.specs.declared.step.PenStep as pen_step
 use Rattle.pen_core.specs.declared.fault.PenFault.{PenFault}
 use Rattle.pen_core.specs.declared.fault.PenFault.TheVariants as pen
 use Rattle.flush_core.specs.declared.lane.Tick.{Tick}
 use Rattle.flush_core.specs.declared.lane.Tick.TheVariants as ticks
 use Rattle.flush_core.specs.declared.lane.Lane.TheVariants as lanes
 use Rattle.flush_core.specs.Refusals.{IsLaneTicked}
-use Rattle.drive_core.specs.declared.fault.Fault.{Fault}
-use Rattle.drive_core.specs.declared.fault.Fault.TheVariants.{Vault}
+use Rattle.drive_core.specs.declared.fault.StepFault.{StepFault}
+use Rattle.drive_core.specs.declared.fault.StepFault.TheVariants.{Vault}
 use Rattle.vault_core.specs.declared.fault.VaultFault.TheVariants as vault
 use Rattle.drive_core.specs.Line.{Allows, Might, is_disk}
 use Rattle.drive_core.specs.Medium.{Medium}
@@ -58,7 +58,7 @@ device_broken hand false broken = stops hand.broken (Vault (vault.Pen pen.Broken
 
 device_fails : (hand : Hand) (calls : Bool) (fault : DiskFault) → hand.broken ≡ false → calls ≡ true → Allows (device_lines hand calls) (Some (Vault (vault.Pen (pen.Disk fault))))
 device_fails hand true fault whole calls =
-    let told : Fault = Vault (vault.Pen (pen.Disk fault)) in
+    let told : StepFault = Vault (vault.Pen (pen.Disk fault)) in
     passes hand.broken (Vault (vault.Pen pen.Broken)) (Might is_disk ∷ []) (Some told) whole (inl (told, refl, refl))
 device_fails hand false fault whole calls = absurd cc
 
@@ -143,7 +143,7 @@ module _ {R D : Type 0} (m : Medium R D) (w : World R) (old new : PenOf D) (hand
       subst (λ j. IsJobLogged w j (step.Ticked ticks.Idle) behind_pen) (sym (job_is ∙ ticked.0)) (refl, same_world ticked.1 (omega (arith, more)))
   log_row ticks.Step ticked whole whole' more =
       let job : JobOf = ticked.0 in
-      let next : pen_step.Step = ticked.2.0 in
+      let next : pen_step.PenStep = ticked.2.0 in
       let stepped : hand_of new ≡ record w.hand { job = Some (record job { step = next }) }
       = hand_stepped old new ticked.3 (whole' ∙ sym whole) ∙ (λ i. record (sym hand_is i) { job = ticked.2.2 i }) in
       subst (λ j. IsJobLogged w j (step.Ticked ticks.Step) behind_pen) (sym (job_is ∙ ticked.1))

@@ -2,8 +2,8 @@
 use Rattle.std.proofs.Common.{◌≡◌, None, ap, arith}
 use Rattle.disk_core.specs.Moments.{clock}
 use Rattle.vault_core.specs.Vault.{VaultOf}
-use Rattle.drive_core.specs.declared.phase.Phase as code
-use Rattle.drive_core.specs.declared.phase.Phase.TheVariants as hands
+use Rattle.drive_core.specs.declared.phase.DrivePhase as code
+use Rattle.drive_core.specs.declared.phase.DrivePhase.TheVariants as hands
 use Rattle.drive_core.specs.Medium.{Medium}
 use Rattle.drive_core.specs.Step.{Step, Answer}
 use Rattle.drive_core.specs.World.{World}
@@ -30,7 +30,7 @@ module _ {R D : Type 0} {m : Medium R D} {w : World R} where
 
 -- ---- a step without a device call, by the clock
 
-pub still_left : {R D : Type 0} {m : Medium R D} {w : World R} {old : D} {new : code.Phase R D} {asked : Step R} {answer : Answer R} (phase : worlds.Phase) (w' : World R)
+pub still_left : {R D : Type 0} {m : Medium R D} {w : World R} {old : D} {new : code.DrivePhase R D} {asked : Step R} {answer : Answer R} (phase : worlds.DrivePhase) (w' : World R)
     → w.strayed ≡ None → w.phase ≡ phase → PhaseRow m.form (m.keeps (disk_in new)) w phase asked answer w' → HasCalls w asked answer 0 → w'.disk ≡ w.disk → disk_in new ≡ old
     → w'.strayed ≡ stray_in answer → IsWorldLeft m w' new
     → PhaseStep m w old new asked answer

@@ -8,17 +8,17 @@ use Rattle.std.proofs.Math.Seq.{take-length}
 use Rattle.record_core.specs.Limits.{record_limit}
 use Rattle.segment_core.specs.Command.{Grow}
 use Rattle.block_core.specs.Growth as block
-use Rattle.directory_core.specs.Chain.{IsPrefix, total, joined}
-use Rattle.directory_core.proofs.Chains.{length-joined}
+use Rattle.directory_core.specs.Chain.{IsPrefix, total, grown_records}
+use Rattle.directory_core.proofs.Chains.{length-grown_records}
 use Rattle.book_core.specs.declared.seat.Receipt.{Receipt}
 use Rattle.book_core.specs.declared.fault.GrowFault.TheVariants as grow
 use Rattle.book_core.specs.Lists.{Seated, opening_of}
 use Rattle.book_core.specs.Growing.{Grown, growth_of, size_of}
-use Rattle.drive_core.specs.declared.fault.Fault.TheVariants as told
+use Rattle.drive_core.specs.declared.fault.StepFault.TheVariants as told
 use Rattle.drive_core.specs.Medium.{Medium}
 use Rattle.drive_core.specs.Step.{Answer}
 use Rattle.drive_core.specs.Step as step
-use Rattle.drive_core.specs.World.{World, Growth, phase_growths, vector}
+use Rattle.drive_core.specs.World.{World, GrowthPhase, phase_growths, vector}
 use Rattle.drive_core.specs.GrowthRows.{with_growth, receipt_of, IsPut}
 use Rattle.drive_core.specs.Ties.{GrowingOf, IsGrowing, AreSeated, IsSeat, grow_of}
 use Rattle.drive_core.specs.GrowthTies.{GrowthStep}
@@ -39,10 +39,10 @@ map-push (x ∷ es) e = ap (λ rest. grow_of x ∷ rest) (map-push es e)
 
 total-push : {R : Type 0} (es : List (block.Growth R)) (e : block.Growth R) → total (es ++ e ∷ []) ≡ total es + length e.records
 total-push es e =
-    let both = ap length (flat_map-append (λ (f : block.Growth _). f.records) es (e ∷ [])) ∙ length-append (joined es) (joined (e ∷ [])) in
-    let all = length-joined (es ++ e ∷ []) in
-    let first = length-joined es in
-    let last : length (joined (e ∷ [])) ≡ length e.records = ap length (append-nil e.records) in
+    let both = ap length (flat_map-append (λ (f : block.Growth _). f.records) es (e ∷ [])) ∙ length-append (grown_records es) (grown_records (e ∷ [])) in
+    let all = length-grown_records (es ++ e ∷ []) in
+    let first = length-grown_records es in
+    let last : length (grown_records (e ∷ [])) ≡ length e.records = ap length (append-nil e.records) in
     omega (arith, both, all, first, last)
 
 sum-raised : (ns : List ℕ) (k : ℕ) → k < length ns → sum (slice_set ns k (slice_index ns k + 1)) ≡ sum ns + 1
@@ -64,7 +64,7 @@ record HasPut {R : Type 0} (seats : List (Seated R)) (k : ℕ) (entries : List (
   pub knows_all : new.pass.entries ≡ entries ++ entry ∷ []
 
 -- What is in hand then.
-module _ {R D : Type 0} {m : Medium R D} {w : World R} {phase : Growth} {g : GrowingOf R D} (tie : IsGrowing m w phase g)
+module _ {R D : Type 0} {m : Medium R D} {w : World R} {phase : GrowthPhase} {g : GrowingOf R D} (tie : IsGrowing m w phase g)
     {k : ℕ} {entry : block.Growth R} {new : Seated R} (put : HasPut g.seats k tie.entries entry new) where
   abbrev entries : List (block.Growth R)
   entries = tie.entries ++ entry ∷ []
@@ -141,7 +141,7 @@ module _ {R D : Type 0} {m : Medium R D} {w : World R} {phase : Growth} {g : Gro
     disk_is = tie.disk_is;
   }
 
-module _ {R D : Type 0} {m : Medium R D} {w : World R} {phase : Growth} {g : GrowingOf R D} (tie : IsGrowing m w phase g) where
+module _ {R D : Type 0} {m : Medium R D} {w : World R} {phase : GrowthPhase} {g : GrowingOf R D} (tie : IsGrowing m w phase g) where
   vector_long : length (vector w) ≡ length (opening_of g.live) + total tie.entries
   vector_long = ap length (vector_is tie) ∙ opening_long tie tie.entries
 
@@ -163,7 +163,7 @@ module _ {R D : Type 0} {m : Medium R D} {w : World R} {phase : Growth} {g : Gro
       serial_is : receipt.serial ≡ slice_index phase.made k
       serial_is = grown.serial ∙ sym (made_at tie.seats k at)
 
-module _ {R D : Type 0} {m : Medium R D} {w : World R} {phase : Growth} {g : GrowingOf R D} (tie : IsGrowing m w phase g)
+module _ {R D : Type 0} {m : Medium R D} {w : World R} {phase : GrowthPhase} {g : GrowingOf R D} (tie : IsGrowing m w phase g)
     {k : ℕ} {records : List R} {new : Seated R} {row : List (Seated R)} (asked : IsAskedPut m.form.width g k records new row) where
   -- the book knew all growths before
   before_is : {receipt : Receipt} (grown : Grown g.live asked.old new records receipt) → receipt.number ≡ g.puts → grown.before ≡ tie.entries

@@ -3,7 +3,7 @@ use Rattle.std.proofs.Common.{◌≡◌, ℕ, false, List, length}
 use Rattle.block_core.specs.Length.{IsBlockLength}
 use Rattle.book_core.specs.Lists.{Seated}
 use Rattle.drive_core.specs.Medium.{Medium}
-use Rattle.drive_core.specs.World.{World, Growth}
+use Rattle.drive_core.specs.World.{World, GrowthPhase}
 use Rattle.drive_core.specs.Ties.{GrowingOf, IsGrowing}
 use Rattle.drive_core.proofs.PutRow.{HasMet}
 
@@ -14,7 +14,7 @@ pub record IsAskedPut {R D : Type 0} (width : ℕ) (g : GrowingOf R D) (k : ℕ)
   pub old : Seated R
   pub met : HasMet g.seats g.last k old new row
 
-module _ {R D : Type 0} {m : Medium R D} {w : World R} {phase : Growth} {g : GrowingOf R D} (tie : IsGrowing m w phase g)
+module _ {R D : Type 0} {m : Medium R D} {w : World R} {phase : GrowthPhase} {g : GrowingOf R D} (tie : IsGrowing m w phase g)
     {k : ℕ} (records : List R) {new : Seated R} {row : List (Seated R)} where
   abbrev pub asked_put : {old : Seated R} → IsBlockLength m.form.width (length records) → g.closed ≡ false → HasMet g.seats g.last k old new row
       → IsAskedPut m.form.width g k records new row

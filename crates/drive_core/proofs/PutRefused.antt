@@ -9,12 +9,12 @@ use Rattle.book_core.specs.declared.fault.GrowFault.{GrowFault}
 use Rattle.book_core.specs.declared.fault.GrowFault.TheVariants as grow
 use Rattle.book_core.specs.Lists.{Seated, opening_of}
 use Rattle.book_core.specs.Growing.{SeatLearns, IsBookRefusal, size_of}
-use Rattle.drive_core.specs.declared.fault.Fault.TheVariants as told
+use Rattle.drive_core.specs.declared.fault.StepFault.TheVariants as told
 use Rattle.drive_core.specs.Line.{put_fault_of, Allows}
 use Rattle.drive_core.specs.Medium.{Medium}
 use Rattle.drive_core.specs.Step.{Answer}
 use Rattle.drive_core.specs.Step as step
-use Rattle.drive_core.specs.World.{World, Growth, phase_growths, vector}
+use Rattle.drive_core.specs.World.{World, GrowthPhase, phase_growths, vector}
 use Rattle.drive_core.specs.Outcome.{struck, stray_in}
 use Rattle.drive_core.specs.GrowthRows.{IsPut, knowing, within}
 use Rattle.drive_core.specs.Ties.{GrowingOf, IsGrowing}
@@ -29,7 +29,7 @@ use Rattle.drive_core.proofs.Steps.{answered}
 use Rattle.drive_core.proofs.Tables.{passes, stops}
 use Rattle.drive_core.proofs.Ties.{growths_count, vector_is, opening_long, other_seats, behind_of, strayed_behind}
 
-module _ {R D : Type 0} {m : Medium R D} {w : World R} {phase : Growth} {g : GrowingOf R D} (tie : IsGrowing m w phase g)
+module _ {R D : Type 0} {m : Medium R D} {w : World R} {phase : GrowthPhase} {g : GrowingOf R D} (tie : IsGrowing m w phase g)
     {k : ℕ} {records : List R} {new : Seated R} {row : List (Seated R)} (asked : IsAskedPut m.form.width g k records new row) where
   inside : k < length g.seats
   inside = slice_get_within g.seats k asked.old asked.met.at
@@ -65,7 +65,7 @@ module _ {R D : Type 0} {m : Medium R D} {w : World R} {phase : Growth} {g : Gro
     abbrev kept_hand : GrowingOf R D
     kept_hand = record g { seats = row }
 
-    abbrev kept_phase : Growth
+    abbrev kept_phase : GrowthPhase
     kept_phase = record phase { known = slice_set phase.known k (length tie.entries) }
 
     kept_tie : IsGrowing m (within w kept_phase) kept_phase kept_hand

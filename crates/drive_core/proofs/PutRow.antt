@@ -6,7 +6,7 @@ use Rattle.block_core.specs.Growth as block
 use Rattle.directory_core.specs.Chain.{IsPrefix}
 use Rattle.book_core.specs.Lists.{Seated}
 use Rattle.drive_core.specs.Medium.{Medium}
-use Rattle.drive_core.specs.World.{World, Growth}
+use Rattle.drive_core.specs.World.{World, GrowthPhase}
 use Rattle.drive_core.specs.Ties.{GrowingOf, IsGrowing, MeetsIn}
 use Rattle.drive_core.proofs.Looked.{same-front, none-or}
 use Rattle.drive_core.proofs.Seats.{same_or_not, get_set_same, get_set_other, begins-le, length_set, lent_at, there_is}
@@ -44,7 +44,7 @@ pub record HasMet {R : Type 0} (seats : List (Seated R)) (last k : ℕ) (old new
   pub at_last : slice_get (slice_set seats k new) last ≡ Some other
   pub meets : MeetsIn (slice_set seats k new) row k new other
 
-module _ {R D : Type 0} {m : Medium R D} {w : World R} {phase : Growth} {g : GrowingOf R D} (tie : IsGrowing m w phase g)
+module _ {R D : Type 0} {m : Medium R D} {w : World R} {phase : GrowthPhase} {g : GrowingOf R D} (tie : IsGrowing m w phase g)
     {k : ℕ} {old new : Seated R} {row : List (Seated R)} (has_met : HasMet g.seats g.last k old new row) where
   abbrev seats : List (Seated R)
   seats = g.seats

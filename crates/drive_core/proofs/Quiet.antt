@@ -9,7 +9,7 @@ use Rattle.flush_core.specs.Flusher.{FlusherOf}
 use Rattle.drive_core.specs.Medium.{Medium}
 use Rattle.drive_core.specs.Step.{Step, Answer}
 use Rattle.drive_core.specs.Step as step
-use Rattle.drive_core.specs.World.{World, Growth, Growing}
+use Rattle.drive_core.specs.World.{World, GrowthPhase, Growing}
 use Rattle.drive_core.specs.Outcome.{stray_in}
 use Rattle.drive_core.specs.GrowthRows.{within}
 use Rattle.drive_core.specs.Rows.{GrowthRow, OfSeat, has_seat}
@@ -38,7 +38,7 @@ of_seat : {R : Type 0} (w w' : World R) (answer : Answer R) (b : Bool) (Row : Ty
 of_seat w w' answer true Row is row = row
 of_seat w w' answer false Row is row = absurd cc
 
-module _ {R D : Type 0} {m : Medium R D} {w : World R} {phase : Growth} {g : GrowingOf R D} (tie : IsGrowing m w phase g) where
+module _ {R D : Type 0} {m : Medium R D} {w : World R} {phase : GrowthPhase} {g : GrowingOf R D} (tie : IsGrowing m w phase g) where
   pub quiet_steps : {g' : GrowingOf R D} {asked : Step R} {answer : Answer R} (w' : World R) → GrowthRow m.form (m.keeps g'.flusher.pen.disk) w phase asked answer w' → HasCalls w asked answer 0
       → w'.disk ≡ w.disk → w'.strayed ≡ stray_in answer → IsBehindStep m w' g' → GrowthStep m w g' asked answer 0
   quiet_steps {g'} {asked} {answer} w' row calls same stray tied =
@@ -55,7 +55,7 @@ module _ {R D : Type 0} {m : Medium R D} {w : World R} {phase : Growth} {g : Gro
   abbrev pub told_flusher : MarkEnd → FlusherOf R D
   told_flusher mark = record g.flusher { mark = mark }
 
-  abbrev raised : Growth
+  abbrev raised : GrowthPhase
   raised = record phase { mark = w.settled - phase.before }
 
   raise_tie : (mark : MarkEnd) → IsGrowing m (within w raised) raised (record g { flusher = told_flusher mark; mark = w.settled - phase.before; closed = phase.closed })
@@ -71,7 +71,7 @@ module _ {R D : Type 0} {m : Medium R D} {w : World R} {phase : Growth} {g : Gro
 
   -- ---- the close
 
-  abbrev closed : Growth
+  abbrev closed : GrowthPhase
   closed = record phase { closed = true }
 
   pub close_steps : {answer : Answer R} → answer ≡ step.Fine → GrowthStep m w (record g { closed = true }) step.Close answer 0

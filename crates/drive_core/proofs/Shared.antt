@@ -17,13 +17,13 @@ use Rattle.vault_core.specs.declared.fault.VaultFault.{VaultFault}
 use Rattle.vault_core.specs.declared.fault.VaultFault.TheVariants as vault
 use Rattle.vault_core.specs.Vault.{VaultOf}
 use Rattle.vault_core.specs.Sharing.{Shares, MayShare, IsShareFault, IsTooLarge}
-use Rattle.drive_core.specs.declared.fault.Fault.TheVariants.{Vault}
-use Rattle.drive_core.specs.declared.phase.Phase.TheVariants as hands
+use Rattle.drive_core.specs.declared.fault.StepFault.TheVariants.{Vault}
+use Rattle.drive_core.specs.declared.phase.DrivePhase.TheVariants as hands
 use Rattle.drive_core.specs.Line.{Line, Allows, When, Might, is_vault_memory}
 use Rattle.drive_core.specs.Medium.{Medium}
 use Rattle.drive_core.specs.Step.{Answer}
 use Rattle.drive_core.specs.Step as step
-use Rattle.drive_core.specs.World.{World, Growth, Hand, hand_of, as_pen}
+use Rattle.drive_core.specs.World.{World, GrowthPhase, Hand, hand_of, as_pen}
 use Rattle.drive_core.specs.World as worlds
 use Rattle.drive_core.specs.GrowthRows.{within}
 use Rattle.drive_core.specs.ExclusiveRows.{share_lines, is_outside_limits, first_growth}

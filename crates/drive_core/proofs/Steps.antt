@@ -3,14 +3,14 @@ use Rattle.std.proofs.Common.{◌≡◌, ℕ, None, sym, ap, subst, arith}
 use Rattle.record_core.specs.Bytes.{Encoding}
 use Rattle.disk_core.specs.Moments.{clock}
 use Rattle.drive_core.specs.Step.{Step, Answer}
-use Rattle.drive_core.specs.World.{World, Phase, DiskOf}
+use Rattle.drive_core.specs.World.{World, DrivePhase, DiskOf}
 use Rattle.drive_core.specs.Outcome.{stray_in}
 use Rattle.drive_core.specs.Rows.{PhaseRow, StrayRow, IsStep}
 use Rattle.drive_core.specs.Run.{HasCalls}
 use Rattle.drive_core.specs.Ties.{Steps}
 
 -- the row of the phase is that of the step
-pub at_phase : {R : Type 0} (form : Encoding R) (keeps : Type 0) (w : World R) (phase : Phase) (asked : Step R) (answer : Answer R) (w' : World R)
+pub at_phase : {R : Type 0} (form : Encoding R) (keeps : Type 0) (w : World R) (phase : DrivePhase) (asked : Step R) (answer : Answer R) (w' : World R)
     → w.strayed ≡ None → w.phase ≡ phase → PhaseRow form keeps w phase asked answer w' → IsStep form keeps w asked answer w'
 at_phase form keeps w phase asked answer w' calm is row =
     subst (λ s. StrayRow form keeps w s asked answer w') (sym calm) (subst (λ p. PhaseRow form keeps w p asked answer w') (sym is) row)

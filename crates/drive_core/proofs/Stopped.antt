@@ -8,27 +8,27 @@ use Rattle.disk_core.specs.Moments.{clock}
 use Rattle.segment_core.specs.Command.{Command}
 use Rattle.segment_core.specs.Command as commands
 use Rattle.pen_core.specs.declared.fault.PenFault.TheVariants as pen
-use Rattle.drive_core.specs.declared.fault.Fault.{Fault}
-use Rattle.drive_core.specs.declared.fault.Fault.TheVariants.{Vault, Grow}
+use Rattle.drive_core.specs.declared.fault.StepFault.{StepFault}
+use Rattle.drive_core.specs.declared.fault.StepFault.TheVariants.{Vault, Grow}
 use Rattle.vault_core.specs.declared.fault.VaultFault.TheVariants as vault
 use Rattle.book_core.specs.declared.fault.GrowFault.TheVariants as grow
 use Rattle.drive_core.specs.Line.{Line, When, Might, Allows, is_vault_memory}
 use Rattle.drive_core.specs.Step.{Step, Answer}
 use Rattle.drive_core.specs.Step as step
-use Rattle.drive_core.specs.World.{World, Growth, Phase, Shut, Exclusive, Growing, vector, changed, changed_runs, resize_command, cleared, is_live, next_group}
-use Rattle.drive_core.specs.ExclusiveRows.{IsCommand, IsChanges, share_lines, command_lines}
+use Rattle.drive_core.specs.World.{World, GrowthPhase, DrivePhase, Shut, Exclusive, Growing, vector, changed, changed_runs, resize_command, cleared, is_live, next_group}
+use Rattle.drive_core.specs.ExclusiveRows.{IsCommandStep, IsChanges, share_lines, command_lines}
 use Rattle.drive_core.specs.GrowthRows.{take_lines}
 use Rattle.drive_core.specs.LaneRows.{fold_lines, device_lines, home_calls, IsLog, IsHome, IsFold}
 use Rattle.drive_core.specs.Rows.{IsStep, PhaseRow, StrayRow, ExclusiveRow, GrowthRow, OfSeat, has_seat, IsMisplaced}
-use Rattle.drive_core.specs.Run.{Event, Run, last, HasCalls, RefusedCalls, OpenFaultCalls, CommandCalls}
+use Rattle.drive_core.specs.Run.{Event, AreEvents, last, HasCalls, RefusedCalls, OpenFaultCalls, CommandCalls}
 use Rattle.drive_core.specs.Headline.{HasFile}
 
-abbrev broken_fault : Fault
+abbrev broken_fault : StepFault
 broken_fault = Vault (vault.Pen pen.Broken)
 
 -- ---- what a table begins with that names a broken pen
 
-first_line : (test : Bool) (lines : List Line) (answer : Option Fault) → test ≡ true → Allows (When test broken_fault ∷ lines) answer → answer ≡ Some broken_fault
+first_line : (test : Bool) (lines : List Line) (answer : Option StepFault) → test ≡ true → Allows (When test broken_fault ∷ lines) answer → answer ≡ Some broken_fault
 first_line true lines answer is allows = allows
 first_line false lines answer is allows = absurd cc
 
@@ -39,7 +39,7 @@ record Stopped {R : Type 0} (w' : World R) (n : ℕ) : Type 0 where
   broken : w'.hand.broken ≡ true
 
 -- refusals that no device call makes
-abbrev IsQuiet : Fault → Type 0
+abbrev IsQuiet : StepFault → Type 0
 IsQuiet fault = ((most n : ℕ) → RefusedCalls fault most n → n ≡ 0) × ((n : ℕ) → OpenFaultCalls fault n → n ≡ 0)
 
 module _ {R : Type 0} (w w' : World R) (n : ℕ) (there : HasFile w.phase) (broken : w.hand.broken ≡ true) where
@@ -51,11 +51,11 @@ module _ {R : Type 0} (w w' : World R) (n : ℕ) (there : HasFile w.phase) (brok
 
   -- ---- counts of what is refused
 
-  refused_command : (command : Option (Command R)) (fault : Fault) → IsQuiet fault → CommandCalls command (step.Refused fault) n → n ≡ 0
+  refused_command : (command : Option (Command R)) (fault : StepFault) → IsQuiet fault → CommandCalls command (step.Refused fault) n → n ≡ 0
   refused_command None fault quiet calls = calls
   refused_command (Some command) fault quiet calls = quiet.0 4 n calls
 
-  refused_calls : (asked : Step R) (fault : Fault) → IsQuiet fault → HasCalls w asked (step.Refused fault) n → n ≡ 0
+  refused_calls : (asked : Step R) (fault : StepFault) → IsQuiet fault → HasCalls w asked (step.Refused fault) n → n ≡ 0
   refused_calls (step.Create format) fault quiet calls = quiet.0 8 n calls
   refused_calls step.Open fault quiet calls = quiet.1 n calls
   refused_calls (step.Change start records) fault quiet calls = refused_command (changed start records) fault quiet calls
@@ -67,16 +67,16 @@ module _ {R : Type 0} (w w' : World R) (n : ℕ) (there : HasFile w.phase) (brok
   refused_calls other fault quiet calls = calls
 
   -- the answer is this refusal, and nothing changes
-  refuses : (asked : Step R) (answer : Answer R) (fault : Fault) → IsQuiet fault → answer ≡ step.Refused fault → HasCalls w asked answer n → w' ≡ w → Stopped w' n
+  refuses : (asked : Step R) (answer : Answer R) (fault : StepFault) → IsQuiet fault → answer ≡ step.Refused fault → HasCalls w asked answer n → w' ≡ w → Stopped w' n
   refuses asked answer fault quiet is calls same = stays same (refused_calls asked fault quiet (subst (λ a. HasCalls w asked a n) is calls))
 
   misplaced : (asked : Step R) (answer : Answer R) → HasCalls w asked answer n → IsMisplaced w answer w' → Stopped w' n
   misplaced asked answer calls row = refuses asked answer (Vault vault.WrongPhase) ((λ most n is. is), (λ n is. is)) row.0 calls row.1
 
   -- a table that begins with the broken pen: it is refused so
-  table : (asked : Step R) (answer : Answer R) (lines : List Line) {Accepted : Type 0} {By : Fault → Type 0} → HasCalls w asked answer n
-      → ((given : Option Fault) → Allows lines given → given ≡ Some broken_fault) → (By broken_fault → w' ≡ w)
-      → (Allows lines None × Accepted) ⊎ ((fault : Fault) × Allows lines (Some fault) × (answer ≡ step.Refused fault) × By fault) → Stopped w' n
+  table : (asked : Step R) (answer : Answer R) (lines : List Line) {Accepted : Type 0} {By : StepFault → Type 0} → HasCalls w asked answer n
+      → ((given : Option StepFault) → Allows lines given → given ≡ Some broken_fault) → (By broken_fault → w' ≡ w)
+      → (Allows lines None × Accepted) ⊎ ((fault : StepFault) × Allows lines (Some fault) × (answer ≡ step.Refused fault) × By fault) → Stopped w' n
   table asked answer lines {By = By} calls first still row = elim row [
     | inl ok ↦ absurd (let is = first None ok.0 in cc)
     | inr refused ↦
@@ -86,24 +86,24 @@ module _ {R : Type 0} (w w' : World R) (n : ℕ) (there : HasFile w.phase) (brok
 
   -- ---- the tables that begin with it
 
-  by_fold : (live : Bool) (given : Option Fault) → Allows (fold_lines w.hand live) given → given ≡ Some broken_fault
+  by_fold : (live : Bool) (given : Option StepFault) → Allows (fold_lines w.hand live) given → given ≡ Some broken_fault
   by_fold true given allows = first_line w.hand.broken _ given broken allows
   by_fold false given allows = first_line w.hand.broken _ given broken allows
 
-  by_device : (calls : Bool) (given : Option Fault) → Allows (device_lines w.hand calls) given → given ≡ Some broken_fault
+  by_device : (calls : Bool) (given : Option StepFault) → Allows (device_lines w.hand calls) given → given ≡ Some broken_fault
   by_device true given allows = first_line w.hand.broken _ given broken allows
   by_device false given allows = first_line w.hand.broken _ given broken allows
 
-  abbrev gather_lines : Growth → List Line
+  abbrev gather_lines : GrowthPhase → List Line
   gather_lines phase = When w.hand.broken broken_fault ∷ When (nat_lt w.settled (length w.history)) (Vault (vault.Unsettled (w.settled - phase.before))) ∷ Might is_vault_memory ∷ []
 
   module _ (form : Encoding R) (keeps : Type 0) where
-    by_command : (command : Command R) (size : ℕ) (given : Option Fault) → Allows (command_lines form w.hand size command) given → given ≡ Some broken_fault
+    by_command : (command : Command R) (size : ℕ) (given : Option StepFault) → Allows (command_lines form w.hand size command) given → given ≡ Some broken_fault
     by_command (commands.Grow records) size given allows = first_line w.hand.broken _ given broken allows
     by_command (commands.Shrink n) size given allows = first_line w.hand.broken _ given broken allows
     by_command (commands.Change runs records) size given allows = first_line w.hand.broken _ given broken allows
 
-    command_stops : (asked : Step R) (command : Option (Command R)) (answer : Answer R) → HasCalls w asked answer n → IsCommand form w command answer w' → Stopped w' n
+    command_stops : (asked : Step R) (command : Option (Command R)) (answer : Answer R) → HasCalls w asked answer n → IsCommandStep form w command answer w' → Stopped w' n
     command_stops asked None answer calls row = table asked answer (When w.hand.broken broken_fault ∷ []) calls (λ given allows. first_line w.hand.broken [] given broken allows) (λ same. same) row
     command_stops asked (Some command) answer calls row = table asked answer (command_lines form w.hand (length (vector w)) command) calls (by_command command (length (vector w))) (λ same. same) row
 
@@ -142,7 +142,7 @@ module _ {R : Type 0} (w w' : World R) (n : ℕ) (there : HasFile w.phase) (brok
     exclusive_stops step.Open answer calls row = misplaced step.Open answer calls row
     exclusive_stops other answer calls row = stays row.1 calls
 
-    growth_stops : (phase : Growth) (asked : Step R) (answer : Answer R) → HasCalls w asked answer n → GrowthRow form keeps w phase asked answer w' → Stopped w' n
+    growth_stops : (phase : GrowthPhase) (asked : Step R) (answer : Answer R) → HasCalls w asked answer n → GrowthRow form keeps w phase asked answer w' → Stopped w' n
     growth_stops phase (step.Put seat records) answer calls row = seat_stops (step.Put seat records) answer (has_seat phase (Some seat)) calls
         (λ put. elim put [ inl ok ↦ to ok.1.1 tt refl calls | inr refused ↦ to refused.3.2 tt refl calls ]) row
     growth_stops phase (step.Look pass) answer calls row = seat_stops (step.Look pass) answer (has_seat phase pass) calls
@@ -161,7 +161,7 @@ module _ {R : Type 0} (w w' : World R) (n : ℕ) (there : HasFile w.phase) (brok
     growth_stops phase step.Home answer calls row = home_stops step.Home answer calls row
     growth_stops phase other answer calls row = misplaced other answer calls row
 
-    phase_stops : (phase : Phase) → HasFile phase → (asked : Step R) (answer : Answer R) → HasCalls w asked answer n → PhaseRow form keeps w phase asked answer w' → Stopped w' n
+    phase_stops : (phase : DrivePhase) → HasFile phase → (asked : Step R) (answer : Answer R) → HasCalls w asked answer n → PhaseRow form keeps w phase asked answer w' → Stopped w' n
     phase_stops Shut has asked answer calls row = absurd has
     phase_stops Exclusive has asked answer calls row = exclusive_stops asked answer calls row
     phase_stops (Growing phase) has asked answer calls row = growth_stops phase asked answer calls row
@@ -175,7 +175,7 @@ module _ {R : Type 0} (w w' : World R) (n : ℕ) (there : HasFile w.phase) (brok
 
 module _ {R : Type 0} (form : Encoding R) (keeps : Type 0) where
   -- the counts of a run are the clock's rise
-  pub counts_rise : (w : World R) (events : List (Event R)) → Run form keeps w events → clock (last w events).disk.states ≡ clock w.disk.states + sum (map (λ e. e.calls) events)
+  pub counts_rise : (w : World R) (events : List (Event R)) → AreEvents form keeps w events → clock (last w events).disk.states ≡ clock w.disk.states + sum (map (λ e. e.calls) events)
   counts_rise w [] run = omega arith
   counts_rise w (e ∷ events) run =
       let time = run.0.time in
@@ -184,7 +184,7 @@ module _ {R : Type 0} (form : Encoding R) (keeps : Type 0) where
       omega (arith, time, rest, more)
 
   -- from a world with a file whose pen is broken no step calls the device, and the pen stays broken
-  pub stopped_run : (w : World R) (events : List (Event R)) → HasFile w.phase → w.hand.broken ≡ true → Run form keeps w events
+  pub stopped_run : (w : World R) (events : List (Event R)) → HasFile w.phase → w.hand.broken ≡ true → AreEvents form keeps w events
       → (sum (map (λ e. e.calls) events) ≡ 0) × ((last w events).hand.broken ≡ true)
   stopped_run w [] there broken run = (refl, broken)
   stopped_run w (e ∷ events) there broken run =

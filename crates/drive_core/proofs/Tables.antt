@@ -5,26 +5,26 @@ use Rattle.pen_core.specs.declared.fault.PenFault.{PenFault}
 use Rattle.pen_core.specs.declared.fault.PenFault.TheVariants as pen
 use Rattle.pen_core.specs.Refusals.{first_refusal, IsRefusal}
 use Rattle.vault_core.specs.declared.fault.VaultFault.TheVariants as vault
-use Rattle.drive_core.specs.declared.fault.Fault.{Fault}
-use Rattle.drive_core.specs.declared.fault.Fault.TheVariants.{Vault}
+use Rattle.drive_core.specs.declared.fault.StepFault.{StepFault}
+use Rattle.drive_core.specs.declared.fault.StepFault.TheVariants.{Vault}
 use Rattle.drive_core.specs.Line.{Line, When, Might, Allows, pen_table, is_vault_memory}
 
 -- a line that doesn't hold, and one that does
-pub passes : (test : Bool) (fault : Fault) (lines : List Line) (answer : Option Fault) → test ≡ false → Allows lines answer → Allows (When test fault ∷ lines) answer
+pub passes : (test : Bool) (fault : StepFault) (lines : List Line) (answer : Option StepFault) → test ≡ false → Allows lines answer → Allows (When test fault ∷ lines) answer
 passes true fault lines answer is allows = absurd cc
 passes false fault lines answer is allows = allows
 
-pub stops : (test : Bool) (fault : Fault) (lines : List Line) → test ≡ true → Allows (When test fault ∷ lines) (Some fault)
+pub stops : (test : Bool) (fault : StepFault) (lines : List Line) → test ≡ true → Allows (When test fault ∷ lines) (Some fault)
 stops true fault lines is = refl
 stops false fault lines is = absurd cc
 
 -- no test of the pen's holds: what stands behind decides
-pub pen_passes : (lines : List (Bool × PenFault)) (behind : List Line) (answer : Option Fault) → first_refusal lines ≡ None → Allows behind answer → Allows (pen_table lines behind) answer
+pub pen_passes : (lines : List (Bool × PenFault)) (behind : List Line) (answer : Option StepFault) → first_refusal lines ≡ None → Allows behind answer → Allows (pen_table lines behind) answer
 pen_passes [] behind answer is allows = allows
 pen_passes ((true, fault) ∷ lines) behind answer is allows = absurd cc
 pen_passes ((false, fault) ∷ lines) behind answer is allows = pen_passes lines behind answer is allows
 
-abbrev as_fault : Option PenFault → Option Fault
+abbrev as_fault : Option PenFault → Option StepFault
 as_fault None = None
 as_fault (Some f) = Some (Vault (vault.Pen f))
 

@@ -7,7 +7,7 @@ use Rattle.segment_core.specs.declared.format.Format.{Format}
 use Rattle.segment_core.specs.declared.format.Format.TheVariants.{One, Two}
 use Rattle.pen_core.specs.Pen.{BeginsFrame, IsUnchanged}
 use Rattle.pen_core.specs.Refusals.{first_refusal, IsRefusal, ready_lines, is_full}
-use Rattle.pen_core.specs.declared.step.Step.TheVariants.{Body}
+use Rattle.pen_core.specs.declared.step.PenStep.TheVariants.{Body}
 use Rattle.pen_core.specs.declared.fault.PenFault.{PenFault}
 use Rattle.pen_core.specs.declared.fault.PenFault.TheVariants as pen
 use Rattle.block_core.specs.Growth as block
@@ -17,14 +17,14 @@ use Rattle.flush_core.specs.Group.{IsGreatest}
 use Rattle.flush_core.specs.Refusals.{IsTakeFault}
 use Rattle.flush_core.specs.declared.fault.FlushFault.{FlushFault}
 use Rattle.flush_core.specs.declared.fault.FlushFault.TheVariants as flush
-use Rattle.drive_core.specs.declared.fault.Fault.{Fault}
-use Rattle.drive_core.specs.declared.fault.Fault.TheVariants.{Vault}
+use Rattle.drive_core.specs.declared.fault.StepFault.{StepFault}
+use Rattle.drive_core.specs.declared.fault.StepFault.TheVariants.{Vault}
 use Rattle.vault_core.specs.declared.fault.VaultFault.TheVariants as vault
 use Rattle.drive_core.specs.Line.{Allows, of_flush}
 use Rattle.drive_core.specs.Medium.{Medium}
 use Rattle.drive_core.specs.Step.{Answer}
 use Rattle.drive_core.specs.Step as step
-use Rattle.drive_core.specs.World.{World, Growth, Growing, Hand, as_pen, fitting, waiting, next_group, command_records}
+use Rattle.drive_core.specs.World.{World, GrowthPhase, Growing, Hand, as_pen, fitting, waiting, next_group, command_records}
 use Rattle.drive_core.specs.GrowthRows.{with_group, take_lines, room_for_group}
 use Rattle.drive_core.specs.Ties.{GrowingOf, IsGrowing, IsBehindStep, grow_of, growths_in_hand, disk_of}
 use Rattle.drive_core.specs.GrowthTies.{GrowthStep}
@@ -36,7 +36,7 @@ use Rattle.drive_core.proofs.Steps.{answered}
 use Rattle.drive_core.proofs.Tables.{passes, pen_passes, pen_stops, pen_refuses}
 use Rattle.drive_core.proofs.Ties.{growths_are, other_flusher, flushes_on, behind_of}
 
-module _ {R D : Type 0} {m : Medium R D} {w : World R} {phase : Growth} {g : GrowingOf R D} (tie : IsGrowing m w phase g) where
+module _ {R D : Type 0} {m : Medium R D} {w : World R} {phase : GrowthPhase} {g : GrowingOf R D} (tie : IsGrowing m w phase g) where
   -- ---- the growths that wait
 
   abbrev format : Format
@@ -84,7 +84,7 @@ module _ {R D : Type 0} {m : Medium R D} {w : World R} {phase : Growth} {g : Gro
 
   -- ---- the table
 
-  abbrev TakeAllows : List (List R) → Option Fault → Type 0
+  abbrev TakeAllows : List (List R) → Option StepFault → Type 0
   TakeAllows growths answer = Allows (take_lines m.form.width w.hand growths) answer
 
   -- the tables of the pen are those of the world

@@ -8,13 +8,13 @@ use Rattle.disk_core.proofs.JoinedMoments.{LeavesOnly-weaker}
 use Rattle.segment_core.specs.Command.{Command, content, after_command}
 use Rattle.pen_core.specs.Typed.{OpensTo}
 use Rattle.block_core.specs.Growth as block
-use Rattle.directory_core.specs.Chain.{IsPrefix, joined, total}
-use Rattle.directory_core.proofs.Chains.{length-joined}
+use Rattle.directory_core.specs.Chain.{IsPrefix, grown_records, total}
+use Rattle.directory_core.proofs.Chains.{length-grown_records}
 use Rattle.book_core.specs.Lists.{Seated, opening_of}
 use Rattle.book_core.proofs.Owns.{take-begins}
 use Rattle.flush_core.specs.Flusher.{FlusherOf, IsFlusherOf, OpensToSettled, list_to}
 use Rattle.drive_core.specs.Medium.{Medium}
-use Rattle.drive_core.specs.World.{World, Growth, Phase, Growing, Hand, DiskOf, hand_of, phase_growths, vector, vector_at}
+use Rattle.drive_core.specs.World.{World, GrowthPhase, DrivePhase, Growing, Hand, DiskOf, hand_of, phase_growths, vector, vector_at}
 use Rattle.drive_core.specs.Headline.{OpensToPrefix, Rests, Leaves}
 use Rattle.drive_core.specs.GrowthRows.{within}
 use Rattle.drive_core.specs.Ties.{GrowingOf, IsGrowing, AreSeated, IsFlushing, IsBehindStep, grow_of, growths_in_hand, disk_of}
@@ -29,11 +29,11 @@ module _ {R : Type 0} where
   content-append base [] ys = refl
   content-append base (x ∷ xs) ys = content-append (after_command base x) xs ys
 
-  pub content-grows : (base : List R) (entries : List (block.Growth R)) → content base (map grow_of entries) ≡ base ++ joined entries
+  pub content-grows : (base : List R) (entries : List (block.Growth R)) → content base (map grow_of entries) ≡ base ++ grown_records entries
   content-grows base [] = sym (append-nil base)
-  content-grows base (e ∷ entries) = content-grows (base ++ e.records) entries ∙ append_assoc base e.records (joined entries)
+  content-grows base (e ∷ entries) = content-grows (base ++ e.records) entries ∙ append_assoc base e.records (grown_records entries)
 
-module _ {R D : Type 0} {m : Medium R D} {w : World R} {phase : Growth} {g : GrowingOf R D} (tie : IsGrowing m w phase g) where
+module _ {R D : Type 0} {m : Medium R D} {w : World R} {phase : GrowthPhase} {g : GrowingOf R D} (tie : IsGrowing m w phase g) where
   -- the growths of the phase
   pub growths_are : phase_growths w phase ≡ map grow_of tie.entries
   growths_are =
@@ -50,27 +50,27 @@ module _ {R D : Type 0} {m : Medium R D} {w : World R} {phase : Growth} {g : Gro
       omega (arith, all, grown, tie.growths.before_is)
 
   -- the list behind the first of them, and behind all
-  pub list_at : (k : ℕ) → content w.base (take (phase.before + k) w.history) ≡ opening_of g.live ++ joined (take k tie.entries)
+  pub list_at : (k : ℕ) → content w.base (take (phase.before + k) w.history) ≡ opening_of g.live ++ grown_records (take k tie.entries)
   list_at k =
       let first = tie.growths.first in
       let cut : take (phase.before + k) w.history ≡ first ++ map grow_of (take k tie.entries)
       = ap (λ n. take (n + k) w.history) tie.growths.before_is ∙ ap (take (length first + k)) tie.growths.history_is
       ∙ take-append-add first (map grow_of tie.entries) k ∙ ap (λ rest. first ++ rest) (take-map grow_of k tie.entries) in
       ap (content w.base) cut ∙ content-append w.base first (map grow_of (take k tie.entries)) ∙ content-grows (content w.base first) (take k tie.entries)
-      ∙ ap (λ front. front ++ joined (take k tie.entries)) tie.growths.opening_is
+      ∙ ap (λ front. front ++ grown_records (take k tie.entries)) tie.growths.opening_is
 
-  pub vector_is : vector w ≡ opening_of g.live ++ joined tie.entries
+  pub vector_is : vector w ≡ opening_of g.live ++ grown_records tie.entries
   vector_is =
       ap (content w.base) (sym (take_all (phase.before + length tie.entries) w.history (omega (arith, history_long))))
-      ∙ list_at (length tie.entries) ∙ ap (λ es. opening_of g.live ++ joined es) (take-length tie.entries)
+      ∙ list_at (length tie.entries) ∙ ap (λ es. opening_of g.live ++ grown_records es) (take-length tie.entries)
 
   -- the length of a list that begins with the opening one
-  pub opening_long : (entries : List (block.Growth R)) → length (opening_of g.live ++ joined entries) ≡ length (opening_of g.live) + total entries
-  opening_long entries = length-append (opening_of g.live) (joined entries) ∙ ap (λ n. length (opening_of g.live) + n) (length-joined entries)
+  pub opening_long : (entries : List (block.Growth R)) → length (opening_of g.live ++ grown_records entries) ≡ length (opening_of g.live) + total entries
+  opening_long entries = length-append (opening_of g.live) (grown_records entries) ∙ ap (λ n. length (opening_of g.live) + n) (length-grown_records entries)
 
   -- what a seat or the flusher knows is the list behind as many growths
   pub known_long : (entries : List (block.Growth R)) → IsPrefix entries tie.entries → length (vector_at w phase (length entries)) ≡ length (opening_of g.live) + total entries
-  known_long entries begins = ap length (list_at (length entries) ∙ ap (λ es. opening_of g.live ++ joined es) begins) ∙ opening_long entries
+  known_long entries begins = ap length (list_at (length entries) ∙ ap (λ es. opening_of g.live ++ grown_records es) begins) ∙ opening_long entries
 
   -- ---- what stands behind a step
 
@@ -88,7 +88,7 @@ module _ {R D : Type 0} {m : Medium R D} {w : World R} {phase : Growth} {g : Gro
       is_some is = absurd cc
 
   -- Nothing but the flusher is another, with the hand and the disk that are its.
-  pub other_flusher : (p : Phase) (known taken settled : ℕ) (hand : Hand) (disk : DiskOf) (new : FlusherOf R D) → p ≡ Growing (record phase { flusher = known; taken = taken })
+  pub other_flusher : (p : DrivePhase) (known taken settled : ℕ) (hand : Hand) (disk : DiskOf) (new : FlusherOf R D) → p ≡ Growing (record phase { flusher = known; taken = taken })
       → IsFlushing known taken phase.before settled tie.entries new → hand ≡ hand_of new.pen → disk ≡ disk_of m.states m.faults new.pen.disk
       → IsGrowing m (record w { phase = p; settled = settled; hand = hand; disk = disk }) (record phase { flusher = known; taken = taken }) (record g { flusher = new })
   other_flusher p known taken settled hand disk new is flushing hand_is disk_is = record {
@@ -166,8 +166,8 @@ module _ {R D : Type 0} {m : Medium R D} {w : World R} {phase : Growth} {g : Gro
         let inside = begins-le f.pass.entries tie.entries tie.flusher.knows in
         let settled = tie.flusher.settled_is in
         let list : list_to f kept.count ≡ content w.base (take (phase.before + kept.count) w.history)
-        = ap (λ front. front ++ joined (take kept.count f.pass.entries)) (is.opening model)
-        ∙ ap (λ es. opening_of g.live ++ joined es) (sym (take-begins f.pass.entries tie.entries kept.count tie.flusher.knows known))
+        = ap (λ front. front ++ grown_records (take kept.count f.pass.entries)) (is.opening model)
+        ∙ ap (λ es. opening_of g.live ++ grown_records es) (sym (take-begins f.pass.entries tie.entries kept.count tie.flusher.knows known))
         ∙ sym (list_at kept.count) in
         record {
           kept = phase.before + kept.count;

@@ -6,11 +6,11 @@ use Rattle.book_core.specs.Growing.{SeatIsTold}
 use Rattle.book_core.specs.declared.mark.MarkState.{MarkState}
 use Rattle.book_core.specs.declared.mark.MarkState.TheVariants.{Running}
 use Rattle.book_core.specs.declared.fault.GrowFault.TheVariants as grow
-use Rattle.drive_core.specs.declared.fault.Fault.TheVariants.{Grow}
+use Rattle.drive_core.specs.declared.fault.StepFault.TheVariants.{Grow}
 use Rattle.drive_core.specs.Medium.{Medium}
 use Rattle.drive_core.specs.Step.{Answer}
 use Rattle.drive_core.specs.Step as step
-use Rattle.drive_core.specs.World.{World, Growth}
+use Rattle.drive_core.specs.World.{World, GrowthPhase}
 use Rattle.drive_core.specs.Outcome.{struck}
 use Rattle.drive_core.specs.GrowthRows.{within, IsMarkRead}
 use Rattle.drive_core.specs.Ties.{GrowingOf, IsGrowing}
@@ -20,10 +20,10 @@ use Rattle.drive_core.proofs.Seated.{counts_set, counts_kept, knows, hears, told
 use Rattle.drive_core.proofs.Steps.{answered}
 use Rattle.drive_core.proofs.Ties.{other_seats, behind_of, strayed_behind}
 
-module _ {R D : Type 0} {m : Medium R D} {w : World R} {phase : Growth} {g : GrowingOf R D} (tie : IsGrowing m w phase g)
+module _ {R D : Type 0} {m : Medium R D} {w : World R} {phase : GrowthPhase} {g : GrowingOf R D} (tie : IsGrowing m w phase g)
     {k : ℕ} {old : Seated R} (inside : k < length g.seats) (at : slice_get g.seats k ≡ Some old) where
   module _ (new : Seated R) (count : ℕ) (state : MarkState) (told : SeatIsTold old new count state) where
-    abbrev hearing : Growth
+    abbrev hearing : GrowthPhase
     hearing = record phase { told = slice_set phase.told k count }
 
     told_tie : IsGrowing m (within w hearing) hearing (record g { seats = slice_set g.seats k new })

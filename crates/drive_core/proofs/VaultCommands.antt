@@ -11,7 +11,7 @@ use Rattle.segment_core.specs.Written.{joined}
 use Rattle.pen_core.specs.Pen.{IsUnchanged, log_left}
 use Rattle.pen_core.specs.Typed.{OpensTo}
 use Rattle.pen_core.specs.Refusals.{first_refusal, IsRefusal}
-use Rattle.pen_core.specs.declared.step.Step as pen_step
+use Rattle.pen_core.specs.declared.step.PenStep as pen_step
 use Rattle.pen_core.specs.Step.{fault_of, steps_left}
 use Rattle.pen_core.specs.declared.fault.PenFault.{PenFault}
 use Rattle.pen_core.specs.declared.fault.PenFault.TheVariants as pen
@@ -20,14 +20,14 @@ use Rattle.vault_core.specs.declared.fault.VaultFault.TheVariants as vault
 use Rattle.vault_core.specs.Vault.{VaultOf, list_of, OpensToEither}
 use Rattle.vault_core.specs.Commands as commands
 use Rattle.vault_core.specs.Commands.{IsStopped, StandsCommanded}
-use Rattle.drive_core.specs.declared.fault.Fault.{Fault}
-use Rattle.drive_core.specs.declared.fault.Fault.TheVariants.{Vault}
+use Rattle.drive_core.specs.declared.fault.StepFault.{StepFault}
+use Rattle.drive_core.specs.declared.fault.StepFault.TheVariants.{Vault}
 use Rattle.drive_core.specs.Line.{Allows, Might, is_vault_memory, is_disk, pen_table}
 use Rattle.drive_core.specs.Medium.{Medium}
 use Rattle.drive_core.specs.Step.{Step, Answer}
 use Rattle.drive_core.specs.Step as step
 use Rattle.drive_core.specs.World.{World, Hand, DiskOf, hand_of, vector, file_with, frame_of}
-use Rattle.drive_core.specs.ExclusiveRows.{tests_of, IsCommand}
+use Rattle.drive_core.specs.ExclusiveRows.{tests_of, IsCommandStep}
 use Rattle.drive_core.specs.Headline.{OpensToPrefix, Leaves}
 use Rattle.drive_core.specs.Ties.{growths_in_hand, disk_of}
 use Rattle.drive_core.specs.VaultTies.{IsExclusive, VaultStep}
@@ -55,7 +55,7 @@ module _ {R D : Type 0} {m : Medium R D} {w : World R} {v new : VaultOf R D} {as
   abbrev world_tests : List (Bool × PenFault)
   world_tests = tests_of m.form w.hand (length (vector w)) command
 
-  abbrev TableAllows : List (Bool × PenFault) → Option Fault → Type 0
+  abbrev TableAllows : List (Bool × PenFault) → Option StepFault → Type 0
   TableAllows lines answer = Allows (pen_table lines (Might is_vault_memory ∷ Might is_disk ∷ [])) answer
 
   -- what the vault promises of the command as this frame
@@ -122,7 +122,7 @@ module _ {R D : Type 0} {m : Medium R D} {w : World R} {v new : VaultOf R D} {as
       let count : w.settled + 1 ≡ length history = omega (arith, more, all) in
       let hand : hand_of new.pen ≡ record w.hand { file = file_with w.hand.file (frame_of m.form command) }
       = hand_committed v.pen new.pen m.form command says.pen ready.0 ready.1 ∙ (λ i. let h : Hand = sym tie.hand_is i in record h { file = file_with h.file (frame_of m.form command) }) in
-      let row : IsCommand m.form w (Some command) step.Fine (behind (w.settled + 1) (hand_of new.pen)) = inl (
+      let row : IsCommandStep m.form w (Some command) step.Fine (behind (w.settled + 1) (hand_of new.pen)) = inl (
         subst (λ lines. TableAllows lines None) (sym (tests_are ready.0)) (pen_passes tests _ None says.allowed (inr (inr refl))),
         (refl, λ i. behind (w.settled + 1) (hand i)),
       ) in
@@ -171,23 +171,23 @@ module _ {R D : Type 0} {m : Medium R D} {w : World R} {v new : VaultOf R D} {as
       → VaultStep m w v new asked (step.Refused (Vault (vault.Pen fault)))
   refused_steps fault why same blocks sure =
       let none = no_failed_call m.form v.pen command fault why in
-      let row : IsCommand m.form w (Some command) (step.Refused (Vault (vault.Pen fault))) w = inr (Vault (vault.Pen fault), refused_row fault why, refl, not_torn m.form w command fault none) in
+      let row : IsCommandStep m.form w (Some command) (step.Refused (Vault (vault.Pen fault))) w = inr (Vault (vault.Pen fault), refused_row fault why, refl, not_torn m.form w command fault none) in
       let both = written.asks (step.Refused (Vault (vault.Pen fault))) w 0 row (no_calls fault 0 none refl) in
       still_steps tie new w both.0 both.1 same.disk_same refl (same_tie same blocks sure)
 
   -- ---- a device call has failed
 
-  torn_steps : (at : pen_step.Step) → first_refusal tests ≡ None → IsStopped (frame_of m.form command) at v.pen new.pen → list_of new ≡ after_command (list_of v) command
+  torn_steps : (at : pen_step.PenStep) → first_refusal tests ≡ None → IsStopped (frame_of m.form command) at v.pen new.pen → list_of new ≡ after_command (list_of v) command
       → Says (frame_of m.form command) (Err (vault.Pen (pen.Disk (fault_of at)))) → VaultStep m w v new asked (step.Refused (Vault (vault.Pen (pen.Disk (fault_of at)))))
   torn_steps at allowed stopped is says =
       let n : ℕ = 5 - steps_left at in
       let bounds = calls_left at in
-      let told : Fault = Vault (vault.Pen (pen.Disk (fault_of at))) in
+      let told : StepFault = Vault (vault.Pen (pen.Disk (fault_of at))) in
       let time : clock (m.states new.pen.disk) ≡ clock (m.states v.pen.disk) + n = says.time ∙ ap (λ k. clock (m.states v.pen.disk) + (5 - k)) (ap log_left stopped.job_is) in
       let rose = says.failed_calls in
       let hand : hand_of new.pen ≡ record w.hand { job = Some (record { frame = frame_of m.form command; step = at }); broken = true }
       = hand_stopped v.pen new.pen (frame_of m.form command) at stopped ∙ (λ i. record (sym tie.hand_is i) { job = Some (record { frame = frame_of m.form command; step = at }); broken = true }) in
-      let row : IsCommand m.form w (Some command) (step.Refused told) (behind w.settled (hand_of new.pen)) = inr (
+      let row : IsCommandStep m.form w (Some command) (step.Refused told) (behind w.settled (hand_of new.pen)) = inr (
         told,
         subst (λ lines. TableAllows lines (Some told)) (sym (tests_are (ready_of m.form v.pen command allowed).0)) (pen_passes tests _ (Some told) allowed (inr (inl (told, refl, refl)))),
         refl,
@@ -214,7 +214,7 @@ module _ {R D : Type 0} {m : Medium R D} {w : World R} {v new : VaultOf R D} {as
       vault_steps tie new (behind w.settled (hand_of new.pen)) n both.0 both.1 time (omega (arith, most)) (λ none. absurd (omega (arith, some, none))) refl tied
       (λ kept. leaves_either w.settled (says.model kept) is (says.images kept)) (λ kept. vault_rests tied kept written.rests)
 
-  torn_at : (fault : PenFault) (at : pen_step.Step) → fault ≡ pen.Disk (fault_of at) → Says frame (Err (vault.Pen fault)) → StandsCommanded made (new.blocks ≡ v.blocks) (vault.Pen fault)
+  torn_at : (fault : PenFault) (at : pen_step.PenStep) → fault ≡ pen.Disk (fault_of at) → Says frame (Err (vault.Pen fault)) → StandsCommanded made (new.blocks ≡ v.blocks) (vault.Pen fault)
       → first_refusal tests ≡ None → IsStopped frame at v.pen new.pen → VaultStep m w v new asked (step.Refused (Vault (vault.Pen fault)))
   torn_at fault at is promised list allowed stopped =
       let made_is = written.made_is allowed (subst (λ f. StandsCommanded made (new.blocks ≡ v.blocks) (vault.Pen f)) is list) in

@@ -11,13 +11,13 @@ use Rattle.vault_core.specs.declared.fault.VaultFault.{VaultFault}
 use Rattle.vault_core.specs.declared.fault.VaultFault.TheVariants as vault
 use Rattle.vault_core.specs.Vault.{VaultOf, MayHold}
 use Rattle.vault_core.specs.Commands as commands
-use Rattle.drive_core.specs.declared.fault.Fault.TheVariants.{Vault}
+use Rattle.drive_core.specs.declared.fault.StepFault.TheVariants.{Vault}
 use Rattle.drive_core.specs.Medium.{Medium}
 use Rattle.drive_core.specs.Step.{Step, Answer}
 use Rattle.drive_core.specs.Step as step
 use Rattle.drive_core.specs.World.{World, Hand, DiskOf, Exclusive}
 use Rattle.drive_core.specs.Outcome.{stray_in}
-use Rattle.drive_core.specs.ExclusiveRows.{IsCommand}
+use Rattle.drive_core.specs.ExclusiveRows.{IsCommandStep}
 use Rattle.drive_core.specs.Rows.{ExclusiveRow}
 use Rattle.drive_core.specs.Run.{HasCalls, CommandCalls}
 use Rattle.drive_core.specs.Headline.{OpensToPrefix, Rests, Leaves}
@@ -33,7 +33,7 @@ Holds m v disk = m.keeps disk → (image : List ℕ) → IsImage (now (m.states 
 -- this step asks for this command, or for none
 abbrev pub Asks : {R D : Type 0} → Medium R D → World R → VaultOf R D → Step R → Option (Command R) → Type 0
 Asks {R} m w new asked command =
-    (answer : Answer R) (w' : World R) (n : ℕ) → IsCommand m.form w command answer w' → CommandCalls command answer n
+    (answer : Answer R) (w' : World R) (n : ℕ) → IsCommandStep m.form w command answer w' → CommandCalls command answer n
     → ExclusiveRow m.form (m.keeps new.pen.disk) w asked answer w' × HasCalls w asked answer n
 
 module _ {R D : Type 0} {m : Medium R D} {w : World R} {v : VaultOf R D} (tie : IsExclusive m w v) where

@@ -17,7 +17,7 @@ use Rattle.vault_core.specs.declared.fault.VaultFault.{VaultFault}
 use Rattle.vault_core.specs.declared.fault.VaultFault.TheVariants as vault
 use Rattle.vault_core.specs.Vault.{VaultOf, list_of, MayHold}
 use Rattle.vault_core.specs.Commands as commands
-use Rattle.drive_core.specs.declared.fault.Fault.TheVariants.{Vault}
+use Rattle.drive_core.specs.declared.fault.StepFault.TheVariants.{Vault}
 use Rattle.drive_core.specs.Rows.{ExclusiveRow}
 use Rattle.drive_core.specs.Run.{HasCalls}
 use Rattle.drive_core.specs.Outcome.{stray_in}

@@ -3,7 +3,7 @@ use Rattle.std.proofs.Common.{◌≡◌, ℕ, List, sym, subst}
 use Rattle.record_core.specs.Bytes.{Encoding}
 use Rattle.drive_core.specs.Step.{Step, Answer}
 use Rattle.drive_core.specs.World.{DiskOf, start}
-use Rattle.drive_core.specs.Run.{Event, Run, AreEventsOf, last}
+use Rattle.drive_core.specs.Run.{Event, AreEvents, AreEventsOf, last}
 use Rattle.drive_core.specs.Headline.{AllInner}
 use Rattle.drive_core.specs.Drive.{IsDriven}
 use Rattle.disk_core.specs.State.{State}
@@ -13,7 +13,7 @@ use Rattle.drive_core.specs.Ties.{disk_of}
 use Rattle.drive_core.proofs.Headline.{headline, leaves_told}
 
 pub driven : {R : Type 0} (form : Encoding R) (keeps : Type 0) (old new : DiskOf) (steps : List (Step R)) (answers : List (Answer R)) (calls : List ℕ) (events : List (Event R))
-    → AreEventsOf steps answers calls events → Run form keeps (start old) events → (last (start old) events).disk ≡ new → (keeps → AllInner form (start old) events)
+    → AreEventsOf steps answers calls events → AreEvents form keeps (start old) events → (last (start old) events).disk ≡ new → (keeps → AllInner form (start old) events)
     → IsDriven form keeps old steps answers calls new
 driven form keeps old new steps answers calls events are run ends inner = record {
   events = events;

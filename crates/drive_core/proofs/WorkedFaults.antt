@@ -9,7 +9,7 @@ use Rattle.pen_core.specs.declared.fault.PenFault.TheVariants as pen
 use Rattle.pen_core.specs.Births.{IsExisting, WritesNothing}
 use Rattle.book_core.specs.declared.fault.GrowFault.TheVariants as grow
 use Rattle.book_core.specs.declared.seat.Receipt.{Receipt}
-use Rattle.drive_core.specs.declared.fault.Fault.TheVariants.{Grow}
+use Rattle.drive_core.specs.declared.fault.StepFault.TheVariants.{Grow}
 use Rattle.drive_core.specs.Line.{Allows}
 use Rattle.drive_core.specs.Outcome.{struck}
 use Rattle.drive_core.specs.Step as step

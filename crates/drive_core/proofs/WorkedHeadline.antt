@@ -7,7 +7,7 @@ use Rattle.pen_core.specs.Typed.{OpensTo}
 use Rattle.disk_core.specs.Moments.{LeftSince, clock}
 use Rattle.book_core.specs.declared.mark.MarkState.TheVariants.{Running}
 use Rattle.drive_core.specs.Step as step
-use Rattle.drive_core.specs.World.{World, Growth, Growing}
+use Rattle.drive_core.specs.World.{World, GrowthPhase, Growing}
 use Rattle.drive_core.specs.Run.{Event}
 use Rattle.drive_core.specs.Headline.{OpensToPrefix, LeavesTold}
 
@@ -30,7 +30,7 @@ module _ {R : Type 0} (form : Encoding R) (base : List R) (image : List ℕ) whe
 
 -- ---- what a seat was told, in a run of one step: a seat asks, and is told of one growth
 
-module _ {R : Type 0} (form : Encoding R) (w : World R) (e : Event R) (phase : Growth) (asked : e.asked ≡ step.Settled 0) (answer : e.answer ≡ step.Told 1 Running)
+module _ {R : Type 0} (form : Encoding R) (w : World R) (e : Event R) (phase : GrowthPhase) (asked : e.asked ≡ step.Settled 0) (answer : e.answer ≡ step.Told 1 Running)
     (growing : e.after.phase ≡ Growing phase) (told : LeavesTold form w (e ∷ [])) (image : List ℕ)
     (left : LeftSince e.after.disk.states (clock w.disk.states + sum (take 1 (e.calls ∷ []))) image) where
   told_one : OpensToPrefix form e.after.base e.after.history (phase.before + 0 + 1) image

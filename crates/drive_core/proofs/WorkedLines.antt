@@ -10,14 +10,14 @@ use Rattle.pen_core.specs.declared.fault.PenFault.TheVariants as pen
 use Rattle.book_core.specs.declared.fault.GrowFault.TheVariants as grow
 use Rattle.book_core.specs.declared.mark.MarkState.TheVariants.{Running, Ended}
 use Rattle.vault_core.specs.declared.fault.VaultFault.TheVariants as vault
-use Rattle.drive_core.specs.declared.fault.Fault.{Fault}
-use Rattle.drive_core.specs.declared.fault.Fault.TheVariants.{Vault, Grow, Scan}
+use Rattle.drive_core.specs.declared.fault.StepFault.{StepFault}
+use Rattle.drive_core.specs.declared.fault.StepFault.TheVariants.{Vault, Grow, Scan}
 use Rattle.drive_core.specs.declared.step.Answer.TheVariants as answers
 use Rattle.drive_core.specs.Asked.{answer_of}
 use Rattle.drive_core.specs.Line.{Line, When, Might, Allows, is_vault_memory, is_grow_memory, is_strayed, is_disk, is_exists, is_scan}
 use Rattle.drive_core.specs.Step.{Answer}
 use Rattle.drive_core.specs.Step as step
-use Rattle.drive_core.specs.World.{World, Hand, Growth, vector_at}
+use Rattle.drive_core.specs.World.{World, Hand, GrowthPhase, vector_at}
 use Rattle.drive_core.specs.Outcome.{elsewhere}
 use Rattle.drive_core.specs.GrowthRows.{within, knowing, put_lines, IsLook, IsMarkRead}
 use Rattle.drive_core.specs.LaneRows.{device_lines}
@@ -27,44 +27,44 @@ use Rattle.drive_core.proofs.WorkedSteps.{shared, two, phase_of}
 
 -- ---- each kind has these faults and no other
 
-is_vault_memory_alone : (fault : Fault) → is_vault_memory fault ≡ true → fault ≡ Vault (vault.Pen pen.Memory)
+is_vault_memory_alone : (fault : StepFault) → is_vault_memory fault ≡ true → fault ≡ Vault (vault.Pen pen.Memory)
 is_vault_memory_alone (Vault (vault.Pen pen.Memory)) is = refl
 is_vault_memory_alone (Vault other) is = absurd cc
 is_vault_memory_alone (Grow other) is = absurd cc
 is_vault_memory_alone (Scan other) is = absurd cc
 
-is_grow_memory_alone : (fault : Fault) → is_grow_memory fault ≡ true → fault ≡ Grow grow.Memory
+is_grow_memory_alone : (fault : StepFault) → is_grow_memory fault ≡ true → fault ≡ Grow grow.Memory
 is_grow_memory_alone (Grow grow.Memory) is = refl
 is_grow_memory_alone (Grow other) is = absurd cc
 is_grow_memory_alone (Vault other) is = absurd cc
 is_grow_memory_alone (Scan other) is = absurd cc
 
-is_strayed_alone : (fault : Fault) → is_strayed fault ≡ true → (n : ℕ) × (fault ≡ Grow (grow.Strayed n))
+is_strayed_alone : (fault : StepFault) → is_strayed fault ≡ true → (n : ℕ) × (fault ≡ Grow (grow.Strayed n))
 is_strayed_alone (Grow (grow.Strayed n)) is = (n, refl)
 is_strayed_alone (Grow other) is = absurd cc
 is_strayed_alone (Vault other) is = absurd cc
 is_strayed_alone (Scan other) is = absurd cc
 
-is_disk_alone : (fault : Fault) → is_disk fault ≡ true → (cause : DiskFault) × (fault ≡ Vault (vault.Pen (pen.Disk cause)))
+is_disk_alone : (fault : StepFault) → is_disk fault ≡ true → (cause : DiskFault) × (fault ≡ Vault (vault.Pen (pen.Disk cause)))
 is_disk_alone (Vault (vault.Pen (pen.Disk cause))) is = (cause, refl)
 is_disk_alone (Vault other) is = absurd cc
 is_disk_alone (Grow other) is = absurd cc
 is_disk_alone (Scan other) is = absurd cc
 
-is_exists_alone : (fault : Fault) → is_exists fault ≡ true → fault ≡ Vault (vault.Pen pen.Exists)
+is_exists_alone : (fault : StepFault) → is_exists fault ≡ true → fault ≡ Vault (vault.Pen pen.Exists)
 is_exists_alone (Vault (vault.Pen pen.Exists)) is = refl
 is_exists_alone (Vault other) is = absurd cc
 is_exists_alone (Grow other) is = absurd cc
 is_exists_alone (Scan other) is = absurd cc
 
-is_scan_alone : (fault : Fault) → is_scan fault ≡ true → (why : ScanFault) × (fault ≡ Scan why)
+is_scan_alone : (fault : StepFault) → is_scan fault ≡ true → (why : ScanFault) × (fault ≡ Scan why)
 is_scan_alone (Scan why) is = (why, refl)
 is_scan_alone (Vault other) is = absurd cc
 is_scan_alone (Grow other) is = absurd cc
 
 -- ---- a look may find any growth that was put, and no other
 
-abbrev both : Growth
+abbrev both : GrowthPhase
 both = phase_of two.phase
 
 abbrev size_in : {R : Type 0} → Answer R → ℕ
@@ -104,7 +104,7 @@ tells_none n after row = elim row [
 ]
 
 -- with the mark at 2, and 1 told before
-abbrev raised : Growth
+abbrev raised : GrowthPhase
 raised = record both { mark = 2; told = 1 ∷ 0 ∷ [] }
 
 tells_between : (n : ℕ) (after : World ℕ) → IsMarkRead two raised 0 (step.Told n Running) after → (n ≡ 1) ⊎ (n ≡ 2)
@@ -136,7 +136,7 @@ whole_calls hand whole = at hand.broken whole
     at true is = absurd cc
     at false is = inr refl
 
-whole_refuses : (hand : Hand) (fault : Fault) → hand.broken ≡ false → Allows (device_lines hand true) (Some fault) → (cause : DiskFault) × (fault ≡ Vault (vault.Pen (pen.Disk cause)))
+whole_refuses : (hand : Hand) (fault : StepFault) → hand.broken ≡ false → Allows (device_lines hand true) (Some fault) → (cause : DiskFault) × (fault ≡ Vault (vault.Pen (pen.Disk cause)))
 whole_refuses hand fault whole allows = at hand.broken whole allows
   where
     at : (broken : Bool) → broken ≡ false → Allows (When broken (Vault (vault.Pen pen.Broken)) ∷ Might is_disk ∷ []) (Some fault)
@@ -147,7 +147,7 @@ whole_refuses hand fault whole allows = at hand.broken whole allows
       | inr none ↦ absurd cc
     ]
 
-broken_refuses : (hand : Hand) (calls : Bool) (answer : Option Fault) → hand.broken ≡ true → Allows (device_lines hand calls) answer → answer ≡ Some (Vault (vault.Pen pen.Broken))
+broken_refuses : (hand : Hand) (calls : Bool) (answer : Option StepFault) → hand.broken ≡ true → Allows (device_lines hand calls) answer → answer ≡ Some (Vault (vault.Pen pen.Broken))
 broken_refuses hand calls answer broken allows = of calls allows
   where
     at : (is : Bool) (lines : List Line) → is ≡ true → Allows (When is (Vault (vault.Pen pen.Broken)) ∷ lines) answer → answer ≡ Some (Vault (vault.Pen pen.Broken))
@@ -159,7 +159,7 @@ broken_refuses hand calls answer broken allows = of calls allows
     of false allows = at hand.broken [] broken allows
 
 -- without a call nothing is refused
-whole_without : (hand : Hand) (answer : Option Fault) → hand.broken ≡ false → Allows (device_lines hand false) answer → answer ≡ None
+whole_without : (hand : Hand) (answer : Option StepFault) → hand.broken ≡ false → Allows (device_lines hand false) answer → answer ≡ None
 whole_without hand answer whole allows = at hand.broken whole allows
   where
     at : (broken : Bool) → broken ≡ false → Allows (When broken (Vault (vault.Pen pen.Broken)) ∷ []) answer → answer ≡ None
@@ -168,7 +168,7 @@ whole_without hand answer whole allows = at hand.broken whole allows
 
 -- ---- a put of one record with room for it wants memory, or something strayed
 
-puts_refused : (fault : Fault) → Allows (put_lines 8 shared (phase_of shared.phase) (1 ∷ [])) (Some fault) → (fault ≡ Grow grow.Memory) ⊎ ((n : ℕ) × (fault ≡ Grow (grow.Strayed n)))
+puts_refused : (fault : StepFault) → Allows (put_lines 8 shared (phase_of shared.phase) (1 ∷ [])) (Some fault) → (fault ≡ Grow grow.Memory) ⊎ ((n : ℕ) × (fault ≡ Grow (grow.Strayed n)))
 puts_refused fault allows = elim allows [
   | inl might ↦ inl (memory might.0 might.1 might.2)
   | inr behind ↦ elim behind [
@@ -180,14 +180,14 @@ puts_refused fault allows = elim allows [
   ]
 ]
   where
-    memory : (found : Fault) → Some fault ≡ Some found → is_grow_memory found ≡ true → fault ≡ Grow grow.Memory
+    memory : (found : StepFault) → Some fault ≡ Some found → is_grow_memory found ≡ true → fault ≡ Grow grow.Memory
     memory found is kind = is_grow_memory_alone fault (ap is_grow_memory (same_Some fault found is) ∙ kind)
 
 puts_accepted : Allows (put_lines 8 shared (phase_of shared.phase) (1 ∷ [])) None
 puts_accepted = inr (inr (inr refl))
 
 -- in a closed phase it isn't accepted
-abbrev closed : Growth
+abbrev closed : GrowthPhase
 closed = record (phase_of shared.phase) { closed = true }
 
 closed_refuses : Allows (put_lines 8 (within shared closed) closed (1 ∷ [])) None → ⊥

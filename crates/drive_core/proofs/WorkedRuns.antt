@@ -16,7 +16,7 @@ use Rattle.pen_core.proofs.Typed.{OpensTo_same}
 use Rattle.pen_core.specs.declared.fault.PenFault.TheVariants as pen
 use Rattle.book_core.specs.declared.fault.GrowFault.TheVariants as grow
 use Rattle.vault_core.specs.declared.fault.VaultFault.TheVariants as vault
-use Rattle.drive_core.specs.declared.fault.Fault.TheVariants.{Vault, Grow as InGrow, Scan}
+use Rattle.drive_core.specs.declared.fault.StepFault.TheVariants.{Vault, Grow as InGrow, Scan}
 use Rattle.drive_core.specs.Step.{Step, Answer}
 use Rattle.drive_core.specs.Step as step
 use Rattle.drive_core.specs.World.{World, Exclusive, no_hand, start}

@@ -10,11 +10,11 @@ use Rattle.segment_core.specs.Written.{group_frame}
 use Rattle.pen_core.specs.declared.fault.PenFault.TheVariants as pen
 use Rattle.book_core.specs.declared.fault.GrowFault.TheVariants as grow
 use Rattle.vault_core.specs.declared.fault.VaultFault.TheVariants as vault
-use Rattle.drive_core.specs.declared.fault.Fault.{Fault}
-use Rattle.drive_core.specs.declared.fault.Fault.TheVariants.{Vault, Grow}
+use Rattle.drive_core.specs.declared.fault.StepFault.{StepFault}
+use Rattle.drive_core.specs.declared.fault.StepFault.TheVariants.{Vault, Grow}
 use Rattle.drive_core.specs.Line.{Might, Allows, is_vault_memory}
 use Rattle.drive_core.specs.Step as step
-use Rattle.drive_core.specs.World.{World, Growth, Phase, Shut, Exclusive, Growing, start, vector, next_group}
+use Rattle.drive_core.specs.World.{World, GrowthPhase, DrivePhase, Shut, Exclusive, Growing, start, vector, next_group}
 use Rattle.drive_core.specs.OpeningRows.{opened, empty_file}
 use Rattle.drive_core.specs.GrowthRows.{within, knowing, with_growth, receipt_of, with_group}
 use Rattle.drive_core.specs.ExclusiveRows.{share_lines, first_growth}
@@ -26,7 +26,7 @@ use Rattle.drive_core.specs.LaneRows.{done, fold_lines}
 abbrev pub made : World ℕ
 made = opened (start (record { states = settled [] ∷ []; faults = 0 })) [] (empty_file (shape_of One (unsigned w64)))
 
-abbrev pub phase_of : Phase → Growth
+abbrev pub phase_of : DrivePhase → GrowthPhase
 phase_of Shut = first_growth made 8 2
 phase_of Exclusive = first_growth made 8 2
 phase_of (Growing phase) = phase
@@ -81,7 +81,7 @@ never : false ≡ true → ⊥
 never is = absurd cc
 
 -- a fault that isn't of the kind, where nothing else may come
-not_kind : (kind : Fault → Bool) (fault : Fault) → kind fault ≡ false → Allows (Might kind ∷ []) (Some fault) → ⊥
+not_kind : (kind : StepFault → Bool) (fault : StepFault) → kind fault ≡ false → Allows (Might kind ∷ []) (Some fault) → ⊥
 not_kind kind fault is allowed = elim allowed [
   | inl might ↦ never (sym is ∙ ap kind (same_Some fault might.0 might.1) ∙ might.2)
   | inr none ↦ absurd cc

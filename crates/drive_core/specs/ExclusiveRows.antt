@@ -7,16 +7,16 @@ use Rattle.pen_core.specs.declared.fault.PenFault.{PenFault}
 use Rattle.pen_core.specs.Refusals.{group_lines, shrink_lines, change_lines}
 use Rattle.directory_core.specs.Limits.{growth_limit}
 use Rattle.book_core.specs.Beginning.{seat_limit}
-use Rattle.pen_core.specs.declared.step.Step as pen_step
+use Rattle.pen_core.specs.declared.step.PenStep as pen_step
 use Rattle.pen_core.specs.Step.{fault_of}
 use Rattle.pen_core.specs.declared.fault.PenFault.TheVariants as pen_fault
-use Rattle.drive_core.specs.declared.fault.Fault.{Fault}
-use Rattle.drive_core.specs.declared.fault.Fault.TheVariants.{Vault, Grow as InGrow, Scan}
+use Rattle.drive_core.specs.declared.fault.StepFault.{StepFault}
+use Rattle.drive_core.specs.declared.fault.StepFault.TheVariants.{Vault, Grow as InGrow, Scan}
 use Rattle.vault_core.specs.declared.fault.VaultFault.TheVariants as vault
 use Rattle.drive_core.specs.Line.{Line, When, Might, pen_table, is_vault_memory, is_disk}
 use Rattle.drive_core.specs.Step.{Step, Answer}
 use Rattle.drive_core.specs.Step as step
-use Rattle.drive_core.specs.World.{World, Hand, as_pen, Growth, vector, frame_of, file_with, changed_runs}
+use Rattle.drive_core.specs.World.{World, Hand, as_pen, GrowthPhase, vector, frame_of, file_with, changed_runs}
 use Rattle.drive_core.specs.Outcome.{Outcome, HasFailedCall, elsewhere}
 use Rattle.drive_core.specs.GrowthRows.{within}
 
@@ -32,7 +32,7 @@ share_lines hand room seats =
     ∷ []
 
 module _ {R : Type 0} where
-  abbrev pub first_growth : World R → ℕ → ℕ → Growth
+  abbrev pub first_growth : World R → ℕ → ℕ → GrowthPhase
   first_growth w room seats = record {
     before = length w.history;
     room = room;
@@ -68,28 +68,28 @@ module _ {R : Type 0} (form : Encoding R) where
   }
 
   -- its frame stays in hand, at the call that failed
-  abbrev pub torn : World R → Command R → pen_step.Step → World R
+  abbrev pub torn : World R → Command R → pen_step.PenStep → World R
   torn w command at = record w {
     history = w.history ++ command ∷ [];
     hand = record w.hand { job = Some (record { frame = frame_of form command; step = at }); broken = true };
   }
 
-  abbrev pub TornAt : World R → Command R → World R → Fault → Type 0
-  TornAt w command w' (Vault (vault.Pen (pen_fault.Disk fault))) = HasFailedCall w w' × ((at : pen_step.Step) × (fault ≡ fault_of at) × (w' ≡ elsewhere (torn w command at) w'))
+  abbrev pub TornAt : World R → Command R → World R → StepFault → Type 0
+  TornAt w command w' (Vault (vault.Pen (pen_fault.Disk fault))) = HasFailedCall w w' × ((at : pen_step.PenStep) × (fault ≡ fault_of at) × (w' ≡ elsewhere (torn w command at) w'))
   TornAt w command w' (Vault other) = w' ≡ w
   TornAt w command w' (InGrow fault) = w' ≡ w
   TornAt w command w' (Scan fault) = w' ≡ w
 
   -- a command that writes, or none
-  abbrev pub IsCommand : World R → Option (Command R) → Answer R → World R → Type 0
-  IsCommand w None answer w' = Outcome (When w.hand.broken (Vault (vault.Pen pen_fault.Broken)) ∷ []) answer ((answer ≡ step.Fine) × (w' ≡ w)) (λ fault. w' ≡ w)
-  IsCommand w (Some command) answer w' = Outcome (command_lines w.hand (length (vector w)) command) answer
+  abbrev pub IsCommandStep : World R → Option (Command R) → Answer R → World R → Type 0
+  IsCommandStep w None answer w' = Outcome (When w.hand.broken (Vault (vault.Pen pen_fault.Broken)) ∷ []) answer ((answer ≡ step.Fine) × (w' ≡ w)) (λ fault. w' ≡ w)
+  IsCommandStep w (Some command) answer w' = Outcome (command_lines w.hand (length (vector w)) command) answer
       ((answer ≡ step.Fine) × (w' ≡ elsewhere (committed w command) w'))
       (TornAt w command w')
 
   -- several runs, for which a list may be refused before the tests
   abbrev pub IsChanges : World R → List (ℕ × List R) → Answer R → World R → Type 0
-  IsChanges w pieces answer w' = ((0 < length pieces) × (answer ≡ step.Refused (Vault (vault.Pen pen_fault.Memory))) × (w' ≡ w)) ⊎ IsCommand w (changed_runs pieces) answer w'
+  IsChanges w pieces answer w' = ((0 < length pieces) × (answer ≡ step.Refused (Vault (vault.Pen pen_fault.Memory))) × (w' ≡ w)) ⊎ IsCommandStep w (changed_runs pieces) answer w'
 
 module _ {R : Type 0} where
   abbrev pub IsListing : World R → Answer R → World R → Type 0

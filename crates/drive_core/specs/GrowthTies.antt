@@ -4,7 +4,7 @@ use Rattle.record_core.specs.Bytes.{Encoding}
 use Rattle.disk_core.specs.State.{State}
 use Rattle.drive_core.specs.Medium.{Medium, medium}
 use Rattle.drive_core.specs.Step.{Step, Answer}
-use Rattle.drive_core.specs.World.{World, Growth}
+use Rattle.drive_core.specs.World.{World, GrowthPhase}
 use Rattle.drive_core.specs.Ties.{GrowingOf, IsGrowing, IsBehindStep, Steps}
 use Rattle.drive_core.specs.VaultTies.{calls_between}
 
@@ -14,7 +14,7 @@ GrowthStep m w new asked answer calls = Steps m.form (m.keeps new.flusher.pen.di
 
 abbrev pub GrowthStepsOf : {R D : Type 0} → Encoding R → (D → List State) → (D → ℕ) → (D → Type 0) → GrowingOf R D → GrowingOf R D → Step R → Answer R → ℕ → Type 0
 GrowthStepsOf {R} form states faults keeps old new asked answer calls =
-    (w : World R) (phase : Growth) → IsGrowing (medium form states faults keeps) w phase old
+    (w : World R) (phase : GrowthPhase) → IsGrowing (medium form states faults keeps) w phase old
     → GrowthStep (medium form states faults keeps) w new asked answer calls
 
 -- with as many as the clock tells

@@ -7,11 +7,11 @@ use Rattle.segment_core.specs.Command.{Command, content}
 use Rattle.pen_core.specs.Typed.{OpensTo}
 use Rattle.book_core.specs.declared.mark.MarkState.{MarkState}
 use Rattle.drive_core.specs.Step as step
-use Rattle.drive_core.specs.World.{World, Growth, Phase, Shut, Exclusive, Growing}
+use Rattle.drive_core.specs.World.{World, GrowthPhase, DrivePhase, Shut, Exclusive, Growing}
 use Rattle.drive_core.specs.Run.{Event, last}
 
 -- a file was created or opened
-abbrev pub HasFile : Phase → Type 0
+abbrev pub HasFile : DrivePhase → Type 0
 HasFile Shut = ⊥
 HasFile Exclusive = Unit {0}
 HasFile (Growing phase) = Unit {0}
@@ -35,7 +35,7 @@ module _ {R : Type 0} (form : Encoding R) where
   -- since: opening that gives a prefix which has the commands from before the phase and the growths up to that one.
   abbrev pub LeavesTold : World R → List (Event R) → Type 0
   LeavesTold w events =
-      (j : ℕ) (event : Event R) (seat : ℕ) (phase : Growth) (told : ℕ) (state : MarkState) → slice_get events j ≡ Some event → event.asked ≡ step.Settled seat
+      (j : ℕ) (event : Event R) (seat : ℕ) (phase : GrowthPhase) (told : ℕ) (state : MarkState) → slice_get events j ≡ Some event → event.asked ≡ step.Settled seat
       → event.after.phase ≡ Growing phase → event.answer ≡ step.Told told state → (number : ℕ) → number < told
       → (image : List ℕ) → LeftSince (last w events).disk.states (clock w.disk.states + sum (take (suc j) (map (λ e. e.calls) events))) image
       → OpensToPrefix (last w events).base (last w events).history (phase.before + number + 1) image

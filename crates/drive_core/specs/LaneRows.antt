@@ -9,14 +9,14 @@ use Rattle.pen_core.specs.Step.{step_after, fault_of}
 use Rattle.pen_core.specs.InHand.{has_call, called, home_fault}
 use Rattle.pen_core.specs.Pen.{OpensWith, fold_behind, gate_behind_fold}
 use Rattle.pen_core.specs.Folds.{IsWholeFold}
-use Rattle.pen_core.specs.declared.step.Step as pen_step
-use Rattle.pen_core.specs.declared.step.Step.TheVariants.{Body}
+use Rattle.pen_core.specs.declared.step.PenStep as pen_step
+use Rattle.pen_core.specs.declared.step.PenStep.TheVariants.{Body}
 use Rattle.pen_core.specs.declared.stage.FoldStage.TheVariants as stages
 use Rattle.flush_core.specs.declared.lane.Lane.{Lane}
 use Rattle.flush_core.specs.declared.lane.Lane.TheVariants as lanes
 use Rattle.flush_core.specs.declared.lane.Tick.TheVariants as ticks
 use Rattle.pen_core.specs.declared.fault.PenFault.TheVariants as pen_fault
-use Rattle.drive_core.specs.declared.fault.Fault.TheVariants.{Vault}
+use Rattle.drive_core.specs.declared.fault.StepFault.TheVariants.{Vault}
 use Rattle.vault_core.specs.declared.fault.VaultFault.TheVariants as vault
 use Rattle.drive_core.specs.Line.{Line, When, Might, is_vault_memory, is_disk}
 use Rattle.drive_core.specs.Step.{Step, Answer}
@@ -88,7 +88,7 @@ module _ {R : Type 0} where
     hand = record w.hand { file = file_with w.hand.file frame; job = None; fold = fold_behind frame w.hand.fold };
   }
 
-  abbrev pub IsLogged : World R → JobOf → Option pen_step.Step → Answer R → World R → Type 0
+  abbrev pub IsLogged : World R → JobOf → Option pen_step.PenStep → Answer R → World R → Type 0
   IsLogged w job None answer w' = (answer ≡ step.Ticked ticks.Done) × (w' ≡ elsewhere (done w job.frame) w')
   IsLogged w job (Some next) answer w' = (answer ≡ step.Ticked ticks.Step) × (w' ≡ elsewhere (record w { hand = record w.hand { job = Some (record job { step = next }) } }) w')
 

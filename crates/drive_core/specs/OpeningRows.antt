@@ -18,8 +18,8 @@ use Rattle.pen_core.specs.declared.fault.OpenFault.{OpenFault}
 use Rattle.pen_core.specs.declared.fault.OpenFault.TheVariants as openings
 use Rattle.pen_core.specs.declared.fault.PenFault.{PenFault}
 use Rattle.pen_core.specs.declared.fault.PenFault.TheVariants as pen_fault
-use Rattle.drive_core.specs.declared.fault.Fault.{Fault}
-use Rattle.drive_core.specs.declared.fault.Fault.TheVariants.{Vault, Grow as InGrow, Scan}
+use Rattle.drive_core.specs.declared.fault.StepFault.{StepFault}
+use Rattle.drive_core.specs.declared.fault.StepFault.TheVariants.{Vault, Grow as InGrow, Scan}
 use Rattle.vault_core.specs.declared.fault.VaultFault.TheVariants as vault
 use Rattle.drive_core.specs.Line.{Might, is_vault_memory, is_disk, is_exists, is_scan}
 use Rattle.drive_core.specs.Step.{Step, Answer}
@@ -60,7 +60,7 @@ module _ {R : Type 0} where
   abbrev pub HasTriedToMake : Type 0 → Shape → Option PenFault → World R → World R → Type 0
   HasTriedToMake keeps shape ended w w' = keeps → IsMaking shape ended w.disk.states w'.disk.states
 
-  abbrev pub NotCreated : Type 0 → Shape → World R → World R → Fault → Type 0
+  abbrev pub NotCreated : Type 0 → Shape → World R → World R → StepFault → Type 0
   NotCreated keeps shape w w' (Vault (vault.Pen (pen_fault.Disk fault))) = HasFailedCall w w' × HasTriedToMake keeps shape (Some (pen_fault.Disk fault)) w w' × (w' ≡ elsewhere w w')
   NotCreated keeps shape w w' (Vault (vault.Pen pen_fault.Exists)) = (keeps → IsExisting (bytes_of w.disk.states)) × HasTriedToMake keeps shape (Some pen_fault.Exists) w w' × (w' ≡ elsewhere w w')
   NotCreated keeps shape w w' (Vault other) = w' ≡ w
@@ -77,7 +77,7 @@ module _ {R : Type 0} (form : Encoding R) where
       (NotCreated keeps (shape_of format form) w w')
 
   -- the vector of these bytes, and what a pen counts of them
-  pub record HasRead (bytes : List ℕ) (base : List R) (file : File) : Type 0 where
+  pub record HasReadFile (bytes : List ℕ) (base : List R) (file : File) : Type 0 where
     pub format : Format
     pub frames : List Frame
     pub vector : HasVector format form bytes frames base
@@ -86,7 +86,7 @@ module _ {R : Type 0} (form : Encoding R) where
   abbrev pub HasTriedToOpen : Type 0 → Option OpenFault → World R → World R → Type 0
   HasTriedToOpen keeps ended w w' = keeps → IsOpening ended w.disk.states w'.disk.states
 
-  abbrev pub NotOpened : Type 0 → World R → World R → Fault → Type 0
+  abbrev pub NotOpened : Type 0 → World R → World R → StepFault → Type 0
   NotOpened keeps w w' (Vault (vault.Pen (pen_fault.Disk fault))) = HasFailedCall w w' × HasTriedToOpen keeps (Some (openings.Disk fault)) w w' × (w' ≡ elsewhere w w')
   NotOpened keeps w w' (Vault other) = ⊥
   NotOpened keeps w w' (InGrow fault) = ⊥
@@ -94,6 +94,6 @@ module _ {R : Type 0} (form : Encoding R) where
 
   abbrev pub IsOpen : Type 0 → World R → Answer R → World R → Type 0
   IsOpen keeps w answer w' = Outcome (Might is_disk ∷ Might is_scan ∷ []) answer
-      ((base : List R) × (file : File) × (answer ≡ step.Size (length base)) × (keeps → HasRead (bytes_of w.disk.states) base file)
+      ((base : List R) × (file : File) × (answer ≡ step.Size (length base)) × (keeps → HasReadFile (bytes_of w.disk.states) base file)
       × HasTriedToOpen keeps None w w' × (w' ≡ elsewhere (opened w base file) w'))
       (NotOpened keeps w w')

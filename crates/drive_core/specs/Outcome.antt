@@ -2,8 +2,8 @@
 use Rattle.std.specs.Prelude.{◌≡◌, ◌⊎◌, ℕ, ◌<◌, List, Option, Some, None}
 use Rattle.disk_core.specs.declared.fault.DiskFault.{DiskFault}
 use Rattle.pen_core.specs.declared.fault.PenFault.TheVariants as pen_fault
-use Rattle.drive_core.specs.declared.fault.Fault.{Fault}
-use Rattle.drive_core.specs.declared.fault.Fault.TheVariants.{Vault, Grow as InGrow, Scan}
+use Rattle.drive_core.specs.declared.fault.StepFault.{StepFault}
+use Rattle.drive_core.specs.declared.fault.StepFault.TheVariants.{Vault, Grow as InGrow, Scan}
 use Rattle.vault_core.specs.declared.fault.VaultFault.TheVariants as vault
 use Rattle.drive_core.specs.Line.{Line, Allows, stray_of}
 use Rattle.drive_core.specs.Step.{Step, Answer}
@@ -11,9 +11,9 @@ use Rattle.drive_core.specs.Step as step
 use Rattle.drive_core.specs.World.{World}
 
 -- The step is accepted, or refused as one of the lines allows.
-abbrev pub Outcome : {R : Type 0} → List Line → Answer R → Type 0 → (Fault → Type 0) → Type 0
+abbrev pub Outcome : {R : Type 0} → List Line → Answer R → Type 0 → (StepFault → Type 0) → Type 0
 Outcome lines answer Accepted RefusedBy =
-    (Allows lines None × Accepted) ⊎ ((fault : Fault) × Allows lines (Some fault) × (answer ≡ step.Refused fault) × RefusedBy fault)
+    (Allows lines None × Accepted) ⊎ ((fault : StepFault) × Allows lines (Some fault) × (answer ≡ step.Refused fault) × RefusedBy fault)
 
 -- a device call failed, and was counted
 abbrev pub HasFailedCall : {R : Type 0} → World R → World R → Type 0
@@ -24,7 +24,7 @@ abbrev pub stray_in : {R : Type 0} → Answer R → Option ℕ
 stray_in (step.Refused fault) = stray_of fault
 stray_in other = None
 
-abbrev pub struck : {R : Type 0} → World R → Fault → World R
+abbrev pub struck : {R : Type 0} → World R → StepFault → World R
 struck w fault = record w { strayed = stray_of fault }
 
 module _ {R : Type 0} where
@@ -33,7 +33,7 @@ module _ {R : Type 0} where
   elsewhere w w' = record w { disk = w'.disk }
 
   -- what the failure of the device call that is due leaves, by its kind, and any other refusal
-  abbrev pub RefusedAt : World R → Option DiskFault → World R → World R → Fault → Type 0
+  abbrev pub RefusedAt : World R → Option DiskFault → World R → World R → StepFault → Type 0
   RefusedAt w due failed w' (Vault (vault.Pen (pen_fault.Disk fault))) = (due ≡ Some fault) × HasFailedCall w w' × (w' ≡ elsewhere failed w')
   RefusedAt w due failed w' (Vault other) = w' ≡ w
   RefusedAt w due failed w' (InGrow fault) = w' ≡ w

@@ -2,17 +2,17 @@
 use Rattle.std.specs.Prelude.{◌≡◌, ℕ, Bool, true, false, nat_lt, length, Option, Some, None}
 use Rattle.record_core.specs.Bytes.{Encoding}
 use Rattle.book_core.specs.declared.fault.GrowFault.TheVariants as grow
-use Rattle.drive_core.specs.declared.fault.Fault.TheVariants.{Vault, Grow as InGrow}
+use Rattle.drive_core.specs.declared.fault.StepFault.TheVariants.{Vault, Grow as InGrow}
 use Rattle.vault_core.specs.declared.fault.VaultFault.TheVariants as vault
 use Rattle.drive_core.specs.Step.{Step, Answer}
 use Rattle.drive_core.specs.Step as step
-use Rattle.drive_core.specs.World.{World, Growth, Phase, Shut, Exclusive, Growing, vector, changed, resize_command, cleared}
+use Rattle.drive_core.specs.World.{World, GrowthPhase, DrivePhase, Shut, Exclusive, Growing, vector, changed, resize_command, cleared}
 use Rattle.drive_core.specs.GrowthRows.{IsPut, IsLook, IsView, IsMarkRead, IsTake, IsRaise, IsClose, IsGather}
-use Rattle.drive_core.specs.ExclusiveRows.{IsShare, IsCommand, IsChanges, IsListing}
+use Rattle.drive_core.specs.ExclusiveRows.{IsShare, IsCommandStep, IsChanges, IsListing}
 use Rattle.drive_core.specs.LaneRows.{IsFold, IsLog, IsHome}
 use Rattle.drive_core.specs.OpeningRows.{IsCreate, IsOpen}
 
-abbrev pub has_seat : Growth → Option ℕ → Bool
+abbrev pub has_seat : GrowthPhase → Option ℕ → Bool
 has_seat phase None = true
 has_seat phase (Some seat) = nat_lt seat (length phase.known)
 
@@ -33,17 +33,17 @@ module _ {R : Type 0} (form : Encoding R) where
 
   abbrev pub ExclusiveRow : Type 0 → World R → Step R → Answer R → World R → Type 0
   ExclusiveRow keeps w (step.Share room seats) answer w' = IsShare w room seats answer w'
-  ExclusiveRow keeps w (step.Change start records) answer w' = IsCommand form w (changed start records) answer w'
+  ExclusiveRow keeps w (step.Change start records) answer w' = IsCommandStep form w (changed start records) answer w'
   ExclusiveRow keeps w (step.Changes pieces) answer w' = IsChanges form w pieces answer w'
-  ExclusiveRow keeps w (step.Resize n r) answer w' = IsCommand form w (resize_command (length (vector w)) n r) answer w'
-  ExclusiveRow keeps w step.Clear answer w' = IsCommand form w (cleared (length (vector w))) answer w'
+  ExclusiveRow keeps w (step.Resize n r) answer w' = IsCommandStep form w (resize_command (length (vector w)) n r) answer w'
+  ExclusiveRow keeps w step.Clear answer w' = IsCommandStep form w (cleared (length (vector w))) answer w'
   ExclusiveRow keeps w step.Listing answer w' = IsListing w answer w'
   ExclusiveRow keeps w step.Fold answer w' = IsFold keeps w answer w'
   ExclusiveRow keeps w step.Log answer w' = IsLog w answer w'
   ExclusiveRow keeps w step.Home answer w' = IsHome w answer w'
   ExclusiveRow keeps w other answer w' = IsMisplaced w answer w'
 
-  abbrev pub GrowthRow : Type 0 → World R → Growth → Step R → Answer R → World R → Type 0
+  abbrev pub GrowthRow : Type 0 → World R → GrowthPhase → Step R → Answer R → World R → Type 0
   GrowthRow keeps w phase (step.Put seat records) answer w' = OfSeat w answer w' (has_seat phase (Some seat)) (IsPut form.width w phase seat records answer w')
   GrowthRow keeps w phase (step.Look pass) answer w' = OfSeat w answer w' (has_seat phase pass) (IsLook w phase pass answer w')
   GrowthRow keeps w phase (step.View seat) answer w' = OfSeat w answer w' (has_seat phase (Some seat)) (IsView w phase seat answer w')
@@ -57,7 +57,7 @@ module _ {R : Type 0} (form : Encoding R) where
   GrowthRow keeps w phase step.Home answer w' = IsHome w answer w'
   GrowthRow keeps w phase other answer w' = IsMisplaced w answer w'
 
-  abbrev pub PhaseRow : Type 0 → World R → Phase → Step R → Answer R → World R → Type 0
+  abbrev pub PhaseRow : Type 0 → World R → DrivePhase → Step R → Answer R → World R → Type 0
   PhaseRow keeps w Shut asked answer w' = ShutRow keeps w asked answer w'
   PhaseRow keeps w Exclusive asked answer w' = ExclusiveRow keeps w asked answer w'
   PhaseRow keeps w (Growing phase) asked answer w' = GrowthRow keeps w phase asked answer w'

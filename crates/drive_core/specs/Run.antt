@@ -6,8 +6,8 @@ use Rattle.segment_core.specs.Command.{Command}
 use Rattle.flush_core.specs.declared.lane.Tick.{Tick}
 use Rattle.flush_core.specs.declared.lane.Tick.TheVariants as ticks
 use Rattle.pen_core.specs.declared.fault.PenFault.TheVariants as pen_fault
-use Rattle.drive_core.specs.declared.fault.Fault.{Fault}
-use Rattle.drive_core.specs.declared.fault.Fault.TheVariants.{Vault, Grow, Scan}
+use Rattle.drive_core.specs.declared.fault.StepFault.{StepFault}
+use Rattle.drive_core.specs.declared.fault.StepFault.TheVariants.{Vault, Grow, Scan}
 use Rattle.vault_core.specs.declared.fault.VaultFault.TheVariants as vault
 use Rattle.drive_core.specs.Step.{Step, Answer}
 use Rattle.drive_core.specs.Step as step
@@ -17,7 +17,7 @@ use Rattle.drive_core.specs.Rows.{IsStep}
 -- ---- the device calls of a step
 
 -- of a step that calls at most so often where the disk fails, and else not
-abbrev pub RefusedCalls : Fault → ℕ → ℕ → Type 0
+abbrev pub RefusedCalls : StepFault → ℕ → ℕ → Type 0
 RefusedCalls (Vault (vault.Pen (pen_fault.Disk fault))) most n = (1 ≤ n) × (n ≤ most)
 RefusedCalls (Vault (vault.Pen pen_fault.Exists)) most n = n ≤ most
 RefusedCalls (Vault other) most n = n ≡ 0
@@ -31,7 +31,7 @@ TickCalls ticks.Idle n = n ≡ 0
 TickCalls ticks.Filed n = n ≡ 0
 TickCalls ticks.Waiting n = n ≡ 0
 
-abbrev pub OpenFaultCalls : Fault → ℕ → Type 0
+abbrev pub OpenFaultCalls : StepFault → ℕ → Type 0
 OpenFaultCalls (Vault (vault.Pen (pen_fault.Disk fault))) n = 1 ≤ n
 OpenFaultCalls (Vault other) n = n ≡ 0
 OpenFaultCalls (Grow fault) n = n ≡ 0
@@ -84,9 +84,9 @@ module _ {R : Type 0} (form : Encoding R) (keeps : Type 0) where
     pub time : clock e.after.disk.states ≡ clock w.disk.states + e.calls
     pub still : e.calls ≡ 0 → e.after.disk ≡ w.disk
 
-  abbrev pub Run : World R → List (Event R) → Type 0
-  Run w [] = Unit {0}
-  Run w (e ∷ events) = IsEvent w e × Run e.after events
+  abbrev pub AreEvents : World R → List (Event R) → Type 0
+  AreEvents w [] = Unit {0}
+  AreEvents w (e ∷ events) = IsEvent w e × AreEvents e.after events
 
 -- these answers, with these counts of device calls, to these steps
 pub record AreEventsOf {R : Type 0} (steps : List (Step R)) (answers : List (Answer R)) (calls : List ℕ) (events : List (Event R)) : Type 0 where

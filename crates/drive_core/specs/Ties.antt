@@ -12,7 +12,7 @@ use Rattle.book_core.specs.Growing.{SeatLearns}
 use Rattle.flush_core.specs.Flusher.{FlusherOf}
 use Rattle.drive_core.specs.Medium.{Medium}
 use Rattle.drive_core.specs.Step.{Step, Answer}
-use Rattle.drive_core.specs.World.{World, Growth, Growing, DiskOf, growths_in, hand_of}
+use Rattle.drive_core.specs.World.{World, GrowthPhase, Growing, DiskOf, growths_in, hand_of}
 use Rattle.drive_core.specs.Outcome.{stray_in}
 use Rattle.drive_core.specs.Run.{IsEvent}
 use Rattle.drive_core.specs.Headline.{Inner}
@@ -82,7 +82,7 @@ pub record IsFlushing {R D : Type 0} (known taken before settled : ℕ) (entries
   pub settled_is : settled ≡ before + flusher.settled
 
 -- The world is in a growth phase, which is what is in hand: its growths, its seats and its flusher.
-pub record IsGrowing {R D : Type 0} (m : Medium R D) (w : World R) (phase : Growth) (g : GrowingOf R D) : Type 0 where
+pub record IsGrowing {R D : Type 0} (m : Medium R D) (w : World R) (phase : GrowthPhase) (g : GrowingOf R D) : Type 0 where
   pub phase_is : w.phase ≡ Growing phase
   pub calm : w.strayed ≡ None
   pub entries : List (block.Growth R)
@@ -99,7 +99,7 @@ pub record IsGrowing {R D : Type 0} (m : Medium R D) (w : World R) (phase : Grow
 -- Behind a step: the disk is the world's, and the rest too, unless something strayed.
 pub record IsBehindStep {R D : Type 0} (m : Medium R D) (w : World R) (g : GrowingOf R D) : Type 0 where
   pub disk_is : w.disk ≡ disk_of m.states m.faults g.flusher.pen.disk
-  pub goes_on : w.strayed ≡ None → (phase : Growth) × IsGrowing m w phase g
+  pub goes_on : w.strayed ≡ None → (phase : GrowthPhase) × IsGrowing m w phase g
 
 -- What a step's function promises: from each world that what was in hand is tied to, an event leads to one that what is
 -- in hand is tied to.

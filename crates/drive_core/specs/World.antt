@@ -17,7 +17,7 @@ use Rattle.pen_core.specs.Refusals.{one_run}
 -- ---- a growth phase
 
 -- Its growths are numbered from 0, as its seats are; a pass knows the first so many of them.
-pub record Growth : Type 0 where
+pub record GrowthPhase : Type 0 where
   -- the commands of the history from before the phase
   pub before : ℕ
   pub room : ℕ
@@ -33,10 +33,10 @@ pub record Growth : Type 0 where
   pub mark : ℕ
   pub told : List ℕ
 
-pub data Phase : Type 0 where
-  Shut : Phase
-  Exclusive : Phase
-  Growing : Growth → Phase
+pub data DrivePhase : Type 0 where
+  Shut : DrivePhase
+  Exclusive : DrivePhase
+  Growing : GrowthPhase → DrivePhase
 
 -- ---- what a pen has in hand
 
@@ -101,7 +101,7 @@ pub record DiskOf : Type 0 where
   pub faults : ℕ
 
 pub record World (R : Type 0) : Type 0 where
-  pub phase : Phase
+  pub phase : DrivePhase
   -- the vector that was opened, the commands since, and how many of these are settled
   pub base : List R
   pub history : List (Command R)
@@ -121,10 +121,10 @@ abbrev pub vector : {R : Type 0} → World R → List R
 vector w = content w.base w.history
 
 -- the list after the first so many growths of the phase
-abbrev pub vector_at : {R : Type 0} → World R → Growth → ℕ → List R
+abbrev pub vector_at : {R : Type 0} → World R → GrowthPhase → ℕ → List R
 vector_at w phase known = content w.base (take (phase.before + known) w.history)
 
-abbrev pub phase_growths : {R : Type 0} → World R → Growth → List (Command R)
+abbrev pub phase_growths : {R : Type 0} → World R → GrowthPhase → List (Command R)
 phase_growths w phase = drop phase.before w.history
 
 -- ---- what a group takes
@@ -140,11 +140,11 @@ fitting width room [] = 0
 fitting width room (growth ∷ growths) = if nat_le (4 + length growth * width) room then 1 + fitting width (room - (4 + length growth * width)) growths else 0
 
 -- the growths that the flusher knows and has not taken
-abbrev pub waiting : {R : Type 0} → World R → Growth → List (List R)
+abbrev pub waiting : {R : Type 0} → World R → GrowthPhase → List (List R)
 waiting w phase = map command_records (take (phase.flusher - phase.taken) (drop phase.taken (phase_growths w phase)))
 
 -- the first of them, as many as one payload of the file holds
-abbrev pub next_group : {R : Type 0} → ℕ → World R → Growth → List (List R)
+abbrev pub next_group : {R : Type 0} → ℕ → World R → GrowthPhase → List (List R)
 next_group width w phase = take (fitting width (limit_of w.hand.file.shape.format - 4) (waiting w phase)) (waiting w phase)
 
 -- ---- what an exclusive command writes

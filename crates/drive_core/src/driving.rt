@@ -11,8 +11,8 @@ ghost use Rattle.drive_core.specs.Phases.{disk_in};
 ghost use Rattle.drive_core.specs.Ties.{disk_of};
 
 use crate::counted::{Began, Counted, between};
-use crate::fault::Fault;
-use crate::phase::Phase;
+use crate::fault::StepFault;
+use crate::phase::DrivePhase;
 use crate::step::{Answer, Step};
 use book_core::GrowFault;
 use disk_core::Disk;
@@ -25,7 +25,7 @@ use std::thread::Threads;
 /// What is in hand, and the first growth found that no step made.
 #[derive(Drop)]
 struct Driver<R: Record, D: Disk> {
-    phase: Phase<R, D>,
+    phase: DrivePhase<R, D>,
     strayed: Option<u64>,
 }
 
@@ -34,7 +34,7 @@ fn stray_of<R>(answer: &Answer<R>) -> Option<u64>
     ensures { result ≡ stray_in (answer_of answer.now) }
 {
     match answer {
-        Answer::Refused(Fault::Grow(GrowFault::Strayed(number))) => Some(*number),
+        Answer::Refused(StepFault::Grow(GrowFault::Strayed(number))) => Some(*number),
         _ => None,
     }
 }
@@ -53,7 +53,7 @@ impl<R: Record, D: Disk> Driver<R, D> {
         if let Some(number) = self.strayed {
             return (
                 self,
-                Answer::Refused(Fault::Grow(GrowFault::Strayed(number))),
+                Answer::Refused(StepFault::Grow(GrowFault::Strayed(number))),
             );
         }
         let (phase, answered) = self.phase.step(alloc, rt, asked);
@@ -101,7 +101,7 @@ fn drive_counted<R: Record, D: Disk, B: Began, E: Threads + Wait + Sync>(
     };
     let counted: Counted<D, B> = Counted::new(disk);
     let mut driver = Driver {
-        phase: Phase::Shut(counted),
+        phase: DrivePhase::Shut(counted),
         strayed: None,
     };
     for k in 0..steps.len() {

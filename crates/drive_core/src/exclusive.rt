@@ -10,7 +10,7 @@ ghost use Rattle.drive_core.specs.VaultTies.{VaultSteps};
 ghost use Rattle.drive_core.specs.World.{piece_runs};
 
 use crate::copying::copy_list;
-use crate::fault::Fault;
+use crate::fault::StepFault;
 use crate::given::{Given, GivenRuns};
 use crate::step::Answer;
 use disk_core::Disk;
@@ -30,7 +30,7 @@ pub(crate) fn tick<R: Record, D: Disk>(vault: &mut Vault<R, D>, lane: Lane) -> A
     let _ = vault.disk();
     match ticked {
         Ok(tick) => Answer::Ticked(tick),
-        Err(fault) => Answer::Refused(Fault::Vault(fault)),
+        Err(fault) => Answer::Refused(StepFault::Vault(fault)),
     }
 }
 
@@ -42,7 +42,7 @@ pub(crate) fn fold<R: Record, D: Disk>(vault: &mut Vault<R, D>) -> Answer<R>
     let _ = vault.disk();
     match vault.begin_fold() {
         Ok(begun) => Answer::Begun(begun),
-        Err(fault) => Answer::Refused(Fault::Vault(fault)),
+        Err(fault) => Answer::Refused(StepFault::Vault(fault)),
     }
 }
 
@@ -52,7 +52,7 @@ pub(crate) fn list<R: Record, D: Disk>(alloc: Global, vault: &Vault<R, D>) -> An
 {
     match copy_list(alloc, vault) {
         Ok(records) => Answer::Listed(records),
-        Err(_) => Answer::Refused(Fault::Vault(VaultFault::Pen(PenFault::Memory))),
+        Err(_) => Answer::Refused(StepFault::Vault(VaultFault::Pen(PenFault::Memory))),
     }
 }
 
@@ -66,7 +66,7 @@ pub(crate) fn resize<R: Record, D: Disk>(vault: &mut Vault<R, D>, n: u64, v: R) 
     let _ = vault.disk();
     match result {
         Ok(()) => Answer::Fine,
-        Err(fault) => Answer::Refused(Fault::Vault(fault)),
+        Err(fault) => Answer::Refused(StepFault::Vault(fault)),
     }
 }
 
@@ -80,7 +80,7 @@ pub(crate) fn clear<R: Record, D: Disk>(vault: &mut Vault<R, D>) -> Answer<R>
     let _ = vault.disk();
     match result {
         Ok(()) => Answer::Fine,
-        Err(fault) => Answer::Refused(Fault::Vault(fault)),
+        Err(fault) => Answer::Refused(StepFault::Vault(fault)),
     }
 }
 
@@ -100,7 +100,7 @@ pub(crate) fn change<R: Record, D: Disk, E: Threads + Sync>(
     let _ = vault.disk();
     match result {
         Ok(()) => Answer::Fine,
-        Err(fault) => Answer::Refused(Fault::Vault(fault)),
+        Err(fault) => Answer::Refused(StepFault::Vault(fault)),
     }
 }
 
@@ -127,7 +127,7 @@ pub(crate) fn change_runs<R: Record, D: Disk, E: Threads + Sync>(
     ensures model { D.keeps vault.new.pen.disk → D.keeps vault.old.pen.disk }
 {
     let Ok(list) = runs_given(alloc, runs) else {
-        return Answer::Refused(Fault::Vault(VaultFault::Pen(PenFault::Memory)));
+        return Answer::Refused(StepFault::Vault(VaultFault::Pen(PenFault::Memory)));
     };
     let _ = vault.len();
     let given = GivenRuns { runs };
@@ -135,6 +135,6 @@ pub(crate) fn change_runs<R: Record, D: Disk, E: Threads + Sync>(
     let _ = vault.disk();
     match result {
         Ok(()) => Answer::Fine,
-        Err(fault) => Answer::Refused(Fault::Vault(fault)),
+        Err(fault) => Answer::Refused(StepFault::Vault(fault)),
     }
 }

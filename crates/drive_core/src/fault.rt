@@ -11,7 +11,7 @@ use vault_core::VaultFault;
 
 /// Why a step is refused.
 #[derive(Clone, Copy, Debug)]
-pub enum Fault {
+pub enum StepFault {
     /// By the vault or by the pen, or the step doesn't fit the phase.
     Vault(VaultFault),
     /// By the book. Every growth that strayed is told so.
@@ -20,16 +20,16 @@ pub enum Fault {
     Scan(ScanFault),
 }
 
-impl fmt::Display for Fault {
+impl fmt::Display for StepFault {
     ghost output = { λ fault. Some (fault_name fault) };
 
     fn fmt<W: fmt::Write>(&self, f: &mut fmt::Formatter<W>) -> fmt::Result {
         match *self {
-            Fault::Vault(fault) => fmt::Display::fmt(&fault, f),
-            Fault::Grow(fault) => fmt::Display::fmt(&fault, f),
-            Fault::Scan(fault) => fmt::Display::fmt(&fault, f),
+            StepFault::Vault(fault) => fmt::Display::fmt(&fault, f),
+            StepFault::Grow(fault) => fmt::Display::fmt(&fault, f),
+            StepFault::Scan(fault) => fmt::Display::fmt(&fault, f),
         }
     }
 }
 
-impl Error for Fault {}
+impl Error for StepFault {}

@@ -12,7 +12,7 @@ ghost use Rattle.drive_core.specs.GrowthTies.{GrowthStepsOf};
 ghost use Rattle.drive_core.specs.Ties.{GrowingOf};
 
 use crate::copying::copy_view;
-use crate::fault::Fault;
+use crate::fault::StepFault;
 use crate::meeting::meet_in;
 use crate::step::Answer;
 use block_core::{Fresh, FreshFault};
@@ -27,12 +27,12 @@ use std::sync::Wait;
 use vault_core::{Gathering, Vault, VaultFault, gather};
 
 /// The flusher's fault as it is answered.
-fn told_fault(fault: FlushFault) -> Fault
+fn told_fault(fault: FlushFault) -> StepFault
     ensures { result ≡ of_flush fault }
 {
     match fault {
-        FlushFault::Pen(fault) => Fault::Vault(VaultFault::Pen(fault)),
-        FlushFault::Strayed(number) => Fault::Grow(GrowFault::Strayed(number)),
+        FlushFault::Pen(fault) => StepFault::Vault(VaultFault::Pen(fault)),
+        FlushFault::Strayed(number) => StepFault::Grow(GrowFault::Strayed(number)),
     }
 }
 
@@ -106,7 +106,7 @@ impl<R: Record, D: Disk> Model for Growing<R, D> {
 impl<R: Record, D: Disk> Growing<R, D> {
     ghost use Rattle.std.specs.Prelude.{◌++◌, IfOk, IfErr, OnOk};
     ghost use Rattle.book_core.specs.Beginning.{AreNewSeats};
-    ghost use Rattle.directory_core.specs.Chain.{joined};
+    ghost use Rattle.directory_core.specs.Chain.{grown_records};
     ghost use Rattle.book_core.specs.Lists.{opening_of};
     ghost use Rattle.flush_core.specs.Flusher.{IsFlusherOf};
     ghost use Rattle.vault_core.specs.Gathering.{IsWhole, IsGatherFault};
@@ -138,7 +138,7 @@ impl<R: Record, D: Disk> Growing<R, D> {
 
     /// The end of the phase. Refused as `vault_core::gather`, with the phase as it was.
     pub fn gather(self) -> Result<Vault<R, D>, (Growing<R, D>, VaultFault)>
-        ensures list { IfOk result (λ vault. list_of vault ≡ opening_of self.live ++ joined self.flusher.pass.entries) }
+        ensures list { IfOk result (λ vault. list_of vault ≡ opening_of self.live ++ grown_records self.flusher.pass.entries) }
         ensures pen { IfOk result (λ vault. vault.pen ≡ self.flusher.pen) }
         ensures whole { OnOk result (IsWhole self.live self.seats self.flusher) }
         ensures back { IfErr result (λ r. (r.0 ≡ self) × IsGatherFault self.live self.seats self.flusher r.1) }
@@ -211,7 +211,7 @@ impl<R: Record, D: Disk> Growing<R, D> {
                 return Answer::Settled(count, MarkState::Running);
             }
         }
-        Answer::Refused(Fault::Grow(GrowFault::Strayed(count)))
+        Answer::Refused(StepFault::Grow(GrowFault::Strayed(count)))
     }
 
     /// Begins a group.
@@ -250,7 +250,7 @@ impl<R: Record, D: Disk> Growing<R, D> {
         match grown {
             Ok(receipt) => {
                 if receipt.number != self.puts {
-                    return Answer::Refused(Fault::Grow(GrowFault::Strayed(self.puts)));
+                    return Answer::Refused(StepFault::Grow(GrowFault::Strayed(self.puts)));
                 }
                 self.puts = known;
                 self.last = seat;
@@ -258,7 +258,7 @@ impl<R: Record, D: Disk> Growing<R, D> {
             }
             Err((_, fault)) => {
                 let all = known == self.puts;
-                Answer::Refused(Fault::Grow(put_fault(fault, all, self.puts)))
+                Answer::Refused(StepFault::Grow(put_fault(fault, all, self.puts)))
             }
         }
     }
@@ -271,10 +271,10 @@ impl<R: Record, D: Disk> Growing<R, D> {
     {
         let fresh = match Fresh::from_slice(self.alloc, records.as_slice()) {
             Ok(fresh) => fresh,
-            Err(fault) => return Answer::Refused(Fault::Grow(block_fault(fault))),
+            Err(fault) => return Answer::Refused(StepFault::Grow(block_fault(fault))),
         };
         if self.closed {
-            return Answer::Refused(Fault::Grow(GrowFault::Closed));
+            return Answer::Refused(StepFault::Grow(GrowFault::Closed));
         }
         self.publish(rt, seat, fresh)
     }
@@ -288,7 +288,7 @@ impl<R: Record, D: Disk> Growing<R, D> {
         let known = self.flusher.known();
         self.flusher.tell(&self.live, &mut self.seats[self.last]);
         if known > self.puts {
-            return Answer::Refused(Fault::Grow(GrowFault::Strayed(self.puts)));
+            return Answer::Refused(StepFault::Grow(GrowFault::Strayed(self.puts)));
         }
         match looked {
             Ok(size) => Answer::Size(size),
@@ -306,11 +306,11 @@ impl<R: Record, D: Disk> Growing<R, D> {
         let known = self.seats[seat].known();
         meet_in(&self.live, &mut self.seats, self.last, seat);
         if known > self.puts {
-            return Answer::Refused(Fault::Grow(GrowFault::Strayed(self.puts)));
+            return Answer::Refused(StepFault::Grow(GrowFault::Strayed(self.puts)));
         }
         match looked {
             Ok(size) => Answer::Size(size),
-            Err(fault) => Answer::Refused(Fault::Grow(look_fault(fault, self.puts))),
+            Err(fault) => Answer::Refused(StepFault::Grow(look_fault(fault, self.puts))),
         }
     }
 
@@ -322,7 +322,7 @@ impl<R: Record, D: Disk> Growing<R, D> {
     {
         match copy_view(self.alloc, &self.live, &mut self.seats[seat]) {
             Ok(records) => Answer::Listed(records),
-            Err(_) => Answer::Refused(Fault::Vault(VaultFault::Pen(PenFault::Memory))),
+            Err(_) => Answer::Refused(StepFault::Vault(VaultFault::Pen(PenFault::Memory))),
         }
     }
 

@@ -5,7 +5,7 @@ ghost use Rattle.drive_core.specs.Asked.{answer_of, step_of};
 ghost use Rattle.drive_core.specs.GrowthTies.{GrowthSteps};
 ghost use Rattle.drive_core.specs.Step as step;
 
-use crate::fault::Fault;
+use crate::fault::StepFault;
 use crate::growing::Growing;
 use crate::step::{Answer, Step};
 use disk_core::Disk;
@@ -16,9 +16,9 @@ use vault_core::VaultFault;
 
 /// What a step answers that doesn't fit the phase, or names no seat.
 pub(crate) fn misplaced<R>() -> Answer<R>
-    ensures { answer_of result ≡ step.Refused (Fault.Vault VaultFault.WrongPhase) }
+    ensures { answer_of result ≡ step.Refused (StepFault.Vault VaultFault.WrongPhase) }
 {
-    Answer::Refused(Fault::Vault(VaultFault::WrongPhase))
+    Answer::Refused(StepFault::Vault(VaultFault::WrongPhase))
 }
 
 /// A growth of these records by a seat.

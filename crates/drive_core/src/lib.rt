@@ -18,5 +18,5 @@ mod phase;
 mod step;
 
 pub use driving::{Driven, drive};
-pub use fault::Fault;
+pub use fault::StepFault;
 pub use step::{Answer, Step};

@@ -8,7 +8,7 @@ ghost use Rattle.drive_core.specs.Step as step;
 ghost use Rattle.drive_core.specs.VaultTies.{VaultSteps};
 
 use crate::exclusive;
-use crate::fault::Fault;
+use crate::fault::StepFault;
 use crate::growing::Growing;
 use crate::growth::{self, misplaced};
 use crate::step::{Answer, Step};
@@ -24,51 +24,55 @@ use vault_core::{Vault, VaultFault};
 
 /// A disk, while none is open; a vault; or a growth phase.
 #[derive(Drop)]
-pub(crate) enum Phase<R: Record, D: Disk> {
+pub(crate) enum DrivePhase<R: Record, D: Disk> {
     Shut(D),
     Exclusive(Vault<R, D>),
     Growth(Growing<R, D>),
 }
 
 /// Makes an empty file.
-fn create<R: Record, D: Disk>(alloc: Global, disk: D, format: Format) -> (Phase<R, D>, Answer<R>)
-    ensures steps { PhaseSteps R.form D.states D.faults D.keeps (Phase.Shut disk) result.0 (step.Create format) (answer_of result.1) }
+fn create<R: Record, D: Disk>(
+    alloc: Global,
+    disk: D,
+    format: Format,
+) -> (DrivePhase<R, D>, Answer<R>)
+    ensures steps { PhaseSteps R.form D.states D.faults D.keeps (DrivePhase.Shut disk) result.0 (step.Create format) (answer_of result.1) }
     ensures model { D.keeps (disk_in result.0) → D.keeps disk }
 {
     match Vault::create_as(alloc, disk, format) {
         Ok(vault) => {
             let _ = vault.disk();
-            (Phase::Exclusive(vault), Answer::Fine)
+            (DrivePhase::Exclusive(vault), Answer::Fine)
         }
         Err((disk, fault)) => (
-            Phase::Shut(disk),
-            Answer::Refused(Fault::Vault(VaultFault::Pen(fault))),
+            DrivePhase::Shut(disk),
+            Answer::Refused(StepFault::Vault(VaultFault::Pen(fault))),
         ),
     }
 }
 
 /// Why a file isn't opened.
-fn open_fault(fault: OpenFault) -> Fault
+fn open_fault(fault: OpenFault) -> StepFault
     ensures { result ≡ of_open fault }
 {
     match fault {
-        OpenFault::Scan(fault) => Fault::Scan(fault),
-        OpenFault::Disk(fault) => Fault::Vault(VaultFault::Pen(PenFault::Disk(fault))),
+        OpenFault::Scan(fault) => StepFault::Scan(fault),
+        OpenFault::Disk(fault) => StepFault::Vault(VaultFault::Pen(PenFault::Disk(fault))),
     }
 }
 
 /// Opens the file on the disk.
-fn open<R: Record, D: Disk>(alloc: Global, disk: D) -> (Phase<R, D>, Answer<R>)
-    ensures steps { PhaseSteps R.form D.states D.faults D.keeps (Phase.Shut disk) result.0 step.Open (answer_of result.1) }
+fn open<R: Record, D: Disk>(alloc: Global, disk: D) -> (DrivePhase<R, D>, Answer<R>)
+    ensures steps { PhaseSteps R.form D.states D.faults D.keeps (DrivePhase.Shut disk) result.0 step.Open (answer_of result.1) }
     ensures model { D.keeps (disk_in result.0) → D.keeps disk }
 {
     match Vault::open(alloc, disk) {
         Ok(vault) => {
             let _ = vault.disk();
             let size = vault.len();
-            (Phase::Exclusive(vault), Answer::Size(size))
+            (DrivePhase::Exclusive(vault), Answer::Size(size))
         }
-        Err((disk, fault)) => (Phase::Shut(disk), Answer::Refused(open_fault(fault))),
+        Err((disk, fault)) => (DrivePhase::Shut(disk), Answer::Refused(open_fault(fault))),
     }
 }
 
@@ -77,8 +81,8 @@ fn shut_step<R: Record, D: Disk>(
     alloc: Global,
     disk: D,
     asked: &Step<R>,
-) -> (Phase<R, D>, Answer<R>)
-    ensures steps { PhaseSteps R.form D.states D.faults D.keeps (Phase.Shut disk) result.0 (step_of asked.now) (answer_of result.1) }
+) -> (DrivePhase<R, D>, Answer<R>)
+    ensures steps { PhaseSteps R.form D.states D.faults D.keeps (DrivePhase.Shut disk) result.0 (step_of asked.now) (answer_of result.1) }
     ensures model { D.keeps (disk_in result.0) → D.keeps disk }
 {
     match asked {
@@ -101,7 +105,7 @@ fn shut_step<R: Record, D: Disk>(
         | Step::List
         | Step::Fold
         | Step::Log
-        | Step::Home => (Phase::Shut(disk), misplaced()),
+        | Step::Home => (DrivePhase::Shut(disk), misplaced()),
     }
 }
 
@@ -122,19 +126,19 @@ fn share<R: Record, D: Disk>(
     vault: Vault<R, D>,
     room: u64,
     seats: u64,
-) -> (Phase<R, D>, Answer<R>)
-    ensures steps { PhaseSteps R.form D.states D.faults D.keeps (Phase.Exclusive vault) result.0 (step.Share room seats) (answer_of result.1) }
+) -> (DrivePhase<R, D>, Answer<R>)
+    ensures steps { PhaseSteps R.form D.states D.faults D.keeps (DrivePhase.Exclusive vault) result.0 (step.Share room seats) (answer_of result.1) }
     ensures model { D.keeps (disk_in result.0) → D.keeps vault.pen.disk }
 {
     let count = clamped(seats);
     match vault.share(room, count) {
         Ok((live, flusher, seats)) => {
             let growing = Growing::begin(alloc, live, flusher, seats);
-            (Phase::Growth(growing), Answer::Fine)
+            (DrivePhase::Growth(growing), Answer::Fine)
         }
         Err((vault, fault)) => (
-            Phase::Exclusive(vault),
-            Answer::Refused(Fault::Vault(fault)),
+            DrivePhase::Exclusive(vault),
+            Answer::Refused(StepFault::Vault(fault)),
         ),
     }
 }
@@ -180,8 +184,8 @@ fn exclusive_step<R: Record, D: Disk, E: Threads + Sync>(
     vault: Vault<R, D>,
     rt: &E,
     asked: &Step<R>,
-) -> (Phase<R, D>, Answer<R>)
-    ensures steps { PhaseSteps R.form D.states D.faults D.keeps (Phase.Exclusive vault) result.0 (step_of asked.now) (answer_of result.1) }
+) -> (DrivePhase<R, D>, Answer<R>)
+    ensures steps { PhaseSteps R.form D.states D.faults D.keeps (DrivePhase.Exclusive vault) result.0 (step_of asked.now) (answer_of result.1) }
     ensures model { D.keeps (disk_in result.0) → D.keeps vault.pen.disk }
 {
     if let Step::Share(room, seats) = asked {
@@ -189,21 +193,24 @@ fn exclusive_step<R: Record, D: Disk, E: Threads + Sync>(
     }
     let mut vault = vault;
     let answer = command(alloc, &mut vault, rt, asked);
-    (Phase::Exclusive(vault), answer)
+    (DrivePhase::Exclusive(vault), answer)
 }
 
 /// Ends a growth phase.
-fn gather<R: Record, D: Disk>(growing: Growing<R, D>) -> (Phase<R, D>, Answer<R>)
-    ensures steps { PhaseSteps R.form D.states D.faults D.keeps (Phase.Growth growing) result.0 step.Gather (answer_of result.1) }
+fn gather<R: Record, D: Disk>(growing: Growing<R, D>) -> (DrivePhase<R, D>, Answer<R>)
+    ensures steps { PhaseSteps R.form D.states D.faults D.keeps (DrivePhase.Growth growing) result.0 step.Gather (answer_of result.1) }
     ensures model { D.keeps (disk_in result.0) → D.keeps growing.flusher.pen.disk }
 {
     match growing.gather() {
         Ok(vault) => {
             let _ = vault.disk();
             let size = vault.len();
-            (Phase::Exclusive(vault), Answer::Size(size))
+            (DrivePhase::Exclusive(vault), Answer::Size(size))
         }
-        Err((growing, fault)) => (Phase::Growth(growing), Answer::Refused(Fault::Vault(fault))),
+        Err((growing, fault)) => (
+            DrivePhase::Growth(growing),
+            Answer::Refused(StepFault::Vault(fault)),
+        ),
     }
 }
 
@@ -212,8 +219,8 @@ fn growth_step<R: Record, D: Disk, E: Wait>(
     growing: Growing<R, D>,
     rt: &E,
     asked: &Step<R>,
-) -> (Phase<R, D>, Answer<R>)
-    ensures steps { PhaseSteps R.form D.states D.faults D.keeps (Phase.Growth growing) result.0 (step_of asked.now) (answer_of result.1) }
+) -> (DrivePhase<R, D>, Answer<R>)
+    ensures steps { PhaseSteps R.form D.states D.faults D.keeps (DrivePhase.Growth growing) result.0 (step_of asked.now) (answer_of result.1) }
     ensures model { D.keeps (disk_in result.0) → D.keeps growing.flusher.pen.disk }
 {
     if let Step::Gather = asked {
@@ -221,24 +228,24 @@ fn growth_step<R: Record, D: Disk, E: Wait>(
     }
     let mut growing = growing;
     let answer = growth::answer(&mut growing, rt, asked);
-    (Phase::Growth(growing), answer)
+    (DrivePhase::Growth(growing), answer)
 }
 
-impl<R: Record, D: Disk> Phase<R, D> {
+impl<R: Record, D: Disk> DrivePhase<R, D> {
     /// The answer to a step, and what is in hand then.
     pub(crate) fn step<E: Threads + Wait + Sync>(
         self,
         alloc: Global,
         rt: &E,
         asked: &Step<R>,
-    ) -> (Phase<R, D>, Answer<R>)
+    ) -> (DrivePhase<R, D>, Answer<R>)
         ensures steps { PhaseSteps R.form D.states D.faults D.keeps self result.0 (step_of asked.now) (answer_of result.1) }
         ensures model { D.keeps (disk_in result.0) → D.keeps (disk_in self) }
     {
         match self {
-            Phase::Shut(disk) => shut_step(alloc, disk, asked),
-            Phase::Exclusive(vault) => exclusive_step(alloc, vault, rt, asked),
-            Phase::Growth(growing) => growth_step(growing, rt, asked),
+            DrivePhase::Shut(disk) => shut_step(alloc, disk, asked),
+            DrivePhase::Exclusive(vault) => exclusive_step(alloc, vault, rt, asked),
+            DrivePhase::Growth(growing) => growth_step(growing, rt, asked),
         }
     }
 
@@ -247,9 +254,9 @@ impl<R: Record, D: Disk> Phase<R, D> {
         ensures { result.now ≡ disk_in self.now }
     {
         match self {
-            Phase::Shut(disk) => disk,
-            Phase::Exclusive(vault) => vault.disk(),
-            Phase::Growth(growing) => growing.disk(),
+            DrivePhase::Shut(disk) => disk,
+            DrivePhase::Exclusive(vault) => vault.disk(),
+            DrivePhase::Growth(growing) => growing.disk(),
         }
     }
 
@@ -258,9 +265,9 @@ impl<R: Record, D: Disk> Phase<R, D> {
         ensures { result ≡ disk_in self }
     {
         match self {
-            Phase::Shut(disk) => disk,
-            Phase::Exclusive(vault) => vault.into_disk(),
-            Phase::Growth(growing) => growing.into_disk(),
+            DrivePhase::Shut(disk) => disk,
+            DrivePhase::Exclusive(vault) => vault.into_disk(),
+            DrivePhase::Growth(growing) => growing.into_disk(),
         }
     }
 }

@@ -16,7 +16,7 @@ use Rattle.pen_core.specs.Opening.{IsOpened, OnlySyncs}
 use Rattle.pen_core.specs.PenOf.{PenOf}
 use Rattle.pen_core.specs.Typed.{OpensTo}
 use Rattle.disk_core.specs.Calls.{bytes_of}
-use Rattle.files_core.specs.Opened.{IsOpenFault, LeavesBeforeOr, OnlyReads, failed_reading}
+use Rattle.files_core.specs.Opened.{IsOpenFault, LeavesBeforeOr, CommandOnlyReads, failed_reading}
 
 pub keeps_same : (known : Option (List ℕ)) → Keeps known known
 keeps_same None = tt
@@ -81,7 +81,7 @@ told_counts faults failed disk left (Err e) ended done half told same = let none
 -- the file was only read, and the answer told so
 pub told_reads : {R D X E : Type 0} (form : Encoding R) (keeps : D → Type 0) (states : D → List State) (faults : D → ℕ) (disk own left : D)
     (written : Result X E) (ended : Ended) → left ≡ own → (keeps own → OnlySyncs (states disk) (states own)) → faults own ≡ faults disk
-    → (keeps own → keeps disk) → MatchResult written (λ _. ended ≡ Done) (λ _. ended ≡ OutputFailed) → OnlyReads form keeps states faults disk left ended
+    → (keeps own → keeps disk) → MatchResult written (λ _. ended ≡ Done) (λ _. ended ≡ OutputFailed) → CommandOnlyReads form keeps states faults disk left ended
 told_reads form keeps states faults disk own left written ended same syncs none model told = record {
   refused = told_ends (Unit {0}) (IsOpenFault form (keeps left) (bytes_of (states disk))) written ended told tt;
   only_syncs = subst (λ d. keeps d → OnlySyncs (states disk) (states d)) (sym same) syncs;

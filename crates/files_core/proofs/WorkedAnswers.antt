@@ -30,8 +30,8 @@ use Rattle.files_core.specs.Checking.{IsChecked}
 use Rattle.files_core.specs.Ended.{EndsAs, WritesAnswer, WritesText}
 use Rattle.files_core.specs.Folding.{IsFolded}
 use Rattle.files_core.specs.Listing.{IsWindowListed}
-use Rattle.files_core.specs.Opened.{OnlyReads}
-use Rattle.files_core.specs.Searching.{IsCounted, IsFound, TestsFor}
+use Rattle.files_core.specs.Opened.{CommandOnlyReads}
+use Rattle.files_core.specs.Searching.{TellsCount, TellsFirst, TestsFor}
 use Rattle.files_core.specs.Texts.{appended_line, checked_line, created_line, folded_line, found_line, loaded_line, number_line, ok_line, upgraded_line}
 
 -- ---- lines
@@ -61,33 +61,33 @@ module _ (form : Encoding ℕ) (small : form.width < 2 ^ 16) (file : List ℕ) (
   alone : (records : List ℕ) → OpensTo form file records → four ≡ records
   alone records to = OpensTo_same form file four records small opens to
 
-  two_fives : IsCounted form 5 (Unit {0}) file (codes "2\n")
+  two_fives : TellsCount form 5 (Unit {0}) file (codes "2\n")
   unfolding digits
   two_fives = record { records = four; is = λ r. nat_eq r 5; just = fives; file = λ known. opens; told = refl }
 
-  counted : (n k : ℕ) (text : List ℕ) → count_by (λ r. nat_eq r n) four ≡ k → IsCounted form n (Unit {0}) file text → text ≡ number_line k
+  counted : (n k : ℕ) (text : List ℕ) → count_by (λ r. nat_eq r n) four ≡ k → TellsCount form n (Unit {0}) file text → text ≡ number_line k
   counted n k text many so =
       so.told ∙ ap (λ is. number_line (count_by is so.records)) (sym (one_test n so.is so.just)) ∙ ap (λ rs. number_line (count_by (λ r. nat_eq r n) rs)) (sym (alone so.records (so.file tt)))
       ∙ ap number_line many
 
   -- neither more nor fewer, and not those that aren't it
-  two_alone : (text : List ℕ) → IsCounted form 5 (Unit {0}) file text → text ≡ codes "2\n"
+  two_alone : (text : List ℕ) → TellsCount form 5 (Unit {0}) file text → text ≡ codes "2\n"
   unfolding digits
   two_alone text so = counted 5 2 text refl so
 
-  not_three : IsCounted form 5 (Unit {0}) file (codes "3\n") → ⊥
+  not_three : TellsCount form 5 (Unit {0}) file (codes "3\n") → ⊥
   not_three so = absurd (omega (arith, ap (λ (bs : List ℕ). get_or bs 0 0) (two_alone (codes "3\n") so)))
 
-  no_eight : (text : List ℕ) → IsCounted form 8 (Unit {0}) file text → text ≡ codes "0\n"
+  no_eight : (text : List ℕ) → TellsCount form 8 (Unit {0}) file text → text ≡ codes "0\n"
   unfolding digits
   no_eight text so = counted 8 0 text refl so
 
   -- the least position
-  found_at_one : IsFound form 5 (Unit {0}) file (codes "1\n")
+  found_at_one : TellsFirst form 5 (Unit {0}) file (codes "1\n")
   unfolding digits
   found_at_one = record { records = four; is = λ r. nat_eq r 5; just = fives; found = Some 1; file = λ known. opens; first = (refl, refl); told = refl }
 
-  first_of : (n : ℕ) (text : List ℕ) → IsFound form n (Unit {0}) file text → (found : Option ℕ) × IsFirst (λ r. nat_eq r n) four found × (text ≡ found_line found)
+  first_of : (n : ℕ) (text : List ℕ) → TellsFirst form n (Unit {0}) file text → (found : Option ℕ) × IsFirst (λ r. nat_eq r n) four found × (text ≡ found_line found)
   first_of n text so = (
     so.found,
     subst (λ is. IsFirst is four so.found) (sym (one_test n so.is so.just)) (subst (λ rs. IsFirst so.is rs so.found) (sym (alone so.records (so.file tt))) so.first),
@@ -98,7 +98,7 @@ module _ (form : Encoding ℕ) (small : form.width < 2 ^ 16) (file : List ℕ) (
   unfolding digits
   one_line = refl
 
-  not_the_last : IsFound form 5 (Unit {0}) file (codes "3\n") → ⊥
+  not_the_last : TellsFirst form 5 (Unit {0}) file (codes "3\n") → ⊥
   not_the_last so = let first = first_of 5 (codes "3\n") so in none_but_one first.0 first.1 first.2
     where
       none_but_one : (found : Option ℕ) → IsFirst (λ r. nat_eq r 5) four found → codes "3\n" ≡ found_line found → ⊥
@@ -109,7 +109,7 @@ module _ (form : Encoding ℕ) (small : form.width < 2 ^ 16) (file : List ℕ) (
       none_but_one (Some (suc (suc (suc zero)))) first told = absurd (omega (arith, first.0))
       none_but_one (Some (suc (suc (suc (suc n))))) first told = absurd first.1
 
-  no_eight_found : IsFound form 8 (Unit {0}) file (codes "none\n")
+  no_eight_found : TellsFirst form 8 (Unit {0}) file (codes "none\n")
   no_eight_found = record { records = four; is = λ r. nat_eq r 8; just = λ r. unsigned_Decides r 8; found = None; file = λ known. opens; first = refl; told = refl }
 
   -- ---- windows: the second and the third record, one a line
@@ -243,7 +243,7 @@ module _ {R : Type 0} (form : Encoding R) (b : ℕ) where
         ]
       ]
 
-  reads : OnlyReads form known itself no_fault disk looked Done
+  reads : CommandOnlyReads form known itself no_fault disk looked Done
   reads = record { refused = tt; only_syncs = λ model. looks; faults_are = refl; model = λ model. model }
 
   -- not one that writes, though what is there
@@ -253,30 +253,30 @@ module _ {R : Type 0} (form : Encoding R) (b : ℕ) where
     | inr same ↦ (let pending = ap (λ s. length s.pending) same in omega (arith, pending))
   ]
 
-  not_writes : OnlyReads form known itself no_fault disk rewritten Done → ⊥
+  not_writes : CommandOnlyReads form known itself no_fault disk rewritten Done → ⊥
   not_writes so = no_write (so.only_syncs tt)
 
-  not_writes_and_fails : OnlyReads form known itself no_fault disk rewritten OutputFailed → ⊥
+  not_writes_and_fails : CommandOnlyReads form known itself no_fault disk rewritten OutputFailed → ⊥
   not_writes_and_fails so = no_write (so.only_syncs tt)
 
   -- a call that failed is told, and no other is
-  not_hidden : OnlyReads form known itself length disk looked Done → ⊥
+  not_hidden : CommandOnlyReads form known itself length disk looked Done → ⊥
   not_hidden so = omega (arith, so.faults_are)
 
-  not_made_up : OnlyReads form known itself no_fault disk looked (Refused (Open (Disk Sync))) → ⊥
+  not_made_up : CommandOnlyReads form known itself no_fault disk looked (Refused (Open (Disk Sync))) → ⊥
   not_made_up so = omega (arith, so.faults_are)
 
-  told_fault : OnlyReads form known itself (λ d. length d - 2) disk looked (Refused (Open (Disk Sync)))
+  told_fault : CommandOnlyReads form known itself (λ d. length d - 2) disk looked (Refused (Open (Disk Sync)))
   told_fault = record { refused = λ model. tt; only_syncs = λ model. looks; faults_are = refl; model = λ model. model }
 
   -- refused at opening alone, by what the bytes are
-  never_by_a_vault : (left : Disks) (fault : VaultFault) → OnlyReads form known itself no_fault disk left (Refused (Vault fault)) → ⊥
+  never_by_a_vault : (left : Disks) (fault : VaultFault) → CommandOnlyReads form known itself no_fault disk left (Refused (Vault fault)) → ⊥
   never_by_a_vault left fault so = so.refused
 
-  not_a_whole_file : (left : Disks) (records : List R) → form.width < 2 ^ 16 → OpensTo form (b ∷ []) records → OnlyReads form known itself no_fault disk left (Refused (Open (Scan Unborn))) → ⊥
+  not_a_whole_file : (left : Disks) (records : List R) → form.width < 2 ^ 16 → OpensTo form (b ∷ []) records → CommandOnlyReads form known itself no_fault disk left (Refused (Open (Scan Unborn))) → ⊥
   not_a_whole_file left records small opens so =
       absurd (let memory = memory_alone opens.format form (b ∷ []) opens.frames records Unborn small opens.vector (so.refused tt) in cc)
 
   -- and the disk kept the model before, where it does now
-  kept_before : OnlyReads form (λ d. 1 < length d) itself no_fault disk looked Done → ⊥
+  kept_before : CommandOnlyReads form (λ d. 1 < length d) itself no_fault disk looked Done → ⊥
   kept_before so = omega (arith, so.model (omega arith))

@@ -31,7 +31,7 @@ use Rattle.files_core.specs.declared.fault.Stopped.{Stopped}
 use Rattle.files_core.specs.declared.fault.Word.TheVariants.{Records, Start}
 use Rattle.files_core.specs.Asked.{IsNoNumber, IsNumber, IsNumberOr, IsRecord, IsRecordsRefusal, IsWordPart, SpellsRecords}
 use Rattle.files_core.specs.Faults.{fault_line, file_fault_name, upgrade_name}
-use Rattle.files_core.specs.Folding.{IsFoldRefusal, IsFoldingFault, IsNotFolded, KeepsList, failed_folding}
+use Rattle.files_core.specs.Folding.{IsFoldCommandFault, IsFoldingFault, IsNotFolded, KeepsList, failed_folding}
 use Rattle.files_core.specs.Upgraded.{IsUpgradeRefusal}
 use Rattle.files_core.specs.Opened.{IsNotOpened, failed_reading}
 use Rattle.files_core.specs.SoundFront.{IsCutAt, IsFrontRefusal, IsNoCut, closed_at}
@@ -216,7 +216,7 @@ module _ (form : Encoding ℕ) (b : ℕ) where
   not_unheard : (left : Disks) → IsNotOpened form known itself no_fault disk left (Disk Sync) → ⊥
   not_unheard left so = omega (arith, so.faults_are)
 
-  unfolded : (left : Disks) → IsFoldRefusal form known itself no_fault disk left (told.Open (Disk Sync)) → ⊥
+  unfolded : (left : Disks) → IsFoldCommandFault form known itself no_fault disk left (told.Open (Disk Sync)) → ⊥
   unfolded left so = omega (arith, so.1)
 
   -- a fold that memory refused has written nothing, and where a call failed it is counted

@@ -79,12 +79,12 @@ module _ {R D : Type 0} (form : Encoding R) (keeps : D → Type 0) (states : D �
     pub stays : keeps left → KeepsList form states disk left
 
   -- Why a file wasn't folded: at scanning or opening it, and then nothing was written; or by the vault.
-  abbrev pub IsFoldRefusal : FileFault → Type 0
-  IsFoldRefusal (Open fault) =
+  abbrev pub IsFoldCommandFault : FileFault → Type 0
+  IsFoldCommandFault (Open fault) =
       (keeps left → IsOpenRefusal form (bytes_of (states disk)) fault × LeavesOnly (states disk) (states left) (IsImage (now (states disk))))
       × (faults left ≡ faults disk + failed_openings fault)
-  IsFoldRefusal (Vault fault) = IsNotFolded fault
-  IsFoldRefusal (Word word) = ⊥
-  IsFoldRefusal (Input refusal) = ⊥
-  IsFoldRefusal (Grower stopped) = ⊥
-  IsFoldRefusal (Upgrade fault) = ⊥
+  IsFoldCommandFault (Vault fault) = IsNotFolded fault
+  IsFoldCommandFault (Word word) = ⊥
+  IsFoldCommandFault (Input refusal) = ⊥
+  IsFoldCommandFault (Grower stopped) = ⊥
+  IsFoldCommandFault (Upgrade fault) = ⊥

@@ -39,7 +39,7 @@ failed_reading (Refused fault) = failed_opening fault
 module _ {R D : Type 0} (form : Encoding R) (keeps : D → Type 0) (states : D → List State) (faults : D → ℕ) (disk : D) where
   -- A command only read the disk: it may have been refused at opening alone, and nothing was written. A fault of the disk is
   -- told where one of its calls has failed.
-  pub record OnlyReads (left : D) (ended : Ended) : Type 0 where
+  pub record CommandOnlyReads (left : D) (ended : Ended) : Type 0 where
     pub refused : EndsAs (Unit {0}) (IsOpenFault form (keeps left) (bytes_of (states disk))) ended
     pub only_syncs : keeps left → OnlySyncs (states disk) (states left)
     pub faults_are : faults left ≡ faults disk + failed_reading ended

@@ -12,7 +12,7 @@ TestsFor {R} wanted is = (r : R) → is r ≡ true ↔ r ≡ wanted
 
 module _ {R : Type 0} (form : Encoding R) (wanted : R) (known : Type 0) (bytes text : List ℕ) where
   -- the text tells how many records of a vector are the one that is wanted: of the file's, where its bytes are known
-  pub record IsCounted : Type 0 where
+  pub record TellsCount : Type 0 where
     pub records : List R
     pub is : R → Bool
     pub just : TestsFor wanted is
@@ -20,7 +20,7 @@ module _ {R : Type 0} (form : Encoding R) (wanted : R) (known : Type 0) (bytes t
     pub told : text ≡ number_line (count_by is records)
 
   -- the text tells the least position of one that is, if there is one
-  pub record IsFound : Type 0 where
+  pub record TellsFirst : Type 0 where
     pub records : List R
     pub is : R → Bool
     pub just : TestsFor wanted is

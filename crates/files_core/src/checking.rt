@@ -5,7 +5,7 @@ ghost use Rattle.std.specs.Io.KnownBytes.{Appends};
 ghost use Rattle.disk_core.specs.Calls.{bytes_of};
 ghost use Rattle.files_core.specs.Checking.{IsChecked};
 ghost use Rattle.files_core.specs.Ended.{WritesAnswer};
-ghost use Rattle.files_core.specs.Opened.{OnlyReads};
+ghost use Rattle.files_core.specs.Opened.{CommandOnlyReads};
 ghost use Rattle.files_core.specs.Texts.{checked_front, checked_line};
 
 use crate::ended::Ended;
@@ -51,7 +51,7 @@ fn write_checked<R, W: Write>(writer: &mut W, scanned: &Scanned<R>) -> io::Resul
 /// how many changes are live. Beside the vector it takes memory for one frame, for the live changes,
 /// and 24 bytes for each group. Nothing is written to the file. Refused: `Open`, with the file's first fault.
 pub fn check<R: Record, D: Disk, W: Write>(alloc: Global, disk: D, writer: &mut W) -> (D, Ended)
-    ensures reads { OnlyReads R.form D.keeps D.states D.faults disk result.0 result.1 }
+    ensures reads { CommandOnlyReads R.form D.keeps D.states D.faults disk result.0 result.1 }
     ensures writes { WritesAnswer (W.contents writer.old) (W.contents writer.new) (IsChecked R.form (D.keeps result.0) (bytes_of (D.states disk))) result.1 }
 {
     let mut disk = disk;

@@ -10,7 +10,7 @@ ghost use Rattle.segment_core.specs.declared.vector.Scanned.{Scanned};
 ghost use Rattle.pen_core.specs.Opening.{IsOpenRefusal, OnlySyncs, failed_openings};
 ghost use Rattle.vault_core.specs.Commands.{failed};
 ghost use Rattle.vault_core.specs.Vault.{MayHold, list_of};
-ghost use Rattle.files_core.specs.Folding.{IsAllFolded, IsFolded, IsFoldRefusal, IsFoldingFault, NoneLive, KeepsList, failed_folding};
+ghost use Rattle.files_core.specs.Folding.{IsAllFolded, IsFolded, IsFoldCommandFault, IsFoldingFault, NoneLive, KeepsList, failed_folding};
 ghost use Rattle.files_core.specs.Texts.{folded_line};
 
 use crate::checking::{PIECE_LEN, live_changes};
@@ -70,7 +70,7 @@ fn write_folded<W: Write>(writer: &mut W, live: u64) -> io::Result<()>
 /// is read twice: its changes are counted, and it is opened. Refused: `Open`; then `Vault`, as `Vault::begin_fold` and
 /// `Vault::settle`.
 pub fn fold<R: Record, D: Disk, W: Write>(alloc: Global, disk: D, writer: &mut W) -> (D, Ended)
-    ensures stays { EndsAs (D.keeps result.0 → KeepsList R.form D.states disk result.0) (IsFoldRefusal R.form D.keeps D.states D.faults disk result.0) result.1 }
+    ensures stays { EndsAs (D.keeps result.0 → KeepsList R.form D.states disk result.0) (IsFoldCommandFault R.form D.keeps D.states D.faults disk result.0) result.1 }
     ensures none_live { EndsAs (NoneLive D.keeps D.states result.0) (λ _. Unit {0}) result.1 }
     ensures faults { D.faults result.0 ≡ D.faults disk + failed_folding result.1 }
     ensures model { D.keeps result.0 → D.keeps disk }

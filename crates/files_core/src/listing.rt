@@ -7,7 +7,7 @@ ghost use Rattle.segment_core.specs.Written.{joined};
 ghost use Rattle.text_core.specs.Text.{record_lines};
 ghost use Rattle.files_core.specs.Ended.{WritesAnswer};
 ghost use Rattle.files_core.specs.Listing.{IsWindowListed, in_window};
-ghost use Rattle.files_core.specs.Opened.{OnlyReads};
+ghost use Rattle.files_core.specs.Opened.{CommandOnlyReads};
 
 use crate::asked::Window;
 use crate::ended::Ended;
@@ -18,7 +18,7 @@ use std::alloc::Global;
 use std::io;
 use std::io::Write;
 use text_core::{TextRecord, write_records};
-use vault_core::{Pieces, Vault};
+use vault_core::{Vault, VaultPieces};
 
 /// How many records are written before progress is told.
 const CHUNK_LEN: usize = 65_536;
@@ -35,7 +35,7 @@ fn part<R>(piece: &[R], skip: u64, left: u64) -> &[R]
 
 /// Writes the records of a window of the pieces, one a line.
 fn write_window<R: TextRecord, W: Write, P: Progress>(
-    pieces: Pieces<'_, R>,
+    pieces: VaultPieces<'_, R>,
     window: &Window,
     of: u64,
     progress: &P,
@@ -87,7 +87,7 @@ pub fn list<R: TextRecord, D: Disk, W: Write, P: Progress>(
     progress: &P,
     writer: &mut W,
 ) -> (D, Ended)
-    ensures reads { OnlyReads R.form D.keeps D.states D.faults disk result.0 result.1 }
+    ensures reads { CommandOnlyReads R.form D.keeps D.states D.faults disk result.0 result.1 }
     ensures writes { WritesAnswer (W.contents writer.old) (W.contents writer.new) (IsWindowListed R.form R.spelling.text_of window.now (D.keeps result.0) (bytes_of (D.states disk))) result.1 }
 {
     let vault = match Vault::<R, D>::open(alloc, disk) {

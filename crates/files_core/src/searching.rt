@@ -7,8 +7,8 @@ ghost use Rattle.disk_core.specs.Calls.{bytes_of};
 ghost use Rattle.pen_core.specs.Typed.{OpensTo};
 ghost use Rattle.search_core.specs.Search.{IsFirst};
 ghost use Rattle.files_core.specs.Ended.{WritesAnswer};
-ghost use Rattle.files_core.specs.Opened.{OnlyReads};
-ghost use Rattle.files_core.specs.Searching.{IsCounted, IsFound};
+ghost use Rattle.files_core.specs.Opened.{CommandOnlyReads};
+ghost use Rattle.files_core.specs.Searching.{TellsCount, TellsFirst};
 ghost use Rattle.files_core.specs.Texts.{number_line, found_line};
 
 use crate::ended::Ended;
@@ -48,8 +48,8 @@ pub fn count<R: TextRecord, D: Disk, W: Write, E: Threads + Sync>(
     wanted: R,
     writer: &mut W,
 ) -> (D, Ended)
-    ensures reads { OnlyReads R.form D.keeps D.states D.faults disk result.0 result.1 }
-    ensures writes { WritesAnswer (W.contents writer.old) (W.contents writer.new) (IsCounted R.form wanted (D.keeps result.0) (bytes_of (D.states disk))) result.1 }
+    ensures reads { CommandOnlyReads R.form D.keeps D.states D.faults disk result.0 result.1 }
+    ensures writes { WritesAnswer (W.contents writer.old) (W.contents writer.new) (TellsCount R.form wanted (D.keeps result.0) (bytes_of (D.states disk))) result.1 }
 {
     let vault = match Vault::<R, D>::open(alloc, disk) {
         Ok(vault) => vault,
@@ -68,8 +68,8 @@ pub fn find<R: TextRecord, D: Disk, W: Write, E: Threads + Sync>(
     wanted: R,
     writer: &mut W,
 ) -> (D, Ended)
-    ensures reads { OnlyReads R.form D.keeps D.states D.faults disk result.0 result.1 }
-    ensures writes { WritesAnswer (W.contents writer.old) (W.contents writer.new) (IsFound R.form wanted (D.keeps result.0) (bytes_of (D.states disk))) result.1 }
+    ensures reads { CommandOnlyReads R.form D.keeps D.states D.faults disk result.0 result.1 }
+    ensures writes { WritesAnswer (W.contents writer.old) (W.contents writer.new) (TellsFirst R.form wanted (D.keeps result.0) (bytes_of (D.states disk))) result.1 }
 {
     let vault = match Vault::<R, D>::open(alloc, disk) {
         Ok(vault) => vault,

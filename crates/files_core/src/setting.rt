@@ -24,12 +24,12 @@ use vault_core::{Vault, VaultFault};
 
 /// The records that the positions from `start` on get.
 #[derive(Drop)]
-struct Given<'a, R: Record> {
+struct GivenFrom<'a, R: Record> {
     start: u64,
     records: &'a [R],
 }
 
-impl<'a, R: Record> Touch<R> for Given<'a, R> {
+impl<'a, R: Record> Touch<R> for GivenFrom<'a, R> {
     ghost use Rattle.files_core.specs.Given.{given_from};
 
     ghost one = { λ touch. given_from touch.start touch.records.now };
@@ -59,7 +59,7 @@ fn put<R: Record, D: Disk, E: Threads + Sync>(
     ensures command { IsCommand R.form D.keeps D.states D.faults (changed_frame R.form (one_run start (length records.now)) (list_of vault.new))
         (change_lines vault.old.pen (one_run start (length records.now))) vault.old vault.new result }
 {
-    let given = Given { start, records };
+    let given = GivenFrom { start, records };
     vault.change(rt, start, records.len() as u64, &given)
 }
 

@@ -7,7 +7,7 @@ use Rattle.files_core.specs.declared.fault.FileFault.{FileFault}
 use Rattle.sentences.specs.declared.complaint.Complaint.{Complaint}
 use Rattle.text_core.specs.declared.status.Status.{Status}
 use Rattle.filing_core.specs.Complaints.{Disk, IsComplaintOf, IsJustOpened, IsStatusOf}
-use Rattle.filing_core.specs.Commands.{IsDone, IsOverFile}
+use Rattle.filing_core.specs.Commands.{IsEngineDone, IsOverFile}
 
 module _ {R : Type 0} (form : Encoding R) (old new : Option (List ℕ)) (filed : Result Status Complaint) {IsReason : FileFault → Type 0} {HasEnded : Disk → Disk → Ended → Type 0} where
   -- an engine ended over the disk that was opened, which was given to it and back by these names
@@ -24,5 +24,5 @@ module _ {R : Type 0} (form : Encoding R) (old new : Option (List ℕ)) (filed :
 
 -- an engine that ended so ended also so
 pub done_as : (filed : Result Status Complaint) (IsComplaint : Disk → FileFault → Complaint → Type 0) {HasEnded HasOther : Disk → Disk → Ended → Type 0}
-    → ((disk left : Disk) (ended : Ended) → HasEnded disk left ended → HasOther disk left ended) → IsDone filed IsComplaint HasEnded → IsDone filed IsComplaint HasOther
+    → ((disk left : Disk) (ended : Ended) → HasEnded disk left ended → HasOther disk left ended) → IsEngineDone filed IsComplaint HasEnded → IsEngineDone filed IsComplaint HasOther
 done_as filed IsComplaint weaker done = record { disk = done.disk; left = done.left; ended = done.ended; opened = done.opened; engine = weaker done.disk done.left done.ended done.engine; told = done.told }

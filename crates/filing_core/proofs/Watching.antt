@@ -18,8 +18,8 @@ use Rattle.files_core.specs.declared.watched.Watched.{Watched}
 use Rattle.files_core.specs.Ended.{EndsAs, WritesAnswer}
 use Rattle.files_core.specs.Upgraded.{IsUpgraded, IsUpgradeRefusal}
 use Rattle.std.specs.Prelude.{Option}
-use Rattle.files_core.specs.Folding.{IsFoldingFault, IsFoldRefusal, IsNotFolded, KeepsList, NoneLive}
-use Rattle.files_core.specs.Opened.{IsOpenedOn, OnlyReads}
+use Rattle.files_core.specs.Folding.{IsFoldingFault, IsFoldCommandFault, IsNotFolded, KeepsList, NoneLive}
+use Rattle.files_core.specs.Opened.{IsOpenedOn, CommandOnlyReads}
 use Rattle.files_core.specs.Watched.{below}
 use Rattle.filing_core.specs.Complaints.{Disk}
 
@@ -82,8 +82,8 @@ module _ {R P : Type 0} where
   vault_below v = record { pen = pen_below v.pen; blocks = v.blocks; sure = v.sure }
 
 module _ {R P : Type 0} (form : Encoding R) where
-  pub reads_below : (disk left : (Watched Disk P)) (ended : Ended) → OnlyReads form seen_keeps seen_states seen_faults disk left ended
-      → OnlyReads form KeepsSoFar states_of faults_of (below disk) (below left) ended
+  pub reads_below : (disk left : (Watched Disk P)) (ended : Ended) → CommandOnlyReads form seen_keeps seen_states seen_faults disk left ended
+      → CommandOnlyReads form KeepsSoFar states_of faults_of (below disk) (below left) ended
   reads_below disk left ended o = record { refused = o.refused; only_syncs = o.only_syncs; faults_are = o.faults_are; model = o.model }
 
   list_below : (disk left : (Watched Disk P)) → KeepsList form seen_states disk left → KeepsList form states_of (below disk) (below left)
@@ -124,8 +124,8 @@ module _ {R P : Type 0} (form : Encoding R) where
     stays = λ keeps. list_below disk left (n.stays keeps);
   }
 
-  fold_refusal_below : (disk left : (Watched Disk P)) (fault : FileFault) → IsFoldRefusal form seen_keeps seen_states seen_faults disk left fault
-      → IsFoldRefusal form KeepsSoFar states_of faults_of (below disk) (below left) fault
+  fold_refusal_below : (disk left : (Watched Disk P)) (fault : FileFault) → IsFoldCommandFault form seen_keeps seen_states seen_faults disk left fault
+      → IsFoldCommandFault form KeepsSoFar states_of faults_of (below disk) (below left) fault
   fold_refusal_below disk left (Open fault) why = why
   fold_refusal_below disk left (Vault fault) why = not_folded_below disk left fault why
   fold_refusal_below disk left (Word word) why = why
@@ -134,8 +134,8 @@ module _ {R P : Type 0} (form : Encoding R) where
   fold_refusal_below disk left (Upgrade fault) why = why
 
   pub folds_below : (disk left : (Watched Disk P)) (ended : Ended)
-      → EndsAs (seen_keeps left → KeepsList form seen_states disk left) (IsFoldRefusal form seen_keeps seen_states seen_faults disk left) ended
-      → EndsAs (KeepsSoFar (below left) → KeepsList form states_of (below disk) (below left)) (IsFoldRefusal form KeepsSoFar states_of faults_of (below disk) (below left)) ended
+      → EndsAs (seen_keeps left → KeepsList form seen_states disk left) (IsFoldCommandFault form seen_keeps seen_states seen_faults disk left) ended
+      → EndsAs (KeepsSoFar (below left) → KeepsList form states_of (below disk) (below left)) (IsFoldCommandFault form KeepsSoFar states_of faults_of (below disk) (below left)) ended
   folds_below disk left Done stays = λ keeps. list_below disk left (stays keeps)
   folds_below disk left OutputFailed stays = λ keeps. list_below disk left (stays keeps)
   folds_below disk left (Refused fault) why = fold_refusal_below disk left fault why

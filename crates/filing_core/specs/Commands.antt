@@ -32,12 +32,12 @@ use Rattle.files_core.specs.Changing.{HasWorked, IsCleared, IsClearFault, IsResi
 use Rattle.files_core.specs.Checking.{IsChecked}
 use Rattle.files_core.specs.Creating.{IsCreated, IsCreateRefusal}
 use Rattle.files_core.specs.Ended.{EndsAs, WritesAnswer, WritesText}
-use Rattle.files_core.specs.Folding.{IsFolded, IsFoldRefusal, KeepsList, NoneLive, failed_folding}
+use Rattle.files_core.specs.Folding.{IsFolded, IsFoldCommandFault, KeepsList, NoneLive, failed_folding}
 use Rattle.files_core.specs.Given.{given_from}
 use Rattle.files_core.specs.Listing.{IsWindowListed}
 use Rattle.load_core.specs.Loading.{IsLoaded, IsLoadRefusal}
-use Rattle.files_core.specs.Opened.{OnlyReads}
-use Rattle.files_core.specs.Searching.{IsCounted, IsFound}
+use Rattle.files_core.specs.Opened.{CommandOnlyReads}
+use Rattle.files_core.specs.Searching.{TellsCount, TellsFirst}
 use Rattle.files_core.specs.Texts.{appended_line, created_line, loaded_line, ok_line}
 use Rattle.files_core.specs.Upgraded.{IsUpgraded, IsUpgradeRefusal, failed_upgrading}
 use Rattle.files_core.specs.Vacant.{IsVacant}
@@ -50,15 +50,15 @@ use Rattle.serve_core.specs.Serving.{CountsFailed, IsLeft, IsServeRefusal, serve
 use Rattle.serve_core.specs.declared.fault.ServeFault.{ServeFault}
 use Rattle.stat_core.specs.Calls.{AreCalls, failed_at}
 use Rattle.stat_core.specs.Ended.{IsTold}
-use Rattle.stat_core.specs.Window.{OnlyReads as OnlyLooks}
-use Rattle.stat_core.specs.declared.telling.Ended.{Ended as StatEnded}
+use Rattle.stat_core.specs.Window.{OnlyReads}
+use Rattle.stat_core.specs.declared.telling.StatEnded.{StatEnded}
 use Rattle.stat_core.specs.declared.writing.Form.{Form}
 use Rattle.sentences.specs.declared.complaint.Complaint.{Complaint}
 use Rattle.sentences.specs.declared.role.Role.TheVariants as roles
 use Rattle.words_core.specs.declared.request.FileTask.{FileTask}
 use Rattle.words_core.specs.declared.request.FileTask.TheVariants.{Create, Load, Append, Check, List as Listed, Count, Find, Set, Resize, Clear, Fold, Upgrade, Serve}
 use Rattle.filing_core.specs.Asked.{IsWindow, IsNoWindow, IsNoRecord, IsNoSetting, IsNoResizing, AreInputGrowths, IsNoInput}
-use Rattle.filing_core.specs.Complaints.{Disk, IsJustOpened, IsComplaintOf, IsAppendComplaint, IsServeComplaint, IsStatusOf, IsStatStatus, IsRefusedBefore, IsLeftAlone, IsShut, IsUnserved}
+use Rattle.filing_core.specs.Complaints.{Disk, IsJustOpened, IsComplaintOf, IsAppendComplaint, IsServeComplaint, IsStatusOf, IsStatStatus, IsRefusedBefore, IsLeftAlone, IsLeftUnopened, IsUnserved}
 
 -- of a server that has ended
 abbrev pub served_line : ℕ → List ℕ
@@ -72,7 +72,7 @@ pub record IsLookedAt (disk after : Disk) : Type 0 where
   pub model : KeepsSoFar after → KeepsSoFar disk
 
 -- An engine ended so over a disk that was opened, and the command with it.
-pub record IsDone (filed : Result Status Complaint) (IsComplaint : Disk → FileFault → Complaint → Type 0) (HasEnded : Disk → Disk → Ended → Type 0) : Type 0 where
+pub record IsEngineDone (filed : Result Status Complaint) (IsComplaint : Disk → FileFault → Complaint → Type 0) (HasEnded : Disk → Disk → Ended → Type 0) : Type 0 where
   pub disk : Disk
   pub left : Disk
   pub ended : Ended
@@ -104,12 +104,12 @@ module _ {R : Type 0} (form : Encoding R) where
 module _ {R : Type 0} (form : Encoding R) (old new : Option (List ℕ)) (filed : Result Status Complaint) where
   -- The words or the input were refused, for such a reason; or the file wasn't opened; or the engine ended so over it.
   abbrev pub IsOverFile : (FileFault → Type 0) → (Disk → Disk → Ended → Type 0) → Type 0
-  IsOverFile IsReason HasEnded = IsRefusedBefore old new filed IsReason ⊎ (IsShut old new filed roles.File ⊎ IsDone filed (IsComplaintOf form) HasEnded)
+  IsOverFile IsReason HasEnded = IsRefusedBefore old new filed IsReason ⊎ (IsLeftUnopened old new filed roles.File ⊎ IsEngineDone filed (IsComplaintOf form) HasEnded)
 
   -- an engine only read the disk, and wrote such an answer, by its bytes where the file keeps the model
   abbrev pub Reads : (Type 0 → List ℕ → List ℕ → Type 0) → Disk → Disk → Ended → Type 0
   Reads IsAnswer disk left ended =
-      OnlyReads form KeepsSoFar states_of faults_of disk left ended × WritesAnswer old new (IsAnswer (KeepsSoFar left) (bytes_of (states_of disk))) ended
+      CommandOnlyReads form KeepsSoFar states_of faults_of disk left ended × WritesAnswer old new (IsAnswer (KeepsSoFar left) (bytes_of (states_of disk))) ended
 
   -- an engine put one list in the place of another, of one vault and one more, and wrote `ok`
   abbrev pub Works : (List R → List R → Type 0) → (VaultOf R Disk → VaultOf R Disk → Type 0) → (VaultOf R Disk → VaultOf R Disk → VaultFault → Type 0) → Disk → Disk → Ended → Type 0
@@ -131,12 +131,12 @@ module _ {R : Type 0} (form : Encoding R) (old new : Option (List ℕ)) (filed :
   -- `count`: how many records are the one that the word is
   abbrev pub IsCountRun : Spelling R → List ℕ → Type 0
   IsCountRun spelling word =
-      IsOverFile (IsNoRecord spelling word) (λ disk left ended. (r : R) × IsRecord spelling word r × Reads (IsCounted form r) disk left ended)
+      IsOverFile (IsNoRecord spelling word) (λ disk left ended. (r : R) × IsRecord spelling word r × Reads (TellsCount form r) disk left ended)
 
   -- `find`: the least position of one that is
   abbrev pub IsFindRun : Spelling R → List ℕ → Type 0
   IsFindRun spelling word =
-      IsOverFile (IsNoRecord spelling word) (λ disk left ended. (r : R) × IsRecord spelling word r × Reads (IsFound form r) disk left ended)
+      IsOverFile (IsNoRecord spelling word) (λ disk left ended. (r : R) × IsRecord spelling word r × Reads (TellsFirst form r) disk left ended)
 
   -- `set`: the records that the words are, from the position on that they name
   abbrev pub IsSetRun : Spelling R → List ℕ → List ℕ → Type 0
@@ -159,7 +159,7 @@ module _ {R : Type 0} (form : Encoding R) (old new : Option (List ℕ)) (filed :
   -- `fold`: none is live then
   abbrev pub IsFoldRun : Type 0
   IsFoldRun = IsOverFile (λ _. ⊥) (λ disk left ended.
-      EndsAs (KeepsSoFar left → KeepsList form states_of disk left) (IsFoldRefusal form KeepsSoFar states_of faults_of disk left) ended
+      EndsAs (KeepsSoFar left → KeepsList form states_of disk left) (IsFoldCommandFault form KeepsSoFar states_of faults_of disk left) ended
       × EndsAs (NoneLive KeepsSoFar states_of left) (λ _. Unit {0}) ended × (faults_of left ≡ faults_of disk + failed_folding ended)
       × WritesAnswer old new (IsFolded form (KeepsSoFar left) (bytes_of (states_of disk))) ended)
 
@@ -173,7 +173,7 @@ module _ {R : Type 0} (form : Encoding R) (old new : Option (List ℕ)) (filed :
   -- `append`: growths of so many lines of the input each; the complaint tells what was settled
   abbrev pub IsAppendRun : Spelling R → Option (List ℕ) → ℕ → Type 0
   IsAppendRun spelling input block =
-      IsShut old new filed roles.File ⊎ ((appended : Appended) × IsDone filed (IsAppendComplaint form appended) (λ disk left ended.
+      IsLeftUnopened old new filed roles.File ⊎ ((appended : Appended) × IsEngineDone filed (IsAppendComplaint form appended) (λ disk left ended.
       EndsAs (HasAppendedAll form KeepsSoFar states_of spelling block input disk left appended)
       (IsAppendFault form KeepsSoFar states_of faults_of spelling block input disk left appended) ended
       × WritesText old new (appended_line appended.growths appended.size) ended))
@@ -202,7 +202,7 @@ module _ {R : Type 0} (form : Encoding R) (old new : Option (List ℕ)) (filed :
     pub told : IsStatusOf (IsComplaintOf form left) ended filed
 
   abbrev pub IsUpgradeRun : Type 0
-  IsUpgradeRun = IsShut old new filed roles.File ⊎ (IsShut old new filed roles.New ⊎ (IsRefusedBefore old new filed (IsNewTaken form) ⊎ HasUpgraded))
+  IsUpgradeRun = IsLeftUnopened old new filed roles.File ⊎ (IsLeftUnopened old new filed roles.New ⊎ (IsRefusedBefore old new filed (IsNewTaken form) ⊎ HasUpgraded))
 
   -- how `serve` ends whose engine gave that disk back, ended so, and settled so many growths
   abbrev pub IsServedAs : Disk → ℕ → Result (Unit {0}) ServeFault → Type 0
@@ -222,7 +222,7 @@ module _ {R : Type 0} (form : Encoding R) (old new : Option (List ℕ)) (filed :
     pub told : IsServedAs left growths served
 
   abbrev pub IsServeRun : ℕ → Type 0
-  IsServeRun clients = IsLeftAlone old new filed IsUnserved ⊎ (IsShut old new filed roles.File ⊎ HasServed clients)
+  IsServeRun clients = IsLeftAlone old new filed IsUnserved ⊎ (IsLeftUnopened old new filed roles.File ⊎ HasServed clients)
 
 -- what a command on records of these bytes and texts has done: its task is what the words ask for
 abbrev pub IsCommandRun : {R : Type 0} → Encoding R → Spelling R → FileTask → Option (List ℕ) → Option (List ℕ) → Option (List ℕ) → Result Status Complaint → Type 0
@@ -247,9 +247,9 @@ pub record HasToldStat (told_as : Form) (old new : Option (List ℕ)) (filed : R
   pub ended : StatEnded
   pub opened : IsJustOpened disk
   pub engine : IsTold (KeepsSoFar left) (bytes_of (states_of disk)) (AreCalls (clock (states_of disk)) (clock (states_of left))) told_as old new ended
-  pub only_reads : KeepsSoFar left → OnlyLooks (states_of disk) (states_of left)
+  pub only_reads : KeepsSoFar left → OnlyReads (states_of disk) (states_of left)
   pub faults_are : faults_of left ≡ faults_of disk + failed_at ended
   pub told : IsStatStatus ended filed
 
 abbrev pub IsStatRun : Form → Option (List ℕ) → Option (List ℕ) → Result Status Complaint → Type 0
-IsStatRun told_as old new filed = IsShut old new filed roles.File ⊎ HasToldStat told_as old new filed
+IsStatRun told_as old new filed = IsLeftUnopened old new filed roles.File ⊎ HasToldStat told_as old new filed

@@ -17,8 +17,8 @@ use Rattle.serve_core.specs.declared.fault.ServeFault.{ServeFault}
 use Rattle.serve_core.specs.declared.fault.ServeFault.TheVariants as serves
 use Rattle.stat_core.specs.declared.fault.StatFault.{StatFault}
 use Rattle.stat_core.specs.declared.fault.StatFault.TheVariants as stats
-use Rattle.stat_core.specs.declared.telling.Ended.{Ended as StatEnded}
-use Rattle.stat_core.specs.declared.telling.Ended.TheVariants as stat_ends
+use Rattle.stat_core.specs.declared.telling.StatEnded.{StatEnded}
+use Rattle.stat_core.specs.declared.telling.StatEnded.TheVariants as stat_ends
 use Rattle.files_core.specs.declared.appended.Appended.{Appended}
 use Rattle.files_core.specs.declared.ended.Ended.{Ended}
 use Rattle.files_core.specs.declared.ended.Ended.TheVariants.{Done, OutputFailed, Refused}
@@ -131,5 +131,5 @@ module _ (old new : Option (List ℕ)) (filed : Result Status Complaint) where
     pub quiet : Keeps old new
 
   -- this file wasn't opened, and nothing was written
-  abbrev pub IsShut : Role → Type 0
-  IsShut role = IsLeftAlone (IsUnopened role)
+  abbrev pub IsLeftUnopened : Role → Type 0
+  IsLeftUnopened role = IsLeftAlone (IsUnopened role)

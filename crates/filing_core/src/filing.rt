@@ -7,7 +7,7 @@ ghost use Rattle.files_core.specs.Listing.{IsWindowListed};
 ghost use Rattle.files_core.specs.Watched.{below};
 ghost use Rattle.filing_core.specs.Asked.{IsNoWindow, IsWindow};
 ghost use Rattle.filing_core.specs.Complaints.{IsComplaintOf, IsJustOpened, IsUnopened};
-ghost use Rattle.filing_core.specs.Commands.{IsAppendRun, IsCheckRun, IsClearRun, IsCommandRun, IsCountRun, IsCreateRun, IsDone, IsFindRun, IsFoldRun, IsListRun, IsLoadRun, IsNewTaken, IsPlaceTaken, IsResizeRun, IsServeRun, IsSetRun, IsTaken, IsUpgradeRun, MayBeMadeOn, Reads};
+ghost use Rattle.filing_core.specs.Commands.{IsAppendRun, IsCheckRun, IsClearRun, IsCommandRun, IsCountRun, IsCreateRun, IsEngineDone, IsFindRun, IsFoldRun, IsListRun, IsLoadRun, IsNewTaken, IsPlaceTaken, IsResizeRun, IsServeRun, IsSetRun, IsTaken, IsUpgradeRun, MayBeMadeOn, Reads};
 
 use crate::access::{Access, Opened, open};
 use crate::counting::CountingGate;
@@ -202,7 +202,7 @@ impl<'a, F: Files<File = File> + Clock + AllocGlobal, P: Progress + Sync> Filing
         window: &Window,
         writer: &mut W,
     ) -> Result<Status, Complaint>
-        ensures { IsJustOpened opened.disk → IsDone result (IsComplaintOf R.form) (Reads R.form (W.contents writer.old) (W.contents writer.new) result (IsWindowListed R.form R.spelling.text_of window.now)) }
+        ensures { IsJustOpened opened.disk → IsEngineDone result (IsComplaintOf R.form) (Reads R.form (W.contents writer.old) (W.contents writer.new) result (IsWindowListed R.form R.spelling.text_of window.now)) }
     {
         let Opened { disk, lock: _lock } = opened;
         let (disk, ended) = list::<R, Watched<'_, FileDisk, P>, W, P>(

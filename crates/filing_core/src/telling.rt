@@ -9,7 +9,7 @@ use disk_core::FileDisk;
 use files_core::{FileFault, Progress, Watched};
 use pen_core::OpenFault;
 use sentences::{Complaint, Role};
-use stat_core::{Ended, StatFault, stat};
+use stat_core::{StatEnded, StatFault, stat};
 use std::fs::File;
 use std::io::Write;
 use std::rt::Files;
@@ -32,13 +32,13 @@ fn complaint_of(fault: StatFault) -> Complaint
 }
 
 /// How `stat` ended whose engine ended so.
-fn status_of(ended: Ended) -> Result<Status, Complaint>
+fn status_of(ended: StatEnded) -> Result<Status, Complaint>
     ensures { IsStatStatus ended result }
 {
     match ended {
-        Ended::Done => Ok(Status::Done),
-        Ended::Unwritten(_) => Ok(Status::OutputFailed),
-        Ended::Refused(fault) => Err(complaint_of(fault)),
+        StatEnded::Done => Ok(Status::Done),
+        StatEnded::Unwritten(_) => Ok(Status::OutputFailed),
+        StatEnded::Refused(fault) => Err(complaint_of(fault)),
     }
 }
 

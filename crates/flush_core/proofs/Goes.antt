@@ -8,7 +8,7 @@ use Rattle.disk_core.specs.Moments.{LeavesOnly}
 use Rattle.disk_core.proofs.JoinedMoments.{LeavesOnly-weaker, LeavesOnly-join}
 use Rattle.pen_core.specs.PenOf.{PenOf}
 use Rattle.pen_core.specs.Typed.{OpensTo}
-use Rattle.directory_core.specs.Chain.{joined}
+use Rattle.directory_core.specs.Chain.{grown_records}
 use Rattle.book_core.specs.Marks.{MarkEnd}
 use Rattle.book_core.specs.Lists.{Phase}
 use Rattle.book_core.proofs.Owns.{take-begins}
@@ -90,8 +90,8 @@ module _ {R D : Type 0} where
   -- the first growths that it knows are the same later on
   list_to-later : (keeps : Type 0) (old new : FlusherOf R D) (n : ℕ) → keeps → FlusherGoesOn keeps old new → n ≤ length old.pass.entries → list_to new n ≡ list_to old n
   list_to-later keeps old new n model goes le =
-      ap (λ (rs : List R). rs ++ joined (take n new.pass.entries)) (goes.opening_same model)
-      ∙ ap (λ (es : List _). old.opening ++ joined es) (take-begins old.pass.entries new.pass.entries n goes.begins le)
+      ap (λ (rs : List R). rs ++ grown_records (take n new.pass.entries)) (goes.opening_same model)
+      ∙ ap (λ (es : List _). old.opening ++ grown_records es) (take-begins old.pass.entries new.pass.entries n goes.begins le)
 
   length-begins : (keeps : Type 0) (old new : FlusherOf R D) → FlusherGoesOn keeps old new → length old.pass.entries ≤ length new.pass.entries
   length-begins keeps old new goes = let long = ap length goes.begins in omega (arith, length-take (length old.pass.entries) new.pass.entries)

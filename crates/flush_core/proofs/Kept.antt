@@ -16,7 +16,7 @@ use Rattle.pen_core.specs.declared.stage.Ticked.TheVariants.{Done}
 use Rattle.pen_core.specs.PenOf.{PenOf}
 use Rattle.pen_core.specs.Pen.{MayOpen, IsTicked, FileTicked, FileGains, vector_after, vector_with}
 use Rattle.pen_core.proofs.Typed.{vector_after-none, MayOpen_typed}
-use Rattle.directory_core.specs.Chain.{total, joined}
+use Rattle.directory_core.specs.Chain.{total, grown_records}
 use Rattle.directory_core.specs.Known.{Known}
 use Rattle.record_core.specs.Limits.{record_limit}
 use Rattle.book_core.specs.Marks.{MarkEnd, nothing_told}
@@ -81,7 +81,7 @@ module _ {R D : Type 0} {form : Encoding R} {keeps : Type 0} {f : FlusherOf R D}
   -- another pen whose file has the records from before the phase
   opening_kept : (pen : PenOf D) (settled : ℕ) → keeps → AreCellsOf form pen.vector (list_to f settled) → read_as form (take f.before pen.vector) ≡ f.opening
   opening_kept pen settled model are =
-      read_as-take form f.before pen.vector f.opening (joined (take settled f.pass.entries)) (is.opening_whole model) are
+      read_as-take form f.before pen.vector f.opening (grown_records (take settled f.pass.entries)) (is.opening_whole model) are
 
   -- another pen that has the growths settled in its file, and those taken once its job is done
   pub kept : (pen : PenOf D) (taken settled : ℕ) (keeps' : Type 0) → pen.shape ≡ f.pen.shape → f.mark.told.count ≤ settled → settled ≤ taken
@@ -100,8 +100,8 @@ module _ {R D : Type 0} {form : Encoding R} {keeps : Type 0} {f : FlusherOf R D}
     size_is = size;
     size_then = then;
     opening_whole = λ model. ap length (opening model) ∙ is.opening_whole (back model);
-    file_is = λ model. subst (λ (rs : List R). AreCellsOf form pen.vector (rs ++ joined (take settled f.pass.entries))) (sym (opening model)) (file model);
-    file_then = λ model. subst (λ (rs : List R). AreCellsOf form (vector_after pen) (rs ++ joined (take taken f.pass.entries))) (sym (opening model)) (job model);
+    file_is = λ model. subst (λ (rs : List R). AreCellsOf form pen.vector (rs ++ grown_records (take settled f.pass.entries))) (sym (opening model)) (file model);
+    file_then = λ model. subst (λ (rs : List R). AreCellsOf form (vector_after pen) (rs ++ grown_records (take taken f.pass.entries))) (sym (opening model)) (job model);
   }
     where
       opening : keeps' → read_as form (take f.before pen.vector) ≡ f.opening

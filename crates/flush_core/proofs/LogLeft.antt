@@ -1,8 +1,8 @@
 -- The calls that are left of the job in hand.
 use Rattle.std.proofs.Common.{◌≡◌, ◌<◌, Option, Some, sym, subst, arith}
 use Rattle.std.proofs.lemmas.Option.{same_Some}
-use Rattle.pen_core.specs.declared.step.Step.{Step}
-use Rattle.pen_core.specs.declared.step.Step.TheVariants.{Body, BodySync, Gate, GateSync}
+use Rattle.pen_core.specs.declared.step.PenStep.{PenStep}
+use Rattle.pen_core.specs.declared.step.PenStep.TheVariants.{Body, BodySync, Gate, GateSync}
 use Rattle.pen_core.specs.Step.{step_after, steps_left}
 use Rattle.pen_core.specs.PenOf.{PenOf, JobOf}
 use Rattle.pen_core.specs.Pen.{log_left}
@@ -11,10 +11,10 @@ use Rattle.flush_core.specs.declared.lane.Tick.{Tick}
 use Rattle.flush_core.specs.declared.lane.Tick.TheVariants as ticks
 use Rattle.flush_core.specs.Refusals.{IsLaneTicked}
 
-steps_left-after : (step next : Step) → step_after step ≡ Some next → steps_left next < steps_left step
-steps_left-after Body next is = subst (λ (s : Step). steps_left s < 4) (same_Some BodySync next is) (omega arith)
-steps_left-after BodySync next is = subst (λ (s : Step). steps_left s < 3) (same_Some Gate next is) (omega arith)
-steps_left-after Gate next is = subst (λ (s : Step). steps_left s < 2) (same_Some GateSync next is) (omega arith)
+steps_left-after : (step next : PenStep) → step_after step ≡ Some next → steps_left next < steps_left step
+steps_left-after Body next is = subst (λ (s : PenStep). steps_left s < 4) (same_Some BodySync next is) (omega arith)
+steps_left-after BodySync next is = subst (λ (s : PenStep). steps_left s < 3) (same_Some Gate next is) (omega arith)
+steps_left-after Gate next is = subst (λ (s : PenStep). steps_left s < 2) (same_Some GateSync next is) (omega arith)
 steps_left-after GateSync next is = absurd cc
 
 -- a tick behind which more are left makes one of them

@@ -15,7 +15,7 @@ use Rattle.segment_core.proofs.Written.{take_more, payload_len_more}
 use Rattle.segment_core.proofs.Replaced.{slice_get-drop}
 use Rattle.directory_core.specs.Chain.{total, AreBlocks}
 use Rattle.directory_core.specs.Chain as chains
-use Rattle.directory_core.proofs.Chains.{length-joined}
+use Rattle.directory_core.proofs.Chains.{length-grown_records}
 use Rattle.flush_core.specs.Group.{IsGreatest}
 
 -- the records of each growth from one on
@@ -59,19 +59,19 @@ module _ {R : Type 0} (entries : List (Growth R)) (from : ℕ) where
       ∙ ap (λ k. map (λ (e : Growth R). e.records) (take k (drop from entries))) many ∙ sym (take-map (λ (e : Growth R). e.records) n (drop from entries))
 
   -- the records of the first ones, and of so many behind them
-  pub joined-take_on : (n : ℕ) → chains.joined (take (from + n) entries) ≡ chains.joined (take from entries) ++ joined (take n (from_on from entries))
-  joined-take_on n =
-      ap chains.joined (take-add from n entries)
+  pub grown_records-take_on : (n : ℕ) → chains.grown_records (take (from + n) entries) ≡ chains.grown_records (take from entries) ++ joined (take n (from_on from entries))
+  grown_records-take_on n =
+      ap chains.grown_records (take-add from n entries)
       ∙ flat_map-append (λ (e : Growth R). e.records) (take from entries) (take n (drop from entries))
-      ∙ ap (λ (rs : List R). chains.joined (take from entries) ++ rs)
+      ∙ ap (λ (rs : List R). chains.grown_records (take from entries) ++ rs)
       (sym (flat_map-map (λ (rs : List R). rs) (λ (e : Growth R). e.records) (take n (drop from entries)))
       ∙ ap joined (sym (take-map (λ (e : Growth R). e.records) n (drop from entries))))
 
   pub total-take_on : (n : ℕ) → total (take (from + n) entries) ≡ total (take from entries) + length (joined (take n (from_on from entries)))
   total-take_on n =
-      sym (length-joined (take (from + n) entries)) ∙ ap length (joined-take_on n)
-      ∙ length-append (chains.joined (take from entries)) (joined (take n (from_on from entries)))
-      ∙ ap (λ k. k + length (joined (take n (from_on from entries)))) (length-joined (take from entries))
+      sym (length-grown_records (take (from + n) entries)) ∙ ap length (grown_records-take_on n)
+      ∙ length-append (chains.grown_records (take from entries)) (joined (take n (from_on from entries)))
+      ∙ ap (λ k. k + length (joined (take n (from_on from entries)))) (length-grown_records (take from entries))
 
 -- one more growth doesn't fit
 pub IsGreatest_full : {R : Type 0} (width limit : ℕ) (growths : List (List R)) (k : ℕ) (growth : List R) → slice_get growths k ≡ Some growth

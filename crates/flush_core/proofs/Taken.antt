@@ -19,7 +19,7 @@ use Rattle.block_core.specs.Growth.{Growth}
 use Rattle.directory_core.specs.Chain.{total}
 use Rattle.directory_core.specs.Chain as chains
 use Rattle.flush_core.specs.Flusher.{FlusherOf, IsFlusher, flusher_of, list_to, untaken, tally_with}
-use Rattle.flush_core.proofs.Next.{joined-take_on, total-take_on}
+use Rattle.flush_core.proofs.Next.{grown_records-take_on, total-take_on}
 use Rattle.flush_core.proofs.Kept.{kept}
 
 -- ---- what it keeps
@@ -51,9 +51,9 @@ module _ {R D : Type 0} {form : Encoding R} {keeps : Type 0} {f : FlusherOf R D}
   list_with : list_to f f.settled ++ joined (take n (untaken f)) ≡ list_to f (f.taken + n)
   list_with =
       let entries : List (Growth R) = f.pass.entries in
-      append_assoc f.opening (chains.joined (take f.settled entries)) (joined (take n (untaken f)))
-      ∙ ap (λ k. f.opening ++ (chains.joined (take k entries) ++ joined (take n (untaken f)))) (sym (is.idle_settled idle))
-      ∙ ap (λ (rs : List R). f.opening ++ rs) (sym (joined-take_on entries f.taken n))
+      append_assoc f.opening (chains.grown_records (take f.settled entries)) (joined (take n (untaken f)))
+      ∙ ap (λ k. f.opening ++ (chains.grown_records (take k entries) ++ joined (take n (untaken f)))) (sym (is.idle_settled idle))
+      ∙ ap (λ (rs : List R). f.opening ++ rs) (sym (grown_records-take_on entries f.taken n))
 
   -- a group of the next n growths is begun
   pub taken_kept : (pen : PenOf D) (keeps' : Type 0) → BeginsFrame (group_frame form (take n (untaken f))) f.pen pen → (keeps' → keeps)

@@ -6,7 +6,7 @@ use Rattle.disk_core.proofs.JoinedMoments.{LeavesOnly-before, LeavesOnly-weaker,
 use Rattle.record_core.specs.Bytes.{Encoding}
 use Rattle.pen_core.specs.Pen.{MayOpen}
 use Rattle.pen_core.specs.Typed.{OpensTo}
-use Rattle.directory_core.specs.Chain.{joined}
+use Rattle.directory_core.specs.Chain.{grown_records}
 use Rattle.book_core.specs.declared.mark.Raise.{Raise}
 use Rattle.book_core.specs.Marks.{MarkEnd, HasAllRaises, IsRaiseOf}
 use Rattle.flush_core.specs.Flusher.{FlusherOf, FlusherGoesOn, HasTold, IsFlusher, IsPastRaise, OpensToFirst, OpensToJob, OpensToSettled, ToldIsLeft}
@@ -39,7 +39,7 @@ module _ {R D : Type 0} {form : Encoding R} where
           count = opens.count;
           at_least = opens.at_least;
           known = subst (λ (es : List _). opens.count ≤ length es) (sym entries) opens.known;
-          opens = subst (OpensTo form image) (sym (ap₂ (λ (rs : List R) (es : List _). rs ++ joined (take opens.count es)) opening entries)) opens.opens;
+          opens = subst (OpensTo form image) (sym (ap₂ (λ (rs : List R) (es : List _). rs ++ grown_records (take opens.count es)) opening entries)) opens.opens;
         }
 
     -- behind calls of the disk that leave what is settled

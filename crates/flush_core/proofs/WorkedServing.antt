@@ -11,7 +11,7 @@ use Rattle.segment_core.specs.declared.tally.Tally.{Tally}
 use Rattle.segment_core.specs.Shape.{limit_of}
 use Rattle.segment_core.specs.Frame.{Group, Fold}
 use Rattle.segment_core.specs.Written.{payload_len}
-use Rattle.pen_core.specs.declared.step.Step.{Step}
+use Rattle.pen_core.specs.declared.step.PenStep.{PenStep}
 use Rattle.pen_core.specs.declared.stage.FoldStage.TheVariants as stages
 use Rattle.pen_core.specs.declared.fault.PenFault.TheVariants as faults
 use Rattle.pen_core.specs.PenOf.{PenOf, JobOf, FoldOf, HomeWrite}
@@ -44,22 +44,22 @@ one_left_out = refl
 tally_behind_none : (tally : Tally) → tally_with tally None ≡ tally
 tally_behind_none tally = refl
 
-tally_behind_group : (step : Step)
+tally_behind_group : (step : PenStep)
     → tally_with (record { size = 4; changes = 2; folded = 1 }) (Some (record { frame = Group (2 ∷ 3 ∷ []) []; step = step }))
     ≡ record { size = 9; changes = 2; folded = 1 }
 tally_behind_group step = refl
 
-tally_behind_fold : (step : Step) → (tally_with (record { size = 4; changes = 2; folded = 1 }) (Some (record { frame = Fold 2; step = step }))) ≡ record { size = 4; changes = 2; folded = 2 }
+tally_behind_fold : (step : PenStep) → (tally_with (record { size = 4; changes = 2; folded = 1 }) (Some (record { frame = Fold 2; step = step }))) ≡ record { size = 4; changes = 2; folded = 2 }
 tally_behind_fold step = refl
 
 -- a fold ends with its own frame, and with no other
 fold_stays : (fold : Option FoldOf) → fold_with None fold ≡ fold
 fold_stays fold = refl
 
-fold_stays_behind_group : (fold : Option FoldOf) (step : Step) → fold_with (Some (record { frame = Group (2 ∷ []) []; step = step })) fold ≡ fold
+fold_stays_behind_group : (fold : Option FoldOf) (step : PenStep) → fold_with (Some (record { frame = Group (2 ∷ []) []; step = step })) fold ≡ fold
 fold_stays_behind_group fold step = refl
 
-fold_ends : (fold : Option FoldOf) (step : Step) → fold_with (Some (record { frame = Fold 2; step = step })) fold ≡ None
+fold_ends : (fold : Option FoldOf) (step : PenStep) → fold_with (Some (record { frame = Fold 2; step = step })) fold ≡ None
 fold_ends fold step = refl
 
 -- ---- the calls of a tick
@@ -267,7 +267,7 @@ module _ {R D : Type 0} (form : Encoding R) (keeps : D → Type 0) (states : D �
   fold_left : old.pen.job ≡ None → new.pen.job ≡ None → new.pen.fold ≡ old.pen.fold
   fold_left was is = sym (ap (λ j. fold_with j new.pen.fold) is) ∙ served.fold ∙ ap (λ j. fold_with j old.pen.fold) was
 
-  fold_ended : (count : ℕ) (step : Step) → old.pen.job ≡ Some (record { frame = Fold count; step = step }) → new.pen.job ≡ None → new.pen.fold ≡ None
+  fold_ended : (count : ℕ) (step : PenStep) → old.pen.job ≡ Some (record { frame = Fold count; step = step }) → new.pen.job ≡ None → new.pen.fold ≡ None
   fold_ended count step was is = sym (ap (λ j. fold_with j new.pen.fold) is) ∙ served.fold ∙ ap (λ j. fold_with j old.pen.fold) was
 
   same_model : keeps new.pen.disk → keeps old.pen.disk

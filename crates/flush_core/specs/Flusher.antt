@@ -9,7 +9,7 @@ use Rattle.segment_core.specs.Raw.{AreCellsOf}
 use Rattle.pen_core.specs.PenOf.{PenOf, JobOf}
 use Rattle.pen_core.specs.Pen.{vector_after, MayOpen}
 use Rattle.pen_core.specs.Typed.{OpensTo}
-use Rattle.directory_core.specs.Chain.{total, joined}
+use Rattle.directory_core.specs.Chain.{total, grown_records}
 use Rattle.directory_core.specs.Chain as chains
 use Rattle.directory_core.specs.Known.{Known}
 use Rattle.record_core.specs.Limits.{record_limit}
@@ -30,7 +30,7 @@ pub record FlusherOf (R D : Type 0) : Type 0 where
 
 -- the records from before the phase, and those of the first n growths that it knows
 abbrev pub list_to : {R D : Type 0} → FlusherOf R D → ℕ → List R
-list_to f n = f.opening ++ joined (take n f.pass.entries)
+list_to f n = f.opening ++ grown_records (take n f.pass.entries)
 
 -- the records of each growth that it knows and hasn't taken
 abbrev pub untaken : {R D : Type 0} → FlusherOf R D → List (List R)

@@ -6,7 +6,7 @@ ghost use Rattle.std.specs.NonZero.{non_zero_u32_get};
 ghost use Rattle.lines_core.specs.Batches.{IsBatch, IsFilled, IsWholeLen};
 
 use crate::gathering::whole_blocks;
-use crate::line_blocks::{Blocks, Front, read_front};
+use crate::line_blocks::{Front, LineBlocks, read_front};
 use segment_core::Growths;
 use std::alloc::Global;
 use std::io::Read;
@@ -44,7 +44,7 @@ impl Rest {
 
 /// Growths of lines that were read, and what is to come behind them.
 #[derive(Drop)]
-pub struct Batch<R> {
+pub struct LineBatch<R> {
     pub growths: Growths<R>,
     /// How many lines they are of.
     pub lines: u64,
@@ -115,7 +115,7 @@ pub fn read_batch<R: TextRecord, I: Read>(
     reader: &mut I,
     buffer: &mut Vec<u8>,
     block: NonZeroU32,
-) -> Batch<R>
+) -> LineBatch<R>
     ensures { IsBatch R.spelling (non_zero_u32_get block)
         (prepend_known buffer.old.items (I.remaining reader.old)) (prepend_known buffer.new.items (I.remaining reader.new)) result.growths.0 result.lines result.rest }
 {
@@ -123,8 +123,8 @@ pub fn read_batch<R: TextRecord, I: Read>(
     let len = whole_len(buffer, block, rest);
     let Front { blocks, refusal } = read_front::<R>(alloc, &buffer[..len], block);
     drop_front(buffer, len);
-    let Blocks { growths, lines } = blocks;
-    Batch {
+    let LineBlocks { growths, lines } = blocks;
+    LineBatch {
         growths,
         lines,
         rest: rest.or_refused(refusal),

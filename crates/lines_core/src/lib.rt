@@ -7,5 +7,5 @@ mod gathering;
 mod growth_lines;
 mod line_blocks;
 
-pub use batches::{Batch, Rest, behind, read_batch};
+pub use batches::{LineBatch, Rest, behind, read_batch};
 pub use growth_lines::growths_of_input;

@@ -14,7 +14,7 @@ use text_core::{Refusal, TextRecord};
 
 /// Growths of lines.
 #[derive(Drop)]
-pub(crate) struct Blocks<R> {
+pub(crate) struct LineBlocks<R> {
     pub growths: Growths<R>,
     /// How many lines they are of.
     pub lines: u64,
@@ -23,7 +23,7 @@ pub(crate) struct Blocks<R> {
 /// The growths of the lines that are good, up to a block with one that isn't.
 #[derive(Drop)]
 pub(crate) struct Front<R> {
-    pub blocks: Blocks<R>,
+    pub blocks: LineBlocks<R>,
     /// Why the lines behind them are refused, by their number among all of these lines.
     pub refusal: Option<Refusal>,
 }
@@ -42,7 +42,7 @@ pub(crate) fn read_blocks<R: TextRecord>(
     alloc: Global,
     input: &[u8],
     block: NonZeroU32,
-) -> Result<Blocks<R>, Refusal>
+) -> Result<LineBlocks<R>, Refusal>
     ensures read { IfOk result (λ blocks. AreInputBlocks R.spelling (non_zero_u32_get block) input.now blocks.growths.0 blocks.lines) }
     ensures fit { IfOk result (λ blocks. AllGrowthsFit R.form.width blocks.growths.0) }
 {
@@ -52,7 +52,7 @@ pub(crate) fn read_blocks<R: TextRecord>(
         return Err(Refusal::Memory);
     };
     match check_sizes(&growths) {
-        Ok(()) => Ok(Blocks { growths, lines }),
+        Ok(()) => Ok(LineBlocks { growths, lines }),
         Err(Refusal::TooLargeAtLine(n)) => {
             Err(Refusal::TooLargeAtLine(first_line(n, block.get())))
         }
@@ -95,7 +95,7 @@ fn read_before<R: TextRecord>(
             Err(earlier) => refusal = earlier,
         }
     }
-    let blocks = Blocks {
+    let blocks = LineBlocks {
         growths: Growths::new(alloc),
         lines: 0,
     };

@@ -6,7 +6,7 @@ use Rattle.record_core.specs.Bytes.{Encoding}
 use Rattle.disk_core.specs.State.{State}
 use Rattle.disk_core.specs.Calls.{bytes_of}
 use Rattle.block_core.specs.Growth.{Growth}
-use Rattle.directory_core.specs.Chain.{joined}
+use Rattle.directory_core.specs.Chain.{grown_records}
 use Rattle.book_core.specs.declared.seat.Receipt.{Receipt}
 use Rattle.book_core.specs.declared.fault.GrowFault.{GrowFault}
 use Rattle.book_core.specs.Lists.{own_of}
@@ -72,7 +72,7 @@ module _ {R D : Type 0} (form : Encoding R) (keeps : D → Type 0) (states : D �
       model = crewed.2.model;
     })
 
-    pub size_is : (size : ℕ) → size ≡ length (list_of new) → size ≡ length (list_of old ++ joined crewed.0)
+    pub size_is : (size : ℕ) → size ≡ length (list_of new) → size ≡ length (list_of old ++ grown_records crewed.0)
     size_is size is = is ∙ ap length crewed.1.list_is
 
     -- a grower has as many receipts as it made growths
@@ -123,7 +123,7 @@ module _ {R D : Type 0} (form : Encoding R) (keeps : D → Type 0) (states : D �
         → (result : Result (VaultOf R D) X)
         → IfOk result (λ w. (w ≡ new) × ((k : ℕ) → k < of → (its : Vec Receipt) → slice_get receipts k ≡ Some its → count k ≤ length its.items))
         → IfOk result (λ w. (made : List (Growth R)) × AreDealt growths growers made × AllMade growths growers made
-        × StandBehind form keeps states old w.pen.disk made × (list_of w ≡ list_of old ++ joined made))
+        × StandBehind form keeps states old w.pen.disk made × (list_of w ≡ list_of old ++ grown_records made))
     dealt_all may_stop new receipts faults crewed (Err x) has = has
     dealt_all may_stop new receipts faults crewed (Ok w) has =
         let own = dealt_crewed may_stop new (map (λ its. its.items) receipts) faults crewed in (
@@ -192,7 +192,7 @@ module _ {R D : Type 0} (form : Encoding R) (keeps : D → Type 0) (states : D �
       }
 
   pub loaded_by : {failures : D → ℕ} (growths : List (List R)) (growers : ℕ) (disk left : D) (v w : VaultOf R D) → IsOpenedOn form keeps states failures disk v → left ≡ w.pen.disk
-      → (made : List (Growth R)) × AreDealt growths growers made × AllMade growths growers made × StandBehind form keeps states v w.pen.disk made × (list_of w ≡ list_of v ++ joined made)
+      → (made : List (Growth R)) × AreDealt growths growers made × AllMade growths growers made × StandBehind form keeps states v w.pen.disk made × (list_of w ≡ list_of v ++ grown_records made)
       → IsLoaded form keeps states growths growers disk left (length (list_of w))
   loaded_by growths growers disk left v w opened same grown = record {
     was = list_of v;

@@ -10,7 +10,7 @@ use Rattle.disk_core.specs.Calls.{bytes_of}
 use Rattle.disk_core.specs.Moments.{LeavesOnly}
 use Rattle.disk_core.proofs.JoinedMoments.{LeavesOnly-start, LeavesOnly-join, LeavesOnly-weaker}
 use Rattle.block_core.specs.Growth.{Growth}
-use Rattle.directory_core.specs.Chain.{joined}
+use Rattle.directory_core.specs.Chain.{grown_records}
 use Rattle.pen_core.specs.Typed.{OpensTo}
 use Rattle.vault_core.specs.Sharing.{OpensToGrown}
 use Rattle.vault_core.specs.Vault.{VaultOf, MayHold, list_of}
@@ -26,7 +26,7 @@ use Rattle.text_core.specs.Text.{Spelling}
 use Rattle.lines_core.specs.declared.batches.Rest.{Rest}
 use Rattle.lines_core.specs.declared.batches.Rest.TheVariants.{Nothing}
 use Rattle.load_core.specs.Appending.{AreAllTold, AreOfBlocks, GrowsTo, HasAppended, HasAppendedAll, HasGone, IsAppendFault, each_records}
-use Rattle.load_core.specs.Appending.{IsBatchStop, IsSettled, IsStopTold, StandBehindList, GrowthsStand, StopsAt}
+use Rattle.load_core.specs.Appending.{IsBatchStop, IsSettled, IsStopTold, StandBehindList, GrowthsStand, StopsAtBatch}
 use Rattle.lines_core.specs.Batches.{AreReadSo, IsBatch}
 use Rattle.lines_core.specs.InputBlocks.{AreFirstBlocks, AreOfFirstLines}
 use Rattle.load_core.specs.Loading.{AreDealt, AllMade, StandBehind, IsGrowthStop}
@@ -48,15 +48,15 @@ take_on (x ∷ xs) n ys =
     let one : length (x ∷ xs) + n ≡ suc (length xs + n) = omega arith in
     ap (λ k. take k ((x ∷ xs) ++ ys)) one ∙ ap (λ ts. x ∷ ts) (take_on xs n ys)
 
-joined_on : {R : Type 0} (one two : List (Growth R)) → joined (one ++ two) ≡ joined one ++ joined two
-joined_on one two = flat_map-append (λ e. e.records) one two
+grown_records_on : {R : Type 0} (one two : List (Growth R)) → grown_records (one ++ two) ≡ grown_records one ++ grown_records two
+grown_records_on one two = flat_map-append (λ e. e.records) one two
 
 -- an image that has no more of the growths
 none_grown : {R : Type 0} (form : Encoding R) (list : List R) (more : List (Growth R)) (image : List ℕ) → OpensTo form image list → OpensToGrown form list more image
 none_grown form list more image opens = record {
   count = 0;
   known = omega arith;
-  opens = subst (OpensTo form image) (sym (ap (λ gs. list ++ joined gs) (take_none more) ∙ append-nil list)) opens;
+  opens = subst (OpensTo form image) (sym (ap (λ gs. list ++ grown_records gs) (take_none more) ∙ append-nil list)) opens;
 }
 
 -- one that has the first of some has the first of these and more
@@ -64,17 +64,17 @@ more_grown : {R : Type 0} (form : Encoding R) (list : List R) (one two : List (G
 more_grown form list one two image grown = record {
   count = grown.count;
   known = omega (arith, length-append one two, grown.known);
-  opens = subst (λ gs. OpensTo form image (list ++ joined gs)) (sym (take-append-le grown.count one two grown.known)) grown.opens;
+  opens = subst (λ gs. OpensTo form image (list ++ grown_records gs)) (sym (take-append-le grown.count one two grown.known)) grown.opens;
 }
 
-behind_grown : {R : Type 0} (form : Encoding R) (list mid : List R) (one two : List (Growth R)) (image : List ℕ) → mid ≡ list ++ joined one
+behind_grown : {R : Type 0} (form : Encoding R) (list mid : List R) (one two : List (Growth R)) (image : List ℕ) → mid ≡ list ++ grown_records one
     → OpensToGrown form mid two image → OpensToGrown form list (one ++ two) image
 behind_grown form list mid one two image is grown = record {
   count = length one + grown.count;
   known = omega (arith, length-append one two, grown.known);
   opens = subst (OpensTo form image)
-      (ap (λ rs. rs ++ joined (take grown.count two)) is ∙ append_assoc list (joined one) (joined (take grown.count two))
-      ∙ ap (λ rs. list ++ rs) (sym (joined_on one (take grown.count two))) ∙ ap (λ gs. list ++ joined gs) (sym (take_on one grown.count two)))
+      (ap (λ rs. rs ++ grown_records (take grown.count two)) is ∙ append_assoc list (grown_records one) (grown_records (take grown.count two))
+      ∙ ap (λ rs. list ++ rs) (sym (grown_records_on one (take grown.count two))) ∙ ap (λ gs. list ++ grown_records gs) (sym (take_on one grown.count two)))
       grown.opens;
 }
 
@@ -85,8 +85,8 @@ lines_on most block told n more all is then =
     omega arith
 
 module _ {R D : Type 0} (form : Encoding R) (keeps : D → Type 0) (states : D → List State) where
-  list_on : (was mid : List R) (one two : List (Growth R)) → mid ≡ was ++ joined one → mid ++ joined two ≡ was ++ joined (one ++ two)
-  list_on was mid one two is = ap (λ rs. rs ++ joined two) is ∙ append_assoc was (joined one) (joined two) ∙ ap (λ rs. was ++ rs) (sym (joined_on one two))
+  list_on : (was mid : List R) (one two : List (Growth R)) → mid ≡ was ++ grown_records one → mid ++ grown_records two ≡ was ++ grown_records (one ++ two)
+  list_on was mid one two is = ap (λ rs. rs ++ grown_records two) is ∙ append_assoc was (grown_records one) (grown_records two) ∙ ap (λ rs. was ++ rs) (sym (grown_records_on one two))
 
   -- ---- one batch
 
@@ -100,7 +100,7 @@ module _ {R D : Type 0} (form : Encoding R) (keeps : D → Type 0) (states : D �
 
   pub grows_to : (growths : List (List R)) (v w : VaultOf R D)
       → (made : List (Growth R)) × AreDealt growths 1 made × AllMade growths 1 made × StandBehind form keeps states v w.pen.disk made
-      × (list_of w ≡ list_of v ++ joined made)
+      × (list_of w ≡ list_of v ++ grown_records made)
       → (made : List (Growth R)) × GrowsTo form keeps states v w made × (each_records made ≡ growths)
   grows_to growths v w grown = (
     grown.0,
@@ -114,8 +114,8 @@ module _ {R D : Type 0} (form : Encoding R) (keeps : D → Type 0) (states : D �
   )
 
   pub stops_by : (growths : List (List R)) (v : VaultOf R D) (left : D) (fault : FileFault) → IsSettled form keeps states v
-      → IsGrowthStop form keeps states growths 1 v left fault → StopsAt form keeps states growths v left fault
-  stops_by growths v left (faults.Vault fault) settled (inl (same, why)) = subst (λ d. StopsAt form keeps states growths v d (faults.Vault fault)) (sym same) (record {
+      → IsGrowthStop form keeps states growths 1 v left fault → StopsAtBatch form keeps states growths v left fault
+  stops_by growths v left (faults.Vault fault) settled (inl (same, why)) = subst (λ d. StopsAtBatch form keeps states growths v d (faults.Vault fault)) (sym same) (record {
     by_crew = tt;
     more = [];
     settled = tt;
@@ -144,7 +144,8 @@ module _ {R D : Type 0} (form : Encoding R) (keeps : D → Type 0) (states : D �
 
   grows_further : (v mid w : VaultOf R D) (one two : List (Growth R)) → GrowsTo form keeps states v mid one → GrowsTo form keeps states mid w two → GrowsTo form keeps states v w (one ++ two)
   grows_further v mid w one two first then = record {
-    list = then.list ∙ ap (λ (rs : List R). rs ++ joined two) first.list ∙ append_assoc (list_of v) (joined one) (joined two) ∙ ap (λ (rs : List R). list_of v ++ rs) (sym (joined_on one two));
+    list = then.list ∙ ap (λ (rs : List R). rs ++ grown_records two) first.list
+        ∙ append_assoc (list_of v) (grown_records one) (grown_records two) ∙ ap (λ (rs : List R). list_of v ++ rs) (sym (grown_records_on one two));
     images = λ model. leaves_further v mid w.pen.disk one two first (then.model model) (then.images model);
     settled = then.settled;
     model = λ model. first.model (then.model model);
@@ -226,7 +227,7 @@ module _ {R D : Type 0} (form : Encoding R) (keeps : D → Type 0) (states : D �
     gone.made,
     subst (λ d. StandBehindList form keeps states v d appended gone.made []) (sym same) (record {
       images = λ model. subst (λ gs. LeavesOnly (states v.pen.disk) (states w.pen.disk) (OpensToGrown form (list_of v) gs)) (sym (append-nil gone.made)) (gone.goes.images model);
-      settled = λ model image is. none_grown form (list_of v ++ joined gone.made) [] image (subst (OpensTo form image) gone.goes.list (gone.goes.settled model image is));
+      settled = λ model image is. none_grown form (list_of v ++ grown_records gone.made) [] image (subst (OpensTo form image) gone.goes.list (gone.goes.settled model image is));
       size_is = gone.size_is ∙ ap length gone.goes.list;
       growths_are = gone.growths_are;
     }),
@@ -248,7 +249,7 @@ module _ {R D : Type 0} (form : Encoding R) (keeps : D → Type 0) (states : D �
       )
 
   stands_with : (IsMade : List (List R) → Type 0) (block : ℕ) (batch : List (List R)) (v mid : VaultOf R D) (left : D) (appended : Appended) (fault : FileFault)
-      (gone : HasGone form keeps states IsMade block v mid appended) (stops : StopsAt form keeps states batch mid left fault)
+      (gone : HasGone form keeps states IsMade block v mid appended) (stops : StopsAtBatch form keeps states batch mid left fault)
       → StandBehindList form keeps states v left appended gone.made stops.more
   stands_with IsMade block batch v mid left appended fault gone stops = record {
     images = λ model. leaves_further v mid left gone.made stops.more gone.goes (stops.model model) (stops.images model);
@@ -269,7 +270,7 @@ module _ {R D : Type 0} (form : Encoding R) (keeps : D → Type 0) (states : D �
     pub few : length batch < 2 ^ 64
     pub read : IsBatch spelling block coming more batch lines rest
     pub gone : HasGone form keeps states (AreFirstBlocks spelling block known coming) block v mid before
-    pub stops : StopsAt form keeps states batch mid left fault
+    pub stops : StopsAtBatch form keeps states batch mid left fault
     pub tells : IsStopTold block before fault after told
 
   -- a grower stopped so: what it made stands too
@@ -281,10 +282,10 @@ module _ {R D : Type 0} (form : Encoding R) (keeps : D → Type 0) (states : D �
     count_all : length it.gone.made + (stopped.line - 1) ≡ length (it.gone.made ++ it.stops.more)
     count_all = ap (λ n. length it.gone.made + n) count_own ∙ sym (length-append it.gone.made it.stops.more)
 
-    list_all : list_of it.mid ++ joined it.stops.more ≡ list_of v ++ joined (it.gone.made ++ it.stops.more)
+    list_all : list_of it.mid ++ grown_records it.stops.more ≡ list_of v ++ grown_records (it.gone.made ++ it.stops.more)
     list_all = list_on (list_of v) (list_of it.mid) it.gone.made it.stops.more it.gone.goes.list
 
-    size_all : stopped.size ≡ length (list_of v ++ joined (it.gone.made ++ it.stops.more))
+    size_all : stopped.size ≡ length (list_of v ++ grown_records (it.gone.made ++ it.stops.more))
     size_all = it.stops.settled.1 ∙ ap length list_all
 
     stands_all : StandBehindList form keeps states v left after (it.gone.made ++ it.stops.more) []
@@ -292,7 +293,7 @@ module _ {R D : Type 0} (form : Encoding R) (keeps : D → Type 0) (states : D �
       images = λ model. subst (λ gs. LeavesOnly (states v.pen.disk) (states left) (OpensToGrown form (list_of v) gs))
           (sym (append-nil (it.gone.made ++ it.stops.more)))
           (leaves_further v it.mid left it.gone.made it.stops.more it.gone.goes (it.stops.model model) (it.stops.images model));
-      settled = λ model image is. none_grown form (list_of v ++ joined (it.gone.made ++ it.stops.more)) [] image (subst (OpensTo form image) list_all (it.stops.settled.0 model image is));
+      settled = λ model image is. none_grown form (list_of v ++ grown_records (it.gone.made ++ it.stops.more)) [] image (subst (OpensTo form image) list_all (it.stops.settled.0 model image is));
       size_is = it.tells.2 ∙ size_all;
       growths_are = it.tells.0 ∙ counts_on (2 ^ 64 - 1) it.before.growths (length it.gone.made) (stopped.line - 1) it.gone.growths_are ∙ ap (min (2 ^ 64 - 1)) count_all;
     }

@@ -8,7 +8,7 @@ use Rattle.disk_core.specs.State.{settled}
 use Rattle.disk_core.proofs.ImageLemmas.{settled_image}
 use Rattle.segment_core.specs.Written as lists
 use Rattle.block_core.specs.Growth.{Growth}
-use Rattle.directory_core.specs.Chain.{IsNextGrowth, joined}
+use Rattle.directory_core.specs.Chain.{IsNextGrowth, grown_records}
 use Rattle.book_core.specs.Lists.{own_of}
 use Rattle.vault_core.specs.Sharing.{OpensToGrown}
 use Rattle.files_core.specs.declared.appended.Appended.{Appended}
@@ -55,23 +55,23 @@ module _ {R : Type 0} {form : Encoding R} {r : R} (files : ThreeFiles form r) wh
   not_lost : (lines : ℕ) → Stand (still files) (told 1 lines 1) (growth ∷ []) [] → ⊥
   not_lost lines stands =
       let grown = stands.settled files.none (settled_image files.none) in
-      let long = as_long files files.none ((stands.was ++ (r ∷ [])) ++ joined (take grown.count [])) [] grown.opens files.opens_none in
-      omega (arith, long, length-append (stands.was ++ (r ∷ [])) (joined (take grown.count [])), length-append stands.was (r ∷ []))
+      let long = as_long files files.none ((stands.was ++ (r ∷ [])) ++ grown_records (take grown.count [])) [] grown.opens files.opens_none in
+      omega (arith, long, length-append (stands.was ++ (r ∷ [])) (grown_records (take grown.count [])), length-append stands.was (r ∷ []))
 
   -- none stands that wasn't made
-  grown_long : (was : List R) (count : ℕ) → count ≤ 1 → length was ≡ 0 → length (was ++ joined (take count (growth ∷ []))) ≤ 1
+  grown_long : (was : List R) (count : ℕ) → count ≤ 1 → length was ≡ 0 → length (was ++ grown_records (take count (growth ∷ []))) ≤ 1
   grown_long was zero within empty = omega (arith, length-append was [], empty)
   grown_long was (suc zero) within empty = omega (arith, length-append was (r ∷ []), empty)
   grown_long was (suc (suc count)) within empty = absurd (omega (arith, within))
 
   not_two : (was : List R) → length was ≡ 0 → OpensToGrown form was (growth ∷ []) files.two → ⊥
   not_two was empty grown =
-      omega (arith, as_long files files.two (was ++ joined (take grown.count (growth ∷ []))) (r ∷ r ∷ []) grown.opens files.opens_two, grown_long was grown.count grown.known empty)
+      omega (arith, as_long files files.two (was ++ grown_records (take grown.count (growth ∷ []))) (r ∷ r ∷ []) grown.opens files.opens_two, grown_long was grown.count grown.known empty)
 
   not_past_two : Stand (past_two files) (told 1 1 1) (growth ∷ []) [] → ⊥
   not_past_two stands = never_two files (OpensToGrown form stands.was (growth ∷ [])) (not_two stands.was (none_before files stands.was stands.file)) stands.images
 
-  none_more : (count : ℕ) → length (joined (take {A = Growth R} count [])) ≡ 0
+  none_more : (count : ℕ) → length (grown_records (take {A = Growth R} count [])) ≡ 0
   none_more zero = refl
   none_more (suc count) = refl
 
@@ -80,8 +80,8 @@ module _ {R : Type 0} {form : Encoding R} {r : R} (files : ThreeFiles form r) wh
       let grown = stands.settled files.one (settled_image files.one) in
       omega (
         arith,
-        as_long files files.one ((stands.was ++ []) ++ joined (take grown.count [])) (r ∷ []) grown.opens files.opens_one,
-        length-append (stands.was ++ []) (joined (take grown.count [])),
+        as_long files files.one ((stands.was ++ []) ++ grown_records (take grown.count [])) (r ∷ []) grown.opens files.opens_one,
+        length-append (stands.was ++ []) (grown_records (take grown.count [])),
         length-append stands.was [],
         none_before files stands.was stands.file,
         none_more grown.count,
@@ -127,19 +127,19 @@ module _ {R : Type 0} {form : Encoding R} {r : R} (files : ThreeFiles form r) wh
       all zero lt = refl
       all (suc grower) lt = absurd (omega (arith, lt))
 
-  chain_records : (made : List (Growth R)) → joined made ≡ lists.joined (each_records made)
+  chain_records : (made : List (Growth R)) → grown_records made ≡ lists.joined (each_records made)
   chain_records [] = refl
   chain_records (e ∷ made) = ap (λ rs. e.records ++ rs) (chain_records made)
 
-  loaded_long : (left : Disk) (size : ℕ) (loaded : Loaded left size) → length (loaded.was ++ joined loaded.made) ≡ 1
+  loaded_long : (left : Disk) (size : ℕ) (loaded : Loaded left size) → length (loaded.was ++ grown_records loaded.made) ≡ 1
   loaded_long left size loaded =
-      let records : joined loaded.made ≡ r ∷ [] = chain_records loaded.made ∙ ap lists.joined (all_dealt ((r ∷ []) ∷ []) loaded.made loaded.dealt_are loaded.all) in
+      let records : grown_records loaded.made ≡ r ∷ [] = chain_records loaded.made ∙ ap lists.joined (all_dealt ((r ∷ []) ∷ []) loaded.made loaded.dealt_are loaded.all) in
       let was = none_before files loaded.was (loaded.stands tt).file in
-      omega (arith, length-append loaded.was (joined loaded.made), ap length records, was)
+      omega (arith, length-append loaded.was (grown_records loaded.made), ap length records, was)
 
   loaded_right : (size : ℕ) → Loaded (later files) size → size ≡ 1
   loaded_right size loaded = loaded.size_is ∙ loaded_long (later files) size loaded
 
   not_loaded_lost : (size : ℕ) → Loaded (still files) size → ⊥
   not_loaded_lost size loaded =
-      omega (arith, loaded_long (still files) size loaded, as_long files files.none (loaded.was ++ joined loaded.made) [] ((loaded.stands tt).settled files.none (settled_image files.none)) files.opens_none)
+      omega (arith, loaded_long (still files) size loaded, as_long files files.none (loaded.was ++ grown_records loaded.made) [] ((loaded.stands tt).settled files.none (settled_image files.none)) files.opens_none)

@@ -5,7 +5,7 @@ use Rattle.disk_core.specs.State.{State, now, IsImage}
 use Rattle.disk_core.specs.Calls.{bytes_of}
 use Rattle.disk_core.specs.Moments.{LeavesOnly}
 use Rattle.block_core.specs.Growth.{Growth}
-use Rattle.directory_core.specs.Chain.{joined}
+use Rattle.directory_core.specs.Chain.{grown_records}
 use Rattle.pen_core.specs.Typed.{OpensTo}
 use Rattle.vault_core.specs.Sharing.{OpensToGrown}
 use Rattle.vault_core.specs.Vault.{VaultOf, list_of}
@@ -29,8 +29,8 @@ pub record GrowthsStand {R D : Type 0} (form : Encoding R) (states : D → List 
   pub was : List R
   pub file : OpensTo form (bytes_of (states disk)) was
   pub images : LeavesBeforeOr (states disk) (states left) (OpensToGrown form was (made ++ more))
-  pub settled : (image : List ℕ) → IsImage (now (states left)) image → OpensToGrown form (was ++ joined made) more image
-  pub size_is : appended.size ≡ length (was ++ joined made)
+  pub settled : (image : List ℕ) → IsImage (now (states left)) image → OpensToGrown form (was ++ grown_records made) more image
+  pub size_is : appended.size ≡ length (was ++ grown_records made)
   pub growths_are : appended.growths ≡ min (2 ^ 64 - 1) (length made)
 
 -- what is told where the file wasn't opened
@@ -91,7 +91,7 @@ module _ {R D : Type 0} (form : Encoding R) (keeps : D → Type 0) (states : D �
 
   -- a later vault of the same disk: these growths stand behind the list, all of them settled
   pub record GrowsTo (v w : VaultOf R D) (made : List (Growth R)) : Type 0 where
-    pub list : list_of w ≡ list_of v ++ joined made
+    pub list : list_of w ≡ list_of v ++ grown_records made
     pub images : keeps w.pen.disk → LeavesOnly (states v.pen.disk) (states w.pen.disk) (OpensToGrown form (list_of v) made)
     pub settled : IsSettled w
     pub model : keeps w.pen.disk → keeps v.pen.disk
@@ -100,7 +100,7 @@ module _ {R D : Type 0} (form : Encoding R) (keeps : D → Type 0) (states : D �
   -- are with them, and why there aren't more
   abbrev pub IsGrowerStop : List (List R) → VaultOf R D → D → List (Growth R) → FileFault → Type 0
   IsGrowerStop batch v left all (Grower stopped) =
-      (keeps left → AllOpenTo form (states left) (list_of v ++ joined all)) × (stopped.size ≡ length (list_of v ++ joined all)) × AreDealt batch 1 all
+      (keeps left → AllOpenTo form (states left) (list_of v ++ grown_records all)) × (stopped.size ≡ length (list_of v ++ grown_records all)) × AreDealt batch 1 all
       × IsStopOf form.width batch 1 all stopped
   IsGrowerStop batch v left all (Vault fault) = Unit {0}
   IsGrowerStop batch v left all (Open fault) = Unit {0}
@@ -109,7 +109,7 @@ module _ {R D : Type 0} (form : Encoding R) (keeps : D → Type 0) (states : D �
   IsGrowerStop batch v left all (Upgrade fault) = Unit {0}
 
   -- the disk is given back by a crew that stopped at a batch: each image opens to the list and the first of some growths
-  pub record StopsAt (batch : List (List R)) (v : VaultOf R D) (left : D) (fault : FileFault) : Type 0 where
+  pub record StopsAtBatch (batch : List (List R)) (v : VaultOf R D) (left : D) (fault : FileFault) : Type 0 where
     pub by_crew : IsCrewStop fault
     pub more : List (Growth R)
     pub images : keeps left → LeavesOnly (states v.pen.disk) (states left) (OpensToGrown form (list_of v) more)
@@ -119,8 +119,8 @@ module _ {R D : Type 0} (form : Encoding R) (keeps : D → Type 0) (states : D �
   -- growths stand behind the list of a vault, as in a file
   pub record StandBehindList (v : VaultOf R D) (left : D) (appended : Appended) (made more : List (Growth R)) : Type 0 where
     pub images : keeps left → LeavesOnly (states v.pen.disk) (states left) (OpensToGrown form (list_of v) (made ++ more))
-    pub settled : keeps left → (image : List ℕ) → IsImage (now (states left)) image → OpensToGrown form (list_of v ++ joined made) more image
-    pub size_is : appended.size ≡ length (list_of v ++ joined made)
+    pub settled : keeps left → (image : List ℕ) → IsImage (now (states left)) image → OpensToGrown form (list_of v ++ grown_records made) more image
+    pub size_is : appended.size ≡ length (list_of v ++ grown_records made)
     pub growths_are : appended.growths ≡ min (2 ^ 64 - 1) (length made)
 
   -- so far these growths were made, whose records are so, and are told, each as one of a whole block

@@ -9,7 +9,7 @@ use Rattle.block_core.specs.Growth.{Growth}
 use Rattle.book_core.specs.declared.seat.Receipt.{Receipt}
 use Rattle.book_core.specs.declared.fault.GrowFault.{GrowFault}
 use Rattle.book_core.specs.declared.fault.GrowFault.TheVariants.{Closed}
-use Rattle.directory_core.specs.Chain.{joined, IsChained}
+use Rattle.directory_core.specs.Chain.{grown_records, IsChained}
 use Rattle.book_core.specs.Lists.{Phase, Seated, own_of}
 use Rattle.flush_core.specs.Flusher.{FlusherOf}
 use Rattle.pen_core.specs.Typed.{OpensTo}
@@ -97,7 +97,7 @@ module _ {R D : Type 0} (form : Encoding R) (keeps : D → Type 0) (states : D �
   -- the list and the first of them, each whole.
   pub record StandBehind (v : VaultOf R D) (left : D) (made : List (Growth R)) : Type 0 where
     pub images : keeps left → LeavesOnly (states v.pen.disk) (states left) (OpensToGrown form (list_of v) made)
-    pub settled : keeps left → (image : List ℕ) → IsImage (now (states left)) image → OpensTo form image (list_of v ++ joined made)
+    pub settled : keeps left → (image : List ℕ) → IsImage (now (states left)) image → OpensTo form image (list_of v ++ grown_records made)
     pub model : keeps left → keeps v.pen.disk
 
   -- What stands where a crew gave no vault, or not all growths were made: nothing was begun; or each image opens to the list
@@ -108,7 +108,7 @@ module _ {R D : Type 0} (form : Encoding R) (keeps : D → Type 0) (states : D �
       ⊎ ((made : List (Growth R)) × IsNotEnded keeps (length growths) growers left made fault
       × (keeps left → keeps v.pen.disk × LeavesOnly (states v.pen.disk) (states left) (OpensToGrown form (list_of v) made)))
   IsGrowthStop growths growers v left (Grower stopped) = (made : List (Growth R)) × AreDealt growths growers made × StandBehind v left made
-      × (stopped.size ≡ length (list_of v ++ joined made)) × IsStopOf form.width growths growers made stopped
+      × (stopped.size ≡ length (list_of v ++ grown_records made)) × IsStopOf form.width growths growers made stopped
   IsGrowthStop growths growers v left (Open fault) = ⊥
   IsGrowthStop growths growers v left (Word word) = ⊥
   IsGrowthStop growths growers v left (Input refusal) = ⊥
@@ -119,7 +119,7 @@ module _ {R D : Type 0} (form : Encoding R) (keeps : D → Type 0) (states : D �
 pub record Appends {R D : Type 0} (form : Encoding R) (states : D → List State) (disk left : D) (was : List R) (made : List (Growth R)) : Type 0 where
   pub file : OpensTo form (bytes_of (states disk)) was
   pub images : LeavesBeforeOr (states disk) (states left) (OpensToGrown form was made)
-  pub settled : (image : List ℕ) → IsImage (now (states left)) image → OpensTo form image (was ++ joined made)
+  pub settled : (image : List ℕ) → IsImage (now (states left)) image → OpensTo form image (was ++ grown_records made)
 
 -- all growths were appended
 pub record IsLoaded {R D : Type 0} (form : Encoding R) (keeps : D → Type 0) (states : D → List State) (growths : List (List R)) (growers : ℕ) (disk left : D) (size : ℕ) : Type 0 where
@@ -128,7 +128,7 @@ pub record IsLoaded {R D : Type 0} (form : Encoding R) (keeps : D → Type 0) (s
   pub dealt_are : AreDealt growths growers made
   pub all : AllMade growths growers made
   pub stands : keeps left → Appends form states disk left was made
-  pub size_is : size ≡ length (was ++ joined made)
+  pub size_is : size ≡ length (was ++ grown_records made)
 
 -- Why a vault refused it: the growths weren't begun over the vault that was opened, and nothing more was done; or they were, and
 -- these may stand.
@@ -146,7 +146,7 @@ IsLoadRefusal {R} form keeps states faults growths growers disk left (Vault faul
     × IsVaultStop form keeps states faults (length growths) growers disk left made fault
 IsLoadRefusal {R} form keeps states faults growths growers disk left (Grower stopped) =
     (was : List R) × (made : List (Growth R)) × AreDealt growths growers made × (keeps left → Appends form states disk left was made)
-    × (stopped.size ≡ length (was ++ joined made)) × IsStopOf form.width growths growers made stopped
+    × (stopped.size ≡ length (was ++ grown_records made)) × IsStopOf form.width growths growers made stopped
 IsLoadRefusal form keeps states faults growths growers disk left (Word word) = ⊥
 IsLoadRefusal form keeps states faults growths growers disk left (Input refusal) = ⊥
 IsLoadRefusal form keeps states faults growths growers disk left (Upgrade fault) = ⊥

@@ -5,7 +5,7 @@ ghost use Rattle.std.specs.Io.KnownBytes.{prepend_known};
 ghost use Rattle.std.specs.NonZero.{non_zero_u32_get};
 ghost use Rattle.block_core.specs.Growth.{Growth};
 ghost use Rattle.vault_core.specs.Vault.{VaultOf, list_of};
-ghost use Rattle.load_core.specs.Appending.{GrowsTo, HasAppended, HasAppendedAll, HasGone, IsAppendFault, IsSettled, StopsAt, each_records};
+ghost use Rattle.load_core.specs.Appending.{GrowsTo, HasAppended, HasAppendedAll, HasGone, IsAppendFault, IsSettled, StopsAtBatch, each_records};
 ghost use Rattle.lines_core.specs.Batches.{AreReadSo, IsBatch};
 ghost use Rattle.files_core.specs.Ended.{EndsAs, WritesText};
 ghost use Rattle.lines_core.specs.InputBlocks.{AreFirstBlocks};
@@ -17,7 +17,7 @@ use crate::crewing::{Deck, OpenGate};
 use crate::loading::grow_by;
 use disk_core::Disk;
 use files_core::{Appended, Ended, FileFault, Progress};
-use lines_core::{Batch, Rest, behind, read_batch};
+use lines_core::{LineBatch, Rest, behind, read_batch};
 use segment_core::Growths;
 use std::alloc::Global;
 use std::io::{Read, Write};
@@ -41,7 +41,7 @@ fn append_growths<
 ) -> Result<Vault<R, D>, (D, FileFault)>
     requires { IsSettled R.form D.keeps D.states vault }
     ensures on { IfOk result (λ new. (made : List (Growth R)) × GrowsTo R.form D.keeps D.states vault new made × (each_records made ≡ growths.0)) }
-    ensures stops { IfErr result (λ r. StopsAt R.form D.keeps D.states growths.0 vault r.0 r.1) }
+    ensures stops { IfErr result (λ r. StopsAtBatch R.form D.keeps D.states growths.0 vault r.0 r.1) }
 {
     if growths.count() == 0 {
         return Ok(vault);
@@ -94,7 +94,7 @@ fn append_batch<
     rt: &E,
     alloc: Global,
     vault: Vault<R, D>,
-    batch: Batch<R>,
+    batch: LineBatch<R>,
     block: NonZeroU32,
     progress: &P,
     appended: &mut Appended,
@@ -108,7 +108,7 @@ fn append_batch<
         → IfErr result (λ r. HasAppended R.form D.keeps D.states R.spelling (non_zero_u32_get block) input v r.0 appended.new r.1) }
     ensures model { IfErr result (λ r. D.keeps r.0 → D.keeps vault.pen.disk) }
 {
-    let Batch {
+    let LineBatch {
         growths,
         lines,
         rest,

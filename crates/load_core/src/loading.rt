@@ -5,7 +5,7 @@ ghost use Rattle.std.specs.Io.KnownBytes as known;
 ghost use Rattle.std.specs.Global.{Vec};
 ghost use Rattle.block_core.specs.Growth.{Growth};
 ghost use Rattle.book_core.specs.declared.seat.Receipt.{Receipt};
-ghost use Rattle.directory_core.specs.Chain.{joined};
+ghost use Rattle.directory_core.specs.Chain.{grown_records};
 ghost use Rattle.vault_core.specs.Vault.{list_of};
 ghost use Rattle.files_core.specs.Ended.{EndsAs, WritesAnswer, WritesText};
 ghost use Rattle.load_core.specs.Loading.{IsFirstStop, IsGivenUp, AreDealt, AreDealtBy, AllMade, StandBehind, IsGrowthStop, IsLoaded, IsLoadRefusal};
@@ -131,7 +131,7 @@ fn grow_dealt<R: Record, S: Source<R>, D: Disk + Send + Drop, G: Gate, E: Thread
 ) -> Result<Vault<R, D>, (D, FileFault)>
     ensures grown { (growths : List (List R)) → (growers : ℕ) → AreDealtBy growths growers (S.growers_of source.now) (S.count_of source.now) (S.block_of source.now)
         → IfOk result (λ new. (made : List (Growth R)) × AreDealt growths growers made × AllMade growths growers made
-        × StandBehind R.form D.keeps D.states vault new.pen.disk made × (list_of new ≡ list_of vault ++ joined made)) }
+        × StandBehind R.form D.keeps D.states vault new.pen.disk made × (list_of new ≡ list_of vault ++ grown_records made)) }
     ensures stopped { (growths : List (List R)) → (growers : ℕ) → AreDealtBy growths growers (S.growers_of source.now) (S.count_of source.now) (S.block_of source.now)
         → IfErr result (λ r. IsGrowthStop R.form D.keeps D.states growths growers vault r.0 r.1) }
 {
@@ -158,7 +158,7 @@ pub(crate) fn grow_by<
     gate: &G,
 ) -> Result<Vault<R, D>, (D, FileFault)>
     ensures grown { IfOk result (λ new. (made : List (Growth R)) × AreDealt growths.0 growers made × AllMade growths.0 growers made
-        × StandBehind R.form D.keeps D.states vault new.pen.disk made × (list_of new ≡ list_of vault ++ joined made)) }
+        × StandBehind R.form D.keeps D.states vault new.pen.disk made × (list_of new ≡ list_of vault ++ grown_records made)) }
     ensures stopped { IfErr result (λ r. IsGrowthStop R.form D.keeps D.states growths.0 growers vault r.0 r.1) }
 {
     match S::deal(growths, growers) {

@@ -18,10 +18,10 @@ use Rattle.pen_core.specs.PenOf.{PenOf}
 use Rattle.pen_core.specs.Refusals.{first_refusal, IsRefusal}
 use Rattle.pen_core.specs.declared.fault.PenFault.{PenFault}
 use Rattle.pen_core.specs.declared.fault.PenFault.TheVariants.{Memory}
-use Rattle.pen_core.specs.declared.step.Step.{Step}
+use Rattle.pen_core.specs.declared.step.PenStep.{PenStep}
 use Rattle.pen_core.specs.Inside.{job_of}
 
-pub no_step : (shape : Shape) (bytes : List ℕ) (o : Option Step) → is_some (job_of shape bytes o) ≡ false → o ≡ None
+pub no_step : (shape : Shape) (bytes : List ℕ) (o : Option PenStep) → is_some (job_of shape bytes o) ≡ false → o ≡ None
 no_step shape bytes None is = refl
 no_step shape bytes (Some step) is = absurd cc
 
@@ -39,7 +39,7 @@ pub idle_seen : {D : Type 0} (states : D → List State) (pen : Inside D) {value
 idle_seen states pen is none = no_step pen.shape pen.bytes.items pen.step (subst (λ v. is_some v.job ≡ false) (sym is) none)
 
 -- the bytes tell nothing then
-pub no_job_same : (shape : Shape) (bytes bytes' : List ℕ) (o : Option Step) → o ≡ None → job_of shape bytes' o ≡ job_of shape bytes o
+pub no_job_same : (shape : Shape) (bytes bytes' : List ℕ) (o : Option PenStep) → o ≡ None → job_of shape bytes' o ≡ job_of shape bytes o
 no_job_same shape bytes bytes' o idle = subst (λ s. job_of shape bytes' s ≡ job_of shape bytes s) (sym idle) refl
 
 -- a frame that doesn't fill the file, nor does a fold's behind it

@@ -19,7 +19,7 @@ use Rattle.segment_core.specs.Raw.{raw, after_frame}
 use Rattle.segment_core.specs.Folding.{HomesHold}
 use Rattle.pen_core.specs.declared.pen.Pen.TheInside.{Inside}
 use Rattle.pen_core.specs.Fields.{log_of, IsSoundPen}
-use Rattle.pen_core.specs.declared.step.Step.TheVariants.{Body}
+use Rattle.pen_core.specs.declared.step.PenStep.TheVariants.{Body}
 use Rattle.pen_core.specs.declared.stage.FoldStage.TheVariants.{Ready, Filed}
 use Rattle.pen_core.specs.Step.{body_of}
 use Rattle.pen_core.specs.PenLog.{PenLog, frames_read, vector_read}

@@ -13,7 +13,7 @@ use Rattle.pen_core.specs.declared.fold.Fold.{Fold}
 use Rattle.pen_core.specs.declared.pen.Pen.TheInside.{Inside}
 use Rattle.pen_core.specs.Fields.{IsSoundPen}
 use Rattle.pen_core.specs.declared.fold.Write.{Write}
-use Rattle.pen_core.specs.declared.step.Step.{Step}
+use Rattle.pen_core.specs.declared.step.PenStep.{PenStep}
 use Rattle.pen_core.specs.declared.stage.FoldStage.{FoldStage}
 use Rattle.pen_core.specs.declared.stage.FoldStage.TheVariants.{Home, Sync, Ready, Filed}
 use Rattle.pen_core.specs.declared.stage.FoldStage.TheVariants as stages
@@ -90,11 +90,11 @@ ready_at {pen = pen} sound quiet held idle = elim (ready_or_filed pen.fold.stage
       absurd cc)
 ]
 
-pub none_at : (o : Option Step) → is_some o ≡ false → o ≡ None
+pub none_at : (o : Option PenStep) → is_some o ≡ false → o ≡ None
 none_at None none = refl
 none_at (Some step) none = absurd cc
 
-pub job_some : (shape : Shape) (bytes : List ℕ) (o : Option Step) → is_some o ≡ true → is_some (job_of shape bytes o) ≡ true
+pub job_some : (shape : Shape) (bytes : List ℕ) (o : Option PenStep) → is_some o ≡ true → is_some (job_of shape bytes o) ≡ true
 job_some shape bytes None some = absurd cc
 job_some shape bytes (Some step) some = refl
 
@@ -110,7 +110,7 @@ still_held Sync calls = refl
 still_held Ready calls = absurd cc
 still_held Filed calls = absurd cc
 
-left_called : (shape : Shape) (gate : ℕ) (tally : Tally) (bytes : List ℕ) (o : Option Step) (fold : Fold) (stage : FoldStage)
+left_called : (shape : Shape) (gate : ℕ) (tally : Tally) (bytes : List ℕ) (o : Option PenStep) (fold : Fold) (stage : FoldStage)
     → has_call stage ≡ true → IsAtStage shape gate tally bytes o fold stage
     → map (write_of fold.bytes.items) (drop (done_after stage fold.done) fold.writes.items) ≡ left_after stage (left_of fold)
 left_called shape gate tally bytes o fold stages.None calls at = absurd cc
@@ -150,7 +150,7 @@ listed_called {fold = fold} calls listed = record {
 pub left_long : (fold : Fold) → length (left_of fold) ≡ length fold.writes.items - fold.done
 left_long fold = length-map (drop fold.done fold.writes.items) (write_of fold.bytes.items) ∙ length-drop fold.done fold.writes.items
 
-left_at : (shape : Shape) (gate : ℕ) (tally : Tally) (bytes : List ℕ) (o : Option Step) (fold : Fold) (stage : FoldStage)
+left_at : (shape : Shape) (gate : ℕ) (tally : Tally) (bytes : List ℕ) (o : Option PenStep) (fold : Fold) (stage : FoldStage)
     → IsAtStage shape gate tally bytes o fold stage
     → IfSome (in_stage stage (record { count = fold.count; left = left_of fold; stage = stage }))
     (λ f. length f.left ≡ writes_left f.stage)

@@ -6,7 +6,7 @@ use Rattle.disk_core.specs.Calls.{bytes_of}
 use Rattle.segment_core.specs.Frame.{Frame, Fold, frame_text}
 use Rattle.segment_core.specs.Layout.{IsFrame}
 use Rattle.segment_core.specs.Tally.{after, MayFollow}
-use Rattle.pen_core.specs.declared.step.Step.TheVariants.{Body}
+use Rattle.pen_core.specs.declared.step.PenStep.TheVariants.{Body}
 use Rattle.pen_core.specs.Step.{body_of}
 use Rattle.pen_core.specs.PenLog.{PenLog, frames_read, vector_read}
 use Rattle.pen_core.specs.Vectors.{frame_at, frames_with}

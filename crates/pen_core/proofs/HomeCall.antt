@@ -11,7 +11,7 @@ use Rattle.disk_core.proofs.CallLemmas.{LeavesOnly-write, LeavesOnly-sync}
 use Rattle.segment_core.specs.Frame.{Frame}
 use Rattle.segment_core.specs.Frame as kinds
 use Rattle.pen_core.specs.declared.fold.Fold.{Fold}
-use Rattle.pen_core.specs.declared.step.Step.{Step}
+use Rattle.pen_core.specs.declared.step.PenStep.{PenStep}
 use Rattle.pen_core.specs.declared.stage.FoldStage.{FoldStage}
 use Rattle.pen_core.specs.declared.stage.FoldStage.TheVariants.{Home, Sync, Ready, Filed}
 use Rattle.pen_core.specs.declared.stage.FoldStage.TheVariants as stages
@@ -83,7 +83,7 @@ module _ {D : Type 0} {keeps : D → Type 0} {states : D → List State} {pen : 
 
   later : (at : ℕ) (ws : List ℕ) (below : at + length ws ≤ gate_of pen.shape frames)
       (folded : (j : ℕ) → at ≤ j → j < at + length ws → IsBeingFolded pen.shape pen.fold.count frames j) (n : ℕ)
-      → KnowsSo n pen.broken (now old) → (p : Option Step)
+      → KnowsSo n pen.broken (now old) → (p : Option PenStep)
       → ((count : ℕ) → frame_in_hand pen.shape pen.bytes.items p ≡ Some (kinds.Fold count) → ⊥)
       → (m : keeps pen.disk)
       → Later pen.fold.count (log_of pen) frames vector (now old) (tick.reads pen.disk m) at ws below folded p

@@ -9,7 +9,7 @@ use Rattle.segment_core.specs.declared.tally.Tally.{Tally}
 use Rattle.segment_core.specs.Frame.{Frame}
 use Rattle.segment_core.specs.Raw.{after_frame}
 use Rattle.pen_core.specs.declared.fold.Fold.{Fold}
-use Rattle.pen_core.specs.declared.step.Step.{Step}
+use Rattle.pen_core.specs.declared.step.PenStep.{PenStep}
 use Rattle.pen_core.specs.declared.stage.FoldStage.{FoldStage}
 use Rattle.pen_core.specs.declared.stage.FoldStage.TheVariants.{Home, Sync, Ready, Filed}
 use Rattle.pen_core.specs.declared.stage.FoldStage.TheVariants as stages
@@ -35,13 +35,13 @@ module _ (count : ℕ) (log : PenLog) (frames : List Frame) (vector : List (List
   abbrev then : List (List ℕ)
   then = after_frame log.shape.width vector (frame_at log.shape log.bytes)
 
-  abbrev KnowsAs : ℕ → Option Step → Bool → State → Type 0
+  abbrev KnowsAs : ℕ → Option PenStep → Bool → State → Type 0
   KnowsAs n o broken t = Knows n (record log { step = o; broken = broken }) frames vector t
 
   shut : {n : ℕ} (broken : Bool) → KnowsAs n None broken s → broken ≡ false → IsShut (gate_of log.shape frames) s
   shut broken k whole = subst (λ g. IsShut g s) k.gate_is (k.stands whole)
 
-  at_step : {n : ℕ} (step : Step) (broken : Bool) → KnowsAs n (Some step) broken s → broken ≡ false
+  at_step : {n : ℕ} (step : PenStep) (broken : Bool) → KnowsAs n (Some step) broken s → broken ≡ false
       → IsAtStep log.shape n (gate_of log.shape frames) frames following then log.bytes step s
   at_step {n} step broken k whole = subst (λ g. IsAtStep log.shape n g frames following then log.bytes step s) k.gate_is (k.stands whole)
 
@@ -50,11 +50,11 @@ module _ (count : ℕ) (log : PenLog) (frames : List Frame) (vector : List (List
   module _ (at : ℕ) (ws : List ℕ) (below : at + length ws ≤ gate_of log.shape frames)
       (folded : (j : ℕ) → at ≤ j → j < at + length ws → IsBeingFolded log.shape count frames j) where
     -- also once a job in hand is done
-    abbrev pub Later : Option Step → Type 0
+    abbrev pub Later : Option PenStep → Type 0
     Later None = Unit {0}
     Later (Some step) = (j : ℕ) → at ≤ j → j < at + length ws → IsBeingFolded log.shape count following j
 
-    pub write_images : (o : Option Step) (broken : Bool) → Later o → KnowsAs count o broken s → broken ≡ false
+    pub write_images : (o : Option PenStep) (broken : Bool) → Later o → KnowsAs count o broken s → broken ≡ false
         → (image : List ℕ) → IsImage (touched s at (length ws) s.seen) image
         → OpensWith log.shape frames vector (job_of log.shape log.bytes o) image
     write_images None broken later k whole image is =
@@ -63,7 +63,7 @@ module _ (count : ℕ) (log : PenLog) (frames : List Frame) (vector : List (List
         home_images log.shape count frames following vector then log.bytes s at ws k.file readable below folded later step
         (at_step step broken k whole) image is
 
-    pub written_knows : (o : Option Step) (broken : Bool) → Later o → KnowsAs count o broken s → broken ≡ false
+    pub written_knows : (o : Option PenStep) (broken : Bool) → Later o → KnowsAs count o broken s → broken ≡ false
         → IsImage (written s at ws) (written s at ws).seen → KnowsAs count o broken (written s at ws)
     written_knows None broken later k whole readable' =
         knows_rest (record log { broken = broken }) frames vector (written s at ws) k.gate_is k.tally_is
@@ -98,7 +98,7 @@ module _ (count : ℕ) (log : PenLog) (frames : List Frame) (vector : List (List
     }
 
     -- it failed
-    pub torn_knows : (o : Option Step) (broken : Bool) → Later o → KnowsAs count o broken s → broken ≡ false → (left : State)
+    pub torn_knows : (o : Option PenStep) (broken : Bool) → Later o → KnowsAs count o broken s → broken ≡ false → (left : State)
         → IsTornWrite at (length ws) s left → IsImage left left.seen → KnowsAs count o true left
     torn_knows o broken later k whole left torn readable' =
         let at_gate = k.gate_is in
@@ -119,7 +119,7 @@ module _ (count : ℕ) (log : PenLog) (frames : List Frame) (vector : List (List
 
   -- ---- their sync
 
-  pub synced_knows : (n : ℕ) (o : Option Step) (broken : Bool) → KnowsAs n o broken s → broken ≡ false → KnowsAs 0 o broken (settled s.seen)
+  pub synced_knows : (n : ℕ) (o : Option PenStep) (broken : Bool) → KnowsAs n o broken s → broken ≡ false → KnowsAs 0 o broken (settled s.seen)
   synced_knows n None broken k whole =
       knows_rest (record log { broken = broken }) frames vector (settled s.seen) k.gate_is k.tally_is
       (settled_file log.shape n frames frames vector vector log.bytes s.seen
@@ -134,7 +134,7 @@ module _ (count : ℕ) (log : PenLog) (frames : List Frame) (vector : List (List
       (settled_image s.seen)
 
   -- it failed
-  pub same_knows : (n : ℕ) (o : Option Step) (broken : Bool) → KnowsAs n o broken s → KnowsAs n o true s
+  pub same_knows : (n : ℕ) (o : Option PenStep) (broken : Bool) → KnowsAs n o broken s → KnowsAs n o true s
   same_knows n o broken k =
       record {
         gate_is = k.gate_is;
@@ -156,7 +156,7 @@ home_count n count =
 
 -- ---- what is asked of the call
 
-pub can_call : (shape : Shape) (gate : ℕ) (tally : Tally) (bytes : List ℕ) (o : Option Step) (fold : Fold)
+pub can_call : (shape : Shape) (gate : ℕ) (tally : Tally) (bytes : List ℕ) (o : Option PenStep) (fold : Fold)
     (stage : FoldStage)
     → has_call stage ≡ true → IsAtStage shape gate tally bytes o fold stage → CanCall gate fold stage
 can_call shape gate tally bytes o fold stages.None calls at = absurd cc

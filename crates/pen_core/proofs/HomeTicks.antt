@@ -10,8 +10,8 @@ use Rattle.disk_core.proofs.CallLemmas.{LeavesOnly-write, LeavesOnly-sync}
 use Rattle.segment_core.specs.declared.format.Shape.{Shape}
 use Rattle.segment_core.specs.Frame.{Frame}
 use Rattle.segment_core.specs.Folding.{IsLoose}
-use Rattle.pen_core.specs.declared.step.Step.{Step}
-use Rattle.pen_core.specs.declared.step.Step.TheVariants.{Body, BodySync, Gate, GateSync}
+use Rattle.pen_core.specs.declared.step.PenStep.{PenStep}
+use Rattle.pen_core.specs.declared.step.PenStep.TheVariants.{Body, BodySync, Gate, GateSync}
 use Rattle.pen_core.specs.Step.{body_of}
 use Rattle.pen_core.specs.Held.{IsBeingFolded, gate_of}
 use Rattle.pen_core.specs.Known.{IsFileOf, IsWritten, IsBeforeOrAfter}
@@ -48,7 +48,7 @@ module _ (shape : Shape) (count : ℕ) (frames next : List Frame) (before after 
         pending_is_folded = λ j lt is. absurd cc;
       }
 
-  pub step_after_sync : (step : Step) (s : State) → IsImage s s.seen → IsAtStep shape count p frames next after job step s
+  pub step_after_sync : (step : PenStep) (s : State) → IsImage s s.seen → IsAtStep shape count p frames next after job step s
       → IsAtStep shape 0 p frames next after job step (settled s.seen)
   step_after_sync Body s readable at = (
     shut_after_sync shape count frames next before after s readable p at.0,
@@ -75,7 +75,7 @@ module _ (shape : Shape) (count : ℕ) (frames next : List Frame) (before after 
     at.2,
   )
 
-  pub home_sync_leaves : {T : Type 0} (step : Step) (old new : List State) (r : Result T DiskFault)
+  pub home_sync_leaves : {T : Type 0} (step : PenStep) (old new : List State) (r : Result T DiskFault)
       → IsFileOf shape count frames before (now old) → IsAtStep shape count p frames next after job step (now old)
       → IsImage (now old) (bytes_of old)
       → OnOk r (Settles old new) → OnErr r (Stays old new) → LeavesOnly old new P
@@ -132,7 +132,7 @@ module _ (shape : Shape) (count : ℕ) (frames next : List Frame) (before after 
           ]);
     }
 
-    pub step_after_home : (step : Step) → IsAtStep shape count p frames next after job step s
+    pub step_after_home : (step : PenStep) → IsAtStep shape count p frames next after job step s
         → IsAtStep shape count p frames next after job step (written s at bytes)
     step_after_home Body is = (shut_after_home shape count frames before s at bytes file readable below folded is.0, body_after_home is.1)
     step_after_home BodySync is = (
@@ -152,14 +152,14 @@ module _ (shape : Shape) (count : ℕ) (frames next : List Frame) (before after 
           ∙ is.2,
     )
 
-    pub home_images : (step : Step) → IsAtStep shape count p frames next after job step s → (image : List ℕ)
+    pub home_images : (step : PenStep) → IsAtStep shape count p frames next after job step s → (image : List ℕ)
         → IsImage (touched s at (length bytes) s.seen) image → P image
     home_images Body is image of = inl (images_of_home_shut shape count frames before s at bytes file readable below folded is.0 image of)
     home_images BodySync is image of = inl (images_of_home_shut shape count frames before s at bytes file readable below folded is.0 image of)
     home_images Gate is image of = inl (images_of_home_shut shape count frames before s at bytes file readable below folded is.0 image of)
     home_images GateSync is image of = images_of_home_open shape count frames before s at bytes file readable below folded next after folded' is.0 is.1 image of
 
-  pub home_write_leaves : {T : Type 0} (step : Step) (old new : List State) (r : Result T DiskFault) (at : ℕ)
+  pub home_write_leaves : {T : Type 0} (step : PenStep) (old new : List State) (r : Result T DiskFault) (at : ℕ)
       (bytes : List ℕ) (file : IsFileOf shape count frames before (now old)) (readable : IsImage (now old) (bytes_of old))
       (below : at + length bytes ≤ p)
       (folded : (j : ℕ) → at ≤ j → j < at + length bytes → IsBeingFolded shape count frames j)

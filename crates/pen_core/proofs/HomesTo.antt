@@ -27,7 +27,7 @@ use Rattle.pen_core.specs.declared.pen.Pen.TheInside.{Inside}
 use Rattle.pen_core.specs.Fields.{IsSoundPen}
 use Rattle.pen_core.specs.Listed.{homes_ahead, Lists}
 use Rattle.pen_core.specs.Vectors.{frame_at}
-use Rattle.pen_core.specs.declared.step.Step.{Step}
+use Rattle.pen_core.specs.declared.step.PenStep.{PenStep}
 use Rattle.pen_core.proofs.HomeRows.{SaysHomes}
 
 home_among-past : (width start end i : ℕ) (homes : List Home) → AreInTurn start homes end → end ≤ i → home_among width homes i ≡ None
@@ -118,7 +118,7 @@ AreHomesTo-listed shape frames (Some (Fold count)) homes live legal fits may lis
     (AreHomesTo-file shape frames lists.told legal fits lists.are_homes)
 
 -- on a pen's fields
-may_come : (shape : Shape) (frames : List Frame) (gate : ℕ) (tally next : Tally) (bytes : List ℕ) (step : Option Step)
+may_come : (shape : Shape) (frames : List Frame) (gate : ℕ) (tally next : Tally) (bytes : List ℕ) (step : Option PenStep)
     → gate ≡ gate_of shape frames → tally ≡ tally_of frames → IsMaybeJob shape gate tally next bytes step → (f : Frame)
     → frame_in_hand shape bytes step ≡ Some f → MayCome shape frames f
 may_come shape frames gate tally next bytes None gate_is tally_is job f is = absurd cc

@@ -13,7 +13,7 @@ use Rattle.segment_core.specs.Tally.{after, tally_of, MayFollow, AreLegal}
 use Rattle.segment_core.proofs.HomesHold.{Appends}
 use Rattle.pen_core.specs.declared.fold.Fold.{Fold}
 use Rattle.pen_core.specs.declared.fold.Write.{Write}
-use Rattle.pen_core.specs.declared.step.Step.{Step}
+use Rattle.pen_core.specs.declared.step.PenStep.{PenStep}
 use Rattle.pen_core.specs.declared.stage.FoldStage.{FoldStage}
 use Rattle.pen_core.specs.declared.stage.FoldStage.TheVariants.{Home, Sync, Ready, Filed}
 use Rattle.pen_core.specs.declared.stage.FoldStage.TheVariants as stages
@@ -63,7 +63,7 @@ planned_further gate gate' len (w ∷ writes) le all =
       planned_further gate gate' len writes le all.1,
     )
 
-module _ (shape : Shape) (gate gate' : ℕ) (tally tally' : Tally) (bytes bytes' : List ℕ) (o o' : Option Step) (fold : Fold) where
+module _ (shape : Shape) (gate gate' : ℕ) (tally tally' : Tally) (bytes bytes' : List ℕ) (o o' : Option PenStep) (fold : Fold) where
   waits_on : IsUnfiled shape gate tally bytes o fold → tally'.folded ≡ tally.folded → tally.changes ≤ tally'.changes
       → gate ≤ gate' → gate_then gate' bytes' o' + 14 < 2 ^ 48 → IsUnfiled shape gate' tally' bytes' o' fold
   waits_on waiting folded more further room =
@@ -89,7 +89,7 @@ module _ (shape : Shape) (gate gate' : ℕ) (tally tally' : Tally) (bytes bytes'
   stage_on Filed at same folded more further room = (same refl ∙ at.0, at.1)
 
 -- the room that a waiting fold has
-pub room_of : (shape : Shape) (gate : ℕ) (tally : Tally) (bytes : List ℕ) (o : Option Step) (fold : Fold) (stage : FoldStage)
+pub room_of : (shape : Shape) (gate : ℕ) (tally : Tally) (bytes : List ℕ) (o : Option PenStep) (fold : Fold) (stage : FoldStage)
     → IsAtStage shape gate tally bytes o fold stage → IsInHand stage → (stage ≡ Filed → ⊥)
     → IsUnfiled shape gate tally bytes o fold
 room_of shape gate tally bytes o fold stages.None at held unfiled = absurd held
@@ -98,14 +98,14 @@ room_of shape gate tally bytes o fold Sync at held unfiled = at.0
 room_of shape gate tally bytes o fold Ready at held unfiled = at.0
 room_of shape gate tally bytes o fold Filed at held unfiled = absurd (unfiled refl)
 
-pub filed_at : (shape : Shape) (gate : ℕ) (tally : Tally) (bytes : List ℕ) (o : Option Step) (fold : Fold)
+pub filed_at : (shape : Shape) (gate : ℕ) (tally : Tally) (bytes : List ℕ) (o : Option PenStep) (fold : Fold)
     → IsAtStage shape gate tally bytes o fold fold.stage → fold.stage ≡ Filed
     → frame_in_hand shape bytes o ≡ Some (kinds.Fold fold.count)
 filed_at shape gate tally bytes o fold at is = (subst (IsAtStage shape gate tally bytes o fold) is at).0
 
 -- ---- a job is begun
 
-pub fold_begun : {keeps : Type 0} {states : List State} {log : PenLog} {bytes : List ℕ} {fold : Fold} {step : Step}
+pub fold_begun : {keeps : Type 0} {states : List State} {log : PenLog} {bytes : List ℕ} {fold : Fold} {step : PenStep}
     → HasFold keeps states log fold → (f : Frame) → log.step ≡ None
     → bytes ≡ frame_text log.shape.format f ++ 0 ∷ []
     → log.gate + length (frame_text log.shape.format f) + fold_len (fold_of fold) < 2 ^ 48
@@ -200,14 +200,14 @@ module _ {keeps keeps' : Type 0} {states : List State} {log : PenLog} {fold : Fo
   frame = frame_at log.shape log.bytes
 
   -- the room that a fold has which waits while a step of the job is next
-  room_then : (step : Step) → log.step ≡ Some step → IsInHand fold.stage → (fold.stage ≡ Filed → ⊥)
+  room_then : (step : PenStep) → log.step ≡ Some step → IsInHand fold.stage → (fold.stage ≡ Filed → ⊥)
       → gate_then log.gate log.bytes (Some step) + 14 < 2 ^ 48
   room_then step at held out =
       subst (λ g. g + 14 < 2 ^ 48) (ap (gate_then log.gate log.bytes) at)
       (room_of log.shape log.gate log.tally log.bytes log.step fold fold.stage is.counts held out).room
 
   -- a step of the job's calls
-  pub fold_stays : (step behind : Step) → log.step ≡ Some step → (keeps' → AreLegal log.shape fs)
+  pub fold_stays : (step behind : PenStep) → log.step ≡ Some step → (keeps' → AreLegal log.shape fs)
       → (keeps' → LaidAlike (gate_of log.shape fs) (bytes_of states) (bytes_of new))
       → (keeps' → frames_read new log ≡ fs) → (keeps' → vector_read new log ≡ vector)
       → HasFold keeps' new (record log { step = Some behind }) fold
@@ -230,7 +230,7 @@ module _ {keeps keeps' : Type 0} {states : List State} {log : PenLog} {fold : Fo
   fold_broken = record { counts = is.counts; homes = λ model whole. absurd cc }
 
   -- the job is done, and isn't the fold's own
-  module _ (gate : ℕ) (step : Step) (at : log.step ≡ Some step) (next : Tally) (may : MayFollow log.tally frame)
+  module _ (gate : ℕ) (step : PenStep) (at : log.step ≡ Some step) (next : Tally) (may : MayFollow log.tally frame)
       (next_is : next ≡ after log.tally frame) (moved : gate ≡ log.gate + (length log.bytes - 1))
       (unfiled : fold.stage ≡ Filed → ⊥) (no_fold : (c : ℕ) → frame ≡ kinds.Fold c → ⊥) where
     pub fold_done : (then : List (List ℕ)) (tally_is : keeps → log.tally ≡ tally_of fs)

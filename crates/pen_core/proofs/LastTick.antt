@@ -8,7 +8,7 @@ use Rattle.segment_core.specs.Found.{home_among, AreInTurn}
 use Rattle.segment_core.specs.Raw.{after_frame}
 use Rattle.pen_core.specs.declared.pen.Pen.TheInside.{Inside}
 use Rattle.pen_core.specs.declared.stage.FoldStage.TheVariants.{Filed}
-use Rattle.pen_core.specs.declared.step.Step.{Step}
+use Rattle.pen_core.specs.declared.step.PenStep.{PenStep}
 use Rattle.pen_core.specs.Step.{step_after, Calls}
 use Rattle.pen_core.specs.InHand.{fold_of, frame_in_hand, stage_ended, live_after, HasFold}
 use Rattle.pen_core.specs.Inside.{IsJob, IsMaybeJob, IsPen}
@@ -25,7 +25,7 @@ use Rattle.pen_core.proofs.LogCall.{LogCall, tally_now, gate_moved, settles_now,
 
 -- What the last tick of a job knows: the call has succeeded, the homes were cut, and a fold whose frame was the job has
 -- ended.
-pub record LastCall {D : Type 0} {keeps : D → Type 0} {states : D → List State} {pen : Inside D} {new : D} {step : Step}
+pub record LastCall {D : Type 0} {keeps : D → Type 0} {states : D → List State} {pen : Inside D} {new : D} {step : PenStep}
     (tick : LogCall keeps states pen new step) (then : Inside D) : Type 0 where
   pub call : keeps pen.disk → Calls step pen.gate tick.given (states pen.disk) (states new)
   pub moved : then.gate ≡ pen.gate + (length tick.given - 1)
@@ -37,7 +37,7 @@ pub record LastCall {D : Type 0} {keeps : D → Type 0} {states : D → List Sta
   pub left : then.homes.live.items ≡ live_after pen.fold.stage pen.fold.runs pen.homes.live.items
   pub same : (pen.fold.stage ≡ Filed → ⊥) → then.fold ≡ pen.fold
 
-module _ {D : Type 0} {keeps : D → Type 0} {states : D → List State} {pen : Inside D} {new : D} {step : Step} {tick : LogCall keeps states pen new step}
+module _ {D : Type 0} {keeps : D → Type 0} {states : D → List State} {pen : Inside D} {new : D} {step : PenStep} {tick : LogCall keeps states pen new step}
     {then : Inside D} (end : LastCall tick then) where
   abbrev frame : Frame
   frame = frame_at pen.shape pen.bytes.items

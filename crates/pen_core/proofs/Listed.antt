@@ -22,7 +22,7 @@ use Rattle.segment_core.proofs.FoundChanges.{changes_counted}
 use Rattle.segment_core.proofs.FoundSteps.{fold_bounds}
 use Rattle.std.proofs.lemmas.Grind.{flat_map-append}
 use Rattle.segment_core.proofs.HomesPush.{group_home, AreHomes_group, AreHomes_same, live_of_same, live_of_change, live_of_fold}
-use Rattle.pen_core.specs.declared.step.Step.{Step}
+use Rattle.pen_core.specs.declared.step.PenStep.{PenStep}
 use Rattle.pen_core.specs.declared.fold.Fold as folds
 use Rattle.pen_core.specs.declared.stage.FoldStage.TheVariants.{Filed}
 use Rattle.pen_core.specs.declared.stage.FoldStage.TheVariants as stages
@@ -179,7 +179,7 @@ listed_new keeps states log homes fold gate tally rest at none idle empty = reco
 module _ {keeps : Type 0} {states : List State} {log : PenLog} {homes : Homes} {live : ℕ} {fold : folds.Fold}
     (listed : HasLists keeps states log homes live fold) where
   -- a call of the disk that leaves the frames, or none
-  pub listed_stays : (keeps' : Type 0) (new : List State) (o : Option Step) (broken : Bool)
+  pub listed_stays : (keeps' : Type 0) (new : List State) (o : Option PenStep) (broken : Bool)
       → frame_in_hand log.shape log.bytes o ≡ frame_in_hand log.shape log.bytes log.step → (keeps' → keeps)
       → (keeps' → FileStays states new log) → HasLists keeps' new (record log { step = o; broken = broken }) homes live fold
   listed_stays keeps' new o broken same back stays = record {
@@ -222,7 +222,7 @@ module _ {keeps : Type 0} {states : List State} {log : PenLog} {homes : Homes} {
         }
 
     -- a job that is no fold is entered
-    pub listed_begun : (f : Frame) (step : Step) → frame_at log.shape bytes ≡ f → ((count : ℕ) → f ≡ Fold count → ⊥)
+    pub listed_begun : (f : Frame) (step : PenStep) → frame_at log.shape bytes ≡ f → ((count : ℕ) → f ≡ Fold count → ⊥)
         → homes'.homes.items ≡ homes.homes.items ++ homes_entered log.gate log.tally.size f
         → homes'.live.items ≡ homes.live.items ++ runs_entered f
         → HasLists keeps states (record log { bytes = bytes; step = Some step }) homes' live fold
@@ -251,7 +251,7 @@ module _ {keeps : Type 0} {states : List State} {log : PenLog} {homes : Homes} {
         }
 
   -- the job is done
-  module _ (step : Step) (is : log.step ≡ Some step) (next : Tally)
+  module _ (step : PenStep) (is : log.step ≡ Some step) (next : Tally)
       (job : IsMaybeJob log.shape log.gate log.tally next log.bytes log.step) where
     abbrev frame : Frame
     frame = frame_at log.shape log.bytes

@@ -12,7 +12,7 @@ use Rattle.segment_core.specs.Raw.{after_frame}
 use Rattle.segment_core.specs.Tally.{after, tally_of, AreLegal}
 use Rattle.segment_core.proofs.Payload.{length-frame_text}
 use Rattle.pen_core.specs.declared.pen.Pen.TheInside.{Inside}
-use Rattle.pen_core.specs.declared.step.Step.{Step}
+use Rattle.pen_core.specs.declared.step.PenStep.{PenStep}
 use Rattle.pen_core.specs.Fields.{log_of, count_open, IsSoundPen}
 use Rattle.pen_core.specs.Held.{HoldsFrames, gate_of}
 use Rattle.pen_core.specs.InHand.{frame_in_hand}
@@ -34,7 +34,7 @@ use Rattle.pen_core.proofs.Whole.{FileStays, after_size, after_changes, after_fo
 
 -- What a tick knows that makes the call: the bytes are those that it was given. Each disk that keeps the model reads as
 -- an image.
-pub record LogCall {D : Type 0} (keeps : D → Type 0) (states : D → List State) (pen : Inside D) (new : D) (step : Step) : Type 0 where
+pub record LogCall {D : Type 0} (keeps : D → Type 0) (states : D → List State) (pen : Inside D) (new : D) (step : PenStep) : Type 0 where
   pub sound : IsSoundPen keeps states pen
   pub going : pen.broken ≡ false
   pub is : pen.step ≡ Some step
@@ -43,13 +43,13 @@ pub record LogCall {D : Type 0} (keeps : D → Type 0) (states : D → List Stat
   pub back : keeps new → keeps pen.disk
   pub reads : (disk : D) → keeps disk → IsImage (now (states disk)) (bytes_of (states disk))
 
-abbrev pub log_call : {D : Type 0} {keeps : D → Type 0} {states : D → List State} {pen : Inside D} {new : D} {step : Step} {given : List ℕ}
+abbrev pub log_call : {D : Type 0} {keeps : D → Type 0} {states : D → List State} {pen : Inside D} {new : D} {step : PenStep} {given : List ℕ}
     → IsSoundPen keeps states pen → pen.broken ≡ false → pen.step ≡ Some step → given ≡ pen.bytes.items → (keeps new → keeps pen.disk)
     → ((disk : D) → keeps disk → IsImage (now (states disk)) (bytes_of (states disk))) → LogCall keeps states pen new step
 log_call {D} {keeps} {states} {pen} {new} {step} {given} sound going is value back reads =
     record { sound = sound; going = going; is = is; given = given; value = value; back = back; reads = reads }
 
-module _ {D : Type 0} {keeps : D → Type 0} {states : D → List State} {pen : Inside D} {new : D} {step : Step}
+module _ {D : Type 0} {keeps : D → Type 0} {states : D → List State} {pen : Inside D} {new : D} {step : PenStep}
     (tick : LogCall keeps states pen new step) where
   abbrev old : List State
   old = states pen.disk
@@ -81,10 +81,10 @@ module _ {D : Type 0} {keeps : D → Type 0} {states : D → List State} {pen : 
   abbrev p : ℕ
   p = gate_of pen.shape frames
 
-  abbrev KnowsAs : List Frame → List (List ℕ) → Option Step → Bool → State → Type 0
+  abbrev KnowsAs : List Frame → List (List ℕ) → Option PenStep → Bool → State → Type 0
   KnowsAs fs cells due broken s = Knows (count_open pen) (record (log_of pen) { step = due; broken = broken }) fs cells s
 
-  abbrev At : ℕ → Step → State → Type 0
+  abbrev At : ℕ → PenStep → State → Type 0
   At gate due s = IsAtStep pen.shape (count_open pen) gate frames following then pen.bytes.items due s
 
   job : IsJob pen.shape pen.gate pen.tally pen.next pen.bytes.items
@@ -100,7 +100,7 @@ module _ {D : Type 0} {keeps : D → Type 0} {states : D → List State} {pen : 
   at model = subst (λ g. At g step (now old)) (knows model).gate_is ((knows model).stands tick.going)
 
   -- the call is the one that is due
-  abbrev DueAt : Option Step → (Call → Type 0) → Type 0
+  abbrev DueAt : Option PenStep → (Call → Type 0) → Type 0
   DueAt due made = IfSome (option_map (λ job. call_at job.step pen.gate (job_bytes pen.shape job)) (job_of pen.shape pen.bytes.items due)) made
 
   pub log_calls : Called → DueAt pen.step (λ call. Makes call old left)
@@ -187,14 +187,14 @@ module _ {D : Type 0} {keeps : D → Type 0} {states : D → List State} {pen : 
   -- ---- that succeeded
 
   module _ (call : keeps pen.disk → Called) where
-    went_on : (behind : Step) → step_after step ≡ Some behind → keeps new
+    went_on : (behind : PenStep) → step_after step ≡ Some behind → keeps new
         → StandsAt pen.shape (count_open pen) frames following vector then pen.bytes.items behind (now left)
     went_on behind after_it model =
         let m = tick.back model in
         tick_next pen.shape (count_open pen) frames following vector then pen.bytes.items step old left
         (knows m).file (at m) (tick.reads pen.disk m) (at_gate m (call m)) behind after_it
 
-    next_seen : (behind : Step) → step_after step ≡ Some behind → keeps new → SeenAs pen.shape pen.gate frames vector (bytes_of left)
+    next_seen : (behind : PenStep) → step_after step ≡ Some behind → keeps new → SeenAs pen.shape pen.gate frames vector (bytes_of left)
     next_seen behind after_it model =
         seen_as pen.shape pen.gate frames vector (bytes_of left) (knows (tick.back model)).gate_is (went_on behind after_it model).file.holds
 
@@ -205,7 +205,7 @@ module _ {D : Type 0} {keeps : D → Type 0} {states : D → List State} {pen : 
         calls_alike step p pen.bytes.items old left
         (omega (arith, (knows m).file.gate_synced, (tick.reads pen.disk m).no_shorter)) (at_gate m (call m))
 
-    next_job : (behind : Step) → step_after step ≡ Some behind
+    next_job : (behind : PenStep) → step_after step ≡ Some behind
         → IsPen (count_open pen) (keeps new) left (record (log_of pen) { step = Some behind }) pen.next
     next_job behind after_it = record {
       wide = tick.sound.job.wide;
@@ -227,11 +227,11 @@ module _ {D : Type 0} {keeps : D → Type 0} {states : D → List State} {pen : 
           (subst (λ v. KnowsAs frames v (Some behind) pen.broken (now left)) (sym seen.vector_is) made));
     }
 
-    pub next_file : (behind : Step) → step_after step ≡ Some behind → keeps new → FileStays old left (log_of pen)
+    pub next_file : (behind : PenStep) → step_after step ≡ Some behind → keeps new → FileStays old left (log_of pen)
     next_file behind after_it model = let seen = next_seen behind after_it model in record { frames_same = seen.frames_are; vector_same = seen.vector_is }
 
     -- the next call is due
-    pub log_next : (behind : Step) → step_after step ≡ Some behind → IsSoundPen keeps states (record pen { disk = new; step = Some behind })
+    pub log_next : (behind : PenStep) → step_after step ≡ Some behind → IsSoundPen keeps states (record pen { disk = new; step = Some behind })
     log_next behind after_it =
         let stays = next_file behind after_it in
         record {

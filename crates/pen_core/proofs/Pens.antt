@@ -11,7 +11,7 @@ use Rattle.segment_core.specs.Tally.{nothing, after, tally_of}
 use Rattle.segment_core.specs.Blanked.{blanked}
 use Rattle.segment_core.proofs.Push.{text_push, tally_from_push}
 use Rattle.segment_core.proofs.Blanked.{length-frame_text-blanked, after-blanked, tally_from-blanked}
-use Rattle.pen_core.specs.declared.step.Step.{Step}
+use Rattle.pen_core.specs.declared.step.PenStep.{PenStep}
 use Rattle.pen_core.specs.Held.{HoldsFrames, IsBeingFolded, gate_of}
 use Rattle.pen_core.specs.Known.{IsFileOf, IsShut}
 use Rattle.pen_core.specs.Vectors.{frame_at, frames_with}
@@ -67,11 +67,11 @@ module _ (log : PenLog) (frames : List Frame) (vector : List (List ℕ)) (s : St
   abbrev pub then : List (List ℕ)
   then = after_frame log.shape.width vector frame
 
-  opening : (step : Step) → IsOpening step → MayBeOpening (job_of log.shape log.bytes (Some step))
+  opening : (step : PenStep) → IsOpening step → MayBeOpening (job_of log.shape log.bytes (Some step))
   opening step is = is
 
   -- the next call is this one
-  pub knows_at : {count : ℕ} (step : Step) → IsFileOf log.shape count frames vector s
+  pub knows_at : {count : ℕ} (step : PenStep) → IsFileOf log.shape count frames vector s
       → IsAtStep log.shape count log.gate frames following then log.bytes step s → IsImage s s.seen
       → Knows count (record log { step = Some step }) frames vector s
   knows_at {count} step file at readable =
@@ -89,7 +89,7 @@ module _ (log : PenLog) (frames : List Frame) (vector : List (List ℕ)) (s : St
       }
 
   -- and it has failed
-  pub knows_broken : {count : ℕ} (step : Step) → Failed log.shape count frames following vector then log.bytes step s
+  pub knows_broken : {count : ℕ} (step : PenStep) → Failed log.shape count frames following vector then log.bytes step s
       → Knows count (record log { step = Some step; broken = true }) frames vector s
   knows_broken {count} step failed = record {
     gate_is = gate_is;

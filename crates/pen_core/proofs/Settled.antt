@@ -5,8 +5,8 @@ use Rattle.std.proofs.lemmas.Option.{same_Some}
 use Rattle.disk_core.specs.State.{State}
 use Rattle.disk_core.specs.Moments.{LeavesOnly, clock}
 use Rattle.disk_core.proofs.JoinedMoments.{LeavesOnly-weaker, LeavesOnly-join}
-use Rattle.pen_core.specs.declared.step.Step.{Step}
-use Rattle.pen_core.specs.declared.step.Step.TheVariants.{Body, BodySync, Gate, GateSync}
+use Rattle.pen_core.specs.declared.step.PenStep.{PenStep}
+use Rattle.pen_core.specs.declared.step.PenStep.TheVariants.{Body, BodySync, Gate, GateSync}
 use Rattle.pen_core.specs.declared.stage.Ticked.{Ticked}
 use Rattle.pen_core.specs.declared.stage.Ticked.TheVariants as ticks
 use Rattle.pen_core.specs.declared.fault.PenFault.{PenFault}
@@ -31,7 +31,7 @@ match_none N S (Some a) is n = absurd cc
 
 -- ---- steps
 
-pub steps_left-after : (step next : Step) → step_after step ≡ Some next → steps_left next + 1 ≡ steps_left step
+pub steps_left-after : (step next : PenStep) → step_after step ≡ Some next → steps_left next + 1 ≡ steps_left step
 steps_left-after Body next is = ap (λ s. steps_left s + 1) (sym (same_Some BodySync next is))
 steps_left-after BodySync next is = ap (λ s. steps_left s + 1) (sym (same_Some Gate next is))
 steps_left-after Gate next is = ap (λ s. steps_left s + 1) (sym (same_Some GateSync next is))
@@ -57,7 +57,7 @@ frames_after-done old new job is file = at old.job is file
     at (Some done) is gains = gains.frames_more
 
 -- what one of two pens may open to that differ in the step of the job alone, the other may
-pub MayOpen-step : {D : Type 0} (old mid : PenOf D) (job : JobOf) (step : Step) → mid.shape ≡ old.shape → FileSame old mid
+pub MayOpen-step : {D : Type 0} (old mid : PenOf D) (job : JobOf) (step : PenStep) → mid.shape ≡ old.shape → FileSame old mid
     → old.job ≡ Some job → mid.job ≡ Some (record { frame = job.frame; step = step }) → (image : List ℕ) → MayOpen mid image
     → MayOpen old image
 MayOpen-step old mid job step shape file was is image opens =

@@ -15,8 +15,8 @@ use Rattle.segment_core.specs.Raw.{after_frame}
 use Rattle.pen_core.specs.declared.pen.Pen.TheInside.{Inside}
 use Rattle.pen_core.specs.Fields.{log_of, seen_as, IsSoundPen}
 use Rattle.pen_core.specs.declared.fold.Fold.{Fold}
-use Rattle.pen_core.specs.declared.step.Step.{Step}
-use Rattle.pen_core.specs.declared.step.Step.TheVariants.{Body, BodySync, Gate, GateSync}
+use Rattle.pen_core.specs.declared.step.PenStep.{PenStep}
+use Rattle.pen_core.specs.declared.step.PenStep.TheVariants.{Body, BodySync, Gate, GateSync}
 use Rattle.pen_core.specs.declared.stage.FoldStage.{FoldStage}
 use Rattle.pen_core.specs.declared.stage.FoldStage.TheVariants.{Home, Sync, Ready, Filed}
 use Rattle.pen_core.specs.declared.stage.FoldStage.TheVariants as stages
@@ -63,7 +63,7 @@ written_more shape count frames next after s wrote =
     }
 
 step_more : (shape : Shape) (count gate : ℕ) (frames next : List Frame) (after : List (List ℕ)) (bytes : List ℕ)
-    (step : Step) (s : State)
+    (step : PenStep) (s : State)
     → IsAtStep shape 0 gate frames next after bytes step s → IsAtStep shape count gate frames next after bytes step s
 step_more shape count gate frames next after bytes Body s at = (
   at.0,
@@ -80,7 +80,7 @@ step_more shape count gate frames next after bytes Gate s at = (at.0, written_mo
 step_more shape count gate frames next after bytes GateSync s at = (written_more shape count frames next after s at.0, at.1, at.2)
 
 stands_more : (shape : Shape) (count gate : ℕ) (frames : List Frame) (vector : List (List ℕ)) (bytes : List ℕ)
-    (o : Option Step) (s : State)
+    (o : Option PenStep) (s : State)
     → Stands shape 0 gate frames vector bytes o s → Stands shape count gate frames vector bytes o s
 stands_more shape count gate frames vector bytes None s at = at
 stands_more shape count gate frames vector bytes (Some step) s at =
@@ -118,7 +118,7 @@ take_whole xs n is = ap (λ ys. take n ys) (sym (append-nil xs)) ∙ take-append
     all (x ∷ xs) n is = ap (λ k. take k (x ∷ xs)) is ∙ ap (λ ys. x ∷ ys) (all xs (length xs) refl)
 
 -- where the gate will stand, as it is seen
-gate_seen : (shape : Shape) (gate : ℕ) (tally next : Tally) (bytes : List ℕ) (o : Option Step)
+gate_seen : (shape : Shape) (gate : ℕ) (tally next : Tally) (bytes : List ℕ) (o : Option PenStep)
     → IsMaybeJob shape gate tally next bytes o → gate_then gate bytes o ≡ gate + job_len shape (job_of shape bytes o)
 gate_seen shape gate tally next bytes None job = omega arith
 gate_seen shape gate tally next bytes (Some step) job =

@@ -10,8 +10,8 @@ use Rattle.disk_core.proofs.CallLemmas.{LeavesOnly-write, LeavesOnly-sync}
 use Rattle.disk_core.proofs.ImageLemmas.{torn_images}
 use Rattle.segment_core.specs.declared.format.Shape.{Shape}
 use Rattle.segment_core.specs.Frame.{Frame}
-use Rattle.pen_core.specs.declared.step.Step.{Step}
-use Rattle.pen_core.specs.declared.step.Step.TheVariants.{Body, BodySync, Gate, GateSync}
+use Rattle.pen_core.specs.declared.step.PenStep.{PenStep}
+use Rattle.pen_core.specs.declared.step.PenStep.TheVariants.{Body, BodySync, Gate, GateSync}
 use Rattle.pen_core.specs.Step.{step_after, body_of, Calls, FailsCall}
 use Rattle.pen_core.specs.Held.{HoldsFrames, gate_of}
 use Rattle.pen_core.specs.Known.{IsFileOf, IsShut, IsBeforeOrAfter}
@@ -21,7 +21,7 @@ use Rattle.pen_core.proofs.Calls.{file_after_body, shut_after_body, written_afte
 use Rattle.pen_core.proofs.Calls.{next_after_sync, file_after_gate, written_after_gate, on_disk_after_gate, open_after_gate, images_of_gate, holds_of_gate}
 
 -- the gate may be pending at these steps
-abbrev pub IsOpening : Step → Type 0
+abbrev pub IsOpening : PenStep → Type 0
 IsOpening step = (step ≡ Gate) ⊎ (step ≡ GateSync)
 
 -- a failed write behind the gate or at it leaves the file
@@ -51,7 +51,7 @@ module _ (shape : Shape) (count : ℕ) (frames next : List Frame) (before after 
   abbrev P : List ℕ → Type 0
   P = IsBeforeOrAfter shape frames next before after
 
-  pub images_at : (step : Step) (s : State) → IsFileOf shape count frames before s
+  pub images_at : (step : PenStep) (s : State) → IsFileOf shape count frames before s
       → IsAtStep shape count p frames next after bytes step s → IsImage s s.seen → (image : List ℕ) → IsImage s image
       → P image
   images_at Body s file at readable image is = inl (images_shut shape count frames before s file readable image is at.0)
@@ -62,13 +62,13 @@ module _ (shape : Shape) (count : ℕ) (frames next : List Frame) (before after 
   shut_kept : (s : State) → IsShut p s → is_within s.pending p ≡ true → ⊥
   shut_kept s shut is = both_ways (is_within s.pending p) shut.kept is
 
-  pub gate_at : (step : Step) (s : State) → IsAtStep shape count p frames next after bytes step s → is_within s.pending p ≡ true → IsOpening step
+  pub gate_at : (step : PenStep) (s : State) → IsAtStep shape count p frames next after bytes step s → is_within s.pending p ≡ true → IsOpening step
   gate_at Body s at is = absurd (shut_kept s at.0 is)
   gate_at BodySync s at is = absurd (shut_kept s at.0 is)
   gate_at Gate s at is = inl refl
   gate_at GateSync s at is = inr refl
 
-  pub tick_leaves : {T : Type 0} (step : Step) (old new : List State) (r : Result T DiskFault)
+  pub tick_leaves : {T : Type 0} (step : PenStep) (old new : List State) (r : Result T DiskFault)
       → IsFileOf shape count frames before (now old) → IsAtStep shape count p frames next after bytes step (now old)
       → IsImage (now old) (bytes_of old)
       → OnOk r (Calls step p bytes old new) → OnErr r (FailsCall step p bytes old new) → LeavesOnly old new P
@@ -82,14 +82,14 @@ module _ (shape : Shape) (count : ℕ) (frames next : List Frame) (before after 
   tick_leaves GateSync old new r file at readable done failed = LeavesOnly-sync old new P r done failed readable (images_at GateSync (now old) file at readable)
 
   -- what a step leaves for the one behind it
-  pub record StandsAt (step : Step) (s : State) : Type 0 where
+  pub record StandsAt (step : PenStep) (s : State) : Type 0 where
     pub file : IsFileOf shape count frames before s
     pub at : IsAtStep shape count p frames next after bytes step s
 
-  pub tick_next : (step : Step) (old new : List State) → IsFileOf shape count frames before (now old)
+  pub tick_next : (step : PenStep) (old new : List State) → IsFileOf shape count frames before (now old)
       → IsAtStep shape count p frames next after bytes step (now old) → IsImage (now old) (bytes_of old)
       → Calls step p bytes old new
-      → (behind : Step) → step_after step ≡ Some behind → StandsAt behind (now new)
+      → (behind : PenStep) → step_after step ≡ Some behind → StandsAt behind (now new)
   tick_next Body old new file at readable call behind is =
       let s = now old in
       let made : now new ≡ written s (p + 1) body = ap now call in
@@ -125,7 +125,7 @@ module _ (shape : Shape) (count : ℕ) (frames next : List Frame) (before after 
       }))
   tick_next GateSync old new file at readable call behind is = absurd cc
 
-  pub tick_done : (step : Step) (old new : List State) → IsAtStep shape count p frames next after bytes step (now old)
+  pub tick_done : (step : PenStep) (old new : List State) → IsAtStep shape count p frames next after bytes step (now old)
       → IsImage (now old) (bytes_of old) → Calls step p bytes old new → step_after step ≡ None
       → IsFileOf shape count next after (now new) × IsShut (gate_of shape next) (now new)
   tick_done Body old new at readable call is = absurd cc
@@ -137,12 +137,12 @@ module _ (shape : Shape) (count : ℕ) (frames next : List Frame) (before after 
       (next_after_sync shape count frames next before after (now old) readable at.0 at.2)
 
   -- a call that failed leaves the same file, no other image, and nothing more pending than its step may leave so
-  pub record Failed (step : Step) (s : State) : Type 0 where
+  pub record Failed (step : PenStep) (s : State) : Type 0 where
     pub file : IsFileOf shape count frames before s
     pub images : (image : List ℕ) → IsImage s image → P image
     pub gate_pending : is_within s.pending p ≡ true → IsOpening step
 
-  pub tick_failed : (step : Step) (old new : List State) → IsFileOf shape count frames before (now old)
+  pub tick_failed : (step : PenStep) (old new : List State) → IsFileOf shape count frames before (now old)
       → IsAtStep shape count p frames next after bytes step (now old) → IsImage (now old) (bytes_of old)
       → IsImage (now new) (bytes_of new) → FailsCall step p bytes old new
       → Failed step (now new)

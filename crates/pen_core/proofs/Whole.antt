@@ -11,8 +11,8 @@ use Rattle.segment_core.specs.declared.tally.Tally.{Tally}
 use Rattle.segment_core.specs.Frame.{Frame, Group, Change, Shrink, frame_text}
 use Rattle.segment_core.specs.Frame as kinds
 use Rattle.segment_core.specs.Tally.{after, MayFollow}
-use Rattle.pen_core.specs.declared.step.Step.{Step}
-use Rattle.pen_core.specs.declared.step.Step.TheVariants.{Body, BodySync, Gate, GateSync}
+use Rattle.pen_core.specs.declared.step.PenStep.{PenStep}
+use Rattle.pen_core.specs.declared.step.PenStep.TheVariants.{Body, BodySync, Gate, GateSync}
 use Rattle.pen_core.specs.Step.{step_after, body_of, Calls}
 use Rattle.pen_core.specs.Held.{IsBeingFolded}
 use Rattle.pen_core.specs.PenLog.{PenLog, frames_read, vector_read}
@@ -110,7 +110,7 @@ laid_past p at old bytes le inside = record {
   each = λ j lt. sym (get_or-overlay old at bytes j inside (omega arith) (inl (omega arith)));
 }
 
-pub calls_alike : (step : Step) (p : ℕ) (bytes : List ℕ) (old new : List State) → p < length (bytes_of old)
+pub calls_alike : (step : PenStep) (p : ℕ) (bytes : List ℕ) (old new : List State) → p < length (bytes_of old)
     → Calls step p bytes old new → LaidAlike p (bytes_of old) (bytes_of new)
 calls_alike Body p bytes old new lt call =
     subst (LaidAlike p (bytes_of old)) (sym (ap bytes_of call))
@@ -125,7 +125,7 @@ calls_alike GateSync p bytes old new lt call =
     subst (LaidAlike p (bytes_of old)) (sym (ap bytes_of call))
     (record { long = omega arith; long_too = omega arith; each = λ j below. refl })
 
-pub last_step : (step : Step) → step_after step ≡ None → step ≡ GateSync
+pub last_step : (step : PenStep) → step_after step ≡ None → step ≡ GateSync
 last_step Body is = absurd cc
 last_step BodySync is = absurd cc
 last_step Gate is = absurd cc

@@ -3,7 +3,7 @@
 use Rattle.std.proofs.Common.{◌∙◌, ◌≡◌, ℕ, ◌<◌, ◌⊎◌, inl, inr, List, length, Some, None, ap, subst, arith}
 use Rattle.segment_core.specs.Frame.{Frame}
 use Rattle.segment_core.specs.Raw.{after_frame}
-use Rattle.pen_core.specs.declared.step.Step.TheVariants as steps
+use Rattle.pen_core.specs.declared.step.PenStep.TheVariants as steps
 use Rattle.pen_core.specs.declared.stage.FoldStage.TheVariants as folds
 use Rattle.pen_core.specs.Held.{Opens, IsBeingFolded}
 use Rattle.pen_core.specs.Vectors.{frames_with}

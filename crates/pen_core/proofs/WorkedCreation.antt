@@ -2,7 +2,7 @@
 use Rattle.std.proofs.Common.{◌≡◌, ℕ, zero, suc, ◌<◌, inl, inr, false, List, [], ◌∷◌, get_or, Some, refl, ap, arith}
 use Rattle.disk_core.specs.declared.fault.DiskFault.TheVariants.{Sync, Length, Read, Write}
 use Rattle.disk_core.specs.State.{settled, written, is_within, IsImage}
-use Rattle.pen_core.specs.declared.create.Contents.TheVariants.{Blank, Closed}
+use Rattle.pen_core.specs.declared.create.FoundFile.TheVariants.{Blank, Closed}
 use Rattle.pen_core.specs.declared.fault.PenFault.TheVariants as faults
 use Rattle.pen_core.specs.Births.{IsExisting, AreContents, WritesNothing, IsFoundOut, AreLooks, AreCallsUntil, first_calls, calls_of_creation}
 

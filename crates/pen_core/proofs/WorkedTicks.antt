@@ -11,8 +11,8 @@ use Rattle.segment_core.specs.Frame.{Frame, Group, Change, Shrink, Fold, frame_t
 use Rattle.segment_core.specs.Blanked.{blanked}
 use Rattle.segment_core.specs.Tally.{after, tally_of}
 use Rattle.segment_core.specs.Vector.{home_of}
-use Rattle.pen_core.specs.declared.step.Step.{Step}
-use Rattle.pen_core.specs.declared.step.Step.TheVariants.{Body, BodySync, Gate, GateSync}
+use Rattle.pen_core.specs.declared.step.PenStep.{PenStep}
+use Rattle.pen_core.specs.declared.step.PenStep.TheVariants.{Body, BodySync, Gate, GateSync}
 use Rattle.pen_core.specs.declared.stage.FoldStage.{FoldStage}
 use Rattle.pen_core.specs.declared.stage.FoldStage.TheVariants.{Home, Sync, Ready, Filed}
 use Rattle.pen_core.specs.declared.stage.Ticked.TheVariants as ticks
@@ -38,7 +38,7 @@ home_write = record { place = 25; bytes = zeros }
 abbrev a_fold : ℕ → FoldStage → FoldOf
 a_fold count stage = record { count = count; left = home_write ∷ []; stage = stage }
 
-abbrev shrink : Step → JobOf
+abbrev shrink : PenStep → JobOf
 shrink step = record { frame = Shrink 1; step = step }
 
 abbrev pen : Option JobOf → Option FoldOf → PenOf (Unit {0})

@@ -8,8 +8,8 @@ use Rattle.segment_core.specs.declared.format.Shape.{Shape}
 use Rattle.segment_core.specs.declared.fault.ScanFault.TheVariants.{Unborn}
 use Rattle.segment_core.specs.Tally.{nothing}
 use Rattle.segment_core.specs.Fault.{header_fault}
-use Rattle.pen_core.specs.declared.create.Contents.{Contents}
-use Rattle.pen_core.specs.declared.create.Contents.TheVariants.{File, Blank, Closed}
+use Rattle.pen_core.specs.declared.create.FoundFile.{FoundFile}
+use Rattle.pen_core.specs.declared.create.FoundFile.TheVariants.{File, Blank, Closed}
 use Rattle.disk_core.specs.declared.fault.DiskFault.{DiskFault}
 use Rattle.pen_core.specs.declared.fault.PenFault.{PenFault}
 use Rattle.disk_core.specs.declared.fault.DiskFault.TheVariants as causes
@@ -25,7 +25,7 @@ abbrev pub IsExisting : List ℕ → Type 0
 IsExisting bytes = (12 < length bytes) ⊎ ((1 < length bytes) × (slice_index bytes 0 ≡ 1))
 
 -- what a look at the bytes finds
-abbrev pub AreContents : List ℕ → Contents → Type 0
+abbrev pub AreContents : List ℕ → FoundFile → Type 0
 AreContents bytes File = IsExisting bytes
 AreContents bytes Blank = length bytes ≤ 1
 AreContents bytes Closed = (1 < length bytes) × (length bytes ≤ 12) × (slice_index bytes 0 ≢ 1)
@@ -92,7 +92,7 @@ abbrev pub IsFoundOut : List ℕ → List DiskFault → ℕ → Type 0
 IsFoundOut bytes calls n = ((12 < length bytes) × EndsAt calls causes.Length n) ⊎ ((length bytes ≤ 12) × EndsAt calls causes.Read n)
 
 -- so many were made where this is found of what the disk holds
-abbrev pub AreLooks : List ℕ → List DiskFault → Contents → ℕ → Type 0
+abbrev pub AreLooks : List ℕ → List DiskFault → FoundFile → ℕ → Type 0
 AreLooks bytes calls File n = IsFoundOut bytes calls n
 AreLooks bytes calls Blank n = n ≡ 1
 AreLooks bytes calls Closed n = n ≡ 2

@@ -11,7 +11,7 @@ use Rattle.segment_core.specs.Frame.{Frame, frame_text}
 use Rattle.segment_core.specs.Frame as frames
 use Rattle.pen_core.specs.declared.fold.Fold.{Fold}
 use Rattle.pen_core.specs.declared.fold.Write.{Write}
-use Rattle.pen_core.specs.declared.step.Step.{Step}
+use Rattle.pen_core.specs.declared.step.PenStep.{PenStep}
 use Rattle.pen_core.specs.declared.stage.FoldStage.{FoldStage}
 use Rattle.pen_core.specs.declared.stage.FoldStage.TheVariants.{Home, Sync, Ready, Filed}
 use Rattle.pen_core.specs.declared.stage.FoldStage.TheVariants as stages
@@ -148,12 +148,12 @@ CanCall gate fold Ready = ⊥
 CanCall gate fold Filed = ⊥
 
 -- where the gate behind the job in hand will stand
-abbrev pub gate_then : ℕ → List ℕ → Option Step → ℕ
+abbrev pub gate_then : ℕ → List ℕ → Option PenStep → ℕ
 gate_then gate bytes None = gate
 gate_then gate bytes (Some step) = gate + (length bytes - 1)
 
 -- a fold whose frame is still to come
-pub record IsUnfiled (shape : Shape) (gate : ℕ) (tally : Tally) (bytes : List ℕ) (step : Option Step) (fold : Fold) : Type 0 where
+pub record IsUnfiled (shape : Shape) (gate : ℕ) (tally : Tally) (bytes : List ℕ) (step : Option PenStep) (fold : Fold) : Type 0 where
   pub live : tally.folded < fold.count
   pub upto : fold.count ≤ tally.changes
   pub planned : ArePlanned gate fold
@@ -161,7 +161,7 @@ pub record IsUnfiled (shape : Shape) (gate : ℕ) (tally : Tally) (bytes : List 
   pub room : gate_then gate bytes step + 14 < 2 ^ 48
 
 -- the frame of the job in hand
-abbrev pub frame_in_hand : Shape → List ℕ → Option Step → Option Frame
+abbrev pub frame_in_hand : Shape → List ℕ → Option PenStep → Option Frame
 frame_in_hand shape bytes None = None
 frame_in_hand shape bytes (Some step) = Some (frame_at shape bytes)
 
@@ -173,7 +173,7 @@ IsInHand Sync = Unit {0}
 IsInHand Ready = Unit {0}
 IsInHand Filed = Unit {0}
 
-abbrev pub IsAtStage : Shape → ℕ → Tally → List ℕ → Option Step → Fold → FoldStage → Type 0
+abbrev pub IsAtStage : Shape → ℕ → Tally → List ℕ → Option PenStep → Fold → FoldStage → Type 0
 IsAtStage shape gate tally bytes step fold stages.None = Unit {0}
 IsAtStage shape gate tally bytes step fold (Home n) = IsUnfiled shape gate tally bytes step fold × (fold.done + n ≡ length fold.writes.items) × (0 < n)
 IsAtStage shape gate tally bytes step fold Sync = IsUnfiled shape gate tally bytes step fold × (fold.done ≡ length fold.writes.items)

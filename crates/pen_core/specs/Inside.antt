@@ -6,8 +6,8 @@ use Rattle.segment_core.specs.declared.tally.Tally.{Tally}
 use Rattle.segment_core.specs.Frame.{Frame, frame_text}
 use Rattle.segment_core.specs.Layout.{IsFrame}
 use Rattle.segment_core.specs.Tally.{after, tally_of, MayFollow}
-use Rattle.pen_core.specs.declared.step.Step.{Step}
-use Rattle.pen_core.specs.declared.step.Step.TheVariants.{Body, BodySync, Gate, GateSync}
+use Rattle.pen_core.specs.declared.step.PenStep.{PenStep}
+use Rattle.pen_core.specs.declared.step.PenStep.TheVariants.{Body, BodySync, Gate, GateSync}
 use Rattle.pen_core.specs.Step.{body_of}
 use Rattle.pen_core.specs.Held.{HoldsFrames, gate_of}
 use Rattle.pen_core.specs.Known.{PendingIsFolded, IsFileOf, IsShut, IsWritten, IsOnDisk}
@@ -17,7 +17,7 @@ use Rattle.pen_core.specs.PenLog.{PenLog, frames_read, vector_read}
 use Rattle.pen_core.specs.PenOf.{JobOf}
 use Rattle.pen_core.specs.Pen.{OpensWith, MayBeOpening}
 
-abbrev pub job_of : Shape → List ℕ → Option Step → Option JobOf
+abbrev pub job_of : Shape → List ℕ → Option PenStep → Option JobOf
 job_of shape bytes None = None
 job_of shape bytes (Some step) = Some (record { frame = frame_at shape bytes; step = step })
 
@@ -34,7 +34,7 @@ pub record IsJob (shape : Shape) (gate : ℕ) (tally next : Tally) (bytes : List
   pub next_is : next ≡ after tally (frame_at shape bytes)
   pub fits : gate + (length bytes - 1) < 2 ^ 48
 
-abbrev pub IsMaybeJob : Shape → ℕ → Tally → Tally → List ℕ → Option Step → Type 0
+abbrev pub IsMaybeJob : Shape → ℕ → Tally → Tally → List ℕ → Option PenStep → Type 0
 IsMaybeJob shape gate tally next bytes None = Unit {0}
 IsMaybeJob shape gate tally next bytes (Some step) = IsJob shape gate tally next bytes
 
@@ -49,14 +49,14 @@ pub record IsBodyOf (shape : Shape) (count gate : ℕ) (frames next : List Frame
   pub holds : HoldsFrames shape next after (overlay (overlay s.seen (gate + 1) body) gate (1 ∷ []))
 
 -- how far the job's frame is, by the call that comes next
-abbrev pub IsAtStep : Shape → ℕ → ℕ → List Frame → List Frame → List (List ℕ) → List ℕ → Step → State → Type 0
+abbrev pub IsAtStep : Shape → ℕ → ℕ → List Frame → List Frame → List (List ℕ) → List ℕ → PenStep → State → Type 0
 IsAtStep shape count gate frames next after bytes Body s = IsShut gate s × IsBodyOf shape count gate frames next after (body_of bytes) s
 IsAtStep shape count gate frames next after bytes BodySync s = IsShut gate s × IsWritten shape count frames next after s
 IsAtStep shape count gate frames next after bytes Gate s = IsShut gate s × IsWritten shape count frames next after s × IsOnDisk shape frames next s
 IsAtStep shape count gate frames next after bytes GateSync s =
     IsWritten shape count frames next after s × IsOnDisk shape frames next s × (slice_index s.seen gate ≡ 1)
 
-abbrev pub Stands : Shape → ℕ → ℕ → List Frame → List (List ℕ) → List ℕ → Option Step → State → Type 0
+abbrev pub Stands : Shape → ℕ → ℕ → List Frame → List (List ℕ) → List ℕ → Option PenStep → State → Type 0
 Stands shape count gate frames vector bytes None s = IsShut gate s
 Stands shape count gate frames vector bytes (Some step) s =
     let frame = frame_at shape bytes in

@@ -6,8 +6,8 @@ use Rattle.disk_core.specs.Choice.{is_pending}
 use Rattle.segment_core.specs.declared.format.Shape.{Shape}
 use Rattle.segment_core.specs.Frame.{Frame, Group, Change, Shrink, Fold, frame_text}
 use Rattle.segment_core.specs.Tally.{after, tally_of}
-use Rattle.pen_core.specs.declared.step.Step.{Step}
-use Rattle.pen_core.specs.declared.step.Step.TheVariants as steps
+use Rattle.pen_core.specs.declared.step.PenStep.{PenStep}
+use Rattle.pen_core.specs.declared.step.PenStep.TheVariants as steps
 use Rattle.pen_core.specs.declared.stage.Ticked.{Ticked}
 use Rattle.pen_core.specs.declared.stage.Ticked.TheVariants as ticks
 use Rattle.pen_core.specs.declared.stage.HomeTicked.{HomeTicked}
@@ -88,7 +88,7 @@ fold_behind (Shrink n) fold = fold
 fold_behind (Fold count) fold = None
 
 abbrev pub next_job : JobOf → Option JobOf → Type 0
-next_job old new = (step : Step) × (step_after old.step ≡ Some step) × (new ≡ Some (record { frame = old.frame; step = step }))
+next_job old new = (step : PenStep) × (step_after old.step ≡ Some step) × (new ≡ Some (record { frame = old.frame; step = step }))
 
 -- the last call of the job succeeded: its frame stands in the file
 pub record CountsDone {D : Type 0} (frame : Frame) (old new : PenOf D) : Type 0 where

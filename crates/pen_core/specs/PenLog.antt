@@ -6,7 +6,7 @@ use Rattle.segment_core.specs.declared.format.Shape.{Shape}
 use Rattle.segment_core.specs.declared.tally.Tally.{Tally}
 use Rattle.segment_core.specs.Frame.{Frame}
 use Rattle.segment_core.specs.Parsed.{vector_before}
-use Rattle.pen_core.specs.declared.step.Step.{Step}
+use Rattle.pen_core.specs.declared.step.PenStep.{PenStep}
 use Rattle.pen_core.specs.Vectors.{blanked_before}
 
 -- The gate behind the file's frames, and what these leave; the job's bytes, and the device call that comes next.
@@ -15,7 +15,7 @@ pub record PenLog : Type 0 where
   pub gate : ℕ
   pub tally : Tally
   pub bytes : List ℕ
-  pub step : Option Step
+  pub step : Option PenStep
   pub broken : Bool
 
 -- the frames and the vector that a read of the disk gives, cut at the gate

@@ -3,13 +3,13 @@ use Rattle.std.specs.Prelude.{ℕ, Bool, List, Option}
 use Rattle.segment_core.specs.declared.format.Shape.{Shape}
 use Rattle.segment_core.specs.declared.tally.Tally.{Tally}
 use Rattle.segment_core.specs.Frame.{Frame}
-use Rattle.pen_core.specs.declared.step.Step.{Step}
+use Rattle.pen_core.specs.declared.step.PenStep.{PenStep}
 use Rattle.pen_core.specs.declared.stage.FoldStage.{FoldStage}
 
 -- a frame that is being committed, and the device call that comes next
 pub record JobOf : Type 0 where
   pub frame : Frame
-  pub step : Step
+  pub step : PenStep
 
 -- a write of home bytes
 pub record HomeWrite : Type 0 where

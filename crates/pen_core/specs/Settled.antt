@@ -3,7 +3,7 @@ use Rattle.std.specs.Prelude.{◌≡◌, ◌⊎◌, ℕ, ◌+◌, true, false, L
 use Rattle.disk_core.specs.State.{State}
 use Rattle.disk_core.specs.Moments.{LeavesOnly, clock}
 use Rattle.segment_core.specs.Frame.{Frame}
-use Rattle.pen_core.specs.declared.step.Step.{Step}
+use Rattle.pen_core.specs.declared.step.PenStep.{PenStep}
 use Rattle.pen_core.specs.Step.{fault_of}
 use Rattle.pen_core.specs.declared.fault.PenFault.{PenFault}
 use Rattle.pen_core.specs.declared.fault.PenFault.TheVariants as faults
@@ -24,7 +24,7 @@ abbrev pub frames_after : {D : Type 0} → PenOf D → List Frame
 frames_after pen = frames_and pen.frames pen.job
 
 -- a device call of the job has failed: it stands where it stood
-pub record StopsAt {D : Type 0} (frame : Frame) (step : Step) (old new : PenOf D) : Type 0 where
+pub record StopsAt {D : Type 0} (frame : Frame) (step : PenStep) (old new : PenOf D) : Type 0 where
   pub job_is : new.job ≡ Some (record { frame = frame; step = step })
   pub broken : new.broken ≡ true
   pub counts_same : CountsSame old new
@@ -33,14 +33,14 @@ pub record StopsAt {D : Type 0} (frame : Frame) (step : Step) (old new : PenOf D
 abbrev pub IsLogFault : {D : Type 0} → PenOf D → PenOf D → PenFault → Type 0
 IsLogFault old new fault =
     ((fault ≡ faults.Broken) × (old.broken ≡ true) × (new ≡ old))
-    ⊎ ((job : JobOf) × (step : Step) × (old.broken ≡ false) × (old.job ≡ Some job) × (fault ≡ faults.Disk (fault_of step))
+    ⊎ ((job : JobOf) × (step : PenStep) × (old.broken ≡ false) × (old.job ≡ Some job) × (fault ≡ faults.Disk (fault_of step))
     × StopsAt job.frame step old new)
 
 -- a stretch of calls, none of them the last one
 pub record LogGoes {D : Type 0} (keeps : D → Type 0) (states : D → List State) (faults : D → ℕ) (old new : PenOf D) : Type 0 where
   pub images : keeps new.disk → LeavesOnly (states old.disk) (states new.disk) (MayOpen old)
   pub job : JobOf
-  pub step : Step
+  pub step : PenStep
   pub job_was : old.job ≡ Some job
   pub job_is : new.job ≡ Some (record { frame = job.frame; step = step })
   pub counts_same : CountsSame old new

@@ -10,7 +10,7 @@ ghost use Rattle.pen_core.specs.Refusals.{first_refusal, IsRefusal, ready_lines,
 use crate::fault::PenFault;
 use crate::frame_bytes::put_shrink;
 use crate::pen::Pen;
-use crate::step::Step;
+use crate::step::PenStep;
 use disk_core::Disk;
 use segment_core::{FRAME_HEAD_LEN, GATE_LIMIT, SHRINK_PAYLOAD_LEN, Tally};
 
@@ -84,7 +84,7 @@ impl<D: Disk> Pen<D> {
             size: n,
             ..self.tally
         };
-        self.step = Some(Step::Body);
+        self.step = Some(PenStep::Body);
         Ok(())
     }
 }

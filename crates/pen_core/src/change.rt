@@ -16,7 +16,7 @@ use crate::fault::PenFault;
 use crate::frame_bytes::{put_change, take_room};
 use crate::group::count_records;
 use crate::pen::Pen;
-use crate::step::Step;
+use crate::step::PenStep;
 use disk_core::Disk;
 use record_core::Record;
 use segment_core::{Format, GrowthList, Tally};
@@ -170,7 +170,7 @@ impl<D: Disk> Pen<D> {
             changes: self.tally.changes + 1,
             ..self.tally
         };
-        self.step = Some(Step::Body);
+        self.step = Some(PenStep::Body);
         Ok(())
     }
 

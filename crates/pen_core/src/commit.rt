@@ -10,12 +10,12 @@ ghost use Rattle.pen_core.specs.Pen.{MayOpen, IsKept, LogTickCalls, LogTickFails
 use crate::fault::PenFault;
 use crate::pen::Pen;
 use crate::stage::Ticked;
-use crate::step::Step;
+use crate::step::PenStep;
 use disk_core::{Disk, DiskFault};
 use segment_core::OPEN_GATE;
 
 /// The device call of this step.
-fn call<D: Disk>(disk: &mut D, step: Step, gate: u64, bytes: &[u8]) -> Result<(), DiskFault>
+fn call<D: Disk>(disk: &mut D, step: PenStep, gate: u64, bytes: &[u8]) -> Result<(), DiskFault>
     requires some { 1 ≤ length bytes.now }
     requires inside { D.keeps disk.old → gate < length (bytes_of (D.states disk.old)) }
     requires fits { gate + length bytes.now < 2 ^ 64 }
@@ -27,10 +27,10 @@ fn call<D: Disk>(disk: &mut D, step: Step, gate: u64, bytes: &[u8]) -> Result<()
     ensures goes_on { D.keeps disk.old → OnOk result (D.keeps disk.new) }
 {
     match step {
-        Step::Body => disk.write_at(gate + 1, &bytes[1..]),
-        Step::BodySync => disk.sync(),
-        Step::Gate => disk.write_at(gate, &[OPEN_GATE]),
-        Step::GateSync => disk.sync(),
+        PenStep::Body => disk.write_at(gate + 1, &bytes[1..]),
+        PenStep::BodySync => disk.sync(),
+        PenStep::Gate => disk.write_at(gate, &[OPEN_GATE]),
+        PenStep::GateSync => disk.sync(),
     }
 }
 

@@ -21,7 +21,7 @@ use std::alloc::Global;
 
 /// What a disk holds before a file is made on it.
 #[derive(Clone, Copy)]
-pub(crate) enum Contents {
+pub(crate) enum FoundFile {
     /// A file.
     File,
     /// At most one byte.
@@ -31,12 +31,12 @@ pub(crate) enum Contents {
 }
 
 /// What the disk holds.
-fn look<D: Disk>(disk: &mut D) -> Result<Contents, DiskFault>
+fn look<D: Disk>(disk: &mut D) -> Result<FoundFile, DiskFault>
     ensures found { D.keeps disk.new → IfOk result (λ seen. AreContents (bytes_of (D.states disk.old)) seen) }
     ensures same { D.keeps disk.new → now (D.states disk.new) ≡ now (D.states disk.old) }
     ensures images { D.keeps disk.new → LeavesOnly (D.states disk.old) (D.states disk.new) (IsImage (now (D.states disk.old))) }
     ensures time { clock (D.states disk.new) ≤ clock (D.states disk.old) + 2 }
-    ensures blank_time { result ≡ Ok Contents.Blank → clock (D.states disk.new) ≡ clock (D.states disk.old) + 1 }
+    ensures blank_time { result ≡ Ok FoundFile.Blank → clock (D.states disk.new) ≡ clock (D.states disk.old) + 1 }
     ensures later { clock (D.states disk.old) < clock (D.states disk.new) }
     ensures calls { D.keeps disk.new → MatchResult result
         (λ seen. AreLooks (bytes_of (D.states disk.old)) (first_calls (bytes_of (D.states disk.old))) seen (clock (D.states disk.new) - clock (D.states disk.old)))
@@ -48,17 +48,17 @@ fn look<D: Disk>(disk: &mut D) -> Result<Contents, DiskFault>
 {
     let len = disk.len()?;
     if len > EMPTY_FILE_LEN as u64 {
-        return Ok(Contents::File);
+        return Ok(FoundFile::File);
     }
     if len < 2 {
-        return Ok(Contents::Blank);
+        return Ok(FoundFile::Blank);
     }
     let mut first = [0];
     disk.read_at(0, &mut first)?;
     if first[0] == OPEN_GATE {
-        return Ok(Contents::File);
+        return Ok(FoundFile::File);
     }
-    Ok(Contents::Closed)
+    Ok(FoundFile::Closed)
 }
 
 /// Writes the bytes and syncs them.
@@ -107,9 +107,9 @@ fn close_first<D: Disk>(disk: &mut D) -> Result<(), PenFault>
         Err(fault) => return Err(PenFault::Disk(fault)),
     };
     match contents {
-        Contents::File => Err(PenFault::Exists),
-        Contents::Closed => Ok(()),
-        Contents::Blank => match write_synced(disk, 0, &[CLOSED_GATE]) {
+        FoundFile::File => Err(PenFault::Exists),
+        FoundFile::Closed => Ok(()),
+        FoundFile::Blank => match write_synced(disk, 0, &[CLOSED_GATE]) {
             Ok(()) => Ok(()),
             Err(fault) => Err(PenFault::Disk(fault)),
         },

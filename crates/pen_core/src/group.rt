@@ -12,7 +12,7 @@ ghost use Rattle.pen_core.specs.Refusals.{first_refusal, fold_len, IsRefusal, gr
 use crate::fault::PenFault;
 use crate::frame_bytes::put_group;
 use crate::pen::Pen;
-use crate::step::Step;
+use crate::step::PenStep;
 use disk_core::Disk;
 use record_core::{GROWTH_HEAD_LEN, RECORD_LIMIT, Record, width_of};
 use segment_core::{COUNT_LEN, FRAME_HEAD_LEN, GrowthList, Home, Tally};
@@ -123,7 +123,7 @@ impl<D: Disk> Pen<D> {
             size: self.tally.size + records,
             ..self.tally
         };
-        self.step = Some(Step::Body);
+        self.step = Some(PenStep::Body);
         Ok(())
     }
 

@@ -13,14 +13,14 @@ use crate::fold::FRAME_LEN;
 use crate::frame_bytes::put_fold;
 use crate::pen::Pen;
 use crate::stage::{FoldStage, HomeTicked};
-use crate::step::Step;
+use crate::step::PenStep;
 use disk_core::Disk;
 use record_core::Record;
 use segment_core::{GATE_LIMIT, GrowthList, Tally};
 use std::mem::swap;
 
 /// Where the gate will stand behind the job in hand.
-fn gate_behind(gate: u64, step: Option<Step>, bytes: &[u8]) -> u64
+fn gate_behind(gate: u64, step: Option<PenStep>, bytes: &[u8]) -> u64
     requires { gate_then gate bytes.now step < 2 ^ 64 }
     ensures { result ≡ gate_then gate bytes.now step }
 {
@@ -152,7 +152,7 @@ impl<D: Disk> Pen<D> {
             folded: self.fold.count,
             ..self.tally
         };
-        self.step = Some(Step::Body);
+        self.step = Some(PenStep::Body);
         Ok(HomeTicked::Filed)
     }
 }

@@ -6,7 +6,7 @@ ghost use Rattle.pen_core.specs.Pen.{IsKept, stage_of};
 
 use crate::fold::Fold;
 use crate::stage::Stage;
-use crate::step::Step;
+use crate::step::PenStep;
 use disk_core::Disk;
 use segment_core::{Format, Homes, Shape, Tally};
 use std::marker::Model;
@@ -26,7 +26,7 @@ pub struct Pen<D: Disk> {
     /// The job's frame with its gate open, and the next gate, closed. Its memory is used again.
     pub(crate) bytes: Vec<u8>,
     /// The device call that comes next, where a job is in hand.
-    pub(crate) step: Option<Step>,
+    pub(crate) step: Option<PenStep>,
     /// Where the home bytes of the file's positions stand, and the runs of its live changes; behind them stands what
     /// the job in hand adds.
     pub(crate) homes: Homes,

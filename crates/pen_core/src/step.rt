@@ -5,7 +5,7 @@ ghost use Rattle.pen_core.specs.Step.{step_after, steps_left};
 
 /// The device call of a commit that comes next.
 #[derive(Clone, Copy)]
-pub(crate) enum Step {
+pub(crate) enum PenStep {
     /// Writes the frame but for its gate, and the next gate, closed.
     Body,
     /// Syncs it.
@@ -16,16 +16,16 @@ pub(crate) enum Step {
     GateSync,
 }
 
-impl Step {
+impl PenStep {
     /// The one behind it.
-    pub(crate) fn next(self) -> Option<Step>
+    pub(crate) fn next(self) -> Option<PenStep>
         ensures { result ≡ step_after self }
     {
         match self {
-            Step::Body => Some(Step::BodySync),
-            Step::BodySync => Some(Step::Gate),
-            Step::Gate => Some(Step::GateSync),
-            Step::GateSync => None,
+            PenStep::Body => Some(PenStep::BodySync),
+            PenStep::BodySync => Some(PenStep::Gate),
+            PenStep::Gate => Some(PenStep::GateSync),
+            PenStep::GateSync => None,
         }
     }
 
@@ -34,10 +34,10 @@ impl Step {
         ensures { result ≡ steps_left self }
     {
         match self {
-            Step::Body => 4,
-            Step::BodySync => 3,
-            Step::Gate => 2,
-            Step::GateSync => 1,
+            PenStep::Body => 4,
+            PenStep::BodySync => 3,
+            PenStep::Gate => 2,
+            PenStep::GateSync => 1,
         }
     }
 }

@@ -9,7 +9,7 @@ use Rattle.disk_core.specs.Choice.{IsChosen}
 use Rattle.drive_core.specs.declared.step.Step as code_step
 use Rattle.drive_core.specs.Asked.{step_of}
 use Rattle.drive_core.specs.World.{DiskOf}
-use Rattle.play_core.specs.declared.script.Part as code
+use Rattle.play_core.specs.declared.script.ScriptPart as code
 use Rattle.play_core.specs.Answers.{crashed_line}
 use Rattle.play_core.specs.Script.{PartOf, ScriptOf, part_of}
 use Rattle.play_core.specs.Played.{AreStepsPlayed, IsPartPlayed, ArePartsPlayed, IsScriptPlayed, ram_disk, fresh_disk}
@@ -30,7 +30,7 @@ module _ {R : Type 0} (form : Encoding R) (text_of : R → List ℕ) where
       → AreStepsPlayed form text_of old (map step_of steps) new own → AreStepsPlayed form text_of old (map step_of given) new own
   steps_played old steps given new own are played = subst (λ (ss : List (code_step.Step R)). AreStepsPlayed form text_of old (map step_of ss) new own) are played
 
-  pub part_played : (old : DiskOf) (part : code.Part R) (left : RamDisk) (steps : List (code_step.Step R)) (image own : List ℕ)
+  pub part_played : (old : DiskOf) (part : code.ScriptPart R) (left : RamDisk) (steps : List (code_step.Step R)) (image own : List ℕ)
       → steps ≡ part.steps.items → AreStepsPlayed form text_of old (map step_of steps) (ram_disk left) own
       → IsChosen part.crash (now (states_of left)) image
       → IsPartPlayed form text_of old (part_of part) image (own ++ crashed_line (length image))

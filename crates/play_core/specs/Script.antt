@@ -4,7 +4,7 @@ use Rattle.std.specs.List.{flat_map}
 use Rattle.disk_core.specs.declared.choice.Choice.{Choice}
 use Rattle.drive_core.specs.Step.{Step}
 use Rattle.drive_core.specs.Asked.{step_of}
-use Rattle.play_core.specs.declared.script.Part as code
+use Rattle.play_core.specs.declared.script.ScriptPart as code
 use Rattle.play_core.specs.declared.script.Script as code_script
 use Rattle.text_core.specs.Text.{Spelling}
 use Rattle.text_core.specs.Lines.{AreLines}
@@ -20,7 +20,7 @@ pub record ScriptOf (R : Type 0) : Type 0 where
   pub last : List (Step R)
 
 module _ {R : Type 0} where
-  abbrev pub part_of : code.Part R → PartOf R
+  abbrev pub part_of : code.ScriptPart R → PartOf R
   part_of part = record { steps = map step_of part.steps.items; crash = part.crash }
 
   abbrev pub script_of : code_script.Script R → ScriptOf R

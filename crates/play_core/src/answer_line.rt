@@ -8,7 +8,7 @@ ghost use Rattle.drive_core.specs.Names.{fault_name};
 ghost use Rattle.play_core.specs.Answers.{growth_answer, mark_text, settled_answer, tick_word, listed_text, answer_text, answer_lines, crashed_line};
 
 use book_core::{MarkState, Receipt};
-use drive_core::{Answer, Fault};
+use drive_core::{Answer, StepFault};
 use flush_core::Tick;
 use std::io;
 use std::io::Write;
@@ -73,7 +73,7 @@ fn write_list<R: TextRecord, W: Write>(writer: &mut W, records: &[R]) -> io::Res
     write_spaced(writer, others)
 }
 
-fn write_refused<W: Write>(writer: &mut W, fault: Fault) -> io::Result<()>
+fn write_refused<W: Write>(writer: &mut W, fault: StepFault) -> io::Result<()>
     ensures { OnOk result (Appends (W.contents writer.old) (W.contents writer.new) (codes "refused " ++ fault_name fault)) }
 {
     write!(writer, "refused {fault}")

@@ -11,7 +11,7 @@ ghost use Rattle.play_core.specs.Played.{AreStepsPlayed, IsPartPlayed, IsScriptP
 ghost use Rattle.play_core.specs.Script.{part_of, script_of};
 
 use crate::answer_line::{write_answers, write_crashed};
-use crate::script::{Part, Script, read_script};
+use crate::script::{Script, ScriptPart, read_script};
 use disk_core::{Choice, RamDisk};
 use drive_core::{Step, drive};
 use std::alloc::Global;
@@ -64,7 +64,7 @@ fn play_part<R: TextRecord, E: Threads + Wait + Sync>(
     alloc: Global,
     rt: &E,
     disk: RamDisk,
-    part: &Part<R>,
+    part: &ScriptPart<R>,
     text: &mut Vec<u8>,
 ) -> Result<RamDisk, Refusal>
     ensures played { IfOk result (λ left. (image : List ℕ) × (own : List ℕ) × (text.new.items ≡ text.old.items ++ own) × IsPartPlayed R.form R.spelling.text_of (ram_disk disk) (part_of part.now) image own × (ram_disk left ≡ fresh_disk image)) }

@@ -15,7 +15,7 @@ use text_core::{LineFault, Refusal, TextRecord, next_line};
 
 /// The steps between two crashes, and the image that the second one leaves.
 #[derive(Drop)]
-pub struct Part<R> {
+pub struct ScriptPart<R> {
     pub steps: Vec<Step<R>>,
     pub crash: Choice,
 }
@@ -23,7 +23,7 @@ pub struct Part<R> {
 /// What the lines of an input ask for, cut at the crashes.
 #[derive(Drop)]
 pub struct Script<R> {
-    pub parts: Vec<Part<R>>,
+    pub parts: Vec<ScriptPart<R>>,
     pub last: Vec<Step<R>>,
 }
 
@@ -45,7 +45,7 @@ impl<R: TextRecord> Script<R> {
             Asked::Step(step) => self.last.push(step)?,
             Asked::Crash(crash) => {
                 let steps = mem::replace(&mut self.last, Vec::new(alloc));
-                self.parts.push(Part { steps, crash })?;
+                self.parts.push(ScriptPart { steps, crash })?;
             }
         }
         Ok(())

@@ -10,7 +10,7 @@ use Rattle.disk_core.proofs.JoinedMoments.{LeavesOnly-join, LeavesOnly-weaker}
 use Rattle.pen_core.specs.Opening.{IsOpened, OnlySyncs}
 use Rattle.pen_core.specs.PenOf.{PenOf}
 use Rattle.pen_core.specs.Typed.{OpensTo}
-use Rattle.directory_core.specs.Chain.{joined}
+use Rattle.directory_core.specs.Chain.{grown_records}
 use Rattle.book_core.specs.Lists.{Phase, joined_pieces}
 use Rattle.flush_core.specs.Flusher.{FlusherOf, IsFlusherOf, OpensToFirst, OpensToJob}
 use Rattle.flush_core.specs.Serving.{Serves}
@@ -77,7 +77,7 @@ module _ {R D : Type 0} (form : Encoding R) (keeps : D → Type 0) (states : D �
       opening : begun.opening ≡ list_of vault
       opening = of.opening (subst keeps whole kept) ∙ ap joined_pieces blocks
 
-      list : (n : ℕ) → begun.opening ++ joined (take n begun.pass.entries) ≡ list_of vault
+      list : (n : ℕ) → begun.opening ++ grown_records (take n begun.pass.entries) ≡ list_of vault
       list n = rw (none, take-nil, append-nil) opening
 
       first : (image : List ℕ) → OpensToJob form begun image → OpensTo form image (list_of vault)
@@ -95,7 +95,7 @@ module _ {R D : Type 0} (form : Encoding R) (keeps : D → Type 0) (states : D �
     first_of kept image first = record {
       count = first.count;
       known = first.known;
-      opens = subst (λ (before : List R). OpensTo form image (before ++ joined (take first.count served.pass.entries))) (opening kept) first.opens;
+      opens = subst (λ (before : List R). OpensTo form image (before ++ grown_records (take first.count served.pass.entries))) (opening kept) first.opens;
     }
 
     since : keeps served.pen.disk → LeavesOnly (states vault.pen.disk) (states served.pen.disk) (OpensToGrown form (list_of vault) served.pass.entries)
@@ -108,7 +108,7 @@ module _ {R D : Type 0} (form : Encoding R) (keeps : D → Type 0) (states : D �
       count = job.kept.count;
       at_least = job.kept.at_least;
       known = job.kept.known;
-      opens = subst (λ (before : List R). OpensTo form image (before ++ joined (take job.kept.count served.pass.entries))) (opening kept) job.kept.opens;
+      opens = subst (λ (before : List R). OpensTo form image (before ++ grown_records (take job.kept.count served.pass.entries))) (opening kept) job.kept.opens;
     }
 
     module _ (left : D) (settled : ℕ) (same : left ≡ served.pen.disk) (count_is : settled ≡ served.settled) (few : settled ≤ length served.pass.entries)

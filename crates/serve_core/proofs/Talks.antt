@@ -11,8 +11,8 @@ use Rattle.block_core.specs.Growth.{Growth}
 use Rattle.book_core.specs.declared.seat.Receipt.{Receipt}
 use Rattle.book_core.specs.Lists.{Phase, Seated, IsSeatOf}
 use Rattle.book_core.specs.Growing.{Grown, growth_of}
-use Rattle.serve_core.specs.declared.refusal.Refusal.{Refusal}
-use Rattle.serve_core.specs.declared.refusal.Refusal.TheVariants as refusals
+use Rattle.serve_core.specs.declared.refusal.RequestRefusal.{RequestRefusal}
+use Rattle.serve_core.specs.declared.refusal.RequestRefusal.TheVariants as refusals
 use Rattle.serve_core.specs.declared.talking.TalkEnd.{TalkEnd}
 use Rattle.serve_core.specs.declared.talking.TalkEnd.TheVariants.{Ended, Gone, Cut, InputFailed, Refused, OutputFailed, Memory}
 use Rattle.serve_core.specs.Answers.{answer_bytes}
@@ -21,10 +21,10 @@ use Rattle.serve_core.specs.Talks.{IsNextOf, AreExchanges, Exchange, IsExchange,
 use Rattle.serve_core.specs.Talks.{EndsReading, end_within, IsCutGrowth, IsCutRequest}
 use Rattle.serve_core.specs.Requests.{IsRequestHead, head_of}
 use Rattle.serve_core.specs.declared.request.Head.{Head}
-use Rattle.serve_core.specs.declared.request.Request.{Request}
-use Rattle.serve_core.specs.declared.request.Request.TheVariants as requests
-use Rattle.serve_core.specs.declared.answer.Answer.{Answer}
-use Rattle.serve_core.specs.declared.answer.Answer.TheVariants as answers
+use Rattle.serve_core.specs.declared.request.ClientRequest.{ClientRequest}
+use Rattle.serve_core.specs.declared.request.ClientRequest.TheVariants as requests
+use Rattle.serve_core.specs.declared.reply.Reply.{Reply}
+use Rattle.serve_core.specs.declared.reply.Reply.TheVariants as answers
 
 pub Appends-then : (u v w : Option (List ℕ)) (a b : List ℕ) → Appends u v a → Appends v w b → Appends u w (a ++ b)
 Appends-then None v w a b x y = tt
@@ -84,7 +84,7 @@ pub record IsTalking {R : Type 0} (form : Encoding R) (live : Phase R) (seat : S
   pub go_on : AllGoOn exchanges
 
 -- no answer ends a conversation for want of memory
-no_memory : (answer : Answer) → EndsTalk Memory answer → ⊥
+no_memory : (answer : Reply) → EndsTalk Memory answer → ⊥
 no_memory answers.Ended is = cc
 no_memory (answers.Refused refusal) is = let e = is.1 in cc
 no_memory (answers.Grown number start) is = is
@@ -93,7 +93,7 @@ no_memory (answers.Looked size settled) is = is
 no_memory (answers.Piece start) is = is
 
 -- nor as the end of the requests does, nor a failed read
-not_gone : (answer : Answer) → EndsTalk Gone answer → ⊥
+not_gone : (answer : Reply) → EndsTalk Gone answer → ⊥
 not_gone answers.Ended is = cc
 not_gone (answers.Refused refusal) is = let e = is.1 in cc
 not_gone (answers.Grown number start) is = is
@@ -101,7 +101,7 @@ not_gone (answers.Settled growths) is = is
 not_gone (answers.Looked size settled) is = is
 not_gone (answers.Piece start) is = is
 
-not_cut : (answer : Answer) → EndsTalk Cut answer → ⊥
+not_cut : (answer : Reply) → EndsTalk Cut answer → ⊥
 not_cut answers.Ended is = cc
 not_cut (answers.Refused refusal) is = let e = is.1 in cc
 not_cut (answers.Grown number start) is = is
@@ -109,7 +109,7 @@ not_cut (answers.Settled growths) is = is
 not_cut (answers.Looked size settled) is = is
 not_cut (answers.Piece start) is = is
 
-not_failed : (answer : Answer) → EndsTalk InputFailed answer → ⊥
+not_failed : (answer : Reply) → EndsTalk InputFailed answer → ⊥
 not_failed answers.Ended is = cc
 not_failed (answers.Refused refusal) is = let e = is.1 in cc
 not_failed (answers.Grown number start) is = is
@@ -179,14 +179,14 @@ module _ {R : Type 0} (form : Encoding R) (live : Phase R) (seat : Seated R) (in
     read_more : Consumes input input_new (asked so_far.exchanges ++ (done.exchange.head ++ done.exchange.block))
     read_more = Consumes-trans input input_mid input_new (asked so_far.exchanges) (done.exchange.head ++ done.exchange.block) so_far.requests done.read
 
-    wrote_more : (answer : Answer) (out : List ℕ) (output_new : Option (List ℕ)) → done.exchange.answer ≡ answer
+    wrote_more : (answer : Reply) (out : List ℕ) (output_new : Option (List ℕ)) → done.exchange.answer ≡ answer
         → out ≡ answer_bytes form answer done.exchange.records → Appends output_mid output_new out
         → Appends output output_new (told form so_far.exchanges ++ answer_bytes form done.exchange.answer done.exchange.records)
     wrote_more answer out output_new is bytes wrote =
         Appends-then output output_mid output_new (told form so_far.exchanges) (answer_bytes form done.exchange.answer done.exchange.records) so_far.answers
-        (subst (Appends output_mid output_new) (bytes ∙ ap (λ (a : Answer). answer_bytes form a done.exchange.records) (sym is)) wrote)
+        (subst (Appends output_mid output_new) (bytes ∙ ap (λ (a : Reply). answer_bytes form a done.exchange.records) (sym is)) wrote)
 
-    pub goes_on : (then : ℕ) (answer : Answer) (out : List ℕ) (output_new : Option (List ℕ)) → done.exchange.answer ≡ answer
+    pub goes_on : (then : ℕ) (answer : Reply) (out : List ℕ) (output_new : Option (List ℕ)) → done.exchange.answer ≡ answer
         → out ≡ answer_bytes form answer done.exchange.records → Appends output_mid output_new out
         → IsSeatOf live new → IsNextOf then new.made → TalkGoesOn answer → IsTalking form live seat input output then new input_new output_new
     goes_on then answer out output_new is bytes wrote of numbers goes = record {
@@ -200,7 +200,7 @@ module _ {R : Type 0} (form : Encoding R) (live : Phase R) (seat : Seated R) (in
     }
 
     -- the answer was written, and the conversation ends behind it
-    pub ends : (answer : Answer) (out : List ℕ) (output_new : Option (List ℕ)) (end : TalkEnd) → done.exchange.answer ≡ answer
+    pub ends : (answer : Reply) (out : List ℕ) (output_new : Option (List ℕ)) (end : TalkEnd) → done.exchange.answer ≡ answer
         → out ≡ answer_bytes form answer done.exchange.records → Appends output_mid output_new out
         → EndsTalk end answer → HasTalked form live seat new input input_new output output_new end
     ends answer out output_new end is bytes wrote so = record {
@@ -212,7 +212,7 @@ module _ {R : Type 0} (form : Encoding R) (live : Phase R) (seat : Seated R) (in
       ends = ends_so end (subst (EndsTalk end) (sym is) so);
     }
       where
-        told_all : (end : TalkEnd) (answer : Answer) → Appends output output_new (told form (done.exchange ∷ so_far.exchanges)) → EndsTalk end answer
+        told_all : (end : TalkEnd) (answer : Reply) → Appends output output_new (told form (done.exchange ∷ so_far.exchanges)) → EndsTalk end answer
             → Appends output output_new (told form (told_of end (done.exchange ∷ so_far.exchanges)))
         told_all Ended answer wrote is = wrote
         told_all Gone answer wrote is = wrote
@@ -302,14 +302,14 @@ module _ {R : Type 0} (form : Encoding R) (live : Phase R) (seat : Seated R) (in
 
 -- a request with this head was answered so
 pub some_exchange : {R X E : Type 0} (form : Encoding R) (live : Phase R) (old new : Seated R) (head block : List ℕ) (numbers : Head)
-    (request : Request) (records : X → List R) (result : Result (Answer × X) E)
+    (request : ClientRequest) (records : X → List R) (result : Result (Reply × X) E)
     → IsRequestHead head numbers → numbers ≡ head_of request → IfOk result (λ r. IsOfRequest form live request block old new r.0 (records r.1))
     → IfOk result (λ r. IsExchange form live old (record { head = head; block = block; answer = r.0; records = records r.1 }) new)
 some_exchange form live old new head block numbers request records (Err e) is of told = tt
 some_exchange form live old new head block numbers request records (Ok r) is of told = record { numbers = numbers; head = is; told = inr (record { request = request; is = of; told = told }) }
 
 -- or its growth was cut
-pub cut_of_head : {X : Type 0} (head : List ℕ) (numbers : Head) (request : Request) (IsCut : ℕ → TalkEnd → Type 0) (result : Result X TalkEnd)
+pub cut_of_head : {X : Type 0} (head : List ℕ) (numbers : Head) (request : ClientRequest) (IsCut : ℕ → TalkEnd → Type 0) (result : Result X TalkEnd)
     → IsRequestHead head numbers → numbers ≡ head_of request → IfErr result (λ end. (count : ℕ) × (request ≡ requests.Grow count) × IsCut count end)
     → IfErr result (λ end. (count : ℕ) × IsRequestHead head (head_of (requests.Grow count)) × IsCut count end)
 cut_of_head head numbers request IsCut (Ok x) is of cut = tt
@@ -321,7 +321,7 @@ module _ {R : Type 0} (form : Encoding R) (live : Phase R) (count : ℕ) (block 
   abbrev has : IsBlockOfRecords form count block
   has = record { bytes = bytes; records = records; len = len; are = are }
 
-  refused_so : (refusal : Refusal) (seat : Seated R) → IsGrowRefusal live (length records) seat refusal → IsGrowthRefusal form live count block seat refusal
+  refused_so : (refusal : RequestRefusal) (seat : Seated R) → IsGrowRefusal live (length records) seat refusal → IsGrowthRefusal form live count block seat refusal
   refused_so refusals.UnknownKind seat why = absurd why
   refused_so refusals.StrayNumber seat why = absurd why
   refused_so refusals.NoRecord seat why = absurd why
@@ -336,7 +336,7 @@ module _ {R : Type 0} (form : Encoding R) (live : Phase R) (count : ℕ) (block 
   refused_so refusals.Ended seat why = absurd why
   refused_so refusals.Broken seat why = absurd why
 
-  pub growth_of_records : (old new : Seated R) (answer : Answer) → IsOfRecords live records old new answer → IsOfGrowth form live count block old new answer
+  pub growth_of_records : (old new : Seated R) (answer : Reply) → IsOfRecords live records old new answer → IsOfGrowth form live count block old new answer
   growth_of_records old new answers.Ended is = absurd is
   growth_of_records old new (answers.Grown number start) is = (has, is.0, is.1, is.2, is.3)
   growth_of_records old new (answers.Settled growths) is = absurd is

@@ -9,13 +9,13 @@ use Rattle.record_core.specs.Bytes.{Encoding, unsigned}
 use Rattle.block_core.specs.Growth.{Growth}
 use Rattle.book_core.specs.Lists.{Phase, Seated}
 use Rattle.book_core.specs.declared.mark.Reading.{Reading}
-use Rattle.serve_core.specs.declared.answer.Answer.{Answer}
-use Rattle.serve_core.specs.declared.answer.Answer.TheVariants as answers
-use Rattle.serve_core.specs.declared.refusal.Refusal.{Refusal}
-use Rattle.serve_core.specs.declared.refusal.Refusal.TheVariants as refusals
+use Rattle.serve_core.specs.declared.reply.Reply.{Reply}
+use Rattle.serve_core.specs.declared.reply.Reply.TheVariants as answers
+use Rattle.serve_core.specs.declared.refusal.RequestRefusal.{RequestRefusal}
+use Rattle.serve_core.specs.declared.refusal.RequestRefusal.TheVariants as refusals
 use Rattle.serve_core.specs.declared.request.Head.{Head}
-use Rattle.serve_core.specs.declared.request.Request.{Request}
-use Rattle.serve_core.specs.declared.request.Request.TheVariants as requests
+use Rattle.serve_core.specs.declared.request.ClientRequest.{ClientRequest}
+use Rattle.serve_core.specs.declared.request.ClientRequest.TheVariants as requests
 use Rattle.serve_core.specs.declared.talking.TalkEnd.{TalkEnd}
 use Rattle.serve_core.specs.declared.talking.TalkEnd.TheVariants as ends
 use Rattle.serve_core.specs.Requests.{IsRequestHead, head_of, IsNoRequest}
@@ -62,7 +62,7 @@ no_longer_head is = absurd (let len = is.len in cc)
 unknown : IsNoRequest (record { kind = 5; count = 0; start = 0 }) refusals.UnknownKind × (IsNoRequest (record { kind = 4; count = 0; start = 0 }) refusals.UnknownKind → ⊥)
 unknown = (omega arith, λ lt. absurd (omega arith))
 
-no_look_of_three : (request : Request) → record { kind = 3; count = 3; start = 0 } ≡ head_of request → ⊥
+no_look_of_three : (request : ClientRequest) → record { kind = 3; count = 3; start = 0 } ≡ head_of request → ⊥
 no_look_of_three requests.End is = let kind = ap (λ (h : Head). h.kind) is in absurd (omega arith)
 no_look_of_three (requests.Grow count) is = let kind = ap (λ (h : Head). h.kind) is in absurd (omega arith)
 no_look_of_three requests.Await is = let kind = ap (λ (h : Head). h.kind) is in absurd (omega arith)
@@ -87,7 +87,7 @@ bytes_of_a_refusal : answer_bytes numbers (answers.Refused refusals.Broken) [] �
 bytes_of_a_refusal = refl
 
 -- a seat that is told of a refusal isn't told that it is done
-never_zero : (refusal : Refusal) → refusal_code refusal ≡ 0 → ⊥
+never_zero : (refusal : RequestRefusal) → refusal_code refusal ≡ 0 → ⊥
 never_zero refusals.UnknownKind is = absurd (omega arith)
 never_zero refusals.StrayNumber is = absurd (omega arith)
 never_zero refusals.NoRecord is = absurd (omega arith)
@@ -103,7 +103,7 @@ never_zero refusals.Ended is = absurd (omega arith)
 never_zero refusals.Broken is = absurd (omega arith)
 
 -- A seat that waits while the flusher has failed, with a growth that isn't settled, is never answered with status 0.
-pub not_done_unsettled : {R : Type 0} (old new : Seated R) (answer : Answer) → IsOfWaiting old new answer → HasUnsettled new → (numbers_of answer).status ≡ 0 → ⊥
+pub not_done_unsettled : {R : Type 0} (old new : Seated R) (answer : Reply) → IsOfWaiting old new answer → HasUnsettled new → (numbers_of answer).status ≡ 0 → ⊥
 not_done_unsettled old new answers.Ended is lacks done = is
 not_done_unsettled old new (answers.Grown number start) is lacks done = is
 not_done_unsettled old new (answers.Looked size settled) is lacks done = is
@@ -119,7 +119,7 @@ not_done_unsettled {R} old new (answers.Settled growths) is lacks done =
 
 -- ---- how conversations end
 
-abbrev nothing_told : Answer → Exchange ℕ
+abbrev nothing_told : Reply → Exchange ℕ
 nothing_told answer = record { head = zeros 16; block = []; answer = answer; records = [] }
 
 abbrev end : Exchange ℕ

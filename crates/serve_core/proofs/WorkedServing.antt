@@ -9,7 +9,7 @@ use Rattle.pen_core.specs.Typed.{OpensTo}
 use Rattle.pen_core.proofs.Typed.{OpensTo_same}
 use Rattle.pen_core.specs.declared.fault.PenFault.TheVariants as pens
 use Rattle.block_core.specs.Growth.{Growth}
-use Rattle.directory_core.specs.Chain.{joined}
+use Rattle.directory_core.specs.Chain.{grown_records}
 use Rattle.book_core.specs.Lists.{Phase, Seated}
 use Rattle.flush_core.specs.declared.fault.FlushFault.TheVariants as flushes
 use Rattle.flush_core.specs.Flusher.{FlusherOf}
@@ -59,10 +59,10 @@ module _ {R : Type 0} (form : Encoding R) (small : form.width < 2 ^ 16) (r : R) 
       let before : [] ≡ served.before = OpensTo_same form image [] served.before small opens served.file in
       let known = subst (λ (gs : List (Growth R)). behind.count ≤ length gs) is behind.known in
       at behind.count behind.at_least known
-      (subst (λ (gs : List (Growth R)). OpensTo form image ([] ++ joined (take behind.count gs))) is
-      (subst (λ (rs : List R). OpensTo form image (rs ++ joined (take behind.count served.growths))) (sym before) behind.opens))
+      (subst (λ (gs : List (Growth R)). OpensTo form image ([] ++ grown_records (take behind.count gs))) is
+      (subst (λ (rs : List R). OpensTo form image (rs ++ grown_records (take behind.count served.growths))) (sym before) behind.opens))
     where
-      at : (count : ℕ) → 1 ≤ count → count ≤ 1 → OpensTo form image ([] ++ joined (take count (growth ∷ []))) → ⊥
+      at : (count : ℕ) → 1 ≤ count → count ≤ 1 → OpensTo form image ([] ++ grown_records (take count (growth ∷ []))) → ⊥
       at zero least most opens_to = absurd (omega (arith, least))
       at (suc zero) least most opens_to = never_both (OpensTo_same form image [] (r ∷ []) small opens opens_to)
       at (suc (suc n)) least most opens_to = absurd (omega (arith, most))
@@ -72,7 +72,7 @@ module _ {R : Type 0} (form : Encoding R) (small : form.width < 2 ^ 16) (r : R) 
       → IsServed form same_states disk (settled image ∷ settled other ∷ disk) settled_to → ⊥
   not_torn other settled_to differs opens_not served = elim (served.meanwhile.each other (omega arith, inr (omega arith, inl (settled_image other)))) [
     | inl before ↦ differs (IsImage-settled image other before)
-    | inr grown ↦ opens_not (served.before ++ joined (take grown.count served.growths)) grown.opens
+    | inr grown ↦ opens_not (served.before ++ grown_records (take grown.count served.growths)) grown.opens
   ]
 
   -- no more are settled than were grown

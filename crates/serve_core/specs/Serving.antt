@@ -10,7 +10,7 @@ use Rattle.pen_core.specs.Typed.{OpensTo}
 use Rattle.pen_core.specs.Opening.{IsOpened, IsOpenRefusal, OnlySyncs, failed_openings}
 use Rattle.pen_core.specs.declared.fault.PenFault.TheVariants as pens
 use Rattle.block_core.specs.Growth.{Growth}
-use Rattle.directory_core.specs.Chain.{joined}
+use Rattle.directory_core.specs.Chain.{grown_records}
 use Rattle.book_core.specs.Beginning.{seat_limit}
 use Rattle.book_core.specs.Lists.{Phase}
 use Rattle.flush_core.specs.declared.fault.FlushFault.{FlushFault}
@@ -30,7 +30,7 @@ pub record OpensBehind {R : Type 0} (form : Encoding R) (before : List R) (growt
   pub count : ℕ
   pub at_least : settled ≤ count
   pub known : count ≤ length growths
-  pub opens : OpensTo form image (before ++ joined (take count growths))
+  pub opens : OpensTo form image (before ++ grown_records (take count growths))
 
 -- The file had a list, and behind it growths were made. Whatever a crash may have left meanwhile is what it might have left
 -- before, or opens to that list and the first growths, each whole; and whatever it may leave now opens to it and at least so

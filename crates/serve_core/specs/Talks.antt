@@ -12,20 +12,20 @@ use Rattle.book_core.specs.declared.mark.MarkState.TheVariants as states
 use Rattle.book_core.specs.declared.seat.Receipt.{Receipt}
 use Rattle.book_core.specs.Lists.{Phase, Seated, HasJustItsOwn, IsRestOfPiece, seat_list, seat_pieces}
 use Rattle.book_core.specs.Growing.{Grown, SeatLearns, SeatIsTold, IsBookRefusal, IsStray, size_of}
-use Rattle.serve_core.specs.declared.refusal.Refusal.{Refusal}
-use Rattle.serve_core.specs.declared.refusal.Refusal.TheVariants as refusals
+use Rattle.serve_core.specs.declared.refusal.RequestRefusal.{RequestRefusal}
+use Rattle.serve_core.specs.declared.refusal.RequestRefusal.TheVariants as refusals
 use Rattle.serve_core.specs.declared.request.Head.{Head}
-use Rattle.serve_core.specs.declared.request.Request.{Request}
-use Rattle.serve_core.specs.declared.request.Request.TheVariants as requests
-use Rattle.serve_core.specs.declared.answer.Answer.{Answer}
-use Rattle.serve_core.specs.declared.answer.Answer.TheVariants as answers
+use Rattle.serve_core.specs.declared.request.ClientRequest.{ClientRequest}
+use Rattle.serve_core.specs.declared.request.ClientRequest.TheVariants as requests
+use Rattle.serve_core.specs.declared.reply.Reply.{Reply}
+use Rattle.serve_core.specs.declared.reply.Reply.TheVariants as answers
 use Rattle.serve_core.specs.declared.talking.TalkEnd.{TalkEnd}
 use Rattle.serve_core.specs.declared.talking.TalkEnd.TheVariants.{Ended, Gone, Cut, InputFailed, Refused, OutputFailed, Memory}
 use Rattle.serve_core.specs.Requests.{IsRequestHead, head_of, IsNoRequest}
 use Rattle.serve_core.specs.Answers.{answer_bytes, ends_talk}
 
 -- why a request may not be of so many records
-abbrev pub IsCountRefusal : ℕ → ℕ → Refusal → Type 0
+abbrev pub IsCountRefusal : ℕ → ℕ → RequestRefusal → Type 0
 IsCountRefusal width n refusals.NoRecord = n ≡ 0
 IsCountRefusal width n refusals.TooMany = payload_limit < payload_len width n
 IsCountRefusal width n other = ⊥
@@ -56,13 +56,13 @@ pub record IsBlockOfRecords {R : Type 0} (form : Encoding R) (count : ℕ) (bloc
   pub are : AreRecords form block records
 
 -- why the bytes of a block aren't read as so many records
-abbrev pub IsUnread : {R : Type 0} → Encoding R → ℕ → List ℕ → Refusal → Type 0
+abbrev pub IsUnread : {R : Type 0} → Encoding R → ℕ → List ℕ → RequestRefusal → Type 0
 IsUnread form count block refusals.BadRecord = (i : ℕ) × IsFirstBad form block count i
 IsUnread form count block refusals.Memory = Unit {0}
 IsUnread form count block other = ⊥
 
 -- why so many records aren't grown, told a seat that is then this
-abbrev pub IsGrowRefusal : {R : Type 0} → Phase R → ℕ → Seated R → Refusal → Type 0
+abbrev pub IsGrowRefusal : {R : Type 0} → Phase R → ℕ → Seated R → RequestRefusal → Type 0
 IsGrowRefusal live n seat refusals.Memory = Unit {0}
 IsGrowRefusal live n seat refusals.Closed = IsBookRefusal live seat n faults.Closed
 IsGrowRefusal live n seat refusals.Full = IsBookRefusal live seat n faults.Full
@@ -72,7 +72,7 @@ IsGrowRefusal live n seat other = ⊥
 
 -- Why a growth of so many records by these bytes isn't made, told a seat that is then this. Of the first three no bytes were
 -- read; of the last four the book refused records that are some.
-abbrev pub IsGrowthRefusal : {R : Type 0} → Encoding R → Phase R → ℕ → List ℕ → Seated R → Refusal → Type 0
+abbrev pub IsGrowthRefusal : {R : Type 0} → Encoding R → Phase R → ℕ → List ℕ → Seated R → RequestRefusal → Type 0
 IsGrowthRefusal form live count block seat refusals.NoRecord = (count ≡ 0) × (block ≡ [])
 IsGrowthRefusal form live count block seat refusals.TooMany = (payload_limit < payload_len form.width count) × (block ≡ [])
 IsGrowthRefusal form live count block seat refusals.NoMemory = IsBlockLength form.width count × (block ≡ [])
@@ -86,7 +86,7 @@ IsGrowthRefusal form live count block seat other = ⊥
 
 -- What a seat is told of a growth of so many records by these bytes: it made one growth, of just the records that the bytes
 -- are, and is told its number and its start; or it made none, and is told why.
-abbrev pub IsOfGrowth : {R : Type 0} → Encoding R → Phase R → ℕ → List ℕ → Seated R → Seated R → Answer → Type 0
+abbrev pub IsOfGrowth : {R : Type 0} → Encoding R → Phase R → ℕ → List ℕ → Seated R → Seated R → Reply → Type 0
 IsOfGrowth {R} form live count block old new (answers.Grown number start) =
     (has : IsBlockOfRecords form count block)
     × (receipt : Receipt) × Grown live old new has.records receipt × (receipt.number ≡ number) × (receipt.start ≡ start)
@@ -94,39 +94,39 @@ IsOfGrowth form live count block old new (answers.Refused refusal) = SeatLearns 
 IsOfGrowth form live count block old new other = ⊥
 
 -- what a seat is told of a growth by these records
-abbrev pub IsOfRecords : {R : Type 0} → Phase R → List R → Seated R → Seated R → Answer → Type 0
+abbrev pub IsOfRecords : {R : Type 0} → Phase R → List R → Seated R → Seated R → Reply → Type 0
 IsOfRecords live records old new (answers.Grown number start) = (receipt : Receipt) × Grown live old new records receipt × (receipt.number ≡ number) × (receipt.start ≡ start)
 IsOfRecords live records old new (answers.Refused refusal) = SeatLearns old new × IsGrowRefusal live (length records) new refusal
 IsOfRecords live records old new other = ⊥
 
 -- no more is settled: the server has ended, or the file refused
-abbrev pub IsOverRefusal : MarkState → Refusal → Type 0
+abbrev pub IsOverRefusal : MarkState → RequestRefusal → Type 0
 IsOverRefusal states.Ended refusal = refusal ≡ refusals.Ended
 IsOverRefusal states.Broken refusal = refusal ≡ refusals.Broken
 IsOverRefusal states.Running refusal = ⊥
 
 -- Of waiting: so many growths are settled, and all that the seat made are among them; or one of them isn't, and the mark is
 -- over, as the refusal says.
-abbrev pub IsOfWaiting : {R : Type 0} → Seated R → Seated R → Answer → Type 0
+abbrev pub IsOfWaiting : {R : Type 0} → Seated R → Seated R → Reply → Type 0
 IsOfWaiting old new (answers.Settled growths) = SeatIsTold old new growths new.mark.told.state × AllBelow growths new
 IsOfWaiting old new (answers.Refused refusal) = SeatIsTold old new new.mark.told.count new.mark.told.state × IsOverRefusal new.mark.told.state refusal × HasUnsettled new
 IsOfWaiting old new other = ⊥
 
 -- why a seat isn't told of the size
-abbrev pub IsLookRefusal : {R : Type 0} → Seated R → Refusal → Type 0
+abbrev pub IsLookRefusal : {R : Type 0} → Seated R → RequestRefusal → Type 0
 IsLookRefusal seat refusals.Strayed = (n : ℕ) × IsStray seat n
 IsLookRefusal seat other = ⊥
 
 -- Of looking: the size that it then knows, where of its own growths its list has just those that it made, and how many growths
 -- the mark then tells as settled.
-abbrev pub IsOfLooking : {R : Type 0} → Phase R → Seated R → Seated R → Answer → Type 0
+abbrev pub IsOfLooking : {R : Type 0} → Phase R → Seated R → Seated R → Reply → Type 0
 IsOfLooking {R} live old new (answers.Looked size settled) =
     (mid : Seated R) × SeatLearns old mid × HasJustItsOwn mid × (size ≡ size_of live mid) × (state : MarkState) × SeatIsTold mid new settled state
 IsOfLooking live old new (answers.Refused refusal) = SeatLearns old new × IsLookRefusal new refusal
 IsOfLooking live old new other = ⊥
 
 -- Of reading: the records from that position on, to the end of the piece that has it, at most so many; none past the end.
-abbrev pub IsOfReading : {R : Type 0} → Encoding R → Phase R → ℕ → ℕ → Seated R → Seated R → Answer → List R → Type 0
+abbrev pub IsOfReading : {R : Type 0} → Encoding R → Phase R → ℕ → ℕ → Seated R → Seated R → Reply → List R → Type 0
 IsOfReading {R} form live start count old new (answers.Piece at) records =
     (at ≡ start) × (new ≡ old) × IsBlockLength form.width count
     × (((length (seat_list live old) ≤ start) × (records ≡ [])) ⊎ ((rest : List R) × IsRestOfPiece (seat_pieces live old) start rest × (records ≡ take count rest)))
@@ -134,11 +134,11 @@ IsOfReading form live start count old new (answers.Refused refusal) records = (n
 IsOfReading form live start count old new other records = ⊥
 
 -- the request is all in its head
-abbrev pub IsNoGrowth : Request → Type 0
+abbrev pub IsNoGrowth : ClientRequest → Type 0
 IsNoGrowth request = (count : ℕ) → request ≡ requests.Grow count → ⊥
 
 -- What is told of a request with these bytes behind its head.
-abbrev pub IsOfRequest : {R : Type 0} → Encoding R → Phase R → Request → List ℕ → Seated R → Seated R → Answer → List R → Type 0
+abbrev pub IsOfRequest : {R : Type 0} → Encoding R → Phase R → ClientRequest → List ℕ → Seated R → Seated R → Reply → List R → Type 0
 IsOfRequest form live requests.End block old new answer records = (answer ≡ answers.Ended) × (block ≡ []) × (new ≡ old) × (records ≡ [])
 IsOfRequest form live (requests.Grow count) block old new answer records = IsOfGrowth form live count block old new answer × (records ≡ [])
 IsOfRequest form live requests.Await block old new answer records = IsOfWaiting old new answer × (block ≡ []) × (records ≡ [])
@@ -149,12 +149,12 @@ IsOfRequest form live (requests.Read start count) block old new answer records =
 pub record Exchange (R : Type 0) : Type 0 where
   pub head : List ℕ
   pub block : List ℕ
-  pub answer : Answer
+  pub answer : Reply
   pub records : List R
 
 -- no request has this head, and that was told
 pub record IsTurnedAway {R : Type 0} (head : Head) (old : Seated R) (e : Exchange R) (new : Seated R) : Type 0 where
-  pub refusal : Refusal
+  pub refusal : RequestRefusal
   pub none : IsNoRequest head refusal
   pub told : e.answer ≡ answers.Refused refusal
   pub block : e.block ≡ []
@@ -163,7 +163,7 @@ pub record IsTurnedAway {R : Type 0} (head : Head) (old : Seated R) (e : Exchang
 
 -- the request was answered
 pub record IsAnswered {R : Type 0} (form : Encoding R) (live : Phase R) (head : Head) (old : Seated R) (e : Exchange R) (new : Seated R) : Type 0 where
-  pub request : Request
+  pub request : ClientRequest
   pub is : head ≡ head_of request
   pub told : IsOfRequest form live request e.block old new e.answer e.records
 
@@ -247,13 +247,13 @@ told form [] = []
 told form (e ∷ earlier) = told form earlier ++ answer_bytes form e.answer e.records
 
 -- a conversation goes on behind that answer
-abbrev pub TalkGoesOn : Answer → Type 0
+abbrev pub TalkGoesOn : Reply → Type 0
 TalkGoesOn answers.Ended = ⊥
 TalkGoesOn (answers.Refused refusal) = ends_talk refusal ≡ false
 TalkGoesOn other = Unit {0}
 
 -- or ends so
-abbrev pub EndsTalk : TalkEnd → Answer → Type 0
+abbrev pub EndsTalk : TalkEnd → Reply → Type 0
 EndsTalk end answers.Ended = end ≡ Ended
 EndsTalk end (answers.Refused refusal) = (ends_talk refusal ≡ true) × (end ≡ Refused refusal)
 EndsTalk end other = ⊥

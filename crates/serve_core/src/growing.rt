@@ -7,9 +7,9 @@ ghost use Rattle.block_core.specs.Length.{IsBlockLength};
 ghost use Rattle.book_core.specs.Lists.{IsSeatOf};
 ghost use Rattle.serve_core.specs.Talks.{IsCountRefusal, IsCutGrowth, IsNextOf, IsBlock, IsUnread, IsOfRecords, IsOfGrowth};
 
-use crate::answer::Answer;
 use crate::reading::fill;
-use crate::refusal::Refusal;
+use crate::refusal::RequestRefusal;
+use crate::reply::Reply;
 use crate::talking::TalkEnd;
 use block_core::{Fresh, FreshFault};
 use book_core::{Live, Seat};
@@ -19,30 +19,30 @@ use std::io::Read;
 use std::sync::Wait;
 
 /// Whether a growth or a read may be of so many records: one at least, and no more than one frame of the file holds.
-pub fn check_count<R: Record>(count: u32) -> Result<(), Refusal>
+pub fn check_count<R: Record>(count: u32) -> Result<(), RequestRefusal>
     ensures { MatchResult result (λ _. IsBlockLength R.form.width count) (IsCountRefusal R.form.width count) }
 {
     match Fresh::<R>::check_len(count as u64) {
         Ok(()) => Ok(()),
-        Err(FreshFault::Empty) => Err(Refusal::NoRecord),
-        Err(_) => Err(Refusal::TooMany),
+        Err(FreshFault::Empty) => Err(RequestRefusal::NoRecord),
+        Err(_) => Err(RequestRefusal::TooMany),
     }
 }
 
 /// The records that the bytes are.
-fn records_of<R: Record>(alloc: Global, count: u32, block: &[u8]) -> Result<Vec<R>, Refusal>
+fn records_of<R: Record>(alloc: Global, count: u32, block: &[u8]) -> Result<Vec<R>, RequestRefusal>
     requires { length block.now ≡ count * R.form.width }
     ensures { MatchResult result
         (λ records. (length records.items ≡ count) × AreRecords R.form block.now records.items)
         (IsUnread R.form count block.now) }
 {
     let Ok(mut records) = Vec::with_capacity(alloc, count as usize) else {
-        return Err(Refusal::Memory);
+        return Err(RequestRefusal::Memory);
     };
     match read_records::<R>(block, count as usize, &mut records) {
         Ok(()) => Ok(records),
-        Err(RecordsFault::Bad(_)) => Err(Refusal::BadRecord),
-        Err(RecordsFault::Memory) => Err(Refusal::Memory),
+        Err(RecordsFault::Bad(_)) => Err(RequestRefusal::BadRecord),
+        Err(RecordsFault::Memory) => Err(RequestRefusal::Memory),
     }
 }
 
@@ -53,7 +53,7 @@ fn grow_fresh<R: Record, E: Wait>(
     seat: &mut Seat<R>,
     next: &mut u64,
     fresh: Fresh<R>,
-) -> Answer
+) -> Reply
     requires of { IsSeatOf live.now seat.old }
     requires numbers { IsNextOf next.old seat.old.made }
     ensures of { IsSeatOf live.now seat.new }
@@ -62,10 +62,10 @@ fn grow_fresh<R: Record, E: Wait>(
 {
     let receipt = match live.grow(rt, seat, fresh) {
         Ok(receipt) => receipt,
-        Err((_, fault)) => return Answer::Refused(Refusal::of_growth(fault)),
+        Err((_, fault)) => return Reply::Refused(RequestRefusal::of_growth(fault)),
     };
     *next = seat.known().max(*next);
-    Answer::Grown {
+    Reply::Grown {
         number: receipt.number,
         start: receipt.start,
     }
@@ -79,7 +79,7 @@ fn grow_records<R: Record, E: Wait>(
     seat: &mut Seat<R>,
     next: &mut u64,
     records: Vec<R>,
-) -> Answer
+) -> Reply
     requires of { IsSeatOf live.now seat.old }
     requires numbers { IsNextOf next.old seat.old.made }
     requires len { IsBlockLength R.form.width (length records.items) }
@@ -89,7 +89,7 @@ fn grow_records<R: Record, E: Wait>(
 {
     match Fresh::from_vec(alloc, records) {
         Ok(fresh) => grow_fresh(rt, live, seat, next, fresh),
-        Err((_, fault)) => Answer::Refused(Refusal::of_growth(fault.into())),
+        Err((_, fault)) => Reply::Refused(RequestRefusal::of_growth(fault.into())),
     }
 }
 
@@ -102,7 +102,7 @@ fn grow_block<R: Record, E: Wait>(
     next: &mut u64,
     count: u32,
     block: &[u8],
-) -> Answer
+) -> Reply
     requires of { IsSeatOf live.now seat.old }
     requires numbers { IsNextOf next.old seat.old.made }
     requires block { IsBlock R.form.width count block.now }
@@ -112,7 +112,7 @@ fn grow_block<R: Record, E: Wait>(
 {
     match records_of(alloc, count, block) {
         Ok(records) => grow_records(rt, alloc, live, seat, next, records),
-        Err(refusal) => Answer::Refused(refusal),
+        Err(refusal) => Reply::Refused(refusal),
     }
 }
 
@@ -126,7 +126,7 @@ pub fn grow<R: Record, I: Read, E: Wait>(
     count: u32,
     requests: &mut I,
     block: &mut Vec<u8>,
-) -> Result<Answer, TalkEnd>
+) -> Result<Reply, TalkEnd>
     requires of { IsSeatOf live.now seat.old }
     requires numbers { IsNextOf next.old seat.old.made }
     requires empty { block.old.items ≡ [] }
@@ -138,10 +138,10 @@ pub fn grow<R: Record, I: Read, E: Wait>(
     ensures read { IfOk result (λ _. Consumes (I.remaining requests.old) (I.remaining requests.new) block.new.items) }
 {
     if let Err(refusal) = check_count::<R>(count) {
-        return Ok(Answer::Refused(refusal));
+        return Ok(Reply::Refused(refusal));
     }
     if block.resize(count as usize * width_of::<R>(), 0).is_err() {
-        return Ok(Answer::Refused(Refusal::NoMemory));
+        return Ok(Reply::Refused(RequestRefusal::NoMemory));
     }
     if let Err(end) = fill(rt, requests, block.as_mut_slice()) {
         return Err(end.within_request());

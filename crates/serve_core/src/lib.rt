@@ -2,22 +2,22 @@
 //! answers.
 #![tactic(auto)]
 
-mod answer;
 mod client;
 mod fault;
 mod growing;
 mod reading;
 mod refusal;
+mod reply;
 mod request;
 mod serving;
 mod starting;
 mod talking;
 mod telling;
 
-pub use answer::{Answer, Numbers};
 pub use client::Pipes;
 pub use fault::ServeFault;
-pub use refusal::Refusal;
-pub use request::{HEAD_LEN, Head, Request};
+pub use refusal::RequestRefusal;
+pub use reply::{Numbers, Reply};
+pub use request::{ClientRequest, HEAD_LEN, Head};
 pub use serving::{Served, serve};
 pub use talking::{TalkEnd, talk};

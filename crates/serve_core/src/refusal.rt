@@ -10,7 +10,7 @@ use std::fmt;
 /// Why a client's request is refused. Behind the first six the seat's conversation ends, since what follows can't be told from
 /// a request; behind the others it goes on.
 #[derive(Clone, Copy, Debug)]
-pub enum Refusal {
+pub enum RequestRefusal {
     /// There is no request of this kind.
     UnknownKind,
     /// A number that the request doesn't have isn't 0.
@@ -39,44 +39,44 @@ pub enum Refusal {
     Broken,
 }
 
-impl Refusal {
+impl RequestRefusal {
     /// The number that stands for it in an answer.
     pub fn code(self) -> u32
         ensures { result ≡ refusal_code self }
     {
         match self {
-            Refusal::UnknownKind => 1,
-            Refusal::StrayNumber => 2,
-            Refusal::NoRecord => 3,
-            Refusal::TooMany => 4,
-            Refusal::BadRecord => 5,
-            Refusal::NoMemory => 6,
-            Refusal::Memory => 7,
-            Refusal::Closed => 8,
-            Refusal::Full => 9,
-            Refusal::TooLong => 10,
-            Refusal::Strayed => 11,
-            Refusal::Ended => 12,
-            Refusal::Broken => 13,
+            RequestRefusal::UnknownKind => 1,
+            RequestRefusal::StrayNumber => 2,
+            RequestRefusal::NoRecord => 3,
+            RequestRefusal::TooMany => 4,
+            RequestRefusal::BadRecord => 5,
+            RequestRefusal::NoMemory => 6,
+            RequestRefusal::Memory => 7,
+            RequestRefusal::Closed => 8,
+            RequestRefusal::Full => 9,
+            RequestRefusal::TooLong => 10,
+            RequestRefusal::Strayed => 11,
+            RequestRefusal::Ended => 12,
+            RequestRefusal::Broken => 13,
         }
     }
 
     /// Its name, as it is printed.
     fn name(self) -> &'static str {
         match self {
-            Refusal::UnknownKind => "unknown kind",
-            Refusal::StrayNumber => "stray number",
-            Refusal::NoRecord => "no record",
-            Refusal::TooMany => "too many records",
-            Refusal::BadRecord => "bad record",
-            Refusal::NoMemory => "no memory",
-            Refusal::Memory => "memory",
-            Refusal::Closed => "closed",
-            Refusal::Full => "full",
-            Refusal::TooLong => "too long",
-            Refusal::Strayed => "strayed",
-            Refusal::Ended => "ended",
-            Refusal::Broken => "broken",
+            RequestRefusal::UnknownKind => "unknown kind",
+            RequestRefusal::StrayNumber => "stray number",
+            RequestRefusal::NoRecord => "no record",
+            RequestRefusal::TooMany => "too many records",
+            RequestRefusal::BadRecord => "bad record",
+            RequestRefusal::NoMemory => "no memory",
+            RequestRefusal::Memory => "memory",
+            RequestRefusal::Closed => "closed",
+            RequestRefusal::Full => "full",
+            RequestRefusal::TooLong => "too long",
+            RequestRefusal::Strayed => "strayed",
+            RequestRefusal::Ended => "ended",
+            RequestRefusal::Broken => "broken",
         }
     }
 
@@ -85,42 +85,42 @@ impl Refusal {
         ensures { result ≡ ends_talk self }
     {
         match self {
-            Refusal::UnknownKind
-            | Refusal::StrayNumber
-            | Refusal::NoRecord
-            | Refusal::TooMany
-            | Refusal::BadRecord
-            | Refusal::NoMemory => true,
-            Refusal::Memory
-            | Refusal::Closed
-            | Refusal::Full
-            | Refusal::TooLong
-            | Refusal::Strayed
-            | Refusal::Ended
-            | Refusal::Broken => false,
+            RequestRefusal::UnknownKind
+            | RequestRefusal::StrayNumber
+            | RequestRefusal::NoRecord
+            | RequestRefusal::TooMany
+            | RequestRefusal::BadRecord
+            | RequestRefusal::NoMemory => true,
+            RequestRefusal::Memory
+            | RequestRefusal::Closed
+            | RequestRefusal::Full
+            | RequestRefusal::TooLong
+            | RequestRefusal::Strayed
+            | RequestRefusal::Ended
+            | RequestRefusal::Broken => false,
         }
     }
 
     /// Why a growth wasn't made.
-    pub(crate) fn of_growth(fault: GrowFault) -> Refusal
+    pub(crate) fn of_growth(fault: GrowFault) -> RequestRefusal
         ensures { result ≡ refusal_of_growth fault }
     {
         match fault {
-            GrowFault::Closed => Refusal::Closed,
-            GrowFault::Full => Refusal::Full,
-            GrowFault::TooLong => Refusal::TooLong,
-            GrowFault::Strayed(_) => Refusal::Strayed,
-            GrowFault::Memory => Refusal::Memory,
-            GrowFault::Empty => Refusal::NoRecord,
-            GrowFault::TooLarge => Refusal::TooMany,
+            GrowFault::Closed => RequestRefusal::Closed,
+            GrowFault::Full => RequestRefusal::Full,
+            GrowFault::TooLong => RequestRefusal::TooLong,
+            GrowFault::Strayed(_) => RequestRefusal::Strayed,
+            GrowFault::Memory => RequestRefusal::Memory,
+            GrowFault::Empty => RequestRefusal::NoRecord,
+            GrowFault::TooLarge => RequestRefusal::TooMany,
         }
     }
 }
 
-impl fmt::Display for Refusal {
+impl fmt::Display for RequestRefusal {
     fn fmt<W: fmt::Write>(&self, f: &mut fmt::Formatter<W>) -> fmt::Result {
         f.write_str(self.name())
     }
 }
 
-impl Error for Refusal {}
+impl Error for RequestRefusal {}

@@ -3,14 +3,14 @@
 ghost use Rattle.std.specs.Prelude.{◌≡◌, ◌<◌, MatchResult};
 ghost use Rattle.serve_core.specs.Requests.{IsRequestHead, head_of, IsNoRequest};
 
-use crate::refusal::Refusal;
+use crate::refusal::RequestRefusal;
 
 /// The bytes of a request's head.
 pub const HEAD_LEN: usize = 16;
 
 /// What a client asks.
 #[derive(Clone, Copy)]
-pub enum Request {
+pub enum ClientRequest {
     /// No more.
     End,
     /// A growth of so many records, whose bytes follow the head.
@@ -49,17 +49,17 @@ impl Head {
     }
 
     /// The request with this head. Refused: `UnknownKind`; `StrayNumber`, where a number that the request doesn't have isn't 0.
-    pub fn request(self) -> Result<Request, Refusal>
+    pub fn request(self) -> Result<ClientRequest, RequestRefusal>
         ensures { MatchResult result (λ request. self ≡ head_of request) (IsNoRequest self) }
     {
         match (self.kind, self.count, self.start) {
-            (0, 0, 0) => Ok(Request::End),
-            (1, count, 0) => Ok(Request::Grow { count }),
-            (2, 0, 0) => Ok(Request::Await),
-            (3, 0, 0) => Ok(Request::Look),
-            (4, count, start) => Ok(Request::Read { start, count }),
-            (0..=4, _, _) => Err(Refusal::StrayNumber),
-            _ => Err(Refusal::UnknownKind),
+            (0, 0, 0) => Ok(ClientRequest::End),
+            (1, count, 0) => Ok(ClientRequest::Grow { count }),
+            (2, 0, 0) => Ok(ClientRequest::Await),
+            (3, 0, 0) => Ok(ClientRequest::Look),
+            (4, count, start) => Ok(ClientRequest::Read { start, count }),
+            (0..=4, _, _) => Err(RequestRefusal::StrayNumber),
+            _ => Err(RequestRefusal::UnknownKind),
         }
     }
 }

@@ -8,11 +8,11 @@ ghost use Rattle.serve_core.specs.Answers.{answer_bytes};
 ghost use Rattle.serve_core.specs.Requests.{IsRequestHead, head_of};
 ghost use Rattle.serve_core.specs.Talks.{IsCutGrowth, end_within, IsNextOf, IsOfRequest, Exchange, IsExchange, IsDone, IsUntold, TalkGoesOn, EndsTalk, HasTalked};
 
-use crate::answer::Answer;
 use crate::growing::grow;
 use crate::reading::fill;
-use crate::refusal::Refusal;
-use crate::request::{HEAD_LEN, Head, Request};
+use crate::refusal::RequestRefusal;
+use crate::reply::Reply;
+use crate::request::{ClientRequest, HEAD_LEN, Head};
 use crate::telling::tell;
 use book_core::{Live, Seat};
 use record_core::Record;
@@ -32,7 +32,7 @@ pub enum TalkEnd {
     /// Its requests couldn't be read on.
     InputFailed,
     /// It was told of this refusal, and what follows can't be told from a request.
-    Refused(Refusal),
+    Refused(RequestRefusal),
     /// Its answers couldn't be written.
     OutputFailed,
     /// There was no memory for an answer.
@@ -58,10 +58,10 @@ fn act<'a, R: Record, I: Read, E: Wait>(
     live: &'a Live<R>,
     seat: &mut Seat<R>,
     next: &mut u64,
-    request: Request,
+    request: ClientRequest,
     requests: &mut I,
     block: &mut Vec<u8>,
-) -> Result<(Answer, &'a [R]), TalkEnd>
+) -> Result<(Reply, &'a [R]), TalkEnd>
     requires of { IsSeatOf live.now seat.old }
     requires numbers { IsNextOf next.old seat.old.made }
     requires empty { block.old.items ≡ [] }
@@ -69,12 +69,12 @@ fn act<'a, R: Record, I: Read, E: Wait>(
     ensures numbers { IsNextOf next.new seat.new.made }
     ensures told { IfOk result (λ r. IsOfRequest R.form live.now request block.new.items seat.old seat.new r.0 r.1.now) }
     ensures same { OnErr result (seat.new ≡ seat.old) }
-    ensures cut { IfErr result (λ end. (count : ℕ) × (request ≡ Request.Grow count) × IsCutGrowth R.form count (I.remaining requests.old) (I.remaining requests.new) end) }
+    ensures cut { IfErr result (λ end. (count : ℕ) × (request ≡ ClientRequest.Grow count) × IsCutGrowth R.form count (I.remaining requests.old) (I.remaining requests.new) end) }
     ensures read { IfOk result (λ _. Consumes (I.remaining requests.old) (I.remaining requests.new) block.new.items) }
     ensures few { IfOk result (λ r. length r.1.now * R.form.width ≤ payload_limit) }
 {
     match request {
-        Request::Grow { count } => {
+        ClientRequest::Grow { count } => {
             match grow(rt, alloc, live, seat, next, count, requests, block) {
                 Ok(told) => Ok((told, &[])),
                 Err(end) => Err(end),
@@ -95,7 +95,7 @@ fn respond<'a, R: Record, I: Read, E: Wait>(
     head: &[u8; HEAD_LEN],
     requests: &mut I,
     block: &mut Vec<u8>,
-) -> Result<(Answer, &'a [R]), TalkEnd>
+) -> Result<(Reply, &'a [R]), TalkEnd>
     requires of { IsSeatOf live.now seat.old }
     requires numbers { IsNextOf next.old seat.old.made }
     requires empty { block.old.items ≡ [] }
@@ -103,13 +103,13 @@ fn respond<'a, R: Record, I: Read, E: Wait>(
     ensures numbers { IsNextOf next.new seat.new.made }
     ensures told { IfOk result (λ r. IsExchange R.form live.now seat.old (record { head = head.now; block = block.new.items; answer = r.0; records = r.1.now }) seat.new) }
     ensures same { OnErr result (seat.new ≡ seat.old) }
-    ensures cut { IfErr result (λ end. (count : ℕ) × IsRequestHead head.now (head_of (Request.Grow count)) × IsCutGrowth R.form count (I.remaining requests.old) (I.remaining requests.new) end) }
+    ensures cut { IfErr result (λ end. (count : ℕ) × IsRequestHead head.now (head_of (ClientRequest.Grow count)) × IsCutGrowth R.form count (I.remaining requests.old) (I.remaining requests.new) end) }
     ensures read { IfOk result (λ _. Consumes (I.remaining requests.old) (I.remaining requests.new) block.new.items) }
     ensures few { IfOk result (λ r. length r.1.now * R.form.width ≤ payload_limit) }
 {
     match Head::of(head).request() {
         Ok(request) => act(rt, alloc, live, seat, next, request, requests, block),
-        Err(refusal) => Ok((Answer::Refused(refusal), &[])),
+        Err(refusal) => Ok((Reply::Refused(refusal), &[])),
     }
 }
 
@@ -123,7 +123,7 @@ fn exchange<R: Record, I: Read, E: Wait>(
     requests: &mut I,
     block: &mut Vec<u8>,
     out: &mut Vec<u8>,
-) -> Result<Answer, TalkEnd>
+) -> Result<Reply, TalkEnd>
     requires of { IsSeatOf live.now seat.old }
     requires numbers { IsNextOf next.old seat.old.made }
     ensures of { IsSeatOf live.now seat.new }
@@ -148,12 +148,12 @@ fn exchange<R: Record, I: Read, E: Wait>(
 }
 
 /// How a conversation ends with this answer, if it does.
-fn end_of(answer: Answer) -> Option<TalkEnd>
+fn end_of(answer: Reply) -> Option<TalkEnd>
     ensures { MatchOption result (TalkGoesOn answer) (λ end. EndsTalk end answer) }
 {
     match answer {
-        Answer::Ended => Some(TalkEnd::Ended),
-        Answer::Refused(refusal) if refusal.ends_talk() => Some(TalkEnd::Refused(refusal)),
+        Reply::Ended => Some(TalkEnd::Ended),
+        Reply::Refused(refusal) if refusal.ends_talk() => Some(TalkEnd::Refused(refusal)),
         _ => None,
     }
 }

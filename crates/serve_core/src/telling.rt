@@ -5,10 +5,10 @@ ghost use Rattle.record_core.specs.Limits.{payload_limit};
 ghost use Rattle.book_core.specs.Lists.{IsSeatOf};
 ghost use Rattle.serve_core.specs.Talks.{IsNextOf, IsNoGrowth, IsOfWaiting, IsOfLooking, IsOfReading, IsOfRequest};
 
-use crate::answer::Answer;
 use crate::growing::check_count;
-use crate::refusal::Refusal;
-use crate::request::Request;
+use crate::refusal::RequestRefusal;
+use crate::reply::Reply;
+use crate::request::ClientRequest;
 use book_core::{Live, MarkState, Seat};
 use record_core::Record;
 use std::sync::Wait;
@@ -19,7 +19,7 @@ fn await_number<R: Record, E: Wait>(
     live: &Live<R>,
     seat: &mut Seat<R>,
     number: u64,
-) -> Answer
+) -> Reply
     requires of { IsSeatOf live.now seat.old }
     requires numbers { IsNextOf (number + 1) seat.old.made }
     ensures of { IsSeatOf live.now seat.new }
@@ -28,17 +28,17 @@ fn await_number<R: Record, E: Wait>(
 {
     let (growths, state) = live.await_settled(rt, seat, number);
     if number < growths {
-        return Answer::Settled { growths };
+        return Reply::Settled { growths };
     }
     match state {
-        MarkState::Broken => Answer::Refused(Refusal::Broken),
-        MarkState::Ended => Answer::Refused(Refusal::Ended),
+        MarkState::Broken => Reply::Refused(RequestRefusal::Broken),
+        MarkState::Ended => Reply::Refused(RequestRefusal::Ended),
         MarkState::Running => unreachable!(),
     }
 }
 
 /// Waits until all that the seat grew is settled: the number before `next` is that of the last.
-fn await_own<R: Record, E: Wait>(rt: &E, live: &Live<R>, seat: &mut Seat<R>, next: u64) -> Answer
+fn await_own<R: Record, E: Wait>(rt: &E, live: &Live<R>, seat: &mut Seat<R>, next: u64) -> Reply
     requires of { IsSeatOf live.now seat.old }
     requires numbers { IsNextOf next seat.old.made }
     ensures of { IsSeatOf live.now seat.new }
@@ -49,21 +49,21 @@ fn await_own<R: Record, E: Wait>(rt: &E, live: &Live<R>, seat: &mut Seat<R>, nex
         return await_number(rt, live, seat, next - 1);
     }
     let (growths, _) = live.settled(seat);
-    Answer::Settled { growths }
+    Reply::Settled { growths }
 }
 
 /// How many records there are, and how many growths are settled.
-fn look<R: Record>(live: &Live<R>, seat: &mut Seat<R>) -> Answer
+fn look<R: Record>(live: &Live<R>, seat: &mut Seat<R>) -> Reply
     requires of { IsSeatOf live.now seat.old }
     ensures of { IsSeatOf live.now seat.new }
     ensures made { seat.new.made ≡ seat.old.made }
     ensures told { IsOfLooking live.now seat.old seat.new result }
 {
     let Ok(size) = live.look(seat) else {
-        return Answer::Refused(Refusal::Strayed);
+        return Reply::Refused(RequestRefusal::Strayed);
     };
     let (settled, _) = live.settled(seat);
-    Answer::Looked { size, settled }
+    Reply::Looked { size, settled }
 }
 
 /// The records from a position on, lent for the life of the phase.
@@ -72,20 +72,20 @@ fn read<'a, R: Record>(
     seat: &mut Seat<R>,
     start: u64,
     count: u32,
-) -> (Answer, &'a [R])
+) -> (Reply, &'a [R])
     requires of { IsSeatOf live.now seat.old }
     ensures same { seat.new ≡ seat.old }
     ensures told { IsOfReading R.form live.now start count seat.old seat.new result.0 result.1.now }
     ensures few { length result.1.now * R.form.width ≤ payload_limit }
 {
     if let Err(refusal) = check_count::<R>(count) {
-        return (Answer::Refused(refusal), &[]);
+        return (Reply::Refused(refusal), &[]);
     }
     let Some(rest) = live.piece(seat, start) else {
-        return (Answer::Piece { start }, &[]);
+        return (Reply::Piece { start }, &[]);
     };
     let len = rest.len().min(count as usize);
-    (Answer::Piece { start }, &rest[..len])
+    (Reply::Piece { start }, &rest[..len])
 }
 
 /// Does what is asked by a head alone.
@@ -94,8 +94,8 @@ pub fn tell<'a, R: Record, E: Wait>(
     live: &'a Live<R>,
     seat: &mut Seat<R>,
     next: u64,
-    request: Request,
-) -> (Answer, &'a [R])
+    request: ClientRequest,
+) -> (Reply, &'a [R])
     requires of { IsSeatOf live.now seat.old }
     requires numbers { IsNextOf next seat.old.made }
     requires short { IsNoGrowth request }
@@ -105,10 +105,10 @@ pub fn tell<'a, R: Record, E: Wait>(
     ensures few { length result.1.now * R.form.width ≤ payload_limit }
 {
     match request {
-        Request::End => (Answer::Ended, &[]),
-        Request::Grow { count: _ } => unreachable!(),
-        Request::Await => (await_own(rt, live, seat, next), &[]),
-        Request::Look => (look(live, seat), &[]),
-        Request::Read { start, count } => read(live, seat, start, count),
+        ClientRequest::End => (Reply::Ended, &[]),
+        ClientRequest::Grow { count: _ } => unreachable!(),
+        ClientRequest::Await => (await_own(rt, live, seat, next), &[]),
+        ClientRequest::Look => (look(live, seat), &[]),
+        ClientRequest::Read { start, count } => read(live, seat, start, count),
     }
 }

@@ -1,12 +1,12 @@
 -- The front of a frame, as a window shows it.
 use Rattle.std.proofs.Common.{◌≡◌, ◌≤◌, ℕ, ◌+◌, ◌-◌, min, List, ◌++◌, length, take, drop, sym, ap, ◌∙◌, arith}
 use Rattle.std.proofs.lemmas.List.{drop-take, take-take, drop-drop, take-append-drop, length-drop, length-take-le}
-use Rattle.stat_core.specs.declared.window.Window.{Window}
+use Rattle.stat_core.specs.declared.window.ByteWindow.{ByteWindow}
 use Rattle.segment_core.specs.FrameHead.{IsFrontOf}
 use Rattle.stat_core.specs.Window.{HoldsWindow, IsWithin}
 
 -- the same place in the buffer and in the file
-same_bytes : (image buffer : List ℕ) (window : Window) (at n : ℕ)
+same_bytes : (image buffer : List ℕ) (window : ByteWindow) (at n : ℕ)
     → HoldsWindow image buffer window → window.start ≤ at → at + n ≤ window.start + window.len
     → take n (drop (at - window.start) buffer) ≡ take n (drop at image)
 same_bytes image buffer window at n holds starts reaches =
@@ -18,7 +18,7 @@ same_bytes image buffer window at n holds starts reaches =
     ∙ drop-take k n (drop window.start image)
     ∙ ap (take n) (drop-drop k window.start image ∙ ap (λ i. drop i image) there)
 
-pub shown_front : (image buffer : List ℕ) (window : Window) (at bytes n : ℕ)
+pub shown_front : (image buffer : List ℕ) (window : ByteWindow) (at bytes n : ℕ)
     → length image ≡ bytes → at ≤ bytes → n ≡ min 14 (bytes - at) → IsWithin (length buffer) at bytes window
     → HoldsWindow image buffer window
     → IsFrontOf (drop at image) (take n (drop (at - window.start) buffer)) (bytes - at)

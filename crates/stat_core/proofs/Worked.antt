@@ -22,7 +22,7 @@ use Rattle.stat_core.specs.declared.fault.StatFault.TheVariants.{Disk, Header, F
 use Rattle.stat_core.specs.declared.outline.Outline.{Outline}
 use Rattle.stat_core.specs.declared.outline.Outline.TheVariants.{Group, Change, Shrink, Fold}
 use Rattle.stat_core.specs.declared.summary.Summary.{Summary}
-use Rattle.stat_core.specs.declared.telling.Ended.TheVariants as ends
+use Rattle.stat_core.specs.declared.telling.StatEnded.TheVariants as ends
 use Rattle.stat_core.specs.declared.writing.Form.TheVariants.{Lines, Json}
 use Rattle.stat_core.specs.Outline.{IsOutlined, MayStand, outline_of, outline_kind, outline_len}
 use Rattle.stat_core.specs.Summary.{begun, grown, summary_of, summary_of_frames, tally_in, AreFew}

@@ -4,8 +4,8 @@ use Rattle.disk_core.specs.declared.fault.DiskFault.TheVariants.{Length, Read, W
 use Rattle.stat_core.specs.declared.fault.StatFault.{StatFault}
 use Rattle.stat_core.specs.declared.fault.StatFault.TheVariants.{Disk, Header, Frame as FrameFault}
 use Rattle.stat_core.specs.declared.summary.Summary.{Summary}
-use Rattle.stat_core.specs.declared.telling.Ended.{Ended}
-use Rattle.stat_core.specs.declared.telling.Ended.TheVariants.{Done, Refused, Unwritten}
+use Rattle.stat_core.specs.declared.telling.StatEnded.{StatEnded}
+use Rattle.stat_core.specs.declared.telling.StatEnded.TheVariants.{Done, Refused, Unwritten}
 
 -- how many calls had failed where this is told
 abbrev pub failed_in : StatFault → ℕ
@@ -13,7 +13,7 @@ failed_in (Disk fault) = 1
 failed_in (Header fault) = 0
 failed_in (FrameFault fault before) = 0
 
-abbrev pub failed_at : Ended → ℕ
+abbrev pub failed_at : StatEnded → ℕ
 failed_at Done = 0
 failed_at (Refused fault) = failed_in fault
 failed_at (Unwritten error) = 0

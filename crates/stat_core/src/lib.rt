@@ -15,6 +15,6 @@ mod writing;
 
 pub use fault::StatFault;
 pub use summary::Summary;
-pub use telling::{Ended, stat};
+pub use telling::{StatEnded, stat};
 pub use walking::summarize;
 pub use writing::{Form, write_summary};

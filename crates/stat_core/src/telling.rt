@@ -16,7 +16,7 @@ use std::io::Write;
 
 /// How `stat` ended.
 #[derive(Drop)]
-pub enum Ended {
+pub enum StatEnded {
     /// All of its answer was written.
     Done,
     /// The file has no summary. Nothing was written of an answer.
@@ -27,7 +27,7 @@ pub enum Ended {
 
 /// Writes what the file has. It only reads the disk, which it gives back, and takes as much memory for a long file as
 /// for a short one.
-pub fn stat<D: Disk, W: Write>(disk: D, form: Form, writer: &mut W) -> (D, Ended)
+pub fn stat<D: Disk, W: Write>(disk: D, form: Form, writer: &mut W) -> (D, StatEnded)
     ensures told { IsTold (D.keeps result.0) (bytes_of (D.states disk)) (AreCalls (clock (D.states disk)) (clock (D.states result.0))) form (W.contents writer.old) (W.contents writer.new) result.1 }
     ensures only_reads { D.keeps result.0 → OnlyReads (D.states disk) (D.states result.0) }
     ensures faults { D.faults result.0 ≡ D.faults disk + failed_at result.1 }
@@ -36,10 +36,10 @@ pub fn stat<D: Disk, W: Write>(disk: D, form: Form, writer: &mut W) -> (D, Ended
     let mut disk = disk;
     let summary = match summarize(&mut disk) {
         Ok(summary) => summary,
-        Err(fault) => return (disk, Ended::Refused(fault)),
+        Err(fault) => return (disk, StatEnded::Refused(fault)),
     };
     match write_summary(&summary, form, writer) {
-        Ok(()) => (disk, Ended::Done),
-        Err(error) => (disk, Ended::Unwritten(error)),
+        Ok(()) => (disk, StatEnded::Done),
+        Err(error) => (disk, StatEnded::Unwritten(error)),
     }
 }

@@ -13,14 +13,14 @@ ghost use Rattle.stat_core.specs.Window.{HoldsWindow, IsWithin, OnlyReads};
 use crate::fault::StatFault;
 use crate::outline::{Outline, read_outline};
 use crate::summary::Summary;
-use crate::window::{WINDOW_LEN, Window, front_len, slide};
+use crate::window::{ByteWindow, WINDOW_LEN, front_len, slide};
 use disk_core::Disk;
 use segment_core::{HEADER_LEN, ScanFault, Shape};
 
 /// The frame at the gate of the summary so far, as the buffer shows it.
 fn next_outline(
     buffer: &[u8],
-    window: Window,
+    window: ByteWindow,
     shape: Shape,
     summary: Summary,
 ) -> Result<Option<(Outline, u64)>, ScanFault>
@@ -54,7 +54,7 @@ fn walk<D: Disk>(disk: &mut D, shape: Shape, bytes: u64) -> Result<Summary, Stat
     ensures model { D.keeps disk.new → D.keeps disk.old }
 {
     let mut buffer = [0; WINDOW_LEN];
-    let mut window = Window { start: 0, len: 0 };
+    let mut window = ByteWindow { start: 0, len: 0 };
     let mut summary = Summary::begun(shape, bytes);
     loop {
         window = match slide(disk, &mut buffer, window, summary.gate, bytes) {

@@ -14,7 +14,7 @@ pub(crate) const WINDOW_LEN: usize = 65_536;
 
 /// Which part of the file a buffer holds.
 #[derive(Clone, Copy)]
-pub(crate) struct Window {
+pub(crate) struct ByteWindow {
     /// The place of its first byte.
     pub(crate) start: u64,
     /// Its bytes.
@@ -32,10 +32,10 @@ pub(crate) fn front_len(at: u64, bytes: u64) -> u64
 pub(crate) fn slide<D: Disk>(
     disk: &mut D,
     buffer: &mut [u8],
-    window: Window,
+    window: ByteWindow,
     at: u64,
     bytes: u64,
-) -> Result<Window, DiskFault>
+) -> Result<ByteWindow, DiskFault>
     requires length { D.keeps disk.old → bytes ≡ length (bytes_of (D.states disk.old)) }
     requires inside { at ≤ bytes }
     requires room { front_len ≤ length buffer.old }
@@ -57,5 +57,5 @@ pub(crate) fn slide<D: Disk>(
     }
     let len = (buffer.len() as u64).min(bytes - at);
     disk.read_at(at, &mut buffer[..len as usize])?;
-    Ok(Window { start: at, len })
+    Ok(ByteWindow { start: at, len })
 }

@@ -4,8 +4,8 @@ use Rattle.std.specs.Prelude.{nat_lt, if◌then◌else◌, max, Result, Ok, Err,
 use Rattle.std.proofs.lemmas.Bool.Decides.{nat_tests}
 use Rattle.segment_core.specs.Frame.{Frame, Group, Change, Shrink, Fold}
 use Rattle.pen_core.specs.Step.{steps_left}
-use Rattle.pen_core.specs.declared.step.Step.{Step}
-use Rattle.pen_core.specs.declared.step.Step.TheVariants as steps
+use Rattle.pen_core.specs.declared.step.PenStep.{PenStep}
+use Rattle.pen_core.specs.declared.step.PenStep.TheVariants as steps
 use Rattle.pen_core.specs.declared.stage.FoldStage.{FoldStage}
 use Rattle.pen_core.specs.declared.stage.FoldStage.TheVariants as stages
 use Rattle.pen_core.specs.PenOf.{PenOf, JobOf, FoldOf}
@@ -46,7 +46,7 @@ fold_calls-behind (Change runs bytes) fold = omega arith
 fold_calls-behind (Shrink n) fold = omega arith
 fold_calls-behind (Fold count) fold = omega arith
 
-steps_left-some : (step : Step) → 1 ≤ steps_left step
+steps_left-some : (step : PenStep) → 1 ≤ steps_left step
 steps_left-some steps.Body = omega arith
 steps_left-some steps.BodySync = omega arith
 steps_left-some steps.Gate = omega arith

@@ -13,8 +13,8 @@ use Rattle.segment_core.specs.declared.format.Shape.{Shape}
 use Rattle.segment_core.specs.Written.{joined}
 use Rattle.pen_core.specs.declared.fault.PenFault.{PenFault}
 use Rattle.pen_core.specs.declared.fault.PenFault.TheVariants as faults
-use Rattle.pen_core.specs.declared.step.Step.{Step}
-use Rattle.pen_core.specs.declared.step.Step.TheVariants.{Body, BodySync, Gate, GateSync}
+use Rattle.pen_core.specs.declared.step.PenStep.{PenStep}
+use Rattle.pen_core.specs.declared.step.PenStep.TheVariants.{Body, BodySync, Gate, GateSync}
 use Rattle.pen_core.specs.Step.{steps_left}
 use Rattle.pen_core.specs.PenOf.{PenOf}
 use Rattle.pen_core.specs.Pen.{MayOpen, FileSame, FileGains, IsUnchanged, vector_after, vector_with, log_left, failed_calls}
@@ -91,7 +91,7 @@ pub idle_is : {X : Type 0} (job : Option X) → is_some job ≡ false → job �
 idle_is None is = refl
 idle_is (Some job) is = absurd cc
 
-steps_left-most : (step : Step) → steps_left step ≤ 4
+steps_left-most : (step : PenStep) → steps_left step ≤ 4
 steps_left-most Body = omega arith
 steps_left-most BodySync = omega arith
 steps_left-most Gate = omega arith

@@ -9,8 +9,8 @@ use Rattle.std.proofs.lemmas.List.{take_at, take_all, drop_at, drop_all, drop-dr
 use Rattle.pen_core.specs.declared.fault.PenFault.{PenFault}
 use Rattle.pen_core.specs.declared.fault.PenFault.TheVariants as faults
 use Rattle.pen_core.specs.Refusals.{IsRefusal}
-use Rattle.pen_core.specs.declared.step.Step.{Step}
-use Rattle.pen_core.specs.declared.step.Step.TheVariants.{Body, BodySync, Gate, GateSync}
+use Rattle.pen_core.specs.declared.step.PenStep.{PenStep}
+use Rattle.pen_core.specs.declared.step.PenStep.TheVariants.{Body, BodySync, Gate, GateSync}
 use Rattle.pen_core.specs.Step.{steps_left}
 use Rattle.vault_core.specs.Upgrading.{copied, gate_behind, growth_count}
 
@@ -75,7 +75,7 @@ pub last : (test : Bool) (first fault : PenFault) → IsRefusal ((test, first) �
 last true first fault why = inl (refl, why)
 last false first fault why = inr (refl, why)
 
-pub steps_left-most : (step : Step) → steps_left step ≤ 4
+pub steps_left-most : (step : PenStep) → steps_left step ≤ 4
 steps_left-most Body = omega arith
 steps_left-most BodySync = omega arith
 steps_left-most Gate = omega arith

@@ -15,8 +15,8 @@ use Rattle.segment_core.specs.Raw.{AreCellsOf}
 use Rattle.segment_core.specs.Written.{joined}
 use Rattle.pen_core.specs.declared.fault.PenFault.{PenFault}
 use Rattle.pen_core.specs.declared.fault.PenFault.TheVariants as faults
-use Rattle.pen_core.specs.declared.step.Step.{Step}
-use Rattle.pen_core.specs.declared.step.Step.TheVariants.{Body, BodySync, Gate, GateSync}
+use Rattle.pen_core.specs.declared.step.PenStep.{PenStep}
+use Rattle.pen_core.specs.declared.step.PenStep.TheVariants.{Body, BodySync, Gate, GateSync}
 use Rattle.pen_core.specs.Births.{IsExisting, IsUnbornOrEmpty, StaysUnbornOrEmpty, calls_of_creation}
 use Rattle.pen_core.specs.PenOf.{PenOf}
 use Rattle.pen_core.specs.Pen.{IsKept, failed_calls}
@@ -101,7 +101,7 @@ only_block {R} vecs block blocks records lists_are one all is =
     at (first ∷ []) one all is = ap (λ (b : Vec R). b.items) is ∙ sym (append-nil first.items) ∙ all
     at (first ∷ second ∷ more) many all is = absurd (omega (arith, many))
 
-steps_left-least : (step : Step) → 1 ≤ steps_left step
+steps_left-least : (step : PenStep) → 1 ≤ steps_left step
 steps_left-least Body = omega arith
 steps_left-least BodySync = omega arith
 steps_left-least Gate = omega arith

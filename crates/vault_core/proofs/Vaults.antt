@@ -7,7 +7,7 @@ use Rattle.pen_core.specs.PenOf.{PenOf}
 use Rattle.pen_core.specs.Pen.{vector_after}
 use Rattle.pen_core.specs.Typed.{OpensTo}
 use Rattle.block_core.specs.Growth.{Growth}
-use Rattle.directory_core.specs.Chain.{joined, total}
+use Rattle.directory_core.specs.Chain.{grown_records, total}
 use Rattle.record_core.specs.Limits.{record_limit}
 use Rattle.book_core.specs.Lists.{Phase, opening_of, joined_pieces}
 use Rattle.book_core.proofs.Owns.{length-list}
@@ -20,7 +20,7 @@ use Rattle.vault_core.proofs.Handed.{IsFlusherOf-learns}
 pub record HasEnded {R D : Type 0} (keeps : D → Type 0) (live : Phase R) (old new : FlusherOf R D) (blocks : List (List R)) : Type 0 where
   pub of : IsFlusherOf (keeps old.pen.disk) live old
   pub settled : old.settled ≡ length old.pass.entries
-  pub list : joined_pieces blocks ≡ opening_of live ++ joined old.pass.entries
+  pub list : joined_pieces blocks ≡ opening_of live ++ grown_records old.pass.entries
   pub learns : FlusherLearns old new
   pub known_same : new.pass.entries ≡ old.pass.entries
 
@@ -46,8 +46,8 @@ module _ {R D : Type 0} {keeps : D → Type 0} {form : Encoding R} {live : Phase
   -- the list of all that it knows
   whole : (n : ℕ) → length f.pass.entries ≤ n → keeps f.pen.disk → list_to f n ≡ joined_pieces blocks
   whole n le model =
-      ap (λ (es : List (Growth R)). f.opening ++ joined es) (known n le)
-      ∙ ap (λ (rs : List R). rs ++ joined old.pass.entries) ((IsFlusherOf-learns keeps live old f ended.of ended.learns).opening model)
+      ap (λ (es : List (Growth R)). f.opening ++ grown_records es) (known n le)
+      ∙ ap (λ (rs : List R). rs ++ grown_records old.pass.entries) ((IsFlusherOf-learns keeps live old f ended.of ended.learns).opening model)
       ∙ sym ended.list
 
   size : (n : ℕ) → length f.pass.entries ≤ n → f.before + total (take n f.pass.entries) ≡ length (joined_pieces blocks)
@@ -75,7 +75,7 @@ module _ {R D : Type 0} {keeps : D → Type 0} {form : Encoding R} {live : Phase
 
 -- no more records than a vector may have
 pub gathered_few : {R D : Type 0} (keeps : Type 0) (live : Phase R) (old : FlusherOf R D) (blocks : List (List R)) → IsFlusherOf keeps live old
-    → old.before + total old.pass.entries ≤ record_limit → joined_pieces blocks ≡ opening_of live ++ joined old.pass.entries
+    → old.before + total old.pass.entries ≤ record_limit → joined_pieces blocks ≡ opening_of live ++ grown_records old.pass.entries
     → length (joined_pieces blocks) ≤ record_limit
 gathered_few keeps live old blocks of limit list = let long = ap length list ∙ length-list (opening_of live) old.pass.entries in let before = of.before in omega arith
 

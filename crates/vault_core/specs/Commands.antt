@@ -9,7 +9,7 @@ use Rattle.segment_core.specs.Frame.{Run, Frame, Change, frame_text}
 use Rattle.segment_core.specs.Raw.{AreCellsOf}
 use Rattle.segment_core.specs.Tally.{after}
 use Rattle.segment_core.specs.Written.{joined}
-use Rattle.pen_core.specs.declared.step.Step.{Step}
+use Rattle.pen_core.specs.declared.step.PenStep.{PenStep}
 use Rattle.pen_core.specs.Step.{fault_of}
 use Rattle.pen_core.specs.declared.fault.PenFault.{PenFault}
 use Rattle.pen_core.specs.declared.fault.PenFault.TheVariants as faults
@@ -47,7 +47,7 @@ pub record IsCommitted {D : Type 0} (frame : Frame) (old new : PenOf D) : Type 0
   pub whole : new.broken ≡ false
 
 -- Its commit stopped at this step, where a device call failed.
-pub record IsStopped {D : Type 0} (frame : Frame) (step : Step) (old new : PenOf D) : Type 0 where
+pub record IsStopped {D : Type 0} (frame : Frame) (step : PenStep) (old new : PenOf D) : Type 0 where
   pub job_is : new.job ≡ Some (record { frame = frame; step = step })
   pub broken : new.broken ≡ true
   pub shape_same : new.shape ≡ old.shape
@@ -57,14 +57,14 @@ pub record IsStopped {D : Type 0} (frame : Frame) (step : Step) (old new : PenOf
 
 -- a commit stopped where a device call failed
 abbrev pub IsStopFault : VaultFault → Type 0
-IsStopFault fault = (step : Step) × (fault ≡ Pen (faults.Disk (fault_of step)))
+IsStopFault fault = (step : PenStep) × (fault ≡ Pen (faults.Disk (fault_of step)))
 
 -- Why a command isn't settled: one of these tests refused it, or memory was refused, and nothing has changed; or none
 -- did, and its commit stopped.
 abbrev pub IsCommandFault : {D : Type 0} → Frame → List (Bool × PenFault) → PenOf D → PenOf D → VaultFault → Type 0
 IsCommandFault frame lines old new (Pen fault) =
     (IsRefusal lines fault × IsUnchanged old new)
-    ⊎ ((step : Step) × (first_refusal lines ≡ None) × (fault ≡ faults.Disk (fault_of step)) × IsStopped frame step old new)
+    ⊎ ((step : PenStep) × (first_refusal lines ≡ None) × (fault ≡ faults.Disk (fault_of step)) × IsStopped frame step old new)
 IsCommandFault frame lines old new (Unsettled number) = ⊥
 IsCommandFault frame lines old new WrongPhase = ⊥
 

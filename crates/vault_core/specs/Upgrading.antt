@@ -13,7 +13,7 @@ use Rattle.segment_core.specs.Shape.{limit_of, shape_of}
 use Rattle.segment_core.specs.Frame.{Frame}
 use Rattle.segment_core.specs.Fault.{header_fault}
 use Rattle.segment_core.specs.Vector.{HasVector}
-use Rattle.pen_core.specs.declared.step.Step.{Step}
+use Rattle.pen_core.specs.declared.step.PenStep.{PenStep}
 use Rattle.pen_core.specs.declared.fault.PenFault.{PenFault}
 use Rattle.pen_core.specs.declared.fault.PenFault.TheVariants as faults
 use Rattle.pen_core.specs.Births.{IsExisting, IsCreateFault, WritesNothing, AreCallsUntil, calls_of_creation}
@@ -87,7 +87,7 @@ pub record IsCopyStop {R : Type 0} (form : Encoding R) (keeps : Type 0) (left : 
   pub why : ((fault ≡ faults.FileFull) × IsFilledBehind form piece records growths × (calls ≡ growths * 4))
       ⊎ ((IsFilledBehind form piece records growths → ⊥)
       × (((fault ≡ faults.Memory) × (calls ≡ growths * 4))
-      ⊎ ((step : Step) × (fault ≡ faults.Disk (fault_of step)) × (calls ≡ growths * 4 + (5 - steps_left step)))))
+      ⊎ ((step : PenStep) × (fault ≡ faults.Disk (fault_of step)) × (calls ≡ growths * 4 + (5 - steps_left step)))))
 
 -- Why there is no new file, or not the whole one: a piece is past the longest payload; memory was refused; as a
 -- creation; or, behind its calls, as a commit.

@@ -4,7 +4,7 @@ ghost use Rattle.std.specs.Prelude.{◌≡◌, ◌≢◌, ℕ, ◌≤◌, ◌<�
 ghost use Rattle.std.specs.List.{AllWithin};
 ghost use Rattle.disk_core.specs.State.{now, IsImage};
 ghost use Rattle.pen_core.specs.Typed.{OpensTo};
-ghost use Rattle.directory_core.specs.Chain.{joined, total, IsPrefix, IsChained};
+ghost use Rattle.directory_core.specs.Chain.{grown_records, total, IsPrefix, IsChained};
 ghost use Rattle.record_core.specs.Limits.{record_limit};
 ghost use Rattle.book_core.specs.Lists.{records_of, joined_pieces, opening_of, StandInList};
 ghost use Rattle.flush_core.specs.Flusher.{IsFlusherOf, FlusherLearns, ToldIsLeft};
@@ -132,7 +132,7 @@ fn copy_growths<R: Record, D: Disk>(
 ) -> Result<Vec<R>, AllocError>
     requires of { IsFlusherOf (D.keeps flusher.old.pen.disk) live.now flusher.old }
     ensures same { flusher.new ≡ flusher.old }
-    ensures copied { IfOk result (λ block. block.items ≡ joined flusher.old.pass.entries) }
+    ensures copied { IfOk result (λ block. block.items ≡ grown_records flusher.old.pass.entries) }
     ensures in_limit { OnOk result (flusher.old.before + total flusher.old.pass.entries ≤ record_limit) }
 {
     let count = flusher.size() - live.opening_len();
@@ -200,7 +200,7 @@ fn take_space<R: Record, D: Disk>(
     ensures same { flusher.new ≡ flusher.old }
     ensures row { IfSome result (λ space. (length space.row.items ≡ 0) × (length live.now.blocks + 1 ≤ vec_capacity space.row)) }
     ensures ends { IfSome result (λ space. (length space.ends.items ≡ 0) × (length live.now.blocks + 1 ≤ vec_capacity space.ends)) }
-    ensures copied { IfSome result (λ space. space.last.items ≡ joined flusher.old.pass.entries) }
+    ensures copied { IfSome result (λ space. space.last.items ≡ grown_records flusher.old.pass.entries) }
     ensures in_limit { IfSome result (λ _. flusher.old.before + total flusher.old.pass.entries ≤ record_limit) }
 {
     let count = live.block_count().saturating_add(1) as usize;
@@ -226,7 +226,7 @@ fn prepare<R: Record, D: Disk>(
     ensures chained { OnOk result (IsChained flusher.old.pass.entries) }
     ensures row { IfOk result (λ space. (length space.row.items ≡ 0) × (length live.now.blocks + 1 ≤ vec_capacity space.row)) }
     ensures ends { IfOk result (λ space. (length space.ends.items ≡ 0) × (length live.now.blocks + 1 ≤ vec_capacity space.ends)) }
-    ensures copied { IfOk result (λ space. space.last.items ≡ joined flusher.old.pass.entries) }
+    ensures copied { IfOk result (λ space. space.last.items ≡ grown_records flusher.old.pass.entries) }
     ensures in_limit { OnOk result (flusher.old.before + total flusher.old.pass.entries ≤ record_limit) }
 {
     if let Err(fault) = check(live, seats, flusher) {
@@ -253,7 +253,7 @@ pub fn gather<R: Record, D: Disk>(
     flusher: Flusher<R, D>,
 ) -> Result<Vault<R, D>, Gathering<R, D>>
     requires { AreOfPhase (D.keeps flusher.pen.disk) live seats.items flusher }
-    ensures list { IfOk result (λ vault. list_of vault ≡ opening_of live ++ joined flusher.pass.entries) }
+    ensures list { IfOk result (λ vault. list_of vault ≡ opening_of live ++ grown_records flusher.pass.entries) }
     ensures pen { IfOk result (λ vault. vault.pen ≡ flusher.pen) }
     ensures told { IfOk result (λ vault. D.keeps vault.pen.disk → (image : List ℕ) → IsImage (now (D.states vault.pen.disk)) image → OpensTo R.form image (list_of vault)) }
     ensures whole { OnOk result (IsWhole live seats.items flusher) }

@@ -24,6 +24,6 @@ mod vault;
 
 pub use ending::{Gathering, gather};
 pub use fault::VaultFault;
-pub use pieces::Pieces;
+pub use pieces::VaultPieces;
 pub use upgrading::{UpgradeFault, greatest_piece, upgrade};
 pub use vault::Vault;

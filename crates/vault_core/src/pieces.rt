@@ -12,11 +12,11 @@ use std::slice;
 /// The pieces in which the records of a vault stand, in order. Contracts see it as the list of those that are left, the
 /// records of each.
 #[derive(Drop)]
-pub struct Pieces<'a, R> {
+pub struct VaultPieces<'a, R> {
     blocks: slice::Iter<'a, Vec<R>>,
 }
 
-impl<'a, R> Model for Pieces<'a, R> {
+impl<'a, R> Model for VaultPieces<'a, R> {
     ghost use Rattle.std.specs.Prelude.{List};
     ghost use Rattle.std.specs.Slice.Iter.{iter_rest};
     ghost use Rattle.book_core.specs.Lists.{records_of};
@@ -26,18 +26,18 @@ impl<'a, R> Model for Pieces<'a, R> {
     ghost view = { λ p. records_of (iter_rest p.blocks) };
 }
 
-impl<'a, R> Pieces<'a, R> {
+impl<'a, R> VaultPieces<'a, R> {
     /// Those of these blocks.
-    pub(crate) fn of(blocks: &'a [Vec<R>]) -> Pieces<'a, R>
+    pub(crate) fn of(blocks: &'a [Vec<R>]) -> VaultPieces<'a, R>
         ensures { result ≡ records_of blocks.now }
     {
-        Pieces {
+        VaultPieces {
             blocks: blocks.iter(),
         }
     }
 }
 
-impl<'a, R> Iterator for Pieces<'a, R> {
+impl<'a, R> Iterator for VaultPieces<'a, R> {
     type Item = &'a [R];
 
     ghost next_gives = { YieldsFirstRef (λ s. s) };
@@ -60,9 +60,9 @@ impl<'a, R> Iterator for Pieces<'a, R> {
     }
 }
 
-impl<'a, R> FusedIterator for Pieces<'a, R> {}
+impl<'a, R> FusedIterator for VaultPieces<'a, R> {}
 
-impl<'a, R> ExactSizeIterator for Pieces<'a, R> {
+impl<'a, R> ExactSizeIterator for VaultPieces<'a, R> {
     fn len(&self) -> usize {
         self.blocks.len()
     }

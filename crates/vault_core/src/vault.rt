@@ -11,7 +11,7 @@ ghost use Rattle.vault_core.specs.Commands.{IsNothingFault};
 use crate::blocks::Blocks;
 use crate::fault::VaultFault;
 use crate::parts::Part;
-use crate::pieces::Pieces;
+use crate::pieces::VaultPieces;
 use disk_core::Disk;
 use pen_core::{Pen, PenFault, Stage};
 use record_core::Record;
@@ -62,12 +62,12 @@ impl<R: Record, D: Disk> Vault<R, D> {
     }
 
     /// Its records in order, piece by piece.
-    pub fn pieces(&self) -> Pieces<'_, R>
+    pub fn pieces(&self) -> VaultPieces<'_, R>
         ensures pieces { result ≡ self.now.blocks }
         ensures few { length (joined result) ≤ 2 ^ 32 }
     {
         let _size = self.blocks.len();
-        Pieces::of(self.blocks.as_slice())
+        VaultPieces::of(self.blocks.as_slice())
     }
 
     /// The version of its file.

@@ -142,11 +142,11 @@ fn crews_of_many_and_of_one_grow_all(rt: HostRuntime) {
 
 /// A gate that stops each grower before one of its growths.
 #[derive(Drop)]
-struct StopsAt {
+struct StopsBefore {
     k: u32,
 }
 
-impl Gate for StopsAt {
+impl Gate for StopsBefore {
     ghost may_stop = { λ gate _ k. k ≡ gate.k };
 
     fn before(&self, _grower: u16, k: u32) -> bool {
@@ -162,7 +162,7 @@ fn sum_before<E: Threads + Wait + Sync>(rt: &E, alloc: Global, k: u32) -> Option
         growers: 2,
         count: 5,
     };
-    let crewed = grow(rt, alloc, &source, &StopsAt { k })?;
+    let crewed = grow(rt, alloc, &source, &StopsBefore { k })?;
     let unfaulted = crewed.faults.as_slice() == [None, None].as_slice();
     Some((sum_of(&crewed), unfaulted))
 }

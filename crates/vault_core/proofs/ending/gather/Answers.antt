@@ -1,7 +1,7 @@
 use Rattle.std.proofs.Common.{◌≡◌, ◌≤◌, List, ◌++◌, length, All, sym, ap, ap₂, subst, ◌∙◌, arith}
 use Rattle.disk_core.specs.State.{now, IsImage}
 use Rattle.pen_core.specs.PenOf.{PenOf}
-use Rattle.directory_core.specs.Chain.{IsPrefix, joined}
+use Rattle.directory_core.specs.Chain.{IsPrefix, grown_records}
 use Rattle.book_core.specs.Lists.{Seated, StandInList, records_of, joined_pieces, opening_of}
 use Rattle.flush_core.specs.Flusher.{FlusherOf, FlusherLearns, ToldIsLeft, read_as}
 use Rattle.vault_core.specs.Vault.{VaultOf}
@@ -26,7 +26,7 @@ take_in_all-requires-clause-known g c =
 
 pub with_ends-requires-clause-few : goal.with_ends-requires-clause-few
 with_ends-requires-clause-few g c =
-    let list : joined_pieces (records_of c.put_behind-blocks.result.items) ≡ opening_of c.args.live ++ joined c.args.flusher.pass.entries =
+    let list : joined_pieces (records_of c.put_behind-blocks.result.items) ≡ opening_of c.args.live ++ grown_records c.args.flusher.pass.entries =
     c.put_behind-blocks.ensures.joined ∙ ap₂ (λ bs rs. joined_pieces bs ++ rs) c.into_blocks.ensures c.in-Ok.ensures.copied in
     let limit = c.in-Ok.ensures.in_limit in
     let few = gathered_few (g.D.Disk.keeps c.args.flusher.pen.disk) c.args.live c.args.flusher (records_of c.put_behind-blocks.result.items) c.requires.flusher_of limit list in
@@ -36,7 +36,7 @@ pub invariant_of-vault : goal.invariant_of-vault
 invariant_of-vault g c =
     let may = subst (λ (ss : List (Seated _)). MayGather c.args.live ss c.args.flusher) c.as_slice.ensures.value c.in-Ok.ensures.may in
     let same = c.prepare.ensures.same in
-    let list : joined_pieces (records_of c.put_behind-blocks.result.items) ≡ opening_of c.args.live ++ joined c.args.flusher.pass.entries =
+    let list : joined_pieces (records_of c.put_behind-blocks.result.items) ≡ opening_of c.args.live ++ grown_records c.args.flusher.pass.entries =
     c.put_behind-blocks.ensures.joined ∙ ap₂ (λ bs rs. joined_pieces bs ++ rs) c.into_blocks.ensures c.in-Ok.ensures.copied in
     let ended : HasEnded g.D.Disk.keeps c.args.live c.args.flusher c.take_in_all.new.flusher (records_of c.put_behind-blocks.result.items) = record {
       of = c.requires.flusher_of;

@@ -1,5 +1,5 @@
 use Rattle.std.proofs.Common.{arith}
-use Rattle.directory_core.specs.Chain.{joined}
+use Rattle.directory_core.specs.Chain.{grown_records}
 use Rattle.directory_core.proofs.Readings.{piece_first}
 use Rattle.directory_core.proofs.directory.Directory.get.Goals as goal
 
@@ -9,4 +9,4 @@ bounds-piece-0 g c = let some = c.in-Some.ensures.in_order.some in omega arith
 pub returns-in-Some-clause-value : goal.returns-in-Some-clause-value
 returns-in-Some-clause-value g c =
     let lent = c.in-Some.ensures.in_order in
-    piece_first (joined c.args.pass.now.entries) c.in-Some.piece.now c.args.i c.index-piece-0.result lent.some lent.is c.index-piece-0.is
+    piece_first (grown_records c.args.pass.now.entries) c.in-Some.piece.now c.args.i c.index-piece-0.result lent.some lent.is c.index-piece-0.is

@@ -2,7 +2,7 @@ use Rattle.std.proofs.Common.{arith, ◌<◌, ap, refl, sym, subst, ◌∙◌, l
 use Rattle.drive_core.specs.Asked.{answer_of}
 use Rattle.drive_core.specs.Line.{look_fault_of}
 use Rattle.drive_core.specs.Step as step
-use Rattle.drive_core.specs.declared.fault.Fault.TheVariants as told
+use Rattle.drive_core.specs.declared.fault.StepFault.TheVariants as told
 use Rattle.drive_core.proofs.Seats.{of_replaced, lent_at, length_set, there_is, get_set_same}
 use Rattle.drive_core.proofs.PutRow.{lent_new}
 use Rattle.drive_core.proofs.LookedSeat.{seat_answers, seat_strays, look_inside}

@@ -1,7 +1,7 @@
 use Rattle.std.proofs.Common.{arith, false, ◌==◌, eqb-true, ◌≡◌, ◌<◌, ap, refl, sym, subst, ◌∙◌, length}
 use Rattle.drive_core.specs.Asked.{answer_of}
 use Rattle.book_core.specs.Growing.{size_of}
-use Rattle.drive_core.specs.declared.fault.Fault.TheVariants as told
+use Rattle.drive_core.specs.declared.fault.StepFault.TheVariants as told
 use Rattle.drive_core.specs.Step as step
 use Rattle.book_core.specs.Lists.{IsSeatOf}
 use Rattle.drive_core.proofs.Seats.{of_replaced, lent_at, length_set}

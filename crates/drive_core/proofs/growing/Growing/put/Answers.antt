@@ -1,7 +1,7 @@
 use Rattle.std.proofs.Common.{◌<◌, length, ap, refl, sym, subst, ◌∙◌}
 use Rattle.block_core.specs.Length.{IsBlockLength, IsBlockRefusal}
 use Rattle.drive_core.specs.Step as step
-use Rattle.drive_core.specs.declared.fault.Fault.TheVariants as told
+use Rattle.drive_core.specs.declared.fault.StepFault.TheVariants as told
 use Rattle.drive_core.proofs.Blocked.{block_refuses, closed_refuses}
 use Rattle.drive_core.proofs.Steps.{asked_as}
 use Rattle.drive_core.proofs.growing.Growing.put.Goals as goal

@@ -1,7 +1,7 @@
 -- Each exit that makes a call builds what its tick knows, and cites one lemma for each clause.
 use Rattle.std.proofs.Common.{◌∙◌, arith, Some, inr, refl, sym, ap, subst}
 use Rattle.pen_core.specs.declared.fault.PenFault.TheVariants.{Disk}
-use Rattle.pen_core.specs.declared.step.Step.TheVariants.{Body}
+use Rattle.pen_core.specs.declared.step.PenStep.TheVariants.{Body}
 use Rattle.pen_core.specs.declared.stage.FoldStage.TheVariants.{Filed}
 use Rattle.pen_core.specs.Fields.{IsSoundPen}
 use Rattle.pen_core.specs.InHand.{fold_of}

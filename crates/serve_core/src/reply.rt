@@ -4,13 +4,13 @@ ghost use Rattle.std.specs.Prelude.{◌≡◌, ◌<◌, ◌+◌, ◌*◌, ◌^�
 ghost use Rattle.std.specs.Int.{w32, w64, to_le_bytes};
 ghost use Rattle.serve_core.specs.Answers.{numbers_of, answer_bytes};
 
-use crate::refusal::Refusal;
+use crate::refusal::RequestRefusal;
 use record_core::{Record, append_records};
 use std::alloc::AllocError;
 
 /// What a client is told.
 #[derive(Clone, Copy)]
-pub enum Answer {
+pub enum Reply {
     /// The seat's conversation has ended as asked.
     Ended,
     /// The growth is made: so many growths of this server stand before it, and it begins at position `start`.
@@ -22,7 +22,7 @@ pub enum Answer {
     /// The records from this position on follow: none, where the vector ends before it as far as the seat knows it.
     Piece { start: u64 },
     /// It isn't done.
-    Refused(Refusal),
+    Refused(RequestRefusal),
 }
 
 /// The numbers of an answer's head but for the count of its records.
@@ -34,18 +34,18 @@ pub struct Numbers {
     pub second: u64,
 }
 
-impl Answer {
+impl Reply {
     /// Its numbers.
     pub fn numbers(self) -> Numbers
         ensures { result ≡ numbers_of self }
     {
         let (status, first, second) = match self {
-            Answer::Ended => (0, 0, 0),
-            Answer::Grown { number, start } => (0, number, start),
-            Answer::Settled { growths } => (0, growths, 0),
-            Answer::Looked { size, settled } => (0, size, settled),
-            Answer::Piece { start } => (0, start, 0),
-            Answer::Refused(refusal) => (refusal.code(), 0, 0),
+            Reply::Ended => (0, 0, 0),
+            Reply::Grown { number, start } => (0, number, start),
+            Reply::Settled { growths } => (0, growths, 0),
+            Reply::Looked { size, settled } => (0, size, settled),
+            Reply::Piece { start } => (0, start, 0),
+            Reply::Refused(refusal) => (refusal.code(), 0, 0),
         };
         Numbers {
             status,

@@ -1,10 +1,10 @@
 use Rattle.std.proofs.Common.{◌≡◌, ◌++◌, ◌∙◌, length, ap}
 use Rattle.std.specs.List.{flat_map}
 use Rattle.std.specs.Int.{w32, w64, to_le_bytes}
-use Rattle.serve_core.specs.declared.answer.Numbers.{Numbers}
+use Rattle.serve_core.specs.declared.reply.Numbers.{Numbers}
 use Rattle.serve_core.specs.Answers.{numbers_of, answer_bytes}
 use Rattle.serve_core.proofs.Bytes.{on_ok, in_parts}
-use Rattle.serve_core.proofs.answer.Answer.append_to.Goals as goal
+use Rattle.serve_core.proofs.reply.Reply.append_to.Goals as goal
 
 pub returns : goal.returns
 returns g c =
