@@ -1,7 +1,8 @@
 //! `fold`: live changes put into their home bytes.
 
-ghost use Rattle.std.specs.Prelude.{◌≡◌, ◌⊎◌, ◌+◌, ◌-◌, None, OnOk, IfOk, IfErr, MatchResult};
+ghost use Rattle.std.specs.Prelude.{◌≡◌, ◌⊎◌, ◌+◌, ◌-◌, None, OnOk, IfOk, IfErr};
 ghost use Rattle.std.specs.Io.KnownBytes.{Appends};
+ghost use Rattle.disk_core.specs.Fault.{CountsFailures};
 ghost use Rattle.disk_core.specs.Calls.{bytes_of};
 ghost use Rattle.files_core.specs.Ended.{EndsAs, WritesAnswer};
 ghost use Rattle.disk_core.specs.Moments.{LeavesOnly};
@@ -30,9 +31,7 @@ fn count_live<R: Record, D: Disk>(alloc: Global, disk: &mut D) -> Result<u64, Op
     ensures found { IfOk result (λ live. (scanned : Scanned R) × (D.keeps disk.new → IsScanOf R.form (bytes_of (D.states disk.old)) scanned) × (live ≡ scanned.changes - scanned.folded)) }
     ensures refused { D.keeps disk.new → IfErr result (IsOpenRefusal R.form (bytes_of (D.states disk.old))) }
     ensures only_syncs { D.keeps disk.new → OnlySyncs (D.states disk.old) (D.states disk.new) }
-    ensures faults { MatchResult result
-        (λ _. D.faults disk.new ≡ D.faults disk.old)
-        (λ fault. D.faults disk.new ≡ D.faults disk.old + failed_openings fault) }
+    ensures faults { CountsFailures failed_openings (D.faults disk.old) (D.faults disk.new) result }
     ensures model { D.keeps disk.new → D.keeps disk.old }
 {
     match scan_disk::<D, R>(alloc, disk, &mut [0; PIECE_LEN]) {
@@ -48,9 +47,7 @@ fn fold_vault<R: Record, D: Disk>(vault: &mut Vault<R, D>) -> Result<(), VaultFa
     ensures sure { D.keeps vault.new.pen.disk → (vault.new.sure ≡ vault.old.sure) ⊎ (vault.new.sure ≡ list_of vault.new) }
     ensures folded { vault.old.pen.job ≡ None → OnOk result (IsAllFolded vault.new.pen) }
     ensures refused { IfErr result (IsFoldingFault vault.old.pen vault.new.pen) }
-    ensures faults { MatchResult result
-        (λ _. D.faults vault.new.pen.disk ≡ D.faults vault.old.pen.disk)
-        (λ fault. D.faults vault.new.pen.disk ≡ D.faults vault.old.pen.disk + failed fault) }
+    ensures faults { CountsFailures failed (D.faults vault.old.pen.disk) (D.faults vault.new.pen.disk) result }
     ensures model { D.keeps vault.new.pen.disk → D.keeps vault.old.pen.disk }
 {
     // Whatever a crash leaves now opens to the list.

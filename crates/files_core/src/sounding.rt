@@ -1,6 +1,7 @@
 //! What is sound of a damaged file.
 
-ghost use Rattle.std.specs.Prelude.{◌≡◌, ◌⊎◌, ◌≤◌, ◌<◌, ◌+◌, ◌^◌, ◌++◌, length, take, MatchOption, MatchResult, IfOk, IfErr};
+ghost use Rattle.std.specs.Prelude.{◌≡◌, ◌⊎◌, ◌≤◌, ◌<◌, ◌+◌, ◌^◌, ◌++◌, length, take, MatchOption, IfOk, IfErr};
+ghost use Rattle.disk_core.specs.Fault.{CountsFailures};
 ghost use Rattle.disk_core.specs.Calls.{bytes_of};
 ghost use Rattle.disk_core.specs.Moments.{LeavesOnly};
 ghost use Rattle.disk_core.specs.State.{now, IsImage};
@@ -47,9 +48,7 @@ fn count_front<R: Record, D: Disk>(
     ensures refused { D.keeps disk.new → IfErr result (IsOpenRefusal R.form (take len (bytes_of (D.states disk.old)) ++ tail.now)) }
     ensures same { D.keeps disk.new → now (D.states disk.new) ≡ now (D.states disk.old) }
     ensures images { D.keeps disk.new → LeavesOnly (D.states disk.old) (D.states disk.new) (IsImage (now (D.states disk.old))) }
-    ensures faults { MatchResult result
-        (λ _. D.faults disk.new ≡ D.faults disk.old)
-        (λ fault. D.faults disk.new ≡ D.faults disk.old + failed_openings fault) }
+    ensures faults { CountsFailures failed_openings (D.faults disk.old) (D.faults disk.new) result }
     ensures model { D.keeps disk.new → D.keeps disk.old }
 {
     match scan_front::<D, R>(alloc, disk, len, tail, &mut [0; PIECE_LEN]) {
@@ -69,9 +68,7 @@ pub fn sound_front<R: Record, D: Disk>(
     ensures refused { D.keeps disk.new → IfErr result (IsFrontRefusal R.form (bytes_of (D.states disk.old)) at) }
     ensures same { D.keeps disk.new → now (D.states disk.new) ≡ now (D.states disk.old) }
     ensures images { D.keeps disk.new → LeavesOnly (D.states disk.old) (D.states disk.new) (IsImage (now (D.states disk.old))) }
-    ensures faults { MatchResult result
-        (λ _. D.faults disk.new ≡ D.faults disk.old)
-        (λ fault. D.faults disk.new ≡ D.faults disk.old + failed_openings fault) }
+    ensures faults { CountsFailures failed_openings (D.faults disk.old) (D.faults disk.new) result }
     ensures model { D.keeps disk.new → D.keeps disk.old }
 {
     let len = match disk.len() {

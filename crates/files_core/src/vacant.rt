@@ -1,6 +1,7 @@
 //! Whether a file may be made where something stands.
 
-ghost use Rattle.std.specs.Prelude.{◌≡◌, ◌↔◌, ◌≤◌, ◌+◌, length, IsTrue, IfOk, MatchResult};
+ghost use Rattle.std.specs.Prelude.{◌≡◌, ◌↔◌, ◌≤◌, length, IsTrue, IfOk};
+ghost use Rattle.disk_core.specs.Fault.{CountsFailures};
 ghost use Rattle.disk_core.specs.Calls.{bytes_of};
 ghost use Rattle.disk_core.specs.Moments.{LeavesOnly};
 ghost use Rattle.disk_core.specs.State.{now, IsImage};
@@ -31,7 +32,7 @@ pub fn is_vacant<R: Record, D: Disk>(disk: &mut D, format: Format) -> Result<boo
     ensures vacant { D.keeps disk.new → IfOk result (λ vacant. IsTrue vacant ↔ IsVacant (shape_of format R.form) (bytes_of (D.states disk.old))) }
     ensures same { D.keeps disk.new → now (D.states disk.new) ≡ now (D.states disk.old) }
     ensures images { D.keeps disk.new → LeavesOnly (D.states disk.old) (D.states disk.new) (IsImage (now (D.states disk.old))) }
-    ensures faults { MatchResult result (λ _. D.faults disk.new ≡ D.faults disk.old) (λ _. D.faults disk.new ≡ D.faults disk.old + 1) }
+    ensures faults { CountsFailures (λ _. 1) (D.faults disk.old) (D.faults disk.new) result }
     ensures model { D.keeps disk.new → D.keeps disk.old }
 {
     let len = disk.len()?;

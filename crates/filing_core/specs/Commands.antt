@@ -5,6 +5,7 @@ use Rattle.std.specs.Io.KnownBytes.{Appends, Keeps}
 use Rattle.std.specs.Option.{option_copied}
 use Rattle.std.specs.NonZero.{non_zero_u32_get}
 use Rattle.record_core.specs.Bytes.{Encoding}
+use Rattle.disk_core.specs.Fault.{CountsFailures}
 use Rattle.disk_core.specs.State.{now, IsImage}
 use Rattle.disk_core.specs.Calls.{bytes_of}
 use Rattle.disk_core.specs.Moments.{LeavesOnly, clock}
@@ -46,7 +47,7 @@ use Rattle.files_core.specs.declared.asked.Window.{Window}
 use Rattle.files_core.specs.declared.ended.Ended.{Ended}
 use Rattle.files_core.specs.declared.fault.FileFault.{FileFault}
 use Rattle.files_core.specs.declared.fault.FileFault.TheVariants.{Vault, Upgrade as Unupgraded}
-use Rattle.serve_core.specs.Serving.{CountsFailed, IsLeft, IsServeRefusal, serve_failures}
+use Rattle.serve_core.specs.Serving.{IsLeft, IsServeRefusal, serve_failures}
 use Rattle.serve_core.specs.declared.fault.ServeFault.{ServeFault}
 use Rattle.stat_core.specs.Calls.{AreCalls, failed_at}
 use Rattle.stat_core.specs.Ended.{IsTold}
@@ -218,7 +219,7 @@ module _ {R : Type 0} (form : Encoding R) (old new : Option (List ℕ)) (filed :
     pub opened : IsJustOpened disk
     pub leaves : KeepsSoFar left → IsLeft form states_of disk left growths served
     pub refused : IfErr served (IsServeRefusal form KeepsSoFar states_of clients left growths)
-    pub faults_are : CountsFailed serve_failures (faults_of disk) (faults_of left) served
+    pub faults_are : CountsFailures serve_failures (faults_of disk) (faults_of left) served
     pub told : IsServedAs left growths served
 
   abbrev pub IsServeRun : ℕ → Type 0

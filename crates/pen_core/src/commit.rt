@@ -3,7 +3,7 @@
 ghost use Rattle.std.specs.Prelude.{◌≡◌, ◌≤◌, ◌<◌, ◌+◌, ◌^◌, length, OnOk, OnErr, IfOk, IfErr, MatchResult, false};
 ghost use Rattle.disk_core.specs.Calls.{bytes_of};
 ghost use Rattle.disk_core.specs.Moments.{LeavesOnly, clock};
-ghost use Rattle.disk_core.specs.Fault.{IsCounted};
+ghost use Rattle.disk_core.specs.Fault.{IsCounted, CountsFailures};
 ghost use Rattle.pen_core.specs.Step.{Calls, FailsCall, fault_of};
 ghost use Rattle.pen_core.specs.Pen.{MayOpen, IsKept, LogTickCalls, LogTickFails, IsTicked, FileTicked, FileSame, IsTickFault, calls_due, failed_calls};
 
@@ -52,9 +52,7 @@ impl<D: Disk> Pen<D> {
         ensures whole { OnOk result ((self.old.broken ≡ false) × (self.new.broken ≡ false)) }
         ensures file_stays { D.keeps self.new.disk → OnErr result (FileSame self.old self.new) }
         ensures time { clock (D.states self.new.disk) ≡ clock (D.states self.old.disk) + calls_due self.old.broken self.old.job }
-        ensures faults { MatchResult result
-            (λ _. D.faults self.new.disk ≡ D.faults self.old.disk)
-            (λ fault. D.faults self.new.disk ≡ D.faults self.old.disk + failed_calls fault) }
+        ensures faults { CountsFailures failed_calls (D.faults self.old.disk) (D.faults self.new.disk) result }
         ensures model { D.keeps self.new.disk → D.keeps self.old.disk }
         ensures goes_on { D.keeps self.old.disk → OnOk result (D.keeps self.new.disk) }
     {

@@ -1,6 +1,7 @@
 //! A file is made: its header behind a closed first byte, a sync, that byte opened, a sync.
 
 ghost use Rattle.std.specs.Prelude.{◌≡◌, ◌≤◌, ◌<◌, ◌+◌, ◌-◌, ◌^◌, ◌++◌, ◌∷◌, [], length, Ok, Err, OnOk, IfOk, IfErr, MatchResult};
+ghost use Rattle.disk_core.specs.Fault.{CountsFailures};
 ghost use Rattle.disk_core.specs.State.{now, settled, touched, overlay, IsImage};
 ghost use Rattle.disk_core.specs.Calls.{bytes_of};
 ghost use Rattle.disk_core.specs.Moments.{LeavesOnly, clock};
@@ -41,9 +42,7 @@ fn look<D: Disk>(disk: &mut D) -> Result<FoundFile, DiskFault>
     ensures calls { D.keeps disk.new → MatchResult result
         (λ seen. AreLooks (bytes_of (D.states disk.old)) (first_calls (bytes_of (D.states disk.old))) seen (clock (D.states disk.new) - clock (D.states disk.old)))
         (λ cause. EndsAt (first_calls (bytes_of (D.states disk.old))) cause (clock (D.states disk.new) - clock (D.states disk.old))) }
-    ensures faults { MatchResult result
-        (λ _. D.faults disk.new ≡ D.faults disk.old)
-        (λ _. D.faults disk.new ≡ D.faults disk.old + 1) }
+    ensures faults { CountsFailures (λ _. 1) (D.faults disk.old) (D.faults disk.new) result }
     ensures model { D.keeps disk.new → D.keeps disk.old }
 {
     let len = disk.len()?;
@@ -72,9 +71,7 @@ fn write_synced<D: Disk>(disk: &mut D, at: u64, bytes: &[u8]) -> Result<(), Disk
     ensures calls { MatchResult result
         (λ _. clock (D.states disk.new) ≡ clock (D.states disk.old) + 2)
         (λ cause. EndsAt write_calls cause (clock (D.states disk.new) - clock (D.states disk.old))) }
-    ensures faults { MatchResult result
-        (λ _. D.faults disk.new ≡ D.faults disk.old)
-        (λ _. D.faults disk.new ≡ D.faults disk.old + 1) }
+    ensures faults { CountsFailures (λ _. 1) (D.faults disk.old) (D.faults disk.new) result }
     ensures model { D.keeps disk.new → D.keeps disk.old }
 {
     disk.write_at(at, bytes)?;
@@ -97,9 +94,7 @@ fn close_first<D: Disk>(disk: &mut D) -> Result<(), PenFault>
     ensures calls { D.keeps disk.new → MatchResult result
         (λ _. clock (D.states disk.new) ≡ clock (D.states disk.old) + length (first_calls (bytes_of (D.states disk.old))))
         (λ fault. AreCallsUntil (bytes_of (D.states disk.old)) (first_calls (bytes_of (D.states disk.old))) fault (clock (D.states disk.new) - clock (D.states disk.old))) }
-    ensures faults { MatchResult result
-        (λ _. D.faults disk.new ≡ D.faults disk.old)
-        (λ fault. D.faults disk.new ≡ D.faults disk.old + failed_calls fault) }
+    ensures faults { CountsFailures failed_calls (D.faults disk.old) (D.faults disk.new) result }
     ensures model { D.keeps disk.new → D.keeps disk.old }
 {
     let contents = match look(disk) {
@@ -127,9 +122,7 @@ fn write_header<D: Disk>(disk: &mut D, shape: Shape, bytes: &[u8]) -> Result<(),
     ensures calls { MatchResult result
         (λ _. clock (D.states disk.new) ≡ clock (D.states disk.old) + 4)
         (λ cause. EndsAt (write_calls ++ write_calls) cause (clock (D.states disk.new) - clock (D.states disk.old))) }
-    ensures faults { MatchResult result
-        (λ _. D.faults disk.new ≡ D.faults disk.old)
-        (λ _. D.faults disk.new ≡ D.faults disk.old + 1) }
+    ensures faults { CountsFailures (λ _. 1) (D.faults disk.old) (D.faults disk.new) result }
     ensures model { D.keeps disk.new → D.keeps disk.old }
 {
     write_synced(disk, 1, &bytes[1..])?;
@@ -150,9 +143,7 @@ fn make<D: Disk>(disk: &mut D, shape: Shape, bytes: &[u8]) -> Result<(), PenFaul
     ensures calls { D.keeps disk.new → MatchResult result
         (λ _. clock (D.states disk.new) ≡ clock (D.states disk.old) + length (calls_of_creation (bytes_of (D.states disk.old))))
         (λ fault. AreCallsUntil (bytes_of (D.states disk.old)) (calls_of_creation (bytes_of (D.states disk.old))) fault (clock (D.states disk.new) - clock (D.states disk.old))) }
-    ensures faults { MatchResult result
-        (λ _. D.faults disk.new ≡ D.faults disk.old)
-        (λ fault. D.faults disk.new ≡ D.faults disk.old + failed_calls fault) }
+    ensures faults { CountsFailures failed_calls (D.faults disk.old) (D.faults disk.new) result }
     ensures model { D.keeps disk.new → D.keeps disk.old }
 {
     if let Err(fault) = disk.sync() {

@@ -1,6 +1,7 @@
 //! A fold's begin, and its ticks: its home writes, their sync, and its frame as the log job.
 
 ghost use Rattle.std.specs.Prelude.{◌≡◌, ◌+◌, ◌-◌, ◌≤◌, ◌<◌, ◌^◌, length, map, take, OnOk, OnErr, IfOk, IfErr, IfSome, MatchResult, false};
+ghost use Rattle.disk_core.specs.Fault.{CountsFailures};
 ghost use Rattle.disk_core.specs.Moments.{LeavesOnly, clock};
 ghost use Rattle.segment_core.specs.Written.{joined};
 ghost use Rattle.pen_core.specs.Folds.{IsWholeFold};
@@ -122,9 +123,7 @@ impl<D: Disk> Pen<D> {
         ensures whole { OnOk result ((self.old.broken ≡ false) × (self.new.broken ≡ false)) }
         ensures file { D.keeps self.new.disk → FileSame self.old self.new }
         ensures time { clock (D.states self.new.disk) ≡ clock (D.states self.old.disk) + home_calls_due self.old.broken self.old.fold }
-        ensures faults { MatchResult result
-            (λ _. D.faults self.new.disk ≡ D.faults self.old.disk)
-            (λ fault. D.faults self.new.disk ≡ D.faults self.old.disk + failed_calls fault) }
+        ensures faults { CountsFailures failed_calls (D.faults self.old.disk) (D.faults self.new.disk) result }
         ensures model { D.keeps self.new.disk → D.keeps self.old.disk }
         ensures goes_on { D.keeps self.old.disk → OnOk result (D.keeps self.new.disk) }
     {

@@ -1,6 +1,7 @@
 //! What stands on a disk is scanned: read piece by piece, each fed to a scanner.
 
 ghost use Rattle.std.specs.Prelude.{◌≡◌, ◌⊎◌, ◌≤◌, ◌<◌, ◌+◌, ◌-◌, ◌^◌, ◌++◌, [], ℕ, List, length, take, OnOk, IfOk, IfErr, MatchResult};
+ghost use Rattle.disk_core.specs.Fault.{CountsFailures};
 ghost use Rattle.disk_core.specs.State.{now, IsImage};
 ghost use Rattle.disk_core.specs.Calls.{bytes_of, Stays};
 ghost use Rattle.disk_core.specs.Moments.{LeavesOnly, clock};
@@ -48,9 +49,7 @@ fn feed_piece<D: Disk, R: Record>(
     ensures cause { IfErr result IsReadFault }
     ensures lost { OnOk result (IsLost scanner.old → ⊥) }
     ensures memory { IfErr result (λ fault. (fault ≡ OpenFault.Scan ScanFault.Memory) ⊎ (fault ≡ OpenFault.Disk DiskFault.Read)) }
-    ensures faults { MatchResult result
-        (λ _. D.faults disk.new ≡ D.faults disk.old)
-        (λ fault. D.faults disk.new ≡ D.faults disk.old + failed_openings fault) }
+    ensures faults { CountsFailures failed_openings (D.faults disk.old) (D.faults disk.new) result }
     ensures model { D.keeps disk.new → D.keeps disk.old }
 {
     if let Err(fault) = disk.read_at(at, piece) {
@@ -82,9 +81,7 @@ fn feed_all<D: Disk, R: Record>(
         (λ _. AreNeeded (length piece.old) R.form (bytes_of (D.states disk.old)) (clock (D.states disk.new) - clock (D.states disk.old)))
         (λ fault. AreReadsMade (length piece.old) R.form (bytes_of (D.states disk.old)) fault (clock (D.states disk.new) - clock (D.states disk.old))) }
     ensures cause { IfErr result IsReadFault }
-    ensures faults { MatchResult result
-        (λ _. D.faults disk.new ≡ D.faults disk.old)
-        (λ fault. D.faults disk.new ≡ D.faults disk.old + failed_openings fault) }
+    ensures faults { CountsFailures failed_openings (D.faults disk.old) (D.faults disk.new) result }
     ensures model { D.keeps disk.new → D.keeps disk.old }
 {
     let mut at: u64 = 0;
@@ -113,9 +110,7 @@ fn feed_front<D: Disk, R: Record>(
     ensures refused { D.keeps disk.new → IfErr result (IsOpenRefusal R.form (take len (bytes_of (D.states disk.old)) ++ tail.now)) }
     ensures same { D.keeps disk.new → now (D.states disk.new) ≡ now (D.states disk.old) }
     ensures images { D.keeps disk.new → LeavesOnly (D.states disk.old) (D.states disk.new) (IsImage (now (D.states disk.old))) }
-    ensures faults { MatchResult result
-        (λ _. D.faults disk.new ≡ D.faults disk.old)
-        (λ fault. D.faults disk.new ≡ D.faults disk.old + failed_openings fault) }
+    ensures faults { CountsFailures failed_openings (D.faults disk.old) (D.faults disk.new) result }
     ensures model { D.keeps disk.new → D.keeps disk.old }
 {
     feed_all(disk, len, piece, scanner)?;
@@ -138,9 +133,7 @@ pub fn scan_front<D: Disk, R: Record>(
     ensures refused { D.keeps disk.new → IfErr result (IsOpenRefusal R.form (take len (bytes_of (D.states disk.old)) ++ tail.now)) }
     ensures same { D.keeps disk.new → now (D.states disk.new) ≡ now (D.states disk.old) }
     ensures images { D.keeps disk.new → LeavesOnly (D.states disk.old) (D.states disk.new) (IsImage (now (D.states disk.old))) }
-    ensures faults { MatchResult result
-        (λ _. D.faults disk.new ≡ D.faults disk.old)
-        (λ fault. D.faults disk.new ≡ D.faults disk.old + failed_openings fault) }
+    ensures faults { CountsFailures failed_openings (D.faults disk.old) (D.faults disk.new) result }
     ensures model { D.keeps disk.new → D.keeps disk.old }
 {
     let mut scanner = Scanner::of_length(alloc, len);
@@ -167,9 +160,7 @@ fn read_disk<D: Disk, R: Record>(
     ensures reads { D.keeps disk.new → MatchResult result
         (λ _. AreNeeded (length piece.old) R.form (bytes_of (D.states disk.old)) (clock (D.states disk.new) - clock (D.states disk.old) - 2))
         (λ fault. AreReadsMade (length piece.old) R.form (bytes_of (D.states disk.old)) fault (clock (D.states disk.new) - clock (D.states disk.old) - 2)) }
-    ensures faults { MatchResult result
-        (λ _. D.faults disk.new ≡ D.faults disk.old)
-        (λ fault. D.faults disk.new ≡ D.faults disk.old + failed_openings fault) }
+    ensures faults { CountsFailures failed_openings (D.faults disk.old) (D.faults disk.new) result }
     ensures model { D.keeps disk.new → D.keeps disk.old }
 {
     if let Err(fault) = disk.sync() {
@@ -203,9 +194,7 @@ pub fn scan_disk<D: Disk, R: Record>(
     ensures reads { D.keeps disk.new → MatchResult result
         (λ _. AreNeeded (length piece.old) R.form (bytes_of (D.states disk.old)) (clock (D.states disk.new) - clock (D.states disk.old) - 2))
         (λ fault. AreReadsMade (length piece.old) R.form (bytes_of (D.states disk.old)) fault (clock (D.states disk.new) - clock (D.states disk.old) - 2)) }
-    ensures faults { MatchResult result
-        (λ _. D.faults disk.new ≡ D.faults disk.old)
-        (λ fault. D.faults disk.new ≡ D.faults disk.old + failed_openings fault) }
+    ensures faults { CountsFailures failed_openings (D.faults disk.old) (D.faults disk.new) result }
     ensures model { D.keeps disk.new → D.keeps disk.old }
 {
     let scanner = read_disk(alloc, disk, piece)?;

@@ -1,6 +1,7 @@
 //! All ticks of a job.
 
 ghost use Rattle.std.specs.Prelude.{◌≡◌, ◌+◌, false, OnOk, OnErr, IfErr, MatchResult};
+ghost use Rattle.disk_core.specs.Fault.{CountsFailures};
 ghost use Rattle.disk_core.specs.Moments.{LeavesOnly, clock};
 ghost use Rattle.pen_core.specs.Pen.{MayOpen, FileSame, log_left, failed_calls, vector_after};
 ghost use Rattle.pen_core.specs.Settled.{IsLogSettled, IsLogFault, frames_after};
@@ -26,9 +27,7 @@ impl<D: Disk> Pen<D> {
         ensures time { MatchResult result
             (λ _. clock (D.states self.new.disk) ≡ clock (D.states self.old.disk) + log_left self.old.job)
             (λ fault. clock (D.states self.new.disk) + log_left self.new.job ≡ clock (D.states self.old.disk) + log_left self.old.job + failed_calls fault) }
-        ensures faults { MatchResult result
-            (λ _. D.faults self.new.disk ≡ D.faults self.old.disk)
-            (λ fault. D.faults self.new.disk ≡ D.faults self.old.disk + failed_calls fault) }
+        ensures faults { CountsFailures failed_calls (D.faults self.old.disk) (D.faults self.new.disk) result }
         ensures model { D.keeps self.new.disk → D.keeps self.old.disk }
         ensures goes_on { D.keeps self.old.disk → OnOk result (D.keeps self.new.disk) }
     {

@@ -1,6 +1,7 @@
 -- Why clients aren't served.
 use Rattle.std.proofs.Common.{◌≡◌, ◌⊎◌, ℕ, ◌<◌, ◌≤◌, min, List, [], ◌∷◌, Bool, false, Option, None, Result, Ok, Err, IfErr, is_some, inl, inr, sym, ap, subst, ◌∙◌, arith}
 use Rattle.record_core.specs.Bytes.{Encoding}
+use Rattle.disk_core.specs.Fault.{CountsFailures}
 use Rattle.disk_core.specs.State.{State}
 use Rattle.pen_core.specs.declared.fault.PenFault.{PenFault}
 use Rattle.pen_core.specs.declared.fault.PenFault.TheVariants as pens
@@ -20,7 +21,7 @@ use Rattle.vault_core.specs.Vault.{VaultOf}
 use Rattle.vault_core.specs.Sharing.{IsShareFault, IsNotShared, IsTooLarge}
 use Rattle.serve_core.specs.declared.fault.ServeFault.{ServeFault}
 use Rattle.serve_core.specs.declared.fault.ServeFault.TheVariants.{Open, Share, Thread, Flush}
-use Rattle.serve_core.specs.Serving.{IsShareRefusal, IsFlusherStop, IsServeRefusal, CountsFailed, ComesBack, IsPhaseLeft, serve_failures}
+use Rattle.serve_core.specs.Serving.{IsShareRefusal, IsFlusherStop, IsServeRefusal, ComesBack, IsPhaseLeft, serve_failures}
 
 -- a pen that rests may begin a job
 ready : {D : Type 0} (width size : ℕ) (pen : PenOf D) → IsAtRest width size pen → first_refusal (ready_lines pen) ≡ None
@@ -73,7 +74,7 @@ module _ {R D : Type 0} (form : Encoding R) (keeps : D → Type 0) (states : D �
   as_it_was : new ≡ old → faults new.pen.disk ≡ faults old.pen.disk
   as_it_was is = ap (λ (f : FlusherOf R D). faults f.pen.disk) is
 
-  comes_counts : {X : Type 0} (result : Result X ServeFault) → ComesBack form keeps states faults live old new result → CountsFailed serve_failures (faults old.pen.disk) (faults new.pen.disk) result
+  comes_counts : {X : Type 0} (result : Result X ServeFault) → ComesBack form keeps states faults live old new result → CountsFailures serve_failures (faults old.pen.disk) (faults new.pen.disk) result
   comes_counts (Ok x) comes = comes.counts
   comes_counts (Err (Open fault)) comes = absurd comes
   comes_counts (Err (Share (vaults.Pen fault))) comes = let same = as_it_was comes.1 in omega (arith, same)
@@ -111,10 +112,10 @@ module _ {R D : Type 0} (form : Encoding R) (keeps : D → Type 0) (states : D �
       }
 
   pub phase_counts : {X : Type 0} {left : D} {settled : ℕ} {result : Result X ServeFault} → IsPhaseLeft form keeps states faults live begun left settled result
-      → CountsFailed serve_failures (faults vault.pen.disk) (faults left) result
+      → CountsFailures serve_failures (faults vault.pen.disk) (faults left) result
   phase_counts {result = result} ended =
-      subst (λ d. CountsFailed serve_failures (faults vault.pen.disk) (faults d) result) (sym ended.disk_is)
-      (subst (λ (p : PenOf D). CountsFailed serve_failures (faults p.disk) (faults ended.flusher.pen.disk) result) same
+      subst (λ d. CountsFailures serve_failures (faults vault.pen.disk) (faults d) result) (sym ended.disk_is)
+      (subst (λ (p : PenOf D). CountsFailures serve_failures (faults p.disk) (faults ended.flusher.pen.disk) result) same
       (comes_counts form keeps states faults live begun ended.flusher result ended.comes))
 
   pub phase_keeps : {X : Type 0} {left : D} {settled : ℕ} {result : Result X ServeFault} → IsPhaseLeft form keeps states faults live begun left settled result

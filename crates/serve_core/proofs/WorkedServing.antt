@@ -2,6 +2,7 @@
 -- not be.
 use Rattle.std.proofs.Common.{◌≡◌, ◌≢◌, ℕ, zero, suc, ◌^◌, ◌<◌, ◌≤◌, inl, inr, false, true≢false, List, [], ◌∷◌, ◌++◌, length, take, Some, None, Result, Ok, Err, refl, sym, ap, subst, ◌∙◌, arith}
 use Rattle.record_core.specs.Bytes.{Encoding}
+use Rattle.disk_core.specs.Fault.{CountsFailures}
 use Rattle.disk_core.specs.State.{State, settled}
 use Rattle.disk_core.specs.declared.fault.DiskFault.TheVariants as disks
 use Rattle.disk_core.proofs.ImageLemmas.{IsImage-settled, settled_image}
@@ -17,7 +18,7 @@ use Rattle.vault_core.specs.declared.fault.VaultFault.TheVariants as vaults
 use Rattle.serve_core.specs.declared.fault.ServeFault.{ServeFault}
 use Rattle.serve_core.specs.declared.fault.ServeFault.TheVariants as faults
 use Rattle.serve_core.specs.Talks.{HasFinished}
-use Rattle.serve_core.specs.Serving.{OpensBehind, IsServed, IsShareRefusal, IsFlusherStop, IsServeRefusal, CountsFailed, serve_failures}
+use Rattle.serve_core.specs.Serving.{OpensBehind, IsServed, IsShareRefusal, IsFlusherStop, IsServeRefusal, serve_failures}
 
 -- ---- what is left
 
@@ -116,7 +117,7 @@ failures : (serve_failures faults.Thread ≡ 0) × (serve_failures (faults.Share
 failures = (refl, refl, refl, refl, refl)
 
 abbrev Counts : ℕ → ℕ → Result (Unit {0}) ServeFault → Type 0
-Counts old new result = CountsFailed serve_failures old new result
+Counts old new result = CountsFailures serve_failures old new result
 
 counted : Counts 4 4 (Ok tt) × Counts 4 5 (Err (faults.Flush (flushes.Pen (pens.Disk disks.Sync)))) × Counts 4 4 (Err faults.Thread)
 counted = (refl, refl, refl)

@@ -3,6 +3,7 @@ use Rattle.std.specs.Prelude.{◌≡◌, ◌⊎◌, ℕ, ◌+◌, ◌<◌, ◌�
 use Rattle.std.specs.declared.result.Result.{Result}
 use Rattle.std.specs.declared.result.Result.TheVariants.{Ok, Err}
 use Rattle.record_core.specs.Bytes.{Encoding}
+use Rattle.disk_core.specs.Fault.{CountsFailures}
 use Rattle.disk_core.specs.State.{State, now, IsImage}
 use Rattle.disk_core.specs.Calls.{bytes_of}
 use Rattle.disk_core.specs.Moments.{LeavesOnly}
@@ -87,10 +88,6 @@ IsServeRefusal form keeps states clients left settled (Share fault) = IsShareRef
 IsServeRefusal form keeps states clients left settled Thread = (0 < clients) × (clients ≤ seat_limit)
 IsServeRefusal form keeps states clients left settled (Flush fault) = HasStopped form keeps states left settled fault
 
--- by success no call of the device has failed, and by a fault as many as that tells
-abbrev pub CountsFailed : {X F : Type 0} → (F → ℕ) → ℕ → ℕ → Result X F → Type 0
-CountsFailed count old new result = MatchResult result (λ _. new ≡ old) (λ fault. new ≡ old + count fault)
-
 -- The flusher of a phase has served until that came of it: the growths that it settled stand, all of them where it wasn't
 -- refused, and the calls of the device failed as often as the fault tells.
 pub record HasFlushed {R D : Type 0} (form : Encoding R) (keeps : D → Type 0) (states : D → List State) (faults : D → ℕ) (live : Phase R)
@@ -99,7 +96,7 @@ pub record HasFlushed {R D : Type 0} (form : Encoding R) (keeps : D → Type 0) 
   pub served : Serves form keeps states old new
   pub ended : OnOk flushed (HasSettledAll new)
   pub refused : IfErr flushed (IsServeFault form.width old new)
-  pub counts : CountsFailed failed (faults old.pen.disk) (faults new.pen.disk) flushed
+  pub counts : CountsFailures failed (faults old.pen.disk) (faults new.pen.disk) flushed
 
 -- What came of a flusher whose phase was to be served: it has served; or no client was, for want of memory or of a thread, and
 -- it is as it was.

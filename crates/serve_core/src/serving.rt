@@ -1,12 +1,13 @@
 //! The server: a thread for each client, and the caller's, which commits what they grow.
 
 ghost use Rattle.std.specs.Prelude.{◌≡◌, ℕ, ◌≤◌, List, length, vec_len, IfErr};
+ghost use Rattle.disk_core.specs.Fault.{CountsFailures};
 ghost use Rattle.disk_core.specs.State.{IsImage, now};
 ghost use Rattle.pen_core.specs.Opening.{IsAtRest};
 ghost use Rattle.book_core.specs.Beginning.{AreNewSeats};
 ghost use Rattle.flush_core.specs.Flusher.{IsFlusherOf, OpensToJob};
 ghost use Rattle.vault_core.specs.Vault.{list_of};
-ghost use Rattle.serve_core.specs.Serving.{IsLeft, IsServeRefusal, IsOpenedFrom, ComesBack, IsPhaseLeft, CountsFailed, serve_failures};
+ghost use Rattle.serve_core.specs.Serving.{IsLeft, IsServeRefusal, IsOpenedFrom, ComesBack, IsPhaseLeft, serve_failures};
 
 use crate::client::{Client, Pipes, Start, clients_of};
 use crate::fault::ServeFault;
@@ -173,7 +174,7 @@ fn serve_vault<
     requires { IsAtRest R.form.width (length (list_of vault)) vault.pen }
     ensures left { (disk : D) → IsOpenedFrom R.form D.keeps D.states disk vault → D.keeps result.0 → IsLeft R.form D.states disk result.0 result.1.growths result.2 }
     ensures refused { IfErr result.2 (IsServeRefusal R.form D.keeps D.states (vec_len pipes) result.0 result.1.growths) }
-    ensures faults { CountsFailed serve_failures (D.faults vault.pen.disk) (D.faults result.0) result.2 }
+    ensures faults { CountsFailures serve_failures (D.faults vault.pen.disk) (D.faults result.0) result.2 }
     ensures model { D.keeps result.0 → D.keeps vault.pen.disk }
 {
     let count = pipes.len().min(u16::MAX as usize) as u16;
@@ -203,7 +204,7 @@ pub fn serve<
 >(rt: &E, alloc: Global, disk: D, pipes: Vec<Pipes<I, W>>) -> (D, Served, Result<(), ServeFault>)
     ensures left { D.keeps result.0 → IsLeft R.form D.states disk result.0 result.1.growths result.2 }
     ensures refused { IfErr result.2 (IsServeRefusal R.form D.keeps D.states (vec_len pipes) result.0 result.1.growths) }
-    ensures faults { CountsFailed serve_failures (D.faults disk) (D.faults result.0) result.2 }
+    ensures faults { CountsFailures serve_failures (D.faults disk) (D.faults result.0) result.2 }
     ensures model { D.keeps result.0 → D.keeps disk }
 {
     match Vault::<R, D>::open(alloc, disk) {

@@ -1,6 +1,7 @@
 //! The walk over the frames of a file.
 
 ghost use Rattle.std.specs.Prelude.{◌≡◌, ◌≤◌, ◌<◌, ◌+◌, ◌-◌, ◌^◌, ℕ, List, length, drop, MatchOption, MatchResult, IfOk, IfErr};
+ghost use Rattle.disk_core.specs.Fault.{CountsFailures};
 ghost use Rattle.disk_core.specs.Calls.{bytes_of, Stays};
 ghost use Rattle.disk_core.specs.Moments.{clock};
 ghost use Rattle.segment_core.specs.Fault.{IsSound};
@@ -48,9 +49,7 @@ fn walk<D: Disk>(disk: &mut D, shape: Shape, bytes: u64) -> Result<Summary, Stat
     ensures is { D.keeps disk.new → MatchResult result (IsSummaryOf (bytes_of (D.states disk.old))) (IsStatRefusal (bytes_of (D.states disk.old))) }
     ensures only_reads { D.keeps disk.new → OnlyReads (D.states disk.old) (D.states disk.new) }
     ensures calls { (before : ℕ) → before + 2 ≡ clock (D.states disk.old) → AreCalls before (clock (D.states disk.new)) result }
-    ensures faults { MatchResult result
-        (λ _. D.faults disk.new ≡ D.faults disk.old)
-        (λ fault. D.faults disk.new ≡ D.faults disk.old + failed_in fault) }
+    ensures faults { CountsFailures failed_in (D.faults disk.old) (D.faults disk.new) result }
     ensures model { D.keeps disk.new → D.keeps disk.old }
 {
     let mut buffer = [0; WINDOW_LEN];
@@ -84,9 +83,7 @@ fn read_header<D: Disk>(disk: &mut D, bytes: u64) -> Result<Shape, StatFault>
     ensures same { D.keeps disk.old → Stays (D.states disk.old) (D.states disk.new) }
     ensures time { clock (D.states disk.new) ≡ clock (D.states disk.old) + 1 }
     ensures calls { (before : ℕ) → before + 1 ≡ clock (D.states disk.old) → IfErr result (λ fault. AreCalls before (clock (D.states disk.new)) (Err fault)) }
-    ensures faults { MatchResult result
-        (λ _. D.faults disk.new ≡ D.faults disk.old)
-        (λ fault. D.faults disk.new ≡ D.faults disk.old + failed_in fault) }
+    ensures faults { CountsFailures failed_in (D.faults disk.old) (D.faults disk.new) result }
     ensures model { D.keeps disk.new → D.keeps disk.old }
 {
     let mut header = [0; HEADER_LEN];
@@ -106,9 +103,7 @@ fn read_frames<D: Disk>(disk: &mut D) -> Result<Summary, StatFault>
     ensures is { D.keeps disk.new → MatchResult result (IsSummaryOf (bytes_of (D.states disk.old))) (IsStatRefusal (bytes_of (D.states disk.old))) }
     ensures only_reads { D.keeps disk.new → OnlyReads (D.states disk.old) (D.states disk.new) }
     ensures calls { AreCalls (clock (D.states disk.old)) (clock (D.states disk.new)) result }
-    ensures faults { MatchResult result
-        (λ _. D.faults disk.new ≡ D.faults disk.old)
-        (λ fault. D.faults disk.new ≡ D.faults disk.old + failed_in fault) }
+    ensures faults { CountsFailures failed_in (D.faults disk.old) (D.faults disk.new) result }
     ensures model { D.keeps disk.new → D.keeps disk.old }
 {
     let bytes = match disk.len() {
@@ -139,9 +134,7 @@ pub fn summarize<D: Disk>(disk: &mut D) -> Result<Summary, StatFault>
     ensures frames { D.keeps disk.new → TellsFrames (bytes_of (D.states disk.old)) result }
     ensures only_reads { D.keeps disk.new → OnlyReads (D.states disk.old) (D.states disk.new) }
     ensures calls { AreCalls (clock (D.states disk.old)) (clock (D.states disk.new)) result }
-    ensures faults { MatchResult result
-        (λ _. D.faults disk.new ≡ D.faults disk.old)
-        (λ fault. D.faults disk.new ≡ D.faults disk.old + failed_in fault) }
+    ensures faults { CountsFailures failed_in (D.faults disk.old) (D.faults disk.new) result }
     ensures model { D.keeps disk.new → D.keeps disk.old }
 {
     read_frames(disk)

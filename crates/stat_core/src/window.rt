@@ -1,6 +1,7 @@
 //! The part of a file that is in memory.
 
-ghost use Rattle.std.specs.Prelude.{◌≡◌, ◌≤◌, ◌<◌, ◌+◌, ◌-◌, length, min, IfOk, IfErr, MatchResult};
+ghost use Rattle.std.specs.Prelude.{◌≡◌, ◌≤◌, ◌<◌, ◌+◌, ◌-◌, length, min, IfOk, IfErr};
+ghost use Rattle.disk_core.specs.Fault.{CountsFailures};
 ghost use Rattle.disk_core.specs.Calls.{bytes_of};
 ghost use Rattle.disk_core.specs.Moments.{clock};
 ghost use Rattle.segment_core.specs.FrameHead.{front_len};
@@ -47,9 +48,7 @@ pub(crate) fn slide<D: Disk>(
     ensures calls { clock (D.states disk.new) ≤ clock (D.states disk.old) + 1 }
     ensures made { clock (D.states disk.old) ≤ clock (D.states disk.new) }
     ensures cause { IfErr result (λ fault. fault ≡ DiskFault.Read) }
-    ensures faults { MatchResult result
-        (λ _. D.faults disk.new ≡ D.faults disk.old)
-        (λ _. D.faults disk.new ≡ D.faults disk.old + 1) }
+    ensures faults { CountsFailures (λ _. 1) (D.faults disk.old) (D.faults disk.new) result }
     ensures model { D.keeps disk.new → D.keeps disk.old }
 {
     if window.start <= at && at + front_len(at, bytes) <= window.start + window.len {

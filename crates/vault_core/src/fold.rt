@@ -1,6 +1,7 @@
 //! Folds, and the ticks of both lanes.
 
 ghost use Rattle.std.specs.Prelude.{◌≡◌, ◌⊎◌, ◌+◌, ◌≤◌, false, None, IfOk, IfErr, IfSome, OnOk, OnErr, MatchResult};
+ghost use Rattle.disk_core.specs.Fault.{CountsFailures};
 ghost use Rattle.disk_core.specs.Moments.{LeavesOnly, clock};
 ghost use Rattle.pen_core.specs.Folds.{IsWholeFold};
 ghost use Rattle.pen_core.specs.Pen.{FileSame, IsFoldAnswer, IsUnchanged};
@@ -57,9 +58,7 @@ impl<R: Record, D: Disk> Vault<R, D> {
         ensures refused { IfErr result (λ fault. IsVaultLaneFault lane self.old.pen self.new.pen fault) }
         ensures whole { OnOk result ((self.old.pen.broken ≡ false) × (self.new.pen.broken ≡ false)) }
         ensures time { clock (D.states self.new.pen.disk) ≡ clock (D.states self.old.pen.disk) + lane_calls lane self.old.pen }
-        ensures faults { MatchResult result
-            (λ _. D.faults self.new.pen.disk ≡ D.faults self.old.pen.disk)
-            (λ fault. D.faults self.new.pen.disk ≡ D.faults self.old.pen.disk + failed fault) }
+        ensures faults { CountsFailures failed (D.faults self.old.pen.disk) (D.faults self.new.pen.disk) result }
         ensures model { D.keeps self.new.pen.disk → D.keeps self.old.pen.disk }
         ensures goes_on { D.keeps self.old.pen.disk → OnOk result (D.keeps self.new.pen.disk) }
     {
@@ -92,9 +91,7 @@ impl<R: Record, D: Disk> Vault<R, D> {
         ensures time { MatchResult result
             (λ _. clock (D.states self.new.pen.disk) + calls_left self.new.pen ≤ clock (D.states self.old.pen.disk) + calls_left self.old.pen)
             (λ _. clock (D.states self.new.pen.disk) ≤ clock (D.states self.old.pen.disk) + calls_left self.old.pen) }
-        ensures faults { MatchResult result
-            (λ _. D.faults self.new.pen.disk ≡ D.faults self.old.pen.disk)
-            (λ fault. D.faults self.new.pen.disk ≡ D.faults self.old.pen.disk + failed fault) }
+        ensures faults { CountsFailures failed (D.faults self.old.pen.disk) (D.faults self.new.pen.disk) result }
         ensures model { D.keeps self.new.pen.disk → D.keeps self.old.pen.disk }
         ensures goes_on { D.keeps self.old.pen.disk → OnOk result (D.keeps self.new.pen.disk) }
     {
@@ -119,9 +116,7 @@ impl<R: Record, D: Disk> Vault<R, D> {
         ensures refused { IfErr result (λ fault. IsSettleFault self.old.pen self.new.pen fault) }
         ensures whole { OnOk result ((self.old.pen.broken ≡ false) × (self.new.pen.broken ≡ false)) }
         ensures time { clock (D.states self.new.pen.disk) ≤ clock (D.states self.old.pen.disk) + calls_left self.old.pen }
-        ensures faults { MatchResult result
-            (λ _. D.faults self.new.pen.disk ≡ D.faults self.old.pen.disk)
-            (λ fault. D.faults self.new.pen.disk ≡ D.faults self.old.pen.disk + failed fault) }
+        ensures faults { CountsFailures failed (D.faults self.old.pen.disk) (D.faults self.new.pen.disk) result }
         ensures model { D.keeps self.new.pen.disk → D.keeps self.old.pen.disk }
         ensures goes_on { D.keeps self.old.pen.disk → OnOk result (D.keeps self.new.pen.disk) }
     {

@@ -1,6 +1,7 @@
 //! An upgrade: the vector of a file of version 1 is copied into a new file of version 2.
 
 ghost use Rattle.std.specs.Prelude.{◌≡◌, ◌↔◌, ◌+◌, ◌*◌, ◌-◌, ◌≤◌, ◌<◌, ◌^◌, ℕ, length, Ok, Err, IfOk, IfErr, MatchResult};
+ghost use Rattle.disk_core.specs.Fault.{CountsFailures};
 ghost use Rattle.disk_core.specs.State.{now};
 ghost use Rattle.disk_core.specs.Calls.{bytes_of};
 ghost use Rattle.disk_core.specs.Moments.{LeavesOnly, clock};
@@ -61,9 +62,7 @@ fn write_growths<R: Record, D: Disk>(
     ensures images { D.keeps pen.new.disk → LeavesOnly (D.states pen.old.disk) (D.states pen.new.disk) (OpensToCopied R.form piece records.now) }
     ensures refused { IfErr result (λ fault. IsCopyStop R.form (D.keeps pen.new.disk) (now (D.states pen.new.disk)) piece records.now (clock (D.states pen.new.disk) - clock (D.states pen.old.disk)) fault) }
     ensures time { IfOk result (λ _. clock (D.states pen.new.disk) ≡ clock (D.states pen.old.disk) + growth_count piece (length records.now) * 4) }
-    ensures faults { MatchResult result
-        (λ _. D.faults pen.new.disk ≡ D.faults pen.old.disk)
-        (λ fault. D.faults pen.new.disk ≡ D.faults pen.old.disk + failed_calls fault) }
+    ensures faults { CountsFailures failed_calls (D.faults pen.old.disk) (D.faults pen.new.disk) result }
     ensures model { D.keeps pen.new.disk → D.keeps pen.old.disk }
 {
     for growth in records.chunks(piece as usize) {
