@@ -1,5 +1,6 @@
 -- What follows from what a pass keeps true of its notes.
-use Rattle.std.proofs.Common.{◌≡◌, ℕ, zero, suc, ◌+◌, ◌<◌, List, [], ◌∷◌, ◌++◌, length, get_or, take, set, slice_get, Bool, true, false, Some, None, Option, refl, ap, sym, subst, ◌∙◌, arith, IfSome, MatchOption, inl, inr, add-one, option_to_list}
+use Rattle.std.proofs.Common.{◌≡◌, ℕ, zero, suc, ◌+◌, ◌<◌, ◌≤◌, List, [], ◌∷◌, ◌++◌, length, get_or, take, set, slice_get, Bool, true, false}
+use Rattle.std.proofs.Common.{Some, None, Option, refl, ap, sym, subst, ◌∙◌, arith, IfSome, MatchOption, inl, inr, add-one, option_to_list}
 use Rattle.std.proofs.lemmas.Bool.{cases_eq}
 use Rattle.std.proofs.lemmas.Option.{slice_get_cases}
 use Rattle.std.proofs.lemmas.List.{length-set, get_or_append_left, get_or_push, get_or-set_same, get_or-set_other, length_push}
@@ -8,7 +9,8 @@ use Rattle.block_core.specs.Growth.{Growth}
 use Rattle.directory_core.specs.Limits.{growth_limit}
 use Rattle.directory_core.specs.Chain.{IsChained}
 use Rattle.directory_core.specs.Spot.{IsSpot}
-use Rattle.directory_core.specs.Notes.{somes, cell_in, StandsIn, HasCell, IsNextInLimit, IsEnd, EndsIn, IsEndedAt, NotesHold, PassHolds}
+use Rattle.record_core.specs.Limits.{record_limit}
+use Rattle.directory_core.specs.Notes.{somes, cells_of, known_of, cell_in, StandsIn, HasCell, IsNextInLimit, IsEnd, EndsIn, IsEndedAt, NotesHold, PassHolds}
 use Rattle.directory_core.proofs.Spots.{one_bucket, one_place}
 use Rattle.directory_core.proofs.Somes.{as_many, known_push, somes-append}
 use Rattle.directory_core.proofs.Lists.{list_added}
@@ -75,6 +77,12 @@ end_is_none es i known end chained lt few is ends agree = elim ((slice_get_cases
       absurd (omega arith)
   | inr past ↦ absurd (omega (arith, past.0))
 ]
+
+-- a note that knows the end in a cell of a bucket
+pub ends_in : {R : Type 0} (known : Option (List ℕ)) (place : ℕ) (note : Note (Growth R)) → cell_in known place ≡ Some note.cell → MatchOption note.known ⊥ IsEnd
+    → MatchOption known ⊥ (EndsIn place (Some note))
+ends_in None place noted is end = grind arith
+ends_in (Some names) place noted is end = (is, end)
 
 module _ (g : ℕ) (at place : ℕ) (here : IsSpot g at place) where
   -- a growth that is filed is filed at its place
@@ -199,3 +207,24 @@ module _ {R : Type 0} {width room limit : ℕ} {buckets : List (Option (List ℕ
       ends = rw (get_or-set_same buckets at bucket None (let all = h.notes.all_buckets in omega arith)) asked.2;
     };
   }
+
+-- a pass that knows nothing
+pub knows_none : {R : Type 0} (width room limit : ℕ) (buckets : List (Option (List ℕ))) (notes : List (Note (Growth R))) (starts : List ℕ) (noted kept : ℕ)
+    → length buckets ≡ 17 → length notes ≡ 0 → length starts ≡ 0 → (room ≤ noted) × (room ≤ kept) → (room ≤ growth_limit) × (limit ≤ record_limit)
+    → PassHolds width room limit buckets (cells_of notes) (known_of notes) starts 0 noted kept false None
+knows_none width room limit buckets (n ∷ notes) starts noted kept all none empty reserved limits = absurd (omega arith)
+knows_none width room limit buckets [] (s ∷ starts) noted kept all none empty reserved limits = absurd (omega arith)
+knows_none width room limit buckets [] [] noted kept all none empty reserved limits = record {
+  notes = record { all_buckets = all; all_known = refl; as_many = refl; filed = λ g lt. absurd (omega arith) };
+  list = record {
+    chained = λ g e is. absurd cc;
+    blocks = λ k d lt. absurd (omega arith);
+    starts_are = refl;
+    size_is = refl;
+    in_limit = omega arith;
+    in_room = omega arith;
+    limits = limits;
+  };
+  reserved = reserved;
+  ends = λ is. absurd cc;
+}

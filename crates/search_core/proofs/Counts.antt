@@ -1,8 +1,9 @@
 -- Counts over slices.
 use Rattle.std.proofs.Common.{◌≡◌, ℕ, zero, suc, ◌+◌, ◌≤◌, ◌<◌, ◌^◌, Bool, cond, List, [], ◌∷◌, ◌++◌, length, map, take, get_or, Bor, Option, Some, None, true, ◌-◌, refl, sym, ap, subst, ◌∙◌, arith}
-use Rattle.std.specs.Prelude.{slice_get, IsSomeAnd}
+use Rattle.std.specs.Prelude.{nat_eq, slice_get, IsSomeAnd}
+use Rattle.std.proofs.lemmas.Bool.Decides.{nat_tests}
 use Rattle.segment_core.proofs.Replaced.{slice_get-append_right}
-use Rattle.std.specs.List.{sum, sum_by, count_by}
+use Rattle.std.specs.List.{sum, count_by}
 use Rattle.std.proofs.lemmas.List.{length-append, map_push, append-nil}
 use Rattle.std.proofs.lemmas.List.Sums.{sum_by-cons, sum_by-append, count_by-le-length}
 use Rattle.std.proofs.lemmas.List.Concat.{flat_map-append}
@@ -27,6 +28,9 @@ few_counts p slices = omega (arith, counts p slices, count_by-le-length p (recor
 
 pub count_by-append : {R : Type 0} (p : R → Bool) (xs ys : List R) → count_by p (xs ++ ys) ≡ count_by p xs + count_by p ys
 count_by-append p xs ys = sum_by-append (λ x. cond (p x) 1 0) xs ys
+
+pub none_left : (n : ℕ) → true ≡ nat_eq n 0 → n ≡ 0
+none_left n is = grind (arith, nat_tests)
 
 -- ---- what an iterator lends
 

@@ -1,6 +1,6 @@
 -- The first record of a list that is picked.
 use Rattle.std.proofs.Common.{◌≡◌, ℕ, zero, suc, ◌+◌, ◌-◌, ◌≤◌, ◌<◌, Bool, cond, List, [], ◌∷◌, ◌++◌, length, take, drop, get_or, Bor, Option, Some, None, true, refl, sym, ap, subst, ◌∙◌, arith}
-use Rattle.std.specs.Prelude.{◌*◌, ◌^◌, false, map, min, nat_lt, slice_get, IsSomeAnd, MatchOption}
+use Rattle.std.specs.Prelude.{◌^◌, false, map, min, nat_lt, slice_get, IsSomeAnd, MatchOption}
 use Rattle.std.specs.Option.{option_map}
 use Rattle.rayon.specs.Lists.{first_true}
 use Rattle.std.proofs.lemmas.Bool.Decides.{nat_tests}
@@ -35,6 +35,11 @@ pub at_some : {X : Type 0} (Q : X → Type 0) (xs : List X) (k : ℕ) (d : X) �
 at_some Q [] k d some = absurd some
 at_some Q (x ∷ xs) zero d some = (omega arith, some)
 at_some Q (x ∷ xs) (suc k) d some = let rest = at_some Q xs k d some in (omega (arith, rest.0), rest.1)
+
+pub some_within : {X : Type 0} (Q : X → Type 0) (xs : List X) (k : ℕ) → IsSomeAnd (slice_get xs k) Q → k < length xs
+some_within Q [] k some = absurd some
+some_within Q (x ∷ xs) zero some = omega arith
+some_within Q (x ∷ xs) (suc k) some = let rest = some_within Q xs k some in omega arith
 
 pub some_at : {X : Type 0} (Q : X → Type 0) (xs : List X) (k : ℕ) (d : X) → k < length xs → Q (get_or xs k d) → IsSomeAnd (slice_get xs k) Q
 some_at Q [] k d lt holds = absurd (omega arith)

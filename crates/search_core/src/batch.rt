@@ -36,7 +36,7 @@ impl<'a, R> Model for Batch<'a, R> {
     ghost invariant = { λ batch. (batch.held ≤ 512) × (1 ≤ batch.room) × (batch.room ≤ 512) };
 }
 
-impl<'a, R: Sync> Batch<'a, R> {
+impl<'a, R> Batch<'a, R> {
     /// No slices, and room for many.
     pub(crate) fn large() -> Batch<'a, R>
         ensures { result ≡ (0, []) }
@@ -76,7 +76,9 @@ impl<'a, R: Sync> Batch<'a, R> {
         slices[held] = slice;
         self.held += 1;
     }
+}
 
+impl<'a, R: Sync> Batch<'a, R> {
     /// How many of its records are picked. Then it has none.
     pub(crate) fn take_count<P: Pick<R>, E: Threads + Sync>(&mut self, rt: &E, pick: &P) -> u64
         requires few { length self.old.1 ≤ 2 ^ 32 }

@@ -1,5 +1,4 @@
-use Rattle.std.proofs.Common.{◌≡◌, ◌+◌, ◌≤◌, ◌^◌, ◌++◌, ◌∷◌, [], length, ap, sym, ◌∙◌, rules, arith}
-use Rattle.std.specs.List.{count_by}
+use Rattle.std.proofs.Common.{◌+◌, ◌≤◌, ◌^◌, ◌++◌, ◌∷◌, [], length, ap, rules, arith}
 use Rattle.std.proofs.lemmas.List.{length-append}
 use Rattle.std.proofs.lemmas.List.Sums.{count_by-le-length}
 use Rattle.search_core.specs.Search.{records_in}
@@ -44,3 +43,22 @@ overflow_add-total g c =
     let e = c.take_in-total.ensures in
     let all : c.loop-piece.total + c.take_in-total.result ≤ 2 ^ 32 = omega (arith, few, e.count, count_by-le-length p (records_in i.items), count_by-le-length p piece.now) in
     search rules
+
+pub take_count-requires-clause-few : goal.take_count-requires-clause-few
+take_count-requires-clause-few g c κs within =
+    let i = c.loop-piece.invariant in (omega arith, omega (arith, i.few, c.requires.few i.items c.loop-piece.pieces i.so_far))
+
+pub overflow_add-result : goal.overflow_add-result
+overflow_add-result g c =
+    let i = c.loop-piece.invariant in
+    let counted = count_by-le-length (g.P.Pick.picks_of c.args.pick.now) (records_in i.items) in
+    let all : c.loop-piece.total + c.take_count.result ≤ 2 ^ 32 = omega (arith, i.counted, c.take_count.ensures.count, counted, c.requires.few i.items c.loop-piece.pieces i.so_far) in
+    search rules
+
+pub returns : goal.returns
+returns g c =
+    let i = c.loop-piece.invariant in (
+      i.items,
+      (c.next.new.self, (c.loop-piece.pieces, i.so_far, c.in_default.ensures.steps)),
+      omega (arith, i.counted, c.take_count.ensures.count),
+    )

@@ -1,6 +1,4 @@
-use Rattle.std.proofs.Common.{◌≡◌, ◌+◌, ◌-◌, ◌≤◌, ◌^◌, ◌++◌, ◌∷◌, [], Some, length, ap, sym, subst, ◌∙◌, rules, arith}
-use Rattle.std.specs.List.{count_by}
-use Rattle.std.proofs.lemmas.List.{length-append}
+use Rattle.std.proofs.Common.{◌≡◌, ◌-◌, ◌++◌, ◌∷◌, [], Some, ap, sym, subst, rules, arith}
 use Rattle.search_core.specs.Search.{records_in, IsFirst, PassesOver}
 use Rattle.search_core.proofs.Counts.{lent, lent_until, lent_few, records_push}
 use Rattle.search_core.proofs.Firsts.{passes_none, passes_len, passes_more, passes_found, passes_end}
@@ -57,3 +55,9 @@ returns g c =
       passes_end p c.loop-piece.finder.before c.take_first.new.self.before (records_in i.items) c.loop-piece.finder.batch.1
           c.take_first.new.self.batch.1 c.take_first.result i.passed e.found (ap (λ q. q.1) e.none),
     )
+
+pub take_first-requires-clause-few : goal.take_first-requires-clause-few
+take_first-requires-clause-few g c κs within =
+    let i = c.loop-piece.invariant in
+    let all = passes_len (g.P.Pick.picks_of c.args.pick.now) 0 c.loop-piece.finder.before (records_in i.items) c.loop-piece.finder.batch.1 i.passed in
+    (omega arith, omega (arith, c.loop-piece.finder.all, all, c.requires.few i.items c.loop-piece.pieces i.so_far))

@@ -1,4 +1,4 @@
-use Rattle.std.proofs.Common.{◌≡◌, length, List, Bor}
+use Rattle.std.proofs.Common.{List, Bor}
 use Rattle.std.specs.Iterator.{IsFinite, Yields, size}
 use Rattle.search_core.specs.Search.{records_in, PassesOver}
 use Rattle.search_core.proofs.search.find_first.Given as goal

@@ -1,4 +1,4 @@
-use Rattle.std.proofs.Common.{◌≡◌, ◌≤◌, ◌^◌, List, length, map, get_or, Bor, ap, sym, ◌∙◌, rules, arith}
+use Rattle.std.proofs.Common.{◌≡◌, ◌≤◌, ◌^◌, length, get_or, ap, ◌∙◌, arith}
 use Rattle.std.specs.List.{sum, count_by}
 use Rattle.std.proofs.Crossing.{crosses}
 use denote.Param.Send.{sendable}

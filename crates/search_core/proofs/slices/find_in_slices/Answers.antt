@@ -1,9 +1,16 @@
-use Rattle.std.proofs.Common.{◌≡◌, ◌+◌, ◌≤◌, ◌<◌, ◌^◌, Some, length, take, get_or, ap, sym, subst, rules, arith}
+use Rattle.std.proofs.Common.{◌+◌, ◌≤◌, ◌<◌, ◌^◌, Some, length, ap, sym, subst, rules, arith}
 use Rattle.std.specs.List.{count_by}
-use Rattle.search_core.specs.Search.{records_in, IsFirst, IsFirstSlice}
+use Rattle.search_core.specs.Search.{records_in, IsFirst}
 use Rattle.search_core.proofs.Counts.{one_of, found_within}
-use Rattle.search_core.proofs.Firsts.{at_some, at_slice_len, first_of_slices}
+use Rattle.search_core.proofs.Firsts.{at_some, some_within, at_slice_len, first_of_slices}
 use Rattle.search_core.proofs.slices.find_in_slices.Goals as goal
+
+pub bounds-slices-number : goal.bounds-slices-number
+bounds-slices-number g c = some_within (λ t. 0 < count_by (g.P.Pick.picks_of c.args.pick.now) t.now) c.args.slices.now c.in_ok-number.number c.in_ok-number.ensures.1
+
+pub offset_bounds-slices-number : goal.offset_bounds-slices-number
+offset_bounds-slices-number g c =
+    let lt = some_within (λ t. 0 < count_by (g.P.Pick.picks_of c.args.pick.now) t.now) c.args.slices.now c.in_ok-number.number c.in_ok-number.ensures.1 in search rules
 
 pub find_in-requires-clause-few : goal.find_in-requires-clause-few
 find_in-requires-clause-few g c κs within =

@@ -1,4 +1,4 @@
-use Rattle.std.proofs.Common.{◌≡◌, ◌+◌, ◌≤◌, ◌<◌, ◌^◌, ◌∙◌, length, take, get_or, ap, rules, arith}
+use Rattle.std.proofs.Common.{◌+◌, ◌≤◌, ◌<◌, ◌^◌, ◌∙◌, length, take, get_or, ap, rules, arith}
 use Rattle.std.proofs.lemmas.List.{take_more, length-append}
 use Rattle.search_core.specs.Search.{records_in}
 use Rattle.search_core.proofs.Counts.{records_push}

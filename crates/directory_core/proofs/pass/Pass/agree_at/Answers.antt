@@ -1,4 +1,4 @@
-use Rattle.std.proofs.Common.{◌≡◌, sym, ◌∙◌, ap, subst, slice_get}
+use Rattle.std.proofs.Common.{◌≡◌, ◌<◌, length, sym, ◌∙◌, ap, subst, slice_get}
 use Rattle.directory_core.specs.Known.{Known}
 use Rattle.directory_core.specs.Notes.{HasCell}
 use Rattle.directory_core.proofs.NoteRows.{one_cell, agree_get}
@@ -19,3 +19,7 @@ returns-clause-agree g c =
     let theirs : c.note.result.known ≡ slice_get c.args.other.now.entries c.args.number = c.note.ensures.known
     ∙ ap (λ (v : Known g.row.R.Denot). slice_get v.entries c.args.number) c.bucket_note.ensures.same in
     agree_get c.args.self.now.entries c.args.other.now.entries c.args.number c.requires.mine c.requires.theirs (rw (← mine, ← theirs) c.compare-2.ensures.1)
+
+pub note-requires-after_bounds : goal.note-requires-after_bounds
+note-requires-after_bounds g c κs held =
+    subst (λ (p : Known g.row.R.Denot). c.args.number < length p.entries) (sym c.bucket_note.ensures.same) c.requires.theirs

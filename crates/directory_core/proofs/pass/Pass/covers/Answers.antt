@@ -1,4 +1,4 @@
-use Rattle.std.proofs.Common.{◌≡◌, ◌∙◌, sym, ap, subst, arith, ℕ, length, slice_get, Option, MatchOption}
+use Rattle.std.proofs.Common.{◌≡◌, ◌<◌, ◌∙◌, sym, ap, subst, arith, ℕ, length, slice_get, Option, MatchOption}
 use Rattle.once_cell.specs.declared.race.note.Note.{Note}
 use Rattle.block_core.specs.Growth.{Growth}
 use Rattle.directory_core.specs.Known.{Known}
@@ -45,3 +45,7 @@ unreachable-requires-2 g c =
     let more = c.if-known-number.false in
     end_is_none c.args.other.now.entries c.known-number.result c.note-theirs.result.known c.in-Some.end.known c.known.ensures.chained
     (omega (arith, few.0, few.1)) (omega (arith, few.0, few.1)) known stands.1 c.compare-2.ensures.1
+
+pub note-theirs-requires-after_bounds : goal.note-theirs-requires-after_bounds
+note-theirs-requires-after_bounds g c κs held =
+    subst (λ n. c.known-number.result < n) (c.known.ensures.count ∙ ap (λ (p : Known _). length p.entries) (sym c.bucket_note.ensures.same)) c.if-known-number.false

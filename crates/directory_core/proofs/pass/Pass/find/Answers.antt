@@ -1,5 +1,5 @@
 use Rattle.std.proofs.Common.{arith, ap, length}
-use Rattle.directory_core.proofs.Lists.{first_start, finds}
+use Rattle.directory_core.proofs.Lists.{as_many_starts, first_start, finds}
 use Rattle.directory_core.proofs.pass.Pass.find.Goals as goal
 
 pub returns-clause-place : goal.returns-clause-place
@@ -13,3 +13,16 @@ returns-clause-place g c =
 
 pub last_start-number-requires-clause-first : goal.last_start-number-requires-clause-first
 last_start-number-requires-clause-first g c = rw c.as_slice-starts.ensures.value (first_start c.self.invariant.list c.args.i (omega (arith, c.if-i-self.false))).1
+
+pub last_start-number-requires-clause-some : goal.last_start-number-requires-clause-some
+last_start-number-requires-clause-some g c =
+    let row = ap length c.as_slice-starts.ensures.value in
+    let many = as_many_starts c.self.invariant.list in
+    let some = (first_start c.self.invariant.list c.args.i (omega (arith, c.if-i-self.false))).0 in
+    (omega arith, omega (arith, c.self.invariant.list.in_room, c.self.invariant.list.limits))
+
+pub returns-clause-in_directory : goal.returns-clause-in_directory
+returns-clause-in_directory g c =
+    let row = ap length c.as_slice-starts.ensures.value in
+    let many = as_many_starts c.self.invariant.list in
+    omega (arith, c.last_start-number.ensures.inside, c.self.invariant.list.in_room, c.self.invariant.list.limits)

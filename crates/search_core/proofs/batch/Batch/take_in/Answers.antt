@@ -2,7 +2,7 @@ use Rattle.std.proofs.Common.{◌≡◌, ◌+◌, ◌≤◌, ◌^◌, ◌++◌, 
 use Rattle.std.specs.List.{count_by}
 use Rattle.std.proofs.lemmas.List.{length-append}
 use Rattle.std.proofs.lemmas.List.Sums.{count_by-le-length}
-use Rattle.search_core.proofs.Counts.{count_by-append}
+use Rattle.search_core.proofs.Counts.{count_by-append, none_left}
 use Rattle.search_core.proofs.batch.Batch.take_in.Goals as goal
 
 pub overflow_add-count : goal.overflow_add-count
@@ -33,3 +33,8 @@ loop-rest-preserved g c =
       counted = omega (arith, counted, made, ap (count_by p) cut, count_by-append p front back, ap (count_by p) pushed, count_by-append p mid front);
       few = omega (arith, few, less, ap length cut, length-append front back, ap length pushed, length-append mid front);
     }
+
+pub returns-clause-count : goal.returns-clause-count
+returns-clause-count g c =
+    let i = c.loop-rest.invariant in
+    omega (arith, i.counted, none_left (length c.loop-rest.rest.now) c.loop-rest-test.ensures, count_by-le-length (g.P.Pick.picks_of c.args.pick.now) c.loop-rest.rest.now)

@@ -1,6 +1,7 @@
-use Rattle.std.proofs.Common.{◌≡◌, ◌+◌, ◌-◌, ◌≤◌, ◌++◌, ◌∙◌, length, ap, sym, subst, rules, arith}
-use Rattle.std.proofs.lemmas.List.{length-append}
+use Rattle.std.proofs.Common.{◌≡◌, ◌-◌, ◌++◌, ◌∙◌, length, ap, sym, subst, rules, arith}
+use Rattle.std.proofs.lemmas.List.{length-append, append-nil, nil_from_length}
 use Rattle.search_core.specs.Search.{PassesOver}
+use Rattle.search_core.proofs.Counts.{none_left}
 use Rattle.search_core.proofs.Firsts.{passes_found, passes_on, first_before}
 use Rattle.search_core.proofs.search.Finder.take_in.Goals as goal
 
@@ -29,3 +30,20 @@ loop-rest-preserved g c =
           c.in_default.ensures.found cut);
       seen = omega (arith, seen, so_far, ap length cut, length-append c.split_at.result.0.now c.split_at.result.1.now);
     }
+
+pub invariant_of-self : goal.invariant_of-self
+invariant_of-self g c = record {
+  all = omega (
+    arith,
+    c.make_room.new.self.all,
+    ap (λ q. length q.1) c.push.ensures,
+    length-append c.make_room.new.self.batch.1 c.split_at.result.0.now,
+  );
+}
+
+pub returns-clause-found : goal.returns-clause-found
+returns-clause-found g c =
+    let batch = c.loop-rest.self.batch.1 in
+    let none = nil_from_length c.loop-rest.rest.now (none_left (length c.loop-rest.rest.now) c.loop-rest-test.ensures) in
+    subst (PassesOver (g.P.Pick.picks_of c.args.pick.now) c.args.self.now.before (c.args.self.now.batch.1 ++ c.args.piece.now) c.loop-rest.self.before)
+    (ap (λ rs. batch ++ rs) none ∙ append-nil batch) c.loop-rest.invariant.passed

@@ -1,4 +1,4 @@
-use Rattle.std.proofs.Common.{◌≡◌, ◌+◌, ◌≤◌, ◌++◌, length}
+use Rattle.std.proofs.Common.{◌≡◌, ◌+◌, ◌++◌, length}
 use Rattle.search_core.specs.Search.{PassesOver}
 use Rattle.search_core.proofs.search.Finder.take_in.Given as goal
 
