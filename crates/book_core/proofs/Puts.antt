@@ -1,11 +1,10 @@
 -- A growth behind those that a seat knows, of which its own are just those that it made.
-use Rattle.std.proofs.Common.{◌≡◌, ℕ, ◌+◌, ◌<◌, ◌≤◌, List, [], ◌∷◌, ◌++◌, length, take, refl, ap, sym, subst, ◌∙◌, arith}
+use Rattle.std.proofs.Common.{◌≡◌, ℕ, ◌+◌, ◌≤◌, List, [], ◌∷◌, ◌++◌, length, take, refl, ap, sym, subst, ◌∙◌, arith}
 use Rattle.std.proofs.lemmas.List.{length-take, length_push}
 use Rattle.std.proofs.Math.Seq.{take-length}
 use Rattle.block_core.specs.Growth.{Growth}
 use Rattle.directory_core.specs.Chain.{total, IsPrefix}
 use Rattle.directory_core.specs.Known.{Known}
-use Rattle.book_core.specs.declared.seat.Receipt.{Receipt}
 use Rattle.book_core.specs.Marks.{MarkEnd}
 use Rattle.book_core.specs.Lists.{Phase, Seated, opening_of, own_of}
 use Rattle.book_core.specs.Growing.{SeatLearns, Grown, growth_of}

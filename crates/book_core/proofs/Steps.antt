@@ -1,17 +1,23 @@
 -- What a seat does in two steps.
-use Rattle.std.proofs.Common.{◌≡◌, ℕ, ◌-◌, ◌<◌, ◌≤◌, List, [], ◌∷◌, ◌++◌, length, take, replicate, Option, Some, None, Result, Ok, Err, refl, ap, sym, subst, ◌∙◌, arith}
+use Rattle.std.proofs.Common.{◌≡◌, ℕ, ◌-◌, ◌<◌, ◌≤◌, true, false, List, [], ◌∷◌, ◌++◌, length, take, replicate, Option, Some, None, Result, Ok, Err, refl, ap, sym, subst, ◌∙◌, arith}
 use Rattle.std.proofs.lemmas.List.{length-take, take-take}
 use Rattle.std.proofs.Math.Seq.{take-length}
 use Rattle.block_core.specs.Growth.{Growth}
-use Rattle.block_core.specs.Length.{IsBlockLength}
+use Rattle.std.specs.Prelude.{is_err, MatchResult}
+use Rattle.block_core.specs.declared.fault.FreshFault.{FreshFault}
+use Rattle.block_core.specs.declared.fault.FreshFault.TheVariants as fresh
+use Rattle.block_core.specs.Length.{IsBlockLength, IsLengthFault, payload_len}
 use Rattle.directory_core.specs.Chain.{total, IsPrefix}
-use Rattle.record_core.specs.Limits.{record_limit}
+use Rattle.record_core.specs.Limits.{record_limit, payload_limit}
 use Rattle.book_core.specs.declared.fault.GrowFault.{GrowFault}
 use Rattle.book_core.specs.declared.fault.GrowFault.TheVariants.{Closed, Full, TooLong, Strayed, Memory, Empty, TooLarge}
 use Rattle.book_core.specs.declared.seat.Receipt.{Receipt}
+use Rattle.book_core.specs.declared.mark.MarkState.{MarkState}
+use Rattle.book_core.specs.declared.mark.Reading.{Reading}
+use Rattle.book_core.specs.Marks.{Rises}
 use Rattle.book_core.specs.Lists.{Phase, Seated}
 use Rattle.book_core.specs.Appending.{Appending, IsFlushRefusal, IsAppendRefusal}
-use Rattle.book_core.specs.Growing.{SeatLearns, growth_of, Grown, FillsOrReaches, size_of, IsBookRefusal, IsFillRefusal, IsLookFault}
+use Rattle.book_core.specs.Growing.{SeatLearns, SeatIsTold, growth_of, Grown, FillsOrReaches, size_of, IsBookRefusal, IsFillRefusal, IsLookFault}
 
 pub begins-trans : {X : Type 0} (xs ys zs : List X) → IsPrefix xs ys → IsPrefix ys zs → IsPrefix xs zs
 begins-trans xs ys zs a b =
@@ -94,3 +100,43 @@ fill_from_look width live seat n TooLong is = absurd is
 fill_from_look width live seat n Memory is = absurd is
 fill_from_look width live seat n Empty is = absurd is
 fill_from_look width live seat n TooLarge is = absurd is
+
+-- a length that passes its test is a block's
+pub length_passed : {A : Type 0} (width n : ℕ) (answer : Result A FreshFault) → is_err answer ≡ false
+    → MatchResult answer (λ _. IsBlockLength width n) (IsLengthFault width n) → IsBlockLength width n
+length_passed width n (Ok done) passed is = is
+length_passed width n (Err fault) passed is = absurd cc
+
+-- one that doesn't, of some records, is too large
+pub length_refused : {A : Type 0} (width n : ℕ) (answer : Result A FreshFault) → is_err answer ≡ true → 0 < n
+    → MatchResult answer (λ _. IsBlockLength width n) (IsLengthFault width n) → payload_limit < payload_len width n
+length_refused width n (Ok done) refused some is = absurd cc
+length_refused width n (Err fresh.Empty) refused some is = absurd (omega arith)
+length_refused width n (Err fresh.TooLarge) refused some is = is
+length_refused width n (Err fresh.Memory) refused some is = absurd is
+
+-- what the book refuses of the records that are kept
+pub flush_refused : {R : Type 0} (live : Phase R) (a : Appending R) (fault : GrowFault) → IsBookRefusal live a.seat (length a.kept) fault → IsFlushRefusal live a fault
+flush_refused live a Closed why = why
+flush_refused live a Full why = why
+flush_refused live a TooLong why = why
+flush_refused live a (Strayed n) why = why
+flush_refused live a Memory why = tt
+flush_refused live a Empty why = why
+flush_refused live a TooLarge why = why
+
+-- what a seat was told in two steps
+pub told-trans : {R : Type 0} (a b c : Seated R) (count count' : ℕ) (state state' : MarkState) → SeatIsTold a b count state → SeatIsTold b c count' state' → SeatIsTold a c count' state'
+told-trans a b c count count' state state' ab bc =
+    let rises : Rises (record { count = count; state = state }) (record { count = count'; state = state' }) =
+    subst (λ (r : Reading). Rises r (record { count = count'; state = state' })) ab.told bc.rises in
+    let first = ab.rises.count in
+    let then = rises.count in
+    record {
+      same = (bc.same.0 ∙ ab.same.0, bc.same.1 ∙ ab.same.1, bc.same.2 ∙ ab.same.2);
+      mark = bc.mark ∙ ab.mark;
+      told = bc.told;
+      raised = bc.raised;
+      seen = λ raise is. bc.seen raise (ab.seen raise is);
+      rises = record { count = omega arith; state = λ over. rises.state (ab.rises.state over) };
+    }

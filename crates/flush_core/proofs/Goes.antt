@@ -1,14 +1,15 @@
 -- Stretches of serving, one after the other.
-use Rattle.std.proofs.Common.{◌≡◌, ℕ, ◌≤◌, ◌++◌, List, length, take, ◌⊎◌, inl, inr, refl, sym, ap, subst, ◌∙◌, arith}
+use Rattle.std.proofs.Common.{◌≡◌, ℕ, ◌≤◌, ◌++◌, List, ◌∷◌, length, take, ◌⊎◌, inl, inr, refl, sym, ap, subst, ◌∙◌, arith}
 use Rattle.std.proofs.Math.Seq.{take-length}
 use Rattle.std.proofs.lemmas.List.{length-take}
 use Rattle.record_core.specs.Bytes.{Encoding}
 use Rattle.disk_core.specs.State.{State}
-use Rattle.disk_core.specs.Moments.{LeavesOnly}
+use Rattle.disk_core.specs.Moments.{LeavesOnly, clock}
 use Rattle.disk_core.proofs.JoinedMoments.{LeavesOnly-weaker, LeavesOnly-join}
 use Rattle.pen_core.specs.PenOf.{PenOf}
 use Rattle.pen_core.specs.Typed.{OpensTo}
-use Rattle.directory_core.specs.Chain.{grown_records}
+use Rattle.directory_core.specs.Chain.{grown_records, IsPrefix}
+use Rattle.directory_core.specs.Known.{Known}
 use Rattle.book_core.specs.Marks.{MarkEnd}
 use Rattle.book_core.specs.Lists.{Phase}
 use Rattle.book_core.proofs.Owns.{take-begins}
@@ -53,8 +54,20 @@ module _ {R D : Type 0} where
         opening_same = λ model. then.opening_same model ∙ first.opening_same (back model);
       }
 
+  pub FlusherLearns-pass : (f : FlusherOf R D) (pass : Known R) → IsPrefix f.pass.entries pass.entries → pass.of ≡ f.pass.of → FlusherLearns f (record f { pass = pass })
+  FlusherLearns-pass f pass begins of = record {
+    begins = begins;
+    of_same = of;
+    pen_same = refl;
+    mark_same = refl;
+    opening_same = refl;
+    before_same = refl;
+    taken_same = refl;
+    settled_same = refl;
+  }
+
   -- nothing has changed but what it knows
-  FlusherGoesOn-learns : (keeps : Type 0) (old new : FlusherOf R D) → FlusherLearns old new → FlusherGoesOn keeps old new
+  pub FlusherGoesOn-learns : (keeps : Type 0) (old new : FlusherOf R D) → FlusherLearns old new → FlusherGoesOn keeps old new
   FlusherGoesOn-learns keeps old new learns =
       let taken = learns.taken_same in
       let settled = learns.settled_same in
@@ -76,6 +89,14 @@ module _ {R D : Type 0} where
 
   pub pen-told : (old new : FlusherOf R D) (mark : MarkEnd) → new ≡ record old { mark = mark } → new.pen ≡ old.pen
   pen-told old new mark is = ap (λ (f : FlusherOf R D). f.pen) is
+
+  -- its end of the mark behind a raise to what is settled
+  abbrev pub raised_mark : (D → List State) → FlusherOf R D → MarkEnd
+  raised_mark states f = record {
+    of = f.mark.of;
+    told = record { count = f.settled; state = f.mark.told.state };
+    raises = record { count = f.settled; at = clock (states f.pen.disk) } ∷ f.mark.raises;
+  }
 
   -- it stays of its phase
   pub IsFlusherOf-later : (keeps keeps' : Type 0) (live : Phase R) (old new : FlusherOf R D) → (keeps' → keeps) → FlusherGoesOn keeps' old new
@@ -180,6 +201,10 @@ module _ {R D : Type 0} where
         let pen = pen-told mid new mark is in
         Serves-then first (FlusherGoesOn-told (keeps new.pen.disk) mid new mark of is)
         (ap (λ (p : PenOf D). p.disk) pen) (ap (λ (p : PenOf D). fold_with p.job p.fold) pen)
+
+    pub Serves-raised : {old mid new : FlusherOf R D} → Serves form keeps states old mid → new ≡ record mid { mark = raised_mark states mid }
+        → Serves form keeps states old new
+    Serves-raised {old} {mid} {new} first is = Serves-told (raised_mark states mid) first refl is
 
     -- and then it learns
     pub Serves-learns : {old mid new : FlusherOf R D} → Serves form keeps states old mid → FlusherLearns mid new → Serves form keeps states old new

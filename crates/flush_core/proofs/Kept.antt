@@ -79,7 +79,7 @@ module _ {R : Type 0} (form : Encoding R) where
 
 module _ {R D : Type 0} {form : Encoding R} {keeps : Type 0} {f : FlusherOf R D} (is : IsFlusher keeps form f) where
   -- another pen whose file has the records from before the phase
-  opening_kept : (pen : PenOf D) (settled : ℕ) → keeps → AreCellsOf form pen.vector (list_to f settled) → read_as form (take f.before pen.vector) ≡ f.opening
+  pub opening_kept : (pen : PenOf D) (settled : ℕ) → keeps → AreCellsOf form pen.vector (list_to f settled) → read_as form (take f.before pen.vector) ≡ f.opening
   opening_kept pen settled model are =
       read_as-take form f.before pen.vector f.opening (grown_records (take settled f.pass.entries)) (is.opening_whole model) are
 

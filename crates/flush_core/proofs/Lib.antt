@@ -1,10 +1,12 @@
 pub mod Kept
+mod Answered
 mod FoldsBehind
 pub mod Goes
 pub mod Told
 mod Learned
 mod LogLeft
 mod ServeFaults
+mod Stands
 mod Next
 mod PiecesHeld
 mod Taken

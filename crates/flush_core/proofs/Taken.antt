@@ -1,5 +1,5 @@
 -- The begin of a group: what a flusher keeps, and why none is begun.
-use Rattle.std.proofs.Common.{◌≡◌, ℕ, ◌+◌, ◌≤◌, ◌^◌, List, [], ◌∷◌, ◌++◌, length, take, drop, Bool, true, false, Option, Some, None, refl, sym, ap, subst, ◌∙◌, append_assoc, arith}
+use Rattle.std.proofs.Common.{◌≡◌, ℕ, zero, suc, ◌+◌, ◌≤◌, ◌<◌, ◌^◌, List, [], ◌∷◌, ◌++◌, length, take, drop, Bool, true, false, Option, Some, None, refl, sym, ap, subst, ◌∙◌, append_assoc, arith}
 use Rattle.std.specs.Prelude.{nat_lt}
 use Rattle.std.specs.Option.{is_some}
 use Rattle.std.proofs.lemmas.Bool.{le-ltb}
@@ -19,20 +19,23 @@ use Rattle.block_core.specs.Growth.{Growth}
 use Rattle.directory_core.specs.Chain.{total}
 use Rattle.directory_core.specs.Chain as chains
 use Rattle.flush_core.specs.Flusher.{FlusherOf, IsFlusher, flusher_of, list_to, untaken, tally_with}
+use Rattle.flush_core.specs.Serving.{fold_with}
 use Rattle.flush_core.proofs.Next.{grown_records-take_on, total-take_on}
 use Rattle.flush_core.proofs.Kept.{kept}
 
 -- ---- what it keeps
 
+-- the next n growths that are there are known
+pub taken_within : {R D : Type 0} {form : Encoding R} {keeps : Type 0} {f : FlusherOf R D} → IsFlusher keeps form f → (n : ℕ) → n ≤ length (untaken f)
+    → f.taken + n ≤ length f.pass.entries
+taken_within {R} {D} {form} {keeps} {f} is n there =
+    let some = length-map (drop f.taken f.pass.entries) (λ (e : Growth R). e.records) in
+    let rest = length-drop f.taken f.pass.entries in
+    let taken = is.taken_known in
+    omega arith
+
 module _ {R D : Type 0} {form : Encoding R} {keeps : Type 0} {f : FlusherOf R D} (is : IsFlusher keeps form f) (idle : f.pen.job ≡ None)
     (n : ℕ) (there : n ≤ length (untaken f)) where
-  known : f.taken + n ≤ length f.pass.entries
-  known =
-      let some = length-map (drop f.taken f.pass.entries) (λ (e : Growth R). e.records) in
-      let rest = length-drop f.taken f.pass.entries in
-      let taken = is.taken_known in
-      omega arith
-
   -- the records of the vector behind the next n growths
   size_with : f.pen.tally.size + length (joined (take n (untaken f))) ≡ f.before + total (take (f.taken + n) f.pass.entries)
   size_with =
@@ -64,7 +67,7 @@ module _ {R D : Type 0} {form : Encoding R} {keeps : Type 0} {f : FlusherOf R D}
       let size = size_with in
       let same = ap (λ (t : _). t.size) begun.tally_same in
       let frame = size-group_frame form pen.tally (take n (untaken f)) in
-      kept is pen (f.taken + n) f.settled keeps' begun.shape_same is.told_settled (omega arith) known
+      kept is pen (f.taken + n) f.settled keeps' begun.shape_same is.told_settled (omega arith) (taken_within is n there)
       (λ none. let job = sym none ∙ begun.job_is in absurd cc)
       (same ∙ is.size_is)
       (ap (λ (j : _). (tally_with pen.tally j).size) begun.job_is ∙ omega arith)
@@ -75,6 +78,18 @@ module _ {R D : Type 0} {form : Encoding R} {keeps : Type 0} {f : FlusherOf R D}
 pub idle_is : {X : Type 0} (job : Option X) → is_some job ≡ false → job ≡ None
 idle_is None is = refl
 idle_is (Some job) is = absurd cc
+
+-- whether one was begun or not, the disk is the same, the pen is as whole, and so is the fold once the job is done
+pub taken_pen : {R D : Type 0} (form : Encoding R) (old new : FlusherOf R D) (n : ℕ) (growths : List (List R)) → old.pen.job ≡ None
+    → (0 < n → BeginsFrame (group_frame form growths) old.pen new.pen) → (n ≡ 0 → new ≡ old)
+    → (new.pen.disk ≡ old.pen.disk) × (new.pen.broken ≡ old.pen.broken)
+    × (fold_with new.pen.job new.pen.fold ≡ fold_with old.pen.job old.pen.fold)
+taken_pen {R} {D} form old new zero growths idle begun none =
+    let same = none refl in
+    (ap (λ (f : FlusherOf R D). f.pen.disk) same, ap (λ (f : FlusherOf R D). f.pen.broken) same, ap (λ (f : FlusherOf R D). fold_with f.pen.job f.pen.fold) same)
+taken_pen form old new (suc n) growths idle begun none =
+    let is = begun (omega arith) in
+    (is.disk_same, is.broken_same, ap (λ (j : _). fold_with j new.pen.fold) is.job_is ∙ is.fold_same ∙ sym (ap (λ (j : _). fold_with j old.pen.fold) idle))
 
 -- ---- why none is begun
 

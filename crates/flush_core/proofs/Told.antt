@@ -10,7 +10,7 @@ use Rattle.directory_core.specs.Chain.{grown_records}
 use Rattle.book_core.specs.declared.mark.Raise.{Raise}
 use Rattle.book_core.specs.Marks.{MarkEnd, HasAllRaises, IsRaiseOf}
 use Rattle.flush_core.specs.Flusher.{FlusherOf, FlusherGoesOn, HasTold, IsFlusher, IsPastRaise, OpensToFirst, OpensToJob, OpensToSettled, ToldIsLeft}
-use Rattle.flush_core.proofs.Goes.{FlusherGoesOn-same, OpensToFirst-later}
+use Rattle.flush_core.proofs.Goes.{OpensToFirst-later}
 use Rattle.flush_core.proofs.Kept.{keeps_job, leaves_job}
 
 module _ {R D : Type 0} {form : Encoding R} where

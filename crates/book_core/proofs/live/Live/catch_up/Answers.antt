@@ -1,4 +1,4 @@
-use Rattle.std.proofs.Common.{◌≡◌, ◌≤◌, length, take, refl, sym, ap, subst, ◌∙◌, arith}
+use Rattle.std.proofs.Common.{◌≡◌, take, refl, sym, ap, subst, ◌∙◌, arith}
 use Rattle.directory_core.specs.Chain.{IsPrefix}
 use Rattle.directory_core.specs.Known.{Known}
 use Rattle.book_core.specs.Lists.{Phase, Seated, own_of}

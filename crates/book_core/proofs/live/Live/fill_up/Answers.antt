@@ -1,9 +1,11 @@
-use Rattle.std.proofs.Common.{◌≡◌, ◌+◌, ◌-◌, ◌<◌, ◌≤◌, length, replicate, refl, sym, ap, subst, ◌∙◌, arith}
+use Rattle.std.proofs.Common.{◌≡◌, ◌+◌, ◌-◌, ◌<◌, length, sym, ap, subst, ◌∙◌, arith}
 use Rattle.std.proofs.lemmas.List.{length-replicate, take_all}
 use Rattle.directory_core.specs.Chain.{total}
 use Rattle.book_core.specs.Lists.{Phase, Seated, opening_of}
 use Rattle.book_core.specs.Growing.{Grown, IsBookRefusal, size_of}
-use Rattle.book_core.proofs.Steps.{learns-refl, fill_from_book}
+use Rattle.book_core.proofs.Steps.{learns-refl, fill_from_book, length_passed, length_refused}
+use Rattle.block_core.specs.Length.{IsBlockLength, payload_len}
+use Rattle.record_core.specs.Limits.{payload_limit}
 use Rattle.book_core.proofs.live.Live.fill_up.Goals.{in-Ok-put, in-Err}
 use Rattle.book_core.proofs.live.Live.fill_up.Goals as goal
 
@@ -80,3 +82,41 @@ returns-clause-fault g c =
           (fill_from_book g.R.Record.form.width live new c.args.n short w.in-Err.fault (omega arith) (omega arith) c.in-Ok.ensures.1
           (let fits = c.if-n-gt-RECORD_LIMIT.false in omega arith) why)
     ]
+
+pub returns-then-is_err-clause-fault : goal.returns-then-is_err-clause-fault
+returns-then-is_err-clause-fault g c =
+    let less = c.if-known-self.false in
+    let known = c.known.ensures.count in
+    let entries = ap (λ (s : Seated _). length s.pass.entries) c.seat.view_is in
+    let room = ap (λ (l : Phase _). l.directory.room) c.self.view_is in
+    let is = c.self.invariant.0 in
+    let size = c.size-size.ensures.size in
+    let short = c.if-n-size.false in
+    let large = length_refused g.R.Record.form.width (c.args.n - c.size-size.result) c.check_len.result (sym c.is_err.ensures.value ∙ c.if-is_err.true) (omega arith) c.check_len.ensures in
+    (c.requires.own, omega arith, omega arith, subst (λ m. payload_limit < payload_len g.R.Record.form.width (c.args.n - m)) size large)
+
+pub returns-then-n-gt-RECORD_LIMIT-clause-fault : goal.returns-then-n-gt-RECORD_LIMIT-clause-fault
+returns-then-n-gt-RECORD_LIMIT-clause-fault g c =
+    let less = c.if-known-self.false in
+    let known = c.known.ensures.count in
+    let entries = ap (λ (s : Seated _). length s.pass.entries) c.seat.view_is in
+    let room = ap (λ (l : Phase _). l.directory.room) c.self.view_is in
+    let is = c.self.invariant.0 in
+    let size = c.size-size.ensures.size in
+    let short = c.if-n-size.false in
+    let passed = length_passed g.R.Record.form.width (c.args.n - c.size-size.result) c.check_len.result (sym c.is_err.ensures.value ∙ c.if-is_err.false) c.check_len.ensures in
+    let block = subst (λ m. IsBlockLength g.R.Record.form.width (c.args.n - m)) size passed in
+    (c.requires.own, omega arith, omega arith, block, c.if-n-gt-RECORD_LIMIT.true)
+
+pub returns-in_default-clause-fault : goal.returns-in_default-clause-fault
+returns-in_default-clause-fault g c =
+    let less = c.if-known-self.false in
+    let known = c.known.ensures.count in
+    let entries = ap (λ (s : Seated _). length s.pass.entries) c.seat.view_is in
+    let room = ap (λ (l : Phase _). l.directory.room) c.self.view_is in
+    let is = c.self.invariant.0 in
+    let size = c.size-size.ensures.size in
+    let short = c.if-n-size.false in
+    let passed = length_passed g.R.Record.form.width (c.args.n - c.size-size.result) c.check_len.result (sym c.is_err.ensures.value ∙ c.if-is_err.false) c.check_len.ensures in
+    let block = subst (λ m. IsBlockLength g.R.Record.form.width (c.args.n - m)) size passed in
+    (c.requires.own, omega arith, omega arith, block, c.if-n-gt-RECORD_LIMIT.false)

@@ -1,4 +1,5 @@
-use Rattle.std.proofs.Common.{◌≡◌}
+use Rattle.std.proofs.Common.{sym, ◌∙◌}
+use Rattle.std.proofs.lemmas.Option.{same_Some}
 use Rattle.book_core.specs.Lists.{seat_pieces}
 use Rattle.book_core.proofs.PieceLists.{growths_rest}
 use Rattle.book_core.proofs.Slices.{rest_is}
@@ -8,7 +9,7 @@ pub returns-clause-value : goal.returns-clause-value
 returns-clause-value g c =
     let here = c.in_ok-number.ensures in
     let piece = c.in_ok-piece.piece.now in
-    let same : piece ≡ here.piece = let at = here.at in let is = c.in_ok-piece.ensures.value in cc in
+    let same = same_Some piece here.piece (sym c.in_ok-piece.ensures.value ∙ here.at) in
     rest_is (seat_pieces c.args.self.now c.args.seat.now) c.args.i c.in_ok-number.number c.in_ok-number.place piece here same
 
 pub returns-clause-in_order : goal.returns-clause-in_order

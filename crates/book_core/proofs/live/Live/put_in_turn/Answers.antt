@@ -17,3 +17,9 @@ loop-preserved g c =
     let refused = c.in-Err-default-Strayed.ensures.list in
     let caught = learns-trans c.args.seat.now c.loop.seat c.catch_up.new.seat c.loop.invariant.1 c.catch_up.ensures.learns in
     (c.put.ensures.of, learns-trans c.args.seat.now c.catch_up.new.seat c.put.new.seat caught refused.1, refused.0 ∙ c.loop.invariant.2)
+
+pub returns-in-Err-clause-of : goal.returns-in-Err-clause-of
+returns-in-Err-clause-of g c = c.catch_up.ensures.of
+
+pub returns-in_default-put-clause-of : goal.returns-in_default-put-clause-of
+returns-in_default-put-clause-of g c = c.put.ensures.of

@@ -1,0 +1,24 @@
+use Rattle.std.proofs.Common.{ap, refl, ◌∙◌, arith}
+use Rattle.book_core.proofs.Puts.{learnt, learnt_kept, no_shorter, seated}
+use Rattle.book_core.proofs.live.Live.meet.Goals as goal
+
+pub invariant_of-seat : goal.invariant_of-seat
+invariant_of-seat g c =
+    let s = c.seat.inside in
+    let begins = c.meet.ensures.meets.begins_mine in
+    let longer = no_shorter s.id s.checked s.pass c.meet.new.self s.mark begins in
+    let inside = c.seat.invariant.2 in
+    learnt_kept s.id s.checked s.pass c.meet.new.self s.mark s.serial begins c.seat.invariant s.checked refl (omega arith) (omega arith)
+
+pub returns-clause-learns : goal.returns-clause-learns
+returns-clause-learns g c =
+    let s = c.seat.inside in
+    rw (← c.seat.view_is) (learnt s.id s.checked s.pass c.meet.new.self s.mark c.meet.ensures.of c.meet.ensures.meets.begins_mine c.seat.invariant.2 s.checked refl)
+
+pub returns-clause-same : goal.returns-clause-same
+returns-clause-same g c =
+    let o = c.other.inside in
+    ap (λ p. seated o.id o.checked p o.mark) c.meet.ensures.same ∙ c.other.view_is
+
+pub returns-clause-meets : goal.returns-clause-meets
+returns-clause-meets g c = rw (← c.seat.view_is, ← c.other.view_is) c.meet.ensures.meets
