@@ -126,6 +126,23 @@ def upgrade(model):
     return True
 
 
+def copy(model, pick):
+    words, version = ["copy", "u64", path, other], model.version
+    if pick.random() < 0.5:
+        version = pick.choice([1, 2])
+        words.append(f"--format={version}")
+    if pick.random() < 0.5:
+        words.append(f"--block={pick.randint(1, 5)}")
+    before = os.path.getsize(path)
+    if answer(words) != (f"copied size {len(model.records)}\n", 0):
+        return False
+    if words[4:] in ([], [f"--format={version}"]) and os.path.getsize(other) > before:
+        return False
+    os.replace(other, path)
+    model.version, model.live = version, 0
+    return True
+
+
 def play(seed):
     pick = random.Random(seed)
     for name in (path, other):
@@ -140,6 +157,8 @@ def play(seed):
             return f"script {seed}: {' '.join(words)}: wanted {told!r}"
     if pick.random() < 0.2 and not upgrade(model):
         return f"script {seed}: upgrade"
+    if pick.random() < 0.2 and not copy(model, pick):
+        return f"script {seed}: copy"
     if not check(model):
         return f"script {seed}: check"
     if answer(["list", "u64", path]) != ("".join(f"{record}\n" for record in model.records), 0):

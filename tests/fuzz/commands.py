@@ -7,7 +7,11 @@ from memory import is_memory_refused, run_refused
 from outlines import stat_differs
 from program import differs, run
 from reader import TYPES, Fault, File, answers_of
-from writer import all_kinds, header
+from writer import all_kinds, group, header
+
+
+# What makes a new file of one that it reads.
+COPYING = ('upgrade', 'copy')
 
 
 def texts_in(file):
@@ -28,7 +32,7 @@ def foresee(kind, verb, words, lines, image):
     except Fault as fault:
         if verb == 'create' and may_be_made_over(kind, words, image):
             return 'created', []
-        return 'refused: ' + ('exists' if verb == 'create' else 'old %s' % fault if verb == 'upgrade' else str(fault)), None
+        return 'refused: ' + ('exists' if verb == 'create' else 'old %s' % fault if verb in COPYING else str(fault)), None
     texts, live = texts_in(file), len(file.changes) - file.folded
     value = words[-1].split('=')[-1] if words else ''
     if verb == 'create':
@@ -55,6 +59,8 @@ def foresee(kind, verb, words, lines, image):
         return 'folded %d' % live, texts
     if verb == 'upgrade':
         return ('refused: not version 1' if file.version == 2 else 'upgraded size %d' % len(texts)), None
+    if verb == 'copy':
+        return 'copied size %d' % len(texts), None
     grown = texts + [record for line in lines for record in line.split(' ')]
     block = int(value) if words else 1
     return '%sed %d growths, size %d' % (verb, -(-len(lines) // block), len(grown)), grown
@@ -73,15 +79,20 @@ def holds(image, kind, texts, folded):
     return texts_in(file) == texts and (not folded or file.folded == len(file.changes))
 
 
-def is_upgraded(name, kind, texts):
-    image = read_file(name) if os.path.exists(name) else b''
-    return image[8:9] == b'\2' and holds(image, kind, texts, True)
+def is_copied(name, kind, verb, words, image):
+    """The new file has the records in growths of as many as the words say, or in one."""
+    file, asked = File(image, kind), dict(word[2:].split('=') for word in words)
+    version = 2 if verb == 'upgrade' else int(asked.get('format', file.version))
+    block = int(asked.get('block', len(file.cells) + 1))
+    growths = (file.cells[at:at + block] for at in range(0, len(file.cells), block))
+    made = header(version, TYPES[kind][0]) + b''.join(group([growth]) for growth in growths) + b'\0'
+    return os.path.exists(name) and read_file(name) == made
 
 
 def command_words(verb, kind, name, words):
     if verb == 'stat':
         return [verb, name, *words]
-    return [verb, kind, name, *([name + '.new'] if verb == 'upgrade' else words)]
+    return [verb, kind, name, *([name + '.new'] if verb in COPYING else []), *words]
 
 
 def judge_outcome(kind, name, command, before, found):
@@ -98,8 +109,8 @@ def judge_outcome(kind, name, command, before, found):
         told = told or '%s wrote the file' % verb
     if texts is not None and not holds(after, kind, texts, verb == 'fold'):
         told = told or '%s left other records' % verb
-    if answer.startswith('upgraded') and not is_upgraded(name + '.new', kind, texts_in(File(before, kind))):
-        told = told or 'the new file has other records, or not version 2'
+    if answer.startswith(('upgraded', 'copied')) and not is_copied(name + '.new', kind, verb, words, before):
+        told = told or 'the new file of %s has other bytes' % verb
     if os.path.exists(name + '.new'):
         os.remove(name + '.new')
     return told
@@ -137,7 +148,7 @@ def judge_refused_command(job):
         found, refused = run_refused(library, number, command_words(verb, 'u64', name, words), given)
         kept = ('REFUSE=%d %s %s\n' % (number, command, image.hex())).encode()
         may_stop = {'load': b'refused: unsettled ', 'append': b'refused: unsettled ',
-                    'upgrade': (b'refused: old memory\n', b'refused: new memory\n')}.get(verb, b'refused: memory\n')
+                    **dict.fromkeys(COPYING, (b'refused: old memory\n', b'refused: new memory\n'))}.get(verb, b'refused: memory\n')
         if not is_memory_refused(found) and not found[1].startswith(may_stop):
             return judge_outcome('u64', name, command, image, found), refused, kept
         if os.path.exists(name + '.new'):
@@ -159,6 +170,6 @@ def command_tables(_folder):
     commands = [('create', [], []), ('load', [], ['1 2', '3']), ('append', [], ['1 2', '3']), ('check', [], []),
                 ('list', [], []), ('count', ['--record=9'], []), ('find', ['--record=9'], []),
                 ('set', ['1', '--records=4,5'], []), ('resize', ['9', '--record=3'], []), ('fold', [], []),
-                ('upgrade', [], []), ('stat', [], [])]
+                ('upgrade', [], []), ('copy', ['--block=2'], []), ('stat', [], [])]
     for command in commands:
         yield judge_refused_command, (b'' if command[0] == 'create' else all_kinds(1), command)

@@ -24,7 +24,7 @@ def run(words, given=b'', program=PROGRAM, limit=60, **options):
 
 # What usage has to name.
 COMMANDS = ('image', 'show', 'play', 'create', 'load', 'append', 'serve', 'check', 'stat', 'list', 'count', 'find', 'set',
-            'resize', 'clear', 'fold', 'upgrade')
+            'resize', 'clear', 'fold', 'upgrade', 'copy')
 
 
 def lacking():

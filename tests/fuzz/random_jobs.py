@@ -86,7 +86,8 @@ def random_words(rng):
 
 # ---- commands
 
-FILED = ('create', 'load', 'append', 'check', 'stat', 'list', 'count', 'find', 'set', 'resize', 'clear', 'fold', 'upgrade')
+FILED = ('create', 'load', 'append', 'check', 'stat', 'list', 'count', 'find', 'set', 'resize', 'clear', 'fold', 'upgrade',
+         'copy')
 
 
 def random_commands(rng):
@@ -105,8 +106,10 @@ def random_commands(rng):
         lines = []
         if verb in ('load', 'append'):
             lines = [' '.join(map(text, random_cells(rng, kind, 3))) for _ in range(rng.randint(1, 4))]
-        if verb == 'append' and rng.random() < .5:
-            words = ['--block=%d' % rng.randint(1, 5)]
+        if verb == 'copy' and rng.random() < .5:
+            words = ['--format=%d' % rng.randint(1, 2)]
+        if verb in ('append', 'copy') and rng.random() < .5:
+            words = words + ['--block=%d' % rng.randint(1, 5)]
         commands.append((verb, words, lines))
     return kind, image, commands
 

@@ -238,7 +238,7 @@ words_are_tried_without_proofs() (
     [ "$status" -eq 3 ]
     printf '%s\n' try --data "a file=$(readlink -f "$work")/a file" -- list u64 'a file' --count=2 | cmp - "$out"
     tells_only 'cvec: nothing is proved'
-    for word in create load append set resize clear fold upgrade serve; do
+    for word in create load append set resize clear fold upgrade copy serve; do
         status=0
         PATH=$there/bin:/usr/bin:/bin "$there/cvec" try $word u64 'a file' >"$out" 2>"$err" || status=$?
         [ "$status" -eq 2 ]

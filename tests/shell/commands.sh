@@ -88,6 +88,136 @@ a_file_is_upgraded() (
     printf 'secret=abc1\n' | cmp - "$work/s.cv"
 )
 
+# A file of version $1: five records of which some were changed, then fewer and more ones, with changes put home. Its list is
+# the file `listed`.
+a_worked_file() {
+    rm -f "$work/t.cv" "$work/n.cv" "$work/w.cv"
+    run create u64 "$work/t.cv" "--format=$1"
+    given '5 6 7 8\n9\n'
+    run load u64 "$work/t.cv"
+    run set u64 "$work/t.cv" 1 --records=2,3
+    run fold u64 "$work/t.cv"
+    did 'folded 1\n'
+    run resize u64 "$work/t.cv" 3 --record=0
+    run resize u64 "$work/t.cv" 5 --record=4
+    run set u64 "$work/t.cv" 0 --records=1
+    did 'ok\n'
+    run list u64 "$work/t.cv"
+    did '1\n2\n3\n4\n4\n'
+    mv "$out" "$work/listed"
+}
+
+# It is as long as a file of these growths, and has its bytes.
+has_the_bytes_of_growths() {
+    run create u64 "$work/w.cv" "--format=$1"
+    shift
+    for growth in "$@"; do
+        given "$growth\n"
+        run append u64 "$work/w.cv"
+        [ "$status" -eq 0 ]
+    done
+    cmp "$work/w.cv" "$work/n.cv"
+}
+
+a_file_of_either_version_is_copied_to_either() (
+    for from in 1 2; do
+        for to in '' 1 2; do
+            a_worked_file $from
+            sum=$(cksum <"$work/t.cv")
+            run copy u64 "$work/t.cv" "$work/n.cv" ${to:+--format=$to}
+            did 'copied size 5\n'
+            [ "$(cksum <"$work/t.cv")" = "$sum" ]
+            run check u64 "$work/n.cv"
+            did "ok version ${to:-$from} width 8 size 5 frames 1 live 0\n"
+            run list u64 "$work/n.cv"
+            cmp "$work/listed" "$out"
+            [ "$(stat -c %s "$work/n.cv")" -lt "$(stat -c %s "$work/t.cv")" ]
+            has_the_bytes_of_growths "${to:-$from}" '1 2 3 4 4'
+        done
+    done
+    [ "$(od -An -v -tx1 "$work/n.cv" | tr -d ' \n')" = 014356454353454702080001013000000001000000050000000100000000000000020000000000000003000000000000000400000000000000040000000000000000 ]
+    # It takes the place of the one that it was copied from.
+    mv "$work/n.cv" "$work/t.cv"
+    given '6\n'
+    run load u64 "$work/t.cv"
+    did 'loaded 1 growths, size 6\n'
+    run list u64 "$work/t.cv"
+    { cat "$work/listed"; echo 6; } | cmp - "$out"
+    rm "$work/t.cv"
+    run create u64 "$work/t.cv"
+    run copy u64 "$work/t.cv" "$work/n.cv"
+    did 'copied size 0\n'
+    cmp "$work/t.cv" "$work/n.cv"
+)
+
+a_copy_has_growths_of_so_many_records() (
+    a_worked_file 1
+    run copy u64 "$work/t.cv" "$work/n.cv" --block=2 --format=2
+    did 'copied size 5\n'
+    has_the_bytes_of_growths 2 '1 2' '3 4' '4'
+    rm "$work/n.cv" "$work/w.cv"
+    run copy u64 "$work/t.cv" "$work/n.cv" --block 5
+    did 'copied size 5\n'
+    has_the_bytes_of_growths 1 '1 2 3 4 4'
+    # The most that a frame of its version takes, and one more.
+    for of in 1:131071:131072 2:2097151:2097152; do
+        fits=${of#*:}
+        rm "$work/n.cv"
+        run copy u64 "$work/t.cv" "$work/n.cv" "--format=${of%%:*}" "--block=${of##*:}"
+        was_refused 'new too large' 'nothing was written to it; give a smaller --block'
+        [ -f "$work/n.cv" ] && [ ! -s "$work/n.cv" ]
+        run copy u64 "$work/t.cv" "$work/n.cv" "--format=${of%%:*}" "--block=${fits%%:*}"
+        did 'copied size 5\n'
+    done
+    for block in 0 x -1 4294967296; do
+        run copy u64 "$work/t.cv" "$work/o.cv" "--block=$block"
+        ends_with_usage 'error: the value of --block is a number from 1 to 4294967295'
+    done
+    run copy u64 "$work/t.cv" "$work/o.cv" --format=3
+    ends_with_usage 'error: '
+    [ ! -e "$work/o.cv" ]
+    # Without a number the growths are the longest: two frames of version 1 have more than 131,071 records.
+    run resize u64 "$work/n.cv" 131072 --record=0
+    run copy u64 "$work/n.cv" "$work/o.cv" --format=1
+    did 'copied size 131072\n'
+    run stat "$work/o.cv"
+    grep -qx 'growths 2' "$out"
+    grep -qx "bytes $((12 + 2 * 14 + 131072 * 8))" "$out"
+)
+
+# NEW is what isn't there, or is empty, or has what a creation of such a file leaves that was stopped.
+a_copy_is_made_over_nothing() (
+    a_worked_file 1
+    sum=$(cksum <"$work/t.cv")
+    run copy u64 "$work/t.cv" "$work/n.cv"
+    did 'copied size 5\n'
+    printf 'secret=abc1\n' >"$work/s.cv"
+    run create u64 "$work/v.cv"
+    for new in n s v; do
+        before=$(cksum <"$work/$new.cv")
+        run copy u64 "$work/t.cv" "$work/$new.cv"
+        was_refused 'new exists' "$work/$new.cv: there is something in this file already"
+        [ "$(cksum <"$work/$new.cv")" = "$before" ]
+    done
+    for left in '' '\0' '\0CVEC' '\0CVECSEG\01\010\0\0' '\0CVECSEG\02\010\0\0'; do
+        printf '%b' "$left" >"$work/l.cv"
+        run copy u64 "$work/t.cv" "$work/l.cv"
+        did 'copied size 5\n'
+        cmp "$work/l.cv" "$work/n.cv"
+    done
+    printf '%b' '\0CVECSEG\01\010\0\0' >"$work/l.cv"
+    run copy u64 "$work/t.cv" "$work/l.cv" --format=2
+    was_refused 'new exists' "$work/l.cv"
+    run copy u64 "$work/t.cv" "$work/t.cv"
+    was_refused file "$work/t.cv: another command uses it"
+    run copy u32 "$work/t.cv" "$work/o.cv"
+    was_refused 'old width 8' 'those of u32 have 4'
+    run copy u64 "$work/none.cv" "$work/p.cv"
+    was_refused file "$work/none.cv"
+    [ ! -e "$work/p.cv" ]
+    [ "$(cksum <"$work/t.cv")" = "$sum" ]
+)
+
 every_type_has_files() (
     for of in u32:7:8 u64:18446744073709551615:8 i64:-3:4 pair:7:-3,8:0 flagged:5:1,6:0; do
         t=$work/t.cv
@@ -111,6 +241,12 @@ every_type_has_files() (
         did 'ok\n'
         run count "$type" "$t" "--record=$two"
         did '2\n'
+        rm -f "$work/n.cv"
+        run copy "$type" "$t" "$work/n.cv"
+        did 'copied size 2\n'
+        run list "$type" "$work/n.cv"
+        did "$two\n$two\n"
+        [ "$(stat -c %s "$work/n.cv")" -lt "$(stat -c %s "$t")" ]
     done
 )
 
@@ -176,7 +312,7 @@ values_are_words_of_their_own_too() (
 
 words_that_are_missing_end_with_usage() (
     t=$work/t.cv
-    for words in 'count u64 t' 'find u64 t' 'set u64 t 0' 'set u64 t' 'resize u64 t 1' 'upgrade u64 t' 'list u64' \
+    for words in 'count u64 t' 'find u64 t' 'set u64 t 0' 'set u64 t' 'resize u64 t 1' 'upgrade u64 t' 'copy u64 t' 'list u64' \
         'create u64' 'create u64 t --format=3' 'create u64 t --format' 'count u64 t --record' 'check u16 t' \
         'list u64 t u' 'fold u64 t --record=5' 'load u16 t' 'count u16 t --record=x'; do
         # shellcheck disable=SC2086 # each word is one

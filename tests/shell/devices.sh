@@ -60,9 +60,12 @@ answers_of_commands_that_write_may_be_cut() (
     is_told_to_be_full fold u64 "$t"
     run check u64 "$t"
     did 'ok version 1 width 8 size 5 frames 5 live 0\n'
-    is_told_to_be_full upgrade u64 "$t" "$work/n.cv"
-    run list u64 "$work/n.cv"
-    did '5\n8\n7\n9\n9\n'
+    for word in upgrade copy; do
+        rm -f "$work/n.cv"
+        is_told_to_be_full $word u64 "$t" "$work/n.cv"
+        run list u64 "$work/n.cv"
+        did '5\n8\n7\n9\n9\n'
+    done
     # A growth of the record 4 by a client.
     printf '\1\0\0\0\1\0\0\0\0\0\0\0\0\0\0\0\4\0\0\0\0\0\0\0' >"$work/requests"
     : >"$work/answers"
@@ -173,12 +176,15 @@ a_new_file_that_a_full_device_takes_no_more_is_emptied() (
     seq -s ' ' 1 100 >"$in"
     run load u64 "$work/t.cv"
     sum=$(cksum <"$work/t.cv")
-    on_a_full_device upgrade u64 "$work/t.cv" "$work/n.cv"
-    was_refused 'new disk write' "cvec: $work/n.cv: the system didn't write it, or put it on the device, which may be full; it may have a part; "
-    [ "$(cksum <"$work/t.cv")" = "$sum" ]
-    [ -f "$work/n.cv" ] && [ ! -s "$work/n.cv" ]
-    run upgrade u64 "$work/t.cv" "$work/n.cv"
-    did 'upgraded size 100\n'
+    for of in upgrade:upgraded copy:copied; do
+        rm -f "$work/n.cv"
+        on_a_full_device "${of%:*}" u64 "$work/t.cv" "$work/n.cv"
+        was_refused 'new disk write' "cvec: $work/n.cv: the system didn't write it, or put it on the device, which may be full; it may have a part; "
+        [ "$(cksum <"$work/t.cv")" = "$sum" ]
+        [ -f "$work/n.cv" ] && [ ! -s "$work/n.cv" ]
+        run "${of%:*}" u64 "$work/t.cv" "$work/n.cv"
+        did "${of#*:} size 100\n"
+    done
 )
 
 # ---- an input that fails in its midst

@@ -33,8 +33,10 @@ what_is_sound_before_a_damage_is_told() (
         was_refused 'damaged at 50: kind 9' 'damaged at byte 50'
         tells 'the 3 records before that are sound'
     done
-    run upgrade u64 "$work/t.cv" "$work/n.cv"
-    was_refused 'old damaged at 50: kind 9' 'the 3 records before that are sound'
+    for command in upgrade copy; do
+        run $command u64 "$work/t.cv" "$work/n.cv"
+        was_refused 'old damaged at 50: kind 9' 'the 3 records before that are sound'
+    done
     run append u64 "$work/t.cv"
     was_refused 'damaged at 50: kind 9' 'the 3 records before that are sound'
     printf '\011' | dd of="$work/t.cv" bs=1 seek=12 conv=notrunc 2>/dev/null
@@ -175,8 +177,9 @@ one_writer_has_a_file_alone() (
         exec 9<"$t"
         flock $how 9
         for words in "clear u64 $t" "fold u64 $t" "set u64 $t 0 --records=5" "resize u64 $t 1 --record=0" "create u64 $t" \
-            "load u64 $t" "append u64 $t" "upgrade u64 $g $t" "check u64 $t" "list u64 $t" "count u64 $t --record=7" \
-            "find u64 $t --record=7" "stat $t" "serve u64 $t --seats=1" "upgrade u64 $t $g"; do
+            "load u64 $t" "append u64 $t" "upgrade u64 $g $t" "copy u64 $g $t" "check u64 $t" "list u64 $t" "count u64 $t --record=7" \
+            "find u64 $t --record=7" "stat $t" "serve u64 $t --seats=1" "upgrade u64 $t $g" \
+            "copy u64 $t $g"; do
             rm -f "$g"
             case $words in *"$g $t") cp "$t" "$g" ;; esac
             # shellcheck disable=SC2086 # each word is one
@@ -188,6 +191,7 @@ one_writer_has_a_file_alone() (
                 --sharedfind*) did '0\n' ;;
                 --sharedstat*) did 'version 1\nwidth 8\nbytes 56\ngroups 1\nchanges 1\nshrinks 0\nfolds 0\ngrowths 1\nrecords 1\nsize 1\nlive 1\ngate 55\nbehind 0\n' ;;
                 "--sharedupgrade u64 $t"*) did 'upgraded size 1\n' ;;
+                "--sharedcopy u64 $t"*) did 'copied size 1\n' ;;
                 *) was_refused file 'another command uses it' ;;
             esac
         done

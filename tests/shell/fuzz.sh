@@ -111,7 +111,8 @@ from tables import judge_image
 from writer import all_kinds, numbers
 
 commands = [("check", [], []), ("stat", [], []), ("list", [], []), ("count", ["--record=9"], []), ("find", ["--record=9"], []),
-            ("upgrade", [], []), ("set", ["1", "--records=4,5"], []), ("append", [], ["1 2", "3"]), ("fold", [], [])]
+            ("upgrade", [], []), ("copy", ["--block=2"], []), ("set", ["1", "--records=4,5"], []),
+            ("append", [], ["1 2", "3"]), ("fold", [], [])]
 jobs = [(judge_commands, ("u64", all_kinds(1), [it])) for it in commands]
 jobs += [(judge_image, (all_kinds(2)[:-1], "u64", False)), (judge_lines, ("u64", [[numbers(10)]])),
          (judge_script, ["create", "resize 2 5", "crash old", "open", "list"]),
@@ -145,7 +146,8 @@ list~"$p" "$@" | sed 1d; exit~list
 stat~"$p" "$@" | sed 's/^behind 0/behind 1/'; exit~stat
 set~"$p" "$@"; s=$?; printf '\7' | dd of="$3" bs=1 seek=25 conv=notrunc 2>/dev/null; exit $s~set left other records
 append~"$p" "$@" </dev/null | sed 's/appended .*/appended 2 growths, size 6/'; exit~append left other records
-upgrade~"$p" "$@"; s=$?; printf '\1' | dd of="$4" bs=1 seek=8 conv=notrunc 2>/dev/null; exit $s~the new file
+upgrade~"$p" "$@"; s=$?; printf '\1' | dd of="$4" bs=1 seek=8 conv=notrunc 2>/dev/null; exit $s~the new file of upgrade
+copy~"$p" copy "$2" "$3" "$4" --block=3; exit~the new file of copy
 serve~"$p" "$@" | sed 's/served 1/served 0/'; exit~serve
 play~"$p" "$@" | sed 's/^size 2/size 1/'; exit~line
 ROWS

@@ -128,25 +128,37 @@ a_fold_that_is_killed_goes_on() (
     [ "$stopped" -gt 0 ]
 )
 
-an_upgrade_that_is_killed_is_begun_again() (
+# A new file is made of a long one by the command, which says so, and when it was killed, with another new file.
+is_killed_and_begun_again() {
     a_long_file
     before=$(cksum <"$work/long.cv")
-    takes upgrade u64 "$work/long.cv" "$work/whole.cv"
+    takes "$1" u64 "$work/long.cv" "$work/whole.cv" $3
     for k in $(seq 1 20); do
         rm -f "$work/t.cv" "$work/m.cv"
-        killed_at "$k" upgrade u64 "$work/long.cv" "$work/t.cv"
+        killed_at "$k" "$1" u64 "$work/long.cv" "$work/t.cv" $3
+        told=$(cat "$out")
         if [ -s "$work/t.cv" ]; then
             run list u64 "$work/t.cv"
             case $status in
                 0) head -n "$(wc -l <"$out")" "$work/old" | cmp - "$out" ;;
                 *) [ "$(cat "$out")" = 'refused: unborn' ] ;;
             esac
+            [ -z "$told" ] || cmp "$work/old" "$out"
         fi
-        run upgrade u64 "$work/long.cv" "$work/m.cv"
-        did 'upgraded size 300000\n'
+        [ -z "$told" ] || [ -s "$work/t.cv" ]
+        run "$1" u64 "$work/long.cv" "$work/m.cv" $3
+        did "$2 size 300000\n"
         run list u64 "$work/m.cv"
         cmp "$work/old" "$out"
     done
     [ "$stopped" -gt 0 ]
     [ "$before" = "$(cksum <"$work/long.cv")" ]
+}
+
+an_upgrade_that_is_killed_is_begun_again() (
+    is_killed_and_begun_again upgrade upgraded
+)
+
+a_copy_that_is_killed_is_begun_again() (
+    is_killed_and_begun_again copy copied --block=1000
 )

@@ -69,7 +69,8 @@ is_kept_from() {
 
 writers_are_kept_from() {
     for words in 'clear u64 FILE' 'fold u64 FILE' 'set u64 FILE 0 --records=9' 'resize u64 FILE 9 --record=9' \
-        'create u64 FILE' 'load u64 FILE' 'append u64 FILE' 'serve u64 FILE --seats=1' "upgrade u64 $work/other.cv FILE"; do
+        'create u64 FILE' 'load u64 FILE' 'append u64 FILE' 'serve u64 FILE --seats=1' "upgrade u64 $work/other.cv FILE" \
+        "copy u64 $work/other.cv FILE"; do
         # shellcheck disable=SC2046 # each word is one
         is_kept_from "$1" $(echo "$words" | sed "s|FILE|$1|")
     done
@@ -77,7 +78,7 @@ writers_are_kept_from() {
 
 readers_are_kept_from() {
     for words in 'check u64 FILE' 'list u64 FILE' 'count u64 FILE --record=9' 'find u64 FILE --record=9' 'stat FILE' \
-        "upgrade u64 FILE $work/no.cv"; do
+        "upgrade u64 FILE $work/no.cv" "copy u64 FILE $work/no.cv"; do
         # shellcheck disable=SC2046 # each word is one
         is_kept_from "$1" $(echo "$words" | sed "s|FILE|$1|")
     done
@@ -213,6 +214,7 @@ count u64 FILE --record 3=1\n
 fold u64 FILE=folded 1\n
 create u64 FILE --over=created\n
 upgrade u64 FILE NEW=upgraded size 3\n
+copy u64 FILE NEW=copied size 3\n
 ROWS
 }
 
@@ -320,6 +322,7 @@ count u64 FILE --record:7=1\n
 find u64 FILE --record:7=1\n
 stat FILE --json={"version":1,"width":8,"bytes":64,"groups":1,"changes":1,"shrinks":0,"folds":0,"growths":1,"records":2,"size":2,"live":1,"gate":63,"behind":0}\n
 upgrade u64 FILE NEW=upgraded size 2\n
+copy u64 FILE NEW=copied size 2\n
 ROWS
     the_next_one_has "$t" '5\n7\n4\n4\n4\n4\n4\n4\n4\n'
 )

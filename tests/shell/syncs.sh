@@ -109,6 +109,19 @@ an_upgrade_commits_to_a_new_file() (
     made 'sync folder' "$(creation n.cv)" "$(commit n.cv 11 38 01)" 'answer 16'
 )
 
+# Each of its growths is one commit.
+a_copy_commits_to_a_new_file() (
+    has_calls || exit $is_skipped
+    mkdir "$work/folder"
+    run create u64 "$work/t.cv"
+    given '5\n6 7\n'
+    run load u64 "$work/t.cv"
+    is_noted copy u64 "$work/t.cv" "$work/folder/n.cv" --block=2
+    grep -vx 'sync t.cv' "$work/calls" >"$work/of_new"
+    mv "$work/of_new" "$work/calls"
+    made 'sync folder' "$(creation n.cv)" "$(commit n.cv 11 30 01)" "$(commit n.cv 41 22 01)" 'answer 14'
+)
+
 # Not even the bytes that are there already.
 commands_that_read_write_nothing() (
     has_calls || exit $is_skipped

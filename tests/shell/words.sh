@@ -119,7 +119,7 @@ usage_needs_no_standard_error() (
 )
 
 the_program_tells_of_itself() (
-    for command in image show play create load append serve check stat list count find set resize clear fold upgrade; do
+    for command in image show play create load append serve check stat list count find set resize clear fold upgrade copy; do
         run help $command
         [ "$status" -eq 0 ]
         [ ! -s "$err" ]

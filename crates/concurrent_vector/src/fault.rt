@@ -27,8 +27,8 @@ pub enum Fault {
     /// A vault refused, or its disk failed.
     #[error("a vault refused: {0}")]
     Vault(VaultFault),
-    /// A file wasn't upgraded.
-    #[error("not upgraded: {0}")]
+    /// A file wasn't copied or upgraded.
+    #[error("no new file: {0}")]
     Upgrade(UpgradeFault),
     /// A growth, or a phase, was refused.
     #[error("a growth was refused: {0}")]

@@ -15,6 +15,7 @@
 //! | know what a crash can't take any more | `Live::await_receipt`, `Live::settled` |
 //! | read meanwhile | `Live::look`, then `get`, `piece`, `pieces`, `pieces_from`; `Live::snapshot` for many reads |
 //! | change records in place | `Vault::change`, `change_runs`; `begin_fold`, `settle` |
+//! | have a shorter file, or one of another version | `copy`, `upgrade` |
 //! | search | `Vault::count_where`, `find_first`, with a `Pick` |
 //!
 //! A refusal is the call's own enum; `Fault` is any of them, for a program that tells it and ends. The long guide is
@@ -40,5 +41,5 @@ pub use record_core::{Flagged, PAYLOAD_LIMIT, Pair, RECORD_LIMIT, Record};
 pub use search_core::{Equals, Pick, count_where, find_first};
 pub use segment_core::{Format, ScanFault};
 pub use vault_core::{
-    Gathering, UpgradeFault, Vault, VaultFault, VaultPieces, gather, greatest_piece, upgrade,
+    Gathering, UpgradeFault, Vault, VaultFault, VaultPieces, copy, gather, greatest_piece, upgrade,
 };

@@ -7,12 +7,13 @@ use Rattle.text_core.specs.Text.{Spelling}
 use Rattle.files_core.specs.declared.ended.Ended.{Ended}
 use Rattle.files_core.specs.declared.ended.Ended.TheVariants.{Done, OutputFailed, Refused}
 use Rattle.files_core.specs.declared.fault.FileFault.{FileFault}
+use Rattle.segment_core.specs.declared.format.Format.{Format}
 use Rattle.stat_core.specs.declared.telling.StatEnded.{StatEnded}
 use Rattle.stat_core.specs.declared.telling.StatEnded.TheVariants as stat_ends
 use Rattle.stat_core.specs.declared.writing.Form.{Form}
 use Rattle.serve_core.specs.declared.fault.ServeFault.{ServeFault}
 use Rattle.words_core.specs.declared.request.FileTask.{FileTask}
-use Rattle.words_core.specs.declared.request.FileTask.TheVariants.{Create, Load, Append, Check, List as Listed, Count, Find, Set, Resize, Clear, Fold, Upgrade, Serve}
+use Rattle.words_core.specs.declared.request.FileTask.TheVariants.{Create, Load, Append, Check, List as Listed, Count, Find, Set, Resize, Clear, Fold, Upgrade, Copy, Serve}
 use Rattle.words_core.specs.declared.request.RecordType.{RecordType}
 use Rattle.words_core.specs.declared.request.RecordType.TheVariants.{U32, U64, I64, Pair, Flagged}
 use Rattle.words_core.specs.declared.request.Request.{Request}
@@ -20,7 +21,7 @@ use Rattle.sentences.specs.declared.complaint.Complaint.{Complaint}
 use Rattle.text_core.specs.declared.status.Status.{Status}
 use Rattle.text_core.specs.declared.status.Status.TheVariants as statuses
 use Rattle.filing_core.specs.Complaints.{Disk, IsLeftAlone, IsStatStatus, IsStatusOf}
-use Rattle.filing_core.specs.Commands.{IsCommandRun, IsEngineDone, IsOverFile, IsServedAs, IsStatRun}
+use Rattle.filing_core.specs.Commands.{IsCommandRun, IsEngineDone, IsNewFileRun, IsOverFile, IsServedAs, IsStatRun}
 use Rattle.cvec.specs.Runs.{IsAskedRun, IsComplaintRun, IsToldRun, IsTypedCommandRun}
 
 -- a command doesn't end so
@@ -58,6 +59,13 @@ module _ {R : Type 0} (form : Encoding R) (old new : Option (List ℕ)) (filed :
   no_usage_served left growths (Ok all) (inr written) = subst IsNoUsage (sym written.0) tt
   no_usage_served left growths (Err fault) told = subst IsNoUsage (sym told.1) tt
 
+  no_usage_of_new : (format : Option Format) (IsMade : Disk → Disk → Disk → Disk → List ℕ → Type 0) (IsUnmade : Disk → Disk → Disk → Disk → FileFault → Type 0)
+      → IsNewFileRun form old new filed format IsMade IsUnmade → IsNoUsage filed
+  no_usage_of_new format IsMade IsUnmade (inl shut) = no_usage_alone old new filed _ shut
+  no_usage_of_new format IsMade IsUnmade (inr (inl shut)) = no_usage_alone old new filed _ shut
+  no_usage_of_new format IsMade IsUnmade (inr (inr (inl taken))) = subst IsNoUsage (sym taken.told) tt
+  no_usage_of_new format IsMade IsUnmade (inr (inr (inr done))) = no_usage_of_status _ done.ended filed done.told
+
   no_usage_of_task : (spelling : Spelling R) (task : FileTask) (input : Option (List ℕ)) → IsCommandRun form spelling task input old new filed → IsNoUsage filed
   no_usage_of_task spelling (Create format over) input run = no_usage_over _ _ run
   no_usage_of_task spelling (Load growers) input run = no_usage_over _ _ run
@@ -71,10 +79,8 @@ module _ {R : Type 0} (form : Encoding R) (old new : Option (List ℕ)) (filed :
   no_usage_of_task spelling (Resize len filler) input run = no_usage_over _ _ run
   no_usage_of_task spelling Clear input run = no_usage_over _ _ run
   no_usage_of_task spelling Fold input run = no_usage_over _ _ run
-  no_usage_of_task spelling (Upgrade name) input (inl shut) = no_usage_alone old new filed _ shut
-  no_usage_of_task spelling (Upgrade name) input (inr (inl shut)) = no_usage_alone old new filed _ shut
-  no_usage_of_task spelling (Upgrade name) input (inr (inr (inl taken))) = subst IsNoUsage (sym taken.told) tt
-  no_usage_of_task spelling (Upgrade name) input (inr (inr (inr done))) = no_usage_of_status _ done.ended filed done.told
+  no_usage_of_task spelling (Upgrade name) input run = no_usage_of_new _ _ _ run
+  no_usage_of_task spelling (Copy name format block) input run = no_usage_of_new _ _ _ run
   no_usage_of_task spelling (Serve clients) input (inl unserved) = no_usage_alone old new filed _ unserved
   no_usage_of_task spelling (Serve clients) input (inr (inl shut)) = no_usage_alone old new filed _ shut
   no_usage_of_task spelling (Serve clients) input (inr (inr served)) = no_usage_served served.left served.growths served.served served.told

@@ -32,15 +32,15 @@ use Rattle.files_core.specs.Folding.{IsFolded}
 use Rattle.files_core.specs.Listing.{IsWindowListed}
 use Rattle.files_core.specs.Opened.{CommandOnlyReads}
 use Rattle.files_core.specs.Searching.{TellsCount, TellsFirst, TestsFor}
-use Rattle.files_core.specs.Texts.{appended_line, checked_line, created_line, folded_line, found_line, loaded_line, number_line, ok_line, upgraded_line}
+use Rattle.files_core.specs.Texts.{appended_line, checked_line, copied_line, created_line, folded_line, found_line, loaded_line, number_line, ok_line, upgraded_line}
 
 -- ---- lines
 
 lines : (created_line ≡ codes "created\n") × (ok_line ≡ codes "ok\n") × (number_line 10 ≡ codes "10\n") × (found_line None ≡ codes "none\n") × (found_line (Some 0) ≡ codes "0\n")
     × (folded_line 2 ≡ codes "folded 2\n") × (upgraded_line 3 ≡ codes "upgraded size 3\n") × (loaded_line 2 5 ≡ codes "loaded 2 growths, size 5\n")
-    × (appended_line 2 5 ≡ codes "appended 2 growths, size 5\n")
+    × (appended_line 2 5 ≡ codes "appended 2 growths, size 5\n") × (copied_line 3 ≡ codes "copied size 3\n")
 unfolding digits
-lines = (refl, refl, refl, refl, refl, refl, refl, refl, refl)
+lines = (refl, refl, refl, refl, refl, refl, refl, refl, refl, refl)
 
 -- ---- searches: of four records, two of which are the one wanted
 

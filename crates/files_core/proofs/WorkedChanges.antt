@@ -8,6 +8,9 @@ use Rattle.disk_core.specs.State.{State, now, settled, IsImage}
 use Rattle.disk_core.specs.declared.fault.DiskFault.{DiskFault}
 use Rattle.disk_core.specs.declared.fault.DiskFault.TheVariants.{Sync}
 use Rattle.disk_core.proofs.ImageLemmas.{settled_image}
+use Rattle.std.specs.Prelude.{Option, Some, None}
+use Rattle.std.specs.declared.num.NonZeroU32.{NonZeroU32}
+use Rattle.segment_core.specs.declared.format.Format.{Format}
 use Rattle.segment_core.specs.declared.format.Format.TheVariants.{One, Two}
 use Rattle.segment_core.specs.Vector.{HasVector}
 use Rattle.segment_core.specs.Written.{group_frame}
@@ -34,8 +37,9 @@ use Rattle.files_core.specs.Changing.{IsSet, IsResized, IsCleared, HasWorked, Is
 use Rattle.files_core.specs.Creating.{IsCreated, IsCreateRefusal}
 use Rattle.files_core.specs.Given.{given_from}
 use Rattle.files_core.specs.Opened.{IsNotOpened, IsOpenedOn}
-use Rattle.files_core.specs.Texts.{upgraded_line}
-use Rattle.files_core.specs.Upgraded.{IsGreatestPiece, IsUpgraded, AreCallsBefore, failed_before}
+use Rattle.files_core.specs.Texts.{copied_line, upgraded_line}
+use Rattle.files_core.specs.Upgraded.{HasCopied, IsCopyCommandFault, IsUpgraded, AreCallsBefore, failed_before}
+use Rattle.vault_core.specs.Upgrading.{IsGreatestPiece}
 
 abbrev run : ℕ → ℕ → Run
 run start count = record { start = start; count = count }
@@ -272,10 +276,10 @@ module _ (form : Encoding ℕ) (small : form.width < 2 ^ 16) (one two : List ℕ
   -- ---- upgrades
 
   -- records of 8 bytes: 8 bytes and 2,097,151 of them take 16 MiB
-  greatest_of_eight : IsGreatestPiece 8 2097151
+  greatest_of_eight : IsGreatestPiece Two 8 2097151
   greatest_of_eight n = (λ few. omega (arith, few), λ fits. omega (arith, fits))
 
-  no_other_greatest : (piece : ℕ) → IsGreatestPiece 8 piece → piece ≡ 2097151
+  no_other_greatest : (piece : ℕ) → IsGreatestPiece Two 8 piece → piece ≡ 2097151
   no_other_greatest piece is =
       let least : 2097151 ≤ piece = (is 2097151).1 (omega arith) in
       let most : 2097152 ≤ piece → ⊥ = λ more. (let fits = (is 2097152).0 more in omega (arith, fits)) in
@@ -291,7 +295,7 @@ module _ (form : Encoding ℕ) (small : form.width < 2 ^ 16) (one two : List ℕ
   unfolding digits
   told_two left_new text so = so.told ∙ ap (λ (rs : List ℕ). upgraded_line (length rs)) (was_two left_new text so)
 
-  new_disk : (left_new : Disks) (text : List ℕ) (so : Upgraded two left_new text) → (so.vault.pen.disk ≡ left_new) × IsGreatestPiece form.width so.piece
+  new_disk : (left_new : Disks) (text : List ℕ) (so : Upgraded two left_new text) → (so.vault.pen.disk ≡ left_new) × IsGreatestPiece Two form.width so.piece
   new_disk left_new text so = (so.disk_is, so.greatest)
 
   not_one_of_two : (text : List ℕ) → Upgraded two (settled one ∷ []) text → ⊥
@@ -305,6 +309,44 @@ module _ (form : Encoding ℕ) (small : form.width < 2 ^ 16) (one two : List ℕ
       let first = (sound_header One form.width two file.0 small file.1.framed).names in
       let second = (sound_header Two form.width two frames small of_two.framed).names in
       absurd (let clash = sym first ∙ second in cc)
+
+  -- ---- copies
+
+  module _ (format : Option Format) (block : Option NonZeroU32) where
+    abbrev Copied : List ℕ → Disks → List ℕ → Type 0
+    Copied bytes left_new text = HasCopied form known itself known itself no_fault (settled bytes ∷ []) nothing (settled bytes ∷ []) left_new format block text
+
+    had_two : (left_new : Disks) (text : List ℕ) (so : Copied two left_new text) → list_of so.vault ≡ 5 ∷ 6 ∷ []
+    had_two left_new text so =
+        let file = so.copied.file tt in OpensTo_same form two (list_of so.vault) (5 ∷ 6 ∷ []) small (record { format = so.copied.own; frames = file.0; vector = file.1 }) opens_two
+
+    told_two_copied : (left_new : Disks) (text : List ℕ) → Copied two left_new text → text ≡ codes "copied size 2\n"
+    unfolding digits
+    told_two_copied left_new text so = so.told ∙ ap (λ (rs : List ℕ). copied_line (length rs)) (had_two left_new text so)
+
+    not_one_copied : (text : List ℕ) → Copied two (settled one ∷ []) text → ⊥
+    not_one_copied text so =
+        let opens = so.copied.copied.opens tt one (subst (λ disk. IsImage (now disk) one) (sym so.disk_is) (settled_image one)) in
+        omega (arith, as_many one (list_of so.vault) (5 ∷ []) opens opens_one, ap length (had_two (settled one ∷ []) text so))
+
+    never_for_its_version : (old left left_new : Disks) → IsCopyCommandFault form known itself known itself no_fault old nothing left left_new format block (told.Upgrade NotOld) → ⊥
+    never_for_its_version old left left_new so = so
+
+  -- a file of version 1 has a copy of version 1, unless another is asked for
+  of_its_version : (block : Option NonZeroU32) (left_new : Disks) (text : List ℕ) (frames : List Frame) (records : List ℕ) → HasVector One form two frames records
+      → (so : Copied None block two left_new text) → so.vault.pen.shape ≡ shape_of One form
+  of_its_version block left_new text frames records of_one so =
+      let file = so.copied.file tt in
+      let first = (sound_header so.copied.own form.width two file.0 small file.1.framed).names in
+      let second = (sound_header One form.width two frames small of_one.framed).names in
+      so.copied.copied.written.shape_is ∙ ap (λ f. shape_of f form) (own_is so.copied.own (sym first ∙ second))
+    where
+      own_is : (own : Format) → Some own ≡ Some One → own ≡ One
+      own_is One same = refl
+      own_is Two same = absurd cc
+
+  of_the_asked_version : (block : Option NonZeroU32) (bytes : List ℕ) (left_new : Disks) (text : List ℕ) (so : Copied (Some Two) block bytes left_new text) → so.vault.pen.shape ≡ shape_of Two form
+  of_the_asked_version block bytes left_new text so = so.copied.copied.written.shape_is
 
 -- the calls of the old disk that a refusal tells
 upgrade_calls : (n : ℕ) → AreCallsBefore 56 n (told.Upgrade NotOld) → (2 ≤ n) × (n ≤ 3)

@@ -1,10 +1,10 @@
 -- What a file may be made over, worked by hand: a file of version 1 whose records have 8 bytes.
 use Rattle.std.proofs.Common.{◌≡◌, ◌<◌, ◌≤◌, ◌⊎◌, ◌++◌, ◌∷◌, [], ℕ, zero, suc, inl, inr, refl, lit≤, lit<, arith}
-use Rattle.std.specs.Prelude.{codes, slice_index}
+use Rattle.std.specs.Prelude.{codes, slice_index, Some, None}
 use Rattle.segment_core.specs.declared.format.Shape.{Shape}
-use Rattle.segment_core.specs.declared.format.Format.TheVariants.{One}
+use Rattle.segment_core.specs.declared.format.Format.TheVariants.{One, Two}
 use Rattle.segment_core.specs.Frame.{header, closed_gate}
-use Rattle.files_core.specs.Vacant.{IsVacant}
+use Rattle.files_core.specs.Vacant.{IsVacant, IsVacantFor}
 
 abbrev shape : Shape
 shape = record { format = One; width = 8 }
@@ -34,3 +34,19 @@ an_open_gate vacant = elim (vacant.each 11 (lit< tt)) [ inl none ↦ (let e : 1 
 -- thirteen closed bytes are more than an empty file has
 too_long : IsVacant shape (0 ∷ 0 ∷ 0 ∷ 0 ∷ 0 ∷ 0 ∷ 0 ∷ 0 ∷ 0 ∷ 0 ∷ 0 ∷ 0 ∷ 0 ∷ []) → ⊥
 too_long vacant = let short : 13 ≤ 12 = vacant.short in omega (arith, short)
+
+-- ---- a file of this version, or of either
+
+-- the front of a file of version 2 that is closed
+abbrev two_front : List ℕ
+two_front = 0 ∷ 67 ∷ 86 ∷ 69 ∷ 67 ∷ 83 ∷ 69 ∷ 71 ∷ 2 ∷ []
+
+not_for_one : IsVacantFor (Some One) 8 two_front → ⊥
+not_for_one vacant = elim (vacant.each 8 (lit< tt)) [ inl none ↦ (let e : 2 ≡ 0 = none in omega (arith, e)) | inr made ↦ (let e : 2 ≡ 1 = made in omega (arith, e)) ]
+
+for_either : IsVacantFor (Some Two) 8 two_front → IsVacantFor None 8 two_front
+for_either vacant = inr vacant
+
+a_text_for_none : IsVacantFor None 8 (codes "secret=abc1\n") → ⊥
+a_text_for_none (inl vacant) = elim (vacant.each 0 (lit< tt)) [ inl none ↦ (let e : 115 ≡ 0 = none in omega (arith, e)) | inr made ↦ (let e : 115 ≡ 1 = made in omega (arith, e)) ]
+a_text_for_none (inr vacant) = elim (vacant.each 0 (lit< tt)) [ inl none ↦ (let e : 115 ≡ 0 = none in omega (arith, e)) | inr made ↦ (let e : 115 ≡ 1 = made in omega (arith, e)) ]

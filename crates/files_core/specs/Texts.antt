@@ -22,6 +22,9 @@ folded_line live = ended_line (codes "folded " ++ decimal live)
 abbrev pub upgraded_line : ℕ → List ℕ
 upgraded_line size = ended_line (codes "upgraded size " ++ decimal size)
 
+abbrev pub copied_line : ℕ → List ℕ
+copied_line size = ended_line (codes "copied size " ++ decimal size)
+
 abbrev pub loaded_line : ℕ → ℕ → List ℕ
 loaded_line growths size = ended_line ((codes "loaded " ++ decimal growths) ++ (codes " growths, size " ++ decimal size))
 

@@ -36,6 +36,6 @@ pub use resizing::{clear, resize};
 pub use searching::{count, find};
 pub use setting::set;
 pub use sounding::sound_front;
-pub use upgrading::upgrade_file;
+pub use upgrading::{copy_file, upgrade_file};
 pub use vacant::is_vacant;
 pub use watched::Watched;

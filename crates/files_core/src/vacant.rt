@@ -5,8 +5,7 @@ ghost use Rattle.disk_core.specs.Fault.{CountsFailures};
 ghost use Rattle.disk_core.specs.Calls.{bytes_of};
 ghost use Rattle.disk_core.specs.Moments.{LeavesOnly};
 ghost use Rattle.disk_core.specs.State.{now, IsImage};
-ghost use Rattle.segment_core.specs.Shape.{shape_of};
-ghost use Rattle.files_core.specs.Vacant.{IsZeroOrOf, IsVacant};
+ghost use Rattle.files_core.specs.Vacant.{IsZeroOrOf, IsVacant, IsVacantFor};
 
 use disk_core::{Disk, DiskFault};
 use record_core::{Record, width_of};
@@ -25,11 +24,33 @@ fn is_zero_or_of(made: &[u8], bytes: &[u8]) -> bool
     true
 }
 
-/// Whether nothing stands on the disk but what a stopped creation of such a file leaves: no more bytes than an empty file
-/// has, each of them 0 or the one that it gets. Anything else is somebody's, and a creation would write over a part of it. The
-/// disk is only read.
-pub fn is_vacant<R: Record, D: Disk>(disk: &mut D, format: Format) -> Result<bool, DiskFault>
-    ensures vacant { D.keeps disk.new → IfOk result (λ vacant. IsTrue vacant ↔ IsVacant (shape_of format R.form) (bytes_of (D.states disk.old))) }
+/// Whether the bytes are what a stopped creation of a file of this version leaves.
+fn is_front_of(format: Format, width: u16, bytes: &[u8]) -> bool
+    requires { length bytes.now ≤ 12 }
+    ensures { IsTrue result ↔ IsVacant (record { format = format; width = width }) bytes.now }
+{
+    is_zero_or_of(&empty_file(format, width), bytes)
+}
+
+/// The same, or where no version is said of a file of either.
+fn is_front(format: Option<Format>, width: u16, bytes: &[u8]) -> bool
+    requires { length bytes.now ≤ 12 }
+    ensures { IsTrue result ↔ IsVacantFor format width bytes.now }
+{
+    match format {
+        Some(format) => is_front_of(format, width, bytes),
+        None => is_front_of(Format::One, width, bytes) || is_front_of(Format::Two, width, bytes),
+    }
+}
+
+/// Whether nothing stands on the disk but what a stopped creation of such a file leaves, or where no version is said of one of
+/// either: no more bytes than an empty file has, each of them 0 or the one that it gets. Anything else is somebody's, and a
+/// creation would write over a part of it. The disk is only read.
+pub fn is_vacant<R: Record, D: Disk>(
+    disk: &mut D,
+    format: Option<Format>,
+) -> Result<bool, DiskFault>
+    ensures vacant { D.keeps disk.new → IfOk result (λ vacant. IsTrue vacant ↔ IsVacantFor format R.form.width (bytes_of (D.states disk.old))) }
     ensures same { D.keeps disk.new → now (D.states disk.new) ≡ now (D.states disk.old) }
     ensures images { D.keeps disk.new → LeavesOnly (D.states disk.old) (D.states disk.new) (IsImage (now (D.states disk.old))) }
     ensures faults { CountsFailures (λ _. 1) (D.faults disk.old) (D.faults disk.new) result }
@@ -42,5 +63,5 @@ pub fn is_vacant<R: Record, D: Disk>(disk: &mut D, format: Format) -> Result<boo
     let mut bytes = [0; EMPTY_FILE_LEN];
     let front = &mut bytes[..len as usize];
     disk.read_at(0, front)?;
-    Ok(is_zero_or_of(&empty_file(format, width_of::<R>() as u16), front))
+    Ok(is_front(format, width_of::<R>() as u16, front))
 }

@@ -1,9 +1,10 @@
 -- What each command over a file has done that its words ask for. The disk is that of the file which was opened, left is what its
 -- engine gave back; in between hold the engine's own clauses.
-use Rattle.std.specs.Prelude.{◌≡◌, ◌⊎◌, ◌+◌, ◌++◌, ℕ, Bool, true, false, List, [], length, codes, decimal, Option, IfErr, Result, Ok, Err}
+use Rattle.std.specs.Prelude.{◌≡◌, ◌⊎◌, ◌+◌, ◌++◌, ℕ, Bool, true, false, List, [], length, codes, decimal, Option, Some, IfErr, Result, Ok, Err}
 use Rattle.std.specs.Io.KnownBytes.{Appends, Keeps}
 use Rattle.std.specs.Option.{option_copied}
 use Rattle.std.specs.NonZero.{non_zero_u32_get}
+use Rattle.std.specs.declared.num.NonZeroU32.{NonZeroU32}
 use Rattle.record_core.specs.Bytes.{Encoding}
 use Rattle.disk_core.specs.Fault.{CountsFailures}
 use Rattle.disk_core.specs.State.{now, IsImage}
@@ -13,7 +14,6 @@ use Rattle.disk_core.specs.FileDisk.{KeepsSoFar, faults_of, states_of}
 use Rattle.disk_core.specs.declared.fault.DiskFault.{DiskFault}
 use Rattle.segment_core.specs.declared.format.Format.{Format}
 use Rattle.segment_core.specs.declared.format.Format.TheVariants.{Two}
-use Rattle.segment_core.specs.Shape.{shape_of}
 use Rattle.pen_core.specs.Opening.{OnlySyncs}
 use Rattle.pen_core.specs.declared.fault.PenFault.{PenFault}
 use Rattle.pen_core.specs.declared.fault.PenFault.TheVariants as pens
@@ -40,8 +40,8 @@ use Rattle.load_core.specs.Loading.{IsLoaded, IsLoadRefusal}
 use Rattle.files_core.specs.Opened.{CommandOnlyReads}
 use Rattle.files_core.specs.Searching.{TellsCount, TellsFirst}
 use Rattle.files_core.specs.Texts.{appended_line, created_line, loaded_line, ok_line}
-use Rattle.files_core.specs.Upgraded.{IsUpgraded, IsUpgradeRefusal, failed_upgrading}
-use Rattle.files_core.specs.Vacant.{IsVacant}
+use Rattle.files_core.specs.Upgraded.{HasCopied, IsCopyCommandFault, IsUpgraded, IsUpgradeRefusal, failed_upgrading}
+use Rattle.files_core.specs.Vacant.{IsVacantFor}
 use Rattle.files_core.specs.declared.appended.Appended.{Appended}
 use Rattle.files_core.specs.declared.asked.Window.{Window}
 use Rattle.files_core.specs.declared.ended.Ended.{Ended}
@@ -57,7 +57,7 @@ use Rattle.stat_core.specs.declared.writing.Form.{Form}
 use Rattle.sentences.specs.declared.complaint.Complaint.{Complaint}
 use Rattle.sentences.specs.declared.role.Role.TheVariants as roles
 use Rattle.words_core.specs.declared.request.FileTask.{FileTask}
-use Rattle.words_core.specs.declared.request.FileTask.TheVariants.{Create, Load, Append, Check, List as Listed, Count, Find, Set, Resize, Clear, Fold, Upgrade, Serve}
+use Rattle.words_core.specs.declared.request.FileTask.TheVariants.{Create, Load, Append, Check, List as Listed, Count, Find, Set, Resize, Clear, Fold, Upgrade, Copy, Serve}
 use Rattle.filing_core.specs.Asked.{IsWindow, IsNoWindow, IsNoRecord, IsNoSetting, IsNoResizing, AreInputGrowths, IsNoInput}
 use Rattle.filing_core.specs.Complaints.{Disk, IsJustOpened, IsComplaintOf, IsAppendComplaint, IsServeComplaint, IsStatusOf, IsStatStatus, IsRefusedBefore, IsLeftAlone, IsLeftUnopened, IsUnserved}
 
@@ -82,25 +82,25 @@ pub record IsEngineDone (filed : Result Status Complaint) (IsComplaint : Disk �
   pub told : IsStatusOf (IsComplaint left) ended filed
 
 module _ {R : Type 0} (form : Encoding R) where
-  -- a file of this version may be made on the disk, where nothing but what a stopped creation leaves stands there, or the words say so
-  abbrev pub MayBeMadeOn : Format → Bool → Disk → Disk → Type 0
+  -- a file of this version, or of either, may be made on the disk, where nothing but what a stopped creation leaves stands there, or the words say so
+  abbrev pub MayBeMadeOn : Option Format → Bool → Disk → Disk → Type 0
   MayBeMadeOn format true disk asked = asked ≡ disk
-  MayBeMadeOn format false disk asked = IsLookedAt disk asked × (KeepsSoFar asked → IsVacant (shape_of format form) (bytes_of (states_of disk)))
+  MayBeMadeOn format false disk asked = IsLookedAt disk asked × (KeepsSoFar asked → IsVacantFor format form.width (bytes_of (states_of disk)))
 
   -- it may not: something else stands there, or that couldn't be asked
-  abbrev pub IsTaken : Format → PenFault → Type 0
+  abbrev pub IsTaken : Option Format → PenFault → Type 0
   IsTaken format fault = (disk asked : Disk) × IsJustOpened disk
-      × (((fault ≡ pens.Exists) × (KeepsSoFar asked → ¬ (IsVacant (shape_of format form) (bytes_of (states_of disk)))))
+      × (((fault ≡ pens.Exists) × (KeepsSoFar asked → ¬ (IsVacantFor format form.width (bytes_of (states_of disk)))))
       ⊎ ((cause : DiskFault) × (fault ≡ pens.Disk cause) × (faults_of asked ≡ faults_of disk + 1)))
 
   -- `create` may not make it, as its words say
   abbrev pub IsPlaceTaken : Format → Bool → FileFault → Type 0
   IsPlaceTaken format true fault = ⊥
-  IsPlaceTaken format false fault = (cause : PenFault) × (fault ≡ Vault (vaults.Pen cause)) × IsTaken format cause
+  IsPlaceTaken format false fault = (cause : PenFault) × (fault ≡ Vault (vaults.Pen cause)) × IsTaken (Some format) cause
 
-  -- `upgrade` may not make its new file
-  abbrev pub IsNewTaken : FileFault → Type 0
-  IsNewTaken fault = (cause : PenFault) × (fault ≡ Unupgraded (upgrades.New (vaults.Pen cause))) × IsTaken Two cause
+  -- `upgrade` or `copy` may not make its new file
+  abbrev pub IsNewTaken : Option Format → FileFault → Type 0
+  IsNewTaken format fault = (cause : PenFault) × (fault ≡ Unupgraded (upgrades.New (vaults.Pen cause))) × IsTaken format cause
 
 module _ {R : Type 0} (form : Encoding R) (old new : Option (List ℕ)) (filed : Result Status Complaint) where
   -- The words or the input were refused, for such a reason; or the file wasn't opened; or the engine ended so over it.
@@ -181,12 +181,12 @@ module _ {R : Type 0} (form : Encoding R) (old new : Option (List ℕ)) (filed :
 
   -- `create`: an empty file of this version
   abbrev pub IsCreateRun : Format → Bool → Type 0
-  IsCreateRun format over = IsOverFile (IsPlaceTaken form format over) (λ disk left ended. (asked : Disk) × MayBeMadeOn form format over disk asked
+  IsCreateRun format over = IsOverFile (IsPlaceTaken form format over) (λ disk left ended. (asked : Disk) × MayBeMadeOn form (Some format) over disk asked
       × EndsAs (IsCreated form KeepsSoFar states_of faults_of format asked left) (IsCreateRefusal form KeepsSoFar states_of faults_of format asked left) ended
       × WritesText old new created_line ended)
 
-  -- `upgrade`: the vector of the old file stands in the new one, which was made where nothing else stood
-  pub record HasUpgraded : Type 0 where
+  -- An engine made a new file, of this version or of either, from the old one, where nothing else stood: so, or it is so refused.
+  pub record HasMadeNew (format : Option Format) (IsMade : Disk → Disk → Disk → Disk → List ℕ → Type 0) (IsUnmade : Disk → Disk → Disk → Disk → FileFault → Type 0) : Type 0 where
     pub disk : Disk
     pub made : Disk
     pub asked : Disk
@@ -194,16 +194,27 @@ module _ {R : Type 0} (form : Encoding R) (old new : Option (List ℕ)) (filed :
     pub left_new : Disk
     pub ended : Ended
     pub opened : IsJustOpened disk × IsJustOpened made
-    pub vacant : MayBeMadeOn form Two false made asked
+    pub vacant : MayBeMadeOn form format false made asked
     pub stays : KeepsSoFar left → OnlySyncs (states_of disk) (states_of left)
     pub faults_are : faults_of left ≡ faults_of disk + failed_upgrading ended
-    pub engine : EndsAs ((text : List ℕ) × IsUpgraded form KeepsSoFar states_of KeepsSoFar states_of faults_of disk asked left left_new text)
-        (IsUpgradeRefusal form KeepsSoFar states_of KeepsSoFar states_of faults_of disk asked left left_new) ended
-    pub writes : WritesAnswer old new (IsUpgraded form KeepsSoFar states_of KeepsSoFar states_of faults_of disk asked left left_new) ended
+    pub engine : EndsAs ((text : List ℕ) × IsMade disk asked left left_new text) (IsUnmade disk asked left left_new) ended
+    pub writes : WritesAnswer old new (IsMade disk asked left left_new) ended
     pub told : IsStatusOf (IsComplaintOf form left) ended filed
 
+  abbrev pub IsNewFileRun : Option Format → (Disk → Disk → Disk → Disk → List ℕ → Type 0) → (Disk → Disk → Disk → Disk → FileFault → Type 0) → Type 0
+  IsNewFileRun format IsMade IsUnmade = IsLeftUnopened old new filed roles.File
+      ⊎ (IsLeftUnopened old new filed roles.New ⊎ (IsRefusedBefore old new filed (IsNewTaken form format) ⊎ HasMadeNew format IsMade IsUnmade))
+
+  -- `upgrade`: the vector of the old file stands in the new one
   abbrev pub IsUpgradeRun : Type 0
-  IsUpgradeRun = IsLeftUnopened old new filed roles.File ⊎ (IsLeftUnopened old new filed roles.New ⊎ (IsRefusedBefore old new filed (IsNewTaken form) ⊎ HasUpgraded))
+  IsUpgradeRun = IsNewFileRun (Some Two) (IsUpgraded form KeepsSoFar states_of KeepsSoFar states_of faults_of)
+      (IsUpgradeRefusal form KeepsSoFar states_of KeepsSoFar states_of faults_of)
+
+  -- `copy`: the same, of this version or of that of the old one, in growths of so many records or of the most
+  abbrev pub IsCopyRun : Option Format → Option NonZeroU32 → Type 0
+  IsCopyRun format block = IsNewFileRun format
+      (λ disk asked left left_new. HasCopied form KeepsSoFar states_of KeepsSoFar states_of faults_of disk asked left left_new format block)
+      (λ disk asked left left_new. IsCopyCommandFault form KeepsSoFar states_of KeepsSoFar states_of faults_of disk asked left left_new format block)
 
   -- how `serve` ends whose engine gave that disk back, ended so, and settled so many growths
   abbrev pub IsServedAs : Disk → ℕ → Result (Unit {0}) ServeFault → Type 0
@@ -239,6 +250,7 @@ IsCommandRun form spelling (Resize len filler) input old new filed = IsResizeRun
 IsCommandRun form spelling Clear input old new filed = IsClearRun form old new filed
 IsCommandRun form spelling Fold input old new filed = IsFoldRun form old new filed
 IsCommandRun form spelling (Upgrade name) input old new filed = IsUpgradeRun form old new filed
+IsCommandRun form spelling (Copy name format block) input old new filed = IsCopyRun form old new filed format block
 IsCommandRun form spelling (Serve clients) input old new filed = IsServeRun form old new filed clients
 
 -- `stat`: the file's summary was told in that form

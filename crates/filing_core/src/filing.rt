@@ -1,13 +1,13 @@
 //! The commands over files: words first, then the input, then the file.
 
-ghost use Rattle.std.specs.Prelude.{◌≡◌, false, IfOk, IfErr};
+ghost use Rattle.std.specs.Prelude.{◌≡◌, false, Some, IfOk, IfErr};
 ghost use Rattle.std.specs.Option.{option_copied};
 ghost use Rattle.std.specs.NonZero.{non_zero_u32_get};
 ghost use Rattle.files_core.specs.Listing.{IsWindowListed};
 ghost use Rattle.files_core.specs.Watched.{below};
 ghost use Rattle.filing_core.specs.Asked.{IsNoWindow, IsWindow};
 ghost use Rattle.filing_core.specs.Complaints.{IsComplaintOf, IsJustOpened, IsUnopened};
-ghost use Rattle.filing_core.specs.Commands.{IsAppendRun, IsCheckRun, IsClearRun, IsCommandRun, IsCountRun, IsCreateRun, IsEngineDone, IsFindRun, IsFoldRun, IsListRun, IsLoadRun, IsNewTaken, IsPlaceTaken, IsResizeRun, IsServeRun, IsSetRun, IsTaken, IsUpgradeRun, MayBeMadeOn, Reads};
+ghost use Rattle.filing_core.specs.Commands.{IsAppendRun, IsCheckRun, IsClearRun, IsCommandRun, IsCopyRun, IsCountRun, IsCreateRun, IsEngineDone, IsFindRun, IsFoldRun, IsListRun, IsLoadRun, IsNewTaken, IsPlaceTaken, IsResizeRun, IsServeRun, IsSetRun, IsTaken, IsUpgradeRun, MayBeMadeOn, Reads};
 
 use crate::access::{Access, Opened, open};
 use crate::counting::CountingGate;
@@ -15,8 +15,8 @@ use crate::ending::{status_of_append, status_of_serve, status_on};
 use crate::serving::pipes_of;
 use disk_core::FileDisk;
 use files_core::{
-    Ended, FileFault, Progress, Watched, Window, check, clear, count, create, find, fold,
-    is_vacant, list, read_record, read_resizing, read_setting, read_window, resize, set,
+    Ended, FileFault, Progress, Watched, Window, check, clear, copy_file, count, create, find,
+    fold, is_vacant, list, read_record, read_resizing, read_setting, read_window, resize, set,
     upgrade_file,
 };
 use load_core::{Deck, append, load, read_growth_lines};
@@ -54,8 +54,9 @@ fn window_of(from: Option<&str>, count: Option<&str>) -> Result<Window, FileFaul
     read_window(bytes_of_word(from), bytes_of_word(count))
 }
 
-/// The disk, where nothing stands on it but what a stopped creation of such a file leaves.
-fn vacant<R: TextRecord>(disk: FileDisk, format: Format) -> Result<FileDisk, PenFault>
+/// The disk, where nothing stands on it but what a stopped creation of such a file leaves, or where no version is said of one
+/// of either.
+fn vacant<R: TextRecord>(disk: FileDisk, format: Option<Format>) -> Result<FileDisk, PenFault>
     ensures vacant { IfOk result (MayBeMadeOn R.form format false disk) }
     ensures taken { IsJustOpened disk → IfErr result (IsTaken R.form format) }
 {
@@ -73,31 +74,31 @@ fn takeable<R: TextRecord>(
     format: Format,
     over: bool,
 ) -> Result<FileDisk, FileFault>
-    ensures vacant { IfOk result (MayBeMadeOn R.form format over disk) }
+    ensures vacant { IfOk result (MayBeMadeOn R.form (Some format) over disk) }
     ensures taken { IsJustOpened disk → IfErr result (IsPlaceTaken R.form format over) }
 {
     if over {
         return Ok(disk);
     }
-    match vacant::<R>(disk, format) {
+    match vacant::<R>(disk, Some(format)) {
         Ok(disk) => Ok(disk),
         Err(fault) => Err(FileFault::Vault(VaultFault::Pen(fault))),
     }
 }
 
-/// The disk, where `upgrade` may make its new file on it.
-fn new_place<R: TextRecord>(disk: FileDisk) -> Result<FileDisk, FileFault>
-    ensures vacant { IfOk result (MayBeMadeOn R.form Format.Two false disk) }
-    ensures taken { IsJustOpened disk → IfErr result (IsNewTaken R.form) }
+/// The disk, where a new file of this version, or where none is said of either, may be made on it.
+fn new_place<R: TextRecord>(disk: FileDisk, format: Option<Format>) -> Result<FileDisk, FileFault>
+    ensures vacant { IfOk result (MayBeMadeOn R.form format false disk) }
+    ensures taken { IsJustOpened disk → IfErr result (IsNewTaken R.form format) }
 {
-    match vacant::<R>(disk, Format::Two) {
+    match vacant::<R>(disk, format) {
         Ok(disk) => Ok(disk),
         Err(fault) => Err(FileFault::Upgrade(UpgradeFault::New(VaultFault::Pen(fault)))),
     }
 }
 
-/// Takes away what an upgrade that was refused has written of its new file: that would look like a vector. Where the system
-/// doesn't, it stays, and the next upgrade refuses to write over it.
+/// Takes away what a copy that was refused has written of its new file: that would look like a vector. Where the system
+/// doesn't, it stays, and the next one refuses to write over it.
 fn take_back(file: &File, ended: Ended) {
     if let Ended::Refused(FileFault::Upgrade(UpgradeFault::New(_))) = ended {
         let _ = file.set_len(0);
@@ -323,10 +324,40 @@ impl<'a, F: Files<File = File> + Clock + AllocGlobal, P: Progress + Sync> Filing
             disk: new,
             lock: lock_of_new,
         } = open(self.files, new, Access::Makes, Role::New, self.wait)?;
-        let new = new_place::<R>(new)?;
+        let new = new_place::<R>(new, Some(Format::Two))?;
         let old = self.watched(old);
         let (old, _new, ended) = upgrade_file::<R, Watched<'_, FileDisk, P>, FileDisk, W>(
             self.alloc, old, new, writer,
+        );
+        take_back(&lock_of_new, ended);
+        status_on::<R>(self.alloc, old.into_disk(), ended)
+    }
+
+    fn copy<R: TextRecord, W: Write>(
+        &self,
+        new: &str,
+        format: Option<Format>,
+        piece: Option<NonZeroU32>,
+        writer: &mut W,
+    ) -> Result<Status, Complaint>
+        ensures { IsCopyRun R.form (W.contents writer.old) (W.contents writer.new) result format piece }
+    {
+        let Opened {
+            disk: old,
+            lock: _lock,
+        } = self.open(Access::Reads)?;
+        let Opened {
+            disk: new,
+            lock: lock_of_new,
+        } = open(self.files, new, Access::Makes, Role::New, self.wait)?;
+        let new = new_place::<R>(new, format)?;
+        let (old, _new, ended) = copy_file::<R, Watched<'_, FileDisk, P>, FileDisk, W>(
+            self.alloc,
+            self.watched(old),
+            new,
+            format,
+            piece,
+            writer,
         );
         take_back(&lock_of_new, ended);
         status_on::<R>(self.alloc, old.into_disk(), ended)
@@ -373,6 +404,7 @@ impl<'a, F: Files<File = File> + Clock + AllocGlobal, P: Progress + Sync> Filing
             FileTask::Clear => self.clear::<R, W>(writer),
             FileTask::Fold => self.fold::<R, W>(writer),
             FileTask::Upgrade(new) => self.upgrade::<R, W>(new, writer),
+            FileTask::Copy { new, format, block } => self.copy::<R, W>(new, format, block, writer),
             FileTask::Serve(seats) => self.serve::<R, W, E>(rt, seats, writer),
         }
     }

@@ -9,7 +9,7 @@ use words_core::{FileTask, FileWords};
 pub enum Role {
     /// FILE.
     File,
-    /// NEW of `upgrade`.
+    /// NEW of `upgrade` and `copy`.
     New,
     /// A pipe of `serve`.
     Pipe,
@@ -18,7 +18,7 @@ pub enum Role {
 /// The name of a file of the command.
 pub fn name_of<'a>(words: &FileWords<'a>, role: Role) -> &'a str {
     match (role, words.task) {
-        (Role::New, FileTask::Upgrade(new)) => new,
+        (Role::New, FileTask::Upgrade(new) | FileTask::Copy { new, .. }) => new,
         (Role::Pipe, _) => "a pipe of the clients",
         _ => words.file,
     }

@@ -121,11 +121,13 @@ pub fn write_stopped<W: fmt::Write>(
     )
 }
 
-/// Why the new file of `upgrade` isn't the vector of the old one, and what to do next.
+/// Why the new file of `upgrade` or `copy` isn't the vector of the old one, and what to do next.
 pub fn about_new(fault: VaultFault) -> &'static str {
     match fault {
         VaultFault::Pen(PenFault::Exists) =>
             "there is something in this file already, a vector or other bytes; it is as it was; remove it, or name another file",
+        VaultFault::Pen(PenFault::TooLarge) =>
+            "so many records are more than one frame takes; nothing was written to it; give a smaller --block",
         VaultFault::Pen(PenFault::Memory) =>
             "there is not enough memory; it may have a part; begin again on another new file",
         VaultFault::Pen(PenFault::Disk(DiskFault::Length | DiskFault::Read)) =>

@@ -23,6 +23,7 @@ mod Vaults
 pub mod CopyCounts
 pub mod Upgrades
 mod NewFiles
+mod OldDisks
 mod Worked
 mod WorkedUpgrades
 mod WorkedRefusals

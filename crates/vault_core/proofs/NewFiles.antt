@@ -8,7 +8,7 @@ use Rattle.disk_core.specs.State.{State, now}
 use Rattle.disk_core.specs.Calls.{bytes_of}
 use Rattle.disk_core.specs.Moments.{LeavesOnly, clock}
 use Rattle.disk_core.proofs.JoinedMoments.{LeavesOnly-before, Follows-later}
-use Rattle.segment_core.specs.declared.format.Format.TheVariants.{Two}
+use Rattle.segment_core.specs.declared.format.Format.{Format}
 use Rattle.segment_core.specs.declared.format.Shape.{Shape}
 use Rattle.segment_core.specs.Shape.{limit_of, shape_of}
 use Rattle.segment_core.specs.Raw.{AreCellsOf}
@@ -29,14 +29,14 @@ use Rattle.vault_core.specs.Upgrading.{HasWritten, IsCopied, IsCopyStop, IsUnbor
 use Rattle.vault_core.specs.Vault.{IsVault, vault_of}
 use Rattle.vault_core.proofs.Devices.{Device}
 
-module _ {R : Type 0} (form : Encoding R) (piece : ℕ) (records : List R) where
+module _ {R : Type 0} (format : Format) (form : Encoding R) (piece : ℕ) (records : List R) where
   -- no growth yet
-  empty_copied : (image : List ℕ) → IsUnbornOrEmpty (shape_of Two form) image → IsUnbornOrCopied form piece records image
+  empty_copied : (image : List ℕ) → IsUnbornOrEmpty (shape_of format form) image → IsUnbornOrCopied form piece records image
   empty_copied image is = elim is [
     | inl unborn ↦ inl unborn
     | inr opens ↦ inr (
       0,
-      Opens_typed form (shape_of Two form) [] [] image (copied piece records 0) refl
+      Opens_typed form (shape_of format form) [] [] image (copied piece records 0) refl
           (subst (λ n. AreCellsOf form [] (take n records)) zero_is (record { written = refl; read_again = tt })) opens,
     )
   ]
@@ -44,7 +44,7 @@ module _ {R : Type 0} (form : Encoding R) (piece : ℕ) (records : List R) where
       zero_is : 0 ≡ 0 * piece
       zero_is = omega arith
 
-  module _ (old mid : List State) (born : StaysUnbornOrEmpty (shape_of Two form) old mid) where
+  module _ (old mid : List State) (born : StaysUnbornOrEmpty (shape_of format form) old mid) where
     pub born_stays : StaysUnbornOrCopied form piece records old mid
     born_stays none past image left = empty_copied image (born none past image left)
 
@@ -58,15 +58,15 @@ module _ {R : Type 0} (form : Encoding R) (piece : ℕ) (records : List R) where
         ]
 
 -- All of the records stand in a pen's file, and these blocks have them.
-pub record HasAll {R D : Type 0} (form : Encoding R) (keeps : Type 0) (piece : ℕ) (records : List R) (pen : PenOf D) (blocks : List (List R)) : Type 0 where
+pub record HasAll {R D : Type 0} (format : Format) (form : Encoding R) (keeps : Type 0) (piece : ℕ) (records : List R) (pen : PenOf D) (blocks : List (List R)) : Type 0 where
   pub some : 1 ≤ piece
-  pub written : HasWritten form piece records (growth_count piece (length records)) pen
+  pub written : HasWritten format form piece records (growth_count piece (length records)) pen
   pub cells : keeps → AreCellsOf form pen.vector records
   pub list : joined blocks ≡ records
 
 -- the vault of a whole copy
-module _ {R D : Type 0} {form : Encoding R} {keeps : Type 0} {piece : ℕ} {records : List R} {pen : PenOf D} {blocks : List (List R)}
-    (has : HasAll form keeps piece records pen blocks) where
+module _ {R D : Type 0} {format : Format} {form : Encoding R} {keeps : Type 0} {piece : ℕ} {records : List R} {pen : PenOf D} {blocks : List (List R)}
+    (has : HasAll format form keeps piece records pen blocks) where
   all : copied piece records (growth_count piece (length records)) ≡ records
   all =
       let whole = (div_ceil_times (length records) piece has.some).0 in
@@ -143,27 +143,27 @@ pub record IsBegunOn {D : Type 0} (device : Device D) (shape : Shape) (disk mid 
   pub model : device.keeps mid → device.keeps disk
 
 -- What the commits of growths of these pieces, one after the other, make of it then.
-pub record IsGrownOn {R D : Type 0} (form : Encoding R) (device : Device D) (piece : ℕ) (records : List R) (disk mid new : D) : Type 0 where
-  pub begun : IsBegunOn device (shape_of Two form) disk mid
-  pub fits : 8 + piece * form.width ≤ limit_of Two
+pub record IsGrownOn {R D : Type 0} (format : Format) (form : Encoding R) (device : Device D) (piece : ℕ) (records : List R) (disk mid new : D) : Type 0 where
+  pub begun : IsBegunOn device (shape_of format form) disk mid
+  pub fits : 8 + piece * form.width ≤ limit_of format
   pub images : device.keeps new → LeavesOnly (device.states mid) (device.states new) (OpensToCopied form piece records)
   pub model : device.keeps new → device.keeps mid
 
-module _ {R D : Type 0} {form : Encoding R} {device : Device D} {piece : ℕ} {records : List R} {disk mid new : D}
-    (grown : IsGrownOn form device piece records disk mid new) where
+module _ {R D : Type 0} {format : Format} {form : Encoding R} {device : Device D} {piece : ℕ} {records : List R} {disk mid new : D}
+    (grown : IsGrownOn format form device piece records disk mid new) where
   made : device.keeps new → clock (device.states mid) ≡ clock (device.states disk) + length (calls_of_creation (bytes_of (device.states disk)))
   made kept = grown.begun.calls (grown.model kept)
 
   stays : device.keeps new → StaysUnbornOrCopied form piece records (device.states disk) (device.states new)
   stays kept =
-      copied_stays form piece records (device.states disk) (device.states mid) (grown.begun.born (grown.model kept)) (device.states new)
+      copied_stays format form piece records (device.states disk) (device.states mid) (grown.begun.born (grown.model kept)) (device.states new)
       (made kept) (grown.images kept)
 
   -- a commit was refused
   pub stopped_copied : (fault : PenFault)
       → IsCopyStop form (device.keeps new) (now (device.states new)) piece records (clock (device.states new) - clock (device.states mid)) fault
       → device.faults new ≡ device.faults mid + failed_calls fault
-      → IsCopied form device.keeps device.states device.faults piece records disk (Err (new, fault))
+      → IsCopied format form device.keeps device.states device.faults piece records disk (Err (new, fault))
   stopped_copied fault stop failed = record {
     list = tt;
     written = tt;
@@ -195,12 +195,12 @@ module _ {R D : Type 0} {form : Encoding R} {device : Device D} {piece : ℕ} {r
   }
 
 -- all growths stand in the file
-module _ {R D : Type 0} {form : Encoding R} {device : Device D} {piece : ℕ} {records : List R} {disk mid : D} {pen : PenOf D}
-    (grown : IsGrownOn form device piece records disk mid pen.disk) where
-  pub all_copied : {blocks : List (List R)} → HasAll form (device.keeps pen.disk) piece records pen blocks
+module _ {R D : Type 0} {format : Format} {form : Encoding R} {device : Device D} {piece : ℕ} {records : List R} {disk mid : D} {pen : PenOf D}
+    (grown : IsGrownOn format form device piece records disk mid pen.disk) where
+  pub all_copied : {blocks : List (List R)} → HasAll format form (device.keeps pen.disk) piece records pen blocks
       → clock (device.states pen.disk) ≡ clock (device.states mid) + growth_count piece (length records) * 4 → device.faults pen.disk ≡ device.faults mid
       → (device.keeps pen.disk → IsKept (device.states pen.disk) pen)
-      → IsCopied form device.keeps device.states device.faults piece records disk (Ok (vault_of form pen blocks))
+      → IsCopied format form device.keeps device.states device.faults piece records disk (Ok (vault_of form pen blocks))
   all_copied has later failed kept_is = record {
     list = has.list;
     written = has.written;

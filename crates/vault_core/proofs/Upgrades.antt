@@ -10,7 +10,7 @@ use Rattle.record_core.specs.Bytes.{Encoding}
 use Rattle.disk_core.specs.State.{now}
 use Rattle.disk_core.specs.Moments.{LeavesOnly, clock}
 use Rattle.disk_core.proofs.JoinedMoments.{LeavesOnly-start, LeavesOnly-join, LeavesOnly-weaker}
-use Rattle.segment_core.specs.declared.format.Format.TheVariants.{Two}
+use Rattle.segment_core.specs.declared.format.Format.{Format}
 use Rattle.segment_core.specs.Shape.{limit_of, shape_of}
 use Rattle.segment_core.specs.Frame.{Frame}
 use Rattle.segment_core.specs.Tally.{after}
@@ -37,11 +37,11 @@ use Rattle.vault_core.proofs.CopyCounts.{count_above, count_is, gate_more, copie
 -- ---- the pen between two growths
 
 -- The first so many growths stand in the file, and these records are left.
-pub record Writes {R D : Type 0} (form : Encoding R) (device : Device D) (piece : ℕ) (records : List R) (old new : PenOf D) (rest : List R) (growths : ℕ) : Type 0 where
+pub record Writes {R D : Type 0} (format : Format) (form : Encoding R) (device : Device D) (piece : ℕ) (records : List R) (old new : PenOf D) (rest : List R) (growths : ℕ) : Type 0 where
   pub some : 1 ≤ piece
-  pub fits : 8 + piece * form.width ≤ limit_of Two
+  pub fits : 8 + piece * form.width ≤ limit_of format
   pub few : length records ≤ 2 ^ 32
-  pub written : HasWritten form piece records growths new
+  pub written : HasWritten format form piece records growths new
   pub within : growths * piece < length records + piece
   pub rest_is : rest ≡ drop (growths * piece) records
   pub cells : device.keeps new.disk → AreCellsOf form new.vector (copied piece records growths)
@@ -50,11 +50,11 @@ pub record Writes {R D : Type 0} (form : Encoding R) (device : Device D) (piece 
   pub no_fault : device.faults new.disk ≡ device.faults old.disk
   pub model : device.keeps new.disk → device.keeps old.disk
 
-module _ {R D : Type 0} (form : Encoding R) (device : Device D) (piece : ℕ) (records : List R) where
+module _ {R D : Type 0} (format : Format) (form : Encoding R) (device : Device D) (piece : ℕ) (records : List R) where
   -- none yet
-  pub writes_none : (pen : PenOf D) → 1 ≤ piece → 8 + piece * form.width ≤ limit_of Two → length records ≤ 2 ^ 32
-      → IsNew (shape_of Two form) pen → (device.keeps pen.disk → IsEmpty pen) → (device.keeps pen.disk → IsKept (device.states pen.disk) pen)
-      → Writes form device piece records pen pen records 0
+  pub writes_none : (pen : PenOf D) → 1 ≤ piece → 8 + piece * form.width ≤ limit_of format → length records ≤ 2 ^ 32
+      → IsNew (shape_of format form) pen → (device.keeps pen.disk → IsEmpty pen) → (device.keeps pen.disk → IsKept (device.states pen.disk) pen)
+      → Writes format form device piece records pen pen records 0
   writes_none pen some fits few new empty kept = record {
     some = some;
     fits = fits;
@@ -89,23 +89,23 @@ module _ {R D : Type 0} (form : Encoding R) (device : Device D) (piece : ℕ) (r
       cells kept' = subst (λ n. AreCellsOf form pen.vector (take n records)) (sym zero_is) (record { written = (empty kept').vector_is; read_again = tt })
 
 -- The next chunk of the records that are left is taken.
-pub record Takes {R D : Type 0} (form : Encoding R) (device : Device D) (piece : ℕ) (records : List R)
+pub record Takes {R D : Type 0} (format : Format) (form : Encoding R) (device : Device D) (piece : ℕ) (records : List R)
     (old pen : PenOf D) (chunk left : List R) (growths : ℕ) : Type 0 where
   pub rest : List R
-  pub so_far : Writes form device piece records old pen rest growths
+  pub so_far : Writes format form device piece records old pen rest growths
   pub parts : rest ≡ chunk ++ left
   pub size : length chunk ≡ min piece (length rest)
   pub more : 0 < length rest
 
-pub takes : {R D : Type 0} {form : Encoding R} {device : Device D} {piece : ℕ} {records : List R}
-    {old pen : PenOf D} {rest : List R} {growths : ℕ} → Writes form device piece records old pen rest growths
+pub takes : {R D : Type 0} {format : Format} {form : Encoding R} {device : Device D} {piece : ℕ} {records : List R}
+    {old pen : PenOf D} {rest : List R} {growths : ℕ} → Writes format form device piece records old pen rest growths
     → (chunk left : List R) (most : ℕ) → most ≡ piece → rest ≡ chunk ++ left → length chunk ≡ min most (length rest) → 0 < length rest
-    → Takes form device piece records old pen chunk left growths
+    → Takes format form device piece records old pen chunk left growths
 takes {rest = rest} so_far chunk left most is parts size more =
     record { rest = rest; so_far = so_far; parts = parts; size = size ∙ ap (λ n. min n (length rest)) is; more = more }
 
-module _ {R D : Type 0} {form : Encoding R} {device : Device D} {piece : ℕ} {records : List R}
-    {old pen : PenOf D} {chunk left : List R} {growths : ℕ} (taken : Takes form device piece records old pen chunk left growths) where
+module _ {R D : Type 0} {format : Format} {form : Encoding R} {device : Device D} {piece : ℕ} {records : List R}
+    {old pen : PenOf D} {chunk left : List R} {growths : ℕ} (taken : Takes format form device piece records old pen chunk left growths) where
   before : growths * piece < length records
   before = let is = ap length taken.so_far.rest_is ∙ length-drop (growths * piece) records in omega (arith, is, taken.more)
 
@@ -170,7 +170,7 @@ module _ {R D : Type 0} {form : Encoding R} {device : Device D} {piece : ℕ} {r
       fitting : past ≡ false
       fitting =
           ap (λ s. nat_lt (limit_of s.format) (payload_len form.width (chunk ∷ []))) taken.so_far.written.shape_is
-          ∙ le-ltb (limit_of Two) (payload_len form.width (chunk ∷ [])) (
+          ∙ le-ltb (limit_of format) (payload_len form.width (chunk ∷ [])) (
           let product = mul-le (length chunk) form.width piece form.width (omega (arith, taken.size)) (omega arith) in
           omega (arith, payload, product, taken.so_far.fits))
 
@@ -287,7 +287,7 @@ module _ {R D : Type 0} {form : Encoding R} {device : Device D} {piece : ℕ} {r
       counts : CountsDone frame mid new
       counts = subst (λ (o : Option JobOf). MatchOption o (new ≡ mid) (λ job. CountsDone job.frame mid new)) begun.job_is settled
 
-      pub writes_more : ((r : R) → length (form.bytes_of r) ≡ form.width) → Writes form device piece records old new left (growths + 1)
+      pub writes_more : ((r : R) → length (form.bytes_of r) ≡ form.width) → Writes format form device piece records old new left (growths + 1)
       writes_more wide = record {
         some = taken.so_far.some;
         fits = taken.so_far.fits;
@@ -317,16 +317,16 @@ module _ {R D : Type 0} {form : Encoding R} {device : Device D} {piece : ℕ} {r
 
 -- ---- none is left
 
-module _ {R D : Type 0} {form : Encoding R} {device : Device D} {piece : ℕ} {records : List R}
-    {old new : PenOf D} {rest : List R} {growths : ℕ} (so_far : Writes form device piece records old new rest growths) (none : length rest ≡ 0) where
+module _ {R D : Type 0} {format : Format} {form : Encoding R} {device : Device D} {piece : ℕ} {records : List R}
+    {old new : PenOf D} {rest : List R} {growths : ℕ} (so_far : Writes format form device piece records old new rest growths) (none : length rest ≡ 0) where
   all : length records ≤ growths * piece
   all = let is = ap length so_far.rest_is ∙ length-drop (growths * piece) records in omega (arith, is, none)
 
   count : growths ≡ growth_count piece (length records)
   count = count_is piece (length records) growths so_far.some all so_far.within
 
-  pub writes_all : HasWritten form piece records (growth_count piece (length records)) new
-  writes_all = subst (λ n. HasWritten form piece records n new) count so_far.written
+  pub writes_all : HasWritten format form piece records (growth_count piece (length records)) new
+  writes_all = subst (λ n. HasWritten format form piece records n new) count so_far.written
 
   pub writes_cells : device.keeps new.disk → AreCellsOf form new.vector records
   writes_cells now = subst (AreCellsOf form new.vector) (take_all (growths * piece) records all) (so_far.cells now)

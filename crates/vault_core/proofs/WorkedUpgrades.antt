@@ -1,9 +1,13 @@
--- What the definitions of upgrades rule out, on the smallest examples.
+-- What the definitions of copies and upgrades rule out, on the smallest examples.
 use Rattle.std.proofs.Common.{◌≡◌, ℕ, ◌*◌, ◌<◌, ◌^◌, List, [], ◌∷◌, length, inl, inr, refl, ap, arith}
+use Rattle.std.specs.Prelude.{Option, Some, None}
+use Rattle.std.specs.declared.num.NonZeroU32.{NonZeroU32}
 use Rattle.std.proofs.lemmas.List.{length-take}
 use Rattle.record_core.specs.Bytes.{Encoding}
 use Rattle.disk_core.specs.State.{State, IsImage, settled}
 use Rattle.disk_core.specs.declared.fault.DiskFault.TheVariants.{Sync, Read}
+use Rattle.segment_core.specs.declared.format.Format.{Format}
+use Rattle.segment_core.specs.declared.format.Format.TheVariants.{One, Two}
 use Rattle.segment_core.proofs.OneVector.{sound_header}
 use Rattle.pen_core.specs.declared.fault.OpenFault.TheVariants.{Disk}
 use Rattle.pen_core.specs.declared.fault.PenFault.TheVariants as faults
@@ -12,7 +16,8 @@ use Rattle.pen_core.specs.Typed.{OpensTo}
 use Rattle.pen_core.proofs.Typed.{OpensTo_same}
 use Rattle.vault_core.specs.declared.fault.VaultFault.TheVariants.{Pen}
 use Rattle.vault_core.specs.declared.upgrading.UpgradeFault.TheVariants.{Old, NotOld, New}
-use Rattle.vault_core.specs.Upgrading.{AreOldCalls, IsCopyStop, IsFilledBehind, OpensToCopied, StaysUnbornOrCopied, copied, failed_of_old, gate_behind, growth_count}
+use Rattle.vault_core.specs.Upgrading.{AreOldCalls, IsCopyFault, IsCopyStop, IsFilledBehind, IsGreatestPiece, IsPieceOfCopy, OpensToCopied, StaysUnbornOrCopied, copied, failed_of_old}
+use Rattle.vault_core.specs.Upgrading.{format_of_copy, gate_behind, growth_count}
 
 -- ---- growths
 
@@ -36,6 +41,24 @@ no_half growths is = omega (arith, ap length is, length-take (growths * 2) three
 -- a gate stands behind the header, and behind each frame of one growth
 gates : (gate_behind 8 0 0 ≡ 11) × (gate_behind 8 1 1 ≡ 33) × (gate_behind 8 2 3 ≡ 63)
 gates = (refl, refl, refl)
+
+-- ---- copies
+
+-- the version that is asked for, or that of the old file
+versions : (format_of_copy (Some Two) One ≡ Two) × (format_of_copy None One ≡ One) × (format_of_copy None Two ≡ Two)
+versions = (refl, refl, refl)
+
+-- the longest growth of records of eight bytes, and no shorter one
+longest : IsGreatestPiece One 8 131071
+longest n = (λ within. omega (arith, within), λ fits. omega (arith, fits))
+
+no_shorter : IsPieceOfCopy None Two 8 131071 → ⊥
+no_shorter greatest = let within = (greatest 131072).1 (omega arith) in omega (arith, within)
+
+-- a copy is never refused for its file's version
+never_for_version : {R E : Type 0} (form : Encoding R) (known : Type 0) (bytes : List ℕ) (format : Option Format) (block : Option NonZeroU32) (keeps : E → Type 0) (states : E → List State)
+    (failures : E → ℕ) (new left : E) → IsCopyFault form known bytes format block keeps states failures new left NotOld → ⊥
+never_for_version form known bytes format block keeps states failures new left why = why
 
 -- ---- images
 

@@ -1,7 +1,9 @@
--- Upgrades: what is copied from a file of version 1 into a new one of version 2, and why it isn't.
-use Rattle.std.specs.Prelude.{◌≡◌, ◌⊎◌, ℕ, ◌+◌, ◌-◌, ◌*◌, ◌<◌, ◌≤◌, ◌^◌, List, length, take, Some, None, Err, IfOk, IfErr, MatchResult, false}
+-- Copies: what is copied from a file into a new one, and why it isn't. An upgrade is one from version 1 to version 2.
+use Rattle.std.specs.Prelude.{◌≡◌, ◌⊎◌, ℕ, ◌+◌, ◌-◌, ◌*◌, ◌<◌, ◌≤◌, ◌^◌, ◌↔◌, List, length, take, Option, Some, None, Err, IfOk, IfErr, MatchResult, false}
 use Rattle.std.specs.Int.{div_ceil}
 use Rattle.std.specs.declared.result.Result.{Result}
+use Rattle.std.specs.NonZero.{non_zero_u32_get}
+use Rattle.std.specs.declared.num.NonZeroU32.{NonZeroU32}
 use Rattle.record_core.specs.Bytes.{Encoding}
 use Rattle.disk_core.specs.State.{State, now, IsImage}
 use Rattle.disk_core.specs.Calls.{bytes_of}
@@ -45,9 +47,13 @@ copied piece records growths = take (growths * piece) records
 abbrev pub gate_behind : ℕ → ℕ → ℕ → ℕ
 gate_behind width growths len = 11 + growths * 14 + len * width
 
--- What a pen counts that has written the first so many growths into a new file, and has nothing in hand.
-pub record HasWritten {R D : Type 0} (form : Encoding R) (piece : ℕ) (records : List R) (growths : ℕ) (pen : PenOf D) : Type 0 where
-  pub shape_is : pen.shape ≡ shape_of Two form
+-- so many records are the longest growth of a file of that version
+abbrev pub IsGreatestPiece : Format → ℕ → ℕ → Type 0
+IsGreatestPiece format width piece = (n : ℕ) → (n ≤ piece) ↔ (8 + n * width ≤ limit_of format)
+
+-- What a pen counts that has written the first so many growths into a new file of that version, and has nothing in hand.
+pub record HasWritten {R D : Type 0} (format : Format) (form : Encoding R) (piece : ℕ) (records : List R) (growths : ℕ) (pen : PenOf D) : Type 0 where
+  pub shape_is : pen.shape ≡ shape_of format form
   pub tally_is : pen.tally ≡ record { size = length (copied piece records growths); changes = 0; folded = 0 }
   pub gate_is : pen.gate ≡ gate_behind form.width growths (length (copied piece records growths))
   pub no_job : pen.job ≡ None
@@ -91,10 +97,10 @@ pub record IsCopyStop {R : Type 0} (form : Encoding R) (keeps : Type 0) (left : 
 
 -- Why there is no new file, or not the whole one: a piece is past the longest payload; memory was refused; as a
 -- creation; or, behind its calls, as a commit.
-abbrev pub IsCopyRefusal : {R D : Type 0} → Encoding R → (D → Type 0) → (D → List State) → ℕ → List R → D → D → PenFault → Type 0
-IsCopyRefusal form keeps states piece records disk left fault =
-    ((fault ≡ faults.TooLarge) × (limit_of Two < 8 + piece * form.width) × (left ≡ disk))
-    ⊎ ((8 + piece * form.width ≤ limit_of Two)
+abbrev pub IsCopyRefusal : {R D : Type 0} → Format → Encoding R → (D → Type 0) → (D → List State) → ℕ → List R → D → D → PenFault → Type 0
+IsCopyRefusal format form keeps states piece records disk left fault =
+    ((fault ≡ faults.TooLarge) × (limit_of format < 8 + piece * form.width) × (left ≡ disk))
+    ⊎ ((8 + piece * form.width ≤ limit_of format)
     × (((fault ≡ faults.Memory) × (left ≡ disk))
     ⊎ ((IsCreateFault fault × (keeps left → AreCallsUntil (bytes_of (states disk)) (calls_of_creation (bytes_of (states disk))) fault (clock (states left) - clock (states disk))))
     ⊎ ((calls : ℕ) × (keeps left → clock (states left) ≡ clock (states disk) + length (calls_of_creation (bytes_of (states disk))) + calls)
@@ -102,13 +108,13 @@ IsCopyRefusal form keeps states piece records disk left fault =
 
 -- ---- the new file
 
--- What comes of copying these records into a new file on a disk: a vault with them, all settled; or the disk back, and
+-- What comes of copying these records into a new file of that version on a disk: a vault with them, all settled; or the disk back, and
 -- why. Where there was a file nothing is written.
-pub record IsCopied {R D : Type 0} (form : Encoding R) (keeps : D → Type 0) (states : D → List State) (failures : D → ℕ) (piece : ℕ)
+pub record IsCopied {R D : Type 0} (format : Format) (form : Encoding R) (keeps : D → Type 0) (states : D → List State) (failures : D → ℕ) (piece : ℕ)
     (records : List R) (disk : D) (result : Result (VaultOf R D) (D × PenFault)) : Type 0 where
   pub list : IfOk result (λ v. list_of v ≡ records)
-  pub written : IfOk result (λ v. HasWritten form piece records (growth_count piece (length records)) v.pen)
-  pub fits : IfOk result (λ _. 8 + piece * form.width ≤ limit_of Two)
+  pub written : IfOk result (λ v. HasWritten format form piece records (growth_count piece (length records)) v.pen)
+  pub fits : IfOk result (λ _. 8 + piece * form.width ≤ limit_of format)
   pub sure : IfOk result (λ v. keeps v.pen.disk → v.sure ≡ records)
   pub opens : IfOk result (λ v. keeps v.pen.disk → (image : List ℕ) → IsImage (now (states v.pen.disk)) image → OpensTo form image records)
   pub stays : MatchResult result
@@ -117,13 +123,44 @@ pub record IsCopied {R D : Type 0} (form : Encoding R) (keeps : D → Type 0) (s
   pub none_existed : IfOk result (λ v. keeps v.pen.disk → IsExisting (bytes_of (states disk)) → ⊥)
   pub existed : IfErr result (λ r. keeps r.0 → IsExisting (bytes_of (states disk)) → (r.0 ≡ disk) ⊎ WritesNothing (states disk) (states r.0))
   pub exists : IfErr result (λ r. keeps r.0 → r.1 ≡ faults.Exists → IsExisting (bytes_of (states disk)))
-  pub refused : IfErr result (λ r. IsCopyRefusal form keeps states piece records disk r.0 r.1)
+  pub refused : IfErr result (λ r. IsCopyRefusal format form keeps states piece records disk r.0 r.1)
   pub calls : IfOk result (λ v. keeps v.pen.disk → clock (states v.pen.disk) ≡ clock (states disk) + length (calls_of_creation (bytes_of (states disk))) + growth_count piece (length records) * 4)
   pub time : MatchResult result
       (λ v. clock (states v.pen.disk) ≤ clock (states disk) + 8 + growth_count piece (length records) * 4)
       (λ r. clock (states r.0) ≤ clock (states disk) + 8 + growth_count piece (length records) * 4)
   pub failed : MatchResult result (λ v. failures v.pen.disk ≡ failures disk) (λ r. failures r.0 ≡ failures disk + failed_calls r.1)
   pub model : MatchResult result (λ v. keeps v.pen.disk → keeps disk) (λ r. keeps r.0 → keeps disk)
+
+-- ---- any copy
+
+-- the version of the new file: the one that is asked for, or that of the old file
+abbrev pub format_of_copy : Option Format → Format → Format
+format_of_copy (Some format) own = format
+format_of_copy None own = own
+
+-- how many records its growths have: as many as are asked for, or the most
+abbrev pub IsPieceOfCopy : Option NonZeroU32 → Format → ℕ → ℕ → Type 0
+IsPieceOfCopy (Some asked) format width piece = piece ≡ non_zero_u32_get asked
+IsPieceOfCopy None format width piece = IsGreatestPiece format width piece
+
+-- These records are those of the file, known or not, that has these bytes; and this came of copying them.
+pub record IsCopyOfFile {R D : Type 0} (form : Encoding R) (known : Type 0) (bytes : List ℕ) (format : Option Format) (block : Option NonZeroU32) (keeps : D → Type 0)
+    (states : D → List State) (failures : D → ℕ) (records : List R) (disk : D) (result : Result (VaultOf R D) (D × PenFault)) : Type 0 where
+  pub own : Format
+  pub file : known → IsFileOfFormat own form bytes records
+  pub piece : ℕ
+  pub piece_is : IsPieceOfCopy block (format_of_copy format own) form.width piece
+  pub copied : IsCopied (format_of_copy format own) form keeps states failures piece records disk result
+
+-- Why nothing was copied, by what the old file is, with what is left of the new disk. It may have either version.
+abbrev pub IsCopyFault : {R E : Type 0} → Encoding R → Type 0 → List ℕ → Option Format → Option NonZeroU32 → (E → Type 0) → (E → List State) → (E → ℕ) → E → E → UpgradeFault
+    → Type 0
+IsCopyFault form known bytes format block keeps states failures new left (Old fault) = (known → IsOpenRefusal form bytes fault) × (left ≡ new)
+IsCopyFault form known bytes format block keeps states failures new left NotOld = ⊥
+IsCopyFault {R} form known bytes format block keeps states failures new left (New (Pen fault)) =
+    (records : List R) × IsCopyOfFile form known bytes format block keeps states failures records new (Err (left, fault))
+IsCopyFault form known bytes format block keeps states failures new left (New (Unsettled number)) = ⊥
+IsCopyFault form known bytes format block keeps states failures new left (New WrongPhase) = ⊥
 
 -- ---- the upgrade
 
@@ -132,7 +169,7 @@ abbrev pub IsUpgradeFault : {R E : Type 0} → Encoding R → Type 0 → List �
 IsUpgradeFault form known bytes keeps states failures piece new left (Old fault) = (known → IsOpenRefusal form bytes fault) × (left ≡ new)
 IsUpgradeFault {R} form known bytes keeps states failures piece new left NotOld = (known → (records : List R) × IsFileOfFormat Two form bytes records) × (left ≡ new)
 IsUpgradeFault {R} form known bytes keeps states failures piece new left (New (Pen fault)) =
-    (records : List R) × (known → IsFileOfFormat One form bytes records) × IsCopied form keeps states failures piece records new (Err (left, fault))
+    (records : List R) × (known → IsFileOfFormat One form bytes records) × IsCopied Two form keeps states failures piece records new (Err (left, fault))
 IsUpgradeFault form known bytes keeps states failures piece new left (New (Unsettled number)) = ⊥
 IsUpgradeFault form known bytes keeps states failures piece new left (New WrongPhase) = ⊥
 

@@ -25,5 +25,5 @@ mod vault;
 pub use ending::{Gathering, gather};
 pub use fault::VaultFault;
 pub use pieces::VaultPieces;
-pub use upgrading::{UpgradeFault, greatest_piece, upgrade};
+pub use upgrading::{UpgradeFault, copy, greatest_piece, upgrade};
 pub use vault::Vault;

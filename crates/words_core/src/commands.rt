@@ -13,9 +13,9 @@ const FORMATS: [&str; 2] = ["1", "2"];
 const FOR_GOOD: &str = "18446744073709551615";
 
 /// The commands over records, in the order in which usage tells them. `help` and `version` tell of the program.
-pub const COMMANDS: [&str; 17] = [
-    "image", "show", "play", "create", "load", "append", "serve", "upgrade", "check", "list",
-    "count", "find", "stat", "set", "resize", "clear", "fold",
+pub const COMMANDS: [&str; 18] = [
+    "image", "show", "play", "create", "load", "append", "serve", "upgrade", "copy", "check",
+    "list", "count", "find", "stat", "set", "resize", "clear", "fold",
 ];
 
 /// A command that takes the word of a type.
@@ -108,15 +108,24 @@ fn growing<'a>(alloc: Global, name: &'a str) -> Result<Command<'a>, AllocError> 
     match name {
         "load" => with_word(alloc, name, valued(alloc, "seats")),
         "append" => with_words(alloc, name, valued(alloc, "block"), valued(alloc, "every")),
-        "serve" => with_word(alloc, name, needed(alloc, "seats")),
-        _ => with_word(alloc, name, word(alloc, "NEW")),
+        _ => with_word(alloc, name, needed(alloc, "seats")),
     }
 }
 
-/// `create`, with the words that are its own.
-fn creating<'a>(alloc: Global, name: &'a str) -> Result<Command<'a>, AllocError> {
-    let format = valued(alloc, "format").value_parser(FORMATS.as_slice());
-    with_words(alloc, name, format, flag(alloc, "over"))
+/// The version of a file that is made.
+fn format<'a>(alloc: Global) -> Arg<'a> {
+    valued(alloc, "format").value_parser(FORMATS.as_slice())
+}
+
+/// A command that makes a file, with the words that are its own.
+fn making<'a>(alloc: Global, name: &'a str) -> Result<Command<'a>, AllocError> {
+    match name {
+        "create" => with_words(alloc, name, format(alloc), flag(alloc, "over")),
+        "upgrade" => with_word(alloc, name, word(alloc, "NEW")),
+        _ => with_words(alloc, name, word(alloc, "NEW"), format(alloc))?.arg(valued(
+            alloc, "block",
+        )),
+    }
 }
 
 /// A command that changes what is there, with the words that are its own.
@@ -145,8 +154,8 @@ fn help_command<'a>(alloc: Global) -> Result<Command<'a>, AllocError> {
 fn command_of<'a>(alloc: Global, name: &'a str) -> Result<Command<'a>, AllocError> {
     match name {
         "image" | "show" | "play" => typed(alloc, name),
-        "create" => creating(alloc, name),
-        "load" | "append" | "serve" | "upgrade" => growing(alloc, name),
+        "create" | "upgrade" | "copy" => making(alloc, name),
+        "load" | "append" | "serve" => growing(alloc, name),
         "check" | "list" | "count" | "find" => reading(alloc, name),
         "stat" => stat_command(alloc),
         "help" => help_command(alloc),

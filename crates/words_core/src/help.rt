@@ -5,23 +5,24 @@ ghost use Rattle.words_core.specs.Usage.{IsHelpOf};
 
 /// What the words may be, and an example.
 pub const HELP: &[u8] =
-    b"image TYPE                                 makes a segment file of group lines, and writes it as hex
-show TYPE                                  lists the records of a segment file, which is given as hex
-play TYPE                                  runs a script of steps over a disk in memory
-create TYPE FILE [--format=1|2] [--over]   makes a file with an empty vector
-load TYPE FILE [--seats=N]                 appends a growth for each line of the input
-append TYPE FILE [--block=N] [--every=MS]  the same for input of any length, a growth for N lines
-serve TYPE FILE --seats=N                  lets N other programs grow it, through pipes
-check TYPE FILE                            reads the file, and tells what it has
-stat FILE [--json]                         tells what any file has, without reading its records
-list TYPE FILE [--from=I] [--count=N]      writes its records, one a line
-count TYPE FILE --record=R                 counts the records that equal R
-find TYPE FILE --record=R                  writes the position of the first one
-set TYPE FILE START --records=R,R,..       replaces the records from START on
-resize TYPE FILE N --record=R              makes the length N, new records are R
-clear TYPE FILE                            takes all records away
-fold TYPE FILE                             puts live changes into their home bytes
-upgrade TYPE FILE NEW                      copies a vector to a new file of version 2
+    b"image TYPE                                     makes a segment file of group lines, and writes it as hex
+show TYPE                                      lists the records of a segment file, which is given as hex
+play TYPE                                      runs a script of steps over a disk in memory
+create TYPE FILE [--format=1|2] [--over]       makes a file with an empty vector
+load TYPE FILE [--seats=N]                     appends a growth for each line of the input
+append TYPE FILE [--block=N] [--every=MS]      the same for input of any length, a growth for N lines
+serve TYPE FILE --seats=N                      lets N other programs grow it, through pipes
+check TYPE FILE                                reads the file, and tells what it has
+stat FILE [--json]                             tells what any file has, without reading its records
+list TYPE FILE [--from=I] [--count=N]          writes its records, one a line
+count TYPE FILE --record=R                     counts the records that equal R
+find TYPE FILE --record=R                      writes the position of the first one
+set TYPE FILE START --records=R,R,..           replaces the records from START on
+resize TYPE FILE N --record=R                  makes the length N, new records are R
+clear TYPE FILE                                takes all records away
+fold TYPE FILE                                 puts live changes into their home bytes
+upgrade TYPE FILE NEW                          copies a vector to a new file of version 2
+copy TYPE FILE NEW [--format=1|2] [--block=N]  copies a vector to a new file, without what changes have left
 
 'cvec help COMMAND' tells of each, 'cvec version' of the program. --quiet: no progress on the terminal.
 --wait[=SECONDS]: where another command has FILE, its end is waited for, so long or for good.
@@ -260,6 +261,20 @@ Refused: file, old and FILE's first fault, not version 1, new exists (remove NEW
 faults of a write.
 ";
 
+const COPY: &[u8] = b"cvec copy TYPE FILE NEW [--format=1|2] [--block=N] [--quiet]
+
+Copies the vector of a file to a new file, without the frames that changes, folds and shrinks have left. NEW has the version
+of FILE, or the one that is given, and its growths have N records, or as many as a frame takes. FILE stays as it is; with
+'mv NEW FILE', while no command has one of them, NEW takes its place. One that was stopped is begun again, on another new
+file.
+
+  $ cvec copy u64 t.cv n.cv
+  copied size 3
+
+Refused: file, old and FILE's first fault, new exists (remove NEW, or name another file), new too large (a frame takes fewer
+than N records), and new with the faults of a write.
+";
+
 /// What is told of a command.
 pub fn help_of(command: &str) -> Option<&'static [u8]>
     ensures { IfSome result (λ text. IsHelpOf command.now text.now) }
@@ -280,6 +295,7 @@ pub fn help_of(command: &str) -> Option<&'static [u8]>
         "clear" => Some(CLEAR),
         "fold" => Some(FOLD),
         "upgrade" => Some(UPGRADE),
+        "copy" => Some(COPY),
         "stat" => Some(STAT),
         "serve" => Some(SERVE),
         _ => None,

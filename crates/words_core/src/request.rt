@@ -98,6 +98,13 @@ pub enum FileTask<'a> {
     Fold,
     /// The vector is copied to a new file of version 2, which has this name.
     Upgrade(&'a str),
+    /// The vector is copied to a new file of this name and version, else of the version that the file has: in growths of so
+    /// many records, else of as many as it takes.
+    Copy {
+        new: &'a str,
+        format: Option<Format>,
+        block: Option<NonZeroU32>,
+    },
     /// So many clients grow the vector through pipes.
     Serve(u16),
 }

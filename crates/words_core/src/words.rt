@@ -33,7 +33,7 @@ pub enum WordsFault {
     Usage,
     /// The number of seats is none from 1 to 64.
     Seats,
-    /// The number of lines of a block is none from 1 to 4294967295.
+    /// The number of lines of a block, or of records, is none from 1 to 4294967295.
     Block,
     /// The number of milliseconds that lines wait for more is none from 1 to 60000.
     Every,
@@ -109,13 +109,13 @@ fn seats_of(word: Option<&str>) -> Result<u16, WordsFault>
     }
 }
 
-/// How many lines a word asks for: a number from 1 on.
-fn block_of(word: Option<&str>) -> Result<NonZeroU32, WordsFault> {
+/// How many lines or records a word asks for, if there is one: a number from 1 on.
+fn block_of(word: Option<&str>) -> Result<Option<NonZeroU32>, WordsFault> {
     let Some(word) = word else {
-        return Ok(NonZeroU32::MIN);
+        return Ok(None);
     };
-    let lines = u32::parse(word.as_bytes()).ok_or(WordsFault::Block)?;
-    NonZeroU32::new(lines).ok_or(WordsFault::Block)
+    let block = u32::parse(word.as_bytes()).ok_or(WordsFault::Block)?;
+    Ok(Some(NonZeroU32::new(block).ok_or(WordsFault::Block)?))
 }
 
 /// How many milliseconds a word has lines wait for more: a number from 1 to 60000.
@@ -144,11 +144,12 @@ fn wait_of(word: Option<&str>) -> Result<u64, WordsFault>
     }
 }
 
-/// The version of a file that a word asks for.
-fn format_of(word: Option<&str>) -> Format {
+/// The version of a file that a word asks for, if there is one.
+fn format_of(word: Option<&str>) -> Option<Format> {
     match word {
-        Some("2") => Format::Two,
-        _ => Format::One,
+        Some("1") => Some(Format::One),
+        Some("2") => Some(Format::Two),
+        _ => None,
     }
 }
 
@@ -177,7 +178,7 @@ fn set_task<'a>(words: &ArgMatches<'a>) -> Option<FileTask<'a>> {
 fn worded_task<'a>(name: &str, words: &ArgMatches<'a>) -> Option<FileTask<'a>> {
     match name {
         "create" => Some(FileTask::Create {
-            format: format_of(words.get_str("format")),
+            format: format_of(words.get_str("format")).unwrap_or(Format::One),
             over: words.get_flag("over"),
         }),
         "list" => Some(FileTask::List {
@@ -195,7 +196,7 @@ fn worded_task<'a>(name: &str, words: &ArgMatches<'a>) -> Option<FileTask<'a>> {
 fn growing_task<'a>(name: &str, words: &ArgMatches<'a>) -> Result<FileTask<'a>, WordsFault> {
     match name {
         "append" => Ok(FileTask::Append {
-            block: block_of(words.get_str("block"))?,
+            block: block_of(words.get_str("block"))?.unwrap_or(NonZeroU32::MIN),
             every: every_of(words.get_str("every"))?,
         }),
         "load" => Ok(FileTask::Load(seats_of(words.get_str("seats"))?)),
@@ -203,10 +204,20 @@ fn growing_task<'a>(name: &str, words: &ArgMatches<'a>) -> Result<FileTask<'a>, 
     }
 }
 
+/// What the words of `copy` ask for.
+fn copy_task<'a>(words: &ArgMatches<'a>) -> Result<FileTask<'a>, WordsFault> {
+    Ok(FileTask::Copy {
+        new: words.get_str("NEW").ok_or(WordsFault::Usage)?,
+        format: format_of(words.get_str("format")),
+        block: block_of(words.get_str("block"))?,
+    })
+}
+
 /// The task over a file that a command's name and words ask for.
 fn file_task<'a>(name: &str, words: &ArgMatches<'a>) -> Result<FileTask<'a>, WordsFault> {
     match name {
         "load" | "append" | "serve" => growing_task(name, words),
+        "copy" => copy_task(words),
         "check" => Ok(FileTask::Check),
         "clear" => Ok(FileTask::Clear),
         "fold" => Ok(FileTask::Fold),

@@ -17,14 +17,17 @@ whole len zeros there read fits long value =
     let all : slice_range there 0 (length there) ≡ there = take_all (length there - 0) there (omega arith) in
     value ∙ ap (λ n. slice_range there 0 n) counts ∙ all
 
--- bytes that were read and compared with those of an empty file tell whether that may be made over them
-vacant : (shape : Shape) (made bytes read : List ℕ) (r : Bool) → length bytes ≤ 12 → read ≡ bytes → made ≡ header shape ++ closed_gate ∷ []
-    → (IsTrue r ↔ IsZeroOrOf made read) → (IsTrue r ↔ IsVacant shape bytes)
-vacant shape made bytes read r short is spelled tests =
-    let each : IsTrue r ↔ IsZeroOrOf (header shape ++ closed_gate ∷ []) bytes =
-    subst (λ (xs : List ℕ). IsTrue r ↔ IsZeroOrOf (header shape ++ closed_gate ∷ []) xs) is
-    (subst (λ (m : List ℕ). IsTrue r ↔ IsZeroOrOf m read) spelled tests) in
-    (λ holds. record { short = short; each = each.0 holds }, λ v. each.1 v.each)
+-- more bytes than an empty file has are none of a creation
+too_long : (format : Option Format) (width : ℕ) (bytes : List ℕ) → 12 < length bytes → IsVacantFor format width bytes → ⊥
+too_long (Some format) width bytes long vacant = let short = vacant.short in omega (arith, long, short)
+too_long None width bytes long (inl vacant) = let short = vacant.short in omega (arith, long, short)
+too_long None width bytes long (inr vacant) = let short = vacant.short in omega (arith, long, short)
+
+pub returns-then-len-clause-vacant : goal.returns-then-len-clause-vacant
+returns-then-len-clause-vacant g c = λ model.
+    let old : List ℕ = bytes_of (g.D.Disk.states c.args.disk.now) in
+    let long : c.in_ok-len.len ≡ length old = c.in_ok-len.ensures.value model in
+    (λ none. absurd none, λ vacant. absurd (too_long c.args.format g.R.Record.form.width old (subst (λ n. 12 < n) long c.if-len.true) vacant))
 
 pub returns-in_err-len-clause-images : goal.returns-in_err-len-clause-images
 returns-in_err-len-clause-images g c = λ model.
@@ -51,10 +54,8 @@ returns-clause-vacant g c = λ model.
     let read : c.read_at.new.out ≡ there =
     whole c.in_ok-len.len (0 ∷ 0 ∷ 0 ∷ 0 ∷ 0 ∷ 0 ∷ 0 ∷ 0 ∷ 0 ∷ 0 ∷ 0 ∷ 0 ∷ []) there c.read_at.new.out short
     (long ∙ ap length (sym same)) (c.in_ok-read_at.ensures.value model) in
-    let made : c.empty_file.result ≡ header (shape_of c.args.format g.R.Record.form) ++ closed_gate ∷ [] =
-    c.empty_file.ensures ∙ ap (λ (w : ℕ). header (record { format = c.args.format; width = w }) ++ closed_gate ∷ []) c.width_of.ensures.is in
-    vacant (shape_of c.args.format g.R.Record.form) c.empty_file.result old c.read_at.new.out c.is_zero_or_of.result
-    (subst (λ (n : ℕ). n ≤ 12) long short) (read ∙ same) made c.is_zero_or_of.ensures
+    subst (λ (w : ℕ). IsTrue c.is_front.result ↔ IsVacantFor c.args.format w old) c.width_of.ensures.is
+    (subst (λ (bytes : List ℕ). IsTrue c.is_front.result ↔ IsVacantFor c.args.format c.width_of.result bytes) (read ∙ same) c.is_front.ensures)
 
 pub returns-clause-images : goal.returns-clause-images
 returns-clause-images g c = λ model.

@@ -19,8 +19,8 @@ loop-growth-init g c =
       search rules,
       0,
       subst (λ (rs : List g.row.R.Denot).
-          Writes g.R.Record.form (device_of g.D.Disk.keeps g.D.Disk.states g.D.Disk.faults) c.args.piece c.args.records.now c.args.pen.now c.args.pen.now rs 0) (sym rest)
-          (writes_none g.R.Record.form (device_of g.D.Disk.keeps g.D.Disk.states g.D.Disk.faults) c.args.piece c.args.records.now
+          Writes c.args.format g.R.Record.form (device_of g.D.Disk.keeps g.D.Disk.states g.D.Disk.faults) c.args.piece c.args.records.now c.args.pen.now c.args.pen.now rs 0) (sym rest)
+          (writes_none c.args.format g.R.Record.form (device_of g.D.Disk.keeps g.D.Disk.states g.D.Disk.faults) c.args.piece c.args.records.now
           c.args.pen.now c.requires.some c.requires.fits c.requires.few c.requires.new c.requires.empty c.requires.kept),
     )
 

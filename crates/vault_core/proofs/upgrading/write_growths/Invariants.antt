@@ -9,4 +9,4 @@ invariant-loop-growth g l =
     (goal.iterator-loop-growth g).can_next l.growth-iterator
     × (goal.iterator-loop-growth g).is_finite l.growth-iterator
     × (chunks_size l.growth-iterator ≡ l.fn.piece)
-    × (growths : ℕ) × Writes g.R.Record.form (device_of g.D.Disk.keeps g.D.Disk.states g.D.Disk.faults) l.fn.piece l.fn.records l.fn.pen l.pen (chunks_rest l.growth-iterator) growths
+    × (growths : ℕ) × Writes l.fn.format g.R.Record.form (device_of g.D.Disk.keeps g.D.Disk.states g.D.Disk.faults) l.fn.piece l.fn.records l.fn.pen l.pen (chunks_rest l.growth-iterator) growths
