@@ -339,11 +339,7 @@ module _ (form : Encoding ℕ) (small : form.width < 2 ^ 16) (one two : List ℕ
       let file = so.copied.file tt in
       let first = (sound_header so.copied.own form.width two file.0 small file.1.framed).names in
       let second = (sound_header One form.width two frames small of_one.framed).names in
-      so.copied.copied.written.shape_is ∙ ap (λ f. shape_of f form) (own_is so.copied.own (sym first ∙ second))
-    where
-      own_is : (own : Format) → Some own ≡ Some One → own ≡ One
-      own_is One same = refl
-      own_is Two same = absurd cc
+      so.copied.copied.written.shape_is ∙ ap (λ f. shape_of f form) (sym first ∙ second)
 
   of_the_asked_version : (block : Option NonZeroU32) (bytes : List ℕ) (left_new : Disks) (text : List ℕ) (so : Copied (Some Two) block bytes left_new text) → so.vault.pen.shape ≡ shape_of Two form
   of_the_asked_version block bytes left_new text so = so.copied.copied.written.shape_is

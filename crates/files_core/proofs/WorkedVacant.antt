@@ -1,5 +1,5 @@
 -- What a file may be made over, worked by hand: a file of version 1 whose records have 8 bytes.
-use Rattle.std.proofs.Common.{◌≡◌, ◌<◌, ◌≤◌, ◌⊎◌, ◌++◌, ◌∷◌, [], ℕ, zero, suc, inl, inr, refl, lit≤, lit<, arith}
+use Rattle.std.proofs.Common.{◌≡◌, ◌<◌, ◌≤◌, ◌⊎◌, ◌++◌, ◌∷◌, [], ℕ, List, zero, suc, inl, inr, refl, lit≤, lit<, arith}
 use Rattle.std.specs.Prelude.{codes, slice_index, Some, None}
 use Rattle.segment_core.specs.declared.format.Shape.{Shape}
 use Rattle.segment_core.specs.declared.format.Format.TheVariants.{One, Two}

@@ -81,7 +81,7 @@ module _ {R : Type 0} (shape : Shape) (failures : List State → ℕ) where
 
 -- and so does a copy
 module _ (form : Encoding ℕ) (wide : form.width ≡ 8) (failures : List State → ℕ) where
-  copy_found : IsCopied form (λ _. Unit {0}) (λ d. d) (λ _. 0) 1 (5 ∷ []) old (Err (looked, faults.Exists))
+  copy_found : IsCopied Two form (λ _. Unit {0}) (λ d. d) (λ _. 0) 1 (5 ∷ []) old (Err (looked, faults.Exists))
   copy_found = record {
     list = tt;
     written = tt;
@@ -99,7 +99,7 @@ module _ (form : Encoding ℕ) (wide : form.width ≡ 8) (failures : List State 
     model = λ _. tt;
   }
 
-  no_copy_over : IsCopied form (λ _. Unit {0}) (λ d. d) failures 1 (5 ∷ []) old (Err (wiped, faults.Disk Write)) → ⊥
+  no_copy_over : IsCopied Two form (λ _. Unit {0}) (λ d. d) failures 1 (5 ∷ []) old (Err (wiped, faults.Disk Write)) → ⊥
   no_copy_over copied = wipes (copied.existed tt is_there)
 
 -- ---- upgrades

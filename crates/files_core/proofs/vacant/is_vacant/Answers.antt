@@ -1,12 +1,11 @@
-use Rattle.std.proofs.Common.{◌≡◌, ◌≤◌, ◌-◌, ◌+◌, ◌↔◌, ◌++◌, ◌∷◌, ◌∙◌, [], ℕ, List, Bool, IsTrue, length, take, subst, ap, sym, zero-add, arith}
+use Rattle.std.proofs.Common.{◌≡◌, ◌≤◌, ◌<◌, ◌-◌, ◌+◌, ◌↔◌, ◌∷◌, ◌∙◌, [], ℕ, List, IsTrue, true, false, length, take, inl, inr, subst, ap, sym, zero-add, arith}
 use Rattle.std.proofs.lemmas.List.{take_all, length-take-le}
 use Rattle.std.specs.List.{slice_range}
+use Rattle.std.specs.Prelude.{Option, Some, None}
 use Rattle.disk_core.specs.Calls.{bytes_of}
-use Rattle.segment_core.specs.declared.format.Shape.{Shape}
-use Rattle.segment_core.specs.Frame.{header, closed_gate}
-use Rattle.segment_core.specs.Shape.{shape_of}
+use Rattle.segment_core.specs.declared.format.Format.{Format}
 use Rattle.pen_core.proofs.Births.{stays_only, stays_twice}
-use Rattle.files_core.specs.Vacant.{IsZeroOrOf, IsVacant}
+use Rattle.files_core.specs.Vacant.{IsVacantFor}
 use Rattle.files_core.proofs.vacant.is_vacant.Goals as goal
 
 -- the first so many bytes were read, which are all
@@ -27,7 +26,7 @@ pub returns-then-len-clause-vacant : goal.returns-then-len-clause-vacant
 returns-then-len-clause-vacant g c = λ model.
     let old : List ℕ = bytes_of (g.D.Disk.states c.args.disk.now) in
     let long : c.in_ok-len.len ≡ length old = c.in_ok-len.ensures.value model in
-    (λ none. absurd none, λ vacant. absurd (too_long c.args.format g.R.Record.form.width old (subst (λ n. 12 < n) long c.if-len.true) vacant))
+    (λ none. (let clash : false ≡ true = none in absurd cc), λ vacant. absurd (too_long c.args.format g.R.Record.form.width old (subst (λ n. 12 < n) long c.if-len.true) vacant))
 
 pub returns-in_err-len-clause-images : goal.returns-in_err-len-clause-images
 returns-in_err-len-clause-images g c = λ model.
