@@ -1,25 +1,26 @@
 -- What is left of a crew whose phase wasn't ended.
 use Rattle.std.proofs.Common.{◌≡◌, ℕ, zero, suc, ◌+◌, ◌<◌, ◌≤◌, inl, inr, List, [], ◌∷◌, ◌++◌, length, take, max, get_or, slice_get, Some, Option, All, refl, sym, ap, subst, ◌∙◌, eq-or-lt_of_le, arith}
 use Rattle.std.specs.List.{AllWithin}
-use Rattle.std.proofs.lemmas.List.{take_more, get_or-map, length-map}
-use Rattle.std.proofs.lemmas.Option.{slice_get_within, get_or_from_slice_get}
+use Rattle.std.proofs.lemmas.List.{take_more}
+use Rattle.std.proofs.lemmas.Option.{get_or_from_slice_get}
 use Rattle.pen_core.specs.PenOf.{PenOf}
 use Rattle.pen_core.specs.declared.fault.PenFault.TheVariants as faults
 use Rattle.block_core.specs.Growth.{Growth}
 use Rattle.directory_core.specs.Chain.{IsPrefix, IsLongerOf}
 use Rattle.book_core.specs.declared.fault.GrowFault.{GrowFault}
 use Rattle.book_core.specs.declared.seat.Receipt.{Receipt}
-use Rattle.book_core.specs.Lists.{Phase, Seated, StandInList, own_of}
-use Rattle.book_core.proofs.Owns.{take-begins}
+use Rattle.book_core.specs.Lists.{Phase, Seated, StandInList}
 use Rattle.book_core.proofs.Steps.{begins-trans}
 use Rattle.flush_core.specs.Flusher.{FlusherOf, FlusherLearns}
 use Rattle.vault_core.specs.declared.fault.VaultFault.{VaultFault}
 use Rattle.vault_core.specs.declared.fault.VaultFault.TheVariants.{Pen, Unsettled, WrongPhase}
-use Rattle.vault_core.specs.Gathering.{AreAll, AreDistinct, HasId, IsGatherFault, made_by, most_known}
+use Rattle.vault_core.specs.Gathering.{AreAll, IsGatherFault, made_by, most_known}
+use Rattle.vault_core.specs.Leaving.{AreOfGrowers}
 use Rattle.vault_core.proofs.Prefixes.{begins-le}
-use Rattle.vault_core.proofs.Endings.{most-flusher, by_seats, made_once}
+use Rattle.vault_core.proofs.Endings.{most-flusher}
+use Rattle.vault_core.proofs.Owners as owners
 use Rattle.crew_core.specs.Crewing.{AreHome}
-use Rattle.crew_core.specs.Leaving.{AreOfGrowers, IsLeftSeat}
+use Rattle.crew_core.specs.Leaving.{IsLeftSeat}
 
 pub get_or_any : {X : Type 0} (xs : List X) (k : ℕ) (d e : X) → k < length xs → get_or xs k d ≡ get_or xs k e
 get_or_any [] k d e lt = absurd (omega arith)
@@ -138,48 +139,15 @@ module _ {R : Type 0} {count : ℕ → ℕ} {block : ℕ → ℕ → List R} {n 
       let there = have.each k (let many = have.as_many in omega arith) in
       ap (λ (s : Seated R). s.id) (get_or_from_slice_get seats k there.seat d there.seat_is) ∙ there.id_is
 
-  grower-at : (id : ℕ) → HasId id seats → id < n
-  grower-at id has =
-      let lt : has.0 < length seats = let within = has.1 in let long = length-map seats (λ (s : Seated R). s.id) in omega arith in
-      let there = have.each has.0 (let many = have.as_many in omega arith) in
-      let is : id ≡ has.0 = sym has.2 ∙ get_or-map (λ (s : Seated R). s.id) seats has.0 there.seat id lt ∙ id-at has.0 there.seat lt in
-      let many = have.as_many in omega arith
-
-  distinct : AreDistinct seats
-  distinct i j d lt within same =
-      let one = id-at i d (omega arith) in
-      let other = id-at j d within in
-      omega (arith, sym one ∙ same ∙ other)
-
   -- the lists of the seats begin one that is known
   module _ {es : List (Growth R)} (stand : All StandInList seats) (begin : All (λ s. IsPrefix s.pass.entries es) seats) where
     pub left_seat : (k : ℕ) → k < n → (seat : Seated R) × (slice_get seats k ≡ Some seat) × IsLeftSeat (count k) (block k) k es seat
     left_seat k lt =
-        let there = have.each k lt in
-        let seat = there.seat in
-        let within = slice_get_within seats k seat there.seat_is in
-        let here = get_or_from_slice_get seats k seat seat there.seat_is in
-        let stands : StandInList seat = subst StandInList here (stand k seat within) in
-        let begins : IsPrefix seat.pass.entries es = subst (λ (s : Seated R). IsPrefix s.pass.entries es) here (begin k seat within) in (
-          seat,
+        let there = have.each k lt in (
+          there.seat,
           there.seat_is,
-          record {
-            id_is = there.id_is;
-            few = there.few;
-            blocks_are = there.blocks_are;
-            first = stands.first;
-            inside = let le = begins-le seat.pass.entries es begins in let inside = stands.inside in omega arith;
-            are = stands.are ∙ ap (own_of seat.id) (sym (take-begins seat.pass.entries es stands.first begins stands.inside))
-                ∙ ap (λ (id : ℕ). own_of id (take stands.first es)) there.id_is;
-          },
+          record { id_is = there.id_is; few = there.few; blocks_are = there.blocks_are; stands = owners.stand_among seats id-at stand begin k there.seat there.seat_is },
         )
 
     pub of_growers : made_by seats ≡ length es → AreOfGrowers n seats es
-    of_growers as_many = record {
-      by_growers = λ k d lt. grower-at (get_or es k d).seat (by_seats seats es distinct as_many stand begin k d lt);
-      made_once = λ k seat lt there.
-          let within = slice_get_within seats k seat there in
-          let here = get_or_from_slice_get seats k seat seat there in
-          let id = ap (λ (s : Seated R). s.id) (sym here) ∙ id-at k seat within in
-          ap (λ (i : ℕ). own_of i es) (sym id) ∙ subst (λ (s : Seated R). own_of s.id es ≡ s.made) here (made_once seats es distinct as_many stand begin k seat within);
-    }
+    of_growers as_many = owners.of_growers seats id-at stand begin as_many n have.as_many

@@ -1,24 +1,31 @@
 -- What a server leaves.
-use Rattle.std.proofs.Common.{◌≡◌, ◌⊎◌, ℕ, ◌≤◌, List, [], ◌++◌, length, take, Result, Ok, Err, inl, inr, refl, sym, ap, subst, ◌∙◌, arith}
+use Rattle.std.proofs.Common.{◌≡◌, ◌⊎◌, ℕ, ◌≤◌, List, [], ◌++◌, length, take, get_or, Option, Result, Ok, Err, inl, inr, refl, sym, ap, subst, ◌∙◌, arith}
 use lib.Seq.{take-nil}
 use Rattle.std.proofs.lemmas.List.{append-nil}
 use Rattle.record_core.specs.Bytes.{Encoding}
 use Rattle.disk_core.specs.State.{State, IsImage, now}
 use Rattle.disk_core.specs.Calls.{bytes_of}
-use Rattle.disk_core.specs.Moments.{LeavesOnly}
+use Rattle.disk_core.specs.Moments.{LeavesOnly, LeftSince}
 use Rattle.disk_core.proofs.JoinedMoments.{LeavesOnly-join, LeavesOnly-weaker}
 use Rattle.pen_core.specs.Opening.{IsOpened, OnlySyncs}
 use Rattle.pen_core.specs.PenOf.{PenOf}
 use Rattle.pen_core.specs.Typed.{OpensTo}
 use Rattle.directory_core.specs.Chain.{grown_records}
 use Rattle.book_core.specs.Lists.{Phase, joined_pieces}
-use Rattle.flush_core.specs.Flusher.{FlusherOf, IsFlusherOf, OpensToFirst, OpensToJob}
+use Rattle.book_core.specs.declared.mark.Raise.{Raise}
+use Rattle.flush_core.specs.Flusher.{FlusherOf, IsFlusherOf, OpensToFirst, OpensToJob, ToldIsLeft}
 use Rattle.flush_core.specs.Serving.{Serves}
+use Rattle.flush_core.proofs.Goes.{Serves-learns}
+use Rattle.vault_core.proofs.Handed.{IsFlusherOf-learns}
+use Rattle.vault_core.proofs.Owners.{of_growers, stand_among}
 use Rattle.vault_core.specs.Vault.{VaultOf, MayHold, list_of}
 use Rattle.vault_core.specs.Sharing.{Shares, OpensToGrown}
+use Rattle.serve_core.specs.declared.client.Pipes.{Pipes}
 use Rattle.serve_core.specs.declared.fault.ServeFault.{ServeFault}
 use Rattle.serve_core.specs.declared.fault.ServeFault.TheVariants.{Open, Share, Thread, Flush}
 use Rattle.serve_core.specs.Serving.{IsServed, IsAllServed, OpensBehind, IsLeft, ComesBack, IsPhaseLeft}
+use Rattle.serve_core.specs.Clients.{HasTakenIn, IsServedTo, LeavesClients, RaisesStand, TakesClientsIn}
+use Rattle.serve_core.proofs.Clients.{in_order}
 
 module _ {R D : Type 0} (form : Encoding R) (keeps : D → Type 0) (states : D → List State) (disk : D) (vault : VaultOf R D)
     (opened : keeps vault.pen.disk → IsOpened form (bytes_of (states disk)) vault.pen (list_of vault)) (syncs : keeps vault.pen.disk → OnlySyncs (states disk) (states vault.pen.disk)) where
@@ -135,6 +142,35 @@ module _ {R D : Type 0} (form : Encoding R) (keeps : D → Type 0) (states : D �
                 record { count = behind.count; at_least = omega (arith, count_is, behind.at_least); known = behind.known; opens = behind.opens };
           }
 
+      -- what their seats were told stands
+      raises_stand : (raises : List Raise) → ToldIsLeft form (states served.pen.disk) served raises → RaisesStand form (states left) (list_of vault) served.pass.entries raises
+      raises_stand raises told raise is image since =
+          let first = told raise is image (subst (λ d. LeftSince (states d) raise.at image) same since) in
+          record {
+            count = first.count;
+            at_least = first.at_least;
+            known = first.known;
+            opens = subst (λ (before : List R). OpensTo form image (before ++ grown_records (take first.count served.pass.entries))) (opening last) first.opens;
+          }
+
+      -- and the growths are theirs
+      pub served_to : {I W : Type 0} (remaining : I → Option (List ℕ)) (contents : W → Option (List ℕ)) (pipes : List (Pipes I W)) → HasTakenIn form keeps states live remaining contents pipes served
+          → IsServedTo form states remaining contents pipes disk left settled
+      unfolding was_served
+      served_to remaining contents pipes taken =
+          let order = in_order form live remaining contents pipes taken.seats taken.clients in
+          record {
+            served = was_served;
+            live = live;
+            opening = ap joined_pieces blocks;
+            seats = taken.seats;
+            clients = taken.clients;
+            chained = taken.chained;
+            theirs = λ k seat there. stand_among taken.seats order taken.stand taken.begin k seat there;
+            just_theirs = λ as_many. of_growers taken.seats order taken.stand taken.begin as_many (length pipes) taken.clients.as_many;
+            told = λ k d lt. raises_stand (get_or taken.seats k d).mark.raises (taken.left last k d lt);
+          }
+
       -- and all that they grew is settled
       pub all_settled : served.settled ≡ length served.pass.entries → IsAllServed form states disk left settled
       unfolding was_served
@@ -157,4 +193,26 @@ module _ {R D : Type 0} (form : Encoding R) (keeps : D → Type 0) (states : D �
       by_result (Err (Open fault)) comes = absurd comes
       by_result (Err (Share fault)) comes = unserved comes.1
       by_result (Err Thread) comes = unserved comes
-      by_result (Err (Flush fault)) comes = was_served live begun ended.flusher shares.blocks shares.pen comes.of comes.served left settled ended.disk_is ended.settled_is ended.known ended.images kept
+      by_result (Err (Flush fault)) comes =
+          was_served live begun ended.flusher shares.blocks shares.pen (IsFlusherOf-learns keeps live comes.stopped ended.flusher comes.flushed.of comes.learns)
+          (Serves-learns comes.flushed.served comes.learns) left settled ended.disk_is ended.settled_is ended.known ended.images kept
+
+  -- and it is of the clients that were served
+  pub phase_clients : {X I W : Type 0} (faults : D → ℕ) (room seats : ℕ) (live : Phase R) (begun : FlusherOf R D) → Shares (keeps vault.pen.disk) vault room seats live begun
+      → (remaining : I → Option (List ℕ)) (contents : W → Option (List ℕ)) (pipes : List (Pipes I W))
+      → (left : D) (settled : ℕ) (result : Result X ServeFault) (ended : IsPhaseLeft form keeps states faults live begun left settled result)
+      → TakesClientsIn form keeps states live remaining contents pipes ended.flusher result → keeps left → LeavesClients form states remaining contents pipes disk left settled result
+  unfolding was_served served_to
+  phase_clients {X} faults room seats live begun shares remaining contents pipes left settled result ended taken kept = by_result result ended.comes taken
+    where
+      by_result : (result : Result X ServeFault) → ComesBack form keeps states faults live begun ended.flusher result → TakesClientsIn form keeps states live remaining contents pipes ended.flusher result
+          → LeavesClients form states remaining contents pipes disk left settled result
+      by_result (Ok x) comes takes =
+          let to = served_to live begun ended.flusher shares.blocks shares.pen comes.of comes.served left settled ended.disk_is ended.settled_is ended.known ended.images kept remaining contents pipes takes.0 in
+          (to, ended.settled_is ∙ comes.ended.all, to.just_theirs takes.1)
+      by_result (Err (Open fault)) comes takes = tt
+      by_result (Err (Share fault)) comes takes = tt
+      by_result (Err Thread) comes takes = tt
+      by_result (Err (Flush fault)) comes takes =
+          served_to live begun ended.flusher shares.blocks shares.pen (IsFlusherOf-learns keeps live comes.stopped ended.flusher comes.flushed.of comes.learns)
+          (Serves-learns comes.flushed.served comes.learns) left settled ended.disk_is ended.settled_is ended.known ended.images kept remaining contents pipes takes

@@ -1,7 +1,10 @@
 pub mod Bytes
 pub mod Talks
+pub mod Clients
+pub mod Flushed
 pub mod Left
 pub mod Refused
 pub mod Refusals
 pub mod Worked
 pub mod WorkedServing
+pub mod WorkedClients

@@ -2,7 +2,7 @@
 use Rattle.std.proofs.Common.{◌≡◌, ◌⊎◌, ℕ, ◌<◌, ◌≤◌, min, List, [], ◌∷◌, Bool, false, Option, None, Result, Ok, Err, IfErr, is_some, inl, inr, sym, ap, subst, ◌∙◌, arith}
 use Rattle.record_core.specs.Bytes.{Encoding}
 use Rattle.disk_core.specs.Fault.{CountsFailures}
-use Rattle.disk_core.specs.State.{State}
+use Rattle.disk_core.specs.State.{State, IsImage, now}
 use Rattle.pen_core.specs.declared.fault.PenFault.{PenFault}
 use Rattle.pen_core.specs.declared.fault.PenFault.TheVariants as pens
 use Rattle.pen_core.specs.PenOf.{PenOf, JobOf}
@@ -81,14 +81,17 @@ module _ {R D : Type 0} (form : Encoding R) (keeps : D → Type 0) (states : D �
   comes_counts (Err (Share (vaults.Unsettled number))) comes = let same = as_it_was comes.1 in omega (arith, same)
   comes_counts (Err (Share vaults.WrongPhase)) comes = let same = as_it_was comes.1 in omega (arith, same)
   comes_counts (Err Thread) comes = let same = as_it_was comes in omega (arith, same)
-  comes_counts (Err (Flush fault)) comes = comes.counts
+  comes_counts (Err (Flush fault)) comes =
+      let same = ap (λ (p : PenOf D). faults p.disk) comes.learns.pen_same in
+      let counts = comes.flushed.counts in
+      omega (arith, same, counts)
 
   comes_keeps : {X : Type 0} (result : Result X ServeFault) → ComesBack form keeps states faults live old new result → keeps new.pen.disk → keeps old.pen.disk
   comes_keeps (Ok x) comes = comes.served.model
   comes_keeps (Err (Open fault)) comes = absurd comes
   comes_keeps (Err (Share fault)) comes = subst (λ (f : FlusherOf R D). keeps f.pen.disk) comes.1
   comes_keeps (Err Thread) comes = subst (λ (f : FlusherOf R D). keeps f.pen.disk) comes
-  comes_keeps (Err (Flush fault)) comes = comes.served.model
+  comes_keeps (Err (Flush fault)) comes = λ kept. comes.flushed.served.model (subst (λ (p : PenOf D). keeps p.disk) comes.learns.pen_same kept)
 
 -- what is left of a phase that was begun over that vault
 module _ {R D : Type 0} (form : Encoding R) (keeps : D → Type 0) (states : D → List State) (faults : D → ℕ) (vault : VaultOf R D) {live : Phase R} {begun : FlusherOf R D}
@@ -104,11 +107,13 @@ module _ {R D : Type 0} (form : Encoding R) (keeps : D → Type 0) (states : D �
       by_result (Err (Share fault)) comes = subst (IsShareRefusal clients) (sym comes.0) bounds
       by_result (Err Thread) comes = bounds
       by_result (Err (Flush fault)) comes = record {
-        flusher = ended.flusher;
-        disk_is = ended.disk_is;
-        settled_is = ended.settled_is;
-        file = ended.images;
-        why = stopped form.width begun ended.flusher fault (ap (λ (p : PenOf D). p.broken) same ∙ whole) comes.refused;
+        flusher = comes.stopped;
+        disk_is = ended.disk_is ∙ ap (λ (p : PenOf D). p.disk) comes.learns.pen_same;
+        settled_is = ended.settled_is ∙ comes.learns.settled_same;
+        file =
+            let at = ended.disk_is ∙ ap (λ (p : PenOf D). p.disk) comes.learns.pen_same in
+            λ kept image is. comes.images (subst keeps at kept) image (subst (λ d. IsImage (now (states d)) image) at is);
+        why = stopped form.width begun comes.stopped fault (ap (λ (p : PenOf D). p.broken) same ∙ whole) comes.flushed.refused;
       }
 
   pub phase_counts : {X : Type 0} {left : D} {settled : ℕ} {result : Result X ServeFault} → IsPhaseLeft form keeps states faults live begun left settled result

@@ -1,5 +1,5 @@
 -- What a server leaves.
-use Rattle.std.specs.Prelude.{◌≡◌, ◌⊎◌, ℕ, ◌+◌, ◌<◌, ◌≤◌, List, [], ◌++◌, length, take, true, None, OnOk, IfErr, MatchResult}
+use Rattle.std.specs.Prelude.{◌≡◌, ◌⊎◌, ℕ, ◌+◌, ◌<◌, ◌≤◌, List, [], ◌++◌, length, take, Bool, true, false, None, OnOk, IfErr, MatchResult}
 use Rattle.std.specs.declared.result.Result.{Result}
 use Rattle.std.specs.declared.result.Result.TheVariants.{Ok, Err}
 use Rattle.record_core.specs.Bytes.{Encoding}
@@ -16,7 +16,7 @@ use Rattle.book_core.specs.Beginning.{seat_limit}
 use Rattle.book_core.specs.Lists.{Phase}
 use Rattle.flush_core.specs.declared.fault.FlushFault.{FlushFault}
 use Rattle.flush_core.specs.declared.fault.FlushFault.TheVariants as flushes
-use Rattle.flush_core.specs.Flusher.{FlusherOf, IsFlusherOf, OpensToJob}
+use Rattle.flush_core.specs.Flusher.{FlusherOf, FlusherLearns, IsFlusherOf, OpensToJob}
 use Rattle.flush_core.specs.Serving.{Serves, HasSettledAll, IsServeFault}
 use Rattle.flush_core.specs.Refusals.{IsNotBegun, failed}
 use Rattle.vault_core.specs.declared.fault.VaultFault.{VaultFault}
@@ -64,7 +64,7 @@ IsShareRefusal clients (Pen pens.Memory) = (0 < clients) × (clients ≤ seat_li
 IsShareRefusal clients other = ⊥
 
 -- Why a flusher stopped before all was settled: the file has no room for the next group or there was no memory for it, a
--- call of the device failed, or the growth behind those that it knows strayed.
+-- call of the device failed, or a growth strayed: the one behind those that it knows, or one of them, which no client made.
 abbrev pub IsFlusherStop : {R D : Type 0} → ℕ → FlusherOf R D → FlushFault → Type 0
 IsFlusherStop width f (flushes.Pen pens.FileFull) = (f.pen.job ≡ None) × IsNotBegun width f pens.FileFull
 IsFlusherStop width f (flushes.Pen pens.Memory) = (f.pen.job ≡ None) × IsNotBegun width f pens.Memory
@@ -88,6 +88,13 @@ IsServeRefusal form keeps states clients left settled (Share fault) = IsShareRef
 IsServeRefusal form keeps states clients left settled Thread = (0 < clients) × (clients ≤ seat_limit)
 IsServeRefusal form keeps states clients left settled (Flush fault) = HasStopped form keeps states left settled fault
 
+-- What comes of clients where that came of their flusher, which knows so many growths: it wasn't refused only where they made
+-- just as many.
+abbrev pub outcome_of : {X : Type 0} → Result X FlushFault → Bool → ℕ → Result X ServeFault
+outcome_of (Ok x) true known = Ok x
+outcome_of (Ok x) false known = Err (Flush (flushes.Strayed known))
+outcome_of (Err fault) made_all known = Err (Flush fault)
+
 -- The flusher of a phase has served until that came of it: the growths that it settled stand, all of them where it wasn't
 -- refused, and the calls of the device failed as often as the fault tells.
 pub record HasFlushed {R D : Type 0} (form : Encoding R) (keeps : D → Type 0) (states : D → List State) (faults : D → ℕ) (live : Phase R)
@@ -98,6 +105,13 @@ pub record HasFlushed {R D : Type 0} (form : Encoding R) (keeps : D → Type 0) 
   pub refused : IfErr flushed (IsServeFault form.width old new)
   pub counts : CountsFailures failed (faults old.pen.disk) (faults new.pen.disk) flushed
 
+-- A flusher has served until it stopped by that fault, with those images, and has learnt since what its clients' seats knew.
+pub record HasStoppedBy {R D : Type 0} (form : Encoding R) (keeps : D → Type 0) (states : D → List State) (faults : D → ℕ) (live : Phase R) (old new : FlusherOf R D) (fault : FlushFault) : Type 0 where
+  pub stopped : FlusherOf R D
+  pub flushed : HasFlushed form keeps states faults live old stopped {X = Unit {0}} (Err fault)
+  pub learns : FlusherLearns stopped new
+  pub images : keeps stopped.pen.disk → (image : List ℕ) → IsImage (now (states stopped.pen.disk)) image → OpensToJob form stopped image
+
 -- What came of a flusher whose phase was to be served: it has served; or no client was, for want of memory or of a thread, and
 -- it is as it was.
 abbrev pub ComesBack : {R D X : Type 0} → Encoding R → (D → Type 0) → (D → List State) → (D → ℕ) → Phase R → FlusherOf R D → FlusherOf R D → Result X ServeFault → Type 0
@@ -105,7 +119,7 @@ ComesBack {X = X} form keeps states faults live old new (Ok x) = HasFlushed form
 ComesBack form keeps states faults live old new (Err (Open fault)) = ⊥
 ComesBack form keeps states faults live old new (Err (Share fault)) = (fault ≡ Pen pens.Memory) × (new ≡ old)
 ComesBack form keeps states faults live old new (Err Thread) = new ≡ old
-ComesBack {X = X} form keeps states faults live old new (Err (Flush fault)) = HasFlushed form keeps states faults live old new {X = X} (Err fault)
+ComesBack form keeps states faults live old new (Err (Flush fault)) = HasStoppedBy form keeps states faults live old new fault
 
 -- That came of a flusher, and it is let go: its disk is left, and it has settled so many growths.
 pub record IsPhaseLeft {R D X : Type 0} (form : Encoding R) (keeps : D → Type 0) (states : D → List State) (faults : D → ℕ) (live : Phase R)

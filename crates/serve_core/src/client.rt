@@ -1,8 +1,8 @@
 //! A client of the server: its pipes, its seat, and what its thread does.
 
-ghost use Rattle.std.specs.Prelude.{◌≡◌, ◌<◌, ◌≤◌, ◌+◌, [], vec_len, vec_capacity};
+ghost use Rattle.std.specs.Prelude.{◌≡◌, ◌<◌, ◌+◌, ◌++◌, ◌∷◌, [], length, vec_len, vec_capacity};
 ghost use Rattle.book_core.specs.Lists.{IsSeatOf};
-ghost use Rattle.book_core.specs.Beginning.{AreNewSeats};
+ghost use Rattle.book_core.specs.Beginning.{AreNewSeats, IsNewSeat};
 ghost use Rattle.serve_core.specs.Talks.{HasTalked, HasFinished};
 
 use crate::talking::{TalkEnd, talk};
@@ -53,9 +53,9 @@ impl Start {
 /// A client with its seat.
 #[derive(Drop)]
 pub struct Client<'a, R: Record, I, W> {
-    live: &'a Live<R>,
-    seat: Seat<R>,
-    pipes: Pipes<I, W>,
+    pub(crate) live: &'a Live<R>,
+    pub(crate) seat: Seat<R>,
+    pub(crate) pipes: Pipes<I, W>,
     ghost of: { IsSeatOf live.now seat },
     ghost none: { seat.made ≡ [] },
 }
@@ -126,7 +126,7 @@ fn talk_to_end<R: Record, I: Read, W: Write, E: Wait>(
 }
 
 /// A client with the last of the seats and the last pair of pipes.
-fn take_client<'a, R: Record, I, W>(
+pub fn take_client<'a, R: Record, I, W>(
     live: &'a Live<R>,
     seats: &mut Vec<Seat<R>>,
     pipes: &mut Vec<Pipes<I, W>>,
@@ -134,38 +134,17 @@ fn take_client<'a, R: Record, I, W>(
     requires new { AreNewSeats live.now.directory live.now.mark seats.old.items }
     requires as_many { vec_len seats.old ≡ vec_len pipes.old }
     requires some { 0 < vec_len pipes.old }
-    ensures new { AreNewSeats live.now.directory live.now.mark seats.new.items }
-    ensures one_seat_less { vec_len seats.new + 1 ≡ vec_len seats.old }
-    ensures one_pair_less { vec_len pipes.new + 1 ≡ vec_len pipes.old }
+    ensures rest { AreNewSeats live.now.directory live.now.mark seats.new.items }
+    ensures seats { (vec_len seats.new + 1 ≡ vec_len seats.old) × (vec_capacity seats.new ≡ vec_capacity seats.old) }
+    ensures pipes { pipes.old.items ≡ pipes.new.items ++ result.pipes ∷ [] }
+    ensures live { result.live.now ≡ live.now }
+    ensures new { IsNewSeat live.now.directory live.now.mark (length seats.new.items) result.seat }
 {
-    let Some(seat) = live.take_seat(seats) else {
-        unreachable!()
-    };
+    let seat = seats.take_last();
+    let pair = pipes.take_last();
     Client {
         live,
         seat,
-        pipes: pipes.take_last(),
+        pipes: pair,
     }
-}
-
-/// A client for each pair of pipes, with one of the seats, in an empty list that has room for all.
-pub fn clients_of<'a, R: Record, I: Drop, W: Drop>(
-    live: &'a Live<R>,
-    seats: Vec<Seat<R>>,
-    pipes: Vec<Pipes<I, W>>,
-    room: Vec<Client<'a, R, I, W>>,
-) -> Vec<Client<'a, R, I, W>>
-    requires new { AreNewSeats live.now.directory live.now.mark seats.items }
-    requires as_many { vec_len seats ≡ vec_len pipes }
-    requires empty { vec_len room ≡ 0 }
-    requires fits { vec_len pipes ≤ vec_capacity room }
-    ensures { vec_len result ≡ vec_len pipes }
-{
-    let mut seats = seats;
-    let mut pipes = pipes;
-    let mut clients = room;
-    for _ in 0..pipes.len() {
-        clients.push_reserved(take_client(live, &mut seats, &mut pipes));
-    }
-    clients
 }

@@ -2,9 +2,11 @@
 //! answers.
 #![tactic(auto)]
 
+mod away;
 mod client;
 mod fault;
 mod growing;
+mod homing;
 mod reading;
 mod refusal;
 mod reply;

@@ -1,18 +1,21 @@
 //! The threads of the clients, of which none goes on before all are started.
 
-use crate::client::{Client, Start};
+ghost use Rattle.std.specs.Prelude.{◌≡◌, ◌≤◌, IfSome, IsTrue, vec_len, vec_capacity};
+ghost use Rattle.book_core.specs.Lists.{IsSeatOf};
+ghost use Rattle.book_core.specs.Beginning.{AreNewSeats};
+ghost use Rattle.serve_core.specs.Talks.{HasFinished};
+ghost use Rattle.serve_core.specs.Clients.{AreBegun};
+
+use crate::away::{Away, Finishes};
+use crate::client::{Client, Finished, Pipes, Start, take_client};
+use book_core::{Live, Seat};
 use record_core::Record;
 use std::alloc::Global;
 use std::io::{Read, Write};
 use std::sync::Wait;
 use std::thread::Scope;
 
-/// Whether it is done. What came of it is let go here, so that the caller doesn't own it.
-fn is_done<T: Drop, F: Drop>(done: Result<T, F>) -> bool {
-    done.is_ok()
-}
-
-/// Starts a client's thread. Whether the system did.
+/// Starts a client's thread, if the system does. What it refuses is let go.
 fn start_client<
     's,
     'e,
@@ -26,11 +29,24 @@ fn start_client<
     alloc: Global,
     start: &'e Start,
     client: Client<'e, R, I, W>,
-) -> bool {
-    is_done(scope.spawn(move || client.run(rt, alloc, start)))
+) -> Option<Away<R, I, W>>
+    ensures { IfSome result (λ away. (away.live ≡ client.entry.live.now) × (away.seat ≡ client.entry.seat) × (away.pipes ≡ client.entry.pipes)) }
+{
+    let started = scope.spawn_with(
+        Finishes::of(&client),
+        move || -> Finished<R, I, W>
+            ensures { IsSeatOf client.entry.live.now result.seat × HasFinished R.form client.entry.live.now client.entry.seat result.seat (I.remaining client.entry.pipes.requests) (I.remaining result.pipes.requests)
+                (W.contents client.entry.pipes.answers) (W.contents result.pipes.answers) result.end }
+        { client.run(rt, alloc, start) },
+    );
+    match started {
+        Ok(handle) => Some(Away::of(handle)),
+        Err(_) => None,
+    }
 }
 
-/// Starts the threads of these clients, up to the first that the system refuses. Whether all have one.
+/// Starts the threads of clients with these seats and pipes, from the last on, up to the first that the system refuses.
+/// Whether all have one.
 fn start_each<
     's,
     'e,
@@ -43,11 +59,23 @@ fn start_each<
     rt: &'e E,
     alloc: Global,
     start: &'e Start,
-    clients: Vec<Client<'e, R, I, W>>,
-) -> bool {
-    for client in clients {
-        if !start_client(scope, rt, alloc, start, client) {
-            return false;
+    live: &'e Live<R>,
+    seats: &mut Vec<Seat<R>>,
+    pipes: Vec<Pipes<I, W>>,
+    away: &mut Vec<Away<R, I, W>>,
+) -> bool
+    requires new { AreNewSeats live.now.directory live.now.mark seats.old.items }
+    requires as_many { vec_len seats.old ≡ vec_len pipes }
+    requires room { (vec_len away.old ≡ 0) × (vec_len pipes ≤ vec_capacity away.old) }
+    ensures begun { IsTrue result → AreBegun live.now pipes.items away.new.items × (vec_len away.new ≡ vec_len pipes) }
+    ensures seats { IsTrue result → (vec_len seats.new ≡ 0) × (vec_len pipes ≤ vec_capacity seats.new) }
+{
+    let mut pipes = pipes;
+    for _ in 0..pipes.len() {
+        let client = take_client(live, seats, &mut pipes);
+        match start_client(scope, rt, alloc, start, client) {
+            Some(started) => away.push_reserved(started),
+            None => return false,
         }
     }
     true
@@ -66,9 +94,19 @@ pub fn start_all<
     rt: &'e E,
     alloc: Global,
     start: &'e Start,
-    clients: Vec<Client<'e, R, I, W>>,
-) -> bool {
+    live: &'e Live<R>,
+    seats: &mut Vec<Seat<R>>,
+    pipes: Vec<Pipes<I, W>>,
+    away: &mut Vec<Away<R, I, W>>,
+) -> bool
+    requires new { AreNewSeats live.now.directory live.now.mark seats.old.items }
+    requires as_many { vec_len seats.old ≡ vec_len pipes }
+    requires room { (vec_len away.old ≡ 0) × (vec_len pipes ≤ vec_capacity away.old) }
+    ensures begun { IsTrue result → AreBegun live.now pipes.items away.new.items × (vec_len away.new ≡ vec_len pipes) }
+    ensures seats { IsTrue result → (vec_len seats.new ≡ 0) × (vec_len pipes ≤ vec_capacity seats.new) }
+{
     let mut all_run = start.all_run.lock(rt);
-    *all_run = start_each(scope, rt, alloc, start, clients);
-    *all_run
+    let started = start_each(scope, rt, alloc, start, live, seats, pipes, away);
+    *all_run = started;
+    started
 }

@@ -1,12 +1,12 @@
 -- The end of a phase.
-use Rattle.std.proofs.Common.{◌≡◌, ◌≢◌, ℕ, zero, suc, ◌+◌, ◌<◌, ◌≤◌, ◌⊎◌, inl, inr, List, [], ◌∷◌, ◌++◌, length, map, get_or, max, All, Contains, refl, sym, ap, subst, ◌∙◌, rules, arith}
+use Rattle.std.proofs.Common.{◌≡◌, ◌≢◌, ℕ, zero, suc, ◌≤◌, inl, inr, List, [], ◌∷◌, length, get_or, max, All, sym, ◌∙◌, rules, arith}
 use Rattle.std.specs.List.{AllByRecursion}
 use Rattle.std.proofs.lemmas.List.Elements.{All-from_recursion, recursion_from_All}
 use Rattle.block_core.specs.Growth.{Growth}
 use Rattle.directory_core.specs.Chain.{IsPrefix, IsChained}
 use Rattle.book_core.specs.Lists.{Phase, Seated, own_of, StandInList}
 use Rattle.flush_core.specs.Flusher.{FlusherOf}
-use Rattle.vault_core.specs.Gathering.{AreDistinct, HasId, AreAll, IsWhole, MayGather, made_by, most_known}
+use Rattle.vault_core.specs.Gathering.{AreDistinct, HasId, IsWhole, MayGather, made_by, most_known}
 use Rattle.vault_core.proofs.Accounts.{AreApart, MadeFew, MadeAll, IsOneOf, exact}
 use Rattle.vault_core.proofs.Prefixes.{made_few, made_all}
 
@@ -27,8 +27,12 @@ module _ {R : Type 0} where
       let rest = most-flusher ss next in
       (omega arith, most-each ss next)
 
-  pub all_known : (seats : List (Seated R)) (most : ℕ) → All (λ s. length s.pass.entries ≤ most_known seats most) seats
+  all_known : (seats : List (Seated R)) (most : ℕ) → All (λ s. length s.pass.entries ≤ most_known seats most) seats
   all_known seats most = All-from_recursion (λ (s : Seated R). length s.pass.entries ≤ most_known seats most) seats (most-each seats most)
+
+  -- so where nothing is in the way of the end, no seat knows more than the flusher
+  pub none_more : {D : Type 0} (live : Phase R) (seats : List (Seated R)) (f : FlusherOf R D) → MayGather live seats f → All (λ s. length s.pass.entries ≤ length f.pass.entries) seats
+  none_more live seats f may k d lt = let le = all_known seats (length f.pass.entries) k d lt in let known = may.known in omega (arith, le, known)
 
   apart : (ss : List (Seated R)) → AreDistinct ss → AreApart ss
   apart [] distinct = tt

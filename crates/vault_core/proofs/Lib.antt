@@ -17,6 +17,7 @@ pub mod CallsLeft
 mod Accounts
 pub mod Prefixes
 pub mod Endings
+pub mod Owners
 pub mod Handed
 mod Copies
 mod Vaults

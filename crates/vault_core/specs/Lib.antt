@@ -7,5 +7,6 @@ pub mod Commands
 pub mod Settles
 pub mod Sharing
 pub mod Gathering
+pub mod Leaving
 pub mod Upgrading
 pub mod Names

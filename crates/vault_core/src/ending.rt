@@ -5,6 +5,7 @@ ghost use Rattle.std.specs.List.{AllWithin};
 ghost use Rattle.disk_core.specs.State.{now, IsImage};
 ghost use Rattle.pen_core.specs.Typed.{OpensTo};
 ghost use Rattle.directory_core.specs.Chain.{grown_records, total, IsPrefix, IsChained};
+ghost use Rattle.directory_core.specs.Known.{KnowsAll};
 ghost use Rattle.record_core.specs.Limits.{record_limit};
 ghost use Rattle.book_core.specs.Lists.{records_of, joined_pieces, opening_of, StandInList};
 ghost use Rattle.flush_core.specs.Flusher.{IsFlusherOf, FlusherLearns, ToldIsLeft};
@@ -42,7 +43,7 @@ fn most_known_of<R: Record>(seats: &[Seat<R>], flusher: u64) -> u64
 }
 
 /// Whether the seats made so many growths together.
-fn made_in_all<R: Record>(seats: &[Seat<R>], count: u64) -> bool
+pub fn made_in_all<R: Record>(seats: &[Seat<R>], count: u64) -> bool
     ensures { MatchBool result
         ((made_by seats.now ≡ count) × All StandInList seats.now)
         (made_by seats.now ≢ count) }
@@ -146,20 +147,27 @@ fn copy_growths<R: Record, D: Disk>(
     Ok(block)
 }
 
-/// Gives the seats up: what each knows is found to begin what the flusher knows, and what it was told is settled, and stands.
-fn take_in_all<R: Record, D: Disk>(live: &Live<R>, flusher: &mut Flusher<R, D>, seats: Vec<Seat<R>>)
+/// Gives the seats up: the flusher knows what each of them knew, and what each was told is settled, and stands. Who knew as
+/// much as each of them, or all growths of the phase, learns nothing.
+pub fn take_in_all<R: Record, D: Disk>(
+    live: &Live<R>,
+    flusher: &mut Flusher<R, D>,
+    seats: Vec<Seat<R>>,
+)
     requires of { AreOfPhase (D.keeps flusher.old.pen.disk) live.now seats.items flusher.old }
-    requires known { All (λ seat. length seat.pass.entries ≤ length flusher.old.pass.entries) seats.items }
     ensures learns { FlusherLearns flusher.old flusher.new }
-    ensures entries { flusher.new.pass.entries ≡ flusher.old.pass.entries }
-    ensures begin { All (λ seat. IsPrefix seat.pass.entries flusher.old.pass.entries) seats.items }
-    ensures told { All (λ seat. seat.mark.told.count ≤ flusher.old.settled) seats.items }
-    ensures left { D.keeps flusher.old.pen.disk → All (λ seat. ToldIsLeft R.form (D.states flusher.old.pen.disk) flusher.old seat.mark.raises) seats.items }
+    ensures known { All (λ seat. length seat.pass.entries ≤ length flusher.old.pass.entries) seats.items → flusher.new.pass.entries ≡ flusher.old.pass.entries }
+    ensures all { KnowsAll flusher.old.pass → flusher.new.pass.entries ≡ flusher.old.pass.entries }
+    ensures begin { All (λ seat. IsPrefix seat.pass.entries flusher.new.pass.entries) seats.items }
+    ensures stand { All StandInList seats.items }
+    ensures told { All (λ seat. seat.mark.told.count ≤ flusher.new.settled) seats.items }
+    ensures left { D.keeps flusher.new.pen.disk → All (λ seat. ToldIsLeft R.form (D.states flusher.new.pen.disk) flusher.new seat.mark.raises) seats.items }
 {
     let mut seats = seats;
     let count = seats.len();
     for _ in 0..count {
         let seat = seats.take_last();
+        let _made = seat.serial();
         flusher.take_in(live, seat);
     }
 }

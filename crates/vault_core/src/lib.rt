@@ -22,7 +22,7 @@ mod share;
 mod upgrading;
 mod vault;
 
-pub use ending::{Gathering, gather};
+pub use ending::{Gathering, gather, made_in_all, take_in_all};
 pub use fault::VaultFault;
 pub use pieces::VaultPieces;
 pub use upgrading::{UpgradeFault, copy, greatest_piece, upgrade};
