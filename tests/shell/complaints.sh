@@ -54,6 +54,16 @@ lines() { given '5 6\n7\n'; }
 
 no_growth() { given '5\n6 x\n'; }
 
+a_tab() { given '5\n6\t7\n'; }
+
+of_windows() { given '5 6\r\n'; }
+
+a_blank_between() { given '5  6\n'; }
+
+a_blank_behind() { given '5\n6 \n'; }
+
+an_empty_line() { given '5\n\n6\n'; }
+
 long_line() { seq -s ' ' 1 131072 >"$in"; }
 
 many_lines() { seq 1 1048569 >"$in"; }
@@ -177,4 +187,59 @@ what_gets_no_thread_has_its_sentence() (
     is_told_as 'without a thread' memory
     without_a_thread prlimit --nproc=1 "$work/cvec" load u64 "$work/t.cv"
     is_told_as 'a growth without a thread' memory
+)
+
+# ---- what is wrong with a line
+
+# A line is refused, and standard error says this of it.
+line_is_told_as() {
+    given "$2"
+    run load "$1" "$work/t.cv"
+    answers_refusal 'line 1'
+    tells "line 1 of the input is no growth: $3; a growth is"
+}
+
+# Each text is that of a first line, and what is said of it follows from the form of the type alone.
+what_is_wrong_with_a_line_is_told() (
+    line_is_told_as u64 '5 007\n' '"007" at its byte 3 has a zero in front'
+    line_is_told_as u64 '00\n' '"00" at its byte 1 has a zero in front'
+    line_is_told_as u64 '5 -6 x\n' '"-6" at its byte 3 has a sign that no such number has'
+    line_is_told_as i64 '+6\n' '"+6" at its byte 1 has a sign that no such number has'
+    line_is_told_as i64 '-06\n' '"-06" at its byte 1 has a zero in front'
+    line_is_told_as i64 '-0\n' '"-0" at its byte 1 is no record'
+    line_is_told_as u32 '4294967295 4294967296\n' '"4294967296" at its byte 12 is out of range'
+    line_is_told_as u64 '18446744073709551616\n' '"18446744073709551616" at its byte 1 is out of range'
+    line_is_told_as i64 '-9223372036854775809\n' '"-9223372036854775809" at its byte 1 is out of range'
+    line_is_told_as u64 '5.0\n' '"5.0" at its byte 1 is no record'
+    line_is_told_as u64 '5,6\n' '"5,6" at its byte 1 is no record'
+    line_is_told_as u64 '\n5\n' 'it is empty'
+    line_is_told_as u64 ' 5 6\n' '" 5 6" at its byte 1 begins with a blank too many, which --lenient takes'
+    line_is_told_as u64 '5 6\r7 8\n' '"6\r7" at its byte 3 is no record'
+    line_is_told_as pair '1:1 2:+3\n' '"2:+3" at its byte 5 has a sign that no such number has'
+    line_is_told_as pair '-1:5\n' '"-1:5" at its byte 1 has a sign that no such number has'
+    line_is_told_as pair '1:2:3\n' '"1:2:3" at its byte 1 is no record'
+    line_is_told_as flagged '07:1\n' '"07:1" at its byte 1 has a zero in front'
+    line_is_told_as flagged '7:2\n' '"7:2" at its byte 1 is no record'
+)
+
+# Forty bytes are shown at most, and what no terminal shows is told by its number.
+a_line_is_shown_as_text() (
+    line_is_told_as u64 '5\0001\n' '"5\x01" at its byte 1 is no record'
+    line_is_told_as u64 '\0303\0244"\\\n' '"\xC3\xA4\"\\" at its byte 1 is no record'
+    a=1234567890
+    line_is_told_as u64 "x$a$a$a$a 5\n" '"x123456789012345678901234567890123456789".. at its byte 1 is no record'
+    line_is_told_as u64 "$a$a$a$a$a$a$a$a$a$a" '"1234567890123456789012345678901234567890".. at its byte 1 is no record'
+    line_is_told_as u64 "  $a$a$a$a$a" '"  12345678901234567890123456789012345678".. at its byte 1 begins with a blank too many, which --lenient takes'
+)
+
+# The line that is shown is the one that is refused: that of the batch that it came with, behind those that stand.
+append_shows_the_line_that_it_refuses() (
+    run create u64 "$work/t.cv"
+    { seq 1 200000; printf '7 008 9\n'; seq 1 200000; echo x; } >"$in"
+    run append u64 "$work/t.cv"
+    answers_refusal 'line 200001'
+    tells 'line 200001 of the input is no growth: "008" at its byte 3 has a zero in front; a growth is'
+    run append u64 "$work/t.cv" --block=3
+    answers_refusal 'line 200001'
+    tells '"008" at its byte 3 has a zero in front'
 )

@@ -260,3 +260,137 @@ blocks_of_lines_that_are_refused_leave_those_before() (
     run check u64 "$work/u.cv"
     did 'ok version 1 width 8 size 131072 frames 2 live 0\n'
 )
+
+# ---- lines that are taken leniently
+
+# Lines of Windows, tabs and blanks too many are taken with --lenient, and stand for these records.
+lenient_lines_are_taken() (
+    for words in load append 'append --block=2'; do
+        rm -f "$work/t.cv"
+        run create i64 "$work/t.cv"
+        given '5 6\r\n7\t-8\n  9   1 \t\n2\r\n\t3\n4 \r\n  10'
+        set -- $words
+        run "$1" i64 "$work/t.cv" --lenient ${2-}
+        [ "$status" -eq 0 ]
+        [ ! -s "$err" ]
+        run list i64 "$work/t.cv"
+        printf '%s\n' 5 6 7 -8 9 1 2 3 4 10 | cmp - "$out"
+    done
+)
+
+# Each line is one growth still.
+lenient_lines_are_growths_as_others() (
+    run create u64 "$work/t.cv"
+    given '5\t6\r\n7\r\n'
+    run load u64 "$work/t.cv" --lenient
+    did 'loaded 2 growths, size 3\n'
+    run append u64 "$work/t.cv" --lenient
+    did 'appended 2 growths, size 6\n'
+)
+
+# All else is refused as ever, by the same line.
+lenience_takes_nothing_else() (
+    run create u64 "$work/t.cv"
+    while IFS='=' read -r text line; do
+        for command in load append; do
+            given "$text"
+            run $command u64 "$work/t.cv" --lenient
+            answers_refusal "line $line"
+        done
+    done <<'ROWS'
+5\n\n6\n=2
+5\r\n\r\n6\r\n=2
+5\n \t \n=2
+5\n6\r7\n=2
+5\r\r\n=1
+5 x\r\n=1
+5\n\t007\n=2
+5\f6\n=1
+5,6\n=1
+ROWS
+    given '5\n7 6\r7\n'
+    run load u64 "$work/t.cv" --lenient
+    tells 'line 2 of the input is no growth: "6\r7" at its byte 3 is no record'
+)
+
+# Without the word each of these is refused.
+lines_are_strict_without_the_word() (
+    run create u64 "$work/t.cv"
+    for text in '5\r\n' '5\t6\n' ' 5\n' '5 \n' '5  6\n'; do
+        for command in load append; do
+            given "$text"
+            run $command u64 "$work/t.cv"
+            answers_refusal 'line 1'
+            tells '--lenient'
+        done
+    done
+)
+
+# Of a large input nothing is lost where a piece that is read ends, whatever stands there.
+lenient_lines_of_any_length_are_taken() (
+    seq 1 60000 | sed 's/$/\n7/' >"$work/records"
+    for pad in 0 1 2 3 4 5; do
+        rm -f "$work/t.cv"
+        run create u64 "$work/t.cv"
+        { printf '%*s' "$pad" ''; seq 1 60000 | sed 's/$/ \t7\r/'; } >"$in"
+        run append u64 "$work/t.cv" --lenient
+        did 'appended 60000 growths, size 120000\n'
+        run list u64 "$work/t.cv"
+        cmp "$work/records" "$out"
+    done
+)
+
+# What has come is committed while more is waited for, as without the word.
+lenient_lines_that_came_are_committed() (
+    is_fed_by_a_pipe --lenient
+    printf '5\t6\r\n7 \r\n8' >&8
+    copy_comes_to_have '5\n6\n7\n'
+    exec 8>&-
+    wait "$!"
+    echo 'appended 3 growths, size 4' | cmp - "$work/first_out"
+)
+
+# ---- how far append is, in lines
+
+# A line tells what is durable as soon as a batch is, and is no line of a terminal.
+appended_is_told_in_lines() (
+    is_fed_by_a_pipe --progress --block=2
+    printf '5 1\n6\n7\n' >&8
+    copy_comes_to_have '5\n1\n6\n'
+    [ "$(cat "$work/first_err")" = 'cvec: 1 growths of the first 2 lines are durable, size 3' ]
+    sleep 1.2
+    printf '8\n9\n1\n' >&8
+    copy_comes_to_have '5\n1\n6\n7\n8\n9\n1\n'
+    exec 8>&-
+    wait "$!"
+    echo 'appended 3 growths, size 7' | cmp - "$work/first_out"
+    [ "$(sed -n 2p "$work/first_err")" = 'cvec: 3 growths of the first 6 lines are durable, size 7' ]
+    [ "$(wc -l <"$work/first_err")" -eq 2 ]
+)
+
+# Ten batches in less than a second are told by one line or two, and with --quiet by none.
+appended_is_told_once_a_second() (
+    is_fed_by_a_pipe --progress --every=1
+    counts_the_time_of_ten_lines
+    exec 8>&-
+    wait "$!"
+    lines=$(wc -l <"$work/first_err")
+    [ "$lines" -ge 1 ]
+    [ "$lines" -le $((taken / 1000 + 1)) ]
+    is_fed_by_a_pipe --progress --quiet
+    printf '5\n' >&8
+    copy_comes_to_have '5\n'
+    exec 8>&-
+    wait "$!"
+    [ ! -s "$work/first_err" ]
+    given '5\n'
+    for words in "load u64 $work/t.cv" "check u64 $work/t.cv" "serve u64 $work/t.cv --seats=1"; do
+        # shellcheck disable=SC2086 # each word is one
+        run $words --progress
+        ends_with_usage "unexpected argument '--progress' found"
+        [ "${words%% *}" = load ] && continue
+        # shellcheck disable=SC2086
+        run $words --lenient
+        ends_with_usage "unexpected argument '--lenient' found"
+    done
+)

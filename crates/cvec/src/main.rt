@@ -1,12 +1,14 @@
 //! `cvec`: a durable vector in a file, from a shell; and segment files as hex.
 #![tactic(auto)]
 
+mod leniently;
 mod meter;
 mod noting;
 mod paced;
 mod program;
 mod quiet;
 
+use crate::leniently::Lenient;
 use crate::meter::{Behind, Meter};
 use crate::noting::Noting;
 use crate::paced::Paced;
@@ -14,7 +16,7 @@ use crate::program::{Outcome, System, run};
 use sentences::Sentence;
 use std::alloc::Global;
 use std::env;
-use std::io::{self, BufWriter, ErrorKind, IsTerminal, Write};
+use std::io::{self, BufWriter, ErrorKind, IsTerminal, Read, Write};
 use std::process::ExitCode;
 use std::sync::Wait;
 use std::thread::Threads;
@@ -51,37 +53,68 @@ fn run_words<E: Threads + Wait + Clock + Sync + Copy + Send + 'static>(
     threads: &E,
     words: &[String],
 ) -> Status {
-    let meter = Meter::new(rt, rt.stderr().is_terminal());
+    let manner = manner_of(rt.alloc(), words);
+    let meter = Meter::new(rt, rt.stderr().is_terminal(), manner.progress);
     let shares_terminal = rt.stdout().is_terminal();
     let behind = Behind::new(io::writer(rt), shares_terminal.then_some(&meter));
     let Ok(buffer) = BufWriter::with_capacity(rt.alloc(), OUTPUT_BUFFER_LEN, behind) else {
         return refuse_memory(rt);
     };
     let mut output = Noting::new(buffer);
-    answer(rt, threads, words, &meter, &mut output)
+    let paced = Paced::new(threads, rt, manner.pause);
+    let Ok(mut input) = Lenient::new(rt.alloc(), paced, manner.lenient) else {
+        return refuse_memory(rt);
+    };
+    answer(rt, threads, words, &meter, &mut input, &mut output)
 }
 
-/// How many milliseconds what has come of the input waits for more. `None`: it isn't committed while it waits.
-fn pause_of(alloc: Global, words: &[String]) -> Option<u64> {
+/// What of the words has to be known before they are run.
+#[derive(Clone, Copy)]
+struct Manner {
+    /// How many milliseconds what has come of the input waits for more. `None`: it isn't committed while it waits.
+    pause: Option<u64>,
+    /// How far the work is is told in lines.
+    progress: bool,
+    /// Lines are taken leniently.
+    lenient: bool,
+}
+
+/// The manner of words that don't tell of it.
+const PLAIN: Manner = Manner {
+    pause: None,
+    progress: false,
+    lenient: false,
+};
+
+fn manner_of(alloc: Global, words: &[String]) -> Manner {
     // The words of no other command are read twice.
-    if !words.first().is_some_and(|word| word.as_str() == "append") {
-        return None;
+    if !words
+        .first()
+        .is_some_and(|word| matches!(word.as_str(), "load" | "append"))
+    {
+        return PLAIN;
     }
-    match read_words(alloc, words) {
-        Ok(Request::File(words)) => match words.task {
-            FileTask::Append { every, .. } => Some(every),
-            _ => None,
-        },
+    let Ok(Request::File(words)) = read_words(alloc, words) else {
+        return PLAIN;
+    };
+    let pause = match words.task {
+        FileTask::Append { every, .. } => Some(every),
         _ => None,
+    };
+    Manner {
+        pause,
+        progress: words.progress && !words.quiet,
+        lenient: words.lenient,
     }
 }
 
 /// Answers the words on this output.
-fn answer<W: Write, E: Threads + Wait + Clock + Sync + Copy + Send + 'static>(
+fn answer<I: Read, W: Write, E: Threads + Wait + Clock + Sync + Copy + Send + 'static>(
     rt: &HostRuntime,
     threads: &E,
     words: &[String],
     meter: &Meter<'_>,
+    input: &mut I,
     output: &mut Noting<W>,
 ) -> Status {
     let system = System {
@@ -89,8 +122,7 @@ fn answer<W: Write, E: Threads + Wait + Clock + Sync + Copy + Send + 'static>(
         files: rt,
         progress: meter,
     };
-    let mut input = Paced::new(threads, rt, pause_of(rt.alloc(), words));
-    let ended = run(&system, threads, words, &mut input, output);
+    let ended = run(&system, threads, words, input, output);
     meter.end();
     tell_ended(rt, words, &ended, output.error());
     ended.status
@@ -104,7 +136,11 @@ fn tell_ended(rt: &HostRuntime, words: &[String], ended: &Outcome<'_>, error: Op
         Status::Done | Status::Refused => {}
     }
     if let (Some(request), Some(complaint)) = (ended.asked, ended.complaint) {
-        let sentence = Sentence { request, complaint };
+        let sentence = Sentence {
+            request,
+            complaint,
+            shown: ended.shown,
+        };
         let _ = eprintln!(rt; "cvec: {sentence}");
     }
 }

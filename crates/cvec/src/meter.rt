@@ -1,19 +1,24 @@
-//! How far long work is, for a terminal.
+//! How far long work is, for a terminal, or in lines.
 
-use files_core::Progress;
+use files_core::{Appended, Progress};
 use std::io::{self, Write};
 use std::sync::atomic::{AtomicBool, AtomicU64, Ordering};
 use std::time::Instant;
 
-/// The milliseconds between two lines at least.
+/// The milliseconds between two lines at least that are written over.
 const PAUSE: u64 = 100;
 
-/// Tells on standard error how far work is, at most each tenth of a second: a line that is written over, and gone at the
-/// end.
+/// The milliseconds between two lines at least that stay.
+const LINE_PAUSE: u64 = 1000;
+
+/// Tells on standard error how far work is: at most each tenth of a second in a line that is written over, and gone at the
+/// end; or, of `append`, at most each second in a line that stays.
 #[derive(Drop)]
 pub struct Meter<'a> {
     rt: &'a HostRuntime,
     begun: Option<Instant>,
+    /// The lines stay.
+    in_lines: bool,
     /// When the next line is due, in milliseconds from the begin.
     due: AtomicU64,
     /// When the pass that is under way began, in milliseconds from the begin.
@@ -26,12 +31,14 @@ pub struct Meter<'a> {
 
 impl<'a> Meter<'a> {
     /// One that tells, if it is to, and if there is a clock.
-    pub fn new(rt: &'a HostRuntime, shown: bool) -> Meter<'a> {
-        let begun = if shown { Instant::now(rt).ok() } else { None };
+    pub fn new(rt: &'a HostRuntime, shown: bool, in_lines: bool) -> Meter<'a> {
+        let tells = shown || in_lines;
+        let begun = if tells { Instant::now(rt).ok() } else { None };
         Meter {
             rt,
             begun,
-            due: AtomicU64::new(PAUSE),
+            in_lines,
+            due: AtomicU64::new(if in_lines { 0 } else { PAUSE }),
             pass: AtomicU64::new(0),
             done: AtomicU64::new(0),
             over: AtomicBool::new(false),
@@ -48,13 +55,34 @@ impl<'a> Meter<'a> {
         self.pass.load(Ordering::SeqCst)
     }
 
-    /// Writes a line, where one is due.
-    fn tell(&self, begun: Instant, done: u64, of: u64) -> io::Result<()> {
+    /// The milliseconds since the begin.
+    fn passed_since(&self, begun: Instant) -> io::Result<u64> {
         let since = begun.elapsed(self.rt)?;
-        let passed = since
-            .as_secs()
-            .saturating_mul(1000)
-            .saturating_add(u64::from(since.subsec_millis()));
+        let millis = u64::from(since.subsec_millis());
+        Ok(since.as_secs().saturating_mul(1000).saturating_add(millis))
+    }
+
+    /// Writes a line that stays, where one is due.
+    fn tell_appended(&self, begun: Instant, appended: Appended) -> io::Result<()> {
+        let passed = self.passed_since(begun)?;
+        if passed < self.due.load(Ordering::SeqCst) {
+            return Ok(());
+        }
+        self.due
+            .store(passed.saturating_add(LINE_PAUSE), Ordering::SeqCst);
+        let Appended {
+            growths,
+            lines,
+            size,
+        } = appended;
+        eprintln!(self.rt;
+            "cvec: {growths} growths of the first {lines} lines are durable, size {size}"
+        )
+    }
+
+    /// Writes a line that is written over, where one is due.
+    fn tell(&self, begun: Instant, done: u64, of: u64) -> io::Result<()> {
+        let passed = self.passed_since(begun)?;
         let pass = self.pass_of(passed, done);
         let due = self.due.load(Ordering::SeqCst);
         if passed < due {
@@ -78,7 +106,7 @@ impl<'a> Meter<'a> {
     pub fn end(&self) {
         let was_over = self.over.swap(true, Ordering::SeqCst);
         let has_told = self.due.load(Ordering::SeqCst) > PAUSE;
-        if self.begun.is_some() && has_told && !was_over {
+        if self.begun.is_some() && !self.in_lines && has_told && !was_over {
             let _ = eprint!(self.rt; "\r\x1b[K");
         }
     }
@@ -88,10 +116,19 @@ impl<'a> Progress for Meter<'a> {
     fn at(&self, done: u64, of: u64) {
         let is_over = self.over.load(Ordering::SeqCst);
         match self.begun {
-            Some(begun) if !is_over => {
+            Some(begun) if !is_over && !self.in_lines => {
                 let _ = self.tell(begun, done, of);
             }
             _ => {}
+        }
+    }
+
+    fn appended(&self, appended: Appended) {
+        match self.begun {
+            Some(begun) if self.in_lines => {
+                let _ = self.tell_appended(begun, appended);
+            }
+            _ => self.at(appended.growths, 0),
         }
     }
 }

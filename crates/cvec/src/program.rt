@@ -11,6 +11,7 @@ use crate::quiet::ToldUnless;
 use files_core::{Progress, refuse_file};
 use filing_core::{Filing, tell_stat};
 use image_core::{image, show};
+use lines_core::Excerpt;
 use load_core::Dealt;
 use play_core::play;
 use record_core::{Flagged, Pair};
@@ -113,18 +114,21 @@ fn run_filing<
     rt: &E,
     words: &FileWords<'_>,
     reader: &mut I,
+    shown: &mut Option<Excerpt>,
     writer: &mut W,
 ) -> Result<Status, Complaint>
     ensures { IsTypedCommandRun words.now.record_type words.now.task (I.remaining reader.old) (W.contents writer.old) (W.contents writer.new) result }
 {
     let task = words.task;
     match words.record_type {
-        RecordType::U32 => filing.run::<u32, Dealt<u32>, I, W, E>(rt, task, reader, writer),
-        RecordType::U64 => filing.run::<u64, Dealt<u64>, I, W, E>(rt, task, reader, writer),
-        RecordType::I64 => filing.run::<i64, Dealt<i64>, I, W, E>(rt, task, reader, writer),
-        RecordType::Pair => filing.run::<Pair, Dealt<Pair>, I, W, E>(rt, task, reader, writer),
+        RecordType::U32 => filing.run::<u32, Dealt<u32>, I, W, E>(rt, task, reader, shown, writer),
+        RecordType::U64 => filing.run::<u64, Dealt<u64>, I, W, E>(rt, task, reader, shown, writer),
+        RecordType::I64 => filing.run::<i64, Dealt<i64>, I, W, E>(rt, task, reader, shown, writer),
+        RecordType::Pair => filing.run::<Pair, Dealt<Pair>, I, W, E>(
+            rt, task, reader, shown, writer,
+        ),
         RecordType::Flagged => {
-            filing.run::<Flagged, Dealt<Flagged>, I, W, E>(rt, task, reader, writer)
+            filing.run::<Flagged, Dealt<Flagged>, I, W, E>(rt, task, reader, shown, writer)
         }
     }
 }
@@ -141,6 +145,7 @@ fn run_file<
     rt: &E,
     words: &FileWords<'_>,
     reader: &mut I,
+    shown: &mut Option<Excerpt>,
     writer: &mut W,
 ) -> Result<Status, Complaint>
     ensures { IsTypedCommandRun words.now.record_type words.now.task (I.remaining reader.old) (W.contents writer.old) (W.contents writer.new) result }
@@ -153,7 +158,7 @@ fn run_file<
         wait: words.wait,
         progress: &progress,
     };
-    run_filing::<I, W, E, F, ToldUnless<'_, P>>(&filing, rt, words, reader, writer)
+    run_filing::<I, W, E, F, ToldUnless<'_, P>>(&filing, rt, words, reader, shown, writer)
 }
 
 /// Tells what a file has.
@@ -187,6 +192,8 @@ pub struct Outcome<'a> {
     pub asked: Option<Request<'a>>,
     /// Why what was asked for was refused, where it was a command over a file.
     pub complaint: Option<Complaint>,
+    /// Of the line that is refused, where it is for its form.
+    pub shown: Option<Excerpt>,
 }
 
 /// What the words ask for: with none, what `image u64` does.
@@ -203,6 +210,7 @@ fn read_request<'a, S: AsStr>(alloc: Global, words: &'a [S]) -> Result<Request<'
 fn outcome_of<'a, W: Write>(
     request: Request<'a>,
     filed: Result<Status, Complaint>,
+    shown: Option<Excerpt>,
     writer: &mut W,
 ) -> Outcome<'a>
     ensures asked { result.asked ≡ Some request.entry }
@@ -213,11 +221,13 @@ fn outcome_of<'a, W: Write>(
             status,
             asked: Some(request),
             complaint: None,
+            shown: None,
         },
         Err(complaint) => Outcome {
             status: refuse_for(writer, &complaint),
             asked: Some(request),
             complaint: Some(complaint),
+            shown,
         },
     }
 }
@@ -240,6 +250,7 @@ fn answer_fault<'a, W: Write>(fault: WordsFault, writer: &mut W) -> Outcome<'a>
         status,
         asked: None,
         complaint: None,
+        shown: None,
     }
 }
 
@@ -267,19 +278,22 @@ pub fn run<
             status: run_task(system.alloc, rt, task, record_type, reader, writer),
             asked: Some(request),
             complaint: None,
+            shown: None,
         },
         Request::File(words) => {
-            let filed = run_file(system, rt, &words, reader, writer);
-            outcome_of(request, filed, writer)
+            let mut shown = None;
+            let filed = run_file(system, rt, &words, reader, &mut shown, writer);
+            outcome_of(request, filed, shown, writer)
         }
         Request::Stat(words) => {
             let filed = run_stat(system, &words, writer);
-            outcome_of(request, filed, writer)
+            outcome_of(request, filed, None, writer)
         }
         Request::Tell(text) => Outcome {
             status: tell(text, writer),
             asked: Some(request),
             complaint: None,
+            shown: None,
         },
     }
 }

@@ -1,3 +1,4 @@
 pub mod Complaints
 pub mod Asked
 pub mod Commands
+pub mod Shown

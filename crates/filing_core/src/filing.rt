@@ -1,13 +1,15 @@
 //! The commands over files: words first, then the input, then the file.
 
-ghost use Rattle.std.specs.Prelude.{◌≡◌, false, Some, IfOk, IfErr};
+ghost use Rattle.std.specs.Prelude.{◌≡◌, false, Some, None, IfSome, IfOk, IfErr};
 ghost use Rattle.std.specs.Option.{option_copied};
 ghost use Rattle.std.specs.NonZero.{non_zero_u32_get};
 ghost use Rattle.files_core.specs.Listing.{IsWindowListed};
 ghost use Rattle.files_core.specs.Watched.{below};
+ghost use Rattle.load_core.specs.Appending.{IsLineBehind};
 ghost use Rattle.filing_core.specs.Asked.{IsNoWindow, IsWindow};
 ghost use Rattle.filing_core.specs.Complaints.{IsComplaintOf, IsJustOpened, IsUnopened};
 ghost use Rattle.filing_core.specs.Commands.{IsAppendRun, IsCheckRun, IsClearRun, IsCommandRun, IsCopyRun, IsCountRun, IsCreateRun, IsEngineDone, IsFindRun, IsFoldRun, IsListRun, IsLoadRun, IsNewTaken, IsPlaceTaken, IsResizeRun, IsServeRun, IsSetRun, IsTaken, IsUpgradeRun, MayBeMadeOn, Reads};
+ghost use Rattle.filing_core.specs.Shown.{IsCommandShown, IsLoadShown};
 
 use crate::access::{Access, Opened, open};
 use crate::counting::CountingGate;
@@ -19,6 +21,7 @@ use files_core::{
     fold, is_vacant, list, read_record, read_resizing, read_setting, read_window, resize, set,
     upgrade_file,
 };
+use lines_core::Excerpt;
 use load_core::{Deck, append, load, read_growth_lines};
 use pen_core::PenFault;
 use segment_core::Format;
@@ -152,11 +155,13 @@ impl<'a, F: Files<File = File> + Clock + AllocGlobal, P: Progress + Sync> Filing
         rt: &E,
         seats: u16,
         reader: &mut I,
+        shown: &mut Option<Excerpt>,
         writer: &mut W,
     ) -> Result<Status, Complaint>
-        ensures { IsLoadRun R.form (W.contents writer.old) (W.contents writer.new) result R.spelling (I.remaining reader.old) seats }
+        ensures run { IsLoadRun R.form (W.contents writer.old) (W.contents writer.new) result R.spelling (I.remaining reader.old) seats }
+        ensures shown { IsLoadShown R.spelling (I.remaining reader.old) result shown.new }
     {
-        let growths = read_growth_lines::<R, I>(self.alloc, reader)?;
+        let growths = read_growth_lines::<R, I>(self.alloc, reader, shown)?;
         let Opened { disk, lock: _lock } = self.open(Access::Writes)?;
         let gate = CountingGate::new(self.progress, growths.count() as u64);
         let (disk, ended) = load::<R, S, FileDisk, W, CountingGate<'_, P>, E>(
@@ -170,9 +175,12 @@ impl<'a, F: Files<File = File> + Clock + AllocGlobal, P: Progress + Sync> Filing
         rt: &E,
         block: NonZeroU32,
         reader: &mut I,
+        shown: &mut Option<Excerpt>,
         writer: &mut W,
     ) -> Result<Status, Complaint>
-        ensures { IsAppendRun R.form (W.contents writer.old) (W.contents writer.new) result R.spelling (I.remaining reader.old) (non_zero_u32_get block) }
+        requires { shown.old ≡ None }
+        ensures run { IsAppendRun R.form (W.contents writer.old) (W.contents writer.new) result R.spelling (I.remaining reader.old) (non_zero_u32_get block) }
+        ensures shown { IfSome shown.new (IsLineBehind R.spelling (non_zero_u32_get block) (I.remaining reader.old)) }
     {
         let Opened { disk, lock: _lock } = self.open(Access::Writes)?;
         let (disk, appended, ended) = append::<R, S, FileDisk, I, W, P, E>(
@@ -182,6 +190,7 @@ impl<'a, F: Files<File = File> + Clock + AllocGlobal, P: Progress + Sync> Filing
             reader,
             block,
             self.progress,
+            shown,
             writer,
         );
         status_of_append::<R>(self.alloc, disk, appended, ended)
@@ -379,21 +388,25 @@ impl<'a, F: Files<File = File> + Clock + AllocGlobal, P: Progress + Sync> Filing
         status_of_serve::<R, W>(self.alloc, disk, served, ended, writer)
     }
 
-    /// Does the task. A complaint: it was refused, and nothing of an answer was written.
+    /// Does the task. A complaint: it was refused, and nothing of an answer was written. Of a line of the input that is refused
+    /// for its form an excerpt is left.
     pub fn run<R: TextRecord, S: Deck<R> + Drop, I: Read, W: Write, E: Threads + Wait + Sync>(
         &self,
         rt: &E,
         task: FileTask<'_>,
         reader: &mut I,
+        shown: &mut Option<Excerpt>,
         writer: &mut W,
     ) -> Result<Status, Complaint>
-        ensures { IsCommandRun R.form R.spelling task.entry (I.remaining reader.old) (W.contents writer.old) (W.contents writer.new) result }
+        ensures run { IsCommandRun R.form R.spelling task.entry (I.remaining reader.old) (W.contents writer.old) (W.contents writer.new) result }
+        ensures shown { IsCommandShown R.spelling task.entry (I.remaining reader.old) result shown.new }
     {
+        *shown = None;
         match task {
             FileTask::Create { format, over } => self.create::<R, W>(format, over, writer),
-            FileTask::Load(seats) => self.load::<R, S, I, W, E>(rt, seats, reader, writer),
+            FileTask::Load(seats) => self.load::<R, S, I, W, E>(rt, seats, reader, shown, writer),
             FileTask::Append { block, .. } => {
-                self.append::<R, S, I, W, E>(rt, block, reader, writer)
+                self.append::<R, S, I, W, E>(rt, block, reader, shown, writer)
             }
             FileTask::Check => self.check::<R, W>(writer),
             FileTask::List { from, count } => self.list::<R, W>(from, count, writer),

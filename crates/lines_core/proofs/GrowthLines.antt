@@ -57,7 +57,7 @@ HasGrowths_more {R} spelling input growths growth text line rest some whole plai
     subst (λ (gs : List (List (List R))). HasGroups spelling input gs (after_cut rest)) (sym (map-append lone_group growths (growth ∷ [])))
     (HasGroups_more spelling input (map lone_group growths) (lone_group growth) text line rest some whole plain less read before)
 
-are_growth_lines : {R : Type 0} (spelling : Spelling R) (growths : List (List R)) → AllByRecursion (IsGroup spelling.is_value) (map lone_group growths)
+pub are_growth_lines : {R : Type 0} (spelling : Spelling R) (growths : List (List R)) → AllByRecursion (IsGroup spelling.is_value) (map lone_group growths)
     → AllByRecursion (IsGrowthLine spelling) (map (group_line spelling.text_of) (map lone_group growths))
 are_growth_lines spelling [] all = tt
 are_growth_lines spelling (growth ∷ growths) all = ((growth, record { group = all.0; text = refl }), are_growth_lines spelling growths all.1)

@@ -218,7 +218,7 @@ module _ {R : Type 0} (spelling : Spelling R) (block : ℕ) where
 
   -- ---- what is to come
 
-  taken_of : (known left : Option (List ℕ)) (held holds front rest : List ℕ) → holds ≡ front ++ rest → ReadsOn known left held holds
+  pub taken_of : (known left : Option (List ℕ)) (held holds front rest : List ℕ) → holds ≡ front ++ rest → ReadsOn known left held holds
       → Consumes (prepend_known held known) (prepend_known rest left) front
   taken_of None left held holds front rest is reads = tt
   taken_of (Some xs) None held holds front rest is reads = absurd reads.consumed
@@ -245,7 +245,7 @@ module _ {R : Type 0} (spelling : Spelling R) (block : ℕ) where
   all_of_held (Some xs) left held holds reads at_end = sym (Consumes-all (Some xs) left reads.fresh held holds reads.consumed at_end reads.behind)
 
   -- what was read, whatever came
-  some_filled : (known new : Option (List ℕ)) (held holds : List ℕ) (rest : Rest) → IsFilled known new held holds rest → (left : Option (List ℕ)) × ReadsOn known left held holds
+  pub some_filled : (known new : Option (List ℕ)) (held holds : List ℕ) (rest : Rest) → IsFilled known new held holds rest → (left : Option (List ℕ)) × ReadsOn known left held holds
   some_filled known new held holds More filled = (new, filled)
   some_filled known new held holds Nothing filled = (new, filled.0)
   some_filled known new held holds (Refused refusal) filled = absurd filled

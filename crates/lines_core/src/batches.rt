@@ -4,7 +4,9 @@ ghost use Rattle.std.specs.Prelude.{◌≡◌, ◌≤◌, drop, length, MatchOpt
 ghost use Rattle.std.specs.Io.KnownBytes.{prepend_known};
 ghost use Rattle.std.specs.NonZero.{non_zero_u32_get};
 ghost use Rattle.lines_core.specs.Batches.{IsBatch, IsFilled, IsWholeLen};
+ghost use Rattle.lines_core.specs.Excerpts.{IsRestShown};
 
+use crate::excerpt::Excerpt;
 use crate::gathering::whole_blocks;
 use crate::line_blocks::{Front, LineBlocks, read_front};
 use segment_core::Growths;
@@ -49,6 +51,8 @@ pub struct LineBatch<R> {
     /// How many lines they are of.
     pub lines: u64,
     pub rest: Rest,
+    /// Of the line that is refused, where it is no growth line.
+    pub shown: Option<Excerpt>,
 }
 
 /// A refusal of lines behind so many others.
@@ -116,17 +120,23 @@ pub fn read_batch<R: TextRecord, I: Read>(
     buffer: &mut Vec<u8>,
     block: NonZeroU32,
 ) -> LineBatch<R>
-    ensures { IsBatch R.spelling (non_zero_u32_get block)
+    ensures batch { IsBatch R.spelling (non_zero_u32_get block)
         (prepend_known buffer.old.items (I.remaining reader.old)) (prepend_known buffer.new.items (I.remaining reader.new)) result.growths.0 result.lines result.rest }
+    ensures shown { IsRestShown R.spelling (prepend_known buffer.old.items (I.remaining reader.old)) result.rest result.shown }
 {
     let rest = fill(reader, buffer);
     let len = whole_len(buffer, block, rest);
-    let Front { blocks, refusal } = read_front::<R>(alloc, &buffer[..len], block);
+    let Front {
+        blocks,
+        refusal,
+        shown,
+    } = read_front::<R>(alloc, &buffer[..len], block);
     drop_front(buffer, len);
     let LineBlocks { growths, lines } = blocks;
     LineBatch {
         growths,
         lines,
         rest: rest.or_refused(refusal),
+        shown,
     }
 }

@@ -1,12 +1,14 @@
 //! Lines of records, one growth each.
 
-ghost use Rattle.std.specs.Prelude.{◌≡◌, ◌≢◌, ◌≤◌, ◌↔◌, ◌+◌, ◌++◌, ◌∷◌, ◌<◌, ◌^◌, [], ℕ, List, length, OnOk, IfOk, IfErr, IfSome, MatchResult};
+ghost use Rattle.std.specs.Prelude.{◌≡◌, ◌≢◌, ◌≤◌, ◌↔◌, ◌+◌, ◌++◌, ◌∷◌, ◌<◌, ◌^◌, [], ℕ, List, None, length, OnOk, IfOk, IfErr, IfSome, MatchResult};
 ghost use Rattle.record_core.specs.Limits.{payload_limit};
 ghost use Rattle.block_core.specs.Length.{payload_len};
 ghost use Rattle.text_core.specs.Refusals.{input_limit};
 ghost use Rattle.text_core.specs.Words.{BringsRecord};
+ghost use Rattle.lines_core.specs.Excerpts.{IsRefusedShown};
 ghost use Rattle.lines_core.specs.GrowthLines.{AllGrowthsFit, AreGrowthLines, IsFirstTooLarge, IsGrowthLine, IsGrowthLineOf, IsLinesRefusal};
 
+use crate::excerpt::Excerpt;
 use record_core::{GROWTH_HEAD_LEN, PAYLOAD_LIMIT, width_of};
 use segment_core::Growths;
 use std::alloc::Global;
@@ -65,11 +67,18 @@ pub(crate) fn check_sizes<R: TextRecord>(growths: &Growths<R>) -> Result<(), Ref
     Ok(())
 }
 
-/// The growths that the lines spell, one each, whatever their sizes.
-pub(crate) fn read_lines<R: TextRecord>(alloc: Global, input: &[u8]) -> Result<Growths<R>, Refusal>
+/// The growths that the lines spell, one each, whatever their sizes. Of a line that is refused an excerpt is left.
+pub(crate) fn read_lines<R: TextRecord>(
+    alloc: Global,
+    input: &[u8],
+    shown: &mut Option<Excerpt>,
+) -> Result<Growths<R>, Refusal>
     ensures read { IfOk result (λ growths. AreGrowthLines R.spelling input.now growths.0) }
     ensures refused { IfErr result (IsLinesRefusal R.form.width R.spelling input.now) }
+    ensures shown { IfSome shown.new (IsRefusedShown R.spelling input.now result) }
+    ensures none { IfOk result (λ _. shown.new ≡ None) }
 {
+    *shown = None;
     let mut growths = Growths::<R>::new(alloc);
     let mut lines = 0u64;
     let mut rest = input;
@@ -78,7 +87,10 @@ pub(crate) fn read_lines<R: TextRecord>(alloc: Global, input: &[u8]) -> Result<G
         lines += 1;
         match read_growth(line, &mut growths) {
             Ok(()) => {}
-            Err(LineFault::Bad) => return Err(Refusal::Line(lines)),
+            Err(LineFault::Bad) => {
+                *shown = Some(Excerpt::of_bad_word::<R>(line, b' '));
+                return Err(Refusal::Line(lines));
+            }
             Err(LineFault::Memory) => return Err(Refusal::Memory),
         }
         rest = after.unwrap_or(&[]);
@@ -87,11 +99,17 @@ pub(crate) fn read_lines<R: TextRecord>(alloc: Global, input: &[u8]) -> Result<G
 }
 
 /// The growths that the lines spell, one each. Each line is read before a size is tested.
-fn growths_of_lines<R: TextRecord>(alloc: Global, input: &[u8]) -> Result<Growths<R>, Refusal>
+fn growths_of_lines<R: TextRecord>(
+    alloc: Global,
+    input: &[u8],
+    shown: &mut Option<Excerpt>,
+) -> Result<Growths<R>, Refusal>
     ensures read { IfOk result (λ growths. AreGrowthLines R.spelling input.now growths.0 × AllGrowthsFit R.form.width growths.0) }
     ensures refused { IfErr result (IsLinesRefusal R.form.width R.spelling input.now) }
+    ensures shown { IfSome shown.new (IsRefusedShown R.spelling input.now result) }
+    ensures none { IfOk result (λ _. shown.new ≡ None) }
 {
-    let growths = read_lines(alloc, input)?;
+    let growths = read_lines(alloc, input, shown)?;
     match check_sizes(&growths) {
         Ok(()) => Ok(growths),
         Err(refusal) => Err(refusal),
@@ -102,19 +120,24 @@ fn growths_of_lines<R: TextRecord>(alloc: Global, input: &[u8]) -> Result<Growth
 /// input is no growth.
 ///
 /// Refused: `Input`, where a read failed; `InputTooLong`; `Line`, for the first line that isn't of the form; `TooLargeAtLine`,
-/// where all lines are, for the first one whose growth is past the longest payload; `Memory`.
+/// where all lines are, for the first one whose growth is past the longest payload; `Memory`. Where it is `Line`, an excerpt
+/// of that line is left.
 pub fn growths_of_input<R: TextRecord, I: Read>(
     alloc: Global,
     reader: &mut I,
+    shown: &mut Option<Excerpt>,
 ) -> Result<Growths<R>, Refusal>
     ensures read { IfOk result (λ growths. IfSome (I.remaining reader.old) (λ input. AreGrowthLines R.spelling input growths.0)) }
     ensures within { IfOk result (λ _. IfSome (I.remaining reader.old) (λ input. length input ≤ input_limit)) }
     ensures fit { IfOk result (λ growths. AllGrowthsFit R.form.width growths.0) }
     ensures refused { IfErr result (λ refusal. IfSome (I.remaining reader.old) (λ input. IsLinesRefusal R.form.width R.spelling input refusal)) }
+    ensures shown { IfSome shown.new (λ excerpt. IfSome (I.remaining reader.old) (λ input. IsRefusedShown R.spelling input result excerpt)) }
+    ensures none { IfOk result (λ _. shown.new ≡ None) }
 {
+    *shown = None;
     let input = match read_input(alloc, reader) {
         Ok(input) => input,
         Err(refusal) => return Err(refusal),
     };
-    growths_of_lines::<R>(alloc, input.as_slice())
+    growths_of_lines::<R>(alloc, input.as_slice(), shown)
 }

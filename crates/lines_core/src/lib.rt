@@ -3,9 +3,13 @@
 #![tactic(auto)]
 
 mod batches;
+mod excerpt;
 mod gathering;
 mod growth_lines;
 mod line_blocks;
+mod strict;
 
 pub use batches::{LineBatch, Rest, behind, read_batch};
+pub use excerpt::Excerpt;
 pub use growth_lines::growths_of_input;
+pub use strict::{Held, NOTHING_HELD};

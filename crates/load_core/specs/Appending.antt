@@ -14,7 +14,10 @@ use Rattle.files_core.specs.declared.appended.Appended.{Appended}
 use Rattle.files_core.specs.declared.fault.FileFault.{FileFault}
 use Rattle.files_core.specs.declared.fault.FileFault.TheVariants.{Word, Input, Open, Vault, Grower, Upgrade}
 use Rattle.files_core.specs.declared.fault.Stopped.{Stopped}
-use Rattle.lines_core.specs.InputBlocks.{AreOfAllLines, AreOfFirstLines}
+use Rattle.lines_core.specs.InputBlocks.{AreFirstBlocks, AreOfAllLines, AreOfFirstLines}
+use Rattle.lines_core.specs.Excerpts.{IsFrontShown}
+use Rattle.lines_core.specs.declared.excerpt.Excerpt.{Excerpt}
+use Rattle.text_core.specs.declared.refusal.Refusal.{Refusal}
 use Rattle.load_core.specs.Loading.{AreDealt, IsStopOf, IsStopReason}
 use Rattle.files_core.specs.Opened.{IsNotOpened, LeavesBeforeOr}
 
@@ -83,6 +86,14 @@ IsCrewStop (Open fault) = ⊥
 IsCrewStop (Word word) = ⊥
 IsCrewStop (Input refusal) = ⊥
 IsCrewStop (Upgrade fault) = ⊥
+
+-- A line was refused behind growths of the first lines of an input, each of a whole block, and this is of it.
+pub record IsLineBehind {R : Type 0} (spelling : Spelling R) (block : ℕ) (input : Option (List ℕ)) (excerpt : Excerpt) : Type 0 where
+  pub growths : List (List R)
+  pub coming : Option (List ℕ)
+  pub before : AreFirstBlocks spelling block input coming growths
+  pub refusal : Refusal
+  pub shown : IsFrontShown spelling coming refusal excerpt
 
 module _ {R D : Type 0} (form : Encoding R) (keeps : D → Type 0) (states : D → List State) where
   -- The list of the vault is settled.

@@ -1,11 +1,11 @@
 //! `append`: growths of an input of any length, committed as they are read.
 
-ghost use Rattle.std.specs.Prelude.{◌≡◌, ◌+◌, ◌-◌, ◌^◌, min, ℕ, List, Option, IfOk, IfErr};
+ghost use Rattle.std.specs.Prelude.{◌≡◌, ◌+◌, ◌-◌, ◌^◌, min, ℕ, List, Option, IfSome, IfOk, IfErr};
 ghost use Rattle.std.specs.Io.KnownBytes.{prepend_known};
 ghost use Rattle.std.specs.NonZero.{non_zero_u32_get};
 ghost use Rattle.block_core.specs.Growth.{Growth};
 ghost use Rattle.vault_core.specs.Vault.{VaultOf, list_of};
-ghost use Rattle.load_core.specs.Appending.{GrowsTo, HasAppended, HasAppendedAll, HasGone, IsAppendFault, IsSettled, StopsAtBatch, each_records};
+ghost use Rattle.load_core.specs.Appending.{GrowsTo, HasAppended, HasAppendedAll, HasGone, IsAppendFault, IsLineBehind, IsSettled, StopsAtBatch, each_records};
 ghost use Rattle.lines_core.specs.Batches.{AreReadSo, IsBatch};
 ghost use Rattle.files_core.specs.Ended.{EndsAs, WritesText};
 ghost use Rattle.lines_core.specs.InputBlocks.{AreFirstBlocks};
@@ -17,7 +17,7 @@ use crate::crewing::{Deck, OpenGate};
 use crate::loading::grow_by;
 use disk_core::Disk;
 use files_core::{Appended, Ended, FileFault, Progress};
-use lines_core::{LineBatch, Rest, behind, read_batch};
+use lines_core::{Excerpt, LineBatch, Rest, behind, read_batch};
 use segment_core::Growths;
 use std::alloc::Global;
 use std::io::{Read, Write};
@@ -112,13 +112,14 @@ fn append_batch<
         growths,
         lines,
         rest,
+        shown: _,
     } = batch;
     let count = growths.count() as u64;
     match append_growths::<R, S, D, E>(rt, alloc, vault, growths) {
         Ok(grown) => {
             let before = appended.lines;
             *appended = more_appended(*appended, count, block, grown.len());
-            progress.at(appended.growths, 0);
+            progress.appended(*appended);
             go_on(grown, rest, before, lines, appended)
         }
         Err((disk, fault)) => Err((disk, Err(tell_stop(appended, block, fault)))),
@@ -126,7 +127,7 @@ fn append_batch<
 }
 
 /// Appends the growths of the lines of an input of any length to a vault, some blocks of lines after the other. The buffer
-/// holds what was read and isn't in a growth yet.
+/// holds what was read and isn't in a growth yet. Of a line that is no growth line an excerpt is left.
 fn append_all<
     R: TextRecord,
     S: Deck<R> + Drop,
@@ -142,15 +143,18 @@ fn append_all<
     buffer: &mut Vec<u8>,
     block: NonZeroU32,
     progress: &P,
+    shown: &mut Option<Excerpt>,
 ) -> (D, Appended, Result<(), FileFault>)
     requires { IsSettled R.form D.keeps D.states vault }
     ensures stands { HasAppended R.form D.keeps D.states R.spelling (non_zero_u32_get block) (prepend_known buffer.old.items (I.remaining reader.old)) vault result.0 result.1 result.2 }
     ensures model { D.keeps result.0 → D.keeps vault.pen.disk }
+    ensures shown { IfSome shown.new (IsLineBehind R.spelling (non_zero_u32_get block) (prepend_known buffer.old.items (I.remaining reader.old))) }
 {
     let mut vault = vault;
     let mut told = none_appended(vault.len());
     for _ in 0..u64::MAX {
         let batch = read_batch::<R, I>(alloc, reader, buffer, block);
+        *shown = batch.shown;
         vault = match append_batch::<R, S, D, P, E>(
             rt, alloc, vault, batch, block, progress, &mut told,
         ) {
@@ -158,6 +162,7 @@ fn append_all<
             Err((disk, done)) => return (disk, told, done),
         };
     }
+    *shown = None;
     let fault = FileFault::Input(Refusal::InputTooLong);
     (vault.into_disk(), told, Err(fault))
 }
@@ -178,6 +183,7 @@ fn append_opened<
     reader: &mut I,
     block: NonZeroU32,
     progress: &P,
+    shown: &mut Option<Excerpt>,
     writer: &mut W,
 ) -> (D, Appended, Ended)
     requires { D.keeps vault.pen.disk → vault.sure ≡ list_of vault }
@@ -187,6 +193,7 @@ fn append_opened<
         result.2 }
     ensures model { D.keeps result.0 → D.keeps vault.pen.disk }
     ensures writes { WritesText (W.contents writer.old) (W.contents writer.new) (appended_line result.1.growths result.1.size) result.2 }
+    ensures shown { IfSome shown.new (IsLineBehind R.spelling (non_zero_u32_get block) (I.remaining reader.old)) }
 {
     // Whatever a crash leaves now opens to the list.
     let _disk = vault.disk();
@@ -199,6 +206,7 @@ fn append_opened<
         &mut buffer,
         block,
         progress,
+        shown,
     );
     (disk, appended, tell_appended(writer, appended, done))
 }
@@ -212,7 +220,8 @@ fn append_opened<
 /// Refused: `Open`; then, at the lines that it has come to, `Input` (`Line` with the line's number in the whole input;
 /// `TooLargeAtLine` with that of the first line of a block whose growth is past the longest payload; and, behind the whole
 /// blocks that were read, `Input`, where a read failed, `Memory`, and `InputTooLong` for a block of more than `INPUT_LIMIT`
-/// bytes), and `Vault` and `Grower` as `load`. The line of `Grower` is the first behind those that are told.
+/// bytes), and `Vault` and `Grower` as `load`. The line of `Grower` is the first behind those that are told. Of a line that is
+/// no growth line an excerpt is left.
 pub fn append<
     R: TextRecord,
     S: Deck<R> + Drop,
@@ -228,6 +237,7 @@ pub fn append<
     reader: &mut I,
     block: NonZeroU32,
     progress: &P,
+    shown: &mut Option<Excerpt>,
     writer: &mut W,
 ) -> (D, Appended, Ended)
     ensures stands { EndsAs
@@ -236,10 +246,12 @@ pub fn append<
         result.2 }
     ensures model { D.keeps result.0 → D.keeps disk }
     ensures writes { WritesText (W.contents writer.old) (W.contents writer.new) (appended_line result.1.growths result.1.size) result.2 }
+    ensures shown { IfSome shown.new (IsLineBehind R.spelling (non_zero_u32_get block) (I.remaining reader.old)) }
 {
+    *shown = None;
     match Vault::<R, D>::open(alloc, disk) {
         Ok(vault) => append_opened::<R, S, D, I, W, P, E>(
-            rt, alloc, vault, reader, block, progress, writer,
+            rt, alloc, vault, reader, block, progress, shown, writer,
         ),
         Err((disk, fault)) => (
             disk,

@@ -7,6 +7,7 @@ use crate::input::{write_input, write_word};
 use crate::role::{Role, name_of, write_in_use, write_not_opened};
 use crate::vault::{about_new, write_growth_fault, write_served_fault, write_stopped, write_vault};
 use files_core::{Appended, FileFault};
+use lines_core::Excerpt;
 use std::fmt::{self, Display, Formatter};
 use std::io;
 use vault_core::UpgradeFault;
@@ -44,6 +45,8 @@ impl From<FileFault> for Complaint {
 pub struct Sentence<'a> {
     pub request: Request<'a>,
     pub complaint: Complaint,
+    /// Of the line that is refused, where it is for its form.
+    pub shown: Option<Excerpt>,
 }
 
 fn write_upgrade<W: fmt::Write>(
@@ -67,10 +70,11 @@ fn write_fault<W: fmt::Write>(
     f: &mut Formatter<W>,
     words: &FileWords<'_>,
     fault: FileFault,
+    shown: Option<&Excerpt>,
 ) -> fmt::Result {
     match fault {
         FileFault::Word(word) => write_word(f, words, word),
-        FileFault::Input(refusal) => write_input(f, words, refusal),
+        FileFault::Input(refusal) => write_input(f, words, refusal, shown),
         FileFault::Open(fault) => write_open(f, words.file, Some(words.record_type), fault),
         FileFault::Vault(fault) => match words.task {
             FileTask::Load(_) | FileTask::Append { .. } => write_growth_fault(f, words.file, fault),
@@ -87,6 +91,7 @@ fn write_wrong<W: fmt::Write>(
     f: &mut Formatter<W>,
     words: &FileWords<'_>,
     complaint: &Complaint,
+    shown: Option<&Excerpt>,
 ) -> fmt::Result {
     match complaint {
         Complaint::NotOpened(role, error) => {
@@ -96,7 +101,7 @@ fn write_wrong<W: fmt::Write>(
         Complaint::Fault(fault)
         | Complaint::Damaged(_, fault)
         | Complaint::Appended(_, fault)
-        | Complaint::Served(_, fault) => write_fault(f, words, *fault),
+        | Complaint::Served(_, fault) => write_fault(f, words, *fault, shown),
     }
 }
 
@@ -126,8 +131,9 @@ fn write_of_file<W: fmt::Write>(
     f: &mut Formatter<W>,
     words: &FileWords<'_>,
     complaint: &Complaint,
+    shown: Option<&Excerpt>,
 ) -> fmt::Result {
-    write_wrong(f, words, complaint)?;
+    write_wrong(f, words, complaint, shown)?;
     write_standing(f, complaint)
 }
 
@@ -163,7 +169,9 @@ fn write_of_stat<W: fmt::Write>(
 impl<'a> Display for Sentence<'a> {
     fn fmt<W: fmt::Write>(&self, f: &mut Formatter<W>) -> fmt::Result {
         match &self.request {
-            Request::File(words) => write_of_file(f, words, &self.complaint),
+            Request::File(words) => {
+                write_of_file(f, words, &self.complaint, self.shown.as_ref())
+            }
             Request::Stat(words) => write_of_stat(f, words, &self.complaint),
             Request::Input(..) | Request::Tell(_) => Ok(()),
         }

@@ -1,7 +1,9 @@
 //! What is wrong with a word or with the input, and what to do next.
 
+use crate::shown::{write_bad_word, write_given, write_given_of};
 use files_core::Word;
-use record_core::PAYLOAD_LIMIT;
+use lines_core::Excerpt;
+use record_core::{Flagged, PAYLOAD_LIMIT, Pair};
 use std::fmt::{self, Formatter};
 use text_core::{INPUT_LIMIT, Refusal};
 use words_core::{FileTask, FileWords, RecordType};
@@ -17,24 +19,63 @@ fn record_form(record_type: RecordType) -> &'static str {
     }
 }
 
-/// What the sentence of a word that is refused begins with.
-fn begin_of_word(word: Word) -> &'static str {
+/// The name of a word that is refused.
+fn name_of_word(word: Word) -> &'static str {
     match word {
-        Word::Start => "START is ",
-        Word::Length => "N is ",
-        Word::From => "the value of --from is ",
-        Word::Count => "the value of --count is ",
-        Word::Record => "the value of --record isn't ",
-        Word::Records => "of the values of --records, with a comma between each two, one isn't ",
+        Word::Start => "START",
+        Word::Length => "N",
+        Word::From => "the value of --from",
+        Word::Count => "the value of --count",
+        Word::Record => "the value of --record",
+        Word::Records => "a value of --records",
     }
 }
 
-/// What a word that is refused is, or isn't where it stands for records.
-fn form_of_word(word: Word, record_type: RecordType) -> &'static str {
-    match word {
-        Word::Record | Word::Records => record_form(record_type),
-        _ => "no number of decimal digits without a zero in front",
+/// The first of the values of `--records` that is no record.
+fn excerpt_of_records(records: &[u8], record_type: RecordType) -> Excerpt {
+    match record_type {
+        RecordType::U32 => Excerpt::of_bad_word::<u32>(records, b','),
+        RecordType::U64 => Excerpt::of_bad_word::<u64>(records, b','),
+        RecordType::I64 => Excerpt::of_bad_word::<i64>(records, b','),
+        RecordType::Pair => Excerpt::of_bad_word::<Pair>(records, b','),
+        RecordType::Flagged => Excerpt::of_bad_word::<Flagged>(records, b','),
     }
+}
+
+/// The text of a word that is refused, as it was given. Of the values of `--records`, all of them.
+fn text_of_word<'a>(task: FileTask<'a>, word: Word) -> &'a str {
+    match (task, word) {
+        (FileTask::Set { start, .. }, Word::Start) => start,
+        (FileTask::Set { records, .. }, _) => records,
+        (FileTask::Resize { len, .. }, Word::Length) => len,
+        (FileTask::Resize { record, .. }, _) => record,
+        (FileTask::Count(record) | FileTask::Find(record), _) => record,
+        (FileTask::List { from, .. }, Word::From) => from.unwrap_or(""),
+        (FileTask::List { count, .. }, _) => count.unwrap_or(""),
+        _ => "",
+    }
+}
+
+/// What a word that is refused has to be: a record, or a number.
+fn type_of_word(word: Word, record_type: RecordType) -> RecordType {
+    match word {
+        Word::Record | Word::Records => record_type,
+        _ => RecordType::U64,
+    }
+}
+
+/// Writes a word that is refused, and what is wrong with it.
+fn write_wrong_word<W: fmt::Write>(
+    f: &mut Formatter<W>,
+    text: &[u8],
+    word: Word,
+    record_type: RecordType,
+) -> fmt::Result {
+    let Word::Records = word else {
+        return write_given(f, text, record_type);
+    };
+    let excerpt = excerpt_of_records(text, record_type);
+    write_given_of(f, &excerpt, record_type)
 }
 
 pub fn write_word<W: fmt::Write>(
@@ -42,9 +83,12 @@ pub fn write_word<W: fmt::Write>(
     words: &FileWords<'_>,
     word: Word,
 ) -> fmt::Result {
-    let begin = begin_of_word(word);
-    let form = form_of_word(word, words.record_type);
-    write!(f, "{begin}{form}; nothing was read or written")
+    let name = name_of_word(word);
+    let of_type = type_of_word(word, words.record_type);
+    let form = record_form(of_type);
+    write!(f, "{name} is ")?;
+    write_wrong_word(f, text_of_word(words.task, word).as_bytes(), word, of_type)?;
+    write!(f, "; it is to be {form}; nothing was read or written")
 }
 
 /// What the file has after a refusal of the input.
@@ -100,20 +144,34 @@ fn wrong_input(task: FileTask<'_>, refusal: Refusal) -> &'static str {
     }
 }
 
+/// What is wrong with a line, of which this is shown.
+fn write_bad_line<W: fmt::Write>(
+    f: &mut Formatter<W>,
+    n: u64,
+    words: &FileWords<'_>,
+    shown: Option<&Excerpt>,
+) -> fmt::Result {
+    write!(f, "line {n} of the input is no growth")?;
+    if let Some(excerpt) = shown {
+        f.write_str(": ")?;
+        write_bad_word(f, excerpt, words.record_type, words.lenient)?;
+    }
+    let record = record_form(words.record_type);
+    write!(
+        f,
+        "; a growth is records with one space between each two, each {record}"
+    )
+}
+
 /// What is wrong with the input.
 fn write_wrong_input<W: fmt::Write>(
     f: &mut Formatter<W>,
     words: &FileWords<'_>,
     refusal: Refusal,
+    shown: Option<&Excerpt>,
 ) -> fmt::Result {
     match refusal {
-        Refusal::Line(n) => {
-            let record = record_form(words.record_type);
-            write!(
-                f,
-                "line {n} of the input is no growth, which is records with one space between each two, each {record}"
-            )
-        }
+        Refusal::Line(n) => write_bad_line(f, n, words, shown),
         Refusal::TooLargeAtLine(n) => write!(
             f,
             "the growth of line {n} of the input is longer than the {} bytes of a frame",
@@ -128,9 +186,10 @@ pub fn write_input<W: fmt::Write>(
     f: &mut Formatter<W>,
     words: &FileWords<'_>,
     refusal: Refusal,
+    shown: Option<&Excerpt>,
 ) -> fmt::Result {
     let stands = stands_after_input(words.task);
     let about = about_input(words.task, refusal);
-    write_wrong_input(f, words, refusal)?;
+    write_wrong_input(f, words, refusal, shown)?;
     write!(f, "; {stands}{about}")
 }

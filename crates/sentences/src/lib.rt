@@ -5,6 +5,7 @@ mod bytes;
 mod complaint;
 mod input;
 mod role;
+mod shown;
 mod vault;
 
 pub use complaint::{Complaint, Sentence};

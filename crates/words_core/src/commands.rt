@@ -103,11 +103,19 @@ fn reading<'a>(alloc: Global, name: &'a str) -> Result<Command<'a>, AllocError> 
     }
 }
 
+/// `append`, with the words that are its own.
+fn appending<'a>(alloc: Global, name: &'a str) -> Result<Command<'a>, AllocError> {
+    let command = with_words(alloc, name, valued(alloc, "block"), valued(alloc, "every"))?;
+    command
+        .arg(flag(alloc, "progress"))?
+        .arg(flag(alloc, "lenient"))
+}
+
 /// A command that appends, with the words that are its own.
 fn growing<'a>(alloc: Global, name: &'a str) -> Result<Command<'a>, AllocError> {
     match name {
-        "load" => with_word(alloc, name, valued(alloc, "seats")),
-        "append" => with_words(alloc, name, valued(alloc, "block"), valued(alloc, "every")),
+        "load" => with_words(alloc, name, valued(alloc, "seats"), flag(alloc, "lenient")),
+        "append" => appending(alloc, name),
         _ => with_word(alloc, name, needed(alloc, "seats")),
     }
 }

@@ -139,11 +139,12 @@ where it is empty, or has what a stopped creation leaves; with --over whatever i
 Refused: exists (the file stays as it is), file, memory, and the disk's faults.
 ";
 
-const LOAD: &[u8] = b"cvec load TYPE FILE [--seats=N] [--quiet] < LINES
+const LOAD: &[u8] = b"cvec load TYPE FILE [--seats=N] [--lenient] [--quiet] < LINES
 
 Appends a growth for each line of the input: records with one space between each two. N growers (1 to 64, else 1) take the
 lines in turn. When it has told 'loaded', all growths are on the device. The input has at most 67108864 bytes and 1048568
-lines; 'append' takes any.
+lines; 'append' takes any. With --lenient a line may end with a carriage return too, and may have tabs for blanks, and more
+of them than one, also at its front and end.
 
   $ echo '5 6 7' | cvec load u64 t.cv
   loaded 1 growths, size 3
@@ -153,12 +154,14 @@ large (too many lines; nothing is grown), closed, full, too long, broken (the de
 stand), memory, and the disk's faults.
 ";
 
-const APPEND: &[u8] = b"cvec append TYPE FILE [--block=N] [--every=MS] [--quiet] < LINES
+const APPEND: &[u8] =
+    b"cvec append TYPE FILE [--block=N] [--every=MS] [--lenient] [--progress] [--quiet] < LINES
 
 Appends growths of an input of any length, and puts them on the device some lines at a time. The records of N lines, else of
 one, are a growth; the last one may have fewer lines. Lines that have come wait for more MS milliseconds (1 to 60000, else
 200), and no longer than until there is a MiB. Where a line is refused, the growths before the one that it is in stand, and
-standard error tells of how many lines they are.
+standard error tells of how many lines they are. --lenient takes lines as 'load' does with it. With --progress a line of
+standard error tells what is on the device, at most each second, also where that is no terminal.
 
   $ seq 1 1000000 | cvec append u64 t.cv --block=1000
   appended 1000 growths, size 1000000

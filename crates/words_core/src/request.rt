@@ -118,6 +118,10 @@ pub struct FileWords<'a> {
     pub file: &'a str,
     /// Nothing is told of how far the work is.
     pub quiet: bool,
+    /// How far `append` is is told in lines, whatever standard error is.
+    pub progress: bool,
+    /// `load` and `append` take lines leniently.
+    pub lenient: bool,
     /// For how many seconds another command is waited for that has the file.
     pub wait: u64,
 }

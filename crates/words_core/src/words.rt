@@ -239,6 +239,11 @@ fn stat_words<'a>(words: &ArgMatches<'a>) -> Result<StatWords<'a>, WordsFault> {
     })
 }
 
+/// Whether the command takes lines of records.
+fn takes_lines(name: &str) -> bool {
+    name == "load" || name == "append"
+}
+
 /// What the words of a command over a file ask for.
 fn file_words<'a>(
     name: &str,
@@ -250,6 +255,8 @@ fn file_words<'a>(
         record_type,
         file: words.get_str("FILE").ok_or(WordsFault::Usage)?,
         quiet: words.get_flag("quiet"),
+        progress: name == "append" && words.get_flag("progress"),
+        lenient: takes_lines(name) && words.get_flag("lenient"),
         wait: wait_of(words.get_str("wait"))?,
     })
 }

@@ -1,8 +1,8 @@
 use Rattle.std.proofs.Common.{inr}
 use Rattle.filing_core.proofs.filing.Filing.append.Goals as goal
 
-pub returns : goal.returns
-returns g c = inr (
+pub returns-clause-run : goal.returns-clause-run
+returns-clause-run g c = inr (
   c.append-disk.result.1,
   record {
     disk = c.in_ok-disk.field-0.disk;
