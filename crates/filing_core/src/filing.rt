@@ -1,6 +1,6 @@
 //! The commands over files: words first, then the input, then the file.
 
-ghost use Rattle.std.specs.Prelude.{◌≡◌, false, Some, None, IfSome, IfOk, IfErr};
+ghost use Rattle.std.specs.Prelude.{◌≡◌, None, IfSome, IfOk, IfErr};
 ghost use Rattle.std.specs.Option.{option_copied};
 ghost use Rattle.std.specs.NonZero.{non_zero_u32_get};
 ghost use Rattle.files_core.specs.Listing.{IsWindowListed};
@@ -8,22 +8,21 @@ ghost use Rattle.files_core.specs.Watched.{below};
 ghost use Rattle.load_core.specs.Appending.{IsLineBehind};
 ghost use Rattle.filing_core.specs.Asked.{IsNoWindow, IsWindow};
 ghost use Rattle.filing_core.specs.Complaints.{IsComplaintOf, IsJustOpened, IsUnopened};
-ghost use Rattle.filing_core.specs.Commands.{IsAppendRun, IsCheckRun, IsClearRun, IsCommandRun, IsCopyRun, IsCountRun, IsCreateRun, IsEngineDone, IsFindRun, IsFoldRun, IsListRun, IsLoadRun, IsNewTaken, IsPlaceTaken, IsResizeRun, IsServeRun, IsSetRun, IsTaken, IsUpgradeRun, MayBeMadeOn, Reads};
+ghost use Rattle.filing_core.specs.Commands.{IsAppendRun, IsCheckRun, IsClearRun, IsCommandRun, IsCopyRun, IsCountRun, IsCreateRun, IsEngineDone, IsFindRun, IsFoldRun, IsListRun, IsLoadRun, IsResizeRun, IsServeRun, IsSetRun, IsUpgradeRun, Reads};
 ghost use Rattle.filing_core.specs.Shown.{IsCommandShown, IsLoadShown};
 
 use crate::access::{Access, Opened, open};
 use crate::counting::CountingGate;
 use crate::ending::{status_of_append, status_of_serve, status_on};
+use crate::place::{new_place, take_back, takeable};
 use crate::serving::pipes_of;
 use disk_core::FileDisk;
 use files_core::{
-    Ended, FileFault, Progress, Watched, Window, check, clear, copy_file, count, create, find,
-    fold, is_vacant, list, read_record, read_resizing, read_setting, read_window, resize, set,
-    upgrade_file,
+    FileFault, Progress, Watched, Window, check, clear, copy_file, count, create, find, fold, list,
+    read_record, read_resizing, read_setting, read_window, resize, set, upgrade_file,
 };
 use lines_core::Excerpt;
 use load_core::{Deck, append, load, read_growth_lines};
-use pen_core::PenFault;
 use segment_core::Format;
 use sentences::{Complaint, Role};
 use serve_core::serve;
@@ -36,7 +35,6 @@ use std::sync::Wait;
 use std::thread::Threads;
 use std::time::Clock;
 use text_core::{Status, TextRecord};
-use vault_core::{UpgradeFault, VaultFault};
 use words_core::FileTask;
 
 /// The bytes of a word, if there is one.
@@ -55,57 +53,6 @@ fn window_of(from: Option<&str>, count: Option<&str>) -> Result<Window, FileFaul
     ensures refused { IfErr result (IsNoWindow (option_copied from.entry) (option_copied count.entry)) }
 {
     read_window(bytes_of_word(from), bytes_of_word(count))
-}
-
-/// The disk, where nothing stands on it but what a stopped creation of such a file leaves, or where no version is said of one
-/// of either.
-fn vacant<R: TextRecord>(disk: FileDisk, format: Option<Format>) -> Result<FileDisk, PenFault>
-    ensures vacant { IfOk result (MayBeMadeOn R.form format false disk) }
-    ensures taken { IsJustOpened disk → IfErr result (IsTaken R.form format) }
-{
-    let mut disk = disk;
-    match is_vacant::<R, FileDisk>(&mut disk, format) {
-        Ok(true) => Ok(disk),
-        Ok(false) => Err(PenFault::Exists),
-        Err(fault) => Err(PenFault::Disk(fault)),
-    }
-}
-
-/// The disk, where `create` may make such a file on it: nothing else stands there, or it is to be made over what does.
-fn takeable<R: TextRecord>(
-    disk: FileDisk,
-    format: Format,
-    over: bool,
-) -> Result<FileDisk, FileFault>
-    ensures vacant { IfOk result (MayBeMadeOn R.form (Some format) over disk) }
-    ensures taken { IsJustOpened disk → IfErr result (IsPlaceTaken R.form format over) }
-{
-    if over {
-        return Ok(disk);
-    }
-    match vacant::<R>(disk, Some(format)) {
-        Ok(disk) => Ok(disk),
-        Err(fault) => Err(FileFault::Vault(VaultFault::Pen(fault))),
-    }
-}
-
-/// The disk, where a new file of this version, or where none is said of either, may be made on it.
-fn new_place<R: TextRecord>(disk: FileDisk, format: Option<Format>) -> Result<FileDisk, FileFault>
-    ensures vacant { IfOk result (MayBeMadeOn R.form format false disk) }
-    ensures taken { IsJustOpened disk → IfErr result (IsNewTaken R.form format) }
-{
-    match vacant::<R>(disk, format) {
-        Ok(disk) => Ok(disk),
-        Err(fault) => Err(FileFault::Upgrade(UpgradeFault::New(VaultFault::Pen(fault)))),
-    }
-}
-
-/// Takes away what a copy that was refused has written of its new file: that would look like a vector. Where the system
-/// doesn't, it stays, and the next one refuses to write over it.
-fn take_back(file: &File, ended: Ended) {
-    if let Ended::Refused(FileFault::Upgrade(UpgradeFault::New(_))) = ended {
-        let _ = file.set_len(0);
-    }
 }
 
 /// A command over a file, and who is told how far it is.

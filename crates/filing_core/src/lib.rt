@@ -9,6 +9,7 @@ mod access;
 mod counting;
 mod ending;
 mod filing;
+mod place;
 mod serving;
 mod telling;
 

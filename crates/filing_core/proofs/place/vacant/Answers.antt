@@ -1,5 +1,5 @@
 use Rattle.std.proofs.Common.{◌≡◌, ◌↔◌, ◌∙◌, Bool, true, false, IsTrue, refl, sym, inl, inr}
-use Rattle.filing_core.proofs.filing.vacant.Goals as goal
+use Rattle.filing_core.proofs.place.vacant.Goals as goal
 
 -- what isn't true isn't so
 isnt : (b : Bool) (So : Type 0) → b ≡ false → (IsTrue b ↔ So) → So → ⊥
