@@ -2,6 +2,7 @@ pub mod Stops
 pub mod Crewed
 pub mod OneGrower
 pub mod Standing
+pub mod LineBehind
 mod WorkedGrowers
 mod WorkedGrowths
 mod WorkedStops
