@@ -127,16 +127,18 @@ def upgrade(model):
 
 
 def copy(model, pick):
-    words, version = ["copy", "u64", path, other], model.version
+    words, version, size = ["copy", "u64", path, other], model.version, len(model.records)
+    block = max(size, 1)
     if pick.random() < 0.5:
         version = pick.choice([1, 2])
         words.append(f"--format={version}")
     if pick.random() < 0.5:
-        words.append(f"--block={pick.randint(1, 5)}")
-    before = os.path.getsize(path)
-    if answer(words) != (f"copied size {len(model.records)}\n", 0):
+        block = pick.randint(1, 5)
+        words.append(f"--block={block}")
+    frames = -(-size // block)
+    if answer(words) != (f"copied size {size}\n", 0):
         return False
-    if words[4:] in ([], [f"--format={version}"]) and os.path.getsize(other) > before:
+    if answer(["check", "u64", other]) != (f"ok version {version} width 8 size {size} frames {frames} live 0\n", 0):
         return False
     os.replace(other, path)
     model.version, model.live = version, 0
