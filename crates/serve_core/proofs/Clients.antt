@@ -19,7 +19,7 @@ use Rattle.serve_core.specs.declared.request.ClientRequest.{ClientRequest}
 use Rattle.serve_core.specs.declared.request.ClientRequest.TheVariants as requests
 use Rattle.serve_core.specs.declared.talking.TalkEnd.{TalkEnd}
 use Rattle.serve_core.specs.Talks.{AreExchanges, Exchange, HasFinished, HasTalked, IsExchange, IsOfGrowth, IsOfLooking, IsOfReading, IsOfRequest, IsOfWaiting}
-use Rattle.serve_core.specs.Clients.{AreBegun, AreClients, AreToldByRaises, Begun, HasRaiseTo, IsBegun, IsClient, TellsSettled}
+use Rattle.serve_core.specs.Clients.{AreBegun, AreClients, AreToldByRaises, Begun, HasRaiseTo, IsClientBegun, IsClient, TellsSettled}
 
 newest_raise : (raises : List Raise) (n : ℕ) → raised_to raises ≡ n → 0 < n → HasRaiseTo n raises
 newest_raise [] n is some = absurd (omega (arith, is, some))
@@ -163,21 +163,21 @@ get-last [] x = refl
 get-last (z ∷ xs) x = get-last xs x
 
 module _ {R I W : Type 0} (live : Phase R) (pipes : List (Pipes I W)) where
-  pub begun_last : (rest : List (Begun R I W)) (b : Begun R I W) → AreBegun live pipes (rest ++ b ∷ []) → (id : ℕ) × (id + length rest + 1 ≡ length pipes) × IsBegun live pipes id b
+  pub begun_last : (rest : List (Begun R I W)) (b : Begun R I W) → AreBegun live pipes (rest ++ b ∷ []) → (id : ℕ) × (id + length rest + 1 ≡ length pipes) × IsClientBegun live pipes id b
   begun_last rest b all = all (length rest) b (get-last rest b)
 
   pub begun_rest : (rest : List (Begun R I W)) (b : Begun R I W) → AreBegun live pipes (rest ++ b ∷ []) → AreBegun live pipes rest
   begun_rest rest b all k begun there = all k begun (get-push rest b k begun there)
 
-  pub begun_more : (all : List (Begun R I W)) (b : Begun R I W) (id : ℕ) → AreBegun live pipes all → id + length all + 1 ≡ length pipes → IsBegun live pipes id b → AreBegun live pipes (all ++ b ∷ [])
+  pub begun_more : (all : List (Begun R I W)) (b : Begun R I W) (id : ℕ) → AreBegun live pipes all → id + length all + 1 ≡ length pipes → IsClientBegun live pipes id b → AreBegun live pipes (all ++ b ∷ [])
   begun_more all b id are number is k begun there = elim (push_get all b k begun there) [
     | inl before ↦ are k begun before
-    | inr last ↦ (id, (let at = last.0 in omega (arith, at, number)), subst (IsBegun live pipes id) last.1 is)
+    | inr last ↦ (id, (let at = last.0 in omega (arith, at, number)), subst (IsClientBegun live pipes id) last.1 is)
   ]
 
   -- the client of the last of these pipes, whose seat was the last one
   pub begun_is : (given rest : List (Pipes I W)) (n : ℕ) (b : Begun R I W) (pair : Pipes I W) → given ≡ rest ++ pair ∷ [] → ((k : ℕ) (p : Pipes I W) → slice_get given k ≡ Some p → slice_get pipes k ≡ Some p)
-      → length rest ≡ n → b.live ≡ live → b.pipes ≡ pair → IsNewSeat live.directory live.mark n b.seat → IsBegun live pipes n b
+      → length rest ≡ n → b.live ≡ live → b.pipes ≡ pair → IsNewSeat live.directory live.mark n b.seat → IsClientBegun live pipes n b
   begun_is given rest n b pair is front long same its new = record {
     live_is = same;
     new = new;
@@ -205,7 +205,7 @@ module _ {R I W : Type 0} (form : Encoding R) (live : Phase R) (remaining : I �
       none k is = cc
 
   pub home_more : (seats : List (Seated R)) (seat : Seated R) (n : ℕ) (b : Begun R I W) (remains written : Option (List ℕ)) (end : Option TalkEnd) → AreSeatsOf form live remaining contents pipes seats
-      → length seats ≡ n → IsBegun live pipes n b → IsSeatOf b.live seat
+      → length seats ≡ n → IsClientBegun live pipes n b → IsSeatOf b.live seat
       → HasFinished form b.live b.seat seat (remaining b.pipes.requests) remains (contents b.pipes.answers) written end → AreSeatsOf form live remaining contents pipes (seats ++ seat ∷ [])
   home_more seats seat n b remains written end home long is of finished k pair s at there = elim (push_get seats seat k s there) [
     | inl before ↦ home k pair s at before

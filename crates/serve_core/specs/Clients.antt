@@ -102,14 +102,14 @@ pub record Begun (R I W : Type 0) : Type 0 where
   pub pipes : Pipes I W
 
 -- that of the client of that place in these pipes
-pub record IsBegun {R I W : Type 0} (live : Phase R) (pipes : List (Pipes I W)) (id : ℕ) (begun : Begun R I W) : Type 0 where
+pub record IsClientBegun {R I W : Type 0} (live : Phase R) (pipes : List (Pipes I W)) (id : ℕ) (begun : Begun R I W) : Type 0 where
   pub live_is : begun.live ≡ live
   pub new : IsNewSeat live.directory live.mark id begun.seat
   pub pipes_are : slice_get pipes id ≡ Some begun.pipes
 
 -- those of clients of these pipes, from the last one on
 abbrev pub AreBegun : {R I W : Type 0} → Phase R → List (Pipes I W) → List (Begun R I W) → Type 0
-AreBegun {R} {I} {W} live pipes all = (k : ℕ) (begun : Begun R I W) → slice_get all k ≡ Some begun → (id : ℕ) × (id + k + 1 ≡ length pipes) × IsBegun live pipes id begun
+AreBegun {R} {I} {W} live pipes all = (k : ℕ) (begun : Begun R I W) → slice_get all k ≡ Some begun → (id : ℕ) × (id + k + 1 ≡ length pipes) × IsClientBegun live pipes id begun
 
 -- The flusher knows what the seats of the clients know, and what they were told stands.
 pub record HasTakenIn {R D I W : Type 0} (form : Encoding R) (keeps : D → Type 0) (states : D → List State) (live : Phase R) (remaining : I → Option (List ℕ)) (contents : W → Option (List ℕ))

@@ -1,6 +1,6 @@
 use Rattle.std.proofs.Common.{◌≡◌, ℕ, ◌+◌, ◌∷◌, ◌++◌, [], length, vec_len, refl, sym, subst, ◌∙◌, arith}
 use Rattle.std.proofs.lemmas.List.{nil_from_length}
-use Rattle.serve_core.specs.Clients.{AreBegun, IsBegun}
+use Rattle.serve_core.specs.Clients.{AreBegun, IsClientBegun}
 use Rattle.serve_core.proofs.Clients.{AreSeatsOf, begun_last, begun_rest, home_more, home_none}
 use Rattle.serve_core.proofs.homing.come_home.Goals as goal
 
@@ -26,7 +26,7 @@ loop-preserved g c =
     let ok = c.take_last.new.self.ok in
     let ok' = c.args._pipes.now.value.ok in
     let ok'' = c.loop.seats.ok in
-    let is : IsBegun live pipes (length c.loop.seats.items) last = subst (λ (k : ℕ). IsBegun live pipes k last) (omega arith) here.2 in
+    let is : IsClientBegun live pipes (length c.loop.seats.items) last = subst (λ (k : ℕ). IsClientBegun live pipes k last) (omega arith) here.2 in
     record {
       left = omega arith;
       begun = begun_rest live pipes rest last all;
