@@ -2,7 +2,7 @@
 //! what it prints with a run that has ample memory.
 
 use crate::fault::SpeedFault;
-use crate::grower::Grower;
+use crate::grower::ThreadSeat;
 use book_core::{GrowFault, Receipt};
 use std::fmt;
 use std::sync::Wait;
@@ -34,7 +34,7 @@ impl fmt::Display for Grown {
 }
 
 /// Makes the growth of that number, and writes what it came to. Whether memory was refused.
-fn grow_and_tell<E: Wait + Print, G: Grower>(
+fn grow_and_tell<E: Wait + Print, G: ThreadSeat>(
     rt: &E,
     own: &mut G,
     number: u64,
@@ -47,7 +47,7 @@ fn grow_and_tell<E: Wait + Print, G: Grower>(
 }
 
 /// Makes some growths by each call, each once again where memory was refused, and writes a line for each. It has no figure.
-pub fn grow_each<E: Wait + Print, G: Grower>(rt: &E, own: &mut G) -> Result<(), SpeedFault> {
+pub fn grow_each<E: Wait + Print, G: ThreadSeat>(rt: &E, own: &mut G) -> Result<(), SpeedFault> {
     for number in 0..GROWTHS {
         if grow_and_tell(rt, own, number)? {
             grow_and_tell(rt, own, number)?;

@@ -4,7 +4,7 @@ ghost use Rattle.book_core.specs.Lists.{IsSeatOf};
 
 use crate::barrier::{Barrier, Span};
 use crate::fault::SpeedFault;
-use crate::grower::Grower;
+use crate::grower::ThreadSeat;
 use crate::phase::Seated;
 use crate::reading::Total;
 use book_core::{Appender, GrowFault, Live};
@@ -14,7 +14,7 @@ use std::time::{Clock, Instant};
 
 /// How many records each thread appends, by blocks of how many.
 #[derive(Clone, Copy)]
-pub struct Records {
+pub struct AppendSizes {
     pub count: u64,
     pub block: u64,
 }
@@ -82,7 +82,7 @@ pub fn append_all<E: Wait + Clock>(
     rt: &E,
     alloc: Global,
     own: Seated,
-    records: Records,
+    records: AppendSizes,
     barrier: &Barrier,
 ) -> Result<Span, SpeedFault> {
     let first = first_of(own.number());

@@ -6,10 +6,10 @@ use crate::barrier::{Barrier, Span};
 use crate::clock::{now, since};
 use crate::fault::SpeedFault;
 use crate::figure::Figure;
-use crate::grower::{Grower, put_blocks};
+use crate::grower::{ThreadSeat, put_blocks};
 use crate::mix::mixed;
 use crate::reading::Total;
-use crate::role::{Role, ThreadTask};
+use crate::role::{ThreadRole, ThreadTask};
 use crate::together::run_free;
 use std::alloc::Global;
 use std::sync::atomic::{AtomicBool, Ordering};
@@ -57,7 +57,7 @@ pub struct Course<'a> {
 }
 
 /// Sums all that there is, and compares it. Answers how many records it summed.
-fn sum_once<G: Grower>(own: &mut G, block: &[u64]) -> Result<u64, SpeedFault> {
+fn sum_once<G: ThreadSeat>(own: &mut G, block: &[u64]) -> Result<u64, SpeedFault> {
     own.look()?;
     let total = own.total();
     total.check(Total::of_copies(block, own.piece_count()))?;
@@ -82,7 +82,7 @@ impl<'a> Course<'a> {
     }
 
     /// Makes the growths that come before.
-    pub fn grow_before<E: Wait, G: Grower>(
+    pub fn grow_before<E: Wait, G: ThreadSeat>(
         &self,
         rt: &E,
         alloc: Global,
@@ -97,7 +97,7 @@ impl<'a> Course<'a> {
     }
 
     /// Makes growths from that moment on, as many as it can in the time, then tells the others that it has ended.
-    fn grow<E: Wait + Clock, G: Grower>(
+    fn grow<E: Wait + Clock, G: ThreadSeat>(
         &self,
         rt: &E,
         alloc: Global,
@@ -121,7 +121,7 @@ impl<'a> Course<'a> {
     }
 
     /// Sums all that there is, again and again, until the grower has ended or the time is over.
-    fn sum<E: Wait + Clock, G: Grower>(
+    fn sum<E: Wait + Clock, G: ThreadSeat>(
         &self,
         rt: &E,
         own: &mut G,
@@ -140,7 +140,7 @@ impl<'a> Course<'a> {
     }
 
     /// What one thread does once all threads are there: that of the first seat grows, and the others sum.
-    fn work<E: Wait + Clock, G: Grower>(
+    fn work<E: Wait + Clock, G: ThreadSeat>(
         &self,
         rt: &E,
         alloc: Global,
@@ -157,7 +157,7 @@ impl<'a> Course<'a> {
     }
 
     /// The same, and tells when it was done.
-    pub fn play<E: Wait + Clock, G: Grower>(&self, rt: &E, alloc: Global, own: &mut G) {
+    pub fn play<E: Wait + Clock, G: ThreadSeat>(&self, rt: &E, alloc: Global, own: &mut G) {
         self.barrier.leave(rt, self.work(rt, alloc, own));
     }
 
@@ -170,7 +170,7 @@ impl<'a> Course<'a> {
         figures: &mut Vec<Figure>,
     ) -> Result<(), SpeedFault> {
         let room = self.before.saturating_add(self.growths);
-        let role = Role::Keep(ThreadTask::Beside(self));
+        let role = ThreadRole::Keep(ThreadTask::Beside(self));
         let total = run_free(rt, alloc, room, readers.saturating_add(1), role)?;
         let time = self.barrier.time(rt)?;
         let done = *self.done.lock(rt);

@@ -6,8 +6,8 @@ use crate::grow::GrowSizes;
 use crate::pool::Pool;
 use crate::producer::{Course, Pace};
 use crate::reading::Total;
-use crate::role::{Role, ThreadTask};
-use crate::served::Served;
+use crate::role::{ThreadRole, ThreadTask};
+use crate::served::ServedPhase;
 use crate::store::{make_disk, total_opened};
 use crate::together::run_all;
 use directory_core::GROWTH_LIMIT;
@@ -116,8 +116,13 @@ fn append<E: Threads + Wait + Clock + Eprint + Sync + Files<File = File> + Alloc
     course: &Course,
 ) -> Result<Instant, SpeedFault> {
     let disk = make_disk(rt, alloc, sizes.dir)?;
-    let phase = Served::begin(alloc, disk, sizes.room(), sizes.grow.threads)?;
-    let outcome = run_all(rt, alloc, phase, Role::Keep(ThreadTask::Produce(course)));
+    let phase = ServedPhase::begin(alloc, disk, sizes.room(), sizes.grow.threads)?;
+    let outcome = run_all(
+        rt,
+        alloc,
+        phase,
+        ThreadRole::Keep(ThreadTask::Produce(course)),
+    );
     match outcome.run {
         Ok(()) => outcome.ended,
         Err(fault) => Err(fault),

@@ -2,14 +2,14 @@
 
 ghost use Rattle.std.specs.Prelude.{◌<◌};
 
-use crate::append::{Records, total_of_threads};
+use crate::append::{AppendSizes, total_of_threads};
 use crate::barrier::{Barrier, Span};
 use crate::fault::SpeedFault;
 use crate::figure::Figure;
-use crate::grower::{Grower, put_copies};
+use crate::grower::{ThreadSeat, put_copies};
 use crate::mix::mixed;
 use crate::reading::Total;
-use crate::role::{Play, Role, ThreadTask};
+use crate::role::{Play, ThreadRole, ThreadTask};
 use crate::together::run_free;
 use std::alloc::{AllocError, Global};
 use std::sync::Wait;
@@ -51,7 +51,7 @@ pub struct Copies<'a> {
 }
 
 /// So many growths by copies of the thread's block, once all threads are there.
-pub fn grow_copies<E: Wait + Clock, G: Grower>(
+pub fn grow_copies<E: Wait + Clock, G: ThreadSeat>(
     rt: &E,
     alloc: Global,
     own: &mut G,
@@ -92,7 +92,7 @@ fn grow_blocks<E: Threads + Wait + Clock + Eprint + Sync>(
     figures: &mut Vec<Figure>,
 ) -> Result<(), SpeedFault> {
     let growths = sizes.n / sizes.threads as u64 / sizes.block as u64;
-    let role = Role::Keep(ThreadTask::Grow(Copies { blocks, growths }, barrier));
+    let role = ThreadRole::Keep(ThreadTask::Grow(Copies { blocks, growths }, barrier));
     let (total, figure) = run_role(rt, alloc, "grow", sizes.threads, growths, role, barrier)?;
     total.check(total_of_blocks(blocks, growths))?;
     figure.put(figures)
@@ -122,7 +122,7 @@ fn grow_records<E: Threads + Wait + Clock + Eprint + Sync>(
     let threads = sizes.threads;
     let count = sizes.n / threads as u64;
     let block = sizes.block as u64;
-    let role = Role::Append(Records { count, block }, barrier);
+    let role = ThreadRole::Append(AppendSizes { count, block }, barrier);
     let growths = count.div_ceil(block);
     let (total, figure) = run_role(rt, alloc, "append", threads, growths, role, barrier)?;
     total.check(total_of_threads(threads, count))?;

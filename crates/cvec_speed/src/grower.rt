@@ -1,6 +1,6 @@
 //! What works do by one thread's seat.
 
-use crate::append::Records;
+use crate::append::AppendSizes;
 use crate::barrier::{Barrier, Span};
 use crate::fault::SpeedFault;
 use crate::reading::Total;
@@ -10,7 +10,7 @@ use std::sync::Wait;
 use std::time::Clock;
 
 /// One thread's seat in a phase. Works are written over any, so that they are proved without what a vector is made of.
-pub trait Grower {
+pub trait ThreadSeat {
     /// Its number among the seats.
     fn number(&self) -> usize;
 
@@ -49,19 +49,19 @@ pub trait Grower {
         self,
         rt: &E,
         alloc: Global,
-        records: Records,
+        records: AppendSizes,
         barrier: &Barrier,
     ) -> Result<Span, SpeedFault>;
 }
 
 /// A phase whose threads are watched.
-pub trait Phase {
+pub trait WatchedPhase {
     /// Closes it, and wakes who waits in it.
     fn break_off<E: Wait>(&self, rt: &E);
 }
 
 /// Grows so many times by copies of the block.
-pub fn put_blocks<E: Wait, G: Grower>(
+pub fn put_blocks<E: Wait, G: ThreadSeat>(
     rt: &E,
     alloc: Global,
     own: &mut G,
@@ -75,7 +75,7 @@ pub fn put_blocks<E: Wait, G: Grower>(
 }
 
 /// Grows so many times by one record.
-fn put_records<E: Wait, G: Grower>(
+fn put_records<E: Wait, G: ThreadSeat>(
     rt: &E,
     own: &mut G,
     record: u64,
@@ -88,7 +88,7 @@ fn put_records<E: Wait, G: Grower>(
 }
 
 /// Grows so many times by copies of the block, or by its record, where it has one.
-pub fn put_copies<E: Wait, G: Grower>(
+pub fn put_copies<E: Wait, G: ThreadSeat>(
     rt: &E,
     alloc: Global,
     own: &mut G,

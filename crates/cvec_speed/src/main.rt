@@ -43,7 +43,7 @@ use crate::mix::mixed;
 use crate::read::ReadSizes;
 use crate::store::{build, open};
 use crate::waits::{Phases, waits};
-use crate::words::{WordsFault, Work, read_words};
+use crate::words::{Work, WorkFault, read_words};
 use std::alloc::Global;
 use std::fs::File;
 use std::process::ExitCode;
@@ -79,8 +79,8 @@ fn status_of<E: Threads + Wait + Clock + Files<File = File> + AllocGlobal + Prin
 ) -> io::Result<u8> {
     match read_words(words) {
         Ok(work) => measure(rt, work),
-        Err(WordsFault::NoWork) => status_behind(rt.print(USAGE), 3),
-        Err(WordsFault::NoSize) => status_behind(rt.eprint(USAGE), 2),
+        Err(WorkFault::NoWork) => status_behind(rt.print(USAGE), 3),
+        Err(WorkFault::NoSize) => status_behind(rt.eprint(USAGE), 2),
     }
 }
 

@@ -5,7 +5,7 @@ ghost use Rattle.std.specs.Prelude.{◌<◌};
 use crate::clock::{now, since};
 use crate::fault::SpeedFault;
 use crate::figure::{Detail, Figure, MemoryUse};
-use crate::grower::{Grower, put_copies};
+use crate::grower::{ThreadSeat, put_copies};
 use std::alloc::{AllocGlobal, Global};
 use std::fs;
 use std::rt::Files;
@@ -88,7 +88,7 @@ impl Filled {
 }
 
 /// Fills the vector by so many copies of the block. The process's memory is asked before it and after it.
-fn fill<E: Wait + Clock + Files + AllocGlobal, G: Grower>(
+fn fill<E: Wait + Clock + Files + AllocGlobal, G: ThreadSeat>(
     rt: &E,
     alloc: Global,
     own: &mut G,
@@ -108,7 +108,7 @@ fn fill<E: Wait + Clock + Files + AllocGlobal, G: Grower>(
 }
 
 /// Fills the vector, and tells the memory that it then takes.
-pub fn fill_and_tell<E: Wait + Clock + Files + AllocGlobal, G: Grower>(
+pub fn fill_and_tell<E: Wait + Clock + Files + AllocGlobal, G: ThreadSeat>(
     rt: &E,
     alloc: Global,
     own: &mut G,

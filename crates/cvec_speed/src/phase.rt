@@ -4,10 +4,10 @@ ghost use Rattle.std.specs.Prelude.{IfOk};
 ghost use Rattle.book_core.specs.Lists.{IsSeatOf};
 ghost use Rattle.book_core.specs.Beginning.{AreNewSeats};
 
-use crate::append::{Records, append_all};
+use crate::append::{AppendSizes, append_all};
 use crate::barrier::{Barrier, Span};
 use crate::fault::SpeedFault;
-use crate::grower::{Grower, Phase};
+use crate::grower::{ThreadSeat, WatchedPhase};
 use crate::reading::Total;
 use block_core::Fresh;
 use book_core::{Begun, GrowFault, Live, Receipt, Seat, Snapshot};
@@ -95,7 +95,7 @@ impl<'a> Seated<'a> {
     }
 }
 
-impl Grower for Seated<'_> {
+impl ThreadSeat for Seated<'_> {
     fn number(&self) -> usize {
         self.number
     }
@@ -173,14 +173,14 @@ impl Grower for Seated<'_> {
         self,
         rt: &E,
         alloc: Global,
-        records: Records,
+        records: AppendSizes,
         barrier: &Barrier,
     ) -> Result<Span, SpeedFault> {
         append_all(rt, alloc, self, records, barrier)
     }
 }
 
-impl Phase for Live<u64> {
+impl WatchedPhase for Live<u64> {
     fn break_off<E: Wait>(&self, rt: &E) {
         self.close(rt);
         self.wake_settled();

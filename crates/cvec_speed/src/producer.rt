@@ -3,7 +3,7 @@
 use crate::barrier::{Barrier, Span};
 use crate::clock::now;
 use crate::fault::SpeedFault;
-use crate::grower::Grower;
+use crate::grower::ThreadSeat;
 use crate::pool::Pool;
 use std::alloc::Global;
 use std::sync::{Mutex, Wait};
@@ -20,7 +20,7 @@ pub enum Pace {
 
 /// What the threads that are done have appended.
 #[derive(Drop)]
-pub struct Appended {
+pub struct ThreadsAppended {
     /// How many blocks each of them did, and its number.
     pub blocks: Vec<(u64, u64)>,
     /// How long each of their rounds took.
@@ -33,7 +33,7 @@ pub struct Course {
     pub pool: Pool,
     pub barrier: Barrier,
     pub pace: Pace,
-    pub appended: Mutex<Appended>,
+    pub appended: Mutex<ThreadsAppended>,
 }
 
 impl Course {
@@ -42,7 +42,7 @@ impl Course {
             pool,
             barrier: Barrier::new(threads),
             pace,
-            appended: Mutex::new(Appended {
+            appended: Mutex::new(ThreadsAppended {
                 blocks: Vec::new(alloc),
                 rounds: Vec::new(alloc),
             }),
@@ -50,7 +50,7 @@ impl Course {
     }
 }
 
-impl Appended {
+impl ThreadsAppended {
     /// What one more thread did.
     fn add(&mut self, producer: &Producer) -> Result<(), SpeedFault> {
         self.blocks.push((producer.thread, producer.blocks))?;
@@ -71,7 +71,7 @@ struct Producer {
 
 impl Producer {
     /// Appends the next block. Its number in the vector.
-    fn put<E: Wait, G: Grower>(
+    fn put<E: Wait, G: ThreadSeat>(
         &mut self,
         rt: &E,
         alloc: Global,
@@ -84,7 +84,7 @@ impl Producer {
     }
 
     /// Appends the next so many blocks. The number of the last one in the vector.
-    fn put_all<E: Wait, G: Grower>(
+    fn put_all<E: Wait, G: ThreadSeat>(
         &mut self,
         rt: &E,
         alloc: Global,
@@ -100,7 +100,7 @@ impl Producer {
     }
 
     /// Appends so many blocks, waits until they are durable, and notes how long that took since then. When they were.
-    fn put_and_wait<E: Wait + Clock, G: Grower>(
+    fn put_and_wait<E: Wait + Clock, G: ThreadSeat>(
         &mut self,
         rt: &E,
         alloc: Global,
@@ -123,7 +123,7 @@ impl Producer {
     }
 
     /// Appends blocks and waits, round by round, for so long.
-    fn put_in_rounds<E: Wait + Clock, G: Grower>(
+    fn put_in_rounds<E: Wait + Clock, G: ThreadSeat>(
         &mut self,
         rt: &E,
         alloc: Global,
@@ -144,7 +144,7 @@ impl Producer {
     }
 
     /// Appends its blocks.
-    fn produce<E: Wait + Clock, G: Grower>(
+    fn produce<E: Wait + Clock, G: ThreadSeat>(
         &mut self,
         rt: &E,
         alloc: Global,
@@ -162,7 +162,7 @@ impl Producer {
     }
 
     /// Appends its blocks once all threads are there. From when to when.
-    fn run<E: Wait + Clock, G: Grower>(
+    fn run<E: Wait + Clock, G: ThreadSeat>(
         &mut self,
         rt: &E,
         alloc: Global,
@@ -185,7 +185,7 @@ impl Course {
     }
 
     /// What one thread does: it appends its blocks once all threads are there, and tells what it did.
-    pub fn play<E: Wait + Clock, G: Grower>(&self, rt: &E, alloc: Global, own: &mut G) {
+    pub fn play<E: Wait + Clock, G: ThreadSeat>(&self, rt: &E, alloc: Global, own: &mut G) {
         let mut producer = Producer {
             thread: own.number() as u64,
             blocks: 0,

@@ -6,7 +6,7 @@ use crate::barrier::{Barrier, Span};
 use crate::clock::{now, since};
 use crate::fault::SpeedFault;
 use crate::figure::Figure;
-use crate::grower::Grower;
+use crate::grower::ThreadSeat;
 use crate::mix::{below, mix, mixed, sum_of_mixed};
 use crate::phase::Seated;
 use crate::reading::Total;
@@ -86,7 +86,7 @@ impl ReadSizes {
 }
 
 /// Grows up to so many records. The record at a place is `mix` of it.
-fn fill<E: Wait, G: Grower>(
+fn fill<E: Wait, G: ThreadSeat>(
     rt: &E,
     alloc: Global,
     own: &mut G,
@@ -241,7 +241,11 @@ fn read_at_random<E: Threads + Wait + Clock + Sync, P: Places + Sync>(
 }
 
 /// Reads all records in order, and compares their sum.
-fn read_in_order<E: Clock, G: Grower>(rt: &E, own: &mut G, n: u64) -> Result<Figure, SpeedFault> {
+fn read_in_order<E: Clock, G: ThreadSeat>(
+    rt: &E,
+    own: &mut G,
+    n: u64,
+) -> Result<Figure, SpeedFault> {
     let start = now(rt)?;
     let total = own.total();
     let time = since(rt, start)?;

@@ -1,10 +1,10 @@
 //! What the threads of a work do.
 
-use crate::append::Records;
+use crate::append::AppendSizes;
 use crate::barrier::Barrier;
 use crate::fault::SpeedFault;
 use crate::grow::{Copies, grow_copies};
-use crate::grower::{Grower, Phase};
+use crate::grower::{ThreadSeat, WatchedPhase};
 use crate::waiter::{wait_as, watch_over};
 use crate::watch::Watch;
 use crate::{beside, producer, waiter};
@@ -26,7 +26,7 @@ pub enum ThreadTask<'a> {
 }
 
 impl ThreadTask<'_> {
-    fn play<E: Wait + Clock, G: Grower>(self, rt: &E, alloc: Global, own: &mut G) {
+    fn play<E: Wait + Clock, G: ThreadSeat>(self, rt: &E, alloc: Global, own: &mut G) {
         match self {
             ThreadTask::Grow(copies, barrier) => {
                 barrier.leave(rt, grow_copies(rt, alloc, own, copies, barrier))
@@ -41,7 +41,7 @@ impl ThreadTask<'_> {
 /// What each of the threads of a phase does. They are run over any such, and so proved without what a work is made of.
 pub trait Play: Copy + Send + Sync {
     /// What comes before, by a seat that has no thread.
-    fn prepare<E: Wait, G: Grower>(
+    fn prepare<E: Wait, G: ThreadSeat>(
         self,
         rt: &E,
         alloc: Global,
@@ -49,13 +49,13 @@ pub trait Play: Copy + Send + Sync {
     ) -> Result<(), SpeedFault>;
 
     /// What one thread does.
-    fn play<E: Wait + Clock, G: Grower + Drop>(self, rt: &E, alloc: Global, own: G);
+    fn play<E: Wait + Clock, G: ThreadSeat + Drop>(self, rt: &E, alloc: Global, own: G);
 
     /// Tells those that wait for all threads that one of them can't be started.
     fn give_up(self);
 
     /// Waits until the threads are through, where they are watched.
-    fn watch_over<E: Wait + Clock + Eprint, P: Phase>(
+    fn watch_over<E: Wait + Clock + Eprint, P: WatchedPhase>(
         self,
         rt: &E,
         phase: &P,
@@ -65,43 +65,45 @@ pub trait Play: Copy + Send + Sync {
 
 /// What each of the threads does.
 #[derive(Clone, Copy)]
-pub enum Role<'a> {
+pub enum ThreadRole<'a> {
     /// Appends single records: it gives its seat to an appender.
-    Append(Records, &'a Barrier),
+    Append(AppendSizes, &'a Barrier),
     Keep(ThreadTask<'a>),
 }
 
-impl<'a> Role<'a> {
+impl<'a> ThreadRole<'a> {
     /// Where its threads wait for all of them.
     fn barrier(self) -> Option<&'a Barrier> {
         match self {
-            Role::Append(_, barrier) | Role::Keep(ThreadTask::Grow(_, barrier)) => Some(barrier),
-            Role::Keep(ThreadTask::Beside(course)) => Some(&course.barrier),
-            Role::Keep(ThreadTask::Produce(course)) => Some(&course.barrier),
-            Role::Keep(ThreadTask::Wait(_, _)) => None,
+            ThreadRole::Append(_, barrier) | ThreadRole::Keep(ThreadTask::Grow(_, barrier)) => Some(
+                barrier,
+            ),
+            ThreadRole::Keep(ThreadTask::Beside(course)) => Some(&course.barrier),
+            ThreadRole::Keep(ThreadTask::Produce(course)) => Some(&course.barrier),
+            ThreadRole::Keep(ThreadTask::Wait(_, _)) => None,
         }
     }
 }
 
-impl Play for Role<'_> {
-    fn prepare<E: Wait, G: Grower>(
+impl Play for ThreadRole<'_> {
+    fn prepare<E: Wait, G: ThreadSeat>(
         self,
         rt: &E,
         alloc: Global,
         last: &mut G,
     ) -> Result<(), SpeedFault> {
         match self {
-            Role::Keep(ThreadTask::Beside(course)) => course.grow_before(rt, alloc, last),
+            ThreadRole::Keep(ThreadTask::Beside(course)) => course.grow_before(rt, alloc, last),
             _ => Ok(()),
         }
     }
 
-    fn play<E: Wait + Clock, G: Grower + Drop>(self, rt: &E, alloc: Global, own: G) {
+    fn play<E: Wait + Clock, G: ThreadSeat + Drop>(self, rt: &E, alloc: Global, own: G) {
         match self {
-            Role::Append(records, barrier) => {
+            ThreadRole::Append(records, barrier) => {
                 barrier.leave(rt, own.append_all(rt, alloc, records, barrier))
             }
-            Role::Keep(task) => {
+            ThreadRole::Keep(task) => {
                 let mut own = own;
                 task.play(rt, alloc, &mut own)
             }
@@ -114,14 +116,14 @@ impl Play for Role<'_> {
         }
     }
 
-    fn watch_over<E: Wait + Clock + Eprint, P: Phase>(
+    fn watch_over<E: Wait + Clock + Eprint, P: WatchedPhase>(
         self,
         rt: &E,
         phase: &P,
         threads: u64,
     ) -> Result<(), SpeedFault> {
         match self {
-            Role::Keep(ThreadTask::Wait(course, watch)) => {
+            ThreadRole::Keep(ThreadTask::Wait(course, watch)) => {
                 watch_over(rt, phase, watch, threads, course.phase)
             }
             _ => Ok(()),

@@ -21,7 +21,7 @@ use std::time::{Clock, Instant};
 
 /// A phase, its new seats, and who commits its growths.
 #[derive(Drop)]
-pub struct Served<D: Disk> {
+pub struct ServedPhase<D: Disk> {
     pub live: Live<u64>,
     pub seats: Vec<Seat<u64>>,
     pub flusher: Flusher<u64, D>,
@@ -35,7 +35,7 @@ fn over_pen<D: Disk + Drop>(
     pen: Pen<D>,
     room: u64,
     seats: u16,
-) -> Result<Served<D>, SpeedFault>
+) -> Result<ServedPhase<D>, SpeedFault>
     requires rests { IsAtRest 8 0 pen }
     requires cells { D.keeps pen.disk → AreCellsOf (unsigned w64) pen.vector [] }
 {
@@ -49,7 +49,7 @@ fn over_pen<D: Disk + Drop>(
             } = begun;
             let before = live.opening_len();
             let flusher = Flusher::begin(alloc, pen, pass, mark, before);
-            Ok(Served {
+            Ok(ServedPhase {
                 live,
                 seats,
                 flusher,
@@ -59,9 +59,14 @@ fn over_pen<D: Disk + Drop>(
     }
 }
 
-impl<D: Disk + Drop> Served<D> {
+impl<D: Disk + Drop> ServedPhase<D> {
     /// A phase over a new file on the disk, with room for so many growths, and so many seats.
-    pub fn begin(alloc: Global, disk: D, room: u64, seats: u16) -> Result<Served<D>, SpeedFault> {
+    pub fn begin(
+        alloc: Global,
+        disk: D,
+        room: u64,
+        seats: u16,
+    ) -> Result<ServedPhase<D>, SpeedFault> {
         if room == 0 || room > GROWTH_LIMIT {
             return Err(SpeedFault::Room);
         }

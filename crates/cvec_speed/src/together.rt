@@ -3,11 +3,11 @@
 ghost use Rattle.book_core.specs.Beginning.{AreNewSeats};
 
 use crate::fault::SpeedFault;
-use crate::grower::{Grower, Phase};
+use crate::grower::{ThreadSeat, WatchedPhase};
 use crate::phase::{begin, seat_all};
 use crate::reading::Total;
-use crate::role::{Play, Role};
-use crate::served::{Commits, Committer, Served};
+use crate::role::{Play, ThreadRole};
+use crate::served::{Commits, Committer, ServedPhase};
 use book_core::{Live, Seat};
 use disk_core::Disk;
 use std::alloc::Global;
@@ -22,7 +22,7 @@ fn is_done<T: Drop, F: Drop>(done: Result<T, F>) -> bool {
 }
 
 /// Starts a thread. Whether the system did.
-fn start<'s, 'e, E: Wait + Clock + Sync + 'e, G: Grower + Send + Drop + 'e, R: Play + 'e>(
+fn start<'s, 'e, E: Wait + Clock + Sync + 'e, G: ThreadSeat + Send + Drop + 'e, R: Play + 'e>(
     scope: &'s Scope<'s, &'e ()>,
     rt: &'e E,
     alloc: Global,
@@ -33,7 +33,7 @@ fn start<'s, 'e, E: Wait + Clock + Sync + 'e, G: Grower + Send + Drop + 'e, R: P
 }
 
 /// Starts a thread for each seat, up to the first that the system refuses. Whether all have one.
-fn start_each<'s, 'e, E: Wait + Clock + Sync + 'e, G: Grower + Send + Drop + 'e, R: Play + 'e>(
+fn start_each<'s, 'e, E: Wait + Clock + Sync + 'e, G: ThreadSeat + Send + Drop + 'e, R: Play + 'e>(
     scope: &'s Scope<'s, &'e ()>,
     rt: &'e E,
     alloc: Global,
@@ -51,8 +51,8 @@ fn start_each<'s, 'e, E: Wait + Clock + Sync + 'e, G: Grower + Send + Drop + 'e,
 /// Runs a thread for each seat until all have ended. `Thread`, and none passes a barrier, where one can't be started.
 fn run_threads<
     E: Threads + Wait + Clock + Eprint + Sync,
-    P: Phase + Sync,
-    G: Grower + Send + Drop,
+    P: WatchedPhase + Sync,
+    G: ThreadSeat + Send + Drop,
     R: Play,
 >(rt: &E, alloc: Global, phase: &P, seats: Vec<G>, role: R) -> Result<(), SpeedFault> {
     let threads = seats.len() as u64;
@@ -73,8 +73,8 @@ fn run_threads<
 /// Does what comes before by the last of the seats, which has no thread, and reads by it what all have grown then.
 fn run_and_read<
     E: Threads + Wait + Clock + Eprint + Sync,
-    P: Phase + Sync,
-    G: Grower + Send + Drop,
+    P: WatchedPhase + Sync,
+    G: ThreadSeat + Send + Drop,
     R: Play,
 >(
     rt: &E,
@@ -135,7 +135,7 @@ fn run_seats<E: Threads + Wait + Clock + Eprint + Sync, R: Play>(
 
 /// Whether all threads were run, and when all was durable.
 #[derive(Clone, Copy)]
-pub struct Outcome {
+pub struct RunEnd {
     pub run: Result<(), SpeedFault>,
     pub ended: Result<Instant, SpeedFault>,
 }
@@ -148,25 +148,25 @@ fn run_beside<E: Threads + Wait + Clock + Eprint + Sync, C: Commits + Send + Dro
     live: &Live<u64>,
     seats: Vec<Seat<u64>>,
     committer: C,
-    role: Role,
-) -> Outcome
+    role: ThreadRole,
+) -> RunEnd
     requires { AreNewSeats live.now.directory live.now.mark seats.items }
 {
     thread::scope(
         thread::scope_env(),
         rt,
-        move |scope| -> Outcome
+        move |scope| -> RunEnd
             requires { AreNewSeats live.now.directory live.now.mark seats.items }
         {
             let Ok(serving) = scope.spawn(move || committer.serve(rt)) else {
-                return Outcome {
+                return RunEnd {
                     run: Err(SpeedFault::Thread),
                     ended: Err(SpeedFault::Thread),
                 };
             };
             let run = run_seats(rt, alloc, live, seats, role);
             live.close(rt);
-            Outcome {
+            RunEnd {
                 run,
                 ended: serving.join(rt),
             }
@@ -178,10 +178,10 @@ fn run_beside<E: Threads + Wait + Clock + Eprint + Sync, C: Commits + Send + Dro
 pub fn run_all<E: Threads + Wait + Clock + Eprint + Sync, D: Disk + Send + Drop>(
     rt: &E,
     alloc: Global,
-    served: Served<D>,
-    role: Role,
-) -> Outcome {
-    let Served {
+    served: ServedPhase<D>,
+    role: ThreadRole,
+) -> RunEnd {
+    let ServedPhase {
         live,
         seats,
         flusher,

@@ -1,7 +1,7 @@
 //! A thread that waits for each of its growths, and who watches whether it is woken.
 
 use crate::fault::SpeedFault;
-use crate::grower::{Grower, Phase};
+use crate::grower::{ThreadSeat, WatchedPhase};
 use crate::mix::{below, mix};
 use crate::watch::Watch;
 use book_core::GrowFault;
@@ -85,7 +85,7 @@ impl Course {
 }
 
 /// One round: a growth of that record, a pause, and the wait for the growth. The next record, and the next pause.
-fn make_round<E: Wait, G: Grower>(
+fn make_round<E: Wait, G: ThreadSeat>(
     rt: &E,
     alloc: Global,
     own: &mut G,
@@ -100,7 +100,7 @@ fn make_round<E: Wait, G: Grower>(
 }
 
 /// Makes all rounds of a thread.
-fn make_rounds<E: Wait, G: Grower>(
+fn make_rounds<E: Wait, G: ThreadSeat>(
     rt: &E,
     alloc: Global,
     own: &mut G,
@@ -120,7 +120,7 @@ fn make_rounds<E: Wait, G: Grower>(
 }
 
 /// What one thread does: it makes its rounds, and leaves.
-pub fn wait_as<E: Wait, G: Grower>(
+pub fn wait_as<E: Wait, G: ThreadSeat>(
     rt: &E,
     alloc: Global,
     own: &mut G,
@@ -133,7 +133,7 @@ pub fn wait_as<E: Wait, G: Grower>(
 
 /// Waits until the threads are through. Where they stand still it tells so, and closes the phase, so that those end that
 /// it can wake.
-pub fn watch_over<E: Wait + Clock + Eprint, P: Phase>(
+pub fn watch_over<E: Wait + Clock + Eprint, P: WatchedPhase>(
     rt: &E,
     phase: &P,
     watch: &Watch,

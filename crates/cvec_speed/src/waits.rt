@@ -5,9 +5,9 @@ use crate::clock::{now, since};
 use crate::fault::SpeedFault;
 use crate::figure::Figure;
 use crate::mix::{below, mix};
-use crate::role::{Role, ThreadTask};
-use crate::served::Served;
-use crate::together::{Outcome, run_all};
+use crate::role::{ThreadRole, ThreadTask};
+use crate::served::ServedPhase;
+use crate::together::{RunEnd, run_all};
 use crate::waiter::{Course, End};
 use crate::watch::Watch;
 use disk_core::{Blow, FuseDisk, RamDisk};
@@ -69,7 +69,7 @@ impl Phases {
 }
 
 /// Whether all of it came to the end that it must.
-fn judge<E: Wait>(rt: &E, watch: &Watch, outcome: Outcome, end: End) -> Result<(), SpeedFault> {
+fn judge<E: Wait>(rt: &E, watch: &Watch, outcome: RunEnd, end: End) -> Result<(), SpeedFault> {
     outcome.run?;
     match (watch.fault(rt), outcome.ended, end) {
         (Some(fault), _, _) => Err(fault),
@@ -88,9 +88,9 @@ fn run_phase<E: Threads + Wait + Clock + Eprint + Sync>(
 ) -> Result<(), SpeedFault> {
     let room = course.rounds.saturating_mul(threads as u64);
     let disk = FuseDisk::new(RamDisk::new(alloc), course.end.calls(), Blow::Stop);
-    let served = Served::begin(alloc, disk, room, threads)?;
+    let served = ServedPhase::begin(alloc, disk, room, threads)?;
     let watch = Watch::new();
-    let role = Role::Keep(ThreadTask::Wait(course, &watch));
+    let role = ThreadRole::Keep(ThreadTask::Wait(course, &watch));
     let outcome = run_all(rt, alloc, served, role);
     judge(rt, &watch, outcome, course.end)
 }

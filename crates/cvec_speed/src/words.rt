@@ -32,7 +32,7 @@ pub enum Work<'a> {
 
 /// Why words name no work.
 #[derive(Clone, Copy)]
-pub enum WordsFault {
+pub enum WorkFault {
     /// The first word is no work, or there is none.
     NoWork,
     /// A size of the work is missing, is no number, is 0, or is too large.
@@ -249,12 +249,12 @@ impl Name {
 }
 
 /// What the words ask for.
-pub fn read_words(words: &[String]) -> Result<Work<'_>, WordsFault> {
+pub fn read_words(words: &[String]) -> Result<Work<'_>, WorkFault> {
     let Some((word, sizes)) = words.split_first() else {
-        return Err(WordsFault::NoWork);
+        return Err(WorkFault::NoWork);
     };
     match name_of(word.as_str()) {
-        Some(name) => name.work(sizes).ok_or(WordsFault::NoSize),
-        None => Err(WordsFault::NoWork),
+        Some(name) => name.work(sizes).ok_or(WorkFault::NoSize),
+        None => Err(WorkFault::NoWork),
     }
 }
