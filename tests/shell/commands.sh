@@ -81,6 +81,11 @@ a_file_is_upgraded() (
     did 'created\n'
     run check u64 "$work/two.cv"
     did 'ok version 2 width 8 size 0 frames 0 live 0\n'
+    # An empty vector is not written over, and stays.
+    run upgrade u64 "$work/t.cv" "$work/two.cv"
+    was_refused 'new exists' "$work/two.cv: there is something in this file already"
+    run check u64 "$work/two.cv"
+    did 'ok version 2 width 8 size 0 frames 0 live 0\n'
     # A file of few bytes, which aren't those of a creation that was stopped, is not written over.
     printf 'secret=abc1\n' >"$work/s.cv"
     run upgrade u64 "$work/t.cv" "$work/s.cv"

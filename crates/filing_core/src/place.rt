@@ -59,9 +59,14 @@ pub fn new_place<R: TextRecord>(
 }
 
 /// Takes away what a copy that was refused has written of its new file: that would look like a vector. Where the system
-/// doesn't, it stays, and the next one refuses to write over it.
+/// doesn't, it stays, and the next one refuses to write over it. An empty vector that stood there is left as it is.
 pub fn take_back(file: &File, ended: Ended) {
-    if let Ended::Refused(FileFault::Upgrade(UpgradeFault::New(_))) = ended {
-        let _ = file.set_len(0);
+    match ended {
+        Ended::Refused(FileFault::Upgrade(UpgradeFault::New(VaultFault::Pen(PenFault::Exists)))) =>
+            {}
+        Ended::Refused(FileFault::Upgrade(UpgradeFault::New(_))) => {
+            let _ = file.set_len(0);
+        }
+        _ => {}
     }
 }
