@@ -1,7 +1,8 @@
--- A file may keep the model: to each call there is an answer that agrees, whatever the file held.
+-- A file may keep the model: to each call there is an answer that agrees, whatever bytes the file held.
 use Rattle.std.proofs.Common.{◌≡◌, ℕ, ◌+◌, ◌≤◌, List, [], ◌∷◌, length, refl, sym, ◌∙◌, ◌-◌, drop, ap, arith}
 use Rattle.std.specs.Prelude.{slice_range}
 use Rattle.std.proofs.lemmas.List.{length-take, length-drop}
+use Rattle.record_core.specs.Bytes.{IsBytes}
 use Rattle.disk_core.specs.declared.ghost_bytes.GhostBytes.{GhostBytes}
 use Rattle.disk_core.specs.declared.extent.Extent.{Extent}
 use Rattle.disk_core.specs.declared.file_event.FileEvent.{FileEvent}
@@ -29,9 +30,10 @@ module _ (truth : FileTruth) (log : List (FileEvent × GhostBytes)) (agreed : Ha
   pub HasAgreed-written : (at : ℕ) → HasAgreed truth ((Written at, s) ∷ log)
   HasAgreed-written at = (tt, agreed)
 
-  -- whatever a failed write left inside its extent
-  pub HasAgreed-torn : (e : Extent) → IsTorn e.at e.len (bytes_of (file_states truth log)) (left_by truth log) → HasAgreed truth ((Torn e, s) ∷ log)
-  HasAgreed-torn e torn = (torn, agreed)
+  -- whatever bytes a failed write left inside its extent
+  pub HasAgreed-torn : (e : Extent) → IsTorn e.at e.len (bytes_of (file_states truth log)) (left_by truth log) → IsBytes (left_by truth log)
+      → HasAgreed truth ((Torn e, s) ∷ log)
+  HasAgreed-torn e torn fits = ((torn, fits), agreed)
 
   pub HasAgreed-synced : HasAgreed truth ((Synced, s) ∷ log)
   HasAgreed-synced = (tt, agreed)

@@ -1,6 +1,7 @@
 mod Walks
 pub mod JoinedMoments
 pub mod ImageLemmas
+mod BytesLemmas
 pub mod PendingLemmas
 mod ChosenLemmas
 pub mod CallLemmas

@@ -1,11 +1,12 @@
 -- What the definitions say of worked states: which bytes are images of them, since when they were left, and how many
 -- places are pending.
-use Rattle.std.proofs.Common.{◌≡◌, ℕ, zero, suc, ◌<◌, ◌⊎◌, inl, inr, List, [], ◌∷◌, ◌++◌, length, length-append, drop, true, false, refl, ap, sym, arith}
+use Rattle.std.proofs.Common.{◌≡◌, ℕ, zero, suc, ◌+◌, ◌<◌, ◌≤◌, ◌⊎◌, inl, inr, List, [], ◌∷◌, ◌++◌, length, length-append, drop, true, false, refl, ap, sym, arith}
 use Rattle.std.specs.Prelude.{◌↔◌, slice_index}
 use Rattle.disk_core.specs.declared.extent.Extent.{Extent}
 use Rattle.disk_core.specs.State.{State, now, settled, written, made_of, is_within, IsImage}
 use Rattle.disk_core.specs.Choice.{is_pending, pending_below, pending_count}
 use Rattle.disk_core.specs.Moments.{LeftSince, LeftBetween, LeavesOnly}
+use Rattle.disk_core.specs.Shared.{InTurn}
 
 abbrev extent : ℕ → ℕ → Extent
 extent at len = record { at = at; len = len }
@@ -178,3 +179,52 @@ place_past = refl
 
 two_below : pending_below unsynced 3 ≡ 2
 two_below = refl
+
+-- ---- a file that is written while it is read: 1 2 at first, and then 3 4
+
+abbrev turning : ℕ → List ℕ
+turning zero = 1 ∷ 2 ∷ []
+turning (suc t) = 3 ∷ 4 ∷ []
+
+abbrev by_turns : ℕ → ℕ
+by_turns zero = 0
+by_turns (suc j) = 1
+
+-- a read may give the first byte as it was, and then the second as it is
+old_and_new : InTurn turning 0 1 0 (1 ∷ 4 ∷ [])
+old_and_new = record {
+  moments = by_turns;
+  ascend = later;
+  since = λ j. omega arith;
+  until = within;
+  inside = inside;
+  stood = stood;
+}
+  where
+    later : (i j : ℕ) → i ≤ j → by_turns i ≤ by_turns j
+    later zero j le = omega arith
+    later (suc i) zero le = absurd (omega (arith, le))
+    later (suc i) (suc j) le = omega arith
+
+    within : (j : ℕ) → by_turns j ≤ 1
+    within zero = omega arith
+    within (suc j) = omega arith
+
+    inside : (j : ℕ) → j < 2 → 0 + j < length (turning (by_turns j))
+    inside zero lt = omega arith
+    inside (suc zero) lt = omega arith
+    inside (suc (suc j)) lt = absurd (omega (arith, lt))
+
+    stood : (j : ℕ) → j < 2 → slice_index (1 ∷ 4 ∷ []) j ≡ slice_index (turning (by_turns j)) (0 + j)
+    stood zero lt = refl
+    stood (suc zero) lt = refl
+    stood (suc (suc j)) lt = absurd (omega (arith, lt))
+
+-- but not the first as it is, and behind it the second as it was
+not_new_and_old : InTurn turning 0 1 0 (3 ∷ 2 ∷ []) → ⊥
+not_new_and_old read = both (read.moments 0) (read.moments 1) (read.ascend 0 1 (omega arith)) (read.stood 0 (omega arith)) (read.stood 1 (omega arith))
+  where
+    both : (s t : ℕ) → s ≤ t → 3 ≡ slice_index (turning s) 0 → 2 ≡ slice_index (turning t) 1 → ⊥
+    both zero t le first then = absurd (omega (arith, first))
+    both (suc s) zero le first then = absurd (omega (arith, le))
+    both (suc s) (suc t) le first then = absurd (omega (arith, then))

@@ -1,5 +1,6 @@
 -- A real file as a disk: what its calls and their answers, of which the newest stands first, make of what it held.
 use Rattle.std.specs.Prelude.{ℕ, ◌+◌, ◌≡◌, List, [], ◌∷◌, length, get_or, slice_range}
+use Rattle.record_core.specs.Bytes.{IsBytes}
 use Rattle.disk_core.specs.declared.ghost_bytes.GhostBytes.{GhostBytes}
 use Rattle.disk_core.specs.declared.file_event.FileEvent.{FileEvent}
 use Rattle.disk_core.specs.declared.file_event.FileEvent.TheVariants.{Measured, Read, Written, Torn, Synced, Failed}
@@ -32,13 +33,13 @@ abbrev pub Agrees : FileEvent → List ℕ → List ℕ → State → Type 0
 Agrees (Measured n) bytes left s = n ≡ length s.seen
 Agrees (Read at) bytes left s = bytes ≡ slice_range s.seen at (at + length bytes)
 Agrees (Written at) bytes left s = Unit {0}
-Agrees (Torn e) bytes left s = IsTorn e.at e.len s.seen left
+Agrees (Torn e) bytes left s = IsTorn e.at e.len s.seen left × IsBytes left
 Agrees Synced bytes left s = Unit {0}
 Agrees Failed bytes left s = Unit {0}
 
--- so far all answers are
+-- so far all answers are, and the file held bytes
 abbrev pub HasAgreed : FileTruth → List (FileEvent × GhostBytes) → Type 0
-HasAgreed truth [] = Unit {0}
+HasAgreed truth [] = IsBytes truth.held
 HasAgreed truth ((event, passed) ∷ log) = Agrees event passed.bytes (left_by truth log) (now (file_states truth log)) × HasAgreed truth log
 
 abbrev pub faults_after_call : FileEvent → ℕ → ℕ

@@ -12,3 +12,6 @@ pub mod RamDisk
 pub mod FileTruth
 pub mod File
 pub mod FileDisk
+pub mod Shared
+pub mod SharedTruth
+pub mod SharedFile

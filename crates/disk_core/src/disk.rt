@@ -1,4 +1,5 @@
 ghost use Rattle.std.specs.Prelude.{◌≡◌, ◌+◌, ◌<◌, ◌≤◌, ◌^◌, ◌∷◌, List, ℕ, length, slice_range, IfOk, OnOk, OnErr};
+ghost use Rattle.record_core.specs.Bytes.{IsBytes};
 ghost use Rattle.disk_core.specs.declared.fault.DiskFault.TheVariants.{Length, Read, Write, Sync};
 ghost use Rattle.disk_core.specs.State.{State, now, IsImage};
 ghost use Rattle.disk_core.specs.Calls.{bytes_of, AddsMoment, Stays, Writes, TearsWrite, Settles};
@@ -80,4 +81,7 @@ pub trait Disk {
     /// A crash may leave the bytes as they read.
     ghost reads_an_image: { (disk : Self) → keeps disk
         → IsImage (now (states disk)) (bytes_of (states disk)) };
+
+    /// What a read gives is bytes: each number is below 256.
+    ghost reads_bytes: { (disk : Self) → keeps disk → IsBytes (bytes_of (states disk)) };
 }

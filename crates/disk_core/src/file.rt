@@ -1,5 +1,6 @@
 //! A disk that is a file of the operating system.
 ghost use Rattle.std.specs.Prelude.{◌≡◌};
+ghost use Rattle.record_core.specs.Bytes.{IsBytes};
 ghost use Rattle.disk_core.specs.State.{now, IsImage};
 ghost use Rattle.disk_core.specs.File.{file_states, HasAgreed};
 
@@ -22,7 +23,8 @@ use std::rt::Files;
 /// What a file holds no program can know, so its meaning as a disk is read from two values that take no memory: the
 /// calls so far with their answers, and what no call tells (`FileTruth`): the bytes that the file held when it was
 /// opened, and those that a failed write left. The contracts of `Disk` hold whatever these are; clauses on bytes, as
-/// long as the answers agree with them. Before the first sync nothing of the file is known to be on the disk.
+/// long as they are bytes, and the answers agree with them. Before the first sync nothing of the file is known to be
+/// on the disk.
 ///
 /// What is to hold of files is stated on a function that takes a disk by value, or an open file and a truth, and calls
 /// `over`. Inside the proofs of `open` and `make` the truth is that the file held nothing, so what is stated on a
@@ -45,6 +47,7 @@ pub struct FileDisk<F: FileExt + OpenFile + Drop = File> {
     log: Log<FileEvent, GhostBytes>,
     ghost readable: { HasAgreed truth.facts log.items
         → IsImage (now (file_states truth.facts log.items)) (now (file_states truth.facts log.items)).seen },
+    ghost bytes: { HasAgreed truth.facts log.items → IsBytes (now (file_states truth.facts log.items)).seen },
 }
 
 impl<F: FileExt + OpenFile + Drop> FileDisk<F> {
@@ -90,7 +93,7 @@ impl<F: FileExt + OpenFile + Drop> FileDisk<F> {
         ensures truth { truth_of result ≡ truth }
         ensures states { states_of result ≡ opened truth.held ∷ [] }
         ensures faults { faults_of result ≡ 0 }
-        ensures keeps { KeepsSoFar result }
+        ensures keeps { IsBytes truth.held → KeepsSoFar result }
     {
         FileDisk {
             file,
@@ -147,6 +150,8 @@ impl<F: FileExt + OpenFile + Drop> Disk for FileDisk<F> {
 
     ghost reads_an_image = { λ disk agreed. disk.readable agreed };
 
+    ghost reads_bytes = { λ disk agreed. disk.bytes agreed };
+
     fn len(&mut self) -> Result<u64, DiskFault> {
         match length_of(&self.file) {
             Ok(len) => {
@@ -189,7 +194,8 @@ impl<F: FileExt + OpenFile + Drop> Disk for FileDisk<F> {
         ensures model { KeepsSoFar self.new → KeepsSoFar self.old }
         ensures goes_on { KeepsSoFar self.old → OnOk result (KeepsSoFar self.new) }
         ensures goes_on_torn { KeepsSoFar self.old → OnErr result (
-            TearsWrite at (length bytes.now) (states_of self.old) (states_of self.new) → KeepsSoFar self.new) }
+            TearsWrite at (length bytes.now) (states_of self.old) (states_of self.new)
+            → IsBytes (bytes_of (states_of self.new)) → KeepsSoFar self.new) }
     {
         match self.file.write_all_at(bytes, at) {
             Ok(()) => {

@@ -54,6 +54,7 @@ impl<D: Disk> FuseDisk<D> {
 impl<D: Disk> Disk for FuseDisk<D> {
     ghost use Rattle.std.proofs.Common.{subst, sym};
     ghost use Rattle.std.specs.Prelude.{◌+◌, ◌<◌, ◌≤◌, ◌^◌, ◌∷◌, length, take, slice_range, IfOk, OnOk, OnErr};
+    ghost use Rattle.record_core.specs.Bytes.{IsBytes};
     ghost use Rattle.disk_core.specs.State.{IsImage};
     ghost use Rattle.disk_core.specs.Calls.{bytes_of, AddsMoment, Stays, Writes, TearsWrite, Settles};
     ghost use Rattle.disk_core.specs.Moments.{clock};
@@ -69,6 +70,9 @@ impl<D: Disk> Disk for FuseDisk<D> {
 
     ghost reads_an_image = { λ disk model.
         subst (λ s. IsImage s s.seen) (sym disk.latest) (D.reads_an_image disk.inner model) };
+
+    ghost reads_bytes = { λ disk model.
+        subst (λ s. IsBytes s.seen) (sym disk.latest) (D.reads_bytes disk.inner model) };
 
     fn len(&mut self) -> Result<u64, DiskFault>
         ensures value { D.keeps (below self.new)

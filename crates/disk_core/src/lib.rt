@@ -1,5 +1,5 @@
 //! A disk that may lose what was not synced, what a crash may leave of it, a disk over a real file, and two disks
-//! for tests.
+//! for tests; and a file that another process writes (`Shared`).
 #![tactic(auto)]
 
 mod blow;
@@ -16,6 +16,10 @@ mod ghost_bytes;
 mod image;
 mod log;
 mod ram;
+mod shared;
+mod shared_event;
+mod shared_file;
+mod shared_truth;
 mod truth;
 
 pub use blow::Blow;
@@ -27,3 +31,5 @@ pub use file::FileDisk;
 pub use fuse::FuseDisk;
 pub use image::is_crash_image;
 pub use ram::RamDisk;
+pub use shared::Shared;
+pub use shared_file::SharedFile;

@@ -1,5 +1,6 @@
 //! A disk in memory, for tests of what a crash may leave.
 ghost use Rattle.std.specs.Prelude.{◌≡◌, ◌+◌, [], List, ◌∷◌, IfOk};
+ghost use Rattle.record_core.specs.Bytes.{IsBytes};
 ghost use Rattle.disk_core.specs.State.{now, settled, IsImage};
 ghost use Rattle.disk_core.specs.History.{alone, logged_states};
 ghost use Rattle.disk_core.specs.Choice.{IsChosen, pending_count};
@@ -20,6 +21,7 @@ pub struct RamDisk {
     log: Log<Contents, Event>,
     ghost latest: { now (logged_states alone log.items) ≡ contents },
     ghost readable: { IsImage contents contents.seen },
+    ghost bytes: { IsBytes contents.seen },
 }
 
 impl RamDisk {
@@ -82,6 +84,8 @@ impl Disk for RamDisk {
     ghost keeps = { KeepsSoFar };
 
     ghost reads_an_image = { λ disk _. subst (λ s. IsImage s s.seen) (sym disk.latest) disk.readable };
+
+    ghost reads_bytes = { λ disk _. subst (λ s. IsBytes s.seen) (sym disk.latest) disk.bytes };
 
     fn len(&mut self) -> Result<u64, DiskFault>
         ensures succeeds { IsOk result }

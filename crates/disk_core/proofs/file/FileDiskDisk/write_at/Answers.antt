@@ -1,8 +1,10 @@
-use Rattle.std.proofs.Common.{arith}
+use Rattle.std.proofs.Common.{arith, sym, subst}
 use Rattle.std.proofs.lemmas.Grind.{common_steps}
+use Rattle.record_core.specs.Bytes.{IsBytes}
 use Rattle.disk_core.specs.State.{now}
 use Rattle.disk_core.specs.File.{file_states}
 use Rattle.disk_core.proofs.ImageLemmas.{written_image}
+use Rattle.disk_core.proofs.BytesLemmas.{IsBytes-overlay}
 use Rattle.disk_core.proofs.file.FileDiskDisk.write_at.Goals as goal
 
 pub invariant_of-self : goal.invariant_of-self
@@ -12,6 +14,8 @@ invariant_of-self g c =
     (record {
       readable = λ agreed. written_image (now (file_states disk.truth.facts disk.log.items)) c.args.at c.of.result.bytes
           (c.requires.inside agreed.1) (disk.readable agreed.1);
+      bytes = λ agreed. IsBytes-overlay (now (file_states disk.truth.facts disk.log.items)).seen c.args.at c.of.result.bytes
+          (disk.bytes agreed.1) (subst IsBytes (sym c.of.ensures) (λ i. omega (arith, c.type_inv.bytes i)));
     })
 
 pub invariant_of-self-in-Err : goal.invariant_of-self-in-Err
