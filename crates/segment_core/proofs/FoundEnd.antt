@@ -22,7 +22,7 @@ use Rattle.segment_core.proofs.FoundChanges.{AreStanding, all_drop, change_of_li
 use Rattle.segment_core.proofs.LastFrom.{place_is}
 use Rattle.segment_core.proofs.FoundKept.{has_home_more}
 
-place_live : (shape : Shape) (frames : List Frame) (i : ℕ) → place_of shape frames i ≡ option_or (live_among shape.width (live_of shape frames) i) (home_of shape frames i)
+pub place_live : (shape : Shape) (frames : List Frame) (i : ℕ) → place_of shape frames i ≡ option_or (live_among shape.width (live_of shape frames) i) (home_of shape frames i)
 place_live shape frames i = place_is shape frames i ∙ ap (λ o. option_or o (home_of shape frames i)) (change_of_live shape (tally_of frames).folded frames i)
 
 -- ---- one position

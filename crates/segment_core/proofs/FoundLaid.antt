@@ -193,7 +193,7 @@ laid_as form image says others a note_a b note_b same laid i lt =
 
 -- ---- one run more
 
-records_of_runs-take : (n : ℕ) (runs : List Run) → records_of_runs (take n runs) ≤ records_of_runs runs
+pub records_of_runs-take : (n : ℕ) (runs : List Run) → records_of_runs (take n runs) ≤ records_of_runs runs
 records_of_runs-take zero runs = omega arith
 records_of_runs-take (suc n) [] = omega arith
 records_of_runs-take (suc n) (first ∷ runs) =
@@ -202,7 +202,7 @@ records_of_runs-take (suc n) (first ∷ runs) =
     let b = records_of_runs-cons first runs in
     omega arith
 
-runs_fill : (frame : Frame) → records_of_runs (runs_of frame) ≤ record_count frame
+pub runs_fill : (frame : Frame) → records_of_runs (runs_of frame) ≤ record_count frame
 runs_fill (Group lengths bytes) = omega arith
 runs_fill (Change runs bytes) = omega arith
 runs_fill (Shrink n) = omega arith

@@ -24,14 +24,14 @@ use Rattle.segment_core.proofs.Head.{IsOpen, IsWhole, is_kind-kind_byte, length-
 
 -- ---- bytes and numbers
 
-u32_more : (front rest : List ℕ) (i : ℕ) → i + 4 ≤ length front → u32_at (front ++ rest) i ≡ u32_at front i
+pub u32_more : (front rest : List ℕ) (i : ℕ) → i + 4 ≤ length front → u32_at (front ++ rest) i ≡ u32_at front i
 unfolding u32_at
 u32_more front rest i inside =
     let l = length-drop i front in
     ap (λ (bs : List ℕ). from_le_bytes w32 (take 4 bs)) (drop-append-le i front rest (omega arith))
     ∙ ap (from_le_bytes w32) (take-append-le 4 (drop i front) rest (omega arith))
 
-u64_more : (front rest : List ℕ) (i : ℕ) → i + 8 ≤ length front → u64_at (front ++ rest) i ≡ u64_at front i
+pub u64_more : (front rest : List ℕ) (i : ℕ) → i + 8 ≤ length front → u64_at (front ++ rest) i ≡ u64_at front i
 unfolding u64_at
 u64_more front rest i inside =
     let l = length-drop i front in

@@ -9,6 +9,11 @@ pub mod Longest
 pub mod Head
 pub mod Fronts
 pub mod Reader
+pub mod WithRecords
+pub mod FrameFront
+pub mod PlacesPush
+pub mod FrameWalked
+pub mod PlacesInside
 pub mod Header
 pub mod Refusals
 pub mod OneVector
@@ -23,6 +28,8 @@ pub mod HomesAnew
 pub mod Loose
 pub mod HomesHold
 pub mod Raw
+pub mod RawVector
+pub mod RawTyped
 pub mod Parsed
 pub mod Blanked
 pub mod Tallied
@@ -41,6 +48,7 @@ pub mod Worked
 mod WorkedFaults
 mod WorkedImages
 mod WorkedRecords
+mod WorkedPlaces
 pub mod Written
 pub mod Changes
 pub mod GrowthRows

@@ -198,7 +198,7 @@ home_at width i p tally (Change runs bytes) may lt = inl lt
 home_at width i p tally (Shrink n) may lt = let le = ltb-false tally.size n may.inside in inl (omega arith)
 home_at width i p tally (Fold count) may lt = inl lt
 
-some_or : (a b : Option ℕ) (place : ℕ) → b ≡ Some place → (other : ℕ) × (option_or a b ≡ Some other)
+pub some_or : (a b : Option ℕ) (place : ℕ) → b ≡ Some place → (other : ℕ) × (option_or a b ≡ Some other)
 some_or None b place is = (place, is)
 some_or (Some q) b place is = (q, refl)
 

@@ -22,11 +22,11 @@ use Rattle.segment_core.proofs.OneMore.{IsVectorOf_group, IsVectorOf_change, IsV
 
 -- ---- the records of bytes
 
-length-cells_in : (width n : ℕ) (bytes : List ℕ) → length (cells_in width n bytes) ≡ n
+pub length-cells_in : (width n : ℕ) (bytes : List ℕ) → length (cells_in width n bytes) ≡ n
 length-cells_in width zero bytes = refl
 length-cells_in width (suc n) bytes = ap suc (length-cells_in width n (drop width bytes))
 
-slice_get-cells_in : (width n : ℕ) (bytes : List ℕ) (i : ℕ) → i < n → slice_get (cells_in width n bytes) i ≡ Some (cell width bytes i)
+pub slice_get-cells_in : (width n : ℕ) (bytes : List ℕ) (i : ℕ) → i < n → slice_get (cells_in width n bytes) i ≡ Some (cell width bytes i)
 slice_get-cells_in width zero bytes i lt = absurd (omega arith)
 slice_get-cells_in width (suc n) bytes zero lt = let none : 0 * width ≡ 0 = omega arith in ap (λ k. Some (take width (drop k bytes))) (sym none)
 slice_get-cells_in width (suc n) bytes (suc i) lt =

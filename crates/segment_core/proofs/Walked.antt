@@ -38,7 +38,7 @@ behind_none form walk wide same at frames tally found = record {
   found = found;
 }
 
-frames_are_long : (format : Format) (frames : List Frame) → length frames * 6 ≤ length (flat_map (frame_text format) frames)
+pub frames_are_long : (format : Format) (frames : List Frame) → length frames * 6 ≤ length (flat_map (frame_text format) frames)
 frames_are_long format [] = omega arith
 frames_are_long format (frame ∷ frames) =
     let more = frames_are_long format frames in
@@ -79,7 +79,7 @@ stands_next form frames walk seen behind at same whole may = record {
   may = subst (λ t. MayFollow t seen.frame) behind.tally_is may;
 }
 
-few_more : (tally : Tally) (frame : Frame) (n : ℕ) → tally.changes ≤ n → (after tally frame).changes ≤ n + 1
+pub few_more : (tally : Tally) (frame : Frame) (n : ℕ) → tally.changes ≤ n → (after tally frame).changes ≤ n + 1
 few_more tally (Group lengths bytes) n le = omega arith
 few_more tally (Change runs bytes) n le = omega arith
 few_more tally (Shrink m) n le = omega arith
@@ -144,7 +144,7 @@ stands_behind form image bytes frame old new stands same begins behind n len =
       left = whole ∙ ap (λ (s : Shape). text s (stands.frames ++ frame ∷ []) ++ rest) (sym same) ∙ ap (λ (bs : List ℕ). text new.shape (stands.frames ++ frame ∷ []) ++ bs) (sym left);
     }
 
-closed_gate : (bytes : List ℕ) → is_closed bytes ≡ true → (gate : ℕ) × (rest : List ℕ) × (gate ≢ 1) × (bytes ≡ gate ∷ rest)
+pub closed_gate : (bytes : List ℕ) → is_closed bytes ≡ true → (gate : ℕ) × (rest : List ℕ) × (gate ≢ 1) × (bytes ≡ gate ∷ rest)
 closed_gate [] closed = absurd cc
 closed_gate (gate ∷ rest) closed =
     let parts = both_true (nat_lt 0 (length (gate ∷ rest))) (not (gate == 1)) closed in

@@ -19,6 +19,7 @@ pub mod Names
 pub mod Notes
 pub mod Found
 pub mod Walk
+pub mod FrameWalk
 pub mod Scanner
 pub mod Growths
 pub mod Written

@@ -1,9 +1,9 @@
 //! The header of a file: a gate, the magic, the version and the width of a record.
 
-ghost use Rattle.std.specs.Prelude.{◌≡◌, ◌<◌, ◌^◌, ◌++◌, ◌∷◌, [], drop, OnOk, IfOk, MatchResult};
-ghost use Rattle.segment_core.specs.Shape.{shape_of};
+ghost use Rattle.std.specs.Prelude.{◌≡◌, ◌<◌, ◌^◌, ◌++◌, ◌∷◌, [], Some, None, drop, OnOk, IfOk, MatchResult};
+ghost use Rattle.segment_core.specs.Shape.{shape_of, format_in};
 ghost use Rattle.segment_core.specs.Frame.{closed_gate, header, header_len};
-ghost use Rattle.segment_core.specs.Fault.{IsSound, IsHeaderFault};
+ghost use Rattle.segment_core.specs.Fault.{header_fault, IsSound, IsHeaderFault};
 
 use crate::fault::ScanFault;
 use crate::format::{CLOSED_GATE, EMPTY_FILE_LEN, Format, HEADER_LEN, OPEN_GATE, Shape};
@@ -67,4 +67,18 @@ impl Shape {
             width: width as usize,
         })
     }
+}
+
+/// The format of the file, if the header is that of a file whose records have this width.
+pub(crate) fn check_header(bytes: &[u8], width: usize) -> Result<Format, ScanFault>
+    requires { 0 < width }
+    ensures { MatchResult result
+        (λ format. (header_fault width bytes.now ≡ None) × (format_in bytes.now ≡ format) × (bytes.now ≡ header (record { format = format; width = width }) ++ drop header_len bytes.now))
+        (λ fault. header_fault width bytes.now ≡ Some fault) }
+{
+    let shape = Shape::read(bytes)?;
+    if shape.width != width {
+        return Err(ScanFault::Width(shape.width as u16));
+    }
+    Ok(shape.format)
 }

@@ -118,6 +118,13 @@ impl<'a> FrameReader<'a> {
         self.kind
     }
 
+    /// The bytes of one record.
+    pub(crate) fn width(&self) -> usize
+        ensures { result ≡ self.now.shape.width }
+    {
+        self.shape.width
+    }
+
     /// The bytes of its payload.
     pub fn payload_len(&self) -> u32
         ensures { result ≡ length (payload_of self.now.shape.format self.now.frame) }
@@ -206,7 +213,7 @@ impl<'a> FrameReader<'a> {
     }
 
     /// The bytes of all its records.
-    pub(crate) fn record_area(&self) -> &'a [u8]
+    pub fn record_area(&self) -> &'a [u8]
         ensures bytes { result.now ≡ record_bytes_of self.now.frame }
         ensures filled { length result.now ≡ record_count self.now.frame * self.now.shape.width }
     {
@@ -241,7 +248,7 @@ impl<'a> FrameReader<'a> {
     }
 
     /// The bytes of the frame, its gate among them.
-    pub(crate) fn len(&self) -> usize
+    pub fn len(&self) -> usize
         ensures is { result ≡ length (frame_text self.now.shape.format self.now.frame) }
         ensures placed { self.now.at + result < 2 ^ 64 }
     {
@@ -265,11 +272,7 @@ impl<'a> FrameReader<'a> {
 
 /// Reads the frame whose gate is the first of these bytes, which stand at `at` of an image. `None`: the gate
 /// is closed.
-pub(crate) fn read_frame(
-    bytes: &[u8],
-    at: usize,
-    shape: Shape,
-) -> Result<Option<FrameReader<'_>>, Unread>
+pub fn read_frame(bytes: &[u8], at: usize, shape: Shape) -> Result<Option<FrameReader<'_>>, Unread>
     requires wide { 0 < shape.width }
     requires place { at + length bytes.now < 2 ^ 64 }
     ensures { IsNext shape at bytes.now result }

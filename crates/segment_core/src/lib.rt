@@ -2,8 +2,9 @@
 //!
 //! `write_image` makes the whole file of some growths, `append_group`, `append_change`, `append_shrink` and `append_fold`
 //! one frame. `scan` reads the vector of an image or names its first fault, `Scanner` does so of an image that comes in
-//! pieces, and `FrameReader` gives the fields of one frame. `Shape::read` and `FrameHead::read` tell what the first bytes
-//! of a file and of a frame say. The format is in `docs/file/format.md`.
+//! pieces. `read_frame` and `FrameReader` give the fields of one frame, and `Tally` says whether it may come. `FrameWalk`
+//! walks the frames of a file by what stands before their records, which it isn't shown. `Shape::read` and `FrameHead::read`
+//! tell what the first bytes of a file and of a frame say. The format is in `docs/file/format.md`.
 //!
 //! One set of definitions serves both versions: `Shape` (header), `Frame`, `Layout` (payloads), `Tally` (which frame may
 //! follow which), `Image`, `Vector`, `Fault` and `Command`; `OneMore` ties frames to commands. `scan` is a `Scanner` that
@@ -18,12 +19,14 @@ mod format;
 mod found;
 mod frame;
 mod frame_head;
+mod frame_walk;
 mod group;
 mod growth_list;
 mod growth_row;
 mod homes;
 mod image;
 mod notes;
+mod places;
 mod scanner;
 mod tally;
 mod vector;
@@ -37,8 +40,9 @@ pub use format::{
     FrameKind, GATE_LIMIT, HEADER_LEN, OPEN_GATE, SHRINK_PAYLOAD_LEN, START_LEN, Shape,
 };
 pub use found::{Home, Homes};
-pub use frame::FrameReader;
+pub use frame::{FrameReader, read_frame};
 pub use frame_head::{FrameHead, Unread};
+pub use frame_walk::{Advance, FrameWalk, Framed};
 pub use group::append_group;
 pub use growth_list::GrowthList;
 pub use growth_row::Growths;

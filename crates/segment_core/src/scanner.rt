@@ -10,6 +10,7 @@ ghost use Rattle.segment_core.specs.Scanned.{IsScanOf};
 ghost use Rattle.segment_core.specs.Scanner.{len_told, GoesOn, HasEnded, IsOn, IsRefusedFor, IsFedAt, IsFed, IsLost, IsDecided, IsCutShort, CanHold};
 
 use crate::fault::ScanFault;
+use crate::file_header::check_header;
 use crate::format::{FRAME_HEAD_LEN, Format, HEADER_LEN, Shape};
 use crate::found::Homes;
 use crate::frame_head::{Unread, u32_at};
@@ -45,20 +46,6 @@ pub struct Scanner<R> {
     /// The front of a frame whose end hasn't come yet.
     pending: Vec<u8>,
     walk: Walk<R>,
-}
-
-/// The format of the file, if the header is that of a file whose records have this width.
-fn check_header(bytes: &[u8], width: usize) -> Result<Format, ScanFault>
-    requires { 0 < width }
-    ensures { MatchResult result
-        (λ format. (header_fault width bytes.now ≡ None) × (format_in bytes.now ≡ format) × (bytes.now ≡ header (record { format = format; width = width }) ++ drop header_len bytes.now))
-        (λ fault. header_fault width bytes.now ≡ Some fault) }
-{
-    let shape = Shape::read(bytes)?;
-    if shape.width != width {
-        return Err(ScanFault::Width(shape.width as u16));
-    }
-    Ok(shape.format)
 }
 
 /// How many bytes to take next: all where no frame has begun, else what is left of its head, or of the whole frame.

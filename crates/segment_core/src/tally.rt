@@ -98,7 +98,7 @@ impl Tally {
     }
 
     /// Whether the frame may come now. The fault is the first that it has after the frames before it.
-    pub(crate) fn check(&self, frame: &FrameReader<'_>) -> Result<(), ScanFault>
+    pub fn check(&self, frame: &FrameReader<'_>) -> Result<(), ScanFault>
         requires { self.now.size ≤ record_limit }
         ensures { MatchResult result
             (λ _. MayFollow self.now frame.now.frame)
@@ -127,7 +127,7 @@ impl Tally {
     }
 
     /// What the frame leaves behind these.
-    pub(crate) fn after(self, frame: &FrameReader<'_>) -> Tally
+    pub fn after(self, frame: &FrameReader<'_>) -> Tally
         requires may { MayFollow self frame.now.frame }
         requires few { self.changes < 2 ^ 63 }
         ensures { result ≡ after self frame.now.frame }

@@ -1,5 +1,3 @@
-use Rattle.std.proofs.Common.{arith}
-use Rattle.std.proofs.lemmas.Grind.{common_steps}
 use Rattle.segment_core.proofs.Reader.{counted_of_group}
 use Rattle.segment_core.proofs.frame.payload.counts.Goals as goal
 

@@ -2,7 +2,7 @@ use Rattle.std.proofs.Common.{◌++◌, ℕ, List, drop, sym, ap, ◌∙◌}
 use Rattle.segment_core.specs.Frame.{header}
 use Rattle.segment_core.specs.Fault.{header_fault}
 use Rattle.segment_core.proofs.Header.{other_width}
-use Rattle.segment_core.proofs.scanner.check_header.Goals as goal
+use Rattle.segment_core.proofs.file_header.check_header.Goals as goal
 
 pub returns-then-shape-width : goal.returns-then-shape-width
 returns-then-shape-width c =
