@@ -53,3 +53,7 @@ pub mod FoldListed
 pub mod Taken
 pub mod Typed
 pub mod Settled
+pub mod FrameSteps
+pub mod WindowCells
+mod WorkedFraming
+mod WorkedWindow

@@ -21,24 +21,28 @@ use Rattle.segment_core.specs.Tally.{nothing, after, tally_from, tally_of, AreLe
 use Rattle.segment_core.specs.Image.{BeginsImage, HasFrames}
 use Rattle.segment_core.specs.Vector.{place_of, record_in, IsVectorOf, HasVector}
 use Rattle.segment_core.specs.Blanked.{all_blanked}
-use Rattle.segment_core.specs.Raw.{raw, AreReadAs}
+use Rattle.segment_core.specs.Raw.{raw, AreReadAs, AreCellsOf}
 use Rattle.segment_core.proofs.Blanked.{tally_from-blanked}
 use Rattle.segment_core.proofs.Fed.{frames_more}
 use Rattle.segment_core.proofs.OneMore.{IsVectorOf_begins}
 use Rattle.segment_core.proofs.Payload.{length-frame_text}
 use Rattle.segment_core.proofs.Push.{length-text}
 use Rattle.segment_core.proofs.Raw.{IsVectorOf_raw}
+use Rattle.segment_core.proofs.RawVector.{raw_cells, raw_vector}
+use Rattle.segment_core.proofs.OneVector.{one_list}
+use Rattle.segment_core.proofs.Refusals.{longest_closed}
 use Rattle.segment_core.proofs.ReadAs.{AreCellsOf_read}
 use Rattle.pen_core.specs.Held.{HoldsFrames, gate_of}
 use Rattle.pen_core.specs.Known.{IsFileOf, IsShut}
-use Rattle.pen_core.specs.PenLog.{PenLog, frames_read, vector_read}
-use Rattle.pen_core.specs.PenOf.{FoldOf}
+use Rattle.pen_core.specs.PenLog.{PenLog, vector_read}
+use Rattle.pen_core.specs.PenOf.{PenOf}
+use Rattle.pen_core.specs.Framing.{IsKnownFile}
 use Rattle.pen_core.specs.Inside.{Knows, IsPen}
 use Rattle.pen_core.specs.Opening.{IsOpened, IsFoundOn}
 use Rattle.pen_core.specs.declared.fold.Fold.{Fold}
 use Rattle.pen_core.specs.declared.stage.FoldStage.TheVariants as stages
 use Rattle.pen_core.specs.InHand.{IsInHand}
-use Rattle.pen_core.specs.Listed.{live_runs, Lists, HasLists}
+use Rattle.pen_core.specs.Listed.{live_runs, HasLists}
 use Rattle.pen_core.proofs.Again.{gate_behind}
 use Rattle.pen_core.proofs.Parsed.{SeenAs, seen_as}
 use Rattle.pen_core.proofs.Pens.{knows_rest}
@@ -46,7 +50,7 @@ use Rattle.pen_core.proofs.Whole.{after_size, after_changes, after_folded}
 
 -- ---- what legal frames leave
 
-size_legal : (shape : Shape) (tally : Tally) (frames : List Frame) → AreLegalFrom shape tally frames → tally.size ≤ 2 ^ 32
+pub size_legal : (shape : Shape) (tally : Tally) (frames : List Frame) → AreLegalFrom shape tally frames → tally.size ≤ 2 ^ 32
     → (tally_from tally frames).size ≤ 2 ^ 32
 size_legal shape tally [] legal le = le
 size_legal shape tally (frame ∷ frames) legal le = size_legal shape (after tally frame) frames legal.2 (after_size tally frame le legal.1)
@@ -99,6 +103,9 @@ AreReadAs_same {R} format form image frames cells records read typed = record { 
 
 -- ---- the file
 
+begins_of : (shape : Shape) (image : List ℕ) (found : List Frame) → HasFrames shape image found → BeginsImage shape image found
+begins_of shape image found framed = record { legal = framed.legal; begins = (framed.closed.0 ∷ framed.closed.1, framed.closed.3) }
+
 -- bytes behind the closed gate say nothing
 HasVector_more : {R : Type 0} (format : Format) (form : Encoding R) (image more : List ℕ) (found : List Frame)
     (records : List R)
@@ -111,53 +118,23 @@ HasVector_more format form image more found records has =
           (begins_of (shape_of format form) image found has.framed)
           (begins_of (shape_of format form) (image ++ more) found framed) has.read;
     }
-  where
-    begins_of : (shape : Shape) (image : List ℕ) (found : List Frame) → HasFrames shape image found → BeginsImage shape image found
-    begins_of shape image found framed = record { legal = framed.legal; begins = (framed.closed.0 ∷ framed.closed.1, framed.closed.3) }
 
-module _ {R : Type 0} (format : Format) (form : Encoding R) (front more : List ℕ) (found : List Frame) (records : List R)
-    (back : WritesBack form) (fits : IsBytes front) (read : HasVector format form front found records) where
-  abbrev shape : Shape
-  shape = shape_of format form
-
+-- what a file is whose records stand as their bytes
+module _ (shape : Shape) (image : List ℕ) (found : List Frame) (cells : List (List ℕ)) (has : HasVector shape.format (raw shape.width) image found cells) where
   abbrev frames : List Frame
   frames = all_blanked found
-
-  abbrev cells : List (List ℕ)
-  cells = map form.bytes_of records
 
   abbrev p : ℕ
   p = length (text shape found)
 
-  -- with all that stands behind what was read
-  abbrev image : List ℕ
-  image = front ++ more
-
-  has : HasVector format form image found records
-  has = HasVector_more format form front more found records read
-
-  begins_front : BeginsImage shape front found
-  begins_front = record { legal = read.framed.legal; begins = (read.framed.closed.0 ∷ read.framed.closed.1, read.framed.closed.3) }
-
-  begins : BeginsImage shape image found
-  begins = record { legal = has.framed.legal; begins = (has.framed.closed.0 ∷ has.framed.closed.1, has.framed.closed.3) }
-
-  read_raw : IsVectorOf format (raw form.width) image found cells
-  read_raw =
-      IsVectorOf_begins format (raw form.width) front image found cells begins_front begins
-      (IsVectorOf_raw format form front found records back fits begins_front read.read)
-
   holds : HoldsFrames shape frames cells image
-  holds = record { found = found; alike = refl; begins = begins; read = read_raw }
+  holds = record { found = found; alike = refl; begins = begins_of shape image found has.framed; read = has.read }
 
   gate_is : p ≡ gate_of shape frames
   gate_is = gate_behind shape found frames refl
 
   inside : p < length image
   inside = omega (arith, ap length has.framed.closed.3, length-append (text shape found) (has.framed.closed.0 ∷ has.framed.closed.1))
-
-  inside_front : p < length front
-  inside_front = omega (arith, ap length read.framed.closed.3, length-append (text shape found) (read.framed.closed.0 ∷ read.framed.closed.1))
 
   file_is : IsFileOf shape 0 frames cells (settled image)
   file_is = record { holds = holds; gate_synced = omega (arith, gate_is, inside); pending_is_folded = λ j lt is. absurd cc }
@@ -183,6 +160,21 @@ module _ {R : Type 0} (format : Format) (form : Encoding R) (front more : List �
       knows_rest (record { shape = shape; gate = p; tally = tally_of found; bytes = bytes; step = None; broken = false })
       frames cells (settled image) gate_is (sym (tally_from-blanked nothing found)) file_is shut (settled_image image)
 
+-- the records of what was read, as their bytes, in all that stands on the disk
+read_raw : {R : Type 0} (format : Format) (form : Encoding R) (front more : List ℕ) (found : List Frame) (records : List R)
+    → WritesBack form → IsBytes front → HasVector format form front found records
+    → HasVector format (raw form.width) (front ++ more) found (map form.bytes_of records)
+read_raw format form front more found records back fits read =
+    let shape : Shape = shape_of format form in
+    let has = HasVector_more format form front more found records read in
+    record {
+      framed = has.framed;
+      read =
+          IsVectorOf_begins format (raw form.width) front (front ++ more) found (map form.bytes_of records)
+          (begins_of shape front found read.framed) (begins_of shape (front ++ more) found has.framed)
+          (IsVectorOf_raw format form front found records back fits (begins_of shape front found read.framed) read.read);
+    }
+
 -- ---- a pen's fields
 
 same_format : (a b : Format) (v : ℕ) → version_of a ≡ v → v ≡ version_of b → a ≡ b
@@ -197,8 +189,94 @@ same_tally t n c f size changes folded =
     ∙ ap (λ k. record { size = t.size; changes = k; folded = f }) changes
     ∙ ap (λ k. record { size = t.size; changes = t.changes; folded = k }) folded
 
+-- what a pen counts of a file that it goes on with, and what it knows of it
+module _ {keeps : Type 0} {states : List State} {shape : Shape} {gate : ℕ} {tally : Tally} {homes : Homes} (on : IsKnownFile keeps states shape gate tally homes) where
+  abbrev log : List ℕ → PenLog
+  log bytes = record { shape = shape; gate = gate; tally = tally; bytes = bytes; step = None; broken = false }
+
+  -- whichever way the file's frames are told
+  pub seen_known : keeps → (frames : List Frame) (cells : List (List ℕ)) → HasVector shape.format (raw shape.width) (bytes_of states) frames cells
+      → SeenAs shape gate (all_blanked frames) cells (bytes_of states)
+  seen_known model frames cells has =
+      let same : frames ≡ on.frames = one_list shape (bytes_of states) frames on.frames has.framed (longest_closed shape (bytes_of states) on.frames (on.framed model)) in
+      subst (λ g. SeenAs shape g (all_blanked frames) cells (bytes_of states)) (ap (λ fs. length (text shape fs)) same ∙ sym on.gate_is)
+      (seen shape (bytes_of states) frames cells has)
+
+  abbrev cells : List (List ℕ)
+  cells = raw_cells shape (bytes_of states) on.frames
+
+  vector : keeps → HasVector shape.format (raw shape.width) (bytes_of states) on.frames cells
+  vector model = raw_vector shape (bytes_of states) on.frames (on.framed model)
+
+  has_known : (bytes : List ℕ) → keeps → Knows 0 (log bytes) (all_blanked on.frames) cells (now states)
+  has_known bytes model =
+      subst (λ g. Knows 0 (record (log bytes) { gate = g }) (all_blanked on.frames) cells (now states)) (sym on.gate_is)
+      (subst (λ t. Knows 0 (record (log bytes) { gate = gate_of shape on.frames; tally = t }) (all_blanked on.frames) cells (now states)) (sym on.tally_is)
+      (subst (λ s. Knows 0 (record (log bytes) { gate = gate_of shape on.frames; tally = tally_of on.frames }) (all_blanked on.frames) cells s) (sym (on.on_disk model))
+      (known_file shape (bytes_of states) on.frames cells (vector model) bytes)))
+
+  pub known_pen : (next : Tally) (bytes : List ℕ) → IsPen 0 keeps states (log bytes) next
+  known_pen next bytes =
+      let long = length-text shape on.frames in
+      let all = ap (λ t. t.changes) on.tally_is in
+      let few = changes_short shape nothing on.frames in
+      let most = folded_legal shape nothing on.frames on.legal (omega arith) in
+      let at = on.gate_is in
+      record {
+        wide = on.wide;
+        gate_fits = on.gate_fits;
+        size_fits = subst (λ t. t.size ≤ 2 ^ 32) (sym on.tally_is) (size_legal shape nothing on.frames on.legal (omega arith));
+        changes_fit = omega (arith, at);
+        folded_counted = subst (λ t. t.folded ≤ t.changes) (sym on.tally_is) most;
+        job = tt;
+        knows = λ model. (
+            let told = seen_known model on.frames cells (vector model) in
+            subst (λ fs. Knows 0 (log bytes) fs (vector_read states (log bytes)) (now states)) (sym told.frames_are)
+            (subst (λ v. Knows 0 (log bytes) (all_blanked on.frames) v (now states)) (sym told.vector_is) (has_known bytes model)));
+      }
+
+  pub known_lists : (bytes : List ℕ) (live : ℕ) (fold : Fold) → fold.stage ≡ stages.None → live ≡ length homes.live.items
+      → HasLists keeps states (log bytes) homes live fold
+  known_lists bytes live fold at all = record {
+    frames = on.frames;
+    legal = on.legal;
+    gate_is = on.gate_is;
+    tally_is = on.tally_is;
+    lists = record {
+      told = homes.homes.items;
+      are_homes = on.homes_are.homes_are;
+      homes_are = sym (append-nil homes.homes.items);
+      live_is = on.homes_are.live_is ∙ sym (append-nil (live_runs shape on.frames));
+      counted = all ∙ ap length on.homes_are.live_is;
+    };
+    filed = λ count is. absurd cc;
+    runs_are = λ held. absurd (subst IsInHand at held);
+    same = λ model. (seen_known model on.frames cells (vector model)).frames_are;
+  }
+
+  -- any pen that counts so, and sees the file so, has opened it
+  pub known_opened : {D : Type 0} (pen : PenOf D) → keeps → pen.shape ≡ shape → pen.gate ≡ gate → pen.tally ≡ tally
+      → ((frames : List Frame) (cells : List (List ℕ)) → HasVector shape.format (raw shape.width) (bytes_of states) frames cells → (pen.frames ≡ all_blanked frames) × (pen.vector ≡ cells))
+      → IsOpened (raw shape.width) (bytes_of states) pen pen.vector
+  known_opened pen model same gate_same tally_same told =
+      let here = told on.frames cells (vector model) in
+      record {
+        format = shape.format;
+        found = on.frames;
+        vector = subst (HasVector shape.format (raw shape.width) (bytes_of states) on.frames) (sym here.1) (vector model);
+        shape_is = same;
+        frames_are = here.0;
+        cells_are = cells_of_raw shape.width pen.vector;
+        tally_is = tally_same ∙ on.tally_is;
+        gate_is = gate_same ∙ on.gate_is;
+      }
+    where
+      cells_of_raw : (width : ℕ) (cells : List (List ℕ)) → AreCellsOf (raw width) cells cells
+      cells_of_raw width [] = record { written = refl; read_again = tt }
+      cells_of_raw width (cell ∷ cells) = let rest = cells_of_raw width cells in record { written = ap (λ cs. cell ∷ cs) rest.written; read_again = (refl, rest.read_again) }
+
 module _ {R : Type 0} {form : Encoding R} {keeps : Type 0} {states : List State} {scanned : Scanned R} {homes : Homes}
-    (on : IsFoundOn form keeps states scanned homes) (back : WritesBack form) (format : Format)
+    (on : IsFoundOn form keeps states scanned homes) (format : Format)
     (known : version_of format ≡ scanned.version) (n : ℕ) (counted : n ≡ length scanned.records.items) where
   abbrev named : Format
   named = on.scan.format
@@ -218,20 +296,14 @@ module _ {R : Type 0} {form : Encoding R} {keeps : Type 0} {states : List State}
   abbrev file : Shape
   file = shape_of named form
 
-  pub shape_same : told ≡ file
+  shape_same : told ≡ file
   shape_same =
       ap (λ f. record { format = f; width = scanned.width })
       (same_format format named scanned.version known on.scan.version_is)
       ∙ ap (λ w. record { format = named; width = w }) on.scan.width_is
 
-  pub tally_same : tally ≡ tally_of found
+  tally_same : tally ≡ tally_of found
   tally_same = same_tally (tally_of found) n scanned.changes scanned.folded (counted ∙ on.scan.vector.read.size) on.scan.changes_are on.scan.folded_is
-
-  gate_same : scanned.gate ≡ length (text file found)
-  gate_same = on.scan.gate_is
-
-  legal : AreLegalFrom file nothing found
-  legal = on.scan.vector.framed.legal
 
   abbrev more : keeps → List ℕ
   more model = (on.on_disk model).0
@@ -239,104 +311,46 @@ module _ {R : Type 0} {form : Encoding R} {keeps : Type 0} {states : List State}
   seen_same : (model : keeps) → bytes_of states ≡ on.image ++ more model
   seen_same model = ap (λ s. s.seen) (on.on_disk model).1
 
-  has_seen : keeps → SeenAs told scanned.gate (all_blanked found) (map form.bytes_of records) (bytes_of states)
-  has_seen model =
-      subst (λ s. SeenAs s scanned.gate (all_blanked found) (map form.bytes_of records) (bytes_of states)) (sym shape_same)
-      (subst (λ g. SeenAs file g (all_blanked found) (map form.bytes_of records) (bytes_of states)) (sym gate_same)
-      (subst (λ (bs : List ℕ). SeenAs file (length (text file found)) (all_blanked found) (map form.bytes_of records) bs)
-      (sym (seen_same model)) (seen named form on.image (more model) found records back on.fits on.scan.vector)))
+  typed_vector : (model : keeps) → HasVector named form (bytes_of states) found records
+  typed_vector model =
+      subst (λ (bs : List ℕ). HasVector named form bs found records) (sym (seen_same model))
+      (HasVector_more named form on.image (more model) found records on.scan.vector)
 
-  -- what the pen counts then
-  abbrev log : List ℕ → PenLog
-  log bytes = record { shape = told; gate = scanned.gate; tally = tally; bytes = bytes; step = None; broken = false }
-
-  abbrev KnowsNow : PenLog → Type 0
-  KnowsNow counts = Knows 0 counts (all_blanked found) (map form.bytes_of records) (now states)
-
-  has_known : (bytes : List ℕ) → keeps → KnowsNow (log bytes)
-  has_known bytes model =
-      subst (λ s. KnowsNow (record (log bytes) { shape = s })) (sym shape_same)
-      (subst (λ g. KnowsNow (record (log bytes) { shape = file; gate = g })) (sym gate_same)
-      (subst (λ t. KnowsNow (record (log bytes) { shape = file; gate = length (text file found); tally = t })) (sym tally_same)
-      (subst
-      (λ s.
-      Knows 0 (record (log bytes) { shape = file; gate = length (text file found); tally = tally_of found })
-      (all_blanked found) (map form.bytes_of records) s)
-      (sym (on.on_disk model).1)
-      (known_file named form on.image (more model) found records back on.fits on.scan.vector bytes))))
-
-  pub opened_pen : (next : Tally) (bytes : List ℕ) → (1 ≤ form.width) × (form.width < 2 ^ 16) → IsPen 0 keeps states (log bytes) next
-  opened_pen next bytes wide =
-      let placed = inside_front named form on.image [] found records back on.fits on.scan.vector in
-      let long = length-text file found in
-      let all = ap (λ t. t.changes) tally_same in
-      let few = changes_short file nothing found in
-      let most = folded_legal file nothing found legal (omega arith) in
-      record {
-        wide = (omega (arith, on.scan.width_is), omega (arith, on.scan.width_is));
-        gate_fits = omega (arith, gate_same, on.short, placed);
-        size_fits = subst (λ t. t.size ≤ 2 ^ 32) (sym tally_same) (size_legal file nothing found legal (omega arith));
-        changes_fit = omega (arith, gate_same);
-        folded_counted = subst (λ t. t.folded ≤ t.changes) (sym tally_same) most;
-        job = tt;
-        knows = λ model. (
-            let seen = has_seen model in
-            subst (λ fs. Knows 0 (log bytes) fs (vector_read states (log bytes)) (now states)) (sym seen.frames_are)
-            (subst (λ v. Knows 0 (log bytes) (all_blanked found) v (now states)) (sym seen.vector_is) (has_known bytes model)));
-      }
-
-  pub opened_lists : (bytes : List ℕ) (live : ℕ) (fold : Fold) → fold.stage ≡ stages.None → live ≡ length homes.live.items
-      → HasLists keeps states (log bytes) homes live fold
-  opened_lists bytes live fold at all = record {
-    frames = found;
-    legal = subst (λ s. AreLegalFrom s nothing found) (sym shape_same) legal;
-    gate_is = gate_same ∙ ap (λ s. gate_of s found) (sym shape_same);
-    tally_is = tally_same;
-    lists = subst (λ s. Lists s found None homes live) (sym shape_same) (record {
-      told = homes.homes.items;
-      are_homes = on.homes_are.homes_are;
-      homes_are = sym (append-nil homes.homes.items);
-      live_is = on.homes_are.live_is ∙ sym (append-nil (live_runs file found));
-      counted = all ∙ ap length on.homes_are.live_is;
-    });
-    filed = λ count is. absurd cc;
-    runs_are = λ held. absurd (subst IsInHand at held);
-    same = λ model. (has_seen model).frames_are;
-  }
-
-  pub opened_as : {D : Type 0} (disk : D) (bytes : List ℕ) (room places : ℕ) (fold : Option FoldOf) → keeps
-      → IsOpened form (bytes_of states)
-      (record {
-        disk = disk;
-        shape = told;
-        frames = frames_read states (log bytes);
-        vector = vector_read states (log bytes);
-        job = None;
-        fold = fold;
-        broken = false;
-        tally = tally;
-        gate = scanned.gate;
-        room = room;
-        places = places;
+  pub found_known : (1 ≤ form.width) × (form.width < 2 ^ 16) → IsKnownFile keeps states told scanned.gate tally homes
+  found_known wide =
+      let size = ap length on.scan.vector.framed.closed.3 ∙ length-append (text file found) (on.scan.vector.framed.closed.0 ∷ on.scan.vector.framed.closed.1) in
+      subst (λ s. IsKnownFile keeps states s scanned.gate tally homes) (sym shape_same) (record {
+        frames = found;
+        wide = wide;
+        legal = on.scan.vector.framed.legal;
+        gate_is = on.scan.gate_is;
+        gate_fits = omega (arith, on.scan.gate_is, on.short, size);
+        tally_is = tally_same;
+        homes_are = on.homes_are;
+        framed = λ model. (typed_vector model).framed;
+        on_disk = λ model. (on.on_disk model).1 ∙ ap settled (sym (seen_same model));
       })
-      records
-  opened_as disk bytes room places fold model =
-      let seen = has_seen model in
-      let image : bytes_of states ≡ on.image ++ more model = seen_same model in
+
+  -- any pen that counts so, and sees the file so, has opened it
+  pub found_opened : {D : Type 0} (pen : PenOf D) → WritesBack form → keeps → pen.shape ≡ told → pen.gate ≡ scanned.gate → pen.tally ≡ tally
+      → ((frames : List Frame) (cells : List (List ℕ)) → HasVector format (raw scanned.width) (bytes_of states) frames cells → (pen.frames ≡ all_blanked frames) × (pen.vector ≡ cells))
+      → IsOpened form (bytes_of states) pen records
+  found_opened pen back model same gate_same tally_is seen =
+      let raw_read : HasVector named (raw form.width) (bytes_of states) found (map form.bytes_of records)
+      = subst (λ (bs : List ℕ). HasVector named (raw form.width) bs found (map form.bytes_of records)) (sym (seen_same model))
+      (read_raw named form on.image (more model) found records back on.fits on.scan.vector) in
+      let here = seen found (map form.bytes_of records)
+      (subst (λ s. HasVector s.format (raw s.width) (bytes_of states) found (map form.bytes_of records)) (sym shape_same) raw_read) in
       record {
         format = named;
         found = found;
-        vector =
-            subst (λ (bs : List ℕ). HasVector named form bs found records) (sym image)
-            (has named form on.image (more model) found records back on.fits on.scan.vector);
-        shape_is = shape_same;
-        frames_are = seen.frames_are;
+        vector = typed_vector model;
+        shape_is = same ∙ shape_same;
+        frames_are = here.0;
         cells_are =
-            AreCellsOf_read form (vector_read states (log bytes)) records seen.vector_is
-            (subst (λ cells. AreReadAs form cells records) (sym seen.vector_is)
-            (AreReadAs_same named form (on.image ++ more model) found (map form.bytes_of records) records
-            (read_raw named form on.image (more model) found records back on.fits on.scan.vector)
-            (has named form on.image (more model) found records back on.fits on.scan.vector).read));
-        tally_is = tally_same;
-        gate_is = gate_same;
+            AreCellsOf_read form pen.vector records here.1
+            (subst (λ cells. AreReadAs form cells records) (sym here.1)
+            (AreReadAs_same named form (bytes_of states) found (map form.bytes_of records) records raw_read.read (typed_vector model).read));
+        tally_is = tally_is ∙ tally_same;
+        gate_is = gate_same ∙ on.scan.gate_is;
       }

@@ -16,6 +16,8 @@ pub mod Births
 pub mod Covered
 pub mod HomeRuns
 pub mod Opening
+pub mod Framing
+pub mod Window
 pub mod Values
 pub mod Plan
 pub mod Typed

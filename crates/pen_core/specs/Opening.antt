@@ -1,5 +1,5 @@
 -- A file that is opened.
-use Rattle.std.specs.Prelude.{◌≡◌, ◌⊎◌, ℕ, ◌+◌, ◌-◌, ◌*◌, ◌/◌, ◌≤◌, ◌<◌, ◌^◌, ◌++◌, List, length, take, None, false}
+use Rattle.std.specs.Prelude.{◌≡◌, ◌⊎◌, ℕ, ◌+◌, ◌-◌, ◌*◌, ◌/◌, ◌≤◌, ◌<◌, ◌^◌, ◌++◌, List, length, take, None, false, Result, MatchResult}
 use Rattle.record_core.specs.Bytes.{Encoding, IsBytes}
 use Rattle.disk_core.specs.State.{State, now, settled, IsImage}
 use Rattle.disk_core.specs.Calls.{bytes_of}
@@ -164,3 +164,12 @@ pub record AreNeeded {R : Type 0} (piece : ℕ) (form : Encoding R) (bytes : Lis
 abbrev pub AreReadsMade : {R : Type 0} → ℕ → Encoding R → List ℕ → OpenFault → ℕ → Type 0
 AreReadsMade piece form bytes (Scan fault) n = (fault ≡ Memory) ⊎ AreNeeded piece form bytes n
 AreReadsMade piece form bytes (Disk cause) n = (k : ℕ) → k + 1 < n → IsCutShort form (pieces_front piece k bytes)
+
+-- the calls of a scan by pieces of so many bytes, of a file of some length: those of the disk's file, where it keeps the model
+pub record ReadsByPieces {R X : Type 0} (form : Encoding R) (piece : ℕ) (kept : Type 0) (old new : List State) (result : Result X OpenFault) : Type 0 where
+  pub time : (len : ℕ) × (kept → len ≡ length (bytes_of old)) × MatchResult result
+      (λ _. AreCallsDoneBy piece len (clock new - clock old))
+      (λ fault. AreCallsMadeBy piece len fault (clock new - clock old))
+  pub reads : kept → MatchResult result
+      (λ _. AreNeeded piece form (bytes_of old) (clock new - clock old - 2))
+      (λ fault. AreReadsMade piece form (bytes_of old) fault (clock new - clock old - 2))

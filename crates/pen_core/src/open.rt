@@ -1,13 +1,19 @@
 //! A file is opened: a sync, the length, and reads of one piece after the other.
 
-ghost use Rattle.std.specs.Prelude.{◌≡◌, ◌+◌, ◌-◌, ℕ, length, IfOk, IfErr, MatchResult};
+ghost use Rattle.std.specs.Prelude.{◌≡◌, ◌≤◌, ◌+◌, ◌-◌, ℕ, List, length, IfOk, IfErr, MatchResult};
 ghost use Rattle.disk_core.specs.Calls.{bytes_of};
 ghost use Rattle.disk_core.specs.Moments.{clock};
+ghost use Rattle.segment_core.specs.Frame.{Frame};
+ghost use Rattle.segment_core.specs.Vector.{HasVector};
+ghost use Rattle.segment_core.specs.Raw.{raw};
+ghost use Rattle.segment_core.specs.Blanked.{all_blanked};
+ghost use Rattle.pen_core.specs.Framing.{IsKnownFile};
 ghost use Rattle.pen_core.specs.Opening.{IsAtRest, IsOpened, OnlySyncs, IsOpenRefusal, IsFoundOn, failed_openings, AreCallsDone, AreCallsMade, AreNeeded, AreReadsMade};
 ghost use Rattle.pen_core.specs.Pen.{IsKept};
 
 use crate::fault::OpenFault;
 use crate::fold::Fold;
+use crate::framing::walk_disk;
 use crate::pen::Pen;
 use crate::scanning::scan_disk;
 use disk_core::Disk;
@@ -19,6 +25,31 @@ use std::alloc::Global;
 const PIECE_LEN: usize = 4096;
 
 impl<D: Disk> Pen<D> {
+    /// A pen at rest, over a file whose frames leave this.
+    fn over(alloc: Global, disk: D, shape: Shape, gate: u64, tally: Tally, homes: Homes) -> Pen<D>
+        requires { IsKnownFile (D.keeps disk) (D.states disk) shape gate tally homes }
+        ensures disk { result.disk ≡ disk }
+        ensures rests { IsAtRest shape.width tally.size result }
+        ensures counts { (result.shape ≡ shape) × (result.gate ≡ gate) × (result.tally ≡ tally) }
+        ensures seen { D.keeps disk → (frames : List Frame) (cells : List (List ℕ)) → HasVector shape.format (raw shape.width) (bytes_of (D.states disk)) frames cells
+            → (result.frames ≡ all_blanked frames) × (result.vector ≡ cells) }
+        ensures kept { D.keeps disk → IsKept (D.states disk) result }
+    {
+        Pen {
+            disk,
+            shape,
+            gate,
+            tally,
+            next: tally,
+            bytes: Vec::new(alloc),
+            step: None,
+            live: homes.live.len(),
+            homes,
+            fold: Fold::none(alloc),
+            broken: false,
+        }
+    }
+
     /// A pen that goes on with the file that was found on the disk.
     fn go_on<R: Record>(alloc: Global, disk: D, scanned: &Scanned<R>, homes: Homes) -> Pen<D>
         requires { IsFoundOn R.form (D.keeps disk) (D.states disk) scanned.now homes }
@@ -40,18 +71,42 @@ impl<D: Disk> Pen<D> {
             changes: scanned.changes,
             folded: scanned.folded,
         };
-        Pen {
-            disk,
-            shape,
-            gate: scanned.gate,
-            tally,
-            next: tally,
-            bytes: Vec::new(alloc),
-            step: None,
-            live: homes.live.len(),
-            homes,
-            fold: Fold::none(alloc),
-            broken: false,
+        Pen::over(alloc, disk, shape, scanned.gate, tally, homes)
+    }
+
+    /// Opens the file on the disk, whose records have this width in bytes, by its frames alone: it gives no vector, and
+    /// reads no records. The pen is that which `open` gives where all bytes of the width are a record.
+    ///
+    /// It syncs first, so that what it reads is what a crash leaves; then it reads the length, the header, and of each
+    /// frame what stands before its records, up to the closed gate or the first fault. Nothing is written. Memory is taken
+    /// for the homes, the runs of the live changes, one piece of the file, and one frame. Refused: `Disk`, at the call that
+    /// failed; `Scan`, for the file's first fault, where any bytes are a record, or, once its header is read, for want
+    /// of memory. Every refusal hands the disk back.
+    pub fn open_frames(alloc: Global, disk: D, width: u16) -> Result<Pen<D>, (D, OpenFault)>
+        requires { 1 ≤ width }
+        ensures rests { IfOk result (λ pen. IsAtRest width pen.tally.size pen) }
+        ensures opened { IfOk result (λ pen. D.keeps pen.disk → IsOpened (raw width) (bytes_of (D.states disk)) pen pen.vector) }
+        ensures kept { IfOk result (λ pen. D.keeps pen.disk → IsKept (D.states pen.disk) pen) }
+        ensures refused { IfErr result (λ r. D.keeps r.0 → IsOpenRefusal (raw width) (bytes_of (D.states disk)) r.1) }
+        ensures only_syncs { MatchResult result
+            (λ pen. D.keeps pen.disk → OnlySyncs (D.states disk) (D.states pen.disk))
+            (λ r. D.keeps r.0 → OnlySyncs (D.states disk) (D.states r.0)) }
+        ensures faults { MatchResult result
+            (λ pen. D.faults pen.disk ≡ D.faults disk)
+            (λ r. D.faults r.0 ≡ D.faults disk + failed_openings r.1) }
+        ensures model { MatchResult result (λ pen. D.keeps pen.disk → D.keeps disk) (λ r. D.keeps r.0 → D.keeps disk) }
+    {
+        let mut disk = disk;
+        match walk_disk(alloc, &mut disk, width) {
+            Ok(framed) => Ok(Pen::over(
+                alloc,
+                disk,
+                framed.shape,
+                framed.gate,
+                framed.tally,
+                framed.homes,
+            )),
+            Err(fault) => Err((disk, fault)),
         }
     }
 

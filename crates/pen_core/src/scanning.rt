@@ -9,7 +9,7 @@ ghost use Rattle.record_core.specs.Bytes.{IsBytes};
 ghost use Rattle.segment_core.specs.Scanned.{IsScanOf};
 ghost use Rattle.segment_core.specs.Scanner.{IsFed, IsLost};
 ghost use Rattle.pen_core.specs.Opening.{OnlySyncs, IsOpenRefusal, IsReadFault, HasTaken, HasScanned, HasReadDisk, IsFoundOn, failed_openings, reads_of, AreCallsDoneBy, AreCallsMadeBy, AreNeeded};
-ghost use Rattle.pen_core.specs.Opening.{AreReadsMade};
+ghost use Rattle.pen_core.specs.Opening.{AreReadsMade, ReadsByPieces};
 
 use crate::fault::OpenFault;
 use disk_core::{Disk, DiskFault};
@@ -154,12 +154,7 @@ fn read_disk<D: Disk, R: Record>(
     ensures read { IfOk result (HasReadDisk R.form (D.keeps disk.new) (bytes_of (D.states disk.old)) (D.states disk.new)) }
     ensures refused { D.keeps disk.new → IfErr result (IsOpenRefusal R.form (bytes_of (D.states disk.old))) }
     ensures only_syncs { D.keeps disk.new → OnlySyncs (D.states disk.old) (D.states disk.new) }
-    ensures time { (len : ℕ) × (D.keeps disk.new → len ≡ length (bytes_of (D.states disk.old))) × MatchResult result
-        (λ _. AreCallsDoneBy (length piece.old) len (clock (D.states disk.new) - clock (D.states disk.old)))
-        (λ fault. AreCallsMadeBy (length piece.old) len fault (clock (D.states disk.new) - clock (D.states disk.old))) }
-    ensures reads { D.keeps disk.new → MatchResult result
-        (λ _. AreNeeded (length piece.old) R.form (bytes_of (D.states disk.old)) (clock (D.states disk.new) - clock (D.states disk.old) - 2))
-        (λ fault. AreReadsMade (length piece.old) R.form (bytes_of (D.states disk.old)) fault (clock (D.states disk.new) - clock (D.states disk.old) - 2)) }
+    ensures calls { ReadsByPieces R.form (length piece.old) (D.keeps disk.new) (D.states disk.old) (D.states disk.new) result }
     ensures faults { CountsFailures failed_openings (D.faults disk.old) (D.faults disk.new) result }
     ensures model { D.keeps disk.new → D.keeps disk.old }
 {

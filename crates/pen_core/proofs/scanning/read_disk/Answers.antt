@@ -16,12 +16,15 @@ pub returns-in-Err-clause-only_syncs : goal.returns-in-Err-clause-only_syncs
 returns-in-Err-clause-only_syncs g c = λ model.
     only_syncs_failed (g.D.Disk.states c.args.disk.now) (g.D.Disk.states c.sync.new.self) (c.in-Err.ensures.same (c.sync.ensures.model model))
 
-pub returns-in-Err-clause-time : goal.returns-in-Err-clause-time
-returns-in-Err-clause-time g c =
+pub returns-in-Err-clause-calls : goal.returns-in-Err-clause-calls
+returns-in-Err-clause-calls g c =
     let old = g.D.Disk.states c.args.disk.now in
     let len = length (bytes_of old) in
     let n = clock (g.D.Disk.states c.sync.new.self) - clock old in
-    (len, λ model. refl, made_a_sync (length c.args.piece.now) len n c.in-Err.fault c.in-Err.ensures.cause.0 (omega (arith, c.sync.ensures.time)))
+    record {
+      time = (len, λ model. refl, made_a_sync (length c.args.piece.now) len n c.in-Err.fault c.in-Err.ensures.cause.0 (omega (arith, c.sync.ensures.time)));
+      reads = grind (arith, common_steps);
+    }
 
 pub returns-in-Err-len-clause-only_syncs : goal.returns-in-Err-len-clause-only_syncs
 returns-in-Err-len-clause-only_syncs g c = λ model.
@@ -34,16 +37,20 @@ returns-in-Err-len-clause-only_syncs g c = λ model.
     only_syncs_settled old mid new (c.in_default.ensures.done before) (g.met.D.Disk.reads_an_image c.args.disk.now before)
     (ap now stays) (stays_only mid new stays)
 
-pub returns-in-Err-len-clause-time : goal.returns-in-Err-len-clause-time
-returns-in-Err-len-clause-time g c =
+pub returns-in-Err-len-clause-calls : goal.returns-in-Err-len-clause-calls
+returns-in-Err-len-clause-calls g c =
     let old = g.D.Disk.states c.args.disk.now in
     let len = length (bytes_of old) in
-    let n = clock (g.D.Disk.states c.len.new.self) - clock old in (
-      len,
-      λ model. refl,
-      made_a_length (length c.args.piece.now) len n c.in-Err-len.fault c.in-Err-len.ensures.cause.0
-          (omega (arith, c.sync.ensures.time, c.len.ensures.time)),
-    )
+    let n = clock (g.D.Disk.states c.len.new.self) - clock old in
+    record {
+      time = (
+        len,
+        λ model. refl,
+        made_a_length (length c.args.piece.now) len n c.in-Err-len.fault c.in-Err-len.ensures.cause.0
+            (omega (arith, c.sync.ensures.time, c.len.ensures.time)),
+      );
+      reads = grind (arith, common_steps);
+    }
 
 -- ---- the bytes were read
 
@@ -82,10 +89,12 @@ returns-in_err-feed_all g c =
       refused = λ model. all_refused form (bytes_of old) (bytes_of last) len fault (walked_bytes (made model)) (walked_len (made model))
           (err.ensures.refused model);
       only_syncs = λ model. walked_only (made model);
-      time = (len, λ model. walked_len (made model), made_reads piece len n fault err.ensures.cause (omega arith) (omega arith) (omega arith));
-      reads = λ model.
-          reads_made_behind form piece old last new (walked_bytes (made model)) time fault
-          (err.ensures.reads model (walked_len (made model) ∙ ap length (sym (walked_bytes (made model)))));
+      calls = record {
+        time = (len, λ model. walked_len (made model), made_reads piece len n fault err.ensures.cause (omega arith) (omega arith) (omega arith));
+        reads = λ model.
+            reads_made_behind form piece old last new (walked_bytes (made model)) time fault
+            (err.ensures.reads model (walked_len (made model) ∙ ap length (sym (walked_bytes (made model)))));
+      };
       faults = err.ensures.faults ∙ ap (λ n. n + failed_openings fault) (c.in-Ok.ensures.cause ∙ c.in_default.ensures.cause);
       model = λ model. c.sync.ensures.model (c.len.ensures.model (c.feed_all.ensures.model model));
     })
@@ -120,19 +129,15 @@ returns g c =
       };
       refused = λ model. tt;
       only_syncs = λ model. walked_only (made model);
-      time = (len, λ model. walked_len (made model), (omega arith, omega arith, ok.ensures.read.short));
-      reads = λ model.
-          needed_behind form piece old last new (walked_bytes (made model)) time
-          (ok.ensures.reads model (walked_len (made model) ∙ ap length (sym (walked_bytes (made model)))));
+      calls = record {
+        time = (len, λ model. walked_len (made model), (omega arith, omega arith, ok.ensures.read.short));
+        reads = λ model.
+            needed_behind form piece old last new (walked_bytes (made model)) time
+            (ok.ensures.reads model (walked_len (made model) ∙ ap length (sym (walked_bytes (made model)))));
+      };
       faults = ok.ensures.faults ∙ c.in-Ok.ensures.cause ∙ c.in_default.ensures.cause;
       model = λ model. c.sync.ensures.model (c.len.ensures.model (c.feed_all.ensures.model model));
     }
 
-pub returns-in-Err-len-clause-reads : goal.returns-in-Err-len-clause-reads
-returns-in-Err-len-clause-reads g c = grind (arith, common_steps)
-
 pub feed_all-requires-clause-length : goal.feed_all-requires-clause-length
 feed_all-requires-clause-length g c = grind (arith, common_steps)
-
-pub returns-in-Err-clause-reads : goal.returns-in-Err-clause-reads
-returns-in-Err-clause-reads g c = grind (arith, common_steps)

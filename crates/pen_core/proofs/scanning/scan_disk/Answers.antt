@@ -18,4 +18,4 @@ returns-in-Err-clause-refused g c = λ model.
     c.in-Err.ensures.answer (bytes_of (g.D.Disk.states c.args.disk.now)) (fed_whole c.in_ok-scanner.ensures.read model)
 
 pub returns-in-Err-clause-reads : goal.returns-in-Err-clause-reads
-returns-in-Err-clause-reads g c = λ model. inr (c.in_ok-scanner.ensures.reads model)
+returns-in-Err-clause-reads g c = λ model. inr (c.in_ok-scanner.ensures.calls.reads model)
