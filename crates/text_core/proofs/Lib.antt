@@ -9,3 +9,5 @@ pub mod Reading
 pub mod LineLemmas
 pub mod LineGroups
 pub mod GroupLines
+pub mod Written
+pub mod Wanted

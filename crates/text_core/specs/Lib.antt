@@ -8,5 +8,6 @@ pub mod Lines
 pub mod GroupLine
 pub mod Words
 pub mod HexLine
+pub mod Answers
 pub mod Refusals
 pub mod Status

@@ -1,9 +1,11 @@
-//! What the engines write: records one a line, bytes as a hex line.
+//! What the engines write: records one a line, lines, and what a search has found.
 
 ghost use Rattle.std.specs.Prelude.{OnOk};
 ghost use Rattle.std.specs.Io.KnownBytes.{Appends};
+ghost use Rattle.text_core.specs.Answers.{number_line, found_line};
 ghost use Rattle.text_core.specs.Text.{ended_line, record_lines};
 
+use crate::number::write_number;
 use crate::text::TextRecord;
 use std::io;
 use std::io::Write;
@@ -34,4 +36,22 @@ pub fn write_text<W: Write>(text: &[u8], writer: &mut W) -> io::Result<()>
 {
     writer.write_all(text)?;
     writer.flush()
+}
+
+/// Writes a number and an LF.
+pub fn write_number_line<W: Write>(writer: &mut W, n: u64) -> io::Result<()>
+    ensures { OnOk result (Appends (W.contents writer.old) (W.contents writer.new) (number_line n)) }
+{
+    write_number(writer, n)?;
+    write_line(b"", writer)
+}
+
+/// Writes a position and an LF, or that there is none.
+pub fn write_found<W: Write>(writer: &mut W, found: Option<u64>) -> io::Result<()>
+    ensures { OnOk result (Appends (W.contents writer.old) (W.contents writer.new) (found_line found)) }
+{
+    match found {
+        Some(position) => write_number_line(writer, position),
+        None => write_line(b"none", writer),
+    }
 }
