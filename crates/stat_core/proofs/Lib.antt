@@ -4,4 +4,6 @@ pub mod Counted
 pub mod HeaderRead
 pub mod Shown
 pub mod OfFrames
+pub mod Fronted
+pub mod Summed
 pub mod Worked

@@ -91,7 +91,7 @@ one_outline shape (frames.Fold n) (Group m records) payload whole is kind len nu
 one_outline shape (frames.Fold n) (Change m records) payload whole is kind len number = absurd (omega arith)
 one_outline shape (frames.Fold n) (Shrink m) payload whole is kind len number = absurd (omega arith)
 
-told_of_frame : (shape : Shape) (frame : Frame) (rest : List ℕ) (outline : Outline)
+pub told_of_frame : (shape : Shape) (frame : Frame) (rest : List ℕ) (outline : Outline)
     → IsFrame shape frame → IsOutlined shape (frame_text shape.format frame ++ rest) outline
     → outline ≡ outline_of frame
 told_of_frame shape frame rest outline whole told =
@@ -102,11 +102,11 @@ told_of_frame shape frame rest outline whole told =
 
 -- ---- all of them
 
-counted_push : (shape : Shape) (s : Summary) (done : List Frame) (frame : Frame) → counted_from shape s (done ++ frame ∷ []) ≡ grown shape (counted_from shape s done) (outline_of frame)
+pub counted_push : (shape : Shape) (s : Summary) (done : List Frame) (frame : Frame) → counted_from shape s (done ++ frame ∷ []) ≡ grown shape (counted_from shape s done) (outline_of frame)
 counted_push shape s [] frame = refl
 counted_push shape s (first ∷ done) frame = counted_push shape (grown shape s (outline_of first)) done frame
 
-gate_counted : (shape : Shape) (s : Summary) (tally : Tally) (done : List Frame)
+pub gate_counted : (shape : Shape) (s : Summary) (tally : Tally) (done : List Frame)
     → AreLegalFrom shape tally done
     → (counted_from shape s done).gate ≡ s.gate + length (flat_map (frame_text shape.format) done)
 gate_counted shape s tally [] legal = omega arith
@@ -124,11 +124,11 @@ tally_grown shape s (frames.Change runs bytes) = refl
 tally_grown shape s (frames.Shrink n) = refl
 tally_grown shape s (frames.Fold count) = refl
 
-tally_counted : (shape : Shape) (s : Summary) (done : List Frame) → tally_in (counted_from shape s done) ≡ tally_from (tally_in s) done
+pub tally_counted : (shape : Shape) (s : Summary) (done : List Frame) → tally_in (counted_from shape s done) ≡ tally_from (tally_in s) done
 tally_counted shape s [] = refl
 tally_counted shape s (frame ∷ done) = tally_counted shape (grown shape s (outline_of frame)) done ∙ ap (λ t. tally_from t done) (tally_grown shape s frame)
 
-legal_split : (shape : Shape) (tally : Tally) (done left : List Frame) → AreLegalFrom shape tally (done ++ left) → AreLegalFrom shape tally done × AreLegalFrom shape (tally_from tally done) left
+pub legal_split : (shape : Shape) (tally : Tally) (done left : List Frame) → AreLegalFrom shape tally (done ++ left) → AreLegalFrom shape tally done × AreLegalFrom shape (tally_from tally done) left
 legal_split shape tally [] left legal = (tt, legal)
 legal_split shape tally (frame ∷ done) left legal =
     let rest = legal_split shape (after tally frame) done left legal.2 in

@@ -6,6 +6,7 @@
 #![tactic(auto)]
 
 mod fault;
+mod front;
 mod outline;
 mod summary;
 mod telling;

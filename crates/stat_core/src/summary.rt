@@ -38,7 +38,7 @@ pub struct Summary {
 
 impl Summary {
     /// That of a file of this shape and length with no frame.
-    pub(crate) fn begun(shape: Shape, bytes: u64) -> Summary
+    pub fn begun(shape: Shape, bytes: u64) -> Summary
         requires { shape.width < 2 ^ 16 }
         ensures { result ≡ begun shape bytes }
     {
