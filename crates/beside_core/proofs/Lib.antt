@@ -1,0 +1,23 @@
+mod Read
+pub mod MayDiffer
+mod Parse
+mod Replayed
+mod Walking
+mod Taken
+mod Looked
+mod Ahead
+mod Tails
+mod HeaderSeen
+mod Noting
+mod Running
+mod Changing
+mod TakenIn
+mod Taking
+mod Grown
+mod Answering
+mod Shown
+mod Padded
+mod SeenInTurn
+mod Worked
+mod Counted
+mod WorkedEdits

@@ -1,0 +1,12 @@
+pub mod Replay
+pub mod MayDiffer
+pub mod PensFile
+pub mod Fault
+pub mod Look
+pub mod Bookmark
+pub mod Counting
+pub mod Edit
+pub mod Tail
+pub mod Since
+pub mod News
+pub mod Seen
