@@ -1,0 +1,10 @@
+mod Moments
+mod Folded
+mod CallBytes
+mod LogBytes
+mod KeptFile
+mod Witnessed
+mod LogTicks
+mod HomeTicks
+mod Begins
+mod Worked

@@ -1,0 +1,3 @@
+pub mod FileMoments
+pub mod Shown
+pub mod Witnessed
