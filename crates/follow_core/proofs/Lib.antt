@@ -1,0 +1,11 @@
+mod Windows
+mod Refusals
+mod Settled
+mod SoFar
+mod Whole
+mod Checked
+mod Fronts
+mod Worked
+mod PlaceLemmas
+mod Stepping
+mod WorkedEvents

@@ -1,0 +1,80 @@
+//! `count` and `find` beside a writer. That `==` calls no other records equal is a law of `Record`.
+
+ghost use Rattle.std.specs.Prelude.{◌≡◌, ◌≤◌};
+ghost use Rattle.std.specs.List.{count_by};
+ghost use Rattle.search_core.specs.Search.{IsFirst};
+ghost use Rattle.follow_core.specs.Answers.{IsCountLine, IsFoundLine};
+ghost use Rattle.follow_core.specs.Beside.{AnswersRecords, IsReadBeside};
+
+use crate::ended::LookEnd;
+use crate::reading::read_vector;
+use disk_core::Shared;
+use record_core::Record;
+use std::alloc::Global;
+use std::io::Write;
+use text_core::{TextRecord, write_found, write_number_line};
+
+/// How many of the records equal this one.
+fn count_equal<R: Record>(records: &[R], wanted: R) -> u64
+    ensures { result ≡ count_by (λ r. R.Eq.eq r wanted) records.now }
+{
+    let mut count: u64 = 0;
+    for r in records {
+        if *r == wanted {
+            count += 1;
+        }
+    }
+    count
+}
+
+/// The position of the first record that equals this one.
+fn first_equal<R: Record>(records: &[R], wanted: R) -> Option<u64>
+    ensures { IsFirst (λ r. R.Eq.eq r wanted) records.now result }
+{
+    for k in 0..records.len() {
+        if records[k] == wanted {
+            return Some(k as u64);
+        }
+    }
+    None
+}
+
+/// Writes how many records of the vector are this one, as it is at one moment of the call.
+pub fn count_beside<R: TextRecord, S: Shared, W: Write>(
+    alloc: Global,
+    file: &mut S,
+    wanted: R,
+    writer: &mut W,
+) -> LookEnd
+    ensures read { IsReadBeside R.form (λ _. AnswersRecords R.form (IsCountLine wanted)) (S.keeps file.new) (S.held file.old) (S.now file.old) (S.now file.new) (S.synced file.new)
+        (W.contents writer.old) (W.contents writer.new) result }
+    ensures same { S.held file.new ≡ S.held file.old }
+    ensures time { S.now file.old ≤ S.now file.new }
+    ensures model { S.keeps file.new → S.keeps file.old }
+{
+    let (records, _mark) = match read_vector::<R, S>(alloc, file) {
+        Ok(found) => found,
+        Err(fault) => return LookEnd::Refused(fault),
+    };
+    LookEnd::told(write_number_line(writer, count_equal(&records, wanted)))
+}
+
+/// Writes the least position of this record, or `none`, as the vector is at one moment of the call.
+pub fn find_beside<R: TextRecord, S: Shared, W: Write>(
+    alloc: Global,
+    file: &mut S,
+    wanted: R,
+    writer: &mut W,
+) -> LookEnd
+    ensures read { IsReadBeside R.form (λ _. AnswersRecords R.form (IsFoundLine wanted)) (S.keeps file.new) (S.held file.old) (S.now file.old) (S.now file.new) (S.synced file.new)
+        (W.contents writer.old) (W.contents writer.new) result }
+    ensures same { S.held file.new ≡ S.held file.old }
+    ensures time { S.now file.old ≤ S.now file.new }
+    ensures model { S.keeps file.new → S.keeps file.old }
+{
+    let (records, _mark) = match read_vector::<R, S>(alloc, file) {
+        Ok(found) => found,
+        Err(fault) => return LookEnd::Refused(fault),
+    };
+    LookEnd::told(write_found(writer, first_equal(&records, wanted)))
+}
