@@ -105,10 +105,13 @@ impl<R: Record> Live<R> {
         put
     }
 
-    /// Publishes the block behind all that the seat finds, as often as another growth comes first.
-    fn put_in_turn<E: Wait>(
+    /// As `grow`, once: for who may not wait. It takes no door and wakes nobody, and it is refused `Strayed` where another
+    /// growth came first; the seat then knows that one, and the call may be made again.
+    ///
+    /// A `close` doesn't wait for it. So it is for a phase whose end is the last handle's: nobody calls `close` there, and
+    /// who commits learns of growths by looking.
+    pub fn try_grow(
         &self,
-        rt: &E,
         seat: &mut Seat<R>,
         fresh: Fresh<R>,
     ) -> Result<Receipt, (Fresh<R>, GrowFault)>
@@ -119,14 +122,34 @@ impl<R: Record> Live<R> {
             (λ refused. (refused.0 ≡ fresh) × SeatLearns seat.old seat.new) }
         ensures fault { IfErr result (λ refused. IsBookRefusal self.now seat.new (length fresh) refused.1) }
     {
-        let mut block = fresh;
+        if let Err(fault) = self.catch_up(seat) {
+            return Err((fresh, fault));
+        }
+        self.put(seat, fresh)
+    }
+
+    /// Publishes the block behind all that the seat finds, as often as another growth comes first.
+    fn put_in_turn<E: Wait>(
+        &self,
+        rt: &E,
+        seat: &mut Seat<R>,
+        block: Fresh<R>,
+    ) -> Result<Receipt, (Fresh<R>, GrowFault)>
+        requires of { IsSeatOf self.now seat.old }
+        ensures of { IsSeatOf self.now seat.new }
+        ensures list { MatchResult result
+            (λ receipt. Grown self.now seat.old seat.new block receipt)
+            (λ refused. (refused.0 ≡ block) × SeatLearns seat.old seat.new) }
+        ensures fault { IfErr result (λ refused. IsBookRefusal self.now seat.new (length block) refused.1) }
+    {
+        let mut kept = block;
         let mut patience = Patience::new();
         for _ in rt.forever() {
             if let Err(fault) = self.catch_up(seat) {
-                return Err((block, fault));
+                return Err((kept, fault));
             }
-            match self.put(seat, block) {
-                Err((back, GrowFault::Strayed(_))) => block = back,
+            match self.put(seat, kept) {
+                Err((back, GrowFault::Strayed(_))) => kept = back,
                 put => return put,
             }
             patience.give_way(rt);
@@ -213,18 +236,18 @@ impl<R: Record> Live<R> {
         &self,
         rt: &E,
         seat: &mut Seat<R>,
-        n: u64,
+        least: u64,
         v: R,
     ) -> Result<Option<Receipt>, GrowFault>
         requires of { IsSeatOf self.now seat.old }
         ensures of { IsSeatOf self.now seat.new }
-        ensures list { FillsOrReaches self.now seat.old seat.new n v result }
-        ensures fault { IfErr result (IsFillRefusal R.form.width self.now seat.new n) }
+        ensures list { FillsOrReaches self.now seat.old seat.new least v result }
+        ensures fault { IfErr result (IsFillRefusal R.form.width self.now seat.new least) }
     {
         let mut patience = Patience::new();
         for _ in rt.forever() {
             self.catch_up(seat)?;
-            let filled = self.fill_up(seat, n, v);
+            let filled = self.fill_up(seat, least, v);
             match filled {
                 Err(GrowFault::Strayed(_)) => {}
                 _ => return filled,

@@ -10,7 +10,7 @@ returns-in-Err-clause-list g c =
     (c.loop.invariant.2, learns-trans c.args.seat.now c.loop.seat c.catch_up.new.seat c.loop.invariant.1 c.catch_up.ensures.learns)
 
 pub returns-in-Err-clause-fault : goal.returns-in-Err-clause-fault
-returns-in-Err-clause-fault g c = book_from_look c.args.self.now c.catch_up.new.seat (length c.args.fresh) c.in-Err.fault c.in-Err.ensures.fault
+returns-in-Err-clause-fault g c = book_from_look c.args.self.now c.catch_up.new.seat (length c.args.block) c.in-Err.fault c.in-Err.ensures.fault
 
 pub loop-preserved : goal.loop-preserved
 loop-preserved g c =
