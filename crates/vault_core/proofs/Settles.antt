@@ -26,7 +26,7 @@ use Rattle.vault_core.specs.declared.fault.VaultFault.TheVariants.{Pen, Unsettle
 use Rattle.pen_core.specs.Typed.{OpensTo}
 use Rattle.vault_core.specs.Vault.{VaultOf, MayHold, OpensToEither, list_of}
 use Rattle.vault_core.specs.Commands.{IsVaultLaneFault}
-use Rattle.vault_core.specs.Settles.{CarriesOn, fold_ticks, work_left, HasAdvanced, IsSettleFault, HasTicked, fold_calls, calls_left}
+use Rattle.vault_core.specs.Settles.{CarriesOn, fold_ticks, work_left, LessensWork, IsSettleFault, HasTicked, fold_calls, calls_left}
 use Rattle.pen_core.proofs.Settled.{log_left-step}
 use Rattle.vault_core.proofs.Carried.{carries-trans}
 

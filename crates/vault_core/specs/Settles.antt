@@ -44,12 +44,12 @@ abbrev pub calls_left : {D : Type 0} → PenOf D → ℕ
 calls_left pen = log_left pen.job + fold_calls (fold_stage pen.fold)
 
 -- what a tick of the log, or, with no job in hand, of the homes makes of it
-abbrev pub HasAdvanced : {D : Type 0} → PenOf D → PenOf D → Tick → Type 0
-HasAdvanced old new Idle = (old.job ≡ None) × (old.fold ≡ None) × (new ≡ old)
-HasAdvanced old new Step = work_left new < work_left old
-HasAdvanced old new Done = work_left new < work_left old
-HasAdvanced old new Filed = work_left new < work_left old
-HasAdvanced old new Waiting = work_left new < work_left old
+abbrev pub LessensWork : {D : Type 0} → PenOf D → PenOf D → Tick → Type 0
+LessensWork old new Idle = (old.job ≡ None) × (old.fold ≡ None) × (new ≡ old)
+LessensWork old new Step = work_left new < work_left old
+LessensWork old new Done = work_left new < work_left old
+LessensWork old new Filed = work_left new < work_left old
+LessensWork old new Waiting = work_left new < work_left old
 
 -- nothing is in hand
 abbrev pub IsIdle : {D : Type 0} → PenOf D → Type 0

@@ -8,7 +8,7 @@ ghost use Rattle.pen_core.specs.Pen.{FileSame, IsFoldAnswer, IsUnchanged};
 ghost use Rattle.flush_core.specs.Refusals.{IsLaneTicked, lane_calls};
 ghost use Rattle.vault_core.specs.Vault.{MayHold, list_of};
 ghost use Rattle.vault_core.specs.Commands.{failed, FileLaneTicked, IsVaultFoldFault, IsVaultLaneFault};
-ghost use Rattle.vault_core.specs.Settles.{CarriesOn, HasAdvanced, IsIdle, IsSettleFault, StandsInFile, calls_left};
+ghost use Rattle.vault_core.specs.Settles.{CarriesOn, LessensWork, IsIdle, IsSettleFault, StandsInFile, calls_left};
 
 use crate::fault::VaultFault;
 use crate::vault::Vault;
@@ -82,7 +82,7 @@ impl<R: Record, D: Disk> Vault<R, D> {
     /// A tick of the log, or, where it has no job in hand, of the homes.
     fn advance(&mut self) -> Result<Tick, VaultFault>
         ensures images { D.keeps self.new.pen.disk → LeavesOnly (D.states self.old.pen.disk) (D.states self.new.pen.disk) (MayHold R.form self.old) }
-        ensures advanced { IfOk result (λ tick. HasAdvanced self.old.pen self.new.pen tick) }
+        ensures advanced { IfOk result (λ tick. LessensWork self.old.pen self.new.pen tick) }
         ensures carries { OnOk result (CarriesOn (D.keeps self.new.pen.disk) self.old.pen self.new.pen) }
         ensures list { self.new.blocks ≡ self.old.blocks }
         ensures sure { D.keeps self.new.pen.disk → MatchResult result (λ _. self.new.sure ≡ list_of self.new) (λ _. (self.new.sure ≡ self.old.sure) ⊎ (self.new.sure ≡ list_of self.new)) }

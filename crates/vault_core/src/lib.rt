@@ -25,5 +25,5 @@ mod vault;
 pub use ending::{Gathering, gather, made_in_all, take_in_all};
 pub use fault::VaultFault;
 pub use pieces::VaultPieces;
-pub use upgrading::{UpgradeFault, copy, greatest_piece, upgrade};
+pub use upgrading::{UpgradeFault, copied_to, copy, format_of, greatest_piece, piece_of, upgrade};
 pub use vault::Vault;

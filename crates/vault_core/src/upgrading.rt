@@ -48,7 +48,7 @@ pub fn greatest_piece<R: Record>(format: Format) -> u64
 }
 
 /// The version of a copy: the one that is asked for, or that of the old file.
-fn format_of(asked: Option<Format>, own: Format) -> Format
+pub fn format_of(asked: Option<Format>, own: Format) -> Format
     ensures { result ≡ format_of_copy asked own }
 {
     match asked {
@@ -58,7 +58,7 @@ fn format_of(asked: Option<Format>, own: Format) -> Format
 }
 
 /// How many records the growths of a copy have: so many, or the most.
-fn piece_of<R: Record>(block: Option<NonZeroU32>, format: Format) -> u64
+pub fn piece_of<R: Record>(block: Option<NonZeroU32>, format: Format) -> u64
     ensures is { IsPieceOfCopy block format R.form.width result }
     ensures some { 1 ≤ result }
 {
@@ -98,8 +98,9 @@ fn write_growths<R: Record, D: Disk>(
     Ok(())
 }
 
-/// Copies the records into a new file of that version on the disk.
-fn copied_to<R: Record, D: Disk>(
+/// Copies these records into a new file of that version on the disk, as `copy` does the vector of a file. Refused, with the
+/// disk handed back: `TooLarge`, where a piece is past the longest payload; then as `Vault::create_as` and each commit.
+pub fn copied_to<R: Record, D: Disk>(
     alloc: Global,
     records: Vec<R>,
     disk: D,

@@ -1,7 +1,7 @@
 use Rattle.std.proofs.Common.{◌≡◌, inl, inr, refl, sym, subst, rules, arith}
 use Rattle.std.proofs.lemmas.Result.{err_from_is_err_and}
 use Rattle.flush_core.specs.declared.lane.Tick.TheVariants.{Idle}
-use Rattle.vault_core.specs.Settles.{HasAdvanced, IsIdle}
+use Rattle.vault_core.specs.Settles.{LessensWork, IsIdle}
 use Rattle.vault_core.proofs.Carried.{stands}
 use Rattle.vault_core.proofs.Settles.{settles_images, settles_more, settles_blocks, settles_sure, settles_refused, settles_time, settles_faults, settles_model}
 use Rattle.vault_core.proofs.vault.Vault.settle.Goals as goal
@@ -71,7 +71,7 @@ returns g c =
     let all = settles_more g.R.Record.form g.D.Disk.keeps g.D.Disk.states g.D.Disk.faults old c.loop.self new
     c.loop.invariant.so_far t.images e.carries t.list e.sure e.whole e.time e.faults t.model e.goes_on in
     let last : c.in_ok-advance.field-0 ≡ Idle = search rules in
-    let done = subst (HasAdvanced c.loop.self.pen new.pen) last e.advanced in
+    let done = subst (LessensWork c.loop.self.pen new.pen) last e.advanced in
     let idle : IsIdle new.pen = subst IsIdle (sym done.2) (done.0, done.1) in
     let time = all.time in
     record {
