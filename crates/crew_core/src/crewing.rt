@@ -249,7 +249,11 @@ fn run_phase<R: Record, D: Disk + Send + Drop, S: Source<R>, G: Gate, E: Threads
         move || -> Returned<R>
             requires { AreNewSeats live.now.directory live.now.mark seats.items × (vec_len seats ≡ S.growers_of source.now) × (rows.growers ≡ vec_len seats) }
             ensures { AreHome R.form.width live.entry.now (S.count_of source.entry.now) (S.block_of source.entry.now) (G.may_stop gate.entry.now) (G.has_let gate.entry.now) (G.was_told gate.entry.now) (vec_len seats) result.seats.items (map (λ its. its.items) result.receipts.items) result.faults.items }
-        { grow_and_close(rt, alloc, live, source, gate, seats, rows) },
+        {
+            let home = grow_all(rt, alloc, live, source, gate, seats, rows);
+            live.close(rt);
+            home
+        },
     )
 }
 
@@ -266,25 +270,6 @@ fn serve<R: Record, D: Disk, E: Wait>(
     let mut flusher = flusher;
     let _ = flusher.serve(rt, live);
     flusher
-}
-
-/// Lets the growers grow, and closes the book.
-fn grow_and_close<R: Record, S: Source<R>, G: Gate, E: Threads + Wait + Sync>(
-    rt: &E,
-    alloc: Global,
-    live: &Live<R>,
-    source: &S,
-    gate: &G,
-    seats: Vec<Seat<R>>,
-    rows: Rows<R, S, G>,
-) -> Returned<R>
-    requires seats { AreNewSeats live.now.directory live.now.mark seats.items }
-    requires growers { (vec_len seats ≡ S.growers_of source.now) × (rows.growers ≡ vec_len seats) }
-    ensures { AreHome R.form.width live.now (S.count_of source.now) (S.block_of source.now) (G.may_stop gate.now) (G.has_let gate.now) (G.was_told gate.now) (vec_len seats) result.seats.items (map (λ its. its.items) result.receipts.items) result.faults.items }
-{
-    let home = grow_all(rt, alloc, live, source, gate, seats, rows);
-    live.close(rt);
-    home
 }
 
 /// Runs a growth phase with one thread for each grower of the source, and one more that commits what they put, and gives

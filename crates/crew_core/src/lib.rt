@@ -15,4 +15,4 @@ mod source;
 
 pub use crewing::{CrewFault, Crewed, crew};
 pub use lists::Lists;
-pub use source::{Gate, Source};
+pub use source::{Gate, OpenGate, Source};

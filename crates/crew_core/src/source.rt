@@ -67,3 +67,17 @@ pub trait Gate: Sync {
         requires { ComesNext (was_told self.now grower) receipt.now.serial }
         ensures { was_told self.now grower receipt.now };
 }
+
+/// A gate that holds nobody up, and tells nobody.
+#[derive(Clone, Copy)]
+pub struct OpenGate;
+
+impl Gate for OpenGate {
+    ghost may_stop = { λ _ _ _. ⊥ };
+
+    fn before(&self, _grower: u16, _k: u32) -> bool {
+        true
+    }
+
+    fn after(&self, _grower: u16, _receipt: &Receipt) {}
+}
