@@ -1,5 +1,5 @@
 -- What the definitions of lines, blocks and refusals allow and rule out, on small inputs.
-use Rattle.std.proofs.Common.{◌≡◌, ◌≢◌, inl, ℕ, zero, suc, ◌+◌, ◌*◌, ◌<◌, ◌≤◌, List, []}
+use Rattle.std.proofs.Common.{◌≡◌, ◌≢◌, inl, inr, ℕ, zero, suc, ◌+◌, ◌*◌, ◌<◌, ◌≤◌, List, []}
 use Rattle.std.proofs.Common.{◌∷◌, ◌++◌, length, get_or, map, take, drop, Option, Some, None, refl, sym, ap, ◌∙◌, arith}
 use Rattle.std.specs.Prelude.{slice_get, count_by}
 use Rattle.std.specs.List.{AllByRecursion}
@@ -10,10 +10,10 @@ use Rattle.record_core.specs.Limits.{payload_limit}
 use Rattle.segment_core.specs.Written.{joined}
 use Rattle.text_core.specs.Text.{Spelling}
 use Rattle.text_core.specs.GroupLine.{group_line}
-use Rattle.text_core.specs.Lines.{HasNoLf}
+use Rattle.text_core.specs.Lines.{AreLines, HasNoLf, ended}
 use Rattle.text_core.specs.declared.refusal.Refusal.TheVariants as refusals
 use Rattle.lines_core.specs.Batches.{is_lf}
-use Rattle.lines_core.specs.GrowthLines.{AllGrowthsFit, IsFirstTooLarge, IsLinesRefusal, lone_group}
+use Rattle.lines_core.specs.GrowthLines.{AllGrowthsFit, AreLineRecords, IsFirstTooLarge, IsLinesRefusal, IsSpellingRefusal, lone_group}
 use Rattle.lines_core.specs.InputBlocks.{AreFirstBlocks, AreOfFirstLines, growth_lines_text}
 use Rattle.lines_core.specs.LineBlocks.{AreLineBlocks, last_growth}
 use Rattle.lines_core.proofs.Blocks.{each_long}
@@ -174,3 +174,49 @@ short_input input short so = omega (arith, short, so)
 
 no_hex : (input : List ℕ) → IsLinesRefusal 8 letters input refusals.NotHex → ⊥
 no_hex input so = so
+
+-- ---- the records of lines
+
+-- of A, and of B and C
+abbrev two_lines : List ℕ
+two_lines = 65 ∷ 10 ∷ 66 ∷ 32 ∷ 67 ∷ 10 ∷ []
+
+all_records : AreLineRecords letters two_lines (65 ∷ 66 ∷ 67 ∷ [])
+all_records = (
+  (65 ∷ []) ∷ (66 ∷ 67 ∷ []) ∷ [],
+  record {
+    each = (
+      record { some = omega arith; filled = (omega arith, tt); values = ((omega arith, tt), tt) },
+      (record { some = omega arith; filled = (omega arith, tt); values = ((omega arith, (omega arith, tt)), tt) }, tt),
+    );
+    lines = record {
+      whole = (
+        All-cons (λ x. x ≢ 10) 65 [] (omega arith) (All-nil (λ x. x ≢ 10)),
+        (All-cons (λ x. x ≢ 10) 66 (32 ∷ 67 ∷ []) (omega arith) (All-cons (λ x. x ≢ 10) 32 (67 ∷ []) (omega arith) (All-cons (λ x. x ≢ 10) 67 [] (omega arith) (All-nil (λ x. x ≢ 10)))), tt),
+      );
+      text = inl refl;
+    };
+  },
+  refl,
+)
+
+-- an empty input has none
+none_of_none : (records : List ℕ) → AreLineRecords letters [] records → records ≡ []
+none_of_none records so = so.2 ∙ ap joined (no_line so.0 so.1.lines)
+  where
+    no_line : (growths : List (List ℕ)) → AreLines [] (map (group_line letters.text_of) (map lone_group growths)) → growths ≡ []
+    no_line [] lines = refl
+    no_line (growth ∷ growths) lines =
+        let first : List ℕ = group_line letters.text_of (lone_group growth) in
+        let others : List (List ℕ) = map (group_line letters.text_of) (map lone_group growths) in
+        absurd (elim lines.text [
+          | inl whole ↦ omega (arith, ap length whole, length-append (first ++ 10 ∷ []) (ended others), length-append first (10 ∷ []))
+          | inr lacks ↦ omega (arith, ap length lacks.text, length-append (ended lacks.front) lacks.last, lacks.some)
+        ])
+
+-- no size refuses the records alone
+no_size : (input : List ℕ) (n : ℕ) → IsSpellingRefusal letters input (refusals.TooLargeAtLine n) → ⊥
+no_size input n so = so
+
+short_records : (input : List ℕ) → length input ≤ 67108864 → IsSpellingRefusal letters input refusals.InputTooLong → ⊥
+short_records input short so = omega (arith, short, so)

@@ -6,7 +6,7 @@ ghost use Rattle.block_core.specs.Length.{payload_len};
 ghost use Rattle.text_core.specs.Refusals.{input_limit};
 ghost use Rattle.text_core.specs.Words.{BringsRecord};
 ghost use Rattle.lines_core.specs.Excerpts.{IsRefusedShown};
-ghost use Rattle.lines_core.specs.GrowthLines.{AllGrowthsFit, AreGrowthLines, IsFirstTooLarge, IsGrowthLine, IsGrowthLineOf, IsLinesRefusal};
+ghost use Rattle.lines_core.specs.GrowthLines.{AllGrowthsFit, AreGrowthLines, IsFirstTooLarge, IsGrowthLine, IsGrowthLineOf, IsLinesRefusal, IsSpellingRefusal};
 
 use crate::excerpt::Excerpt;
 use record_core::{GROWTH_HEAD_LEN, PAYLOAD_LIMIT, width_of};
@@ -74,7 +74,7 @@ pub(crate) fn read_lines<R: TextRecord>(
     shown: &mut Option<Excerpt>,
 ) -> Result<Growths<R>, Refusal>
     ensures read { IfOk result (λ growths. AreGrowthLines R.spelling input.now growths.0) }
-    ensures refused { IfErr result (IsLinesRefusal R.form.width R.spelling input.now) }
+    ensures refused { IfErr result (IsSpellingRefusal R.spelling input.now) }
     ensures shown { IfSome shown.new (IsRefusedShown R.spelling input.now result) }
     ensures none { IfOk result (λ _. shown.new ≡ None) }
 {
