@@ -1,5 +1,7 @@
 -- Lists that commands have put in the place of others.
-use Rattle.std.proofs.Common.{◌≡◌, ◌⊎◌, ℕ, ◌<◌, Bool, List, [], ◌∷◌, length, Ok, inl, inr, refl, sym, ap, subst, ◌∙◌, arith}
+use Rattle.std.proofs.Common.{◌≡◌, ◌⊎◌, ℕ, ◌<◌, Bool, true, false, List, [], ◌∷◌, length, Result, Ok, Err, MatchResult, OnOk, inl, inr, refl, sym, ap, subst, ◌∙◌, arith}
+use Rattle.std.specs.Prelude.{IfErr}
+use Rattle.std.proofs.lemmas.Bool.Decides.{nat_tests}
 use Rattle.std.proofs.lemmas.Bool.{cases_lt}
 use Rattle.record_core.specs.Bytes.{Encoding}
 use Rattle.disk_core.specs.State.{State, now, IsImage}
@@ -7,10 +9,13 @@ use Rattle.disk_core.specs.Calls.{bytes_of}
 use Rattle.disk_core.specs.Moments.{LeavesOnly}
 use Rattle.segment_core.specs.Frame.{Frame}
 use Rattle.pen_core.specs.declared.fault.PenFault.{PenFault}
+use Rattle.pen_core.specs.Refusals.{change_lines, one_run}
 use Rattle.vault_core.specs.declared.fault.VaultFault.{VaultFault}
-use Rattle.vault_core.specs.Commands.{IsCommand, IsNothingFault}
+use Rattle.vault_core.specs.Commands.{IsCommand, IsNothingFault, StandsCommanded, changed_frame}
+use Rattle.vault_core.specs.Touched.{IsTouched, cover}
 use Rattle.vault_core.specs.Vault.{VaultOf, MayHold, OpensToEither, list_of}
-use Rattle.files_core.specs.Changing.{Replaces}
+use Rattle.files_core.specs.Changing.{IsSet, IsSetFault, Replaces}
+use Rattle.files_core.specs.Given.{given_from}
 use Rattle.files_core.specs.Opened.{IsOpenedOn, LeavesBeforeOr}
 use Rattle.files_core.proofs.Opened.{opened_list, opened_alone, opened_then, opens_same}
 
@@ -75,3 +80,38 @@ three_ways m n = elim (cases_lt m n) [
   | inl lt ↦ inl lt
   | inr ge ↦ elim (cases_lt n m) [ inl gt ↦ inr (inl gt) | inr le ↦ inr (inr (omega (arith, ge, le))) ]
 ]
+
+-- ---- records that are put in the place of others
+
+-- a touch of no position leaves a list
+touched_nowhere : {R : Type 0} (one : ℕ → R → R) (start : ℕ) (records : List R) → IsTouched one (one_run start 0) records records
+touched_nowhere one start records = record { same_length = refl; inside = λ i on. absurd (none i on); outside = λ i off. refl }
+  where
+    none : (i : ℕ) → cover (one_run start 0) i ≡ true → ⊥
+    none i on = grind (arith, nat_tests)
+
+module _ {R D : Type 0} (form : Encoding R) (keeps : D → Type 0) (states : D → List State) (faults : D → ℕ) (start : ℕ) (v w : VaultOf R D) where
+  -- what a vault answers of a change of so many records
+  abbrev AnswersChange : List R → Result (Unit {0}) VaultFault → Type 0
+  AnswersChange records result =
+      (0 < length records → MatchResult result
+      (λ _. IsTouched (given_from start records) (one_run start (length records)) (list_of v) (list_of w))
+      (StandsCommanded (IsTouched (given_from start records) (one_run start (length records)) (list_of v) (list_of w)) (w.blocks ≡ v.blocks)))
+      × (0 < length records
+      → IsCommand form keeps states faults (changed_frame form (one_run start (length records)) (list_of w)) (change_lines v.pen (one_run start (length records))) v w result)
+      × (length records ≡ 0 → (w ≡ v) × MatchResult result (λ _. v.pen.broken ≡ false) (IsNothingFault v.pen))
+
+  pub change_sets : (records : List R) (result : Result (Unit {0}) VaultFault) → AnswersChange records result → OnOk result (IsSet form keeps states faults start records v w)
+  change_sets [] (Ok x) so = record {
+    list = subst (λ (u : VaultOf R D). IsTouched (given_from start []) (one_run start 0) (list_of v) (list_of u)) (sym (so.2 refl).0) (touched_nowhere (given_from start []) start (list_of v));
+    some = so.1;
+    none = λ is. (so.2 refl).0;
+  }
+  change_sets (r ∷ records) (Ok x) so = record { list = so.0 (omega arith); some = so.1; none = λ is. (so.2 (ap length is)).0 }
+  change_sets records (Err fault) so = tt
+
+  pub change_refuses : (records : List R) (result : Result (Unit {0}) VaultFault) → v.pen.broken ≡ false → AnswersChange records result
+      → IfErr result (IsSetFault form keeps states faults start records v w)
+  change_refuses records (Ok x) whole so = tt
+  change_refuses [] (Err fault) whole so = absurd (cc (whole, (so.2 refl).1.1))
+  change_refuses (r ∷ records) (Err fault) whole so = record { some = omega arith; command = so.1 (omega arith); list = so.0 (omega arith) }

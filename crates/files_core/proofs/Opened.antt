@@ -6,7 +6,6 @@ use Rattle.files_core.specs.declared.ended.Ended.TheVariants.{Done, OutputFailed
 use Rattle.files_core.specs.declared.fault.FileFault.{FileFault}
 use Rattle.files_core.specs.Ended.{EndsAs, WritesAnswer, WritesText}
 use Rattle.vault_core.specs.Vault.{OpensToEither}
-use Rattle.std.specs.Io.KnownBytes.{Keeps}
 use Rattle.record_core.specs.Bytes.{Encoding}
 use Rattle.disk_core.specs.State.{State, now, IsImage}
 use Rattle.disk_core.specs.Moments.{LeavesOnly}
@@ -17,10 +16,6 @@ use Rattle.pen_core.specs.PenOf.{PenOf}
 use Rattle.pen_core.specs.Typed.{OpensTo}
 use Rattle.disk_core.specs.Calls.{bytes_of}
 use Rattle.files_core.specs.Opened.{IsOpenFault, LeavesBeforeOr, CommandOnlyReads, failed_reading}
-
-pub keeps_same : (known : Option (List ℕ)) → Keeps known known
-keeps_same None = tt
-keeps_same (Some bytes) = refl
 
 -- the records of the pen are those of the bytes
 pub opened_list : {R D : Type 0} (form : Encoding R) (bytes : List ℕ) (pen : PenOf D) (records : List R) → IsOpened form bytes pen records → OpensTo form bytes records

@@ -31,8 +31,9 @@ use Rattle.files_core.specs.Ended.{EndsAs, WritesAnswer, WritesText}
 use Rattle.files_core.specs.Folding.{IsFolded}
 use Rattle.files_core.specs.Listing.{IsWindowListed}
 use Rattle.files_core.specs.Opened.{CommandOnlyReads}
-use Rattle.files_core.specs.Searching.{TellsCount, TellsFirst, TestsFor}
-use Rattle.files_core.specs.Texts.{appended_line, checked_line, copied_line, created_line, folded_line, found_line, loaded_line, number_line, ok_line, upgraded_line}
+use Rattle.text_core.specs.Answers.{number_line, found_line, TestsFor}
+use Rattle.files_core.specs.Searching.{TellsCount, TellsFirst}
+use Rattle.files_core.specs.Texts.{appended_line, checked_line, copied_line, created_line, folded_line, loaded_line, ok_line, upgraded_line}
 
 -- ---- lines
 

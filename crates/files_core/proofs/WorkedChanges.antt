@@ -96,13 +96,14 @@ module _ {D : Type 0} (form : Encoding ℕ) (keeps : D → Type 0) (states : D �
 
     -- by one change of just these two
     set_by : SetTwo → IsCommand form keeps states counted by_change (change_lines v.pen (run 1 2 ∷ [])) v w (Ok tt)
-    set_by so = subst (λ new. IsCommand form keeps states counted (changed_frame form (run 1 2 ∷ []) new) (change_lines v.pen (run 1 2 ∷ [])) v w (Ok tt)) (set_alone so) so.command
+    set_by so = subst (λ new. IsCommand form keeps states counted (changed_frame form (run 1 2 ∷ []) new) (change_lines v.pen (run 1 2 ∷ [])) v w (Ok tt)) (set_alone so) (so.some (omega arith))
 
     is_set : list_of w ≡ behind → IsCommand form keeps states counted by_change (change_lines v.pen (run 1 2 ∷ [])) v w (Ok tt) → SetTwo
     is_set is command = record {
       list = subst (λ new. IsTouched (given_from 1 (8 ∷ 9 ∷ [])) (run 1 2 ∷ []) (list_of v) new) (sym is)
           (subst (λ old. IsTouched (given_from 1 (8 ∷ 9 ∷ [])) (run 1 2 ∷ []) old behind) (sym was) touched);
-      command = subst (λ new. IsCommand form keeps states counted (changed_frame form (run 1 2 ∷ []) new) (change_lines v.pen (run 1 2 ∷ [])) v w (Ok tt)) (sym is) command;
+      some = λ more. subst (λ new. IsCommand form keeps states counted (changed_frame form (run 1 2 ∷ []) new) (change_lines v.pen (run 1 2 ∷ [])) v w (Ok tt)) (sym is) command;
+      none = λ no. absurd (omega (arith, ap length no));
     }
 
     not_one_alone : list_of w ≡ 5 ∷ 8 ∷ 6 ∷ 7 ∷ [] → SetTwo → ⊥
@@ -121,6 +122,13 @@ module _ {D : Type 0} (form : Encoding ℕ) (keeps : D → Type 0) (states : D �
   set_failed_by : (fault : VaultFault) → list_of w ≡ behind → IsSetFault form keeps states counted 1 (8 ∷ 9 ∷ []) v w fault
       → IsCommand form keeps states counted by_change (change_lines v.pen (run 1 2 ∷ [])) v w (Err fault)
   set_failed_by fault is so = subst (λ new. IsCommand form keeps states counted (changed_frame form (run 1 2 ∷ []) new) (change_lines v.pen (run 1 2 ∷ [])) v w (Err fault)) is so.command
+
+  -- no record is no change, and refused by nothing
+  set_none : (start : ℕ) → IsSet form keeps states counted start [] v w → w ≡ v
+  set_none start so = so.none refl
+
+  no_set_fault : (start : ℕ) (fault : VaultFault) → IsSetFault form keeps states counted start [] v w fault → ⊥
+  no_set_fault start fault so = absurd (omega (arith, so.some))
 
   -- ---- a list of two is made longer, shorter, and as long as it is
 

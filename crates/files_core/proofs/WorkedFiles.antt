@@ -1,8 +1,8 @@
 -- What the definitions of the files that commands leave allow and rule out, on disks of one or two states.
-use Rattle.std.proofs.Common.{◌≡◌, inl, inr, ℕ, ◌+◌, ◌≤◌, List, [], ◌∷◌, ◌++◌, length, take, refl, sym, ap, subst, ◌∙◌, arith}
+use Rattle.std.proofs.Common.{◌≡◌, inl, inr, ℕ, ◌≤◌, List, [], ◌∷◌, ◌++◌, length, take, refl, sym, ap, subst, ◌∙◌, arith}
 use Rattle.std.proofs.lemmas.List.{length-append}
 use Rattle.record_core.specs.Bytes.{Encoding}
-use Rattle.disk_core.specs.State.{State, now, settled, IsImage}
+use Rattle.disk_core.specs.State.{State, now, IsImage}
 use Rattle.disk_core.proofs.ImageLemmas.{settled_image}
 use Rattle.segment_core.specs.Fault.{damaged, IsFirstFault}
 use Rattle.segment_core.specs.Tally.{tally_of}

@@ -1,6 +1,6 @@
 -- What the definitions of words and refusals say, on small examples: what each allows, and the nearest that it doesn't.
-use Rattle.std.proofs.Common.{◌≡◌, ◌≢◌, inl, inr, ℕ, zero, suc, ◌+◌, ◌^◌, ◌<◌, ◌≤◌, List, [], ◌∷◌, ◌++◌, length, take, get_or, Some, None}
-use Rattle.std.proofs.Common.{refl, sym, ap, subst, ◌∙◌, arith, codes, length-append, min, ◌-◌, Option}
+use Rattle.std.proofs.Common.{◌≡◌, ◌≢◌, inl, inr, ℕ, ◌^◌, ◌<◌, ◌≤◌, List, [], ◌∷◌, ◌++◌, length, take, get_or, Some, None}
+use Rattle.std.proofs.Common.{refl, sym, ap, subst, ◌∙◌, arith, codes, length-append}
 use Rattle.std.specs.Fmt.{digits}
 use Rattle.std.proofs.lemmas.List.Elements.{All-nil, All-cons}
 use Rattle.record_core.specs.Bytes.{Encoding}
@@ -15,7 +15,6 @@ use Rattle.segment_core.proofs.OneVector.{memory_alone}
 use Rattle.text_core.specs.Text.{Spelling}
 use Rattle.text_core.specs.declared.refusal.Refusal.TheVariants as refusals
 use Rattle.book_core.specs.declared.fault.GrowFault.TheVariants.{Full}
-use Rattle.pen_core.specs.declared.fault.OpenFault.{OpenFault}
 use Rattle.pen_core.specs.declared.fault.OpenFault.TheVariants.{Scan, Disk}
 use Rattle.pen_core.specs.declared.fault.PenFault.TheVariants as faults
 use Rattle.pen_core.specs.PenOf.{PenOf}
@@ -23,9 +22,7 @@ use Rattle.pen_core.specs.Typed.{OpensTo}
 use Rattle.vault_core.specs.declared.fault.VaultFault.{VaultFault}
 use Rattle.vault_core.specs.declared.fault.VaultFault.TheVariants.{Pen}
 use Rattle.vault_core.specs.declared.upgrading.UpgradeFault.TheVariants.{NotOld}
-use Rattle.vault_core.specs.Vault.{VaultOf}
 use Rattle.files_core.specs.declared.ended.Ended.TheVariants.{Done, OutputFailed, Refused}
-use Rattle.files_core.specs.declared.fault.FileFault.{FileFault}
 use Rattle.files_core.specs.declared.fault.FileFault.TheVariants as told
 use Rattle.files_core.specs.declared.fault.Stopped.{Stopped}
 use Rattle.files_core.specs.declared.fault.Word.TheVariants.{Records, Start}

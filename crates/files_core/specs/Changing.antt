@@ -38,8 +38,9 @@ module _ {R D : Type 0} (form : Encoding R) (keeps : D → Type 0) (states : D �
   IsWorkFault why disk left (Upgrade fault) = ⊥
 
   -- Why records weren't put in the place of others. Behind a fault of the disk they are in the vault's list, and its file opens
-  -- to that or to the old one; behind another the list is the old one.
+  -- to that or to the old one; behind another the list is the old one. That there is none is no reason.
   pub record IsSetFault (start : ℕ) (records : List R) (v w : VaultOf R D) (fault : VaultFault) : Type 0 where
+    pub some : 0 < length records
     pub command : IsCommand form keeps states faults (changed_frame form (one_run start (length records)) (list_of w)) (change_lines v.pen (one_run start (length records))) v w (Err fault)
     pub list : StandsCommanded (IsTouched (given_from start records) (one_run start (length records)) (list_of v) (list_of w)) (w.blocks ≡ v.blocks) fault
 
@@ -68,10 +69,12 @@ module _ {R D : Type 0} (form : Encoding R) (keeps : D → Type 0) (states : D �
     pub kept : keeps left → IsKept (states left) after.pen
     pub done : IsDone before after
 
-  -- records were put in the place of those from a position on, as one change of just these
+  -- records were put in the place of those from a position on, as one change of just these, or there was none
   pub record IsSet (start : ℕ) (records : List R) (v w : VaultOf R D) : Type 0 where
     pub list : IsTouched (given_from start records) (one_run start (length records)) (list_of v) (list_of w)
-    pub command : IsCommand form keeps states faults (changed_frame form (one_run start (length records)) (list_of w)) (change_lines v.pen (one_run start (length records))) v w (Ok tt)
+    pub some : 0 < length records
+        → IsCommand form keeps states faults (changed_frame form (one_run start (length records)) (list_of w)) (change_lines v.pen (one_run start (length records))) v w (Ok tt)
+    pub none : records ≡ [] → w ≡ v
 
   -- its length was made n: by one growth of copies, by a shrink, or it was n already
   pub record IsResized (n : ℕ) (r : R) (v w : VaultOf R D) : Type 0 where

@@ -4,8 +4,10 @@ pub mod Asked
 pub mod Ended
 pub mod Texts
 pub mod Opened
+pub mod Writable
 pub mod Searching
 pub mod Changing
+pub mod Lengthened
 pub mod Creating
 pub mod Vacant
 pub mod Listing

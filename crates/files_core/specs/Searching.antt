@@ -1,14 +1,10 @@
 -- What is told of the records that are the one wanted.
-use Rattle.std.specs.Prelude.{◌≡◌, ◌↔◌, ℕ, List, Bool, true, Option}
+use Rattle.std.specs.Prelude.{◌≡◌, ℕ, List, Bool, Option}
 use Rattle.std.specs.List.{count_by}
 use Rattle.record_core.specs.Bytes.{Encoding}
 use Rattle.pen_core.specs.Typed.{OpensTo}
 use Rattle.search_core.specs.Search.{IsFirst}
-use Rattle.files_core.specs.Texts.{number_line, found_line}
-
--- the test holds of this record, and of no other
-abbrev pub TestsFor : {R : Type 0} → R → (R → Bool) → Type 0
-TestsFor {R} wanted is = (r : R) → is r ≡ true ↔ r ≡ wanted
+use Rattle.text_core.specs.Answers.{number_line, found_line, TestsFor}
 
 module _ {R : Type 0} (form : Encoding R) (wanted : R) (known : Type 0) (bytes text : List ℕ) where
   -- the text tells how many records of a vector are the one that is wanted: of the file's, where its bytes are known

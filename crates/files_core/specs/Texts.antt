@@ -1,5 +1,5 @@
 -- The answers of commands over files, as lines.
-use Rattle.std.specs.Prelude.{ℕ, ◌-◌, List, ◌++◌, length, codes, decimal, Option, Some, None}
+use Rattle.std.specs.Prelude.{ℕ, ◌-◌, List, ◌++◌, length, codes, decimal}
 use Rattle.text_core.specs.Text.{ended_line}
 use Rattle.segment_core.specs.declared.vector.Scanned.{Scanned}
 
@@ -8,13 +8,6 @@ created_line = ended_line (codes "created")
 
 abbrev pub ok_line : List ℕ
 ok_line = ended_line (codes "ok")
-
-abbrev pub number_line : ℕ → List ℕ
-number_line n = ended_line (decimal n)
-
-abbrev pub found_line : Option ℕ → List ℕ
-found_line None = ended_line (codes "none")
-found_line (Some position) = number_line position
 
 abbrev pub folded_line : ℕ → List ℕ
 folded_line live = ended_line (codes "folded " ++ decimal live)

@@ -1,6 +1,6 @@
 //! What the words of a command ask for.
 
-ghost use Rattle.std.specs.Prelude.{◌≡◌, ◌<◌, ◌-◌, ◌^◌, ◌⊎◌, ℕ, vec_len, MatchResult, IfOk, IfErr};
+ghost use Rattle.std.specs.Prelude.{◌≡◌, ◌-◌, ◌^◌, ◌⊎◌, ℕ, MatchResult, IfOk, IfErr};
 ghost use Rattle.std.specs.Option.{option_copied};
 ghost use Rattle.files_core.specs.Asked.{IsNumber, IsNumberOr, IsNoNumber, IsRecord, SpellsRecords, IsRecordsRefusal};
 
@@ -8,12 +8,11 @@ use crate::fault::{FileFault, Word};
 use std::alloc::Global;
 use text_core::{Refusal, TextRecord, cut};
 
-/// What `set` is asked for: these records, one at least, from position `start` on.
+/// What `set` is asked for: these records from position `start` on.
 #[derive(Drop)]
 pub struct Setting<R> {
     pub start: u64,
     pub records: Vec<R>,
-    ghost some: { 0 < vec_len records },
 }
 
 /// What `resize` is asked for: so many records, new ones as this one.
@@ -52,8 +51,15 @@ pub fn read_record<R: TextRecord>(text: &[u8]) -> Result<R, FileFault>
     R::parse(text).ok_or(FileFault::Word(Word::Record))
 }
 
-/// The records of a word, with a comma between each two.
-fn read_records<R: TextRecord>(alloc: Global, text: &[u8]) -> Result<Vec<R>, FileFault>
+/// The position that a word is: START of `set`. Refused: `Word`.
+pub fn read_start(text: &[u8]) -> Result<u64, FileFault>
+    ensures { MatchResult result (IsNumber text.now) (λ fault. (fault ≡ FileFault.Word Word.Start) × ((n : ℕ) → IsNumber text.now n → ⊥)) }
+{
+    number_of(text, Word::Start)
+}
+
+/// The records of a word, with a comma between each two: RECORDS of `set`. Refused: `Word`; and `Input` for want of memory.
+pub fn read_records<R: TextRecord>(alloc: Global, text: &[u8]) -> Result<Vec<R>, FileFault>
     ensures read { IfOk result (λ records. SpellsRecords R.spelling text.now records.items) }
     ensures refused { IfErr result (IsRecordsRefusal R.spelling text.now) }
 {
@@ -71,27 +77,6 @@ fn read_records<R: TextRecord>(alloc: Global, text: &[u8]) -> Result<Vec<R>, Fil
         rest = after;
     }
     Ok(records)
-}
-
-/// What the words START and RECORDS of `set` ask for. Refused, in this order: `Word(Start)`, `Word(Records)`; and `Input`
-/// for want of memory.
-pub fn read_setting<R: TextRecord>(
-    alloc: Global,
-    start: &[u8],
-    records: &[u8],
-) -> Result<Setting<R>, FileFault>
-    ensures read { IfOk result (λ setting. IsNumber start.now setting.start × SpellsRecords R.spelling records.now setting.records.items) }
-    ensures refused { IfErr result (λ fault. ((fault ≡ FileFault.Word Word.Start) × ((n : ℕ) → IsNumber start.now n → ⊥))
-        ⊎ (((n : ℕ) × IsNumber start.now n) × IsRecordsRefusal R.spelling records.now fault)) }
-{
-    let start = match number_of(start, Word::Start) {
-        Ok(start) => start,
-        Err(fault) => return Err(fault),
-    };
-    match read_records(alloc, records) {
-        Ok(records) => Ok(Setting { start, records }),
-        Err(fault) => Err(fault),
-    }
 }
 
 /// What the words N and RECORD of `resize` ask for. Refused, in this order: `Word(Length)`, `Word(Record)`.

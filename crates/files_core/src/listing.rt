@@ -8,11 +8,14 @@ ghost use Rattle.text_core.specs.Text.{record_lines};
 ghost use Rattle.files_core.specs.Ended.{WritesAnswer};
 ghost use Rattle.files_core.specs.Listing.{IsWindowListed, in_window};
 ghost use Rattle.files_core.specs.Opened.{CommandOnlyReads};
+ghost use Rattle.files_core.specs.Writable.{ReadsAny};
 
 use crate::asked::Window;
 use crate::ended::Ended;
 use crate::fault::FileFault;
 use crate::progress::Progress;
+use crate::window_records::{PART_LEN, read_window_records};
+use crate::writable::OpensToWrite;
 use disk_core::Disk;
 use std::alloc::Global;
 use std::io;
@@ -79,8 +82,8 @@ fn write_chunks<R: TextRecord, W: Write, P: Progress>(
     Ok(())
 }
 
-/// Writes the records at the positions of the window, one a line. Positions past the end have none. Refused: `Open`.
-pub fn list<R: TextRecord, D: Disk, W: Write, P: Progress>(
+/// `list`, where the file is read as a whole.
+fn list_whole<R: TextRecord, D: Disk, W: Write, P: Progress>(
     alloc: Global,
     disk: D,
     window: &Window,
@@ -97,4 +100,50 @@ pub fn list<R: TextRecord, D: Disk, W: Write, P: Progress>(
     let of = vault.len().saturating_sub(window.from).min(window.count);
     let written = write_window(vault.pieces(), window, of, progress, writer);
     (vault.into_disk(), Ended::told(written))
+}
+
+/// `list`, where no records but those of the window are read.
+fn list_part<R: TextRecord, D: Disk, W: Write, P: Progress>(
+    alloc: Global,
+    disk: D,
+    window: &Window,
+    progress: &P,
+    writer: &mut W,
+) -> (D, Ended)
+    requires { ReadsAny R.form }
+    ensures reads { CommandOnlyReads R.form D.keeps D.states D.faults disk result.0 result.1 }
+    ensures writes { WritesAnswer (W.contents writer.old) (W.contents writer.new) (IsWindowListed R.form R.spelling.text_of window.now (D.keeps result.0) (bytes_of (D.states disk))) result.1 }
+{
+    let mut disk = disk;
+    let records = match read_window_records::<R, D>(alloc, &mut disk, window) {
+        Ok(records) => records,
+        Err(fault) => return (disk, Ended::Refused(FileFault::Open(fault))),
+    };
+    let written = write_chunks(&records, 0, records.len() as u64, progress, writer);
+    (disk, Ended::told(written))
+}
+
+/// Whether the window begins behind the first record, or is short. Else it may be the whole of a vector, and a file of short
+/// growths is read faster as a whole than record by record.
+fn is_part(window: &Window) -> bool {
+    0 < window.from || window.count <= PART_LEN
+}
+
+/// Writes the records at the positions of the window, one a line. Positions past the end have none. Where any bytes are a
+/// record, only the frames are read for a part of the vector, and its records. Refused: `Open`.
+pub fn list<R: TextRecord + OpensToWrite, D: Disk, W: Write, P: Progress>(
+    alloc: Global,
+    disk: D,
+    window: &Window,
+    progress: &P,
+    writer: &mut W,
+) -> (D, Ended)
+    ensures reads { CommandOnlyReads R.form D.keeps D.states D.faults disk result.0 result.1 }
+    ensures writes { WritesAnswer (W.contents writer.old) (W.contents writer.new) (IsWindowListed R.form R.spelling.text_of window.now (D.keeps result.0) (bytes_of (D.states disk))) result.1 }
+{
+    if R::READS_ANY && is_part(window) {
+        list_part::<R, D, W, P>(alloc, disk, window, progress, writer)
+    } else {
+        list_whole::<R, D, W, P>(alloc, disk, window, progress, writer)
+    }
 }

@@ -1,44 +1,23 @@
 //! `count` and `find`: records that are the one wanted. That `==` calls no others equal is a law of `Record`.
 
-ghost use Rattle.std.specs.Prelude.{◌≡◌, List, Option, OnOk};
+ghost use Rattle.std.specs.Prelude.{◌≡◌, List, Option};
 ghost use Rattle.std.specs.List.{count_by};
-ghost use Rattle.std.specs.Io.KnownBytes.{Appends};
 ghost use Rattle.disk_core.specs.Calls.{bytes_of};
 ghost use Rattle.pen_core.specs.Typed.{OpensTo};
 ghost use Rattle.search_core.specs.Search.{IsFirst};
 ghost use Rattle.files_core.specs.Ended.{WritesAnswer};
 ghost use Rattle.files_core.specs.Opened.{CommandOnlyReads};
 ghost use Rattle.files_core.specs.Searching.{TellsCount, TellsFirst};
-ghost use Rattle.files_core.specs.Texts.{number_line, found_line};
 
 use crate::ended::Ended;
 use crate::fault::FileFault;
 use disk_core::Disk;
 use search_core::Equals;
 use std::alloc::Global;
-use std::io;
 use std::io::Write;
 use std::thread::Threads;
-use text_core::{TextRecord, write_line, write_number};
+use text_core::{TextRecord, write_found, write_number_line};
 use vault_core::Vault;
-
-/// Writes a number and an LF.
-fn write_number_line<W: Write>(writer: &mut W, n: u64) -> io::Result<()>
-    ensures { OnOk result (Appends (W.contents writer.old) (W.contents writer.new) (number_line n)) }
-{
-    write_number(writer, n)?;
-    write_line(b"", writer)
-}
-
-/// Writes a position, or that there is none.
-fn write_found<W: Write>(writer: &mut W, found: Option<u64>) -> io::Result<()>
-    ensures { OnOk result (Appends (W.contents writer.old) (W.contents writer.new) (found_line found)) }
-{
-    match found {
-        Some(position) => write_number_line(writer, position),
-        None => write_line(b"none", writer),
-    }
-}
 
 /// Writes how many records of the file's vector are this one. Refused: `Open`.
 pub fn count<R: TextRecord, D: Disk, W: Write, E: Threads + Sync>(

@@ -21,14 +21,16 @@ use std::num::NonZeroU32;
 use text_core::{write_line, write_numbered};
 use vault_core::{copy, greatest_piece, upgrade};
 
-fn write_upgraded<W: Write>(writer: &mut W, size: u64) -> io::Result<()>
+/// Writes what `upgrade` answers: how many records the new file has.
+pub fn write_upgraded<W: Write>(writer: &mut W, size: u64) -> io::Result<()>
     ensures { OnOk result (Appends (W.contents writer.old) (W.contents writer.new) (upgraded_line size)) }
 {
     write_numbered(writer, b"upgraded size ", size)?;
     write_line(b"", writer)
 }
 
-fn write_copied<W: Write>(writer: &mut W, size: u64) -> io::Result<()>
+/// The same of `copy`.
+pub fn write_copied<W: Write>(writer: &mut W, size: u64) -> io::Result<()>
     ensures { OnOk result (Appends (W.contents writer.old) (W.contents writer.new) (copied_line size)) }
 {
     write_numbered(writer, b"copied size ", size)?;

@@ -51,6 +51,8 @@ impl<'a, D: Disk, P: Progress> Disk for Watched<'a, D, P> {
 
     ghost reads_an_image = { λ disk model. D.reads_an_image (below disk) model };
 
+    ghost reads_bytes = { λ disk model. D.reads_bytes (below disk) model };
+
     fn len(&mut self) -> Result<u64, DiskFault> {
         let told = self.inner.len();
         if let Ok(len) = told {

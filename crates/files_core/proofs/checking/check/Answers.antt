@@ -1,5 +1,6 @@
 use Rattle.std.proofs.Common.{refl, arith}
-use Rattle.files_core.proofs.Opened.{told_answer, told_reads, keeps_same}
+use Rattle.files_core.proofs.Opened.{told_answer, told_reads}
+use Rattle.text_core.proofs.Written.{keeps_same}
 use Rattle.files_core.proofs.checking.check.Goals as goal
 
 pub returns-in-Ok-clause-writes : goal.returns-in-Ok-clause-writes

@@ -1,5 +1,5 @@
 use Rattle.std.proofs.Common.{length, sym, ap}
-use Rattle.files_core.proofs.Written.{appends_join, appends_last}
+use Rattle.text_core.proofs.Written.{appends_join, appends_last}
 use Rattle.files_core.proofs.checking.write_sized.Goals as goal
 
 pub returns : goal.returns

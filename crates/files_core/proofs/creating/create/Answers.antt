@@ -1,6 +1,7 @@
 use Rattle.std.proofs.Common.{ap, sym}
 use Rattle.segment_core.specs.Written.{joined}
-use Rattle.files_core.proofs.Opened.{told_ends, opens_same, same_keeps, keeps_same}
+use Rattle.files_core.proofs.Opened.{told_ends, opens_same, same_keeps}
+use Rattle.text_core.proofs.Written.{keeps_same}
 use Rattle.files_core.proofs.creating.create.Goals as goal
 
 pub returns-in-Ok-clause-created : goal.returns-in-Ok-clause-created

@@ -7,7 +7,8 @@ use Rattle.vault_core.specs.Vault.{MayHold}
 use Rattle.files_core.specs.Folding.{failed_folding}
 use Rattle.files_core.specs.Opened.{IsOpenedOn}
 use Rattle.files_core.specs.Texts.{folded_line}
-use Rattle.files_core.proofs.Opened.{told_answer, told_counts, told_ends, opened_again, keeps_same}
+use Rattle.files_core.proofs.Opened.{told_answer, told_counts, told_ends, opened_again}
+use Rattle.text_core.proofs.Written.{keeps_same}
 use Rattle.files_core.proofs.Folded.{stays_by}
 use Rattle.files_core.proofs.folding.fold.Goals as goal
 

@@ -4,7 +4,8 @@ use Rattle.std.proofs.lemmas.Bool.{eqb-true, eqb-false}
 use Rattle.std.proofs.lemmas.List.{append_assoc, append-nil, take-append-drop}
 use Rattle.text_core.specs.Text.{record_lines}
 use Rattle.text_core.proofs.Small.{nil_from_length}
-use Rattle.files_core.proofs.Written.{appends_nothing, lines_join}
+use Rattle.text_core.proofs.Written.{appends_nothing}
+use Rattle.files_core.proofs.Written.{lines_join}
 use Rattle.files_core.proofs.listing.write_chunks.Goals as goal
 
 pub loop-rest-init : goal.loop-rest-init

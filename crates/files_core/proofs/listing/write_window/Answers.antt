@@ -5,7 +5,8 @@ use Rattle.std.proofs.lemmas.List.Concat.{flat_map-append}
 use Rattle.segment_core.specs.Written.{joined}
 use Rattle.text_core.specs.Text.{record_lines}
 use Rattle.files_core.proofs.Windows.{window_none, window_more, skip_more, left_more}
-use Rattle.files_core.proofs.Written.{appends_nothing, lines_join}
+use Rattle.text_core.proofs.Written.{appends_nothing}
+use Rattle.files_core.proofs.Written.{lines_join}
 use Rattle.files_core.proofs.listing.write_window.Goals as goal
 
 pub loop-piece-init : goal.loop-piece-init

@@ -2,7 +2,8 @@ use Rattle.std.proofs.Common.{◌≡◌, length, sym, inl, inr}
 use Rattle.vault_core.specs.Commands.{resized}
 use Rattle.vault_core.specs.Vault.{list_of}
 use Rattle.files_core.specs.Opened.{IsOpenedOn}
-use Rattle.files_core.proofs.Opened.{told_ends, told_text, keeps_same}
+use Rattle.files_core.proofs.Opened.{told_ends, told_text}
+use Rattle.text_core.proofs.Written.{keeps_same}
 use Rattle.files_core.proofs.Changed.{IsTakenFrom, replaced_by, replaced_by_none, three_ways, not_broken}
 use Rattle.files_core.proofs.resizing.resize.Goals as goal
 

@@ -1,6 +1,6 @@
 use Rattle.std.proofs.Common.{refl}
 use Rattle.files_core.proofs.Opened.{opened_list, told_answer, same_keeps, told_reads}
-use Rattle.files_core.proofs.Wanted.{equals_alone}
+use Rattle.text_core.proofs.Wanted.{equals_alone}
 use Rattle.files_core.proofs.searching.find.Goals as goal
 
 pub returns-clause-writes : goal.returns-clause-writes

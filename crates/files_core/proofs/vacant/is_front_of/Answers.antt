@@ -1,4 +1,4 @@
-use Rattle.std.proofs.Common.{◌≡◌, ◌↔◌, IsTrue, List, ℕ, subst}
+use Rattle.std.proofs.Common.{◌↔◌, IsTrue, List, ℕ, subst}
 use Rattle.files_core.specs.Vacant.{IsZeroOrOf}
 use Rattle.files_core.proofs.vacant.is_front_of.Goals as goal
 

@@ -1,5 +1,5 @@
 use Rattle.files_core.proofs.Opened.{told_reads}
-use Rattle.files_core.proofs.listing.list.Goals as goal
+use Rattle.files_core.proofs.listing.list_whole.Goals as goal
 
 pub returns-clause-reads : goal.returns-clause-reads
 returns-clause-reads g c =
