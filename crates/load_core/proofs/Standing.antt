@@ -1,82 +1,49 @@
 -- Growths that are appended as they are read.
-use Rattle.std.proofs.Common.{◌≡◌, ◌⊎◌, ℕ, suc, ◌+◌, ◌-◌, ◌*◌, ◌^◌, ◌<◌, ◌≤◌, min, List, [], ◌∷◌, ◌++◌}
-use Rattle.std.proofs.Common.{length, take, Option, Result, Ok, Err, IfOk, MatchResult, zero-add, inl, inr, refl, sym, ap, subst, ◌∙◌, arith}
+use Rattle.std.proofs.Common.{◌≡◌, ◌⊎◌, ℕ, zero, suc, ◌+◌, ◌-◌, ◌*◌, ◌^◌, ◌<◌, min, List, [], ◌∷◌, ◌++◌}
+use Rattle.std.proofs.Common.{length, take, drop, Option, Result, Ok, Err, inl, inr, refl, sym, ap, subst, ◌∙◌, arith}
+use Rattle.std.specs.Prelude.{MatchOption, MatchResult}
 use Rattle.std.proofs.Math.Nat.{add-mul}
-use Rattle.std.proofs.lemmas.List.{append_assoc, append-nil, length-append, length-map, map-append, take-append-le}
-use Rattle.std.proofs.lemmas.List.Concat.{flat_map-append}
+use Rattle.std.proofs.lemmas.List.{append_assoc, append-nil, length-append, length-map, length-take-le, take-append-drop}
 use Rattle.record_core.specs.Bytes.{Encoding}
-use Rattle.disk_core.specs.State.{State, now, IsImage}
-use Rattle.disk_core.specs.Calls.{bytes_of}
-use Rattle.disk_core.specs.Moments.{LeavesOnly}
-use Rattle.disk_core.proofs.JoinedMoments.{LeavesOnly-start, LeavesOnly-join, LeavesOnly-weaker}
-use Rattle.block_core.specs.Growth.{Growth}
-use Rattle.directory_core.specs.Chain.{grown_records}
+use Rattle.disk_core.specs.State.{State}
+use Rattle.segment_core.specs.Written.{joined}
+use Rattle.pen_core.specs.declared.fault.PenFault.{PenFault}
+use Rattle.pen_core.specs.declared.fault.PenFault.TheVariants as pens
+use Rattle.vault_core.specs.declared.fault.VaultFault.TheVariants.{Pen}
+use Rattle.pen_core.specs.PenOf.{PenOf}
+use Rattle.pen_core.specs.Pen.{IsKept, failed_calls}
 use Rattle.pen_core.specs.Typed.{OpensTo}
-use Rattle.vault_core.specs.Sharing.{OpensToGrown}
-use Rattle.vault_core.specs.Vault.{VaultOf, MayHold, list_of}
+use Rattle.pen_core.proofs.Typed.{MayOpen_typed}
+use Rattle.text_core.specs.Text.{Spelling}
 use Rattle.files_core.specs.declared.appended.Appended.{Appended}
 use Rattle.files_core.specs.declared.ended.Ended.{Ended}
 use Rattle.files_core.specs.declared.ended.Ended.TheVariants.{Done, OutputFailed}
 use Rattle.files_core.specs.declared.ended.Ended.TheVariants as ends
 use Rattle.files_core.specs.Ended.{EndsAs}
 use Rattle.files_core.specs.declared.fault.FileFault.{FileFault}
-use Rattle.files_core.specs.declared.fault.FileFault.TheVariants as faults
-use Rattle.files_core.specs.declared.fault.Stopped.{Stopped}
-use Rattle.text_core.specs.Text.{Spelling}
+use Rattle.files_core.specs.declared.fault.FileFault.TheVariants as files
+use Rattle.files_core.proofs.Opened.{done_ends}
 use Rattle.lines_core.specs.declared.batches.Rest.{Rest}
-use Rattle.lines_core.specs.declared.batches.Rest.TheVariants.{Nothing}
-use Rattle.load_core.specs.Appending.{AreAllTold, AreOfBlocks, GrowsTo, HasAppended, HasAppendedAll, HasGone, IsAppendFault, each_records}
-use Rattle.load_core.specs.Appending.{IsBatchStop, IsSettled, IsStopTold, StandBehindList, GrowthsStand, StopsAtBatch}
+use Rattle.lines_core.specs.declared.batches.Rest.TheVariants.{More, Nothing, Refused, Unread}
 use Rattle.lines_core.specs.Batches.{AreReadSo, IsBatch}
-use Rattle.lines_core.specs.InputBlocks.{AreFirstBlocks, AreOfFirstLines}
-use Rattle.load_core.specs.Loading.{AreDealt, AllMade, StandBehind, IsGrowthStop}
-use Rattle.files_core.specs.Opened.{IsOpenedOn}
+use Rattle.lines_core.specs.InputBlocks.{AreFirstBlocks, AreOfAllLines, AreOfFirstLines}
 use Rattle.lines_core.proofs.Blocks.{counts_on}
-use Rattle.lines_core.proofs.FirstBlocks.{read_all, some_read, then_first}
-use Rattle.load_core.proofs.OneGrower.{all_dealt, dealt_first, made_by_one, made_first}
-use Rattle.files_core.proofs.Opened.{done_ends, opened_list, opened_then, opens_same}
+use Rattle.lines_core.proofs.FirstBlocks.{counted_on, some_read, then_first}
+use Rattle.load_core.specs.Groups.{IsCommitFault, IsPenOver, IsRowSettled, IsRowStop, OpensToFront, begun_by, row_part}
+use Rattle.load_core.specs.Appending.{AreFirstGrowths, AreOfBlocks, GrowthsStand, HasAppendedAll, HasAppendedSoFar, IsAppendEnd, IsAppendFault, IsRestTold, fault_told}
+use Rattle.load_core.proofs.PenOver.{front_all, joined_on}
 
--- ---- growths behind others
+-- ---- lists
 
 take_none : {X : Type 0} (xs : List X) → take 0 xs ≡ []
 take_none [] = refl
 take_none (x ∷ xs) = refl
 
-take_on : {X : Type 0} (xs : List X) (n : ℕ) (ys : List X) → take (length xs + n) (xs ++ ys) ≡ xs ++ take n ys
-take_on [] n ys = ap (λ k. take k ys) (zero-add n)
-take_on (x ∷ xs) n ys =
-    let one : length (x ∷ xs) + n ≡ suc (length xs + n) = omega arith in
-    ap (λ k. take k ((x ∷ xs) ++ ys)) one ∙ ap (λ ts. x ∷ ts) (take_on xs n ys)
-
-grown_records_on : {R : Type 0} (one two : List (Growth R)) → grown_records (one ++ two) ≡ grown_records one ++ grown_records two
-grown_records_on one two = flat_map-append (λ e. e.records) one two
-
--- an image that has no more of the growths
-none_grown : {R : Type 0} (form : Encoding R) (list : List R) (more : List (Growth R)) (image : List ℕ) → OpensTo form image list → OpensToGrown form list more image
-none_grown form list more image opens = record {
-  count = 0;
-  known = omega arith;
-  opens = subst (OpensTo form image) (sym (ap (λ gs. list ++ grown_records gs) (take_none more) ∙ append-nil list)) opens;
-}
-
--- one that has the first of some has the first of these and more
-more_grown : {R : Type 0} (form : Encoding R) (list : List R) (one two : List (Growth R)) (image : List ℕ) → OpensToGrown form list one image → OpensToGrown form list (one ++ two) image
-more_grown form list one two image grown = record {
-  count = grown.count;
-  known = omega (arith, length-append one two, grown.known);
-  opens = subst (λ gs. OpensTo form image (list ++ grown_records gs)) (sym (take-append-le grown.count one two grown.known)) grown.opens;
-}
-
-behind_grown : {R : Type 0} (form : Encoding R) (list mid : List R) (one two : List (Growth R)) (image : List ℕ) → mid ≡ list ++ grown_records one
-    → OpensToGrown form mid two image → OpensToGrown form list (one ++ two) image
-behind_grown form list mid one two image is grown = record {
-  count = length one + grown.count;
-  known = omega (arith, length-append one two, grown.known);
-  opens = subst (OpensTo form image)
-      (ap (λ rs. rs ++ grown_records (take grown.count two)) is ∙ append_assoc list (grown_records one) (grown_records (take grown.count two))
-      ∙ ap (λ rs. list ++ rs) (sym (grown_records_on one (take grown.count two))) ∙ ap (λ gs. list ++ grown_records gs) (sym (take_on one grown.count two)))
-      grown.opens;
-}
+-- the element behind the first so many
+next_of : {X : Type 0} (xs : List X) (n : ℕ) → n < length xs → (x : X) × (take 1 (drop n xs) ≡ x ∷ [])
+next_of [] n less = absurd (omega (arith, less))
+next_of (x ∷ xs) zero less = (x, ap (λ ys. x ∷ ys) (take_none xs))
+next_of (x ∷ xs) (suc n) less = next_of xs n (omega (arith, less))
 
 -- those of whole blocks, and the lines of more of them
 pub lines_on : (most block told n more all : ℕ) → told ≡ min most (n * block) → all ≡ min most (told + more * block) → all ≡ min most ((n + more) * block)
@@ -84,311 +51,249 @@ lines_on most block told n more all is then =
     let both : (n + more) * block ≡ n * block + more * block = add-mul n more block in
     omega arith
 
+-- growths before some, these, and those behind them are all
+parts_of : {X : Type 0} (made row : List X) (n m : ℕ) → ((made ++ take n row) ++ take m (drop n row)) ++ drop m (drop n row) ≡ made ++ row
+parts_of {X} made row n m =
+    append_assoc (made ++ take n row) (take m (drop n row)) (drop m (drop n row)) ∙ ap (λ (xs : List X). (made ++ take n row) ++ xs) (take-append-drop m (drop n row))
+    ∙ append_assoc made (take n row) (drop n row) ∙ ap (λ (xs : List X). made ++ xs) (take-append-drop n row)
+
+-- ---- of which lines
+
+module _ {R : Type 0} (spelling : Spelling R) (block : ℕ) (input : Option (List ℕ)) where
+  -- the first of those that were read
+  first_of : (left : Option (List ℕ)) (counted : ℕ) (rest : Rest) (growths behind all : List (List R)) → growths ++ behind ≡ all → AreReadSo spelling block input left counted rest all
+      → AreFirstGrowths spelling block input growths
+  first_of left counted rest growths behind all parts so = record { behind = behind; of = by rest (subst (λ gs. IsBatch spelling block input left gs so.count rest) (sym parts) so.read) }
+    where
+      by : (rest : Rest) → IsBatch spelling block input left (growths ++ behind) so.count rest
+          → AreOfFirstLines spelling block input (growths ++ behind) ⊎ ((count : ℕ) × AreOfAllLines spelling block input (growths ++ behind) count)
+      by More read = inl (left, read)
+      by Nothing read = inr (so.count, read)
+      by (Refused refusal) read = inl read
+      by (Unread refusal) read = inl read
+
+-- ---- what stands
+
+module _ {R D : Type 0} (form : Encoding R) (keeps : D → Type 0) (states : D → List State) (disk : D) where
+  module _ (pen : PenOf D) (appended : Appended) (kept : keeps pen.disk → IsKept (states pen.disk) pen) (width : form.width ≡ pen.shape.width) (size : appended.size ≡ pen.tally.size) where
+    pub growths_stand : (made more : List (List R)) → appended.growths ≡ min (2 ^ 64 - 1) (length made) → (keeps pen.disk → IsPenOver form states disk pen made more)
+        → keeps pen.disk → GrowthsStand form states disk pen.disk appended made more
+    growths_stand made more growths over model =
+        let it = over model in record {
+          was = it.was;
+          file = it.file;
+          images = it.images;
+          settled = λ image is.
+              elim (MayOpen_typed form pen image (it.was ++ joined made) (it.was ++ joined (made ++ more)) width it.cells it.next ((kept model).images_open image is)) [
+                | inl first ↦ none_more image (it.was ++ joined made) first
+                | inr all ↦ front_all form (it.was ++ joined made) image more (subst (OpensTo form image) (sym (joined_on it.was made more)) all)
+              ];
+          size_is = size ∙ (kept model).size_is ∙ ap length it.cells.written ∙ length-map (it.was ++ joined made) form.bytes_of;
+          growths_are = growths;
+        }
+      where
+        none_more : (image : List ℕ) (list : List R) → OpensTo form image list → OpensToFront form list more image
+        none_more image list opens = record {
+          count = 0;
+          known = omega arith;
+          opens = subst (OpensTo form image) (sym (ap (λ (gs : List (List R)). list ++ joined gs) (take_none more) ∙ append-nil list)) opens;
+        }
+
 module _ {R D : Type 0} (form : Encoding R) (keeps : D → Type 0) (states : D → List State) where
-  list_on : (was mid : List R) (one two : List (Growth R)) → mid ≡ was ++ grown_records one → mid ++ grown_records two ≡ was ++ grown_records (one ++ two)
-  list_on was mid one two is = ap (λ rs. rs ++ grown_records two) is ∙ append_assoc was (grown_records one) (grown_records two) ∙ ap (λ rs. was ++ rs) (sym (grown_records_on one two))
-
-  -- ---- one batch
-
-  pub grows_nowhere : (v : VaultOf R D) → IsSettled form keeps states v → GrowsTo form keeps states v v []
-  grows_nowhere v settled = record {
-    list = sym (append-nil (list_of v));
-    images = λ model. LeavesOnly-start (states v.pen.disk) (OpensToGrown form (list_of v) []) (λ image is. none_grown form (list_of v) [] image (settled model image is));
-    settled = settled;
-    model = λ model. model;
-  }
-
-  pub grows_to : (growths : List (List R)) (v w : VaultOf R D)
-      → (made : List (Growth R)) × AreDealt growths 1 made × AllMade growths 1 made × StandBehind form keeps states v w.pen.disk made
-      × (list_of w ≡ list_of v ++ grown_records made)
-      → (made : List (Growth R)) × GrowsTo form keeps states v w made × (each_records made ≡ growths)
-  grows_to growths v w grown = (
-    grown.0,
-    record {
-      list = grown.4;
-      images = grown.3.images;
-      settled = λ model image is. subst (OpensTo form image) (sym grown.4) (grown.3.settled model image is);
-      model = grown.3.model;
-    },
-    all_dealt growths grown.0 grown.1 grown.2,
-  )
-
-  pub stops_by : (growths : List (List R)) (v : VaultOf R D) (left : D) (fault : FileFault) → IsSettled form keeps states v
-      → IsGrowthStop form keeps states growths 1 v left fault → StopsAtBatch form keeps states growths v left fault
-  stops_by growths v left (faults.Vault fault) settled (inl (same, why)) = subst (λ d. StopsAtBatch form keeps states growths v d (faults.Vault fault)) (sym same) (record {
-    by_crew = tt;
-    more = [];
-    settled = tt;
-    images = λ model. LeavesOnly-start (states v.pen.disk) (OpensToGrown form (list_of v) []) (λ image is. none_grown form (list_of v) [] image (settled model image is));
-    model = λ model. model;
-  })
-  stops_by growths v left (faults.Vault fault) settled (inr some) = record { by_crew = tt; more = some.0; images = λ model. (some.2 model).1; settled = tt; model = λ model. (some.2 model).0 }
-  stops_by growths v left (faults.Grower stopped) settled stop =
-      record { by_crew = tt; more = stop.0; images = stop.2.images; settled = (stop.2.settled, stop.3, stop.1, stop.4); model = stop.2.model }
-  stops_by growths v left (faults.Open fault) settled stop = absurd stop
-  stops_by growths v left (faults.Word word) settled stop = absurd stop
-  stops_by growths v left (faults.Input refusal) settled stop = absurd stop
-  stops_by growths v left (faults.Upgrade fault) settled stop = absurd stop
-
-  -- ---- one batch after the other
-
-  leaves_further : (v mid : VaultOf R D) (left : D) (one two : List (Growth R)) → GrowsTo form keeps states v mid one → keeps mid.pen.disk
-      → LeavesOnly (states mid.pen.disk) (states left) (OpensToGrown form (list_of mid) two)
-      → LeavesOnly (states v.pen.disk) (states left) (OpensToGrown form (list_of v) (one ++ two))
-  leaves_further v mid left one two first model leaves =
-      LeavesOnly-join (states v.pen.disk) (states mid.pen.disk) (states left) (OpensToGrown form (list_of v) (one ++ two))
-      (LeavesOnly-weaker (states v.pen.disk) (states mid.pen.disk) (OpensToGrown form (list_of v) one) (OpensToGrown form (list_of v) (one ++ two))
-      (λ image grown. more_grown form (list_of v) one two image grown) (first.images model))
-      (LeavesOnly-weaker (states mid.pen.disk) (states left) (OpensToGrown form (list_of mid) two) (OpensToGrown form (list_of v) (one ++ two))
-      (λ image grown. behind_grown form (list_of v) (list_of mid) one two image first.list grown) leaves)
-
-  grows_further : (v mid w : VaultOf R D) (one two : List (Growth R)) → GrowsTo form keeps states v mid one → GrowsTo form keeps states mid w two → GrowsTo form keeps states v w (one ++ two)
-  grows_further v mid w one two first then = record {
-    list = then.list ∙ ap (λ (rs : List R). rs ++ grown_records two) first.list
-        ∙ append_assoc (list_of v) (grown_records one) (grown_records two) ∙ ap (λ (rs : List R). list_of v ++ rs) (sym (grown_records_on one two));
-    images = λ model. leaves_further v mid w.pen.disk one two first (then.model model) (then.images model);
-    settled = then.settled;
-    model = λ model. first.model (then.model model);
-  }
-
-  pub gone_nowhere : (IsMade : List (List R) → Type 0) (block : ℕ) (v : VaultOf R D) (appended : Appended) → IsMade [] → IsSettled form keeps states v
-      → appended.growths ≡ 0 → appended.lines ≡ 0 → appended.size ≡ length (list_of v) → HasGone form keeps states IsMade block v v appended
-  gone_nowhere IsMade block v appended made settled none no_line size = record {
+  -- no growth yet
+  pub none_so_far : (IsMade : List (List R) → Type 0) (block : ℕ) (pen : PenOf D) (appended : Appended) → IsMade []
+      → appended ≡ record { growths = 0; lines = 0; size = pen.tally.size } → HasAppendedSoFar form keeps states IsMade block pen pen appended
+  none_so_far IsMade block pen appended made is = record {
     made = [];
-    goes = grows_nowhere v settled;
+    over = λ disk before begin model. subst (λ (gs : List (List R)). IsPenOver form states disk pen gs []) (sym (append-nil before)) (begin model);
     records_are = made;
-    size_is = size;
-    growths_are = none;
-    lines_are = no_line ∙ no_block;
+    size_is = ap (λ (a : Appended). a.size) is;
+    growths_are = ap (λ (a : Appended). a.growths) is;
+    lines_are = ap (λ (a : Appended). a.lines) is ∙ no_block;
   }
     where
       no_block : 0 ≡ min (2 ^ 64 - 1) (0 * block)
       no_block = omega arith
 
-  -- behind growths that are so, those of a batch
-  abbrev GoesOn : (IsMade IsMadeThen : List (List R) → Type 0) → ℕ → Appended → List (List R) → Type 0
-  GoesOn IsMade IsMadeThen block before growths =
-      (one : List (List R)) → before.lines ≡ min (2 ^ 64 - 1) (length one * block) → IsMade one → IsMadeThen (one ++ growths)
+-- ---- a batch
 
-  pub gone_further : (IsMade IsMadeThen : List (List R) → Type 0) (block : ℕ) (v mid w : VaultOf R D) (before after : Appended) (growths : List (List R))
-      → HasGone form keeps states IsMade block v mid before → GoesOn IsMade IsMadeThen block before growths
-      → (made : List (Growth R)) × GrowsTo form keeps states mid w made × (each_records made ≡ growths)
-      → after.size ≡ length (list_of w) → after.growths ≡ min (2 ^ 64 - 1) (before.growths + length growths) → after.lines ≡ min (2 ^ 64 - 1) (before.lines + length growths * block)
-      → HasGone form keeps states IsMadeThen block v w after
-  gone_further IsMade IsMadeThen block v mid w before after growths gone on then size is lines = record {
-    made = gone.made ++ then.0;
-    goes = grows_further v mid w gone.made then.0 gone.goes then.1;
-    records_are = subst IsMadeThen (sym records) (on (each_records gone.made) (gone.lines_are ∙ ap (λ n. min (2 ^ 64 - 1) (n * block)) many) gone.records_are);
-    size_is = size;
-    growths_are = is ∙ counts_on (2 ^ 64 - 1) before.growths (length gone.made) (length growths) gone.growths_are ∙ ap (min (2 ^ 64 - 1)) count;
-    lines_are = lines_on (2 ^ 64 - 1) block before.lines (length gone.made) (length growths) after.lines gone.lines_are lines ∙ ap (λ n. min (2 ^ 64 - 1) (n * block)) count;
-  }
-    where
-      many : length gone.made ≡ length (each_records gone.made)
-      many = sym (length-map gone.made (λ growth. growth.records))
+-- A batch was read behind growths that are told, and the first of its growths were committed, and are told, behind those that stood.
+pub record CommitsBatch {R D : Type 0} (form : Encoding R) (keeps : D → Type 0) (states : D → List State) (spelling : Spelling R) (block : ℕ) (input : Option (List ℕ))
+    (start old new : PenOf D) (before after : Appended) (settled : ℕ) : Type 0 where
+  pub coming : Option (List ℕ)
+  pub left : Option (List ℕ)
+  pub growths : List (List R)
+  pub lines : ℕ
+  pub rest : Rest
+  pub read : IsBatch spelling block coming left growths lines rest
+  pub so_far : HasAppendedSoFar form keeps states (AreFirstBlocks spelling block input coming) block start old before
+  pub kept : keeps new.disk → IsKept (states new.disk) new
+  pub width_is : form.width ≡ new.shape.width
+  pub size_is : after.size ≡ new.tally.size
+  pub growths_are : after.growths ≡ min (2 ^ 64 - 1) (before.growths + settled)
+  pub lines_are : after.lines ≡ min (2 ^ 64 - 1) (before.lines + settled * block)
 
-      records : each_records (gone.made ++ then.0) ≡ each_records gone.made ++ growths
-      records = map-append (λ growth. growth.records) gone.made then.0 ∙ ap (λ gs. each_records gone.made ++ gs) then.2
+module _ {R D : Type 0} {form : Encoding R} {keeps : D → Type 0} {states : D → List State} {spelling : Spelling R} {block : ℕ} {input : Option (List ℕ)} {start : PenOf D} where
+  module _ {old new : PenOf D} {before after : Appended} {settled : ℕ} (it : CommitsBatch form keeps states spelling block input start old new before after settled) where
+    read_so : AreReadSo spelling block input it.left (min (2 ^ 64 - 1) (before.lines + it.lines)) it.rest (it.so_far.made ++ it.growths)
+    read_so = counted_on spelling block input it.coming it.left it.so_far.made it.growths before.lines it.lines it.rest it.so_far.lines_are it.so_far.records_are it.read
 
-      count : length gone.made + length growths ≡ length (gone.made ++ then.0)
-      count = ap (λ n. length gone.made + n) (ap length (sym then.2) ∙ length-map then.0 (λ growth. growth.records)) ∙ sym (length-append gone.made then.0)
+    growths_on : (then : List (List R)) → settled ≡ length then → after.growths ≡ min (2 ^ 64 - 1) (length (it.so_far.made ++ then))
+    growths_on then is = it.growths_are ∙ counts_on (2 ^ 64 - 1) before.growths (length it.so_far.made) settled it.so_far.growths_are
+        ∙ ap (min (2 ^ 64 - 1)) (ap (λ n. length it.so_far.made + n) is ∙ sym (length-append it.so_far.made then))
 
-  -- the same, where so many growths and records are counted
-  pub gone_counted : (IsMade IsMadeThen : List (List R) → Type 0) (block : ℕ) (v mid w : VaultOf R D) (before after : Appended) (growths : List (List R)) (count size : ℕ)
-      → HasGone form keeps states IsMade block v mid before → GoesOn IsMade IsMadeThen block before growths
-      → (made : List (Growth R)) × GrowsTo form keeps states mid w made × (each_records made ≡ growths)
-      → count ≡ length growths → size ≡ length (list_of w) → after.size ≡ size → after.growths ≡ min (2 ^ 64 - 1) (before.growths + count)
-      → after.lines ≡ min (2 ^ 64 - 1) (before.lines + count * block) → HasGone form keeps states IsMadeThen block v w after
-  gone_counted IsMade IsMadeThen block v mid w before after growths count size gone on then counted sized size_is growths_are lines_are =
-      gone_further IsMade IsMadeThen block v mid w before after growths gone on then (size_is ∙ sized)
-      (growths_are ∙ ap (λ n. min (2 ^ 64 - 1) (before.growths + n)) counted)
-      (lines_are ∙ ap (λ n. min (2 ^ 64 - 1) (before.lines + n * block)) counted)
+    blocks_on : (then : List (List R)) → settled ≡ length then → AreOfBlocks block after (it.so_far.made ++ then)
+    blocks_on then is = lines_on (2 ^ 64 - 1) block before.lines (length it.so_far.made) settled after.lines it.so_far.lines_are it.lines_are
+        ∙ ap (λ n. min (2 ^ 64 - 1) (n * block)) (ap (λ n. length it.so_far.made + n) is ∙ sym (length-append it.so_far.made then))
 
-  -- what was gone to is gone on with
-  pub gone_same : {X : Type 0} (Why : Type 0) (IsMade IsMadeThen : List (List R) → Type 0) (block : ℕ) (v w : VaultOf R D) (before after : Appended) (result : Result (VaultOf R D) X)
-      → HasGone form keeps states IsMade block v w before → (Why → (gs : List (List R)) → IsMade gs → IsMadeThen gs)
-      → IfOk result (λ new. (new ≡ w) × (after ≡ before) × Why) → IfOk result (λ new. HasGone form keeps states IsMadeThen block v new after)
-  gone_same Why IsMade IsMadeThen block v w before after (Err x) gone turn same = same
-  gone_same Why IsMade IsMadeThen block v w before after (Ok new) gone turn same =
-      subst (λ u. HasGone form keeps states IsMadeThen block v u after) (sym same.0) (subst (HasGone form keeps states IsMadeThen block v w) (sym same.1) (record {
-        made = gone.made;
-        goes = gone.goes;
-        records_are = turn same.2 (each_records gone.made) gone.records_are;
-        size_is = gone.size_is;
-        growths_are = gone.growths_are;
-        lines_are = gone.lines_are;
+    -- all of them were
+    so_far_on : settled ≡ length it.growths → IsRowSettled form keeps states it.growths old new
+        → HasAppendedSoFar form keeps states (AreReadSo spelling block input it.left (min (2 ^ 64 - 1) (before.lines + it.lines)) it.rest) block start new after
+    so_far_on is row = record {
+      made = it.so_far.made ++ it.growths;
+      over = λ disk made begin model.
+          subst (λ (gs : List (List R)). IsPenOver form states disk new gs []) (append_assoc made it.so_far.made it.growths)
+          (row disk (made ++ it.so_far.made) (it.so_far.over disk made begin) model);
+      records_are = read_so;
+      size_is = it.size_is;
+      growths_are = growths_on it.growths is;
+      lines_are = blocks_on it.growths is;
+    }
+
+module _ {R D : Type 0} (form : Encoding R) (keeps : D → Type 0) (states : D → List State) (failures : D → ℕ) (spelling : Spelling R) (block : ℕ) (input : Option (List ℕ)) (start : PenOf D) where
+  -- how it is over behind a batch of which all growths were committed
+  abbrev pub IsOverBy : Option (List ℕ) → PenOf D → Appended → Option (Result (Unit {0}) FileFault) → Type 0
+  IsOverBy left new told done = MatchOption done (HasAppendedSoFar form keeps states (AreFirstBlocks spelling block input left) block start new told)
+      (λ end. (disk : D) → (keeps start.disk → IsPenOver form states disk start [] []) → IsAppendEnd form keeps states failures spelling block input disk new.disk told end)
+
+  over_by : (left : Option (List ℕ)) (counted : ℕ) (rest : Rest) (new : PenOf D) (after told : Appended) (done : Option (Result (Unit {0}) FileFault))
+      → (keeps new.disk → IsKept (states new.disk) new) → form.width ≡ new.shape.width
+      → HasAppendedSoFar form keeps states (AreReadSo spelling block input left counted rest) block start new after → IsRestTold rest counted after told done
+      → IsOverBy left new told done
+  over_by left counted More new after told end kept width so_far is =
+      subst (IsOverBy left new told) (sym is.0)
+      (subst (HasAppendedSoFar form keeps states (AreFirstBlocks spelling block input left) block start new) (sym is.1) (record {
+        made = so_far.made;
+        over = so_far.over;
+        records_are = so_far.records_are.read;
+        size_is = so_far.size_is;
+        growths_are = so_far.growths_are;
+        lines_are = so_far.lines_are;
       }))
-
-  -- what was gone to is given back
-  pub stands_now : (IsMade IsMadeThen : List (List R) → Type 0) (block : ℕ) (v w : VaultOf R D) (left : D) (appended : Appended) → ((gs : List (List R)) → IsMade gs → IsMadeThen gs)
-      → HasGone form keeps states IsMade block v w appended → left ≡ w.pen.disk
-      → (made : List (Growth R)) × StandBehindList form keeps states v left appended made [] × AreOfBlocks block appended made × IsMadeThen (each_records made)
-  stands_now IsMade IsMadeThen block v w left appended turn gone same = (
-    gone.made,
-    subst (λ d. StandBehindList form keeps states v d appended gone.made []) (sym same) (record {
-      images = λ model. subst (λ gs. LeavesOnly (states v.pen.disk) (states w.pen.disk) (OpensToGrown form (list_of v) gs)) (sym (append-nil gone.made)) (gone.goes.images model);
-      settled = λ model image is. none_grown form (list_of v ++ grown_records gone.made) [] image (subst (OpensTo form image) gone.goes.list (gone.goes.settled model image is));
-      size_is = gone.size_is ∙ ap length gone.goes.list;
-      growths_are = gone.growths_are;
-    }),
-    gone.lines_are,
-    turn (each_records gone.made) gone.records_are,
-  )
-
-  -- all of it, where the last growth may be of fewer lines
-  pub stands_last : (spelling : Spelling R) (block : ℕ) (known coming : Option (List ℕ)) (counted : ℕ) (rest : Rest) (v w : VaultOf R D) (left : D) (appended told : Appended)
-      → HasGone form keeps states (AreReadSo spelling block known coming counted rest) block v w appended → rest ≡ Nothing → left ≡ w.pen.disk → told.size ≡ appended.size
-      → told.growths ≡ appended.growths → told.lines ≡ counted
-      → (made : List (Growth R)) × StandBehindList form keeps states v left told made [] × AreAllTold spelling block known told made
-  stands_last spelling block known coming counted rest v w left appended told gone is same size growths lines =
-      let now = stands_now (AreReadSo spelling block known coming counted rest) (AreReadSo spelling block known coming counted rest) block v w left appended (λ gs so. so) gone same in
-      let all = read_all spelling block known coming counted (each_records now.0) rest is now.3 in (
-        now.0,
-        record { images = now.1.images; settled = now.1.settled; size_is = size ∙ now.1.size_is; growths_are = growths ∙ now.1.growths_are },
-        (all.0, all.1, lines ∙ all.2),
-      )
-
-  stands_with : (IsMade : List (List R) → Type 0) (block : ℕ) (batch : List (List R)) (v mid : VaultOf R D) (left : D) (appended : Appended) (fault : FileFault)
-      (gone : HasGone form keeps states IsMade block v mid appended) (stops : StopsAtBatch form keeps states batch mid left fault)
-      → StandBehindList form keeps states v left appended gone.made stops.more
-  stands_with IsMade block batch v mid left appended fault gone stops = record {
-    images = λ model. leaves_further v mid left gone.made stops.more gone.goes (stops.model model) (stops.images model);
-    settled = λ model image is. subst (λ (rs : List R). OpensToGrown form rs stops.more image) gone.goes.list ((stops.images model).newest image is);
-    size_is = gone.size_is ∙ ap length gone.goes.list;
-    growths_are = gone.growths_are;
-  }
-
-  -- A crew stopped at the batch that comes next behind growths that are told, and this is told of it.
-  pub record StopsBehind (spelling : Spelling R) (block : ℕ) (known : Option (List ℕ)) (v : VaultOf R D) (left : D) (after : Appended) (fault told : FileFault) : Type 0 where
-    pub coming : Option (List ℕ)
-    pub more : Option (List ℕ)
-    pub batch : List (List R)
-    pub lines : ℕ
-    pub rest : Rest
-    pub mid : VaultOf R D
-    pub before : Appended
-    pub few : length batch < 2 ^ 64
-    pub read : IsBatch spelling block coming more batch lines rest
-    pub gone : HasGone form keeps states (AreFirstBlocks spelling block known coming) block v mid before
-    pub stops : StopsAtBatch form keeps states batch mid left fault
-    pub tells : IsStopTold block before fault after told
-
-  -- a grower stopped so: what it made stands too
-  module _ {spelling : Spelling R} {block : ℕ} {known : Option (List ℕ)} {v : VaultOf R D} {left : D} {after : Appended} {stopped : Stopped} {told : FileFault}
-      (it : StopsBehind spelling block known v left after (faults.Grower stopped) told) where
-    count_own : stopped.line - 1 ≡ length it.stops.more
-    count_own = made_by_one form.width it.batch it.stops.more stopped it.few it.stops.settled.2 it.stops.settled.3
-
-    count_all : length it.gone.made + (stopped.line - 1) ≡ length (it.gone.made ++ it.stops.more)
-    count_all = ap (λ n. length it.gone.made + n) count_own ∙ sym (length-append it.gone.made it.stops.more)
-
-    list_all : list_of it.mid ++ grown_records it.stops.more ≡ list_of v ++ grown_records (it.gone.made ++ it.stops.more)
-    list_all = list_on (list_of v) (list_of it.mid) it.gone.made it.stops.more it.gone.goes.list
-
-    size_all : stopped.size ≡ length (list_of v ++ grown_records (it.gone.made ++ it.stops.more))
-    size_all = it.stops.settled.1 ∙ ap length list_all
-
-    stands_all : StandBehindList form keeps states v left after (it.gone.made ++ it.stops.more) []
-    stands_all = record {
-      images = λ model. subst (λ gs. LeavesOnly (states v.pen.disk) (states left) (OpensToGrown form (list_of v) gs))
-          (sym (append-nil (it.gone.made ++ it.stops.more)))
-          (leaves_further v it.mid left it.gone.made it.stops.more it.gone.goes (it.stops.model model) (it.stops.images model));
-      settled = λ model image is. none_grown form (list_of v ++ grown_records (it.gone.made ++ it.stops.more)) [] image (subst (OpensTo form image) list_all (it.stops.settled.0 model image is));
-      size_is = it.tells.2 ∙ size_all;
-      growths_are = it.tells.0 ∙ counts_on (2 ^ 64 - 1) it.before.growths (length it.gone.made) (stopped.line - 1) it.gone.growths_are ∙ ap (min (2 ^ 64 - 1)) count_all;
-    }
-
-    lines_all : AreOfBlocks block after (it.gone.made ++ it.stops.more)
-    lines_all = lines_on (2 ^ 64 - 1) block it.before.lines (length it.gone.made) (stopped.line - 1) after.lines it.gone.lines_are it.tells.1 ∙ ap (λ n. min (2 ^ 64 - 1) (n * block)) count_all
-
-    batch_stop : IsBatchStop form.width after (it.gone.made ++ it.stops.more) (record stopped { line = min (2 ^ 64 - 1) (after.lines + 1) })
-    batch_stop = record {
-      grower_is = omega (arith, it.stops.settled.3.inside);
-      line_is = refl;
-      size_is = sym it.tells.2;
-      batch = it.batch;
-      before = it.gone.made;
-      own = it.stops.more;
-      made_are = refl;
-      own_are = it.stops.settled.2;
-      why = it.stops.settled.3.why;
-    }
-
-    records_all : AreOfFirstLines spelling block known (each_records (it.gone.made ++ it.stops.more))
-    records_all =
-        let first = made_first form.width it.batch it.stops.more stopped it.stops.settled.2 it.stops.settled.3 in
-        let short : length it.stops.more ≤ length it.batch = elim first [ inl less ↦ omega (arith, less) | inr none ↦ omega (arith, none) ] in
-        let own : each_records it.stops.more ≡ take (length it.stops.more) it.batch = dealt_first it.batch it.stops.more it.stops.settled.2 short in
-        subst (λ gs. AreOfFirstLines spelling block known gs)
-        (sym (map-append (λ growth. growth.records) it.gone.made it.stops.more ∙ ap (λ gs. each_records it.gone.made ++ gs) own))
-        (then_first spelling block known it.coming (each_records it.gone.made) (take (length it.stops.more) it.batch) it.gone.records_are
-        (some_read spelling block it.coming it.more it.batch it.lines (length it.stops.more) it.rest first it.read))
-
-    stopped_grower : HasAppended form keeps states spelling block known v left after (Err told)
-    stopped_grower = subst (λ fault. HasAppended form keeps states spelling block known v left after (Err fault)) (sym it.tells.3)
-        (it.gone.made ++ it.stops.more, stands_all, lines_all, records_all, batch_stop)
-
-  -- a crew stopped so
-  pub stopped_with : {spelling : Spelling R} {block : ℕ} {known : Option (List ℕ)} {v : VaultOf R D} {left : D} {after : Appended} (fault told : FileFault)
-      → StopsBehind spelling block known v left after fault told → HasAppended form keeps states spelling block known v left after (Err told)
-  stopped_with {spelling = spelling} {block = block} {known = known} {v = v} {left = left} {after = after} (faults.Vault fault) told it =
-      subst (λ f. HasAppended form keeps states spelling block known v left after (Err f)) (sym it.tells.1)
-      (subst (λ a. HasAppended form keeps states spelling block known v left a (Err (faults.Vault fault))) (sym it.tells.0) (
-        it.gone.made,
-        it.stops.more,
-        stands_with (AreFirstBlocks spelling block known it.coming) block it.batch v it.mid left it.before (faults.Vault fault) it.gone it.stops,
-        it.gone.lines_are,
-        (it.coming, it.gone.records_are),
+  over_by left counted Nothing new after told end kept width so_far is =
+      subst (IsOverBy left new told) (sym is.0) (λ disk begin.
+      subst (HasAppendedAll form keeps states spelling block input disk new.disk) (sym is.1) (
+        so_far.made,
+        growths_stand form keeps states disk new (record after { lines = counted }) kept width so_far.size_is so_far.made [] so_far.growths_are (so_far.over disk [] begin),
+        (so_far.records_are.count, so_far.records_are.read, so_far.records_are.counted_is),
       ))
-  stopped_with (faults.Grower stopped) told it = stopped_grower it
-  stopped_with (faults.Open fault) told it = absurd it.stops.by_crew
-  stopped_with (faults.Word word) told it = absurd it.stops.by_crew
-  stopped_with (faults.Input refusal) told it = absurd it.stops.by_crew
-  stopped_with (faults.Upgrade fault) told it = absurd it.stops.by_crew
+  over_by left counted (Refused refusal) new after told end kept width so_far is =
+      subst (IsOverBy left new told) (sym is.1) (λ disk begin.
+      subst (λ (a : Appended). IsAppendFault form keeps states failures spelling block input disk new.disk a (files.Input is.0)) (sym is.2) (
+        so_far.made,
+        growths_stand form keeps states disk new after kept width so_far.size_is so_far.made [] so_far.growths_are (so_far.over disk [] begin),
+        so_far.lines_are,
+        so_far.records_are.read,
+      ))
+  over_by left counted (Unread refusal) new after told end kept width so_far is =
+      subst (IsOverBy left new told) (sym is.0) (λ disk begin.
+      subst (λ (a : Appended). IsAppendFault form keeps states failures spelling block input disk new.disk a (files.Input refusal)) (sym is.1) (
+        so_far.made,
+        growths_stand form keeps states disk new after kept width so_far.size_is so_far.made [] so_far.growths_are (so_far.over disk [] begin),
+        so_far.lines_are,
+        so_far.records_are.read,
+      ))
 
-  -- ---- of a file
+module _ {R D : Type 0} {form : Encoding R} {keeps : D → Type 0} {states : D → List State} {spelling : Spelling R} {block : ℕ} {input : Option (List ℕ)} {start : PenOf D} where
+  module _ {old new : PenOf D} {before after : Appended} {settled : ℕ} (failures : D → ℕ) (it : CommitsBatch form keeps states spelling block input start old new before after settled) where
+    pub batch_over : (told : Appended) (done : Option (Result (Unit {0}) FileFault)) → settled ≡ length it.growths → IsRowSettled form keeps states it.growths old new
+        → IsRestTold it.rest (min (2 ^ 64 - 1) (before.lines + it.lines)) after told done → IsOverBy form keeps states failures spelling block input start it.left new told done
+    batch_over told done is row rest =
+        over_by form keeps states failures spelling block input start it.left (min (2 ^ 64 - 1) (before.lines + it.lines)) it.rest new after told done it.kept it.width_is (so_far_on it is row) rest
 
-  -- a vault that was opened is settled
-  pub sure_settled : (own : D) (v : VaultOf R D) → (keeps v.pen.disk → v.sure ≡ list_of v) → own ≡ v.pen.disk
-      → (keeps own → (image : List ℕ) → IsImage (now (states own)) image → MayHold form v image) → IsSettled form keeps states v
-  sure_settled own v sure same may model image is =
-      let mine = subst keeps (sym same) model in
-      opens_same form v.sure (list_of v) (list_of v) image (sure model) refl (may mine image (subst (λ d. IsImage (now (states d)) image) (sym same) is))
+    -- ---- a group of them wasn't
 
-  module _ (failures : D → ℕ) (spelling : Spelling R) (block : ℕ) (known : Option (List ℕ)) (disk left : D) (v : VaultOf R D) (appended : Appended)
-      (opened : IsOpenedOn form keeps states failures disk v) (back : keeps left → keeps v.pen.disk) where
-    growths_stand : (made more : List (Growth R)) → StandBehindList form keeps states v left appended made more → keeps left → GrowthsStand form states disk left appended made more
-    growths_stand made more stands model = record {
-      was = list_of v;
-      file = opened_list form (bytes_of (states disk)) v.pen (list_of v) (opened.opened (back model));
-      images = opened_then (states disk) (states v.pen.disk) (states left) (OpensToGrown form (list_of v) (made ++ more)) (opened.only_syncs (back model)) (stands.images model);
-      settled = stands.settled model;
-      size_is = stands.size_is;
-      growths_are = stands.growths_are;
-    }
+    abbrev front : List (List R)
+    front = take settled it.growths
 
-    pub appended_all : HasAppended form keeps states spelling block known v left appended (Ok tt) → HasAppendedAll form keeps states spelling block known disk left appended
-    appended_all has = (has.0, growths_stand has.0 [] has.1, has.2)
+    many : settled < length it.growths → settled ≡ length front
+    many less = sym (length-take-le settled it.growths (omega arith))
 
-    abbrev IsWhole : Type 0
-    IsWhole = HasAppendedAll form keeps states spelling block known disk left appended
+    front_lines : settled < length it.growths → AreOfFirstLines spelling block input (it.so_far.made ++ front)
+    front_lines less = then_first spelling block input it.coming it.so_far.made front it.so_far.records_are
+        (some_read spelling block it.coming it.left it.growths it.lines settled it.rest (inl less) it.read)
 
-    abbrev IsRefused : FileFault → Type 0
-    IsRefused = IsAppendFault form keeps states failures spelling block known disk left appended
+    -- and the next ones
+    next_lines : (m : ℕ) → AreFirstGrowths spelling block input ((it.so_far.made ++ front) ++ row_part it.growths settled m)
+    next_lines m = first_of spelling block input it.left (min (2 ^ 64 - 1) (before.lines + it.lines)) it.rest ((it.so_far.made ++ front) ++ row_part it.growths settled m)
+        (drop m (drop settled it.growths)) (it.so_far.made ++ it.growths) (parts_of it.so_far.made it.growths settled m) (read_so it)
 
-    pub appended_some : (fault : FileFault) → HasAppended form keeps states spelling block known v left appended (Err fault)
-        → IsAppendFault form keeps states failures spelling block known disk left appended fault
-    unfolding growths_stand
-    appended_some (faults.Input refusal) has = (has.0, growths_stand has.0 [] has.1, has.2, has.3)
-    appended_some (faults.Vault fault) has = (has.0, has.1, growths_stand has.0 has.1 has.2, has.3, has.4)
-    appended_some (faults.Grower stopped) has = (has.0, growths_stand has.0 [] has.1, has.2, has.3, has.4)
-    appended_some (faults.Open fault) has = absurd has
-    appended_some (faults.Word word) has = absurd has
-    appended_some (faults.Upgrade fault) has = absurd has
+    begun_lines : (calls m : ℕ) → AreFirstGrowths spelling block input ((it.so_far.made ++ front) ++ begun_by calls (row_part it.growths settled m))
+    begun_lines zero m = subst (λ (gs : List (List R)). AreFirstGrowths spelling block input ((it.so_far.made ++ front) ++ gs)) (take_none (drop settled it.growths)) (next_lines 0)
+    begun_lines (suc calls) m = next_lines m
 
-    pub appended_ends : (done : Result (Unit {0}) FileFault) (ended : Ended) → MatchResult done (λ _. (ended ≡ Done) ⊎ (ended ≡ OutputFailed)) (λ fault. ended ≡ ends.Refused fault)
-        → HasAppended form keeps states spelling block known v left appended done
-        → EndsAs (HasAppendedAll form keeps states spelling block known disk left appended)
-        (IsAppendFault form keeps states failures spelling block known disk left appended) ended
-    appended_ends (Ok all) ended told has = done_ends IsWhole IsRefused ended told (appended_all has)
-    appended_ends (Err fault) ended told has = subst (EndsAs IsWhole IsRefused) (sym told) (appended_some fault has)
+    by_pen : (disk : D) → (keeps start.disk → IsPenOver form states disk start [] []) → (fault : PenFault) → IsCommitFault fault → IsRowStop form keeps states it.growths settled old new fault
+        → IsAppendFault form keeps states failures spelling block input disk new.disk after (files.Vault (Pen fault))
+    by_pen disk begin fault why stop = (
+      it.so_far.made ++ front,
+      begun_by (failed_calls fault) (row_part it.growths settled stop.group),
+      growths_stand form keeps states disk new after it.kept it.width_is it.size_is (it.so_far.made ++ front)
+          (begun_by (failed_calls fault) (row_part it.growths settled stop.group)) (growths_on it front (many stop.less))
+          (stop.over disk it.so_far.made (it.so_far.over disk [] begin)),
+      blocks_on it front (many stop.less),
+      front_lines stop.less,
+      begun_lines (failed_calls fault) stop.group,
+      λ none. ap (λ n. begun_by n (row_part it.growths settled stop.group)) none,
+      why,
+    )
+
+    too_long : (disk : D) → (keeps start.disk → IsPenOver form states disk start [] []) → IsRowStop form keeps states it.growths settled old new pens.OutOfRange
+        → IsAppendFault form keeps states failures spelling block input disk new.disk after (fault_told after pens.OutOfRange)
+    too_long disk begin stop =
+        let next = next_of it.growths settled stop.less in
+        let long : length (joined (row_part it.growths settled 1)) ≡ length next.0 = ap (λ (gs : List (List R)). length (joined gs)) next.1 ∙ ap length (append-nil next.0) in
+        let past = stop.past refl in (
+          it.so_far.made ++ front,
+          growths_stand form keeps states disk new after it.kept it.width_is it.size_is (it.so_far.made ++ front) []
+              (growths_on it front (many stop.less)) (stop.over disk it.so_far.made (it.so_far.over disk [] begin)),
+          blocks_on it front (many stop.less),
+          front_lines stop.less,
+          record {
+            grower_is = refl;
+            line_is = refl;
+            size_is = refl;
+            fault_is = refl;
+            next = next.0;
+            next_is = subst (λ (gs : List (List R)). AreFirstGrowths spelling block input ((it.so_far.made ++ front) ++ gs)) next.1 (next_lines 1);
+            past = omega (arith, past, long, it.size_is);
+          },
+        )
+
+    stopped_by : (disk : D) → (keeps start.disk → IsPenOver form states disk start [] []) → (fault : PenFault) → IsRowStop form keeps states it.growths settled old new fault
+        → IsAppendFault form keeps states failures spelling block input disk new.disk after (fault_told after fault)
+    stopped_by disk begin pens.OutOfRange stop = too_long disk begin stop
+    stopped_by disk begin fault stop = elim stop.why [ inl is ↦ absurd cc | inr why ↦ by_pen disk begin fault why stop ]
+
+    pub batch_stopped : (disk : D) → (keeps start.disk → IsPenOver form states disk start [] []) → (fault : PenFault) (told : FileFault)
+        → IsRowStop form keeps states it.growths settled old new fault → told ≡ fault_told after fault
+        → IsAppendFault form keeps states failures spelling block input disk new.disk after told
+    batch_stopped disk begin fault told stop is = subst (IsAppendFault form keeps states failures spelling block input disk new.disk after) (sym is) (stopped_by disk begin fault stop)
+
+-- ---- the end
+
+-- the disk of a pen is kept so
+pub kept_on : {D : Type 0} (keeps : D → Type 0) (states : D → List State) (pen : PenOf D) (own : D) → own ≡ pen.disk → (keeps own → IsKept (states own) pen)
+    → keeps pen.disk → IsKept (states pen.disk) pen
+kept_on keeps states pen own same kept = subst (λ d. keeps d → IsKept (states d) pen) same kept
+
+-- the end is told
+pub told_end : {R D : Type 0} (form : Encoding R) (keeps : D → Type 0) (states : D → List State) (failures : D → ℕ) (spelling : Spelling R) (block : ℕ) (input : Option (List ℕ))
+    (disk left : D) (appended : Appended) (done : Result (Unit {0}) FileFault) (ended : Ended)
+    → MatchResult done (λ _. (ended ≡ Done) ⊎ (ended ≡ OutputFailed)) (λ fault. ended ≡ ends.Refused fault)
+    → IsAppendEnd form keeps states failures spelling block input disk left appended done
+    → EndsAs (HasAppendedAll form keeps states spelling block input disk left appended)
+    (IsAppendFault form keeps states failures spelling block input disk left appended) ended
+told_end form keeps states failures spelling block input disk left appended (Ok all) ended told has =
+    done_ends (HasAppendedAll form keeps states spelling block input disk left appended) (IsAppendFault form keeps states failures spelling block input disk left appended) ended told has
+told_end form keeps states failures spelling block input disk left appended (Err fault) ended told has =
+    subst (EndsAs (HasAppendedAll form keeps states spelling block input disk left appended) (IsAppendFault form keeps states failures spelling block input disk left appended)) (sym told) has

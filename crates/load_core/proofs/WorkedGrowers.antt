@@ -1,5 +1,5 @@
 -- What the definitions of growers and of told lines allow and rule out, on a few growths.
-use Rattle.std.proofs.Common.{◌≡◌, ℕ, zero, suc, ◌-◌, ◌*◌, ◌^◌, min, ◌<◌, List, [], ◌∷◌, length, get_or, refl, ap, ◌∙◌, arith}
+use Rattle.std.proofs.Common.{◌≡◌, ℕ, zero, suc, ◌-◌, ◌*◌, ◌^◌, min, List, [], ◌∷◌, length, get_or, refl, ap, ◌∙◌, arith}
 use Rattle.block_core.specs.Growth.{Growth}
 use Rattle.files_core.specs.declared.appended.Appended.{Appended}
 use Rattle.load_core.specs.Appending.{AreOfBlocks}
@@ -11,7 +11,7 @@ use Rattle.load_core.specs.Loading.{AllMade, AreDealt}
 abbrev told : ℕ → ℕ → ℕ → Appended
 told growths lines size = record { growths = growths; lines = lines; size = size }
 
-three_of_two : (growths : List (Growth ℕ)) → length growths ≡ 3 → (n : ℕ) → AreOfBlocks 2 (told 3 n 9) growths → n ≡ 6
+three_of_two : (growths : List (List ℕ)) → length growths ≡ 3 → (n : ℕ) → AreOfBlocks 2 (told 3 n 9) growths → n ≡ 6
 three_of_two growths three n is = is ∙ ap (λ k. min (2 ^ 64 - 1) (k * 2)) three
 
 -- ---- growers: each makes those that are dealt to it, in order

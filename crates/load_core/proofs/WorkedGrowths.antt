@@ -4,7 +4,6 @@ use Rattle.std.specs.Prelude.{slice_get}
 use Rattle.std.proofs.lemmas.List.{length-append}
 use Rattle.std.proofs.lemmas.List.Elements.{All-nil, All-cons}
 use Rattle.record_core.specs.Bytes.{Encoding}
-use Rattle.disk_core.specs.State.{settled}
 use Rattle.disk_core.proofs.ImageLemmas.{settled_image}
 use Rattle.segment_core.specs.Written as lists
 use Rattle.block_core.specs.Growth.{Growth}
@@ -13,10 +12,11 @@ use Rattle.book_core.specs.Lists.{own_of}
 use Rattle.vault_core.specs.Sharing.{OpensToGrown}
 use Rattle.files_core.specs.declared.appended.Appended.{Appended}
 use Rattle.files_core.proofs.WorkedDisks.{Disk, ThreeFiles, itself, known, as_long, old, later, still, past_two, leaves_one, never_two, none_before, opens_then}
-use Rattle.load_core.specs.Appending.{GrowthsStand, each_records}
+use Rattle.load_core.specs.Appending.{GrowthsStand}
+use Rattle.load_core.specs.Groups.{OpensToFront}
 use Rattle.load_core.specs.Dealt.{dealt}
 use Rattle.load_core.specs.Loading.{AllMade, IsLoaded}
-use Rattle.load_core.proofs.OneGrower.{all_dealt}
+use Rattle.load_core.proofs.OneGrower.{all_dealt, each_records}
 
 abbrev told : ℕ → ℕ → ℕ → Appended
 told growths lines size = record { growths = growths; lines = lines; size = size }
@@ -24,75 +24,78 @@ told growths lines size = record { growths = growths; lines = lines; size = size
 module _ {R : Type 0} {form : Encoding R} {r : R} (files : ThreeFiles form r) where
   -- ---- growths that stand
 
-  abbrev growth : Growth R
-  growth = record { number = 0; start = 0; seat = 0; serial = 0; records = r ∷ [] }
+  abbrev one : List (List R)
+  one = (r ∷ []) ∷ []
 
-  abbrev Stand : Disk → Appended → List (Growth R) → List (Growth R) → Type 0
+  abbrev Stand : Disk → Appended → List (List R) → List (List R) → Type 0
   Stand left appended made more = GrowthsStand form itself (old files) left appended made more
 
-  one_stands : Stand (later files) (told 1 1 1) (growth ∷ []) []
+  one_stands : Stand (later files) (told 1 1 1) one []
   one_stands = record {
     was = [];
     file = files.opens_none;
-    images = leaves_one files (OpensToGrown form [] (growth ∷ [])) (record { count = 1; known = omega arith; opens = files.opens_one });
+    images = leaves_one files (OpensToFront form [] one) (record { count = 1; known = omega arith; opens = files.opens_one });
     settled = λ image is. record { count = 0; known = omega arith; opens = opens_then files image is };
     size_is = refl;
     growths_are = refl;
   }
 
   -- one that was begun may stand, or not
-  one_may_stand : Stand (later files) (told 0 0 0) [] (growth ∷ [])
+  one_may_stand : Stand (later files) (told 0 0 0) [] one
   one_may_stand = record {
     was = [];
     file = files.opens_none;
-    images = leaves_one files (OpensToGrown form [] (growth ∷ [])) (record { count = 1; known = omega arith; opens = files.opens_one });
+    images = leaves_one files (OpensToFront form [] one) (record { count = 1; known = omega arith; opens = files.opens_one });
     settled = λ image is. record { count = 1; known = omega arith; opens = opens_then files image is };
     size_is = refl;
     growths_are = refl;
   }
 
   -- one that is told stands in each image
-  not_lost : (lines : ℕ) → Stand (still files) (told 1 lines 1) (growth ∷ []) [] → ⊥
+  not_lost : (lines : ℕ) → Stand (still files) (told 1 lines 1) one [] → ⊥
   not_lost lines stands =
-      let grown = stands.settled files.none (settled_image files.none) in
-      let long = as_long files files.none ((stands.was ++ (r ∷ [])) ++ grown_records (take grown.count [])) [] grown.opens files.opens_none in
-      omega (arith, long, length-append (stands.was ++ (r ∷ [])) (grown_records (take grown.count [])), length-append stands.was (r ∷ []))
+      let front = stands.settled files.none (settled_image files.none) in
+      let long = as_long files files.none ((stands.was ++ (r ∷ [])) ++ lists.joined (take front.count [])) [] front.opens files.opens_none in
+      omega (arith, long, length-append (stands.was ++ (r ∷ [])) (lists.joined (take front.count [])), length-append stands.was (r ∷ []))
 
   -- none stands that wasn't made
-  grown_long : (was : List R) (count : ℕ) → count ≤ 1 → length was ≡ 0 → length (was ++ grown_records (take count (growth ∷ []))) ≤ 1
-  grown_long was zero within empty = omega (arith, length-append was [], empty)
-  grown_long was (suc zero) within empty = omega (arith, length-append was (r ∷ []), empty)
-  grown_long was (suc (suc count)) within empty = absurd (omega (arith, within))
+  front_long : (was : List R) (count : ℕ) → count ≤ 1 → length was ≡ 0 → length (was ++ lists.joined (take count one)) ≤ 1
+  front_long was zero within empty = omega (arith, length-append was [], empty)
+  front_long was (suc zero) within empty = omega (arith, length-append was (r ∷ []), empty)
+  front_long was (suc (suc count)) within empty = absurd (omega (arith, within))
 
-  not_two : (was : List R) → length was ≡ 0 → OpensToGrown form was (growth ∷ []) files.two → ⊥
-  not_two was empty grown =
-      omega (arith, as_long files files.two (was ++ grown_records (take grown.count (growth ∷ []))) (r ∷ r ∷ []) grown.opens files.opens_two, grown_long was grown.count grown.known empty)
+  not_two : (was : List R) → length was ≡ 0 → OpensToFront form was one files.two → ⊥
+  not_two was empty front =
+      omega (arith, as_long files files.two (was ++ lists.joined (take front.count one)) (r ∷ r ∷ []) front.opens files.opens_two, front_long was front.count front.known empty)
 
-  not_past_two : Stand (past_two files) (told 1 1 1) (growth ∷ []) [] → ⊥
-  not_past_two stands = never_two files (OpensToGrown form stands.was (growth ∷ [])) (not_two stands.was (none_before files stands.was stands.file)) stands.images
+  not_past_two : Stand (past_two files) (told 1 1 1) one [] → ⊥
+  not_past_two stands = never_two files (OpensToFront form stands.was one) (not_two stands.was (none_before files stands.was stands.file)) stands.images
 
-  none_more : (count : ℕ) → length (grown_records (take {A = Growth R} count [])) ≡ 0
+  none_more : (count : ℕ) → length (lists.joined (take {A = List R} count [])) ≡ 0
   none_more zero = refl
   none_more (suc count) = refl
 
   not_unmade : Stand (later files) (told 0 0 0) [] [] → ⊥
   not_unmade stands =
-      let grown = stands.settled files.one (settled_image files.one) in
+      let front = stands.settled files.one (settled_image files.one) in
       omega (
         arith,
-        as_long files files.one ((stands.was ++ []) ++ grown_records (take grown.count [])) (r ∷ []) grown.opens files.opens_one,
-        length-append (stands.was ++ []) (grown_records (take grown.count [])),
+        as_long files files.one ((stands.was ++ []) ++ lists.joined (take front.count [])) (r ∷ []) front.opens files.opens_one,
+        length-append (stands.was ++ []) (lists.joined (take front.count [])),
         length-append stands.was [],
         none_before files stands.was stands.file,
-        none_more grown.count,
+        none_more front.count,
       )
 
   -- and what is told is that
-  told_right : (growths lines size : ℕ) → Stand (later files) (told growths lines size) (growth ∷ []) [] → (growths ≡ 1) × (size ≡ 1)
+  told_right : (growths lines size : ℕ) → Stand (later files) (told growths lines size) one [] → (growths ≡ 1) × (size ≡ 1)
   told_right growths lines size stands =
       (stands.growths_are, stands.size_is ∙ length-append stands.was (r ∷ []) ∙ ap (λ n. n + 1) (none_before files stands.was stands.file))
 
   -- ---- growths that were loaded
+
+  abbrev growth : Growth R
+  growth = record { number = 0; start = 0; seat = 0; serial = 0; records = r ∷ [] }
 
   abbrev Loaded : Disk → ℕ → Type 0
   Loaded left size = IsLoaded form known itself ((r ∷ []) ∷ []) 1 (old files) left size
@@ -142,4 +145,5 @@ module _ {R : Type 0} {form : Encoding R} {r : R} (files : ThreeFiles form r) wh
 
   not_loaded_lost : (size : ℕ) → Loaded (still files) size → ⊥
   not_loaded_lost size loaded =
-      omega (arith, loaded_long (still files) size loaded, as_long files files.none (loaded.was ++ grown_records loaded.made) [] ((loaded.stands tt).settled files.none (settled_image files.none)) files.opens_none)
+      let opens = (loaded.stands tt).settled files.none (settled_image files.none) in
+      omega (arith, loaded_long (still files) size loaded, as_long files files.none (loaded.was ++ grown_records loaded.made) [] opens files.opens_none)

@@ -1,15 +1,15 @@
 -- What the definitions of stops and refusals of `load` and `append` allow, and the nearest that they don't.
-use Rattle.std.proofs.Common.{◌≡◌, inl, inr, ℕ, ◌+◌, ◌^◌, ◌-◌, ◌<◌, ◌≤◌, min, List, [], ◌∷◌, ◌++◌, length, Option, Some, None, refl, ap, arith}
+use Rattle.std.proofs.Common.{◌≡◌, inl, inr, ℕ, ◌^◌, ◌-◌, ◌<◌, ◌≤◌, min, List, [], ◌∷◌, length, Option, Some, None, Result, Ok, refl, subst, arith}
 use Rattle.record_core.specs.Bytes.{Encoding}
 use Rattle.disk_core.specs.State.{State, settled}
 use Rattle.text_core.specs.Text.{Spelling}
 use Rattle.text_core.specs.declared.refusal.Refusal.TheVariants as refusals
 use Rattle.block_core.specs.Growth.{Growth}
-use Rattle.book_core.specs.declared.fault.GrowFault.TheVariants.{Full}
+use Rattle.book_core.specs.declared.fault.GrowFault.TheVariants.{TooLong}
 use Rattle.pen_core.specs.declared.fault.OpenFault.{OpenFault}
 use Rattle.pen_core.specs.declared.fault.PenFault.TheVariants as faults
 use Rattle.vault_core.specs.declared.fault.VaultFault.{VaultFault}
-use Rattle.vault_core.specs.declared.fault.VaultFault.TheVariants.{Pen}
+use Rattle.vault_core.specs.declared.fault.VaultFault.TheVariants.{Pen, Unsettled}
 use Rattle.vault_core.specs.Vault.{VaultOf}
 use Rattle.files_core.specs.declared.appended.Appended.{Appended}
 use Rattle.files_core.specs.declared.fault.FileFault.{FileFault}
@@ -18,8 +18,9 @@ use Rattle.files_core.specs.declared.fault.Stopped.{Stopped}
 use Rattle.files_core.specs.declared.fault.Word.TheVariants.{Start}
 use Rattle.files_core.specs.Opened.{IsNotOpened}
 use Rattle.lines_core.specs.InputBlocks.{AreOfAllLines}
-use Rattle.load_core.specs.Appending.{AreAllTold, GrowthsStand, HasAppendedAll, IsAppendFault, IsBatchStop, IsStopTold, each_records}
-use Rattle.load_core.specs.Loading.{AreDealt, IsLoadNotBegun, IsLoadRefusal, IsNotEnded, IsStopReason, line_behind}
+use Rattle.load_core.specs.Appending.{AreAllTold, GrowthsStand, HasAppendedAll, IsAppendFault, IsRestTold, IsTooLongStop, fault_told}
+use Rattle.lines_core.specs.declared.batches.Rest.TheVariants.{More, Nothing, Refused}
+use Rattle.load_core.specs.Loading.{IsLoadNotBegun, IsLoadRefusal, IsNotEnded, line_behind}
 
 -- letters, each its own text
 abbrev letters : Spelling ℕ
@@ -30,23 +31,23 @@ letters = record { is_value = λ n. 65 ≤ n; text_of = λ n. n ∷ [] }
 abbrev told_so : ℕ → ℕ → ℕ → Appended
 told_so growths lines size = record { growths = growths; lines = lines; size = size }
 
-abbrev stop : ℕ → ℕ → Stopped
-stop line size = record { grower = 0; line = line; fault = Full; size = size }
+-- behind 40 lines that are told, the line of the growth that the vector has no room for is the next one
+stop_told : fault_told (told_so 4 40 9) faults.OutOfRange ≡ told.Grower (record { grower = 0; line = 41; fault = TooLong; size = 9 })
+stop_told = refl
 
--- of four growths of ten lines behind two, the third wasn't made: two more stand, and the line behind theirs is told
-stop_told : IsStopTold 10 (record { growths = 2; lines = 20; size = 5 }) (told.Grower (stop 3 9)) (record { growths = 4; lines = 40; size = 9 }) (told.Grower (stop 41 9))
-stop_told = (refl, refl, refl, refl)
+-- another fault is told as it is
+memory_told : fault_told (told_so 4 40 9) faults.Memory ≡ told.Vault (Pen faults.Memory)
+memory_told = refl
 
-not_the_batch_line : (after : Appended) → IsStopTold 10 (record { growths = 2; lines = 20; size = 5 }) (told.Grower (stop 3 9)) after (told.Grower (stop 3 9)) → ⊥
-not_the_batch_line after so = let line = ap line_of so.3 in omega (arith, line, so.1)
-  where
-    line_of : FileFault → ℕ
-    line_of (told.Grower stopped) = stopped.line
-    line_of other = 0
+-- behind the lines of a batch that were all there are, more lines are told; where one is refused, no more are
+all_read : (end : Option (Result (Unit {0}) FileFault)) (now : Appended) → IsRestTold Nothing 17 (told_so 2 20 5) now end → now ≡ told_so 2 17 5
+all_read end now so = so.1
 
--- else nothing more is told
-same_told : (before after : Appended) (fault : VaultFault) (now : FileFault) → IsStopTold 10 before (told.Vault fault) after now → (after ≡ before) × (now ≡ told.Vault fault)
-same_told before after fault now so = so
+none_more_told : (end : Option (Result (Unit {0}) FileFault)) (now : Appended) → IsRestTold (Refused (refusals.Line 3)) 17 (told_so 2 20 5) now end → now ≡ told_so 2 20 5
+none_more_told end now so = so.2
+
+not_over : IsRestTold More 17 (told_so 2 20 5) (told_so 2 20 5) (Some (Ok tt)) → ⊥
+not_over so = let is : ◌≡◌ {A = Option (Result (Unit {0}) FileFault)} (Some (Ok tt)) None = so.0 in cc is
 
 -- line 8 is that of the third growth of the second of three growers, which made two
 lines_of_growers : (line_behind 3 1 2 ≡ 8) × (line_behind 1 0 0 ≡ 1)
@@ -81,9 +82,22 @@ module _ (form : Encoding ℕ) (b : ℕ) where
   never_by_a_word : (left : Disks) (appended : Appended) → Appended_not left appended (told.Word Start) → ⊥
   never_by_a_word left appended so = so
 
+  never_unsettled : (left : Disks) (appended : Appended) (number : ℕ) → Appended_not left appended (told.Vault (Unsettled number)) → ⊥
+  never_unsettled left appended number so = so
+
+  -- a call of the disk that failed is told as such
+  never_broken : (left : Disks) (appended : Appended) → Appended_not left appended (told.Vault (Pen faults.Broken)) → ⊥
+  never_broken left appended so = so.7
+
   -- at a line all that stands is told
-  at_a_line : (left : Disks) (appended : Appended) → Appended_not left appended (told.Input (refusals.Line 3)) → (made : List (Growth ℕ)) × GrowthsStand form itself disk left appended made []
+  at_a_line : (left : Disks) (appended : Appended) → Appended_not left appended (told.Input (refusals.Line 3))
+      → (made : List (List ℕ)) × GrowthsStand form itself disk left appended made []
   at_a_line left appended so = (so.0, so.1 tt)
+
+  -- and where memory was refused, which is no fault of the disk
+  for_want_of_memory : (left : Disks) (appended : Appended) → Appended_not left appended (told.Vault (Pen faults.Memory))
+      → (made : List (List ℕ)) × GrowthsStand form itself disk left appended made []
+  for_want_of_memory left appended so = (so.0, subst (λ (more : List (List ℕ)). GrowthsStand form itself disk left appended so.0 more) (so.6 refl) (so.2 tt))
 
   unloaded : (left : Disks) (fault : OpenFault) → IsLoadRefusal form known itself no_fault ((b ∷ []) ∷ []) 1 disk left (told.Open fault) → IsNotOpened form known itself no_fault disk left fault
   unloaded left fault so = so
@@ -96,21 +110,22 @@ module _ (form : Encoding ℕ) (b : ℕ) where
 
   module _ (left : Disks) (appended : Appended) where
     all_appended : HasAppendedAll form known itself letters 1 None disk left appended
-        → (made : List (Growth ℕ)) × GrowthsStand form itself disk left appended made [] × AreAllTold letters 1 None appended made
+        → (made : List (List ℕ)) × GrowthsStand form itself disk left appended made [] × AreAllTold letters 1 None appended made
     all_appended so = (so.0, so.1 tt, so.2)
 
 -- the lines that are told are all of the input
-all_lines : (input : Option (List ℕ)) (appended : Appended) (made : List (Growth ℕ)) → AreAllTold letters 2 input appended made
-    → (count : ℕ) × AreOfAllLines letters 2 input (each_records made) count × (appended.lines ≡ min (2 ^ 64 - 1) count)
+all_lines : (input : Option (List ℕ)) (appended : Appended) (made : List (List ℕ)) → AreAllTold letters 2 input appended made
+    → (count : ℕ) × AreOfAllLines letters 2 input made count × (appended.lines ≡ min (2 ^ 64 - 1) count)
 all_lines input appended made so = so
 
--- behind 40 lines that are told the grower stopped at the next one, and that is told of just what stands
-stopped_behind : (made : List (Growth ℕ)) (stopped : Stopped) → IsBatchStop 8 (told_so 4 40 9) made stopped → (stopped.grower ≡ 0) × (stopped.line ≡ 41) × (stopped.size ≡ 9)
-stopped_behind made stopped so = (so.grower_is, so.line_is, so.size_is)
+-- behind 40 lines that are told the grower stopped at the next one, for want of room, and that is told of just what stands
+module _ (input : Option (List ℕ)) (made : List (List ℕ)) (stopped : Stopped) (so : IsTooLongStop letters 10 input (told_so 4 40 9) made stopped) where
+  stopped_behind : (stopped.grower ≡ 0) × (stopped.line ≡ 41) × (stopped.size ≡ 9) × (stopped.fault ≡ TooLong)
+  stopped_behind = (so.grower_is, so.line_is, so.size_is, so.fault_is)
 
-in_its_batch : (made : List (Growth ℕ)) (stopped : Stopped) (so : IsBatchStop 8 (told_so 4 40 9) made stopped)
-    → (made ≡ so.before ++ so.own) × AreDealt so.batch 1 so.own × IsStopReason 8 so.batch 1 so.own stopped
-in_its_batch made stopped so = (so.made_are, so.own_are, so.why)
+  -- so the next growth was a long one
+  long_next : 2 ^ 32 - 9 < length so.next
+  long_next = let past = so.past in let size = so.size_is in omega arith
 
 -- what a crew gave up is what its flusher knows, of a phase with a seat for each grower
 module _ {R D : Type 0} (keeps : D → Type 0) (left : D) (made : List (Growth R)) (fault : VaultFault) where

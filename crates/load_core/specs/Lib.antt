@@ -1,3 +1,4 @@
 pub mod Dealt
 pub mod Loading
+pub mod Groups
 pub mod Appending

@@ -5,13 +5,16 @@ ghost use Rattle.std.specs.Io.KnownBytes.{Appends};
 ghost use Rattle.std.specs.NonZero.{non_zero_u32_get};
 ghost use Rattle.files_core.specs.Ended.{WritesText};
 ghost use Rattle.files_core.specs.Texts.{appended_line};
-ghost use Rattle.load_core.specs.Appending.{IsStopTold};
+ghost use Rattle.load_core.specs.Appending.{fault_told};
 
+use book_core::GrowFault;
 use files_core::{Appended, Ended, FileFault, Stopped};
+use pen_core::PenFault;
 use std::io;
 use std::io::Write;
 use std::num::NonZeroU32;
 use text_core::{write_line, write_numbered};
+use vault_core::VaultFault;
 
 /// No growth, in a file of so many records.
 pub(crate) fn none_appended(size: u64) -> Appended
@@ -43,34 +46,20 @@ pub(crate) fn more_appended(
     }
 }
 
-/// What is told where a crew stopped so in a batch behind these: behind a grower's fault the growths of the batch that it
-/// made stand, and its line is that of the whole input.
-fn behind_stop(appended: Appended, block: NonZeroU32, fault: FileFault) -> (Appended, FileFault)
-    ensures { IsStopTold (non_zero_u32_get block) appended fault result.0 result.1 }
+/// What is told of a fault of the pen behind growths that are told: where the vector has no room for the next growth, its
+/// grower stops at the line behind theirs.
+pub(crate) fn fault_behind(appended: &Appended, fault: PenFault) -> FileFault
+    ensures { result ≡ fault_told appended.now fault }
 {
     match fault {
-        FileFault::Grower(stopped) => {
-            let made = stopped.line.saturating_sub(1);
-            let told = more_appended(appended, made, block, stopped.size);
-            let stopped = Stopped {
-                grower: stopped.grower,
-                line: told.lines.saturating_add(1),
-                fault: stopped.fault,
-                size: stopped.size,
-            };
-            (told, FileFault::Grower(stopped))
-        }
-        other => (appended, other),
+        PenFault::OutOfRange => FileFault::Grower(Stopped {
+            grower: 0,
+            line: appended.lines.saturating_add(1),
+            fault: GrowFault::TooLong,
+            size: appended.size,
+        }),
+        fault => FileFault::Vault(VaultFault::Pen(fault)),
     }
-}
-
-/// Tells that a crew stopped so in a batch behind these, and gives what is told of its fault.
-pub(crate) fn tell_stop(appended: &mut Appended, block: NonZeroU32, fault: FileFault) -> FileFault
-    ensures { IsStopTold (non_zero_u32_get block) appended.old fault appended.new result }
-{
-    let (told, fault) = behind_stop(*appended, block, fault);
-    *appended = told;
-    fault
 }
 
 fn write_appended<W: Write>(writer: &mut W, appended: Appended) -> io::Result<()>

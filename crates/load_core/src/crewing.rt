@@ -4,8 +4,7 @@ ghost use Rattle.std.specs.Prelude.{◌≡◌, ◌<◌, ◌≤◌, ◌^◌, ◌+
 ghost use Rattle.load_core.specs.Dealt.{count_for, dealt};
 
 use block_core::{Fresh, FreshFault};
-use book_core::Receipt;
-use crew_core::{Gate, Source};
+use crew_core::Source;
 use record_core::Record;
 use segment_core::Growths;
 use std::alloc::Global;
@@ -60,20 +59,6 @@ impl<R: Copy> Dealt<R> {
         self.growths
             .growth(k as usize * self.growers as usize + grower as usize)
     }
-}
-
-/// Holds nobody up, and tells nobody.
-#[derive(Clone, Copy)]
-pub struct OpenGate;
-
-impl Gate for OpenGate {
-    ghost may_stop = { λ _ _ _. ⊥ };
-
-    fn before(&self, _grower: u16, _k: u32) -> bool {
-        true
-    }
-
-    fn after(&self, _grower: u16, _receipt: &Receipt) {}
 }
 
 /// It lends each growth, so a crew asks for no block. Who asks for one is answered `Memory`: the toolchain passes no method of

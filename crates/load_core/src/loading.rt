@@ -143,13 +143,7 @@ fn grow_dealt<R: Record, S: Source<R>, D: Disk + Send + Drop, G: Gate, E: Thread
 
 /// Appends growths to a vault by a crew of so many growers: growth `k`, counted from 0, is made by grower `k` modulo their
 /// number. Gives the vault back where all were made.
-pub(crate) fn grow_by<
-    R: Record,
-    S: Deck<R> + Drop,
-    D: Disk + Send + Drop,
-    G: Gate,
-    E: Threads + Wait + Sync,
->(
+fn grow_by<R: Record, S: Deck<R> + Drop, D: Disk + Send + Drop, G: Gate, E: Threads + Wait + Sync>(
     rt: &E,
     alloc: Global,
     vault: Vault<R, D>,

@@ -1,6 +1,6 @@
 use Rattle.std.proofs.Common.{◌∷◌, ◌++◌, []}
 use Rattle.std.specs.Prelude.{codes, decimal}
-use Rattle.files_core.proofs.Written.{appends_join, appends_last}
+use Rattle.text_core.proofs.Written.{appends_join, appends_last}
 use Rattle.load_core.proofs.appended.write_appended.Goals as goal
 
 pub returns : goal.returns

@@ -1,54 +1,53 @@
-use Rattle.std.proofs.Common.{◌≡◌, ◌+◌, ◌-◌, ◌^◌, min, arith}
+use Rattle.std.proofs.Common.{◌≡◌, length, sym, ap, ◌∙◌}
+use Rattle.std.specs.Prelude.{OnOk, IfErr}
 use Rattle.std.specs.NonZero.{non_zero_u32_get}
-use Rattle.lines_core.specs.Batches.{AreReadSo}
-use Rattle.lines_core.specs.InputBlocks.{AreFirstBlocks}
-use Rattle.lines_core.specs.declared.batches.Rest.TheVariants.{More}
-use Rattle.lines_core.proofs.FirstBlocks.{counted_on, read_more}
-use Rattle.load_core.proofs.Standing.{StopsBehind, gone_counted, gone_same, stopped_with}
+use Rattle.load_core.specs.Groups.{IsRowSettled, IsRowStop}
+use Rattle.load_core.proofs.Standing.{CommitsBatch, batch_over, batch_stopped, kept_on}
 use Rattle.load_core.proofs.appending.append_batch.Goals as goal
 
-pub returns-in-Ok-clause-on : goal.returns-in-Ok-clause-on
-returns-in-Ok-clause-on g c v input coming left read gone =
-    let spelling = g.R.TextRecord.spelling in
-    let block = non_zero_u32_get c.args.block in
-    let batch = c.args.batch in
-    let counted = min (2 ^ 64 - 1) (c.args.appended.now.lines + batch.lines) in
-    gone_same g.R.Record.form g.D.Disk.keeps g.D.Disk.states (batch.rest ≡ More) (AreReadSo spelling block input left counted batch.rest) (AreFirstBlocks spelling block input left)
-    block v c.in-Ok.grown c.more_appended.result c.go_on.new.appended c.go_on.result
-    (gone_counted g.R.Record.form g.D.Disk.keeps g.D.Disk.states (AreFirstBlocks spelling block input coming) (AreReadSo spelling block input left counted batch.rest)
-    block v c.args.vault c.in-Ok.grown c.args.appended.now c.more_appended.result _ _ _ gone
-    (λ one is first. counted_on spelling block input coming left one batch.growths.0 c.args.appended.now.lines batch.lines batch.rest is first read) c.in-Ok.ensures.on
-    c.count-count.ensures c.len.ensures.is c.more_appended.ensures.size c.more_appended.ensures.growths c.more_appended.ensures.lines)
-    (λ more gs so. read_more spelling block input left counted gs batch.rest more so) c.go_on.ensures.on
-
-pub returns-in-Ok-clause-over : goal.returns-in-Ok-clause-over
-returns-in-Ok-clause-over g c v input coming left read gone =
-    let spelling = g.R.TextRecord.spelling in
-    let block = non_zero_u32_get c.args.block in
-    let batch = c.args.batch in
-    let counted = min (2 ^ 64 - 1) (c.args.appended.now.lines + batch.lines) in
-    c.go_on.ensures.over block v input left
-    (gone_counted g.R.Record.form g.D.Disk.keeps g.D.Disk.states (AreFirstBlocks spelling block input coming) (AreReadSo spelling block input left counted batch.rest)
-    block v c.args.vault c.in-Ok.grown c.args.appended.now c.more_appended.result _ _ _ gone
-    (λ one is first. counted_on spelling block input coming left one batch.growths.0 c.args.appended.now.lines batch.lines batch.rest is first read) c.in-Ok.ensures.on
-    c.count-count.ensures c.len.ensures.is c.more_appended.ensures.size c.more_appended.ensures.growths c.more_appended.ensures.lines)
-
-pub returns-in-Err-clause-over : goal.returns-in-Err-clause-over
-returns-in-Err-clause-over g c v input coming left read gone =
-    let spelling = g.R.TextRecord.spelling in
-    let block = non_zero_u32_get c.args.block in
-    let stops : StopsBehind g.R.Record.form g.D.Disk.keeps g.D.Disk.states spelling block input v c.in-Err.disk c.tell_stop.new.appended c.in-Err.fault c.tell_stop.result = record {
+pub returns-in-Ok-clause-appended : goal.returns-in-Ok-clause-appended
+returns-in-Ok-clause-appended g c start input coming left read so_far =
+    let e = c.settle_row-settled.ensures in
+    let pen = c.settle_row-settled.new.pen in
+    let growths = c.args.batch.growths.0 in
+    let row : OnOk c.settle_row-settled.result.1 (IsRowSettled g.R.Record.form g.D.Disk.keeps g.D.Disk.states growths c.args.pen.now pen) = e.settled in
+    let all : OnOk c.settle_row-settled.result.1 (c.settle_row-settled.result.0 ≡ length growths) = e.all in
+    let it : CommitsBatch g.R.Record.form g.D.Disk.keeps g.D.Disk.states g.R.TextRecord.spelling (non_zero_u32_get c.args.block) input start c.args.pen.now pen
+    c.args.appended.now c.more_appended.result c.settle_row-settled.result.0 = record {
       coming = coming;
-      more = left;
-      batch = c.args.batch.growths.0;
+      left = left;
+      growths = growths;
       lines = c.args.batch.lines;
       rest = c.args.batch.rest;
-      mid = c.args.vault;
-      before = c.args.appended.now;
-      few = omega (arith, c.count-count.ensures);
       read = read;
-      gone = gone;
-      stops = c.in-Err.ensures.stops;
-      tells = c.tell_stop.ensures;
+      so_far = so_far;
+      kept = kept_on g.D.Disk.keeps g.D.Disk.states pen c.disk-disk.result.now c.disk-disk.ensures.disk c.disk-disk.ensures.kept;
+      width_is = c.requires.ready.width_is ∙ sym (ap (λ s. s.width) e.shape);
+      size_is = c.more_appended.ensures.size ∙ c.len.ensures.is;
+      growths_are = c.more_appended.ensures.growths;
+      lines_are = c.more_appended.ensures.lines;
     } in
-    stopped_with g.R.Record.form g.D.Disk.keeps g.D.Disk.states c.in-Err.fault c.tell_stop.result stops
+    batch_over g.D.Disk.faults it c.go_on.new.appended c.go_on.result (rw c.in-Ok.is at all) (rw c.in-Ok.is at row) c.go_on.ensures
+
+pub returns-clause-appended : goal.returns-clause-appended
+returns-clause-appended g c start input coming left read so_far disk begin =
+    let e = c.settle_row-settled.ensures in
+    let pen = c.settle_row-settled.new.pen in
+    let growths = c.args.batch.growths.0 in
+    let stop : IfErr c.settle_row-settled.result.1 (IsRowStop g.R.Record.form g.D.Disk.keeps g.D.Disk.states growths c.settle_row-settled.result.0 c.args.pen.now pen) = e.stopped in
+    let it : CommitsBatch g.R.Record.form g.D.Disk.keeps g.D.Disk.states g.R.TextRecord.spelling (non_zero_u32_get c.args.block) input start c.args.pen.now pen
+    c.args.appended.now c.more_appended.result c.settle_row-settled.result.0 = record {
+      coming = coming;
+      left = left;
+      growths = growths;
+      lines = c.args.batch.lines;
+      rest = c.args.batch.rest;
+      read = read;
+      so_far = so_far;
+      kept = kept_on g.D.Disk.keeps g.D.Disk.states pen c.disk-disk.result.now c.disk-disk.ensures.disk c.disk-disk.ensures.kept;
+      width_is = c.requires.ready.width_is ∙ sym (ap (λ s. s.width) e.shape);
+      size_is = c.more_appended.ensures.size ∙ c.len.ensures.is;
+      growths_are = c.more_appended.ensures.growths;
+      lines_are = c.more_appended.ensures.lines;
+    } in
+    batch_stopped g.D.Disk.faults it disk begin c.in-Err.fault c.fault_behind.result (rw c.in-Err.is at stop) c.fault_behind.ensures
