@@ -1,7 +1,7 @@
 //! The lists that the images of a disk open to.
 
 use crate::choice::{KINDS, choice, choices};
-use crate::tally::BAR;
+use crate::distinct_texts::BAR;
 use disk_core::{Blow, Disk, FuseDisk, RamDisk};
 use drive_core::{Answer, Driven, Step, drive};
 use play_core::write_answers;

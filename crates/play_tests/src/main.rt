@@ -4,10 +4,10 @@
 
 mod choice;
 mod cut;
+mod distinct_texts;
 mod look;
 mod player;
 mod repeat;
-mod tally;
 mod upgrading;
 mod words;
 

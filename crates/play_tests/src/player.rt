@@ -1,10 +1,10 @@
 //! What a script has come to, and the answers to its lines.
 
 use crate::cut::{Cut, read_cut};
+use crate::distinct_texts::{BAR, DistinctTexts};
 use crate::look::{Looks, copied, driven};
 use crate::repeat::step_in;
-use crate::tally::{BAR, Tally};
-use crate::upgrading::{tally_new, tally_old, upgrade_onto};
+use crate::upgrading::{texts_of_new, texts_of_old, upgrade_onto};
 use crate::words::{last_number, next_number, next_word};
 use disk_core::{Blow, Choice, FuseDisk, ImageLength, PendingBytes, RamDisk};
 use drive_core::{Driven, Step};
@@ -82,9 +82,9 @@ impl<R: TextRecord> Player<R> {
         self.calls = calls
             .iter()
             .fold(0u64, |sum, calls| sum.saturating_add(*calls));
-        let mut tally = Tally::new(self.alloc);
-        tally.add_answers(answers, from)?;
-        tally.write(BAR, out)
+        let mut texts = DistinctTexts::new(self.alloc);
+        texts.add_answers(answers, from)?;
+        texts.write(BAR, out)
     }
 
     /// Ends the run with what a crash leaves.
@@ -183,15 +183,15 @@ impl<R: TextRecord> Player<R> {
         cut: Cut,
         out: &mut Vec<u8>,
     ) -> io::Result<()> {
-        let mut tally = Tally::new(self.alloc);
+        let mut texts = DistinctTexts::new(self.alloc);
         for calls in cut.first..=cut.last {
             let left = self.driven_on(rt, calls, cut.blow)?;
             let mut lists = Vec::new(self.alloc);
             self.looks
                 .write::<R, E>(rt, &left.disk.into_inner(), &mut lists)?;
-            tally.add(lists)?;
+            texts.add(lists)?;
         }
-        tally.write_one(out)
+        texts.write_one(out)
     }
 
     /// Writes what all steps are answered on a disk that stops or fails.
@@ -201,16 +201,16 @@ impl<R: TextRecord> Player<R> {
         cut: Cut,
         out: &mut Vec<u8>,
     ) -> io::Result<()> {
-        let mut tally = Tally::new(self.alloc);
+        let mut texts = DistinctTexts::new(self.alloc);
         for calls in cut.first..=cut.last {
             let left = self.driven_on(rt, calls, cut.blow)?;
-            let mut answers = Tally::new(self.alloc);
+            let mut answers = DistinctTexts::new(self.alloc);
             answers.add_answers(left.answers, 0)?;
             let mut text = Vec::new(self.alloc);
             answers.write(BAR, &mut text)?;
-            tally.add(text)?;
+            texts.add(text)?;
         }
-        tally.write_one(out)
+        texts.write_one(out)
     }
 
     /// Upgrades the file, and begins anew over the new one, where there is one.
@@ -236,15 +236,15 @@ impl<R: TextRecord> Player<R> {
     ) -> io::Result<()> {
         let file = self.disk.image(&NEW)?;
         let looks = &mut self.looks;
-        let tally = tally_new::<R, E>(self.alloc, rt, file.as_slice(), piece, cut, looks)?;
-        tally.write_one(out)
+        let texts = texts_of_new::<R, E>(self.alloc, rt, file.as_slice(), piece, cut, looks)?;
+        texts.write_one(out)
     }
 
     /// Upgrades the file of a disk that stops or fails.
     fn upgrade_old(&mut self, cut: Cut, piece: u64, out: &mut Vec<u8>) -> io::Result<()> {
         let file = self.disk.image(&NEW)?;
-        let tally = tally_old::<R>(self.alloc, file.as_slice(), piece, cut)?;
-        tally.write(BAR, out)
+        let texts = texts_of_old::<R>(self.alloc, file.as_slice(), piece, cut)?;
+        texts.write(BAR, out)
     }
 
     /// Answers a line of upgrades.

@@ -1,8 +1,8 @@
 //! Upgrades of the file, on disks that stop or fail.
 
 use crate::cut::Cut;
+use crate::distinct_texts::DistinctTexts;
 use crate::look::{Looks, copied};
-use crate::tally::Tally;
 use disk_core::{Disk, FuseDisk, RamDisk};
 use std::alloc::Global;
 use std::io::{self, Write};
@@ -41,40 +41,40 @@ pub fn upgrade_onto<R: TextRecord, D: Disk + Drop, E: Disk + Drop>(
 }
 
 /// What the images of the new disk open to, where it stops or fails behind so many calls.
-pub fn tally_new<R: TextRecord, E: Threads + Wait + Sync>(
+pub fn texts_of_new<R: TextRecord, E: Threads + Wait + Sync>(
     alloc: Global,
     rt: &E,
     file: &[u8],
     piece: u64,
     cut: Cut,
     looks: &mut Looks,
-) -> io::Result<Tally> {
-    let mut tally = Tally::new(alloc);
+) -> io::Result<DistinctTexts> {
+    let mut texts = DistinctTexts::new(alloc);
     for calls in cut.first..=cut.last {
         let old = RamDisk::from_bytes(alloc, copied(alloc, file)?);
         let new = FuseDisk::new(RamDisk::new(alloc), calls, cut.blow);
         let left = upgrade_onto::<R, RamDisk, FuseDisk<RamDisk>>(alloc, old, new, piece)?;
         let mut text = Vec::new(alloc);
         looks.write::<R, E>(rt, &left.new.into_inner(), &mut text)?;
-        tally.add(text)?;
+        texts.add(text)?;
     }
-    Ok(tally)
+    Ok(texts)
 }
 
 /// What is answered where the old disk stops or fails behind so many calls. No file is then begun, and the old one stays.
-pub fn tally_old<R: TextRecord>(
+pub fn texts_of_old<R: TextRecord>(
     alloc: Global,
     file: &[u8],
     piece: u64,
     cut: Cut,
-) -> io::Result<Tally> {
-    let mut tally = Tally::new(alloc);
+) -> io::Result<DistinctTexts> {
+    let mut texts = DistinctTexts::new(alloc);
     for calls in cut.first..=cut.last {
         let old = RamDisk::from_bytes(alloc, copied(alloc, file)?);
         let old = FuseDisk::new(old, calls, cut.blow);
         let new = RamDisk::new(alloc);
         let left = upgrade_onto::<R, FuseDisk<RamDisk>, RamDisk>(alloc, old, new, piece)?;
-        tally.add(left.answer)?;
+        texts.add(left.answer)?;
     }
-    Ok(tally)
+    Ok(texts)
 }

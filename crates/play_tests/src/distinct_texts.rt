@@ -10,21 +10,21 @@ use text_core::{TextRecord, write_number};
 pub const BAR: &[u8] = b" | ";
 
 #[derive(Drop)]
-struct Entry {
+struct CountedText {
     text: Vec<u8>,
     count: u64,
 }
 
 /// Texts in the order in which each came first, and how often each has come.
 #[derive(Drop)]
-pub struct Tally {
+pub struct DistinctTexts {
     alloc: Global,
-    entries: Vec<Entry>,
+    entries: Vec<CountedText>,
 }
 
-impl Tally {
-    pub fn new(alloc: Global) -> Tally {
-        Tally {
+impl DistinctTexts {
+    pub fn new(alloc: Global) -> DistinctTexts {
+        DistinctTexts {
             alloc,
             entries: Vec::new(alloc),
         }
@@ -38,7 +38,7 @@ impl Tally {
                 return Ok(());
             }
         }
-        self.entries.push(Entry { text, count: 1 })?;
+        self.entries.push(CountedText { text, count: 1 })?;
         Ok(())
     }
 
