@@ -33,7 +33,7 @@ use Rattle.drive_core.specs.Step as step
 use Rattle.drive_core.specs.World.{World, File, Hand, DiskOf, hand_of, vector}
 use Rattle.drive_core.specs.World as worlds
 use Rattle.drive_core.specs.Outcome.{stray_in}
-use Rattle.drive_core.specs.OpeningRows.{IsOpening, AreCallsOfOpening, opened, empty_file, at_rest, IsMaking, AreCallsOfMaking, HasReadFile}
+use Rattle.drive_core.specs.OpeningRows.{IsOpening, AreCallsOfOpening, with_opened, empty_file, at_rest, IsMaking, AreCallsOfMaking, HasReadFile}
 use Rattle.drive_core.specs.Rows.{ShutRow}
 use Rattle.drive_core.specs.Run.{HasCalls}
 use Rattle.drive_core.specs.Headline.{HasFile, Rests}
@@ -116,7 +116,7 @@ module _ {R D : Type 0} {m : Medium R D} {w : World R} {disk : D} (tie : IsPhase
 
     pub create_answers : {v : VaultOf R D} {answer : Answer R} → answer ≡ step.Fine → Made (Ok v) → Holds m v v.pen.disk → PhaseStep m w disk (hands.Exclusive v) (step.Create format) answer
     create_answers {v} is made rests =
-        let w' : World R = record (opened w [] (empty_file shape)) { disk = disk_of m.states m.faults v.pen.disk } in
+        let w' : World R = record (with_opened w [] (empty_file shape)) { disk = disk_of m.states m.faults v.pen.disk } in
         let some = made.later in
         let most = made.time in
         let tied : IsExclusive m w' v = record {
@@ -231,7 +231,7 @@ module _ {R D : Type 0} {m : Medium R D} {w : World R} {disk : D} (tie : IsPhase
       → PhaseStep m w disk (hands.Exclusive v) step.Open answer
   open_answers {v} is long rest read sure syncs len all calls rests =
       let two = calls.0 in
-      let w' : World R = record (opened w (list_of v) (hand_of v.pen).file) { disk = disk_of m.states m.faults v.pen.disk } in
+      let w' : World R = record (with_opened w (list_of v) (hand_of v.pen).file) { disk = disk_of m.states m.faults v.pen.disk } in
       let tied : IsExclusive m w' v = record {
         phase_is = refl;
         calm = tie.calm;

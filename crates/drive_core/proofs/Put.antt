@@ -19,7 +19,7 @@ use Rattle.drive_core.specs.Medium.{Medium}
 use Rattle.drive_core.specs.Step.{Answer}
 use Rattle.drive_core.specs.Step as step
 use Rattle.drive_core.specs.World.{World, GrowthPhase, phase_growths, vector}
-use Rattle.drive_core.specs.GrowthRows.{with_growth, receipt_of, IsPut}
+use Rattle.drive_core.specs.GrowthRows.{with_growth, put_answer, IsPut}
 use Rattle.drive_core.specs.Ties.{GrowingOf, IsGrowing, AreSeated, IsSeat, grow_of}
 use Rattle.drive_core.specs.GrowthTies.{GrowthStep}
 use Rattle.drive_core.proofs.PenFolds.{not_lt, not_le}
@@ -147,7 +147,7 @@ module _ {R D : Type 0} {m : Medium R D} {w : World R} {phase : GrowthPhase} {g 
 
   -- the receipt of a growth behind all that there were
   receipt_is : {k : ℕ} {old new : Seated R} {records : List R} {receipt : Receipt} → slice_get g.seats k ≡ Some old → (grown : Grown g.live old new records receipt)
-      → receipt.number ≡ g.puts → grown.before ≡ tie.entries → step.Grown receipt ≡ receipt_of w phase k records
+      → receipt.number ≡ g.puts → grown.before ≡ tie.entries → step.Grown receipt ≡ put_answer w phase k records
   receipt_is {k} {old} {records = records} {receipt = receipt} at grown number before i =
       step.Grown (record { number = number_is i; start = start_is i; len = grown.len i; seat = seat_is i; serial = serial_is i })
     where

@@ -11,12 +11,12 @@ use Rattle.pen_core.specs.Refusals.{first_refusal}
 use Rattle.pen_core.specs.declared.fault.PenFault.{PenFault}
 use Rattle.pen_core.specs.declared.fault.PenFault.TheVariants.{OldFormat, Runs, OutOfRange, Unfolded}
 use Rattle.drive_core.specs.World.{World, start, vector, changed_runs, changed, resize_command, fitting}
-use Rattle.drive_core.specs.OpeningRows.{opened, empty_file}
+use Rattle.drive_core.specs.OpeningRows.{with_opened, empty_file}
 use Rattle.drive_core.specs.ExclusiveRows.{committed, tests_of}
 
 -- a file of u64, of which nothing but the tables is asked
 abbrev made : Format → World ℕ
-made format = opened (start (record { states = settled [] ∷ []; faults = 0 })) [] (empty_file (shape_of format (unsigned w64)))
+made format = with_opened (start (record { states = settled [] ∷ []; faults = 0 })) [] (empty_file (shape_of format (unsigned w64)))
 
 abbrev behind : World ℕ → Option (Command ℕ) → World ℕ
 behind w None = w

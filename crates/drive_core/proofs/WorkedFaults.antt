@@ -15,7 +15,7 @@ use Rattle.drive_core.specs.Outcome.{struck}
 use Rattle.drive_core.specs.Step as step
 use Rattle.drive_core.specs.World.{World}
 use Rattle.drive_core.specs.OpeningRows.{AreCallsOfMaking, IsMaking}
-use Rattle.drive_core.specs.GrowthRows.{IsPut, put_lines, receipt_of, within, knowing, with_growth}
+use Rattle.drive_core.specs.GrowthRows.{IsPut, put_lines, put_answer, within, knowing, with_growth}
 use Rattle.drive_core.proofs.WorkedSteps.{one, two, phase_of}
 
 -- ---- a put of no record, where two growths were put and the seat knows one
@@ -58,14 +58,14 @@ puts refused = elim refused [
 
 -- ---- a put that is made: of one record, behind a growth of two
 
-one_more : (receipt : Receipt) (w : World ℕ) → IsPut 8 one (phase_of one.phase) 1 (3 ∷ []) (step.Grown receipt) w → (w ≡ two) × (step.Grown receipt ≡ receipt_of one (phase_of one.phase) 1 (3 ∷ []))
+one_more : (receipt : Receipt) (w : World ℕ) → IsPut 8 one (phase_of one.phase) 1 (3 ∷ []) (step.Grown receipt) w → (w ≡ two) × (step.Grown receipt ≡ put_answer one (phase_of one.phase) 1 (3 ∷ []))
 one_more receipt w put = elim put [
   | inl made ↦ (made.1.1, made.1.0)
   | inr why ↦ (let is = why.2 in absurd cc)
 ]
 
 -- the seat's second growth has the serial 1
-second_serial : receipt_of two (phase_of two.phase) 0 (4 ∷ []) ≡ step.Grown (record { number = 2; start = 3; len = 1; seat = 0; serial = 1 })
+second_serial : put_answer two (phase_of two.phase) 0 (4 ∷ []) ≡ step.Grown (record { number = 2; start = 3; len = 1; seat = 0; serial = 1 })
 second_serial = refl
 
 -- one that no frame holds is refused

@@ -15,8 +15,8 @@ use Rattle.drive_core.specs.declared.fault.StepFault.TheVariants.{Vault, Grow}
 use Rattle.drive_core.specs.Line.{Might, Allows, is_vault_memory}
 use Rattle.drive_core.specs.Step as step
 use Rattle.drive_core.specs.World.{World, GrowthPhase, DrivePhase, Shut, Exclusive, Growing, start, vector, next_group}
-use Rattle.drive_core.specs.OpeningRows.{opened, empty_file}
-use Rattle.drive_core.specs.GrowthRows.{within, knowing, with_growth, receipt_of, with_group}
+use Rattle.drive_core.specs.OpeningRows.{with_opened, empty_file}
+use Rattle.drive_core.specs.GrowthRows.{within, knowing, with_growth, put_answer, with_group}
 use Rattle.drive_core.specs.ExclusiveRows.{share_lines, first_growth}
 use Rattle.drive_core.specs.LaneRows.{done, fold_lines}
 
@@ -24,7 +24,7 @@ use Rattle.drive_core.specs.LaneRows.{done, fold_lines}
 
 -- a new file of u64
 abbrev pub made : World ℕ
-made = opened (start (record { states = settled [] ∷ []; faults = 0 })) [] (empty_file (shape_of One (unsigned w64)))
+made = with_opened (start (record { states = settled [] ∷ []; faults = 0 })) [] (empty_file (shape_of One (unsigned w64)))
 
 abbrev pub phase_of : DrivePhase → GrowthPhase
 phase_of Shut = first_growth made 8 2
@@ -40,10 +40,10 @@ one = with_growth shared (phase_of shared.phase) 0 (1 ∷ 2 ∷ [])
 abbrev pub two : World ℕ
 two = with_growth one (phase_of one.phase) 1 (3 ∷ [])
 
-first_receipt : receipt_of shared (phase_of shared.phase) 0 (1 ∷ 2 ∷ []) ≡ step.Grown (record { number = 0; start = 0; len = 2; seat = 0; serial = 0 })
+first_receipt : put_answer shared (phase_of shared.phase) 0 (1 ∷ 2 ∷ []) ≡ step.Grown (record { number = 0; start = 0; len = 2; seat = 0; serial = 0 })
 first_receipt = refl
 
-second_receipt : receipt_of one (phase_of one.phase) 1 (3 ∷ []) ≡ step.Grown (record { number = 1; start = 2; len = 1; seat = 1; serial = 0 })
+second_receipt : put_answer one (phase_of one.phase) 1 (3 ∷ []) ≡ step.Grown (record { number = 1; start = 2; len = 1; seat = 1; serial = 0 })
 second_receipt = refl
 
 vector_is : vector two ≡ 1 ∷ 2 ∷ 3 ∷ []

@@ -63,8 +63,8 @@ module _ {R : Type 0} where
     history = w.history ++ Grow records ∷ [];
   }
 
-  abbrev pub receipt_of : World R → GrowthPhase → ℕ → List R → Answer R
-  receipt_of w phase seat records = step.Grown (record {
+  abbrev pub put_answer : World R → GrowthPhase → ℕ → List R → Answer R
+  put_answer w phase seat records = step.Grown (record {
     number = length (phase_growths w phase);
     start = length (vector w);
     len = length records;
@@ -75,7 +75,7 @@ module _ {R : Type 0} where
 module _ {R : Type 0} (width : ℕ) where
   abbrev pub IsPut : World R → GrowthPhase → ℕ → List R → Answer R → World R → Type 0
   IsPut w phase seat records answer w' = Outcome (put_lines width w phase records) answer
-      ((answer ≡ receipt_of w phase seat records) × (w' ≡ with_growth w phase seat records))
+      ((answer ≡ put_answer w phase seat records) × (w' ≡ with_growth w phase seat records))
       (λ fault. (n : ℕ) × MayKnow w phase (Some seat) n × (w' ≡ struck (within w (knowing phase (Some seat) n)) fault))
 
 module _ {R : Type 0} where

@@ -67,13 +67,13 @@ module _ {R : Type 0} where
   NotCreated keeps shape w w' (InGrow fault) = ⊥
   NotCreated keeps shape w w' (Scan fault) = ⊥
 
-  abbrev pub opened : World R → List R → File → World R
-  opened w base file = record w { phase = Exclusive; base = base; history = []; settled = 0; hand = at_rest file }
+  abbrev pub with_opened : World R → List R → File → World R
+  with_opened w base file = record w { phase = Exclusive; base = base; history = []; settled = 0; hand = at_rest file }
 
 module _ {R : Type 0} (form : Encoding R) where
   abbrev pub IsCreate : Type 0 → World R → Format → Answer R → World R → Type 0
   IsCreate keeps w format answer w' = Outcome (Might is_vault_memory ∷ Might is_disk ∷ Might is_exists ∷ []) answer
-      ((answer ≡ step.Fine) × (keeps → IsExisting (bytes_of w.disk.states) → ⊥) × HasTriedToMake keeps (shape_of format form) None w w' × (w' ≡ elsewhere (opened w [] (empty_file (shape_of format form))) w'))
+      ((answer ≡ step.Fine) × (keeps → IsExisting (bytes_of w.disk.states) → ⊥) × HasTriedToMake keeps (shape_of format form) None w w' × (w' ≡ elsewhere (with_opened w [] (empty_file (shape_of format form))) w'))
       (NotCreated keeps (shape_of format form) w w')
 
   -- the vector of these bytes, and what a pen counts of them
@@ -95,5 +95,5 @@ module _ {R : Type 0} (form : Encoding R) where
   abbrev pub IsOpen : Type 0 → World R → Answer R → World R → Type 0
   IsOpen keeps w answer w' = Outcome (Might is_disk ∷ Might is_scan ∷ []) answer
       ((base : List R) × (file : File) × (answer ≡ step.Size (length base)) × (keeps → HasReadFile (bytes_of w.disk.states) base file)
-      × HasTriedToOpen keeps None w w' × (w' ≡ elsewhere (opened w base file) w'))
+      × HasTriedToOpen keeps None w w' × (w' ≡ elsewhere (with_opened w base file) w'))
       (NotOpened keeps w w')
