@@ -117,7 +117,12 @@ fn run_all<
     let given = Snapshot::of(&pipes);
     let mut seats = seats;
     let mut away = room;
-    if start_all(scope, rt, alloc, start, live, &mut seats, pipes, &mut away) {
+    // Held until it is known whether each client has a thread.
+    let mut all_run = start.all_run.lock(rt);
+    let started = start_all(scope, rt, alloc, start, live, &mut seats, pipes, &mut away);
+    *all_run = started;
+    drop(all_run);
+    if started {
         serve_clients(rt, live, flusher, &given, away, seats)
     } else {
         Err(ServeFault::Thread)
@@ -200,20 +205,19 @@ fn serve_phase<
 >(
     rt: &E,
     alloc: Global,
-    live: &Live<R>,
-    flusher: Flusher<R, D>,
-    seats: Vec<Seat<R>>,
+    begun: (Live<R>, Flusher<R, D>, Vec<Seat<R>>),
     pipes: Vec<Pipes<I, W>>,
 ) -> (D, Served, Result<(), ServeFault>)
-    requires of { IsFlusherOf (D.keeps flusher.pen.disk) live.now flusher }
-    requires new { AreNewSeats live.now.directory live.now.mark seats.items }
-    requires as_many { vec_len seats ≡ vec_len pipes }
-    ensures { (phase : IsPhaseLeft R.form D.keeps D.states D.faults live.now flusher result.0 result.1.growths result.2)
-        × TakesClientsIn R.form D.keeps D.states live.now I.remaining W.contents pipes.items phase.flusher result.2 }
+    requires of { IsFlusherOf (D.keeps begun.1.pen.disk) begun.0 begun.1 }
+    requires new { AreNewSeats begun.0.directory begun.0.mark begun.2.items }
+    requires as_many { vec_len begun.2 ≡ vec_len pipes }
+    ensures { (phase : IsPhaseLeft R.form D.keeps D.states D.faults begun.0 begun.1 result.0 result.1.growths result.2)
+        × TakesClientsIn R.form D.keeps D.states begun.0 I.remaining W.contents pipes.items phase.flusher result.2 }
 {
+    let (live, flusher, seats) = begun;
     match Vec::with_capacity(alloc, pipes.len()) {
         Ok(room) => {
-            let (flusher, served) = run_phase(rt, alloc, live, flusher, seats, pipes, room);
+            let (flusher, served) = run_phase(rt, alloc, &live, flusher, seats, pipes, room);
             let (disk, growths) = disk_of(flusher);
             (disk, Served { growths }, served)
         }
@@ -247,7 +251,7 @@ fn serve_vault<
 {
     let count = pipes.len().min(u16::MAX as usize) as u16;
     match vault.share(GROWTH_LIMIT, count) {
-        Ok((live, flusher, seats)) => serve_phase(rt, alloc, &live, flusher, seats, pipes),
+        Ok(begun) => serve_phase(rt, alloc, begun, pipes),
         Err((vault, fault)) => (
             vault.into_disk(),
             Served { growths: 0 },

@@ -15,39 +15,40 @@ use std::io::{Read, Write};
 use std::sync::Wait;
 use std::thread::Scope;
 
-/// Starts a client's thread, if the system does. What it refuses is let go.
-fn start_client<
-    's,
+impl<'e, R: Record + 'e, I: Read + Send + Drop + 'e, W: Write + Send + Drop + 'e> Client<
     'e,
-    R: Record + 'e,
-    I: Read + Send + Drop + 'e,
-    W: Write + Send + Drop + 'e,
-    E: Wait + Sync + 'e,
->(
-    scope: &'s Scope<'s, &'e ()>,
-    rt: &'e E,
-    alloc: Global,
-    start: &'e Start,
-    client: Client<'e, R, I, W>,
-) -> Option<Away<R, I, W>>
-    ensures { IfSome result (λ away. (away.live ≡ client.entry.live.now) × (away.seat ≡ client.entry.seat) × (away.pipes ≡ client.entry.pipes)) }
-{
-    let started = scope.spawn_with(
-        Finishes::of(&client),
-        move || -> Finished<R, I, W>
-            ensures { IsSeatOf client.entry.live.now result.seat × HasFinished R.form client.entry.live.now client.entry.seat result.seat (I.remaining client.entry.pipes.requests) (I.remaining result.pipes.requests)
-                (W.contents client.entry.pipes.answers) (W.contents result.pipes.answers) result.end }
-        { client.run(rt, alloc, start) },
-    );
-    match started {
-        Ok(handle) => Some(Away::of(handle)),
-        Err(_) => None,
+    R,
+    I,
+    W,
+> {
+    /// Starts its thread, if the system does. What it refuses is let go.
+    fn start<'s, E: Wait + Sync + 'e>(
+        self,
+        scope: &'s Scope<'s, &'e ()>,
+        rt: &'e E,
+        alloc: Global,
+        start: &'e Start,
+    ) -> Option<Away<R, I, W>>
+        ensures { IfSome result (λ away. (away.live ≡ self.entry.live.now) × (away.seat ≡ self.entry.seat) × (away.pipes ≡ self.entry.pipes)) }
+    {
+        let client = self;
+        let started = scope.spawn_with(
+            Finishes::of(&client),
+            move || -> Finished<R, I, W>
+                ensures { IsSeatOf client.entry.live.now result.seat × HasFinished R.form client.entry.live.now client.entry.seat result.seat (I.remaining client.entry.pipes.requests) (I.remaining result.pipes.requests)
+                    (W.contents client.entry.pipes.answers) (W.contents result.pipes.answers) result.end }
+            { client.run(rt, alloc, start) },
+        );
+        match started {
+            Ok(handle) => Some(Away::of(handle)),
+            Err(_) => None,
+        }
     }
 }
 
 /// Starts the threads of clients with these seats and pipes, from the last on, up to the first that the system refuses.
 /// Whether all have one.
-fn start_each<
+pub fn start_all<
     's,
     'e,
     R: Record + 'e,
@@ -73,40 +74,10 @@ fn start_each<
     let mut pipes = pipes;
     for _ in 0..pipes.len() {
         let client = take_client(live, seats, &mut pipes);
-        match start_client(scope, rt, alloc, start, client) {
+        match client.start(scope, rt, alloc, start) {
             Some(started) => away.push_reserved(started),
             None => return false,
         }
     }
     true
-}
-
-/// Starts the threads of all clients, and says then whether each has one.
-pub fn start_all<
-    's,
-    'e,
-    R: Record + 'e,
-    I: Read + Send + Drop + 'e,
-    W: Write + Send + Drop + 'e,
-    E: Wait + Sync + 'e,
->(
-    scope: &'s Scope<'s, &'e ()>,
-    rt: &'e E,
-    alloc: Global,
-    start: &'e Start,
-    live: &'e Live<R>,
-    seats: &mut Vec<Seat<R>>,
-    pipes: Vec<Pipes<I, W>>,
-    away: &mut Vec<Away<R, I, W>>,
-) -> bool
-    requires new { AreNewSeats live.now.directory live.now.mark seats.old.items }
-    requires as_many { vec_len seats.old ≡ vec_len pipes }
-    requires room { (vec_len away.old ≡ 0) × (vec_len pipes ≤ vec_capacity away.old) }
-    ensures begun { IsTrue result → AreBegun live.now pipes.items away.new.items × (vec_len away.new ≡ vec_len pipes) }
-    ensures seats { IsTrue result → (vec_len seats.new ≡ 0) × (vec_len pipes ≤ vec_capacity seats.new) }
-{
-    let mut all_run = start.all_run.lock(rt);
-    let started = start_each(scope, rt, alloc, start, live, seats, pipes, away);
-    *all_run = started;
-    started
 }

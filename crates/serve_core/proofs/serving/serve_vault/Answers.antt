@@ -21,13 +21,13 @@ pub returns-in-Ok-clause-left : goal.returns-in-Ok-clause-left
 returns-in-Ok-clause-left g c = λ disk from kept.
     let phase = c.serve_phase.result in
     phase_left g.R.Record.form g.D.Disk.keeps g.D.Disk.states disk c.args.vault from.opened from.only_syncs
-    g.D.Disk.faults growth_limit c.min-count.result c.in-Ok.live c.in-Ok.flusher c.in-Ok.ensures.shares phase.0 phase.1.growths phase.2 c.serve_phase.ensures.0 kept
+    g.D.Disk.faults growth_limit c.min-count.result c.in-Ok.begun.0 c.in-Ok.begun.1 c.in-Ok.ensures.shares phase.0 phase.1.growths phase.2 c.serve_phase.ensures.0 kept
 
 pub returns-in-Ok-clause-clients : goal.returns-in-Ok-clause-clients
 returns-in-Ok-clause-clients g c = λ disk from kept.
     let phase = c.serve_phase.result in
     phase_clients g.R.Record.form g.D.Disk.keeps g.D.Disk.states disk c.args.vault from.opened from.only_syncs
-    g.D.Disk.faults growth_limit c.min-count.result c.in-Ok.live c.in-Ok.flusher c.in-Ok.ensures.shares g.I.Read.remaining g.W.Write.contents c.args.pipes.items
+    g.D.Disk.faults growth_limit c.min-count.result c.in-Ok.begun.0 c.in-Ok.begun.1 c.in-Ok.ensures.shares g.I.Read.remaining g.W.Write.contents c.args.pipes.items
     phase.0 phase.1.growths phase.2 c.serve_phase.ensures.0 c.serve_phase.ensures.1 kept
 
 pub returns-in-Ok-clause-refused : goal.returns-in-Ok-clause-refused

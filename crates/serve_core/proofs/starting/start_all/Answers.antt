@@ -3,7 +3,7 @@ use Rattle.std.proofs.lemmas.List.{length_push}
 use Rattle.book_core.specs.Beginning.{IsNewSeat}
 use Rattle.serve_core.specs.Clients.{AreBegun}
 use Rattle.serve_core.proofs.Clients.{begun_is, begun_more, front_rest}
-use Rattle.serve_core.proofs.starting.start_each.Goals as goal
+use Rattle.serve_core.proofs.starting.start_all.Goals as goal
 
 pub loop-preserved : goal.loop-preserved
 loop-preserved g c =

@@ -1,7 +1,7 @@
 use Rattle.std.proofs.Common.{◌≡◌, ℕ, ◌+◌, ◌≤◌, slice_get, Some, vec_len, vec_capacity}
 use Rattle.book_core.specs.Beginning.{AreNewSeats}
 use Rattle.serve_core.specs.Clients.{AreBegun}
-use Rattle.serve_core.proofs.starting.start_each.Given as goal
+use Rattle.serve_core.proofs.starting.start_all.Given as goal
 
 -- The pipes that are left are the first of those that were given; the clients of the others have threads.
 abbrev pub invariant-loop : goal.invariant-loop
