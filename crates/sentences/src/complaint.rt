@@ -2,15 +2,20 @@
 
 ghost use Rattle.std.specs.Prelude.{◌≡◌};
 
+use crate::beside::{BesideFault, write_beside};
 use crate::bytes::write_open;
 use crate::input::{write_input, write_word};
-use crate::role::{Role, name_of, write_in_use, write_not_opened};
-use crate::vault::{about_new, write_growth_fault, write_served_fault, write_stopped, write_vault};
+use crate::role::{Role, name_of, only_reads, write_in_use, write_not_opened};
+use crate::vault::{
+    about_new, write_commit_fault, write_growth_fault, write_resize_fault, write_stopped,
+    write_vault,
+};
 use files_core::{Appended, FileFault};
 use lines_core::Excerpt;
+use pen_core::PenFault;
 use std::fmt::{self, Display, Formatter};
 use std::io;
-use vault_core::UpgradeFault;
+use vault_core::{UpgradeFault, VaultFault};
 use words_core::{FileTask, FileWords, Request, StatWords};
 
 /// Why a command over a file is refused.
@@ -28,6 +33,8 @@ pub enum Complaint {
     Appended(Appended, FileFault),
     /// `serve` was refused when so many growths of its clients were settled.
     Served(u64, FileFault),
+    /// A command that reads beside a writer was refused as no other one is.
+    Beside(BesideFault),
 }
 
 impl From<FileFault> for Complaint {
@@ -77,8 +84,13 @@ fn write_fault<W: fmt::Write>(
         FileFault::Input(refusal) => write_input(f, words, refusal, shown),
         FileFault::Open(fault) => write_open(f, words.file, Some(words.record_type), fault),
         FileFault::Vault(fault) => match words.task {
-            FileTask::Load(_) | FileTask::Append { .. } => write_growth_fault(f, words.file, fault),
-            FileTask::Serve(_) => write_served_fault(f, words.file, fault),
+            FileTask::Load(_) => write_growth_fault(f, words.file, fault),
+            FileTask::Append { .. } | FileTask::Serve(_) => {
+                write_commit_fault(f, words.file, fault)
+            }
+            FileTask::Resize { in_parts, .. } => {
+                write_resize_fault(f, words.file, fault, in_parts)
+            }
             _ => write_vault(f, words.file, fault),
         },
         FileFault::Grower(stopped) => write_stopped(f, words.file, stopped),
@@ -95,20 +107,22 @@ fn write_wrong<W: fmt::Write>(
 ) -> fmt::Result {
     match complaint {
         Complaint::NotOpened(role, error) => {
-            write_not_opened(f, name_of(words, *role), *role, error)
+            let only_reads = only_reads(words.task, *role);
+            write_not_opened(f, name_of(words, *role), *role, error, only_reads)
         }
         Complaint::InUse(role) => write_in_use(f, name_of(words, *role), words.wait),
         Complaint::Fault(fault)
         | Complaint::Damaged(_, fault)
         | Complaint::Appended(_, fault)
         | Complaint::Served(_, fault) => write_fault(f, words, *fault, shown),
+        Complaint::Beside(fault) => write_beside(f, words, *fault),
     }
 }
 
 /// How many lines of the input stand as growths.
 fn write_lines<W: fmt::Write>(f: &mut Formatter<W>, lines: u64, fault: FileFault) -> fmt::Result {
     let behind = match fault {
-        FileFault::Vault(_) => ", and maybe some behind them",
+        FileFault::Vault(VaultFault::Pen(PenFault::Disk(_))) => ", and maybe some behind them",
         _ => "",
     };
     write!(f, "; the growths of the first {lines} lines stand{behind}")
@@ -155,7 +169,7 @@ fn write_of_stat<W: fmt::Write>(
 ) -> fmt::Result {
     let name = words.file;
     match complaint {
-        Complaint::NotOpened(role, error) => write_not_opened(f, name, *role, error),
+        Complaint::NotOpened(role, error) => write_not_opened(f, name, *role, error, true),
         Complaint::InUse(_) => write_in_use(f, name, words.wait),
         Complaint::Fault(fault) | Complaint::Appended(_, fault) | Complaint::Served(_, fault) =>
             write_stat_fault(f, name, *fault),
@@ -163,6 +177,8 @@ fn write_of_stat<W: fmt::Write>(
             write_stat_fault(f, name, *fault)?;
             write!(f, "; the frames before that leave {before} records")
         }
+        // `stat` doesn't read beside a writer.
+        Complaint::Beside(_) => Ok(()),
     }
 }
 

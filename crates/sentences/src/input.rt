@@ -6,7 +6,7 @@ use lines_core::Excerpt;
 use record_core::{Flagged, PAYLOAD_LIMIT, Pair};
 use std::fmt::{self, Formatter};
 use text_core::{INPUT_LIMIT, Refusal};
-use words_core::{FileTask, FileWords, RecordType};
+use words_core::{FileTask, FileWords, Following, RecordType};
 
 /// The text of a record of a type.
 fn record_form(record_type: RecordType) -> &'static str {
@@ -46,12 +46,19 @@ fn excerpt_of_records(records: &[u8], record_type: RecordType) -> Excerpt {
 fn text_of_word<'a>(task: FileTask<'a>, word: Word) -> &'a str {
     match (task, word) {
         (FileTask::Set { start, .. }, Word::Start) => start,
-        (FileTask::Set { records, .. }, _) => records,
+        (FileTask::Set { records, .. }, _) => records.unwrap_or(""),
         (FileTask::Resize { len, .. }, Word::Length) => len,
         (FileTask::Resize { record, .. }, _) => record,
         (FileTask::Count(record) | FileTask::Find(record), _) => record,
         (FileTask::List { from, .. }, Word::From) => from.unwrap_or(""),
         (FileTask::List { count, .. }, _) => count.unwrap_or(""),
+        (
+            FileTask::Follow {
+                what: Following::Records { from },
+                ..
+            },
+            _,
+        ) => from.unwrap_or(""),
         _ => "",
     }
 }
@@ -96,6 +103,7 @@ fn stands_after_input(task: FileTask<'_>) -> &'static str {
     match task {
         FileTask::Append { .. } => "it and the lines behind it weren't grown",
         FileTask::Serve(_) => "no client was served",
+        FileTask::Set { .. } => "no file was opened, and nothing was changed",
         _ => "no file was opened, and nothing was grown",
     }
 }
@@ -122,6 +130,7 @@ fn about_long_input(task: FileTask<'_>) -> &'static str {
     match task {
         FileTask::Append { .. } =>
             "; that is of one growth: give a smaller --block, or cut its lines",
+        FileTask::Set { .. } => "; give fewer records at once",
         _ => "; `cvec append` takes input of any length",
     }
 }

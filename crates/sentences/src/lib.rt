@@ -1,6 +1,7 @@
 //! What the program `cvec` tells on standard error of a command over a file that is refused.
 #![tactic(auto)]
 
+mod beside;
 mod bytes;
 mod complaint;
 mod input;
@@ -8,5 +9,6 @@ mod role;
 mod shown;
 mod vault;
 
+pub use beside::BesideFault;
 pub use complaint::{Complaint, Sentence};
 pub use role::Role;

@@ -88,7 +88,7 @@ fn flaw_by_type(word: &[u8], record_type: RecordType) -> Flaw {
 
 /// What stands behind what is known of a word.
 #[derive(Clone, Copy)]
-enum Behind {
+enum WordEnd {
     /// The word ends there, and another may follow.
     Nothing,
     /// Its line ends there.
@@ -98,13 +98,13 @@ enum Behind {
 }
 
 /// What is wrong with a word that is no record of the type.
-fn flaw_of(word: &[u8], behind: Behind, record_type: RecordType) -> Flaw {
+fn flaw_of(word: &[u8], behind: WordEnd, record_type: RecordType) -> Flaw {
     if word.contains(&b'\t') {
         return Flaw::Tab;
     }
     match (behind, word) {
-        (Behind::LineEnd, [.., b'\r']) => Flaw::CarriageReturn,
-        (Behind::More, _) => Flaw::Form,
+        (WordEnd::LineEnd, [.., b'\r']) => Flaw::CarriageReturn,
+        (WordEnd::More, _) => Flaw::Form,
         _ => flaw_by_type(word, record_type),
     }
 }
@@ -142,7 +142,11 @@ fn write_byte<W: fmt::Write>(f: &mut Formatter<W>, byte: u8) -> fmt::Result {
 }
 
 /// Writes the first bytes of a text in quotes, and where more follow two dots.
-fn write_quoted<W: fmt::Write>(f: &mut Formatter<W>, text: &[u8], has_more: bool) -> fmt::Result {
+pub fn write_quoted<W: fmt::Write>(
+    f: &mut Formatter<W>,
+    text: &[u8],
+    has_more: bool,
+) -> fmt::Result {
     let len = text.len().min(SHOWN_LEN);
     f.write_str("\"")?;
     for byte in text[..len].iter() {
@@ -159,13 +163,13 @@ fn write_quoted<W: fmt::Write>(f: &mut Formatter<W>, text: &[u8], has_more: bool
 fn write_word_at<W: fmt::Write>(
     f: &mut Formatter<W>,
     word: &[u8],
-    behind: Behind,
+    behind: WordEnd,
     place: usize,
     record_type: RecordType,
 ) -> fmt::Result {
     let flaw = flaw_of(word, behind, record_type);
     let words = flaw.words();
-    write_quoted(f, word, matches!(behind, Behind::More))?;
+    write_quoted(f, word, matches!(behind, WordEnd::More))?;
     write!(f, " at its byte {place} {words}")?;
     match flaw {
         Flaw::Tab | Flaw::CarriageReturn => f.write_str(LENIENT),
@@ -194,10 +198,10 @@ pub fn write_bad_word<W: fmt::Write>(
             write!(f, " at its byte {place} begins with a blank too many")?;
             f.write_str(LENIENT)
         }
-        (word, Some(_)) => write_word_at(f, word, Behind::Nothing, place, record_type),
-        (word, None) if !is_whole => write_word_at(f, word, Behind::More, place, record_type),
-        (word, None) if lenient => write_word_at(f, word, Behind::Nothing, place, record_type),
-        (word, None) => write_word_at(f, word, Behind::LineEnd, place, record_type),
+        (word, Some(_)) => write_word_at(f, word, WordEnd::Nothing, place, record_type),
+        (word, None) if !is_whole => write_word_at(f, word, WordEnd::More, place, record_type),
+        (word, None) if lenient => write_word_at(f, word, WordEnd::Nothing, place, record_type),
+        (word, None) => write_word_at(f, word, WordEnd::LineEnd, place, record_type),
     }
 }
 
@@ -208,7 +212,7 @@ pub fn write_given<W: fmt::Write>(
     record_type: RecordType,
 ) -> fmt::Result {
     write_quoted(f, word, false)?;
-    match flaw_of(word, Behind::Nothing, record_type) {
+    match flaw_of(word, WordEnd::Nothing, record_type) {
         Flaw::Form => Ok(()),
         flaw => {
             let flaw = flaw.words();

@@ -57,7 +57,37 @@ pub fn write_vault<W: fmt::Write>(
     )
 }
 
-/// What stands where a command that makes many growths was refused by the file.
+/// What is wrong, what stands, and what to do next, where a vault doesn't get a length. In parts: some of its new records may
+/// stand. `None`: it is as with another command.
+fn about_resize(fault: VaultFault, in_parts: bool) -> Option<&'static str> {
+    match fault {
+        VaultFault::Pen(PenFault::TooLarge) => Some(
+            "the new records are more than one frame takes; it is as it was; --parts takes any number",
+        ),
+        VaultFault::Pen(PenFault::FileFull) if in_parts => Some(
+            "it is as long as such a file can become; some of the new records may stand: `cvec check` tells how many there are in all",
+        ),
+        VaultFault::Pen(PenFault::Memory) if in_parts => Some(
+            "there is not enough memory; some of the new records may stand, and the same command goes on behind them",
+        ),
+        _ => None,
+    }
+}
+
+/// Why a vault doesn't get a length, in parts or by one frame.
+pub fn write_resize_fault<W: fmt::Write>(
+    f: &mut Formatter<W>,
+    name: &str,
+    fault: VaultFault,
+    in_parts: bool,
+) -> fmt::Result {
+    match about_resize(fault, in_parts) {
+        Some(about) => write!(f, "{name}: {about}"),
+        None => write_vault(f, name, fault),
+    }
+}
+
+/// What stands where a command that makes many growths at once was refused by the file.
 pub fn write_growth_fault<W: fmt::Write>(
     f: &mut Formatter<W>,
     name: &str,
@@ -77,15 +107,15 @@ pub fn write_growth_fault<W: fmt::Write>(
     }
 }
 
-/// Why no more growths of clients were put on the device.
-fn about_served(fault: VaultFault) -> &'static str {
+/// Why no more growths were put on the device.
+fn about_commit(fault: VaultFault) -> &'static str {
     match fault {
         VaultFault::Pen(PenFault::Disk(fault)) => about_disk(fault),
         VaultFault::Pen(PenFault::Broken) =>
             "the system didn't write it, or put it on the device, which may be full",
         VaultFault::Pen(PenFault::FileFull) => "it is as long as such a file can become",
         VaultFault::Pen(PenFault::Memory) => "there is not enough memory",
-        _ => "not all growths of the clients are known to be on the device",
+        _ => "not all growths are known to be on the device",
     }
 }
 
@@ -97,12 +127,13 @@ fn before_it_is_opened(fault: VaultFault) -> &'static str {
     }
 }
 
-pub fn write_served_fault<W: fmt::Write>(
+/// Why growths that come one after the other weren't all committed, and what to do next.
+pub fn write_commit_fault<W: fmt::Write>(
     f: &mut Formatter<W>,
     name: &str,
     fault: VaultFault,
 ) -> fmt::Result {
-    let about = about_served(fault);
+    let about = about_commit(fault);
     let next = before_it_is_opened(fault);
     write!(f, "{name}: {about}{next}; what stood before stands")
 }

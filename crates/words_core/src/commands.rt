@@ -13,9 +13,9 @@ const FORMATS: [&str; 2] = ["1", "2"];
 const FOR_GOOD: &str = "18446744073709551615";
 
 /// The commands over records, in the order in which usage tells them. `help` and `version` tell of the program.
-pub const COMMANDS: [&str; 18] = [
+pub const COMMANDS: [&str; 19] = [
     "image", "show", "play", "create", "load", "append", "serve", "upgrade", "copy", "check",
-    "list", "count", "find", "stat", "set", "resize", "clear", "fold",
+    "list", "follow", "count", "find", "stat", "set", "resize", "clear", "fold",
 ];
 
 /// A command that takes the word of a type.
@@ -58,15 +58,17 @@ fn waiting<'a>(alloc: Global) -> Arg<'a> {
 
 /// A command with the words that all have over a file.
 fn with_file<'a>(alloc: Global, command: Command<'a>) -> Result<Command<'a>, AllocError> {
-    command
-        .arg(word(alloc, "FILE"))?
-        .arg(flag(alloc, "quiet"))?
-        .arg(waiting(alloc))
+    command.arg(word(alloc, "FILE"))?.arg(flag(alloc, "quiet"))
+}
+
+/// A command that may have to wait for its file.
+fn with_locked_file<'a>(alloc: Global, command: Command<'a>) -> Result<Command<'a>, AllocError> {
+    with_file(alloc, command)?.arg(waiting(alloc))
 }
 
 /// A command over a file.
 fn over_file<'a>(alloc: Global, name: &'a str) -> Result<Command<'a>, AllocError> {
-    with_file(alloc, typed(alloc, name)?)
+    with_locked_file(alloc, typed(alloc, name)?)
 }
 
 /// A command over a file, with a word of its own.
@@ -89,9 +91,19 @@ fn needed<'a>(alloc: Global, name: &'a str) -> Arg<'a> {
     valued(alloc, name).required(true)
 }
 
-/// Records that have to be there, of which the first one may be negative.
-fn needed_records<'a>(alloc: Global) -> Arg<'a> {
-    needed(alloc, "records").allow_hyphen_values(true)
+/// Records that have to be there unless the input has them. The first one may be negative.
+fn given_records<'a>(alloc: Global) -> Result<Arg<'a>, AllocError> {
+    valued(alloc, "records")
+        .allow_hyphen_values(true)
+        .required_unless_present("input")?
+        .conflicts_with("input")
+}
+
+/// `set`, with the words that are its own.
+fn setting<'a>(alloc: Global, name: &'a str) -> Result<Command<'a>, AllocError> {
+    with_words(alloc, name, word(alloc, "START"), given_records(alloc)?)?
+        .arg(flag(alloc, "input"))?
+        .arg(flag(alloc, "lenient").conflicts_with("records")?)
 }
 
 /// A command that reads, with the words that are its own.
@@ -101,6 +113,16 @@ fn reading<'a>(alloc: Global, name: &'a str) -> Result<Command<'a>, AllocError> 
         "count" | "find" => with_word(alloc, name, needed(alloc, "record")),
         _ => over_file(alloc, name),
     }
+}
+
+/// `follow`, with the words that are its own. It takes no lock, so it never waits for one.
+fn following<'a>(alloc: Global, name: &'a str) -> Result<Command<'a>, AllocError> {
+    with_file(alloc, typed(alloc, name)?)?
+        .arg(valued(alloc, "from").conflicts_with("events")?)?
+        .arg(flag(alloc, "once"))?
+        .arg(valued(alloc, "poll"))?
+        .arg(flag(alloc, "events"))?
+        .arg(valued(alloc, "after").requires_arg("events")?)
 }
 
 /// `append`, with the words that are its own.
@@ -139,15 +161,19 @@ fn making<'a>(alloc: Global, name: &'a str) -> Result<Command<'a>, AllocError> {
 /// A command that changes what is there, with the words that are its own.
 fn changing<'a>(alloc: Global, name: &'a str) -> Result<Command<'a>, AllocError> {
     match name {
-        "set" => with_words(alloc, name, word(alloc, "START"), needed_records(alloc)),
-        "resize" => with_words(alloc, name, word(alloc, "N"), needed(alloc, "record")),
+        "set" => setting(alloc, name),
+        "resize" => {
+            with_words(alloc, name, word(alloc, "N"), needed(alloc, "record"))?.arg(flag(
+                alloc, "parts",
+            ))
+        }
         _ => over_file(alloc, name),
     }
 }
 
 /// `stat`, which takes no word of a type.
 fn stat_command<'a>(alloc: Global) -> Result<Command<'a>, AllocError> {
-    with_file(alloc, Command::new(alloc, "stat"))?.arg(flag(alloc, "json"))
+    with_locked_file(alloc, Command::new(alloc, "stat"))?.arg(flag(alloc, "json"))
 }
 
 /// `help`, which may be asked of a command.
@@ -165,6 +191,7 @@ fn command_of<'a>(alloc: Global, name: &'a str) -> Result<Command<'a>, AllocErro
         "create" | "upgrade" | "copy" => making(alloc, name),
         "load" | "append" | "serve" => growing(alloc, name),
         "check" | "list" | "count" | "find" => reading(alloc, name),
+        "follow" => following(alloc, name),
         "stat" => stat_command(alloc),
         "help" => help_command(alloc),
         _ => changing(alloc, name),

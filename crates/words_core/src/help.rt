@@ -15,10 +15,11 @@ serve TYPE FILE --seats=N                      lets N other programs grow it, th
 check TYPE FILE                                reads the file, and tells what it has
 stat FILE [--json]                             tells what any file has, without reading its records
 list TYPE FILE [--from=I] [--count=N]          writes its records, one a line
+follow TYPE FILE [--from=I] [--once] ..        writes its records, and then those that come
 count TYPE FILE --record=R                     counts the records that equal R
 find TYPE FILE --record=R                      writes the position of the first one
-set TYPE FILE START --records=R,R,..           replaces the records from START on
-resize TYPE FILE N --record=R                  makes the length N, new records are R
+set TYPE FILE START --records=R,R,..|--input   replaces the records from START on
+resize TYPE FILE N --record=R [--parts]        makes the length N, new records are R
 clear TYPE FILE                                takes all records away
 fold TYPE FILE                                 puts live changes into their home bytes
 upgrade TYPE FILE NEW                          copies a vector to a new file of version 2
@@ -75,7 +76,7 @@ home             settled SEAT          crash new     crash XX
 
 with records for R, numbers for the other words in capitals, and two hex digits for XX.
 
-  $ printf 'create\nresize 1 5\ncrash old\nopen\nlist\n' | cvec play u64
+  $ printf 'create\\nresize 1 5\\ncrash old\\nopen\\nlist\\n' | cvec play u64
   ok
   ok
   crashed 34
@@ -191,6 +192,31 @@ Writes the records one a line: all, or those from position I on, N at most.
 Refused: word, file, the file's first fault, memory, and the disk's faults.
 ";
 
+const FOLLOW: &[u8] = b"cvec follow TYPE FILE [--from=I] [--once] [--poll=MS] [--quiet]
+cvec follow TYPE FILE --events [--after=PLACE] [--once] [--poll=MS] [--quiet]
+
+Writes the records from position I on, else from 0, one a line, and then those that come: each once, when it is on the
+device. It takes no lock, so it is used beside a writer. It looks each MS milliseconds (1 to 60000, else 100), or with --once
+one time, and then it ends.
+
+With --events its lines are what another process needs to keep an exact copy:
+
++ RECORD      the record is put behind the last one
+= I RECORD    the record takes the place of that at position I
+< N           the vector is cut to N records
+. PLACE       a step is whole: the copy is what the vector was at one moment, on the device
+
+Keep PLACE with the copy: --after=PLACE goes on exactly behind it.
+
+  $ cvec follow u64 t.cv --from=1 --once
+  6
+  7
+
+Refused: changed I and shorter N (a record that was written isn't so any more; not with --events), replaced (FILE leads to
+another file now, or to none), cut (the file has become shorter), word, file, the file's first fault, bad record I, file full,
+memory, and the disk's faults.
+";
+
 const COUNT: &[u8] = b"cvec count TYPE FILE --record=R [--quiet]
 
 Writes how many records equal R.
@@ -212,18 +238,26 @@ Refused: word, file, the file's first fault, memory, and the disk's faults.
 ";
 
 const SET: &[u8] = b"cvec set TYPE FILE START --records=R,R,..
+cvec set TYPE FILE START --input [--lenient] < LINES
 
 Puts the records in the place of those from position START on, as one change: after a crash all of it is there, or none.
+With --input they are those of all lines of the input, one or more a line with one space between each two, and --lenient
+takes lines as 'load' does with it. Without a line nothing is changed.
 
   $ cvec set u64 t.cv 1 --records=8,9
   ok
+  $ echo '8 9' | cvec set u64 t.cv 1 --input
+  ok
 
-Refused: word, file, the file's first fault, out of range, too large, file full, memory, and the disk's faults.
+Refused: word, line N, input, input too long (then nothing was opened), file, the file's first fault, out of range, too
+large, file full, memory, and the disk's faults.
 ";
 
-const RESIZE: &[u8] = b"cvec resize TYPE FILE N --record=R
+const RESIZE: &[u8] = b"cvec resize TYPE FILE N --record=R [--parts]
 
-Makes the length N: by records R behind the last one, or by taking the last ones away.
+Makes the length N: by records R behind the last one, or by taking the last ones away. It is one frame, so it is refused
+where new records are more than one takes. With --parts these come in as many growths as they take, one after the other:
+after a crash or a refusal the first of them may stand, and the same command goes on.
 
   $ cvec resize u64 t.cv 2 --record=0
   ok
@@ -291,6 +325,7 @@ pub fn help_of(command: &str) -> Option<&'static [u8]>
         "append" => Some(APPEND),
         "check" => Some(CHECK),
         "list" => Some(LIST),
+        "follow" => Some(FOLLOW),
         "count" => Some(COUNT),
         "find" => Some(FIND),
         "set" => Some(SET),

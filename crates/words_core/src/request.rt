@@ -55,6 +55,15 @@ impl RecordType {
     }
 }
 
+/// What is told of a vector that is followed.
+#[derive(Clone, Copy)]
+pub enum Following<'a> {
+    /// The records from this position on, else all, and then those that come.
+    Records { from: Option<&'a str> },
+    /// The events behind this place, else all, by which another process keeps a copy.
+    Events { after: Option<&'a str> },
+}
+
 /// What is done with a file. Words of records and numbers are as they were given.
 #[derive(Clone, Copy)]
 pub enum FileTask<'a> {
@@ -78,19 +87,26 @@ pub enum FileTask<'a> {
         from: Option<&'a str>,
         count: Option<&'a str>,
     },
+    /// What a vector has, and then what comes, is told by looks so many milliseconds apart, or by one look.
+    Follow {
+        what: Following<'a>,
+        poll: u64,
+        once: bool,
+    },
     /// The records that equal this one are counted.
     Count(&'a str),
     /// The first record that equals this one is found.
     Find(&'a str),
-    /// The records from a position on are replaced.
+    /// The records from a position on are replaced: by these, or where there are none by those of the input.
     Set {
         start: &'a str,
-        records: &'a str,
+        records: Option<&'a str>,
     },
-    /// The length becomes another one.
+    /// The length becomes another one. In parts: by as many growths as its new records take.
     Resize {
         len: &'a str,
         record: &'a str,
+        in_parts: bool,
     },
     /// All records are taken away.
     Clear,
@@ -120,7 +136,7 @@ pub struct FileWords<'a> {
     pub quiet: bool,
     /// How far `append` is is told in lines, whatever standard error is.
     pub progress: bool,
-    /// `load` and `append` take lines leniently.
+    /// `load`, `append` and `set` take lines leniently.
     pub lenient: bool,
     /// For how many seconds another command is waited for that has the file.
     pub wait: u64,

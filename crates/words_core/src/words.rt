@@ -8,7 +8,7 @@ ghost use Rattle.words_core.specs.Words.{task_word, type_word};
 
 use crate::commands::all_commands;
 use crate::help::{VERSION, help_text};
-use crate::request::{FileTask, FileWords, RecordType, Request, StatWords, Task};
+use crate::request::{FileTask, FileWords, Following, RecordType, Request, StatWords, Task};
 use clap::error::ErrorKind;
 use clap::{ArgMatches, Error};
 use segment_core::Format;
@@ -26,6 +26,11 @@ const EVERY: u64 = 200;
 
 const EVERY_LIMIT: u64 = 60_000;
 
+/// The milliseconds between two looks of `follow` where no word says how many, and the most that one may say.
+const POLL: u64 = 100;
+
+const POLL_LIMIT: u64 = 60_000;
+
 /// Why words ask for nothing.
 #[derive(Clone, Copy, Debug, PartialEq, Eq)]
 pub enum WordsFault {
@@ -37,6 +42,8 @@ pub enum WordsFault {
     Block,
     /// The number of milliseconds that lines wait for more is none from 1 to 60000.
     Every,
+    /// The number of milliseconds between two looks is none from 1 to 60000.
+    Poll,
     /// The time to wait is no number.
     Wait,
     /// A growth of memory was refused.
@@ -133,6 +140,21 @@ fn every_of(word: Option<&str>) -> Result<u64, WordsFault>
     }
 }
 
+/// How many milliseconds a word asks for between two looks: a number from 1 to 60000.
+fn poll_of(word: Option<&str>) -> Result<u64, WordsFault>
+    ensures none { IfNone word.entry (result ≡ Ok 100) }
+    ensures number { IfSome word.entry (λ text. IfOk result (λ poll. text.now ≡ decimal poll)) }
+    ensures within { IfOk result (λ poll. (0 < poll) × (poll ≤ 60000)) }
+{
+    let Some(word) = word else {
+        return Ok(POLL);
+    };
+    match u64::parse(word.as_bytes()) {
+        Some(poll) if 1 <= poll && poll <= POLL_LIMIT => Ok(poll),
+        _ => Err(WordsFault::Poll),
+    }
+}
+
 /// For how many seconds a word asks to wait.
 fn wait_of(word: Option<&str>) -> Result<u64, WordsFault>
     ensures none { IfNone word.entry (result ≡ Ok 0) }
@@ -162,15 +184,21 @@ fn recorded_task<'a>(name: &str, words: &ArgMatches<'a>) -> Option<FileTask<'a>>
         _ => Some(FileTask::Resize {
             len: words.get_str("N")?,
             record,
+            in_parts: words.get_flag("parts"),
         }),
     }
 }
 
 /// What the words of `set` ask for.
 fn set_task<'a>(words: &ArgMatches<'a>) -> Option<FileTask<'a>> {
+    let records = if words.get_flag("input") {
+        None
+    } else {
+        Some(words.get_str("records")?)
+    };
     Some(FileTask::Set {
         start: words.get_str("START")?,
-        records: words.get_str("records")?,
+        records,
     })
 }
 
@@ -204,6 +232,24 @@ fn growing_task<'a>(name: &str, words: &ArgMatches<'a>) -> Result<FileTask<'a>, 
     }
 }
 
+/// What the words of `follow` ask for.
+fn follow_task<'a>(words: &ArgMatches<'a>) -> Result<FileTask<'a>, WordsFault> {
+    let what = if words.get_flag("events") {
+        Following::Events {
+            after: words.get_str("after"),
+        }
+    } else {
+        Following::Records {
+            from: words.get_str("from"),
+        }
+    };
+    Ok(FileTask::Follow {
+        what,
+        poll: poll_of(words.get_str("poll"))?,
+        once: words.get_flag("once"),
+    })
+}
+
 /// What the words of `copy` ask for.
 fn copy_task<'a>(words: &ArgMatches<'a>) -> Result<FileTask<'a>, WordsFault> {
     Ok(FileTask::Copy {
@@ -218,6 +264,7 @@ fn file_task<'a>(name: &str, words: &ArgMatches<'a>) -> Result<FileTask<'a>, Wor
     match name {
         "load" | "append" | "serve" => growing_task(name, words),
         "copy" => copy_task(words),
+        "follow" => follow_task(words),
         "check" => Ok(FileTask::Check),
         "clear" => Ok(FileTask::Clear),
         "fold" => Ok(FileTask::Fold),
@@ -239,9 +286,17 @@ fn stat_words<'a>(words: &ArgMatches<'a>) -> Result<StatWords<'a>, WordsFault> {
     })
 }
 
+/// For how many seconds the words of a command ask to wait. `follow` takes no lock, and has no such word.
+fn wait_in(name: &str, words: &ArgMatches<'_>) -> Result<u64, WordsFault> {
+    if name == "follow" {
+        return Ok(0);
+    }
+    wait_of(words.get_str("wait"))
+}
+
 /// Whether the command takes lines of records.
 fn takes_lines(name: &str) -> bool {
-    name == "load" || name == "append"
+    name == "load" || name == "append" || name == "set"
 }
 
 /// What the words of a command over a file ask for.
@@ -257,7 +312,7 @@ fn file_words<'a>(
         quiet: words.get_flag("quiet"),
         progress: name == "append" && words.get_flag("progress"),
         lenient: takes_lines(name) && words.get_flag("lenient"),
-        wait: wait_of(words.get_str("wait"))?,
+        wait: wait_in(name, words)?,
     })
 }
 

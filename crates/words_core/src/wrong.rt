@@ -38,6 +38,8 @@ fn fault_of_words<S: AsStr>(alloc: Global, words: &[S]) -> Result<Option<String>
         Err(WordsFault::Block) => "error: the value of --block is a number from 1 to 4294967295",
         Err(WordsFault::Every) =>
             "error: the value of --every is a number of milliseconds from 1 to 60000",
+        Err(WordsFault::Poll) =>
+            "error: the value of --poll is a number of milliseconds from 1 to 60000",
         Err(WordsFault::Wait) => "error: the value of --wait is a number of seconds",
         _ => return Ok(None),
     };
