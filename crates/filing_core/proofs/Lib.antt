@@ -1,2 +1,4 @@
 pub mod Filings
 pub mod Watching
+pub mod Letting
+pub mod Copies

@@ -1,6 +1,6 @@
 -- What each command over a file has done that its words ask for. The disk is that of the file which was opened, left is what its
 -- engine gave back; in between hold the engine's own clauses.
-use Rattle.std.specs.Prelude.{◌≡◌, ◌⊎◌, ◌+◌, ◌++◌, ℕ, Bool, true, false, List, [], length, codes, decimal, Option, Some, IfErr, Result, Ok, Err}
+use Rattle.std.specs.Prelude.{◌≡◌, ◌⊎◌, ◌+◌, ◌++◌, ℕ, Bool, true, false, List, [], length, codes, decimal, Option, Some, None, IfErr, Result, Ok, Err}
 use Rattle.std.specs.Io.KnownBytes.{Appends, Keeps}
 use Rattle.std.specs.Option.{option_copied}
 use Rattle.std.specs.NonZero.{non_zero_u32_get}
@@ -28,13 +28,14 @@ use Rattle.text_core.specs.Text.{Spelling, ended_line}
 use Rattle.text_core.specs.declared.status.Status.{Status}
 use Rattle.text_core.specs.declared.status.Status.TheVariants as statuses
 use Rattle.load_core.specs.Appending.{HasAppendedAll, IsAppendFault}
-use Rattle.files_core.specs.Asked.{IsNumber, IsRecord, SpellsRecords}
+use Rattle.files_core.specs.Asked.{IsNumber, IsNumberOr, IsRecord}
 use Rattle.files_core.specs.Changing.{HasWorked, IsCleared, IsClearFault, IsResized, IsResizeFault, IsSet, IsSetFault, IsWorkFault, Replaces}
 use Rattle.files_core.specs.Checking.{IsChecked}
 use Rattle.files_core.specs.Creating.{IsCreated, IsCreateRefusal}
 use Rattle.files_core.specs.Ended.{EndsAs, WritesAnswer, WritesText}
 use Rattle.files_core.specs.Folding.{IsFolded, IsFoldCommandFault, KeepsList, NoneLive, failed_folding}
 use Rattle.files_core.specs.Given.{given_from}
+use Rattle.files_core.specs.Lengthened.{IsLengthened, IsLengthenRefusal, StandsWhole}
 use Rattle.files_core.specs.Listing.{IsWindowListed}
 use Rattle.load_core.specs.Loading.{IsLoaded, IsLoadRefusal}
 use Rattle.files_core.specs.Opened.{CommandOnlyReads}
@@ -54,16 +55,32 @@ use Rattle.stat_core.specs.Ended.{IsTold}
 use Rattle.stat_core.specs.Window.{OnlyReads}
 use Rattle.stat_core.specs.declared.telling.StatEnded.{StatEnded}
 use Rattle.stat_core.specs.declared.writing.Form.{Form}
+use Rattle.sentences.specs.declared.beside.BesideFault.TheVariants as besides
 use Rattle.sentences.specs.declared.complaint.Complaint.{Complaint}
+use Rattle.sentences.specs.declared.complaint.Complaint.TheVariants as complaints
 use Rattle.sentences.specs.declared.role.Role.TheVariants as roles
 use Rattle.words_core.specs.declared.request.FileTask.{FileTask}
-use Rattle.words_core.specs.declared.request.FileTask.TheVariants.{Create, Load, Append, Check, List as Listed, Count, Find, Set, Resize, Clear, Fold, Upgrade, Copy, Serve}
-use Rattle.filing_core.specs.Asked.{IsWindow, IsNoWindow, IsNoRecord, IsNoSetting, IsNoResizing, AreInputGrowths, IsNoInput}
+use Rattle.words_core.specs.declared.request.Following.{Following}
+use Rattle.words_core.specs.declared.request.Following.TheVariants.{Records, Events}
+use Rattle.words_core.specs.declared.request.FileTask.TheVariants.{Create, Load, Append, Check, List as Listed, Follow, Count, Find, Set, Resize, Clear, Fold, Upgrade, Copy, Serve}
+use Rattle.filing_core.specs.declared.searching.Sought.{Sought}
+use Rattle.filing_core.specs.declared.searching.Sought.TheVariants as soughts
+use Rattle.beside_core.specs.declared.fault.LookFault.{LookFault}
+use Rattle.follow_core.specs.declared.ended.LookEnd.{LookEnd}
+use Rattle.follow_core.specs.declared.place.Place.{Place}
+use Rattle.filing_core.specs.Beside.{CheckedBeside, FollowsEvents, FollowsFrom, Foreign, HadOnce, IsCopyStatus, IsFollowDone, IsJustShared, IsLeftShared, IsLookDone, IsNoPlace, IsUnread, IsPlaceOr, ListedBeside, ReadsBeside, SoughtBeside, SummarizesBeside}
+use Rattle.filing_core.specs.Copying.{EndsBeside, HasCopiedBeside, IsCopyBesideFault, IsUpgradedBeside, IsUpgradeBesideFault, WritesBeside}
+use Rattle.filing_core.specs.Asked.{IsWindow, IsNoWindow, IsNoRecord, AreSetRecords, IsNoSetting, IsNoResizing, AreInputGrowths, IsNoInput}
 use Rattle.filing_core.specs.Complaints.{Disk, IsJustOpened, IsComplaintOf, IsAppendComplaint, IsServeComplaint, IsStatusOf, IsStatStatus, IsRefusedBefore, IsLeftAlone, IsLeftUnopened, IsUnserved}
 
 -- of a server that has ended
 abbrev pub served_line : ℕ → List ℕ
 served_line growths = ended_line ((codes "served " ++ decimal growths) ++ codes " growths")
+
+-- what is told of the records that are the one wanted, by what is sought
+abbrev pub TellsSought : {R : Type 0} → Encoding R → Sought → R → Type 0 → List ℕ → List ℕ → Type 0
+TellsSought form soughts.Count r known bytes text = TellsCount form r known bytes text
+TellsSought form soughts.First r known bytes text = TellsFirst form r known bytes text
 
 -- a disk was only read
 pub record IsLookedAt (disk after : Disk) : Type 0 where
@@ -88,24 +105,28 @@ module _ {R : Type 0} (form : Encoding R) where
   MayBeMadeOn format false disk asked = IsLookedAt disk asked × (KeepsSoFar asked → IsVacantFor format form.width (bytes_of (states_of disk)))
 
   -- it may not: something else stands there, or that couldn't be asked
-  abbrev pub IsTaken : Option Format → PenFault → Type 0
-  IsTaken format fault = (disk asked : Disk) × IsJustOpened disk
+  abbrev pub IsOccupied : Option Format → PenFault → Type 0
+  IsOccupied format fault = (disk asked : Disk) × IsJustOpened disk
       × (((fault ≡ pens.Exists) × (KeepsSoFar asked → ¬ (IsVacantFor format form.width (bytes_of (states_of disk)))))
       ⊎ ((cause : DiskFault) × (fault ≡ pens.Disk cause) × (faults_of asked ≡ faults_of disk + 1)))
 
   -- `create` may not make it, as its words say
   abbrev pub IsPlaceTaken : Format → Bool → FileFault → Type 0
   IsPlaceTaken format true fault = ⊥
-  IsPlaceTaken format false fault = (cause : PenFault) × (fault ≡ Vault (vaults.Pen cause)) × IsTaken (Some format) cause
+  IsPlaceTaken format false fault = (cause : PenFault) × (fault ≡ Vault (vaults.Pen cause)) × IsOccupied (Some format) cause
 
   -- `upgrade` or `copy` may not make its new file
   abbrev pub IsNewTaken : Option Format → FileFault → Type 0
-  IsNewTaken format fault = (cause : PenFault) × (fault ≡ Unupgraded (upgrades.New (vaults.Pen cause))) × IsTaken format cause
+  IsNewTaken format fault = (cause : PenFault) × (fault ≡ Unupgraded (upgrades.New (vaults.Pen cause))) × IsOccupied format cause
 
 module _ {R : Type 0} (form : Encoding R) (old new : Option (List ℕ)) (filed : Result Status Complaint) where
   -- The words or the input were refused, for such a reason; or the file wasn't opened; or the engine ended so over it.
   abbrev pub IsOverFile : (FileFault → Type 0) → (Disk → Disk → Ended → Type 0) → Type 0
   IsOverFile IsReason HasEnded = IsRefusedBefore old new filed IsReason ⊎ (IsLeftUnopened old new filed roles.File ⊎ IsEngineDone filed (IsComplaintOf form) HasEnded)
+
+  -- The same of a command that reads; or, where another command had the file, an engine ended so beside that one.
+  abbrev pub IsReadingRun : (FileFault → Type 0) → (Disk → Disk → Ended → Type 0) → (Foreign → Foreign → LookEnd → Type 0) → Type 0
+  IsReadingRun IsReason HasEnded HasLooked = IsOverFile IsReason HasEnded ⊎ IsLookDone filed HasLooked
 
   -- an engine only read the disk, and wrote such an answer, by its bytes where the file keeps the model
   abbrev pub Reads : (Type 0 → List ℕ → List ℕ → Type 0) → Disk → Disk → Ended → Type 0
@@ -122,35 +143,52 @@ module _ {R : Type 0} (form : Encoding R) (old new : Option (List ℕ)) (filed :
 
   -- `check`
   abbrev pub IsCheckRun : Type 0
-  IsCheckRun = IsOverFile (λ _. ⊥) (Reads (IsChecked form))
+  IsCheckRun = IsReadingRun (λ _. ⊥) (Reads (IsChecked form)) (ReadsBeside form (CheckedBeside form) old new)
 
   -- `list`: the records of the window that the words name
   abbrev pub IsListRun : Spelling R → Option (List ℕ) → Option (List ℕ) → Type 0
   IsListRun spelling from count =
-      IsOverFile (IsNoWindow from count) (λ disk left ended. (window : Window) × IsWindow from count window × Reads (IsWindowListed form spelling.text_of window) disk left ended)
+      IsReadingRun (IsNoWindow from count) (λ disk left ended. (window : Window) × IsWindow from count window × Reads (IsWindowListed form spelling.text_of window) disk left ended)
+      (λ file left end. (window : Window) × IsWindow from count window × ReadsBeside form (ListedBeside form spelling.text_of window) old new file left end)
 
-  -- `count`: how many records are the one that the word is
-  abbrev pub IsCountRun : Spelling R → List ℕ → Type 0
-  IsCountRun spelling word =
-      IsOverFile (IsNoRecord spelling word) (λ disk left ended. (r : R) × IsRecord spelling word r × Reads (TellsCount form r) disk left ended)
+  -- `count` or `find`: how many records are the one that the word is, or the least position of one that is
+  abbrev pub IsSearchRun : Spelling R → Sought → List ℕ → Type 0
+  IsSearchRun spelling sought word =
+      IsReadingRun (IsNoRecord spelling word) (λ disk left ended. (r : R) × IsRecord spelling word r × Reads (TellsSought form sought r) disk left ended)
+      (λ file left end. (r : R) × IsRecord spelling word r × ReadsBeside form (SoughtBeside form sought r) old new file left end)
 
-  -- `find`: the least position of one that is
-  abbrev pub IsFindRun : Spelling R → List ℕ → Type 0
-  IsFindRun spelling word =
-      IsOverFile (IsNoRecord spelling word) (λ disk left ended. (r : R) × IsRecord spelling word r × Reads (TellsFirst form r) disk left ended)
+  -- `follow`: the records from the position on that the word is, or the events behind the place that it is; it takes no lock
+  abbrev pub IsFollowRun : Spelling R → Following → Type 0
+  IsFollowRun spelling (Records from) =
+      IsRefusedBefore old new filed (IsNoWindow (option_copied from) None) ⊎ (IsLeftUnopened old new filed roles.File
+      ⊎ IsFollowDone filed (λ file left end. (first : ℕ) × IsNumberOr (option_copied from) 0 first × FollowsFrom form spelling.text_of first old new file left end))
+  IsFollowRun spelling (Events after) =
+      IsLeftAlone old new filed (λ complaint. (complaint ≡ complaints.Beside besides.NoPlace) × IsNoPlace (option_copied after)) ⊎ (IsLeftUnopened old new filed roles.File
+      ⊎ IsFollowDone filed (λ file left end. (place : Option Place) × IsPlaceOr (option_copied after) place × FollowsEvents form spelling.text_of place old new file left end))
 
-  -- `set`: the records that the words are, from the position on that they name
-  abbrev pub IsSetRun : Spelling R → List ℕ → List ℕ → Type 0
-  IsSetRun spelling at word =
-      IsOverFile (IsNoSetting spelling at word) (λ disk left ended. (start : ℕ) × (records : List R) × IsNumber at start × SpellsRecords spelling word records
+  -- `set`: the records that the word or the input has, from the position on that is named
+  abbrev pub IsSetRun : Spelling R → List ℕ → Option (List ℕ) → Option (List ℕ) → Type 0
+  IsSetRun spelling at word input =
+      IsOverFile (IsNoSetting spelling at word input) (λ disk left ended. (start : ℕ) × (records : List R) × IsNumber at start × AreSetRecords spelling word input records
       × Works (IsTouched (given_from start records) (one_run start (length records))) (IsSet form KeepsSoFar states_of faults_of start records)
       (IsSetFault form KeepsSoFar states_of faults_of start records) disk left ended)
 
+  -- an engine made the length n in parts, and wrote `ok`
+  abbrev pub Lengthens : ℕ → R → Disk → Disk → Ended → Type 0
+  Lengthens n r disk left ended =
+      EndsAs (KeepsSoFar left → StandsWhole form states_of n r disk left) (IsLengthenRefusal form KeepsSoFar states_of faults_of n r disk left) ended
+      × EndsAs (HasWorked form KeepsSoFar states_of faults_of (IsLengthened form KeepsSoFar states_of faults_of n r) disk left) (λ _. Unit {0}) ended × WritesText old new ok_line ended
+
+  -- in parts or by one frame
+  abbrev pub MakesLength : Bool → ℕ → R → Disk → Disk → Ended → Type 0
+  MakesLength true n r = Lengthens n r
+  MakesLength false n r =
+      Works (λ was behind. behind ≡ resized n r was) (IsResized form KeepsSoFar states_of faults_of n r) (IsResizeFault form KeepsSoFar states_of faults_of n r)
+
   -- `resize`: the length and the filler that the words are
-  abbrev pub IsResizeRun : Spelling R → List ℕ → List ℕ → Type 0
-  IsResizeRun spelling len word =
-      IsOverFile (IsNoResizing spelling len word) (λ disk left ended. (n : ℕ) × (r : R) × IsNumber len n × IsRecord spelling word r
-      × Works (λ was behind. behind ≡ resized n r was) (IsResized form KeepsSoFar states_of faults_of n r) (IsResizeFault form KeepsSoFar states_of faults_of n r) disk left ended)
+  abbrev pub IsResizeRun : Spelling R → Bool → List ℕ → List ℕ → Type 0
+  IsResizeRun spelling in_parts len word =
+      IsOverFile (IsNoResizing spelling len word) (λ disk left ended. (n : ℕ) × (r : R) × IsNumber len n × IsRecord spelling word r × MakesLength in_parts n r disk left ended)
 
   -- `clear`
   abbrev pub IsClearRun : Type 0
@@ -201,20 +239,43 @@ module _ {R : Type 0} (form : Encoding R) (old new : Option (List ℕ)) (filed :
     pub writes : WritesAnswer old new (IsMade disk asked left left_new) ended
     pub told : IsStatusOf (IsComplaintOf form left) ended filed
 
-  abbrev pub IsNewFileRun : Option Format → (Disk → Disk → Disk → Disk → List ℕ → Type 0) → (Disk → Disk → Disk → Disk → FileFault → Type 0) → Type 0
-  IsNewFileRun format IsMade IsUnmade = IsLeftUnopened old new filed roles.File
-      ⊎ (IsLeftUnopened old new filed roles.New ⊎ (IsRefusedBefore old new filed (IsNewTaken form format) ⊎ HasMadeNew format IsMade IsUnmade))
+  -- The same beside the command that has the old file: by what it had at one moment.
+  pub record HasMadeBeside (format : Option Format) (IsMade : (Format → List R → Type 0) → Disk → Disk → List ℕ → Type 0) (IsUnmade : (Format → List R → Type 0) → Disk → Disk → FileFault → Type 0) : Type 0 where
+    pub file : Foreign
+    pub made : Disk
+    pub asked : Disk
+    pub left : Foreign
+    pub left_new : Disk
+    pub end : Result Ended LookFault
+    pub opened : IsJustShared file × IsJustOpened made
+    pub vacant : MayBeMadeOn form format false made asked
+    pub stays : IsLeftShared file left
+    pub engine : EndsBeside ((text : List ℕ) × IsMade (HadOnce form file left) asked left_new text) (IsUnmade (HadOnce form file left) asked left_new)
+        (λ fault. IsUnread form file left fault × (left_new ≡ asked)) end
+    pub writes : WritesBeside old new (IsMade (HadOnce form file left) asked left_new) end
+    pub told : IsCopyStatus end filed
+
+  -- A file wasn't opened, or the place of the new one is taken; or it was made, or not, of the old one under a lock, or beside the
+  -- command that has it.
+  abbrev pub IsNewFileRun : Option Format → (Disk → Disk → Disk → Disk → List ℕ → Type 0) → (Disk → Disk → Disk → Disk → FileFault → Type 0)
+      → ((Format → List R → Type 0) → Disk → Disk → List ℕ → Type 0) → ((Format → List R → Type 0) → Disk → Disk → FileFault → Type 0) → Type 0
+  IsNewFileRun format IsMade IsUnmade IsMadeOf IsUnmadeOf = IsLeftUnopened old new filed roles.File
+      ⊎ (IsLeftUnopened old new filed roles.New ⊎ (IsRefusedBefore old new filed (IsNewTaken form format)
+      ⊎ (HasMadeNew format IsMade IsUnmade ⊎ HasMadeBeside format IsMadeOf IsUnmadeOf)))
 
   -- `upgrade`: the vector of the old file stands in the new one
   abbrev pub IsUpgradeRun : Type 0
   IsUpgradeRun = IsNewFileRun (Some Two) (IsUpgraded form KeepsSoFar states_of KeepsSoFar states_of faults_of)
       (IsUpgradeRefusal form KeepsSoFar states_of KeepsSoFar states_of faults_of)
+      (λ Had. IsUpgradedBeside form Had KeepsSoFar states_of faults_of) (λ Had. IsUpgradeBesideFault form Had KeepsSoFar states_of faults_of)
 
   -- `copy`: the same, of this version or of that of the old one, in growths of so many records or of the most
   abbrev pub IsCopyRun : Option Format → Option NonZeroU32 → Type 0
   IsCopyRun format block = IsNewFileRun format
       (λ disk asked left left_new. HasCopied form KeepsSoFar states_of KeepsSoFar states_of faults_of disk asked left left_new format block)
       (λ disk asked left left_new. IsCopyCommandFault form KeepsSoFar states_of KeepsSoFar states_of faults_of disk asked left left_new format block)
+      (λ Had asked left_new. HasCopiedBeside form Had KeepsSoFar states_of faults_of asked left_new format block)
+      (λ Had asked left_new. IsCopyBesideFault form Had KeepsSoFar states_of faults_of asked left_new format block)
 
   -- how `serve` ends whose engine gave that disk back, ended so, and settled so many growths
   abbrev pub IsServedAs : Disk → ℕ → Result (Unit {0}) ServeFault → Type 0
@@ -243,10 +304,11 @@ IsCommandRun form spelling (Load growers) input old new filed = IsLoadRun form o
 IsCommandRun form spelling (Append block every) input old new filed = IsAppendRun form old new filed spelling input (non_zero_u32_get block)
 IsCommandRun form spelling Check input old new filed = IsCheckRun form old new filed
 IsCommandRun form spelling (Listed from count) input old new filed = IsListRun form old new filed spelling (option_copied from) (option_copied count)
-IsCommandRun form spelling (Count wanted) input old new filed = IsCountRun form old new filed spelling wanted.now
-IsCommandRun form spelling (Find wanted) input old new filed = IsFindRun form old new filed spelling wanted.now
-IsCommandRun form spelling (Set start records) input old new filed = IsSetRun form old new filed spelling start.now records.now
-IsCommandRun form spelling (Resize len filler) input old new filed = IsResizeRun form old new filed spelling len.now filler.now
+IsCommandRun form spelling (Follow what poll once) input old new filed = IsFollowRun form old new filed spelling what
+IsCommandRun form spelling (Count wanted) input old new filed = IsSearchRun form old new filed spelling soughts.Count wanted.now
+IsCommandRun form spelling (Find wanted) input old new filed = IsSearchRun form old new filed spelling soughts.First wanted.now
+IsCommandRun form spelling (Set start records) input old new filed = IsSetRun form old new filed spelling start.now (option_copied records) input
+IsCommandRun form spelling (Resize len filler in_parts) input old new filed = IsResizeRun form old new filed spelling in_parts len.now filler.now
 IsCommandRun form spelling Clear input old new filed = IsClearRun form old new filed
 IsCommandRun form spelling Fold input old new filed = IsFoldRun form old new filed
 IsCommandRun form spelling (Upgrade name) input old new filed = IsUpgradeRun form old new filed
@@ -264,5 +326,7 @@ pub record HasToldStat (told_as : Form) (old new : Option (List ℕ)) (filed : R
   pub faults_are : faults_of left ≡ faults_of disk + failed_at ended
   pub told : IsStatStatus ended filed
 
+-- or, where another command had the file, beside that one
 abbrev pub IsStatRun : Form → Option (List ℕ) → Option (List ℕ) → Result Status Complaint → Type 0
-IsStatRun told_as old new filed = IsLeftUnopened old new filed roles.File ⊎ HasToldStat told_as old new filed
+IsStatRun told_as old new filed =
+    IsLeftUnopened old new filed roles.File ⊎ (HasToldStat told_as old new filed ⊎ IsLookDone filed (SummarizesBeside told_as old new))

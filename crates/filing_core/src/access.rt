@@ -1,24 +1,33 @@
 //! Files that are opened, and who may use them at once.
 
-ghost use Rattle.std.specs.Prelude.{IfOk, IfErr};
+ghost use Rattle.std.specs.Prelude.{◌≡◌, [], ◌∷◌, IfOk, IfErr, MatchResult};
+ghost use Rattle.disk_core.specs.File.{opened};
+ghost use Rattle.disk_core.specs.FileDisk.{truth_of, states_of, faults_of, KeepsSoFar};
+ghost use Rattle.disk_core.specs.SharedFile.{now_of, HasKept};
+ghost use Rattle.filing_core.specs.Beside.{IsJustReadable};
 ghost use Rattle.filing_core.specs.Complaints.{IsJustOpened, IsUnopened};
 
-use disk_core::FileDisk;
+use disk_core::{FileDisk, SharedFile};
 use sentences::{Complaint, Role};
-use std::fs::{File, OpenOptions, TryLockError};
+use std::fs::{self, File, OpenFile, OpenOptions, TryLockError};
+use std::os::unix::fs::FileExt;
 use std::rt::Files;
-use std::thread;
 use std::time::{Clock, Duration};
+use std::{io, thread};
 
 /// The milliseconds between two tries for a lock, and how many are a second.
 const NAP: u64 = 5;
 
 const NAPS: u64 = 200;
 
+/// For how many seconds at least a command that writes waits for those that only read its file: they have its lock until they
+/// have read it, and mostly that is soon.
+const READERS_WAIT: u64 = 10;
+
 /// What a command does with a file.
 #[derive(Clone, Copy)]
 pub enum Access {
-    /// It reads. Others may read at once.
+    /// It reads, and needs leave for that alone. Others may read at once.
     Reads,
     /// It writes, and is alone meanwhile.
     Writes,
@@ -35,51 +44,99 @@ pub struct Opened {
     pub lock: File,
 }
 
+/// Opens the file at this path to be read alone. What is no plain file is opened to be written too: so a folder is refused,
+/// and a pipe doesn't wait for who writes it.
+pub fn open_to_read<F: Files<File = File>>(files: &F, path: &str) -> io::Result<File> {
+    let is_plain = fs::metadata(files, path)?.is_file();
+    OpenOptions::new()
+        .read(true)
+        .write(!is_plain)
+        .open(files, path)
+}
+
+/// Opens the file at this path for what is done with it.
+fn open_for<F: Files<File = File>>(files: &F, path: &str, access: Access) -> io::Result<File> {
+    match access {
+        Access::Reads => open_to_read(files, path),
+        Access::Writes | Access::Makes | Access::Empties => OpenOptions::new()
+            .read(true)
+            .write(true)
+            .create(!matches!(access, Access::Writes))
+            .open(files, path),
+    }
+}
+
+/// Why a file isn't locked.
+#[derive(Clone, Copy)]
+enum Unlocked {
+    /// It can't be opened, made, locked or emptied.
+    Failed(io::Error),
+    /// Commands have it that only read.
+    Read,
+    /// A command has it that writes.
+    Written,
+}
+
+impl Unlocked {
+    /// The same of a file of that role.
+    fn complaint(self, role: Role) -> Complaint
+        ensures { IsUnopened role result }
+    {
+        match self {
+            Unlocked::Failed(error) => Complaint::NotOpened(role, error),
+            Unlocked::Read | Unlocked::Written => Complaint::InUse(role),
+        }
+    }
+}
+
+/// Who has the file that couldn't be locked: those who only read share it. It is closed, and so is a lock that was got.
+fn holder_of(file: File) -> Unlocked {
+    match file.try_lock_shared() {
+        Ok(()) => Unlocked::Read,
+        Err(TryLockError::WouldBlock) => Unlocked::Written,
+        Err(TryLockError::Error(error)) => Unlocked::Failed(error),
+    }
+}
+
 /// The file, with nothing in it where that is asked for.
-fn emptied(file: File, access: Access, role: Role) -> Result<File, Complaint>
-    ensures { IfErr result (IsUnopened role) }
-{
+fn emptied(file: File, access: Access) -> Result<File, Unlocked> {
     if !matches!(access, Access::Empties) {
         return Ok(file);
     }
     match file.set_len(0) {
         Ok(()) => Ok(file),
-        Err(error) => Err(Complaint::NotOpened(role, error)),
+        Err(error) => Err(Unlocked::Failed(error)),
     }
 }
 
-/// Locks the file at this path. Nothing is read, and nothing written but to empty it where that is asked for. Refused where
-/// it can't be opened or made, and where another command has it.
-fn lock<F: Files<File = File>>(
-    files: &F,
-    path: &str,
-    access: Access,
-    role: Role,
-) -> Result<File, Complaint>
-    ensures { IfErr result (IsUnopened role) }
-{
-    let opened = OpenOptions::new()
-        .read(true)
-        .write(true)
-        .create(matches!(access, Access::Makes | Access::Empties))
-        .open(files, path);
-    let file = match opened {
+/// Locks the file at this path. Nothing is read, and nothing written but to empty it where that is asked for.
+fn lock<F: Files<File = File>>(files: &F, path: &str, access: Access) -> Result<File, Unlocked> {
+    let file = match open_for(files, path, access) {
         Ok(file) => file,
-        Err(error) => return Err(Complaint::NotOpened(role, error)),
+        Err(error) => return Err(Unlocked::Failed(error)),
     };
     let locked = match access {
         Access::Reads => file.try_lock_shared(),
         Access::Writes | Access::Makes | Access::Empties => file.try_lock(),
     };
     match locked {
-        Ok(()) => emptied(file, access, role),
-        Err(TryLockError::WouldBlock) => Err(Complaint::InUse(role)),
-        Err(TryLockError::Error(error)) => Err(Complaint::NotOpened(role, error)),
+        Ok(()) => emptied(file, access),
+        Err(TryLockError::WouldBlock) => Err(holder_of(file)),
+        Err(TryLockError::Error(error)) => Err(Unlocked::Failed(error)),
     }
 }
 
-/// Locks the file at this path, and tries again for so many seconds while another command has it. Each try opens it anew, for
-/// meanwhile another file may have got this name.
+/// For how many seconds those are waited for that only read the file of that role, where a writer is for so many. What only
+/// reads a new file has nothing to read; and FILE, which this command itself shares, may be named as NEW.
+fn wait_for_readers(role: Role, seconds: u64) -> u64 {
+    match role {
+        Role::File => seconds.max(READERS_WAIT),
+        Role::New | Role::Pipe => seconds,
+    }
+}
+
+/// Locks the file at this path, and tries again: for so many seconds while a command has it that writes, and for some at least
+/// while others only read it. Each try opens it anew, for meanwhile another file may have got this name.
 fn lock_within<F: Files<File = File> + Clock>(
     files: &F,
     path: &str,
@@ -89,17 +146,42 @@ fn lock_within<F: Files<File = File> + Clock>(
 ) -> Result<File, Complaint>
     ensures { IfErr result (IsUnopened role) }
 {
-    for _ in 0..seconds.saturating_mul(NAPS) {
-        match lock(files, path, access, role) {
-            Err(Complaint::InUse(_)) => thread::sleep(files, Duration::from_millis(NAP)),
-            locked => return locked,
+    let for_writer = seconds.saturating_mul(NAPS);
+    let for_readers = wait_for_readers(role, seconds).saturating_mul(NAPS);
+    for naps in 0..for_readers {
+        match lock(files, path, access) {
+            Ok(file) => return Ok(file),
+            Err(Unlocked::Read) => {}
+            Err(Unlocked::Written) if naps < for_writer => {}
+            Err(unlocked) => return Err(unlocked.complaint(role)),
         }
+        thread::sleep(files, Duration::from_millis(NAP));
     }
-    lock(files, path, access, role)
+    match lock(files, path, access) {
+        Ok(file) => Ok(file),
+        Err(unlocked) => Err(unlocked.complaint(role)),
+    }
+}
+
+/// A disk over a file that is open to be read. What it holds isn't told.
+fn disk_over<F: FileExt + OpenFile + Drop>(file: F) -> FileDisk<F>
+    ensures states { states_of result ≡ opened (truth_of result).held ∷ [] }
+    ensures faults { faults_of result ≡ 0 }
+    ensures keeps { KeepsSoFar result }
+{
+    FileDisk::over(file)
+}
+
+/// A disk over a file that is locked, so it is that one whatever its name leads to by now.
+fn locked_disk(lock: &File) -> io::Result<FileDisk>
+    ensures { IfOk result IsJustOpened }
+{
+    Ok(disk_over(lock.try_clone()?))
 }
 
 /// Locks and opens the file at this path. Nothing is read, and nothing written but to empty it where that is asked for.
-/// Refused where it can't be opened or made, and where another command has it and keeps it for so many seconds.
+/// Refused where it can't be opened or made, and where another command has it and keeps it for so many seconds; FILE, where
+/// others only read it, for `READERS_WAIT` at least.
 pub fn open<F: Files<File = File> + Clock + AllocGlobal>(
     files: &F,
     path: &str,
@@ -113,10 +195,45 @@ pub fn open<F: Files<File = File> + Clock + AllocGlobal>(
     let lock = lock_within(files, path, access, role, seconds)?;
     let opened = match access {
         Access::Makes | Access::Empties => FileDisk::make(files, path),
-        Access::Reads | Access::Writes => FileDisk::open(files, path),
+        Access::Writes => FileDisk::open(files, path),
+        Access::Reads => locked_disk(&lock),
     };
     match opened {
         Ok(disk) => Ok(Opened { disk, lock }),
         Err(error) => Err(Complaint::NotOpened(role, error)),
+    }
+}
+
+/// An open file that another process may write meanwhile. What it holds isn't told.
+pub fn shared<F: FileExt + OpenFile + Drop>(file: F) -> SharedFile<F>
+    ensures now { now_of result ≡ 0 }
+    ensures keeps { HasKept result }
+{
+    SharedFile::over(file)
+}
+
+/// A file that is read.
+#[derive(Drop)]
+pub enum Readable {
+    /// Under a lock, so that nobody writes it.
+    Locked(Opened),
+    /// Beside the command that has it.
+    Beside(SharedFile),
+}
+
+/// Opens the file at this path to be read: beside another command, where one writes it. Refused where it can't be opened.
+pub fn open_beside<F: Files<File = File> + Clock + AllocGlobal>(
+    files: &F,
+    path: &str,
+) -> Result<Readable, Complaint>
+    ensures { MatchResult result IsJustReadable (IsUnopened Role.File) }
+{
+    match open(files, path, Access::Reads, Role::File, 0) {
+        Ok(opened) => Ok(Readable::Locked(opened)),
+        Err(Complaint::InUse(_)) => match open_to_read(files, path) {
+            Ok(file) => Ok(Readable::Beside(shared(file))),
+            Err(error) => Err(Complaint::NotOpened(Role::File, error)),
+        },
+        Err(complaint) => Err(complaint),
     }
 }

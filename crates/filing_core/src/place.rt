@@ -2,8 +2,9 @@
 
 ghost use Rattle.std.specs.Prelude.{false, Some, IfOk, IfErr};
 ghost use Rattle.filing_core.specs.Complaints.{IsJustOpened};
-ghost use Rattle.filing_core.specs.Commands.{IsNewTaken, IsPlaceTaken, IsTaken, MayBeMadeOn};
+ghost use Rattle.filing_core.specs.Commands.{IsNewTaken, IsPlaceTaken, IsOccupied, MayBeMadeOn};
 
+use beside_core::LookFault;
 use disk_core::FileDisk;
 use files_core::{Ended, FileFault, is_vacant};
 use pen_core::PenFault;
@@ -16,7 +17,7 @@ use vault_core::{UpgradeFault, VaultFault};
 /// of either.
 fn vacant<R: TextRecord>(disk: FileDisk, format: Option<Format>) -> Result<FileDisk, PenFault>
     ensures vacant { IfOk result (MayBeMadeOn R.form format false disk) }
-    ensures taken { IsJustOpened disk → IfErr result (IsTaken R.form format) }
+    ensures taken { IsJustOpened disk → IfErr result (IsOccupied R.form format) }
 {
     let mut disk = disk;
     match is_vacant::<R, FileDisk>(&mut disk, format) {
@@ -68,5 +69,12 @@ pub fn take_back(file: &File, ended: Ended) {
             let _ = file.set_len(0);
         }
         _ => {}
+    }
+}
+
+/// The same of a copy whose old file was read beside its writer: where that was refused nothing is written.
+pub fn take_back_read(file: &File, ended: Result<Ended, LookFault>) {
+    if let Ok(ended) = ended {
+        take_back(file, ended);
     }
 }

@@ -1,15 +1,20 @@
 //! What a file has, told without the type of its records.
 
 ghost use Rattle.std.specs.Prelude.{◌≡◌};
-ghost use Rattle.filing_core.specs.Commands.{IsStatRun};
-ghost use Rattle.filing_core.specs.Complaints.{IsStatStatus, stat_complaint};
+ghost use Rattle.filing_core.specs.Beside.{IsJustShared, IsLookDone, SummarizesBeside};
+ghost use Rattle.filing_core.specs.Commands.{HasToldStat, IsStatRun};
+ghost use Rattle.filing_core.specs.Complaints.{IsJustOpened, IsStatStatus, stat_complaint};
 
-use crate::access::{Access, Opened, open};
-use disk_core::FileDisk;
+use crate::access::{Opened, Readable, open_beside};
+use crate::beside::status_of_look;
+use crate::releasing::{ReadLock, ReleasingWriter};
+use disk_core::{FileDisk, SharedFile};
 use files_core::{FileFault, Progress, Watched};
+use follow_core::stat_beside;
 use pen_core::OpenFault;
-use sentences::{Complaint, Role};
-use stat_core::{StatEnded, StatFault, stat};
+use sentences::Complaint;
+use stat_core::{Form, StatEnded, StatFault, stat};
+use std::alloc::Global;
 use std::fs::File;
 use std::io::Write;
 use std::rt::Files;
@@ -42,7 +47,41 @@ fn status_of(ended: StatEnded) -> Result<Status, Complaint>
     }
 }
 
-/// Locks and opens the file, and writes what it has. A complaint: it was refused, and nothing of an answer was written.
+/// Writes what the file has that is locked.
+fn stat_locked<W: Write, P: Progress>(
+    opened: Opened,
+    progress: &P,
+    form: Form,
+    writer: &mut W,
+) -> Result<Status, Complaint>
+    ensures { IsJustOpened opened.disk → HasToldStat form (W.contents writer.old) (W.contents writer.new) result }
+{
+    let Opened { disk, lock } = opened;
+    let disk = Watched::new(disk, progress);
+    let mut writer = ReleasingWriter::new(writer, ReadLock::of(lock));
+    let (_disk, ended) = stat::<Watched<'_, FileDisk, P>, ReleasingWriter<'_, W>>(
+        disk,
+        form,
+        &mut writer,
+    );
+    status_of(ended)
+}
+
+/// The same beside the command that has the file.
+fn stat_shared<W: Write>(
+    alloc: Global,
+    file: SharedFile,
+    form: Form,
+    writer: &mut W,
+) -> Result<Status, Complaint>
+    ensures { IsJustShared file → IsLookDone result (SummarizesBeside form (W.contents writer.old) (W.contents writer.new)) }
+{
+    let mut file = file;
+    status_of_look(stat_beside(alloc, &mut file, form, writer))
+}
+
+/// Writes what the file has: under a lock that others who read share, or beside the command that has it. A complaint: it was
+/// refused, and nothing of an answer was written.
 pub fn tell_stat<W: Write, F: Files<File = File> + Clock + AllocGlobal, P: Progress>(
     files: &F,
     progress: &P,
@@ -51,14 +90,8 @@ pub fn tell_stat<W: Write, F: Files<File = File> + Clock + AllocGlobal, P: Progr
 ) -> Result<Status, Complaint>
     ensures { IsStatRun words.now.form (W.contents writer.old) (W.contents writer.new) result }
 {
-    let Opened { disk, lock: _lock } = open(
-        files,
-        words.file,
-        Access::Reads,
-        Role::File,
-        words.wait,
-    )?;
-    let disk = Watched::new(disk, progress);
-    let (_disk, ended) = stat::<Watched<'_, FileDisk, P>, W>(disk, words.form, writer);
-    status_of(ended)
+    match open_beside(files, words.file)? {
+        Readable::Locked(opened) => stat_locked(opened, progress, words.form, writer),
+        Readable::Beside(file) => stat_shared(files.alloc(), file, words.form, writer),
+    }
 }

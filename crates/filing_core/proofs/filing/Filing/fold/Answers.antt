@@ -1,4 +1,3 @@
-use Rattle.std.proofs.Common.{refl}
 use Rattle.files_core.specs.Watched.{below}
 use Rattle.filing_core.proofs.Filings.{over_file}
 use Rattle.filing_core.proofs.Watching.{folds_below, none_live_below}
