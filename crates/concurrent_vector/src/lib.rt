@@ -29,7 +29,7 @@ pub use book_core::{
     Appender, Begun, GrowFault, Live, Mark, MarkState, Receipt, Records, SEAT_LIMIT, Seat,
     SettleFault, Snapshot, Writer,
 };
-pub use crew_core::{CrewFault, Crewed, Gate, Lists, Source, crew};
+pub use crew_core::{CrewFault, Crewed, Gate, Lists, OpenGate, Source, crew};
 pub use directory_core::{DirFault, GROWTH_LIMIT, Pass};
 pub use disk_core::{
     Blow, Choice, Disk, DiskFault, FileDisk, FuseDisk, ImageLength, PendingBytes, RamDisk,

@@ -11,9 +11,16 @@ use Rattle.segment_core.specs.declared.format.Format.{Format}
 use Rattle.stat_core.specs.declared.telling.StatEnded.{StatEnded}
 use Rattle.stat_core.specs.declared.telling.StatEnded.TheVariants as stat_ends
 use Rattle.stat_core.specs.declared.writing.Form.{Form}
+use Rattle.beside_core.specs.declared.fault.LookFault.{LookFault}
+use Rattle.follow_core.specs.declared.ended.FollowEnd.{FollowEnd}
+use Rattle.follow_core.specs.declared.ended.FollowEnd.TheVariants as follow_ends
+use Rattle.follow_core.specs.declared.ended.LookEnd.{LookEnd}
+use Rattle.follow_core.specs.declared.ended.LookEnd.TheVariants as look_ends
 use Rattle.serve_core.specs.declared.fault.ServeFault.{ServeFault}
 use Rattle.words_core.specs.declared.request.FileTask.{FileTask}
-use Rattle.words_core.specs.declared.request.FileTask.TheVariants.{Create, Load, Append, Check, List as Listed, Count, Find, Set, Resize, Clear, Fold, Upgrade, Copy, Serve}
+use Rattle.words_core.specs.declared.request.FileTask.TheVariants.{Create, Load, Append, Check, List as Listed, Follow, Count, Find, Set, Resize, Clear, Fold, Upgrade, Copy, Serve}
+use Rattle.words_core.specs.declared.request.Following.{Following}
+use Rattle.words_core.specs.declared.request.Following.TheVariants.{Records, Events}
 use Rattle.words_core.specs.declared.request.RecordType.{RecordType}
 use Rattle.words_core.specs.declared.request.RecordType.TheVariants.{U32, U64, I64, Pair, Flagged}
 use Rattle.words_core.specs.declared.request.Request.{Request}
@@ -21,7 +28,8 @@ use Rattle.sentences.specs.declared.complaint.Complaint.{Complaint}
 use Rattle.text_core.specs.declared.status.Status.{Status}
 use Rattle.text_core.specs.declared.status.Status.TheVariants as statuses
 use Rattle.filing_core.specs.Complaints.{Disk, IsLeftAlone, IsStatStatus, IsStatusOf}
-use Rattle.filing_core.specs.Commands.{IsCommandRun, IsEngineDone, IsNewFileRun, IsOverFile, IsServedAs, IsStatRun}
+use Rattle.filing_core.specs.Beside.{Foreign, IsCopyStatus, IsFollowStatus, IsLookStatus}
+use Rattle.filing_core.specs.Commands.{IsCommandRun, IsEngineDone, IsFollowRun, IsNewFileRun, IsOverFile, IsReadingRun, IsServedAs, IsStatRun}
 use Rattle.cvec.specs.Runs.{IsAskedRun, IsComplaintRun, IsToldRun, IsTypedCommandRun}
 
 -- a command doesn't end so
@@ -42,6 +50,25 @@ no_usage_of_stat stat_ends.Done filed is = subst IsNoUsage (sym is) tt
 no_usage_of_stat (stat_ends.Unwritten error) filed is = subst IsNoUsage (sym is) tt
 no_usage_of_stat (stat_ends.Refused fault) filed is = subst IsNoUsage (sym is) tt
 
+no_usage_of_look : (end : LookEnd) (filed : Result Status Complaint) → IsLookStatus end filed → IsNoUsage filed
+no_usage_of_look look_ends.Done filed is = subst IsNoUsage (sym is) tt
+no_usage_of_look look_ends.OutputFailed filed is = subst IsNoUsage (sym is) tt
+no_usage_of_look (look_ends.Refused fault) filed is = subst IsNoUsage (sym is) tt
+
+no_usage_of_copy : (end : Result Ended LookFault) (filed : Result Status Complaint) → IsCopyStatus end filed → IsNoUsage filed
+no_usage_of_copy (Ok Done) filed is = subst IsNoUsage (sym is) tt
+no_usage_of_copy (Ok OutputFailed) filed is = subst IsNoUsage (sym is) tt
+no_usage_of_copy (Ok (Refused fault)) filed is = subst IsNoUsage (sym is) tt
+no_usage_of_copy (Err fault) filed is = subst IsNoUsage (sym is) tt
+
+no_usage_of_follow : (end : FollowEnd) (filed : Result Status Complaint) → IsFollowStatus end filed → IsNoUsage filed
+no_usage_of_follow follow_ends.Ended filed is = subst IsNoUsage (sym is) tt
+no_usage_of_follow follow_ends.OutputFailed filed is = subst IsNoUsage (sym is) tt
+no_usage_of_follow (follow_ends.Lost loss) filed is = subst IsNoUsage (sym is) tt
+no_usage_of_follow (follow_ends.Refused fault) filed is = subst IsNoUsage (sym is) tt
+no_usage_of_follow follow_ends.Replaced filed (inl is) = subst IsNoUsage (sym is) tt
+no_usage_of_follow follow_ends.Replaced filed (inr is) = subst IsNoUsage (sym is) tt
+
 no_usage_of_done : (filed : Result Status Complaint) (IsComplaint : Disk → FileFault → Complaint → Type 0) (HasEnded : Disk → Disk → Ended → Type 0) → IsEngineDone filed IsComplaint HasEnded → IsNoUsage filed
 no_usage_of_done filed IsComplaint HasEnded done = no_usage_of_status (IsComplaint done.left) done.ended filed done.told
 
@@ -54,33 +81,49 @@ module _ {R : Type 0} (form : Encoding R) (old new : Option (List ℕ)) (filed :
   no_usage_over IsReason HasEnded (inr (inl shut)) = no_usage_alone old new filed _ shut
   no_usage_over IsReason HasEnded (inr (inr done)) = no_usage_of_done filed _ HasEnded done
 
+  no_usage_reading : (IsReason : FileFault → Type 0) (HasEnded : Disk → Disk → Ended → Type 0) (HasLooked : Foreign → Foreign → LookEnd → Type 0)
+      → IsReadingRun form old new filed IsReason HasEnded HasLooked → IsNoUsage filed
+  no_usage_reading IsReason HasEnded HasLooked (inl over) = no_usage_over IsReason HasEnded over
+  no_usage_reading IsReason HasEnded HasLooked (inr done) = no_usage_of_look done.end filed done.told
+
+  no_usage_following : (spelling : Spelling R) (what : Following) → IsFollowRun form old new filed spelling what → IsNoUsage filed
+  no_usage_following spelling (Records from) (inl refused) = subst IsNoUsage (sym refused.told) tt
+  no_usage_following spelling (Records from) (inr (inl shut)) = no_usage_alone old new filed _ shut
+  no_usage_following spelling (Records from) (inr (inr done)) = no_usage_of_follow done.end filed done.told
+  no_usage_following spelling (Events after) (inl none) = no_usage_alone old new filed _ none
+  no_usage_following spelling (Events after) (inr (inl shut)) = no_usage_alone old new filed _ shut
+  no_usage_following spelling (Events after) (inr (inr done)) = no_usage_of_follow done.end filed done.told
+
   no_usage_served : (left : Disk) (growths : ℕ) (served : Result (Unit {0}) ServeFault) → IsServedAs form old new filed left growths served → IsNoUsage filed
   no_usage_served left growths (Ok all) (inl failed) = subst IsNoUsage (sym failed) tt
   no_usage_served left growths (Ok all) (inr written) = subst IsNoUsage (sym written.0) tt
   no_usage_served left growths (Err fault) told = subst IsNoUsage (sym told.1) tt
 
   no_usage_of_new : (format : Option Format) (IsMade : Disk → Disk → Disk → Disk → List ℕ → Type 0) (IsUnmade : Disk → Disk → Disk → Disk → FileFault → Type 0)
-      → IsNewFileRun form old new filed format IsMade IsUnmade → IsNoUsage filed
-  no_usage_of_new format IsMade IsUnmade (inl shut) = no_usage_alone old new filed _ shut
-  no_usage_of_new format IsMade IsUnmade (inr (inl shut)) = no_usage_alone old new filed _ shut
-  no_usage_of_new format IsMade IsUnmade (inr (inr (inl taken))) = subst IsNoUsage (sym taken.told) tt
-  no_usage_of_new format IsMade IsUnmade (inr (inr (inr done))) = no_usage_of_status _ done.ended filed done.told
+      (IsMadeOf : (Format → List R → Type 0) → Disk → Disk → List ℕ → Type 0) (IsUnmadeOf : (Format → List R → Type 0) → Disk → Disk → FileFault → Type 0)
+      → IsNewFileRun form old new filed format IsMade IsUnmade IsMadeOf IsUnmadeOf → IsNoUsage filed
+  no_usage_of_new format IsMade IsUnmade IsMadeOf IsUnmadeOf (inl shut) = no_usage_alone old new filed _ shut
+  no_usage_of_new format IsMade IsUnmade IsMadeOf IsUnmadeOf (inr (inl shut)) = no_usage_alone old new filed _ shut
+  no_usage_of_new format IsMade IsUnmade IsMadeOf IsUnmadeOf (inr (inr (inl taken))) = subst IsNoUsage (sym taken.told) tt
+  no_usage_of_new format IsMade IsUnmade IsMadeOf IsUnmadeOf (inr (inr (inr (inl done)))) = no_usage_of_status _ done.ended filed done.told
+  no_usage_of_new format IsMade IsUnmade IsMadeOf IsUnmadeOf (inr (inr (inr (inr done)))) = no_usage_of_copy done.end filed done.told
 
   no_usage_of_task : (spelling : Spelling R) (task : FileTask) (input : Option (List ℕ)) → IsCommandRun form spelling task input old new filed → IsNoUsage filed
   no_usage_of_task spelling (Create format over) input run = no_usage_over _ _ run
   no_usage_of_task spelling (Load growers) input run = no_usage_over _ _ run
   no_usage_of_task spelling (Append block every) input (inl shut) = no_usage_alone old new filed _ shut
   no_usage_of_task spelling (Append block every) input (inr done) = no_usage_of_done filed _ _ done.1
-  no_usage_of_task spelling Check input run = no_usage_over _ _ run
-  no_usage_of_task spelling (Listed from count) input run = no_usage_over _ _ run
-  no_usage_of_task spelling (Count wanted) input run = no_usage_over _ _ run
-  no_usage_of_task spelling (Find wanted) input run = no_usage_over _ _ run
+  no_usage_of_task spelling Check input run = no_usage_reading _ _ _ run
+  no_usage_of_task spelling (Listed from count) input run = no_usage_reading _ _ _ run
+  no_usage_of_task spelling (Follow what poll once) input run = no_usage_following spelling what run
+  no_usage_of_task spelling (Count wanted) input run = no_usage_reading _ _ _ run
+  no_usage_of_task spelling (Find wanted) input run = no_usage_reading _ _ _ run
   no_usage_of_task spelling (Set start records) input run = no_usage_over _ _ run
-  no_usage_of_task spelling (Resize len filler) input run = no_usage_over _ _ run
+  no_usage_of_task spelling (Resize len filler in_parts) input run = no_usage_over _ _ run
   no_usage_of_task spelling Clear input run = no_usage_over _ _ run
   no_usage_of_task spelling Fold input run = no_usage_over _ _ run
-  no_usage_of_task spelling (Upgrade name) input run = no_usage_of_new _ _ _ run
-  no_usage_of_task spelling (Copy name format block) input run = no_usage_of_new _ _ _ run
+  no_usage_of_task spelling (Upgrade name) input run = no_usage_of_new _ _ _ _ _ run
+  no_usage_of_task spelling (Copy name format block) input run = no_usage_of_new _ _ _ _ _ run
   no_usage_of_task spelling (Serve clients) input (inl unserved) = no_usage_alone old new filed _ unserved
   no_usage_of_task spelling (Serve clients) input (inr (inl shut)) = no_usage_alone old new filed _ shut
   no_usage_of_task spelling (Serve clients) input (inr (inr served)) = no_usage_served served.left served.growths served.served served.told
@@ -94,7 +137,8 @@ no_usage_of_file Flagged task input old new filed run = no_usage_of_task _ old n
 
 no_usage_of_stat_run : (form : Form) (old new : Option (List ℕ)) (filed : Result Status Complaint) → IsStatRun form old new filed → IsNoUsage filed
 no_usage_of_stat_run form old new filed (inl shut) = no_usage_alone old new filed _ shut
-no_usage_of_stat_run form old new filed (inr told) = no_usage_of_stat told.ended filed told.told
+no_usage_of_stat_run form old new filed (inr (inl told)) = no_usage_of_stat told.ended filed told.told
+no_usage_of_stat_run form old new filed (inr (inr looked)) = no_usage_of_look looked.end filed looked.told
 
 told_no_usage : (filed : Result Status Complaint) (mid new earlier later : Option (List ℕ)) (status : Status) (complaint : Option Complaint) → IsNoUsage filed
     → IsToldRun filed mid new status complaint → status ≡ statuses.Usage → Keeps earlier later

@@ -15,13 +15,14 @@ use Rattle.text_core.specs.declared.refusal.Refusal.TheVariants as refusals
 use Rattle.text_core.specs.declared.status.Status.{Status}
 use Rattle.text_core.specs.declared.status.Status.TheVariants as statuses
 use Rattle.files_core.specs.Faults.{fault_line}
+use Rattle.sentences.specs.Beside.{beside_name}
 use Rattle.sentences.specs.declared.complaint.Complaint.{Complaint}
 use Rattle.sentences.specs.declared.complaint.Complaint.TheVariants as complaints
 use Rattle.text_core.specs.Text.{Spelling, ended_line}
 use Rattle.text_core.specs.Numbers.{number_spelling}
 use Rattle.text_core.specs.SignedNumbers.{signed_spelling}
 use Rattle.text_core.specs.Keyed.{pair_spelling, flagged_spelling}
-use Rattle.text_core.specs.Refusals.{refusal_line}
+use Rattle.text_core.specs.Refusals.{refusal_line, refused_line}
 use Rattle.image_core.specs.Engines.{IsImageRun, IsShowRun}
 use Rattle.play_core.specs.Playing.{IsPlayRun}
 
@@ -55,6 +56,7 @@ complaint_line (complaints.Fault fault) = fault_line fault
 complaint_line (complaints.Damaged sound fault) = fault_line fault
 complaint_line (complaints.Appended appended fault) = fault_line fault
 complaint_line (complaints.Served growths fault) = fault_line fault
+complaint_line (complaints.Beside fault) = refused_line (beside_name fault)
 
 -- the line of a complaint was written, or output failed
 abbrev pub IsComplaintRun : Option (List ℕ) → Option (List ℕ) → Complaint → Status → Type 0

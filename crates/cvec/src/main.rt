@@ -90,7 +90,7 @@ fn manner_of(alloc: Global, words: &[String]) -> Manner {
     // The words of no other command are read twice.
     if !words
         .first()
-        .is_some_and(|word| matches!(word.as_str(), "load" | "append"))
+        .is_some_and(|word| matches!(word.as_str(), "load" | "append" | "set"))
     {
         return PLAIN;
     }

@@ -2,7 +2,9 @@
 
 ghost use Rattle.std.specs.Prelude.{◌≡◌, ◌≢◌, [], ℕ, List, Option, IfSome, Some, None, Ok, ◌++◌, ◌⊎◌, codes};
 ghost use Rattle.std.specs.Io.KnownBytes.{Keeps, Appends};
+ghost use Rattle.text_core.specs.Refusals.{refused_line};
 ghost use Rattle.text_core.specs.Text.{ended_line};
+ghost use Rattle.sentences.specs.Beside.{beside_name};
 ghost use Rattle.words_core.specs.declared.request.Request.TheVariants as requests;
 ghost use Rattle.filing_core.specs.Commands.{IsStatRun};
 ghost use Rattle.cvec.specs.Runs.{IsTaskRun, IsProgramRun, IsAskedRun, IsTypedCommandRun, IsIdleRun, IsComplaintRun, IsTellRun, IsToldRun};
@@ -15,7 +17,7 @@ use lines_core::Excerpt;
 use load_core::Dealt;
 use play_core::play;
 use record_core::{Flagged, Pair};
-use sentences::Complaint;
+use sentences::{BesideFault, Complaint};
 use std::alloc::Global;
 use std::convert::AsStr;
 use std::fs::File;
@@ -24,7 +26,7 @@ use std::rt::Files;
 use std::sync::Wait;
 use std::thread::Threads;
 use std::time::Clock;
-use text_core::{Refusal, Status, TextRecord, refuse, write_line, write_text};
+use text_core::{Refusal, Status, TextRecord, refuse, write_line, write_refusal, write_text};
 use words_core::{FileWords, RecordType, Request, StatWords, Task, WordsFault, read_words};
 
 /// What the program has of the system beside its input and output.
@@ -88,6 +90,17 @@ fn refuse_unopened<W: Write>(writer: &mut W) -> Status
     }
 }
 
+/// Writes the line of why a reader beside a writer is refused.
+fn refuse_beside<W: Write>(writer: &mut W, fault: BesideFault) -> Status
+    ensures refused { result ≡ Status.Refused → Appends (W.contents writer.old) (W.contents writer.new) (refused_line (beside_name fault)) }
+    ensures ends { (result ≡ Status.Refused) ⊎ (result ≡ Status.OutputFailed) }
+{
+    match write_refusal(writer, fault) {
+        Ok(()) => Status::Refused,
+        Err(_) => Status::OutputFailed,
+    }
+}
+
 /// Writes the line of a complaint.
 fn refuse_for<W: Write>(writer: &mut W, complaint: &Complaint) -> Status
     ensures { IsComplaintRun (W.contents writer.old) (W.contents writer.new) complaint.now result }
@@ -97,6 +110,7 @@ fn refuse_for<W: Write>(writer: &mut W, complaint: &Complaint) -> Status
         | Complaint::Damaged(_, fault)
         | Complaint::Appended(_, fault)
         | Complaint::Served(_, fault) => refuse_file(writer, *fault),
+        Complaint::Beside(fault) => refuse_beside(writer, *fault),
         Complaint::NotOpened(..) => refuse_unopened(writer),
         Complaint::InUse(_) => refuse_unopened(writer),
     }
@@ -244,6 +258,7 @@ fn answer_fault<'a, W: Write>(fault: WordsFault, writer: &mut W) -> Outcome<'a>
         | WordsFault::Seats
         | WordsFault::Block
         | WordsFault::Every
+        | WordsFault::Poll
         | WordsFault::Wait => Status::Usage,
     };
     Outcome {

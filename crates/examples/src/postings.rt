@@ -3,7 +3,7 @@
 
 ghost use Rattle.std.specs.Prelude.{◌==◌};
 
-use concurrent_vector::{Fault, Format, Gate, Lists, Pair, Pick, RamDisk, Receipt, Vault, crew};
+use concurrent_vector::{Fault, Format, Lists, OpenGate, Pair, Pick, RamDisk, Vault, crew};
 use std::alloc::Global;
 use std::io;
 use std::sync::Wait;
@@ -27,27 +27,14 @@ fn number_of(word: &str) -> u64 {
 
 /// Picks the postings of the word of that number.
 #[derive(Clone, Copy)]
-struct Word(u64);
+struct PostingsOf(u64);
 
-impl Pick<Pair> for Word {
+impl Pick<Pair> for PostingsOf {
     ghost picks_of = { λ word posting. posting.key == word.0 };
 
     fn picks(&self, posting: &Pair) -> bool {
         posting.key == self.0
     }
-}
-
-/// Holds nobody up.
-struct Open;
-
-impl Gate for Open {
-    ghost may_stop = { λ _ _ _. ⊥ };
-
-    fn before(&self, _grower: u16, _k: u32) -> bool {
-        true
-    }
-
-    fn after(&self, _grower: u16, _receipt: &Receipt) {}
 }
 
 /// The postings of one line's words.
@@ -84,12 +71,12 @@ fn index<E: Threads + Wait + Sync>(rt: &E, alloc: Global, text: &str) -> Result<
     }
     let vault = Vault::create_as(alloc, RamDisk::new(alloc), Format::Two)?;
     let source = Lists::try_new(lists.as_slice()).ok_or(Fault::Memory)?;
-    let crewed = crew(rt, alloc, vault, &source, &Open)?;
+    let crewed = crew(rt, alloc, vault, &source, &OpenGate)?;
     Ok(crewed.vault)
 }
 
 /// The lines that have the word, ascending, each once.
-fn lines_with(alloc: Global, index: &Index, word: &Word) -> Result<Vec<i64>, Fault> {
+fn lines_with(alloc: Global, index: &Index, word: &PostingsOf) -> Result<Vec<i64>, Fault> {
     let mut lines = Vec::new(alloc);
     for piece in index.pieces() {
         for posting in piece.iter().filter(|posting| word.picks(*posting)) {
@@ -113,7 +100,7 @@ pub fn tell<E: Threads + Wait + Print + Sync>(
         Err(fault) => return println!(rt; "{fault}"),
     };
     for text in words {
-        let word = Word(number_of(text.as_str()));
+        let word = PostingsOf(number_of(text.as_str()));
         let count = index.count_where(rt, &word);
         match lines_with(alloc, &index, &word) {
             Ok(lines) => println!(rt; "{text}: {count} times, in lines {lines:?}")?,
