@@ -28,7 +28,7 @@ use Rattle.cvec_c.specs.declared.status.CvecFault.{CvecFault}
 use Rattle.cvec_c.specs.declared.status.CallStatus.{CallStatus}
 use Rattle.cvec_c.specs.declared.status.CallStatus.TheVariants as statuses
 use Rattle.cvec_c.specs.Stat.{HasStat, IsScanToldOf}
-use Rattle.cvec_c.specs.Status.{code_of, status_of, told}
+use Rattle.cvec_c.specs.Status.{code_of, status_of, fault_record}
 use Rattle.cvec_c.specs.Append.{first_status, append_lines, AppendsTo}
 use Rattle.cvec_c.specs.Empty.{empty_lines, Creates}
 use Rattle.cvec_c.specs.Frame.{IsFrameTold, IsNoFrame}
@@ -330,8 +330,8 @@ never_done (faults.Width width) is = absurd (omega arith)
 never_done (faults.Damaged at cause) is = absurd (omega arith)
 never_done faults.Memory is = absurd (omega arith)
 
-told_in_numbers : (told (damaged 33 causes.ShortFrame) ≡ record { at = 33; cause = 2; found = 0 }) × (told (damaged 34 (causes.Kind 5)) ≡ record { at = 34; cause = 3; found = 5 })
-    × (told (faults.Width 4) ≡ record { at = 0; cause = 0; found = 4 }) × (code_of (status_of (damaged 33 causes.ShortFrame)) ≡ 5) × (code_of (status_of (faults.Width 4)) ≡ 4)
+told_in_numbers : (fault_record (damaged 33 causes.ShortFrame) ≡ record { at = 33; cause = 2; found = 0 }) × (fault_record (damaged 34 (causes.Kind 5)) ≡ record { at = 34; cause = 3; found = 5 })
+    × (fault_record (faults.Width 4) ≡ record { at = 0; cause = 0; found = 4 }) × (code_of (status_of (damaged 33 causes.ShortFrame)) ≡ 5) × (code_of (status_of (faults.Width 4)) ≡ 4)
 told_in_numbers = (refl, refl, refl, refl, refl)
 
 -- of no bytes it is told that there is no file yet, and nothing else

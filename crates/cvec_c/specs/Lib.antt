@@ -6,3 +6,4 @@ pub mod Append
 pub mod Frame
 pub mod Empty
 pub mod Homes
+pub mod Look

@@ -11,7 +11,7 @@ use Rattle.segment_core.specs.Vector.{HasVector}
 use Rattle.segment_core.specs.declared.vector.Scanned.{Scanned}
 use Rattle.cvec_c.specs.declared.stat.CvecStat.{CvecStat}
 use Rattle.cvec_c.specs.declared.status.CvecFault.{CvecFault}
-use Rattle.cvec_c.specs.Status.{code_of, status_of, told}
+use Rattle.cvec_c.specs.Status.{code_of, status_of, fault_record}
 
 -- what is told of what a scan found
 abbrev pub stat_of : {R : Type 0} → Scanned R → CvecStat
@@ -44,4 +44,4 @@ HasRecords form image records = (format : Format) × (frames : List Frame) × Ha
 
 -- why there is none, as it is told: the image's first fault, or want of memory
 abbrev pub IsScanToldOf : {R : Type 0} → Encoding R → List ℕ → ℕ → CvecFault → Type 0
-IsScanToldOf form image answer fault = (refusal : ScanFault) × IsRefused form image refusal × (answer ≡ code_of (status_of refusal)) × (fault ≡ told refusal)
+IsScanToldOf form image answer fault = (refusal : ScanFault) × IsRefused form image refusal × (answer ≡ code_of (status_of refusal)) × (fault ≡ fault_record refusal)

@@ -5,7 +5,7 @@ use Rattle.segment_core.specs.declared.fault.Cause.TheVariants as causes
 use Rattle.segment_core.specs.declared.fault.ScanFault.{ScanFault}
 use Rattle.segment_core.specs.declared.fault.ScanFault.TheVariants as faults
 use Rattle.cvec_c.specs.declared.status.CallStatus.{CallStatus}
-use Rattle.cvec_c.specs.declared.status.CallStatus.TheVariants.{Done, Unborn, NotSegment, Version, Width, Damaged, Memory, Empty, OutOfRange, TooLarge, FileFull, NoRoom, NoFrame}
+use Rattle.cvec_c.specs.declared.status.CallStatus.TheVariants.{Done, Unborn, NotSegment, Version, Width, Damaged, Memory, Empty, OutOfRange, TooLarge, FileFull, NoRoom, NoFrame, NoRecord}
 use Rattle.cvec_c.specs.declared.status.CvecFault.{CvecFault}
 
 abbrev pub code_of : CallStatus → ℕ
@@ -22,6 +22,7 @@ code_of TooLarge = 9
 code_of FileFull = 10
 code_of NoRoom = 11
 code_of NoFrame = 12
+code_of NoRecord = 13
 
 abbrev pub status_of : ScanFault → CallStatus
 status_of faults.Unborn = Unborn
@@ -46,10 +47,10 @@ cause_code causes.TooLong = (10, 0)
 cause_code causes.BadRecord = (11, 0)
 
 -- what is told of a fault: its place, its cause, and the version, the width or the kind that was found
-abbrev pub told : ScanFault → CvecFault
-told faults.Unborn = record { at = 0; cause = 0; found = 0 }
-told faults.NotSegment = record { at = 0; cause = 0; found = 0 }
-told (faults.Version version) = record { at = 0; cause = 0; found = version }
-told (faults.Width width) = record { at = 0; cause = 0; found = width }
-told (faults.Damaged at cause) = record { at = at; cause = (cause_code cause).0; found = (cause_code cause).1 }
-told faults.Memory = record { at = 0; cause = 0; found = 0 }
+abbrev pub fault_record : ScanFault → CvecFault
+fault_record faults.Unborn = record { at = 0; cause = 0; found = 0 }
+fault_record faults.NotSegment = record { at = 0; cause = 0; found = 0 }
+fault_record (faults.Version version) = record { at = 0; cause = 0; found = version }
+fault_record (faults.Width width) = record { at = 0; cause = 0; found = width }
+fault_record (faults.Damaged at cause) = record { at = at; cause = (cause_code cause).0; found = (cause_code cause).1 }
+fault_record faults.Memory = record { at = 0; cause = 0; found = 0 }

@@ -16,7 +16,7 @@ use segment_core::scan;
 use std::alloc::Global;
 
 /// Copies the records from position `from` on, as far as both reach, and answers how many.
-fn copy_from<R: Copy>(records: &[R], from: u64, out: &mut [R]) -> u64
+pub(crate) fn copy_from<R: Copy>(records: &[R], from: u64, out: &mut [R]) -> u64
     ensures { AreCopied records.now from out.old out.new result }
 {
     if from >= records.len() as u64 {

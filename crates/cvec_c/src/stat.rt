@@ -2,7 +2,10 @@
 
 ghost use Rattle.std.specs.Prelude.{◌≡◌};
 ghost use Rattle.cvec_c.specs.Stat.{stat_of};
+ghost use Rattle.cvec_c.specs.Look.{stat_of_seen};
 
+use beside_core::Seen;
+use record_core::{Record, width_of};
 use segment_core::Scanned;
 
 /// What an image holds.
@@ -38,6 +41,22 @@ impl CvecStat {
             gate: scanned.gate,
             width: scanned.width,
             version: scanned.version,
+        }
+    }
+
+    /// What is told of what bytes show.
+    pub(crate) fn of_seen<R: Record>(seen: &Seen<R>) -> CvecStat
+        ensures { result ≡ stat_of_seen R.form seen.now }
+    {
+        let tally = seen.next.tally();
+        CvecStat {
+            size: seen.records.len() as u64,
+            frames: seen.frames,
+            changes: tally.changes,
+            folded: tally.folded,
+            gate: seen.next.gate(),
+            width: width_of::<R>() as u16,
+            version: seen.next.shape().format.version(),
         }
     }
 }

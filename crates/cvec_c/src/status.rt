@@ -1,8 +1,10 @@
 //! What a call answers, in numbers.
 
 ghost use Rattle.std.specs.Prelude.{◌≡◌};
-ghost use Rattle.cvec_c.specs.Status.{code_of, cause_code, status_of, told};
+ghost use Rattle.cvec_c.specs.Status.{code_of, cause_code, status_of, fault_record};
+ghost use Rattle.cvec_c.specs.Look.{IsNoCall, status_of_look, look_record};
 
+use beside_core::LookFault;
 use segment_core::{Cause, ScanFault};
 
 /// What a call answers.
@@ -34,13 +36,15 @@ pub(crate) enum CallStatus {
     NoRoom = 11,
     /// No whole open frame begins there.
     NoFrame = 12,
+    /// The bytes of a record are none of the type.
+    NoRecord = 13,
 }
 
 /// Where and why an image has no vector.
 #[repr(C)]
 #[derive(Clone, Copy)]
 pub struct CvecFault {
-    /// The place where a damage was found, 0 for another fault.
+    /// The place where a damage was found, or the position of the record that is none; 0 for another fault.
     pub at: u64,
     /// The cause of a damage, 0 for another fault.
     pub cause: u32,
@@ -69,6 +73,20 @@ impl CallStatus {
             ScanFault::Memory => CallStatus::Memory,
         }
     }
+
+    /// That of bytes which show no vector for this. No file was called.
+    pub(crate) fn of_look(fault: LookFault) -> CallStatus
+        requires { IsNoCall fault }
+        ensures { result ≡ status_of_look fault }
+    {
+        match fault {
+            LookFault::Disk(_) => unreachable!(),
+            LookFault::Scan(fault) => CallStatus::of(fault),
+            LookFault::NoRecord(_) => CallStatus::NoRecord,
+            LookFault::TooFar => CallStatus::FileFull,
+            LookFault::Memory => CallStatus::Memory,
+        }
+    }
 }
 
 /// The number of a cause, and the kind that was found.
@@ -93,7 +111,7 @@ fn cause_told(cause: Cause) -> (u32, u32)
 impl CvecFault {
     /// What is told of a fault.
     pub(crate) fn of(fault: ScanFault) -> CvecFault
-        ensures { result ≡ told fault }
+        ensures { result ≡ fault_record fault }
     {
         let (at, cause, found) = match fault {
             ScanFault::Damaged { at, cause } => {
@@ -105,5 +123,21 @@ impl CvecFault {
             ScanFault::Unborn | ScanFault::NotSegment | ScanFault::Memory => (0, 0, 0),
         };
         CvecFault { at, cause, found }
+    }
+
+    /// What is told of bytes which show no vector for this.
+    pub(crate) fn of_look(fault: LookFault) -> CvecFault
+        ensures { result ≡ look_record fault }
+    {
+        let at = match fault {
+            LookFault::Scan(fault) => return CvecFault::of(fault),
+            LookFault::NoRecord(position) => position,
+            LookFault::Disk(_) | LookFault::TooFar | LookFault::Memory => 0,
+        };
+        CvecFault {
+            at,
+            cause: 0,
+            found: 0,
+        }
     }
 }

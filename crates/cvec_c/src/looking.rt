@@ -1,0 +1,132 @@
+//! The records that the bytes of a file show which another process writes.
+
+ghost use Rattle.std.specs.Prelude.{◌≡◌, ◌≢◌, List, ℕ, ℤ};
+ghost use Rattle.std.specs.Int.{w32, w64};
+ghost use Rattle.record_core.specs.Bytes.{unsigned, signed};
+ghost use Rattle.cvec_c.specs.Look.{HasShown, IsLookToldOf};
+ghost use Rattle.cvec_c.specs.Reading.{AreCopied};
+ghost use Rattle.cvec_c.specs.declared.records.CvecPair.{CvecPair};
+ghost use Rattle.cvec_c.specs.declared.records.CvecFlagged.{CvecFlagged};
+ghost use Rattle.cvec_c.specs.Records.{c_pair, c_flagged};
+
+use crate::reading::copy_from;
+use crate::records::{CvecFlagged, CvecPair};
+use crate::stat::CvecStat;
+use crate::status::{CallStatus, CvecFault};
+use beside_core::records_seen;
+use record_core::Record;
+use std::alloc::Global;
+
+/// Answers 0 where the bytes of a file show a vector, from its first one on, and copies its records from position `from` on
+/// over `out`, as far as both reach; `count` says how many, and `stat` what the vector is. Else it tells why they show none.
+/// What isn't told of stays. A file that another process writes meanwhile is read from its first byte on to its end, none
+/// before one in front of it: then it is the vector of one moment of the reading, and the file isn't called damaged.
+fn look<R: Record>(
+    alloc: Global,
+    bytes: &[u8],
+    from: u64,
+    out: &mut [R],
+    count: &mut u64,
+    stat: &mut CvecStat,
+    fault: &mut CvecFault,
+) -> u32
+    ensures done { result ≡ 0 → ((records : List R) × HasShown R.form bytes.now records stat.new × AreCopied records from out.old out.new count.new) × (fault.new ≡ fault.old) }
+    ensures refused { result ≢ 0 → IsLookToldOf R.form bytes.now result fault.new × (out.new ≡ out.old) × (count.new ≡ count.old) × (stat.new ≡ stat.old) }
+{
+    match records_seen::<R>(alloc, bytes) {
+        Ok(seen) => {
+            *count = copy_from(seen.records.as_slice(), from, out);
+            *stat = CvecStat::of_seen(&seen);
+            CallStatus::Done.code()
+        }
+        Err(refusal) => {
+            *fault = CvecFault::of_look(refusal);
+            CallStatus::of_look(refusal).code()
+        }
+    }
+}
+
+/// Copies records of u32 out of the bytes of a file, as `look` says.
+#[unsafe(no_mangle)]
+pub extern "C" fn cvec_look_u32(
+    alloc: Global,
+    bytes: &[u8],
+    from: u64,
+    out: &mut [u32],
+    count: &mut u64,
+    stat: &mut CvecStat,
+    fault: &mut CvecFault,
+) -> u32
+    ensures done { result ≡ 0 → ((records : List ℕ) × HasShown (unsigned w32) bytes.now records stat.new × AreCopied records from out.old out.new count.new) × (fault.new ≡ fault.old) }
+    ensures refused { result ≢ 0 → IsLookToldOf (unsigned w32) bytes.now result fault.new × (out.new ≡ out.old) × (count.new ≡ count.old) × (stat.new ≡ stat.old) }
+{
+    look::<u32>(alloc, bytes, from, out, count, stat, fault)
+}
+
+/// Copies records of u64 out of the bytes of a file, as `look` says.
+#[unsafe(no_mangle)]
+pub extern "C" fn cvec_look_u64(
+    alloc: Global,
+    bytes: &[u8],
+    from: u64,
+    out: &mut [u64],
+    count: &mut u64,
+    stat: &mut CvecStat,
+    fault: &mut CvecFault,
+) -> u32
+    ensures done { result ≡ 0 → ((records : List ℕ) × HasShown (unsigned w64) bytes.now records stat.new × AreCopied records from out.old out.new count.new) × (fault.new ≡ fault.old) }
+    ensures refused { result ≢ 0 → IsLookToldOf (unsigned w64) bytes.now result fault.new × (out.new ≡ out.old) × (count.new ≡ count.old) × (stat.new ≡ stat.old) }
+{
+    look::<u64>(alloc, bytes, from, out, count, stat, fault)
+}
+
+/// Copies records of i64 out of the bytes of a file, as `look` says.
+#[unsafe(no_mangle)]
+pub extern "C" fn cvec_look_i64(
+    alloc: Global,
+    bytes: &[u8],
+    from: u64,
+    out: &mut [i64],
+    count: &mut u64,
+    stat: &mut CvecStat,
+    fault: &mut CvecFault,
+) -> u32
+    ensures done { result ≡ 0 → ((records : List ℤ) × HasShown (signed w64) bytes.now records stat.new × AreCopied records from out.old out.new count.new) × (fault.new ≡ fault.old) }
+    ensures refused { result ≢ 0 → IsLookToldOf (signed w64) bytes.now result fault.new × (out.new ≡ out.old) × (count.new ≡ count.old) × (stat.new ≡ stat.old) }
+{
+    look::<i64>(alloc, bytes, from, out, count, stat, fault)
+}
+
+/// Copies records of pair out of the bytes of a file, as `look` says.
+#[unsafe(no_mangle)]
+pub extern "C" fn cvec_look_pair(
+    alloc: Global,
+    bytes: &[u8],
+    from: u64,
+    out: &mut [CvecPair],
+    count: &mut u64,
+    stat: &mut CvecStat,
+    fault: &mut CvecFault,
+) -> u32
+    ensures done { result ≡ 0 → ((records : List CvecPair) × HasShown c_pair bytes.now records stat.new × AreCopied records from out.old out.new count.new) × (fault.new ≡ fault.old) }
+    ensures refused { result ≢ 0 → IsLookToldOf c_pair bytes.now result fault.new × (out.new ≡ out.old) × (count.new ≡ count.old) × (stat.new ≡ stat.old) }
+{
+    look::<CvecPair>(alloc, bytes, from, out, count, stat, fault)
+}
+
+/// Copies records of flagged out of the bytes of a file, as `look` says.
+#[unsafe(no_mangle)]
+pub extern "C" fn cvec_look_flagged(
+    alloc: Global,
+    bytes: &[u8],
+    from: u64,
+    out: &mut [CvecFlagged],
+    count: &mut u64,
+    stat: &mut CvecStat,
+    fault: &mut CvecFault,
+) -> u32
+    ensures done { result ≡ 0 → ((records : List CvecFlagged) × HasShown c_flagged bytes.now records stat.new × AreCopied records from out.old out.new count.new) × (fault.new ≡ fault.old) }
+    ensures refused { result ≢ 0 → IsLookToldOf c_flagged bytes.now result fault.new × (out.new ≡ out.old) × (count.new ≡ count.old) × (stat.new ≡ stat.old) }
+{
+    look::<CvecFlagged>(alloc, bytes, from, out, count, stat, fault)
+}
